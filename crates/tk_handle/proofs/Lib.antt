@@ -1,0 +1,3 @@
+pub mod ClientIdLaws
+pub mod NumberTexts
+pub mod SortedEntriesLaws

@@ -1,0 +1,45 @@
+use std::marker::Model;
+
+/// The place of a fact among those of its region, 1 to 9,223,372,036,854,775,807 (own).
+#[derive(Clone, Copy, Debug, PartialEq, Eq, PartialOrd, Ord)]
+pub struct Serial {
+    number: u64,
+}
+
+impl Model for Serial {
+    ghost use Rattle.std.specs.Prelude.{ℕ, ◌<◌, ◌^◌};
+
+    ghost Value = { ℕ };
+
+    ghost view = { λ s. s.number };
+
+    ghost invariant = { λ s. (0 < s.number) × (s.number < 2 ^ 63) };
+
+    ghost inverse = { λ n. record { number = n } };
+}
+
+ghost use Rattle.std.specs.Prelude.{◌≡◌, ◌^◌, ◌<◌};
+ghost use Rattle.std.specs.Option.{SomeIff};
+
+impl Serial {
+    pub const GREATEST: u64 = 9_223_372_036_854_775_807;
+
+    /// The serial of that number, None for 0 and above the greatest.
+    pub fn new(number: u64) -> Option<Serial>
+        ensures { SomeIff result ((0 < number) × (number < 2 ^ 63)) number }
+    {
+        if number == 0 || number > Self::GREATEST {
+            return None;
+        }
+        Some(Serial { number })
+    }
+
+    /// The number itself, 1 to the greatest.
+    pub fn number(self) -> u64
+        ensures value { result ≡ self }
+        ensures low { 0 < self }
+        ensures high { self < 2 ^ 63 }
+    {
+        self.number
+    }
+}
