@@ -37,7 +37,7 @@ module _ {K : Type 0} {R : K → K → Ordering} (total : IsTotalOrder R) where
   turned_less : (x y : K) → R x y ≡ Greater → R y x ≡ Less
   turned_less x y h = total.antisymm y x ∙ ap ordering_reverse h
 
-  turned_equal : (x y : K) → R x y ≡ Equal → R y x ≡ Equal
+  pub turned_equal : (x y : K) → R x y ≡ Equal → R y x ≡ Equal
   turned_equal x y h = total.antisymm y x ∙ ap ordering_reverse h
 
   -- below what is not above k

@@ -1,0 +1,4 @@
+pub mod FactSetLaws
+pub mod PutLaws
+pub mod StoreLaws
+pub mod WalkLaws

@@ -1,0 +1,154 @@
+-- What is above the first fact above a dot is the rest of what is above that dot.
+use Rattle.std.proofs.Common.{◌≡◌, ℕ, zero, suc, ◌+◌, ◌<◌, Bool, true, false, ◌&&◌, cond, T, List, [], ◌∷◌, filter, length, get_or, slice_get, Option, Some, None, refl, sym, ap, subst, ◌∙◌, arith, inl, inr}
+use Rattle.std.proofs.lemmas.Bool.{cases_lt}
+use Rattle.tk_handle.specs.SortedEntries.{IsAt, IsGap}
+use Rattle.tk_handle.proofs.SortedEntriesLaws.{turned_equal}
+use mathlib.Core.Bool.{false≢true}
+use Rattle.std.specs.Ordering.{is_lt, ordering_reverse}
+use Rattle.std.specs.declared.cmp.Ordering.{Ordering}
+use Rattle.std.specs.declared.cmp.Ordering.TheVariants.{Less, Equal, Greater}
+use Rattle.std.specs.FinMap as map
+use Rattle.std.specs.FinMap.Entries.{below_all}
+use Rattle.std.proofs.lemmas.Cmp.{tied_itself}
+use Rattle.tk_handle.specs.declared.dot.Dot.{Dot}
+use Rattle.tk_handle.specs.Dot.{dot_cmp, dot_cmp_total}
+use Rattle.tk_fact.specs.declared.body.Body.{Body}
+use Rattle.tk_store.specs.FactSet.{FactSet, Facts}
+use Rattle.tk_store.specs.Walk.{is_above, above}
+
+both : (a b : Bool) → T (a && b) → T a × T b
+both true b h = (tt, h)
+both false b h = absurd h
+
+is_true : (b : Bool) → T b → b ≡ true
+is_true true h = refl
+is_true false h = absurd h
+
+less : (o : Ordering) → T (is_lt o) → o ≡ Less
+less Less p = refl
+less Equal p = absurd p
+less Greater p = absurd p
+
+-- all of a list that is above e is kept by a test that e passes
+keeps_all : (a : Option Dot) (e : Dot × Body) (es : Facts) → is_above a e ≡ true → T (below_all dot_cmp e.0 es) → filter (is_above a) es ≡ es
+keeps_all a e [] h low = refl
+keeps_all a e (x ∷ es) h low =
+    let l = both _ _ low in
+    ap (λ t. cond t (x ∷ filter (is_above a) es) (filter (is_above a) es)) (past a h) ∙ ap (λ rest. x ∷ rest) (keeps_all a e es h l.1)
+  where
+    past : (a : Option Dot) → is_above a e ≡ true → is_above a x ≡ true
+    past None h = refl
+    past (Some d) h = ap is_lt (dot_cmp_total.trans d e.0 x.0 (less _ (subst T (sym h) tt)) (less _ (both _ _ low).0))
+
+-- an entry below a list isn't above anything in it
+first_is_above : (a : Option Dot) (e : Dot × Body) (es : Facts) (f : Dot × Body) (rest : Facts) → T (below_all dot_cmp e.0 es) → filter (is_above a) es ≡ f ∷ rest → is_above (Some f.0) e ≡ false
+first_is_above a e [] f rest low h = absurd (nothing h)
+  where
+    nothing : ¬ ([] ≡ f ∷ rest)
+    nothing h = cc
+first_is_above a e (x ∷ es) f rest low h =
+    elim (is_above a x) as (λ t. cond t (x ∷ filter (is_above a) es) (filter (is_above a) es) ≡ f ∷ rest → is_above (Some f.0) e ≡ false) [
+      | true ↦ λ k. let same : x ≡ f = heads k in subst (λ (y : Dot × Body). is_lt (dot_cmp y.0 e.0) ≡ false) same (ap is_lt (dot_cmp_total.antisymm x.0 e.0 ∙ ap ordering_reverse (less _ (both _ _ low).0)))
+      | false ↦ first_is_above a e es f rest (both _ _ low).1
+    ] h
+  where
+    heads : {y z : Dot × Body} {ys zs : Facts} → y ∷ ys ≡ z ∷ zs → y ≡ z
+    heads k = cc
+
+walk : (a : Option Dot) (es : Facts) (f : Dot × Body) (rest : Facts) → T (map.is_sorted dot_cmp es) → filter (is_above a) es ≡ f ∷ rest → filter (is_above (Some f.0)) es ≡ rest
+walk a [] f rest sorted h = absurd (nothing h)
+  where
+    nothing : ¬ ([] ≡ f ∷ rest)
+    nothing h = cc
+walk a (e ∷ es) f rest sorted h =
+    let s = both _ _ sorted in
+    elim (is_above a e) as (λ t. is_above a e ≡ t → cond t (e ∷ filter (is_above a) es) (filter (is_above a) es) ≡ f ∷ rest → filter (is_above (Some f.0)) (e ∷ es) ≡ rest) [
+      | true ↦ λ t k.
+        let same : e ≡ f = heads k in
+        subst (λ (y : Dot × Body). filter (is_above (Some y.0)) (e ∷ es) ≡ rest) same
+        (ap (λ o. cond (is_lt o) (e ∷ filter (is_above (Some e.0)) es) (filter (is_above (Some e.0)) es)) (tied_itself dot_cmp_total e.0)
+          ∙ keeps_low es s.0 ∙ sym (keeps_all a e es t s.0) ∙ tails k)
+      | false ↦ λ t k.
+        ap (λ t. cond t (e ∷ filter (is_above (Some f.0)) es) (filter (is_above (Some f.0)) es)) (first_is_above a e es f rest s.0 k)
+        ∙ walk a es f rest s.1 k
+    ] refl h
+  where
+    heads : {y z : Dot × Body} {ys zs : Facts} → y ∷ ys ≡ z ∷ zs → y ≡ z
+    heads k = cc
+    tails : {y z : Dot × Body} {ys zs : Facts} → y ∷ ys ≡ z ∷ zs → ys ≡ zs
+    tails k = cc
+    keeps_low : (xs : Facts) → T (below_all dot_cmp e.0 xs) → filter (is_above (Some e.0)) xs ≡ xs
+    keeps_low [] low = refl
+    keeps_low (x ∷ xs) low =
+        ap (λ t. cond t (x ∷ filter (is_above (Some e.0)) xs) (filter (is_above (Some e.0)) xs)) (is_true _ (both _ _ low).0) ∙ ap (λ l. x ∷ l) (keeps_low xs (both _ _ low).1)
+
+-- so a walk that goes on from the fact it was given sees each fact once, and ends
+pub above_next : (F : FactSet) (a : Option Dot) (f : Dot × Body) (rest : Facts) → above F a ≡ f ∷ rest → above F (Some f.0) ≡ rest
+above_next F a f rest h = walk a (map.entries F) f rest (map.entries_sorted F) h
+
+-- ---- the first of what is above
+
+-- the first that passes a test is the one before which all fail it, if that one passes
+first_of : {X : Type 0} (p : X → Bool) (es : List X) (i : ℕ) → ((j : ℕ) (d : X) → j < i → j < length es → p (get_or es j d) ≡ false) → ((d : X) → i < length es → p (get_or es i d) ≡ true) → slice_get (filter p es) 0 ≡ slice_get es i
+first_of p [] zero below here = refl
+first_of p [] (suc i) below here = refl
+first_of p (e ∷ es) zero below here = ap (λ t. slice_get (cond t (e ∷ filter p es) (filter p es)) 0) (here e (omega arith))
+first_of p (e ∷ es) (suc i) below here =
+    ap (λ t. slice_get (cond t (e ∷ filter p es) (filter p es)) 0) (below 0 e (omega arith) (omega arith))
+    ∙ first_of p es i (λ j d lt within. below (suc j) d (omega arith) (omega arith)) (λ d within. here d (omega arith))
+
+module _ (es : Facts) (k : Dot) (i : ℕ) where
+  -- so it is at the place where the dot would go
+  pub first_at_gap : IsGap dot_cmp es k i → slice_get (filter (is_above (Some k)) es) 0 ≡ slice_get es i
+  first_at_gap gap = first_of (is_above (Some k)) es i (λ j d lt within. ap is_lt (gap.below j d lt)) (λ d within. ap is_lt (gap.above i d (omega arith) within))
+
+  -- or right after the place where it stands
+  pub first_at_place : IsAt dot_cmp es k i → slice_get (filter (is_above (Some k)) es) 0 ≡ slice_get es (i + 1)
+  first_at_place at = first_of (is_above (Some k)) es (i + 1)
+      (λ j d lt within. elim (cases_lt j i) [
+        | inl less ↦ ap is_lt (at.below j d less)
+        | inr more ↦ let here : j ≡ i = omega arith in ap (λ n. is_above (Some k) (get_or es n d)) here ∙ ap is_lt (turned_equal dot_cmp_total _ k (at.tied d))
+      ])
+      (λ d within. ap is_lt (at.above (i + 1) d (omega arith) within))
+
+-- with no dot given it is the first of all
+pub first_of_all : (es : Facts) → slice_get (filter (is_above None) es) 0 ≡ slice_get es 0
+first_of_all [] = refl
+first_of_all (e ∷ es) = refl
+
+pub above_none : (F : FactSet) → above F None ≡ map.entries F
+above_none F = all (map.entries F)
+  where
+    all : (es : Facts) → filter (is_above None) es ≡ es
+    all [] = refl
+    all (e ∷ es) = ap (λ l. e ∷ l) (all es)
+
+first_is : (es : Facts) (f : Dot × Body) → slice_get es 0 ≡ Some f → (rest : Facts) × (es ≡ f ∷ rest)
+first_is [] f h = absurd (nothing h)
+  where
+    nothing : ¬ (None ≡ Some f)
+    nothing h = cc
+first_is (e ∷ es) f h = (es, ap (λ x. x ∷ es) (somes h))
+  where
+    somes : {x y : Dot × Body} → Some x ≡ Some y → x ≡ y
+    somes k = cc
+
+pub goes_on : (F : FactSet) (a : Option Dot) (f : Dot × Body) → slice_get (above F a) 0 ≡ Some f → above F a ≡ f ∷ above F (Some f.0)
+goes_on F a f h = let r : (rest : Facts) × (above F a ≡ f ∷ rest) = first_is (above F a) f h in r.1 ∙ ap (λ l. f ∷ l) (sym (above_next F a f r.0 r.1))
+
+none_left : (es : Facts) → slice_get es 0 ≡ None → es ≡ []
+none_left [] h = refl
+none_left (e ∷ es) h = absurd (nothing h)
+  where
+    nothing : ¬ (Some e ≡ None)
+    nothing h = cc
+
+pub at_end : (F : FactSet) (a : Option Dot) → slice_get (above F a) 0 ≡ None → above F a ≡ []
+at_end F a h = none_left (above F a) h
+
+-- one call of the walk
+pub steps_on : (F : FactSet) (a : Option Dot) (now new : Facts) (d : Dot) (f : Dot × Body) → above F a ≡ now → slice_get (above F a) 0 ≡ Some f → d ≡ f.0 → new ≡ above F (Some d) → now ≡ f ∷ new
+steps_on F a now new d f old here same after = sym old ∙ goes_on F a f here ∙ ap (λ (e : Dot). f ∷ above F (Some e)) (sym same) ∙ ap (λ l. f ∷ l) (sym after)
+
+pub none_on : (F : FactSet) (a : Option Dot) (now : Facts) → above F a ≡ now → slice_get (above F a) 0 ≡ None → now ≡ []
+none_on F a now old h = sym old ∙ at_end F a h
