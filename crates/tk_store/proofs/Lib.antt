@@ -1,4 +1,7 @@
+pub mod EntryLaws
 pub mod FactSetLaws
+pub mod NextDotLaws
 pub mod PutLaws
 pub mod StoreLaws
 pub mod WalkLaws
+pub mod WithinLaws

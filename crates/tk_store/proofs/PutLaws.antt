@@ -23,7 +23,7 @@ pub none_is_not_some : {A : Type 0} (x : A) → ¬ (None ≡ Some x)
 none_is_not_some x h = cc
 
 -- dots that compare alike are one
-tied : (q d : Dot) → eq_by_cmp dot_cmp q d ≡ true → q ≡ d
+pub tied : (q d : Dot) → eq_by_cmp dot_cmp q d ≡ true → q ≡ d
 tied q d h = dot_cmp-IsAntisymmetric q d (equal_of (dot_cmp q d) h)
   where
     equal_of : (o : Ordering) → is_eq o ≡ true → o ≡ Equal

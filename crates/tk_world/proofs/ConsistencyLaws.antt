@@ -1,0 +1,222 @@
+-- A step keeps a world consistent: there stays one set of all facts made. Key results:
+--   step_keeps          what a step leaves is consistent
+--   new_is_consistent   so is a world with nothing
+--   next_under          a region's next serial is at most one above the cap
+use Rattle.std.proofs.Common.{◌≡◌, ℕ, zero, suc, ◌+◌, ◌-◌, ◌^◌, ◌<◌, ◌≤◌, ◌==◌, true, false, cond, if◌then◌else◌, nat_lt, max, List, [], ◌∷◌, ◌++◌, length, take, slice_get, Option, Some, None, IfSome, codes, refl, sym, ap, subst, ◌∙◌, arith}
+use Rattle.std.specs.Ordering.{nat_cmp, eq_by_cmp, is_eq}
+use Rattle.std.specs.Cmp.{nat_cmp_total}
+use Rattle.std.proofs.lemmas.Cmp.{tied_itself}
+use Rattle.std.specs.FinMap as map
+use Rattle.std.proofs.lemmas.Bool.Decides.{nat_tests}
+use Rattle.std.proofs.lemmas.List.{length-take}
+use Rattle.tk_handle.specs.declared.dot.Dot.{Dot}
+use Rattle.tk_handle.specs.Dot.{dot_cmp}
+use Rattle.tk_fact.specs.Check.{refusal_of}
+use Rattle.tk_fact.specs.declared.body.Body.{Body}
+use Rattle.tk_vector.specs.VersionVector.{Vector}
+use Rattle.tk_store.specs.FactSet.{FactSet, Facts, IsFactSet, AllIn, Within, with_facts}
+use Rattle.tk_store.specs.Beyond.{beyond, is_beyond}
+use Rattle.tk_store.specs.NextDot.{greatest_serial, next_serial, next_dot}
+use Rattle.tk_store.proofs.EntryLaws.{AllIn-entries}
+use Rattle.tk_store.proofs.NextDotLaws.{next_is_free}
+use Rattle.tk_store.proofs.PutLaws.{by_dot, of_dot, get_here, some_injective, none_is_not_some, IsFactSet-empty, IsFactSet-insert}
+use Rattle.tk_store.proofs.WithinLaws.{within_itself, within_trans, within_with_facts, keeps_with_facts, AllIn-take, AllIn-filter, AllIn-within}
+use Rattle.tk_world.specs.SettingsFields.{SettingsFields}
+use Rattle.tk_world.specs.State.{State, new_state, with_region, with_bundle, Consists, IsConsistent}
+use Rattle.tk_world.specs.declared.administration.Decision.{Decision}
+use Rattle.tk_world.specs.declared.event.Event.{Event}
+use Rattle.tk_world.specs.declared.event.Event.TheVariants.{Open, Request, Pull, Deliver}
+use Rattle.tk_world.specs.declared.event.Outcome.{Outcome}
+use Rattle.tk_world.specs.declared.event.Outcome.TheVariants.{Opened, NumberTaken, NoRegion, NoBundle, Reply, Bundle, Took, Memory}
+use Rattle.tk_world.specs.Administration.{refused}
+use Rattle.tk_world.specs.Decision.{decision_of, capped_by, decided}
+use Rattle.tk_world.specs.Page.{page_of}
+use Rattle.tk_world.specs.World.{Step, made_at}
+use Rattle.tk_world.proofs.DecisionLaws.{made_passes}
+
+-- ---- pages
+
+AllIn-page : (F : FactSet) (v : Vector) → AllIn F (page_of F v).facts
+AllIn-page F v = AllIn-take F 128 (beyond F v) (AllIn-filter F (is_beyond v) (map.entries F) (AllIn-entries F))
+
+-- ---- worlds
+
+region_of_get : (s : State) (n : ℕ) (G : FactSet) (r : ℕ) (P : Option FactSet → Type 0) → (r ≡ n → P (Some G)) → P (map.get s.regions r) → P (map.get (map.insert s.regions n G) r)
+region_of_get s n G r P here there =
+    subst P (sym (map.get-insert nat_cmp_total s.regions n G r))
+    (elim (eq_by_cmp nat_cmp r n) as (λ t. eq_by_cmp nat_cmp r n ≡ t → P (cond t (Some G) (map.get s.regions r))) [ true ↦ λ e. here (same_number r n e) | false ↦ λ _. there ] refl)
+  where
+    same_number : (a b : ℕ) → eq_by_cmp nat_cmp a b ≡ true → a ≡ b
+    same_number a b h = grind (arith, nat_tests)
+
+-- the other way
+of_region : (s : State) (n : ℕ) (G : FactSet) (r : ℕ) (F : FactSet) (P : Type 0) → (r ≡ n → G ≡ F → P) → (map.get s.regions r ≡ Some F → P) → map.get (map.insert s.regions n G) r ≡ Some F → P
+of_region s n G r F P here there h = region_of_get s n G r (λ o. o ≡ Some F → P) (λ e k. here e (some_injective G F k)) there h
+
+region_here : (s : State) (n : ℕ) (G : FactSet) (r : ℕ) → r ≡ n → map.get (map.insert s.regions n G) r ≡ Some G
+region_here s n G r same = map.get-insert nat_cmp_total s.regions n G r ∙ ap (λ o. cond (is_eq o) (Some G) (map.get s.regions r)) (ap (nat_cmp r) (sym same) ∙ tied_itself nat_cmp_total r)
+
+-- a region's set grows within U
+pub consists_set : (s : State) (U : FactSet) (n : ℕ) (F G : FactSet) → Consists s U → map.get s.regions n ≡ Some F → Within G U → Within F G → Consists (with_region s n G) U
+consists_set s U n F G k at within grows = record {
+  sound = k.sound;
+  held = λ r F' h. of_region s n G r F' (Within F' U) (λ _ same. subst (λ H. Within H U) same within) (k.held r F') h;
+  home = λ d b h.
+      let old = k.home d b h in
+      region_of_get s n G d.region (λ o. (H : FactSet) × (o ≡ Some H) × (map.get H d ≡ Some b))
+      (λ same. (G, refl, grows d b (ap (λ H. map.get H d) (some_injective F old.0 (sym at ∙ ap (map.get s.regions) (sym same) ∙ old.1)) ∙ old.2)))
+      old;
+  carried = k.carried;
+  capped = k.capped;
+  low = k.low;
+}
+
+-- a new region with nothing in it
+pub consists_opened : (s : State) (U : FactSet) (n : ℕ) → Consists s U → map.get s.regions n ≡ None → Consists (with_region s n map.empty) U
+consists_opened s U n k none = record {
+  sound = k.sound;
+  held = λ r F' h. of_region s n map.empty r F' (Within F' U) (λ _ same d b at. absurd (none_is_not_some b (sym (map.get-empty dot_cmp d) ∙ ap (λ H. map.get H d) same ∙ at))) (k.held r F') h;
+  home = λ d b h.
+      let old = k.home d b h in
+      region_of_get s n map.empty d.region (λ o. (H : FactSet) × (o ≡ Some H) × (map.get H d ≡ Some b))
+      (λ same. absurd (none_is_not_some old.0 (sym none ∙ ap (map.get s.regions) (sym same) ∙ old.1)))
+      old;
+  carried = k.carried;
+  capped = k.capped;
+  low = k.low;
+}
+
+-- a new fact at a free dot of its own region
+pub consists_made : (s : State) (U : FactSet) (n : ℕ) (F : FactSet) (d : Dot) (b : Body) → Consists s U → map.get s.regions n ≡ Some F → d.region ≡ n → map.get F d ≡ None → d.serial ≤ s.settings.cap → refusal_of b ≡ None → Consists (with_region s n (map.insert F d b)) (map.insert U d b)
+consists_made s U n F d b k at own free under passes =
+    let new : map.get U d ≡ None =
+    elim (map.get U d) as (λ o. map.get U d ≡ o → o ≡ None) [
+      | None ↦ λ _. refl
+      | Some c ↦ λ h.
+          let old = k.home d c h in
+          absurd (none_is_not_some c (sym free ∙ ap (λ H. map.get H d) (some_injective F old.0 (sym at ∙ ap (map.get s.regions) (sym own) ∙ old.1)) ∙ old.2))
+    ] refl in
+    let grows : Within U (map.insert U d b) = λ q c h. by_dot (λ o. o ≡ Some c) U d b q (λ same. absurd (none_is_not_some c (sym new ∙ ap (map.get U) (sym same) ∙ h))) h in
+    record {
+      sound = IsFactSet-insert U d b k.sound passes;
+      held = λ r F' h. of_region s n (map.insert F d b) r F' (Within F' (map.insert U d b))
+          (λ _ same. subst (λ H. Within H (map.insert U d b)) same (λ q c j.
+          of_dot F d b q c (map.get (map.insert U d b) q ≡ Some c) (λ e bc. ap (map.get (map.insert U d b)) e ∙ get_here U d b ∙ ap Some bc) (λ i. grows q c (k.held n F at q c i)) j))
+          (λ i. within_trans F' U _ (k.held r F' i) grows) h;
+      home = λ q c h.
+          of_dot U d b q c ((H : FactSet) × (map.get (map.insert s.regions n (map.insert F d b)) q.region ≡ Some H) × (map.get H q ≡ Some c))
+          (λ e bc. (map.insert F d b, region_here s n (map.insert F d b) q.region (ap (λ x. x.region) e ∙ own), ap (map.get (map.insert F d b)) e ∙ get_here F d b ∙ ap Some bc))
+          (λ i.
+          let old = k.home q c i in
+          region_of_get s n (map.insert F d b) q.region (λ o. (H : FactSet) × (o ≡ Some H) × (map.get H q ≡ Some c))
+          (λ same. (
+            map.insert F d b,
+            refl,
+            by_dot (λ o. o ≡ Some c) F d b q (λ e. absurd (none_is_not_some c (sym new ∙ ap (map.get U) (sym e) ∙ i)))
+                (ap (λ H. map.get H q) (some_injective F old.0 (sym at ∙ ap (map.get s.regions) (sym same) ∙ old.1)) ∙ old.2),
+          ))
+          old) h;
+      carried = λ i fs h. let c = k.carried i fs h in (AllIn-within U (map.insert U d b) fs grows c.0, c.1);
+      capped = λ q c h. of_dot U d b q c (q.serial ≤ s.settings.cap) (λ e bc. subst (λ x. x.serial ≤ s.settings.cap) (sym e) under) (k.capped q c) h;
+      low = k.low;
+    }
+
+at_end : (bs : List Facts) (fs : Facts) (i : ℕ) (gs : Facts) (P : Type 0) → (slice_get bs i ≡ Some gs → P) → (fs ≡ gs → P) → slice_get (bs ++ fs ∷ []) i ≡ Some gs → P
+at_end [] fs zero gs P there here h = here (some_injective fs gs h)
+at_end [] fs (suc i) gs P there here h = absurd (none_is_not_some gs h)
+at_end (b ∷ bs) fs zero gs P there here h = there h
+at_end (b ∷ bs) fs (suc i) gs P there here h = at_end bs fs i gs P there here h
+
+-- one more bundle of facts in U
+pub consists_bundle : (s : State) (U : FactSet) (fs : Facts) → Consists s U → AllIn U fs → length fs ≤ 128 → Consists (with_bundle s fs) U
+consists_bundle s U fs k a short = record {
+  sound = k.sound;
+  held = k.held;
+  home = k.home;
+  carried = λ i gs h. at_end s.bundles fs i gs (AllIn U gs × (length gs ≤ 128)) (k.carried i gs) (λ same. subst (λ xs. AllIn U xs × (length xs ≤ 128)) same (a, short)) h;
+  capped = k.capped;
+  low = k.low;
+}
+
+-- ---- a step
+
+-- a fact that a decision makes is under the cap
+under_cap : (cap : ℕ) (next : Dot) (d : Decision) (o : Option Body) → d.made ≡ o → (b : Body) → (capped_by cap next d o).made ≡ Some b → next.serial ≤ cap
+under_cap cap next d None e b h = absurd (none_is_not_some b (sym e ∙ h))
+under_cap cap next d (Some c) e b h =
+    elim (nat_lt cap next.serial) as (λ t. nat_lt cap next.serial ≡ t → (cond t (refused 503 (codes "temporarily_unavailable")) d).made ≡ Some b → next.serial ≤ cap) [
+      | true ↦ λ _ k. absurd (none_is_not_some b k)
+      | false ↦ λ t _. not_above cap next.serial t
+    ] refl h
+  where
+    not_above : (a b : ℕ) → nat_lt a b ≡ false → b ≤ a
+    not_above a b t = grind (arith, nat_tests)
+
+made_keeps : (s : State) (n : ℕ) (F : FactSet) → map.get s.regions n ≡ Some F → (o : Option Body) → ((b : Body) → o ≡ Some b → (next_dot F n).serial ≤ s.settings.cap) → IfSome o (λ b. refusal_of b ≡ None) → IsConsistent s → IsConsistent (with_region s n (with_facts F (made_at (next_dot F n) o)))
+made_keeps s n F at None low passes k = (k.0, consists_set s k.0 n F F k.1 at (k.1.held n F at) (within_itself F))
+made_keeps s n F at (Some b) low passes k = (map.insert k.0 (next_dot F n) b, consists_made s k.0 n F (next_dot F n) b k.1 at refl (next_is_free F n) (low b refl) passes)
+
+pub step_keeps : (old : State) (e : Event) (o : Outcome) (seen : Facts) (new : State) → Step old e o seen new → IsConsistent old → IsConsistent new
+step_keeps old (Open n) Opened seen new step k = subst IsConsistent (sym step.2) (k.0, consists_opened old k.0 n k.1 step.0)
+step_keeps old (Open n) NumberTaken seen new step k = subst IsConsistent (sym step.2) k
+step_keeps old (Open n) Memory seen new step k = subst IsConsistent (sym step.2) k
+step_keeps old (Request n now words q) (Reply reply) seen new step k =
+    let F = step.0 in
+    let d = decided old.settings.cap F n now words q in
+    subst IsConsistent (sym (step.4 ∙ ap (λ fs. with_region old n (with_facts F fs)) step.3))
+    (made_keeps old n F step.1 d.made (under_cap old.settings.cap (next_dot F n) (decision_of F (next_dot F n) now words q) _ refl) (made_passes old.settings.cap (next_dot F n) F now words q) k)
+step_keeps old (Request n now words q) NoRegion seen new step k = subst IsConsistent (sym step.2) k
+step_keeps old (Request n now words q) Memory seen new step k = subst IsConsistent (sym step.2) k
+step_keeps old (Pull n v) (Bundle index count last more) seen new step k =
+    let F = step.0 in
+    let fs = (page_of F v).facts in
+    subst IsConsistent (sym step.7) (k.0, consists_bundle old k.0 fs k.1 (AllIn-within F k.0 fs (k.1.held n F step.1) (AllIn-page F v)) (short_page (beyond F v)))
+  where
+    short_page : (fs : Facts) → length (take 128 fs) ≤ 128
+    short_page fs = omega (arith, length-take 128 fs)
+step_keeps old (Pull n v) NoRegion seen new step k = subst IsConsistent (sym step.2) k
+step_keeps old (Pull n v) Memory seen new step k = subst IsConsistent (sym step.2) k
+step_keeps old (Deliver i n) (Took m) seen new step k =
+    let F = step.0 in
+    let a = (k.1.carried i seen step.2).0 in
+    let within = k.1.held n F step.1 in
+    subst IsConsistent (sym step.3) (k.0, consists_set old k.0 n F _ k.1 step.1 (within_with_facts F k.0 seen within a) (keeps_with_facts F k.0 seen within a))
+step_keeps old (Deliver i n) Memory seen new step k =
+    let F = step.0 in
+    let a = subst (AllIn k.0) (sym step.5) (AllIn-take k.0 step.4 step.2 (k.1.carried i step.2 step.3).0) in
+    let within = k.1.held n F step.1 in
+    subst IsConsistent (sym step.6) (k.0, consists_set old k.0 n F _ k.1 step.1 (within_with_facts F k.0 seen within a) (keeps_with_facts F k.0 seen within a))
+step_keeps old (Deliver i n) NoRegion seen new step k = subst IsConsistent (sym step.2) k
+step_keeps old (Deliver i n) NoBundle seen new step k = subst IsConsistent (sym step.3) k
+step_keeps old e o seen new step k = absurd step
+
+-- a world with nothing
+pub new_is_consistent : (settings : SettingsFields) → settings.cap < 2 ^ 63 - 1 → IsConsistent (new_state settings)
+new_is_consistent settings low = (
+  map.empty,
+  record {
+    sound = IsFactSet-empty;
+    held = λ r F h. absurd (none_is_not_some F (sym (map.get-empty nat_cmp r) ∙ h));
+    home = λ d b h. absurd (none_is_not_some b (sym (map.get-empty dot_cmp d) ∙ h));
+    carried = λ i fs h. absurd (none_is_not_some fs (nothing i ∙ h));
+    capped = λ d b h. absurd (none_is_not_some b (sym (map.get-empty dot_cmp d) ∙ h));
+    low = low;
+  },
+)
+  where
+    nothing : (i : ℕ) → None ≡ slice_get {X = Facts} [] i
+    nothing zero = refl
+    nothing (suc i) = refl
+
+one_under : (region r serial rest cap : ℕ) → serial ≤ cap → rest ≤ cap → max (if region == r then serial else 0) rest ≤ cap
+one_under region r serial rest cap p q = grind (arith, nat_tests)
+
+all_under : (s : State) (k : IsConsistent s) (r : ℕ) (es : Facts) → AllIn k.0 es → greatest_serial r es ≤ s.settings.cap
+all_under s k r [] a = omega arith
+all_under s k r (e ∷ es) a = one_under e.0.region r e.0.serial (greatest_serial r es) s.settings.cap (k.1.capped e.0 e.1 a.0) (all_under s k r es a.1)
+
+-- a region's next serial is at most one above the cap
+pub next_under : (s : State) → IsConsistent s → (r : ℕ) (F : FactSet) → map.get s.regions r ≡ Some F → next_serial F r ≤ s.settings.cap + 1
+next_under s k r F at =
+    let most = all_under s k r (map.entries F) (AllIn-within F k.0 (map.entries F) (k.1.held r F at) (AllIn-entries F)) in
+    omega arith

@@ -1,0 +1,97 @@
+-- A fact that a decision makes passes the check.
+use Rattle.std.proofs.Common.{◌≡◌, ℕ, ◌||◌, ◌==◌, Bool, true, false, cond, nat_lt, List, length, codes, string_bytes, Option, Some, None, IfSome, refl, sym, ap, subst, ◌∙◌}
+use Rattle.std.specs.List.{list_all, slice_split}
+use Rattle.tk_handle.specs.declared.dot.Dot.{Dot}
+use Rattle.tk_handle.specs.ClientId as client_id
+use Rattle.tk_fact.specs.Check.{refusal_of}
+use Rattle.tk_fact.specs.Redirects.{is_uri, redirects_of, redirects_by}
+use Rattle.tk_fact.specs.Scope.{scope_of}
+use Rattle.tk_fact.specs.declared.body.Body.{Body}
+use Rattle.tk_fact.specs.declared.body.Body.TheVariants.{ClientRetired}
+use Rattle.tk_fact.specs.declared.body.ClientAdded as added
+use Rattle.tk_fact.specs.declared.check.FactError.{FactError}
+use Rattle.tk_fact.specs.declared.redirects.RedirectError.{RedirectError}
+use Rattle.tk_store.specs.FactSet.{FactSet}
+use Rattle.tk_world.specs.declared.administration.Decision.{Decision}
+use Rattle.tk_world.specs.declared.request.Request as request
+use Rattle.tk_world.specs.declared.request.Request.TheVariants.{AddClient, ShowClient, Retire}
+use Rattle.tk_world.specs.Administration.{refused, is_space, registration_with, registration_by, registration_of, showing_at, showing_by, showing_of, retirement_at, retirement_by, retirement_of}
+use Rattle.tk_world.specs.Clients.{client_at, is_retired}
+use Rattle.tk_world.specs.Decision.{decision_of, capped_by, decided_at}
+
+-- the fact made, if any, passes the check
+abbrev Passes : Option Body → Type 0
+Passes made = IfSome made (λ b. refusal_of b ≡ None)
+
+-- a list that is kept has nothing but URIs
+kept_uris : (uris us : List (List ℕ)) (empty many all : Bool) → list_all is_uri uris ≡ all
+    → redirects_by uris (cond empty (Some RedirectError.Empty) (cond many (Some RedirectError.TooMany) (cond all None (Some RedirectError.Bad)))) ≡ Some us
+    → list_all is_uri us ≡ true
+kept_uris uris us true many all e h = absurd (nothing h)
+  where
+    nothing : ¬ (None ≡ Some us)
+    nothing h = cc
+kept_uris uris us false true all e h = absurd (nothing h)
+  where
+    nothing : ¬ (None ≡ Some us)
+    nothing h = cc
+kept_uris uris us false false false e h = absurd (nothing h)
+  where
+    nothing : ¬ (None ≡ Some us)
+    nothing h = cc
+kept_uris uris us false false true e h = ap (list_all is_uri) (sym (same h)) ∙ e
+  where
+    same : Some uris ≡ Some us → uris ≡ us
+    same h = cc
+
+registration_passes : (next : Dot) (scope : List ℕ) (uris : List (List ℕ)) (o : Option (List (List ℕ))) → redirects_of uris ≡ o → Passes (registration_with next scope o).made
+registration_passes next scope uris None h = tt
+registration_passes next scope uris (Some us) h = ap (λ t. cond t None (Some FactError.Limit)) (kept_uris uris us _ _ _ refl h)
+
+by_scope_passes : (next : Dot) (o : Option (List ℕ)) (redirects : List ℕ) → Passes (registration_by next o redirects).made
+by_scope_passes next None redirects = tt
+by_scope_passes next (Some scope) redirects = registration_passes next scope (slice_split is_space redirects) _ refl
+
+added_passes : (next : Dot) (scope redirects : List ℕ) → Passes (registration_of next scope redirects).made
+added_passes next scope redirects =
+    elim ((length scope == 0) || (length redirects == 0)) as (λ t. Passes (cond t (refused 400 (codes "invalid_request")) (registration_by next (scope_of scope) redirects)).made) [
+      | true ↦ tt
+      | false ↦ by_scope_passes next (scope_of scope) redirects
+    ]
+
+client_shown_passes : (F : FactSet) (d : Dot) (o : Option added.ClientAdded) → Passes (showing_at F d o).made
+client_shown_passes F d None = tt
+client_shown_passes F d (Some client) = tt
+
+shown_passes : (F : FactSet) (o : Option Dot) → Passes (showing_by F o).made
+shown_passes F None = tt
+shown_passes F (Some d) = client_shown_passes F d (client_at F d)
+
+client_retired_passes : (F : FactSet) (d : Dot) (o : Option added.ClientAdded) → Passes (retirement_at F d o).made
+client_retired_passes F d None = tt
+client_retired_passes F d (Some client) = elim (is_retired F d) as (λ t. Passes (cond t None (Some (ClientRetired (record { client = d }))))) [ true ↦ tt | false ↦ refl ]
+
+retired_passes : (F : FactSet) (o : Option Dot) → Passes (retirement_by F o).made
+retired_passes F None = tt
+retired_passes F (Some d) = client_retired_passes F d (client_at F d)
+
+decision_passes : (F : FactSet) (next : Dot) (now : ℕ) (words : List ℕ) (q : request.Request) → Passes (decision_of F next now words q).made
+decision_passes F next now words (AddClient scope redirects) = added_passes next (string_bytes scope) (string_bytes redirects)
+decision_passes F next now words (ShowClient id) =
+    elim (length (string_bytes id) == 0) as (λ t. Passes (cond t (refused 400 (codes "invalid_request")) (showing_by F (client_id.client_in (string_bytes id)))).made) [
+      | true ↦ tt
+      | false ↦ shown_passes F (client_id.client_in (string_bytes id))
+    ]
+decision_passes F next now words (Retire id) =
+    elim (length (string_bytes id) == 0) as (λ t. Passes (cond t (refused 400 (codes "invalid_request")) (retirement_by F (client_id.client_in (string_bytes id)))).made) [
+      | true ↦ tt
+      | false ↦ retired_passes F (client_id.client_in (string_bytes id))
+    ]
+
+capped_passes : (cap : ℕ) (next : Dot) (d : Decision) (o : Option Body) → d.made ≡ o → Passes o → Passes (capped_by cap next d o).made
+capped_passes cap next d None e p = subst Passes (sym e) tt
+capped_passes cap next d (Some b) e p =
+    elim (nat_lt cap next.serial) as (λ t. Passes (cond t (refused 503 (codes "temporarily_unavailable")) d).made) [ true ↦ tt | false ↦ subst Passes (sym e) p ]
+
+pub made_passes : (cap : ℕ) (next : Dot) (F : FactSet) (now : ℕ) (words : List ℕ) (q : request.Request) → Passes (decided_at cap next F now words q).made
+made_passes cap next F now words q = let d = decision_of F next now words q in capped_passes cap next d d.made refl (decision_passes F next now words q)

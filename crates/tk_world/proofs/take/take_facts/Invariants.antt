@@ -1,0 +1,11 @@
+use Rattle.std.proofs.Common.{◌≡◌, ◌+◌, ◌≤◌, take}
+use Rattle.std.specs.FinMap as map
+use Rattle.tk_store.specs.FactSet.{with_facts}
+use Rattle.tk_world.proofs.take.take_facts.Given as goal
+
+abbrev pub invariant-loop-fact : goal.invariant-loop-fact
+invariant-loop-fact l = record {
+  so_far : l.store ≡ with_facts l.fn.store (take l.fact-index l.facts);
+  counted : map.len l.fn.store + l.taken ≡ map.len l.store;
+  few : l.taken ≤ l.fact-index;
+}

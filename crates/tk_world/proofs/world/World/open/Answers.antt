@@ -1,0 +1,34 @@
+use Rattle.std.proofs.Common.{[], ap, sym, ◌∙◌, refl, is_some}
+use Rattle.std.specs.FinMap as map
+use Rattle.tk_world.specs.declared.event.Event.TheVariants.{Open}
+use Rattle.tk_world.proofs.PartLaws.{state, open_step, sorted_new, found_at, ended, ended_keeps}
+use Rattle.tk_world.proofs.world.World.open.Goals as goal
+
+pub returns-in-Ok : goal.returns-in-Ok
+returns-in-Ok c =
+    let w = c.self.inside in
+    let at = rw c.deref.ensures.value at c.in-Ok.ensures in (
+      [],
+      (
+        ap (λ s. is_some (map.get s.regions c.args.number)) (sym c.self.view_is)
+            ∙ found_at w.settings w.regions.items w.bundles.items c.self.invariant.0 c.args.number c.in-Ok.field-0 at,
+        refl,
+        refl,
+      ),
+    )
+
+pub invariant_of-self : goal.invariant_of-self
+invariant_of-self c =
+    let w = c.self.inside in
+    let gap = rw c.deref.ensures.value at c.in-Err.ensures in
+    let step = open_step w.settings w.regions.items w.bundles.items c.self.invariant.0 c.args.number c.in-Err.at gap c.open_region.result c.open_region.new.regions.items c.open_region.ensures in (
+      sorted_new w.settings w.regions.items w.bundles.items c.self.invariant.0 c.args.number c.in-Err.at gap c.open_region.result c.open_region.new.regions.items c.open_region.ensures,
+      ended_keeps (state w.settings w.regions.items w.bundles.items) (Open c.args.number) c.open_region.result _ step _ refl c.self.invariant.1,
+    )
+
+pub returns-in-Err : goal.returns-in-Err
+returns-in-Err c =
+    let w = c.self.inside in
+    let gap = rw c.deref.ensures.value at c.in-Err.ensures in
+    let step = open_step w.settings w.regions.items w.bundles.items c.self.invariant.0 c.args.number c.in-Err.at gap c.open_region.result c.open_region.new.regions.items c.open_region.ensures in
+    ended (state w.settings w.regions.items w.bundles.items) (Open c.args.number) c.open_region.result _ step _ refl _ c.self.view_is

@@ -1,0 +1,39 @@
+use Rattle.std.proofs.Common.{[], ap, sym, ◌∙◌, refl}
+use Rattle.std.specs.FinMap as map
+use Rattle.tk_world.specs.declared.event.Event.TheVariants.{Pull}
+use Rattle.tk_world.proofs.PartLaws.{state, absent_at, held_at, pull_step, ended, ended_keeps}
+use Rattle.tk_world.proofs.world.World.pull.Goals as goal
+
+pub returns-in-Err : goal.returns-in-Err
+returns-in-Err c =
+    let w = c.self.inside in (
+      [],
+      (
+        ap (λ s. map.get s.regions c.args.region) (sym c.self.view_is)
+            ∙ absent_at w.settings w.regions.items w.bundles.items c.self.invariant.0 c.args.region c.in-Err.field-0 (rw c.deref.ensures.value at c.in-Err.ensures),
+        refl,
+        refl,
+      ),
+    )
+
+pub invariant_of-self : goal.invariant_of-self
+invariant_of-self c =
+    let w = c.self.inside in
+    let at = rw c.deref.ensures.value at c.in-Ok.ensures in
+    let p = c.index.result.now in
+    let is = c.index.ensures in
+    let s = state w.settings w.regions.items w.bundles.items in
+    let held = held_at w.settings w.regions.items w.bundles.items c.self.invariant.0 c.args.region c.in-Ok.at at p is in
+    let step = pull_step s c.args.region p.1 c.args.vector.now c.pull_page.result c.pull_page.new.bundles.items held c.pull_page.ensures in
+    (c.self.invariant.0, ended_keeps s (Pull c.args.region c.args.vector.now) c.pull_page.result _ step _ refl c.self.invariant.1)
+
+pub returns-in-Ok : goal.returns-in-Ok
+returns-in-Ok c =
+    let w = c.self.inside in
+    let at = rw c.deref.ensures.value at c.in-Ok.ensures in
+    let p = c.index.result.now in
+    let is = c.index.ensures in
+    let s = state w.settings w.regions.items w.bundles.items in
+    let held = held_at w.settings w.regions.items w.bundles.items c.self.invariant.0 c.args.region c.in-Ok.at at p is in
+    let step = pull_step s c.args.region p.1 c.args.vector.now c.pull_page.result c.pull_page.new.bundles.items held c.pull_page.ensures in
+    ended s (Pull c.args.region c.args.vector.now) c.pull_page.result _ step _ refl _ c.self.view_is

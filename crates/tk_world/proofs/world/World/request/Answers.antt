@@ -1,0 +1,54 @@
+use Rattle.std.proofs.Common.{[], ap, sym, ◌∙◌, refl}
+use Rattle.std.specs.FinMap as map
+use Rattle.tk_world.specs.declared.event.Event.TheVariants.{Request}
+use Rattle.tk_world.proofs.ConsistencyLaws.{next_under}
+use Rattle.tk_world.proofs.PartLaws.{state, absent_at, held_at, sorted_after, state_after, request_step, ended, ended_keeps}
+use Rattle.tk_world.proofs.world.World.request.Goals as goal
+
+pub returns-in-Err : goal.returns-in-Err
+returns-in-Err c =
+    let w = c.self.inside in (
+      [],
+      (
+        ap (λ s. map.get s.regions c.args.region) (sym c.self.view_is)
+            ∙ absent_at w.settings w.regions.items w.bundles.items c.self.invariant.0 c.args.region c.in-Err.field-0 (rw c.deref.ensures.value at c.in-Err.ensures),
+        refl,
+        refl,
+      ),
+    )
+
+pub answer-requires : goal.answer-requires
+answer-requires c =
+    let w = c.self.inside in
+    let at = rw c.deref.ensures.value at c.in-Ok.ensures in
+    let p = c.index_mut.result.now in
+    let is = c.index_mut.ensures.value in
+    let s = state w.settings w.regions.items w.bundles.items in
+    let held = held_at w.settings w.regions.items w.bundles.items c.self.invariant.0 c.args.region c.in-Ok.at at p is in
+    next_under s c.self.invariant.1 c.args.region p.1 held
+
+pub invariant_of-self : goal.invariant_of-self
+invariant_of-self c =
+    let w = c.self.inside in
+    let at = rw c.deref.ensures.value at c.in-Ok.ensures in
+    let p = c.index_mut.result.now in
+    let is = c.index_mut.ensures.value in
+    let s = state w.settings w.regions.items w.bundles.items in
+    let held = held_at w.settings w.regions.items w.bundles.items c.self.invariant.0 c.args.region c.in-Ok.at at p is in
+    let step = request_step s c.args.region p.1 c.answer.new.store c.args.now c.args.words.now c.args.request.now c.answer.result held c.answer.ensures in (
+      sorted_after w.settings w.regions.items w.bundles.items c.self.invariant.0 c.args.region c.in-Ok.at at p is c.answer.new.store,
+      ended_keeps s (Request c.args.region c.args.now c.args.words.now c.args.request.now) c.answer.result _ step _
+          (state_after w.settings w.regions.items w.bundles.items c.self.invariant.0 c.args.region c.in-Ok.at at p is c.answer.new.store) c.self.invariant.1,
+    )
+
+pub returns-in-Ok : goal.returns-in-Ok
+returns-in-Ok c =
+    let w = c.self.inside in
+    let at = rw c.deref.ensures.value at c.in-Ok.ensures in
+    let p = c.index_mut.result.now in
+    let is = c.index_mut.ensures.value in
+    let s = state w.settings w.regions.items w.bundles.items in
+    let held = held_at w.settings w.regions.items w.bundles.items c.self.invariant.0 c.args.region c.in-Ok.at at p is in
+    let step = request_step s c.args.region p.1 c.answer.new.store c.args.now c.args.words.now c.args.request.now c.answer.result held c.answer.ensures in
+    ended s (Request c.args.region c.args.now c.args.words.now c.args.request.now) c.answer.result _ step _
+    (state_after w.settings w.regions.items w.bundles.items c.self.invariant.0 c.args.region c.in-Ok.at at p is c.answer.new.store) _ c.self.view_is

@@ -1,0 +1,22 @@
+-- The words of this crate, in reading order:
+--   SettingsFields, ReplyFields   what contracts see of settings and replies
+--   Reply            the bytes of replies
+--   Clients          client_at, is_retired, IsLiveClient
+--   Administration   what a request is answered, and the fact that it makes: ordered cases
+--   Decision         decision_of, over all requests; capped, the serial cap outside
+--   Page             page_of, what a pull gives
+--   State            State, a world's regions and bundles; Consists, what holds of all of it
+--   World            Step, Run, seen_by
+--   Parts            what the parts of a step may end with
+pub mod Administration
+pub mod Clients
+pub mod Decision
+pub mod Page
+pub mod Parts
+pub mod Reply
+pub mod ReplyFields
+pub mod SettingsFields
+pub mod State
+pub mod World
+pub use Rattle.tk_store.specs.FactSet
+pub use Rattle.tk_store.specs.Store

@@ -1,0 +1,23 @@
+-- What contracts see of settings: the lives of what is issued, in seconds, and the serial cap (own).
+--   SettingsFields   the five numbers
+--   IsSettings       each is in its range
+use Rattle.std.specs.Prelude.{ℕ, ◌<◌, ◌≤◌}
+
+pub record SettingsFields : Type 0 where
+  pub code : ℕ
+  pub access : ℕ
+  pub refresh : ℕ
+  pub family : ℕ
+  pub cap : ℕ
+
+-- 1 up to a greatest number
+abbrev pub IsUpTo : ℕ → ℕ → Type 0
+IsUpTo greatest n = (0 < n) × (n ≤ greatest)
+
+-- ten minutes, a day, a year, ten years, and the greatest serial less one
+pub record IsSettings (s : SettingsFields) : Type 0 where
+  pub code : IsUpTo 600 s.code
+  pub access : IsUpTo 86400 s.access
+  pub refresh : IsUpTo 31536000 s.refresh
+  pub family : IsUpTo 315360000 s.family
+  pub cap : IsUpTo 9223372036854775806 s.cap

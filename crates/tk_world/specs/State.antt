@@ -1,0 +1,69 @@
+-- What a world is: the open regions with their sets of facts, and the bundles made (own).
+--   State       settings, regions, bundles
+--   facts_in    what a region holds
+--   Consists    there is one set of all facts made, which every region and bundle is part of
+use Rattle.std.specs.Prelude.{◌≡◌, ℕ, ◌<◌, ◌≤◌, ◌^◌, ◌-◌, List, [], ◌∷◌, ◌++◌, length, slice_get, Some, unwrap_or, refl}
+use Rattle.std.specs.Ordering.{nat_cmp}
+use Rattle.std.specs.FinMap as map
+use Rattle.std.specs.Coded.{Coded, code_by, coded×, coded_ℕ, coded_list}
+use Rattle.tk_handle.specs.declared.dot.Dot.{Dot}
+use Rattle.tk_handle.specs.Dot.{coded_dot}
+use Rattle.tk_fact.specs.declared.body.Body.{Body}
+use Rattle.tk_fact.specs.contracts.body.Body.{the_row}
+use Rattle.tk_store.specs.FactSet.{FactSet, Facts, IsFactSet, coded_facts}
+use Rattle.tk_world.specs.SettingsFields.{SettingsFields}
+
+pub record State : Type 0 where
+  pub settings : SettingsFields
+  pub regions : map.FinMap nat_cmp FactSet
+  pub bundles : List Facts
+
+-- as pairs
+abbrev pub coded_settings : Coded SettingsFields
+coded_settings =
+    code_by (ℕ × (ℕ × (ℕ × (ℕ × ℕ)))) (coded× coded_ℕ (coded× coded_ℕ (coded× coded_ℕ (coded× coded_ℕ coded_ℕ))))
+    (λ s. (s.code, (s.access, (s.refresh, (s.family, s.cap)))))
+    (λ p. record { code = p.0; access = p.1.0; refresh = p.1.1.0; family = p.1.1.1.0; cap = p.1.1.1.1 }) (λ _. refl)
+
+abbrev pub coded_state : Coded State
+coded_state =
+    code_by (SettingsFields × (map.FinMap nat_cmp FactSet × List Facts))
+    (coded× coded_settings (coded× (map.code coded_ℕ coded_facts) (coded_list (coded_list (coded× coded_dot (the_row.coded))))))
+    (λ s. (s.settings, (s.regions, s.bundles))) (λ p. record { settings = p.0; regions = p.1.0; bundles = p.1.1 }) (λ _. refl)
+
+-- no region and no bundle
+abbrev pub new_state : SettingsFields → State
+new_state settings = record { settings = settings; regions = map.empty; bundles = [] }
+
+-- the region with this set
+abbrev pub with_region : State → ℕ → FactSet → State
+with_region s r F = record { settings = s.settings; regions = map.insert s.regions r F; bundles = s.bundles }
+
+-- one more bundle
+abbrev pub with_bundle : State → Facts → State
+with_bundle s fs = record { settings = s.settings; regions = s.regions; bundles = s.bundles ++ fs ∷ [] }
+
+-- what a region holds, and nothing where it isn't open
+abbrev pub facts_in : State → ℕ → FactSet
+facts_in s r = unwrap_or (map.get s.regions r) map.empty
+
+-- each of these facts is in the set
+abbrev pub AllIn : FactSet → Facts → Type 0
+AllIn U [] = Unit {0}
+AllIn U (f ∷ fs) = (map.get U f.0 ≡ Some f.1) × AllIn U fs
+
+-- every fact of the one is in the other
+abbrev pub Within : FactSet → FactSet → Type 0
+Within F U = (d : Dot) (b : Body) → map.get F d ≡ Some b → map.get U d ≡ Some b
+
+-- U is the set of all facts made: each stands in the region of its number, under the cap
+pub record Consists (s : State) (U : FactSet) : Type 0 where
+  pub sound : IsFactSet U
+  pub held : (r : ℕ) (F : FactSet) → map.get s.regions r ≡ Some F → Within F U
+  pub home : (d : Dot) (b : Body) → map.get U d ≡ Some b → (F : FactSet) × (map.get s.regions d.region ≡ Some F) × (map.get F d ≡ Some b)
+  pub carried : (i : ℕ) (fs : Facts) → slice_get s.bundles i ≡ Some fs → AllIn U fs × (length fs ≤ 128)
+  pub capped : (d : Dot) (b : Body) → map.get U d ≡ Some b → d.serial ≤ s.settings.cap
+  pub low : s.settings.cap < 2 ^ 63 - 1
+
+abbrev pub IsConsistent : State → Type 0
+IsConsistent s = (U : FactSet) × Consists s U

@@ -1,0 +1,150 @@
+use crate::reply::Reply;
+use tk_fact::Body;
+
+/// What a request is answered, and the fact that it makes.
+#[derive(Debug, Drop)]
+pub struct Decision {
+    pub reply: Reply,
+    pub made: Option<Body>,
+}
+
+ghost use Rattle.std.specs.Prelude.{◌≡◌, IfOk, Some, string_bytes};
+ghost use Rattle.tk_store.specs.Store.{facts_of};
+ghost use Rattle.tk_world.specs.Administration as spec;
+ghost use Rattle.tk_world.specs.Decision.{decision_of};
+
+use crate::clients::{client_at, is_live, is_retired};
+use crate::reply::{client_reply, error_reply, shown_reply};
+use crate::request::Request;
+use crate::texts::split_spaces;
+use std::alloc::{AllocError, Global};
+use tk_fact::{ClientAdded, ClientRetired, RedirectError, Redirects, Scope, ScopeError, Sort};
+use tk_handle::{Dot, Moment, read_client};
+use tk_store::FactStore;
+
+// Decides a request over the facts, where the next fact would stand at the dot.
+pub fn decide(
+    alloc: Global,
+    facts: &FactStore,
+    next: Dot,
+    _now: Moment,
+    _words: &[u64; 6],
+    request: &Request,
+) -> Result<Decision, AllocError>
+    ensures { IfOk result (λ decision. decision ≡ decision_of (facts_of facts.now) next _now _words.now request.now) }
+{
+    match request {
+        Request::AddClient { scope, redirects } => {
+            register(alloc, next, scope.as_bytes(), redirects.as_bytes())
+        }
+        Request::ShowClient { client_id } => show(alloc, facts, client_id.as_bytes()),
+        Request::Retire { client_id } => retire(alloc, facts, client_id.as_bytes()),
+    }
+}
+
+// An error, and no fact.
+pub fn refuse(alloc: Global, status: u16, name: &str) -> Result<Decision, AllocError>
+    ensures { IfOk result (λ decision. decision ≡ spec.refused status name.now) }
+{
+    let reply = error_reply(alloc, status, name)?;
+    Ok(Decision { reply, made: None })
+}
+
+fn register(
+    alloc: Global,
+    next: Dot,
+    scope: &[u8],
+    redirects: &[u8],
+) -> Result<Decision, AllocError>
+    ensures { IfOk result (λ decision. decision ≡ spec.registration_of next scope.now redirects.now) }
+{
+    if scope.is_empty() || redirects.is_empty() {
+        return refuse(alloc, 400, "invalid_request");
+    }
+    match Scope::read(alloc, scope) {
+        Ok(scope) => register_with(alloc, next, scope, redirects),
+        Err(ScopeError::Memory) => Err(AllocError),
+        Err(_) => refuse(alloc, 400, "invalid_scope"),
+    }
+}
+
+fn register_with(
+    alloc: Global,
+    next: Dot,
+    scope: Scope,
+    redirects: &[u8],
+) -> Result<Decision, AllocError>
+    ensures { IfOk result (λ decision. decision ≡ spec.registration_by next (Some scope) redirects.now) }
+{
+    let uris = split_spaces(alloc, redirects)?;
+    match Redirects::kept(alloc, uris.as_slice()) {
+        Ok(redirects) => {
+            let reply = client_reply(alloc, 201, next)?;
+            let client = ClientAdded {
+                sort: Sort::Public,
+                scope,
+                redirects,
+            };
+            Ok(Decision {
+                reply,
+                made: Some(Body::ClientAdded(client)),
+            })
+        }
+        Err(RedirectError::Memory) => Err(AllocError),
+        Err(_) => refuse(alloc, 400, "invalid_request"),
+    }
+}
+
+fn show(alloc: Global, facts: &FactStore, id: &[u8]) -> Result<Decision, AllocError>
+    ensures { IfOk result (λ decision. decision ≡ spec.showing_of (facts_of facts.now) id.now) }
+{
+    if id.is_empty() {
+        return refuse(alloc, 400, "invalid_request");
+    }
+    match read_client(id) {
+        Some(at) => show_at(alloc, facts, at),
+        None => refuse(alloc, 404, "not_found"),
+    }
+}
+
+fn show_at(alloc: Global, facts: &FactStore, at: Dot) -> Result<Decision, AllocError>
+    ensures { IfOk result (λ decision. decision ≡ spec.showing_by (facts_of facts.now) (Some at)) }
+{
+    match client_at(facts, at) {
+        Some(client) => {
+            let live = is_live(facts, at);
+            let reply = shown_reply(alloc, at, &client.sort, live, &client.scope)?;
+            Ok(Decision { reply, made: None })
+        }
+        None => refuse(alloc, 404, "not_found"),
+    }
+}
+
+fn retire(alloc: Global, facts: &FactStore, id: &[u8]) -> Result<Decision, AllocError>
+    ensures { IfOk result (λ decision. decision ≡ spec.retirement_of (facts_of facts.now) id.now) }
+{
+    if id.is_empty() {
+        return refuse(alloc, 400, "invalid_request");
+    }
+    match read_client(id) {
+        Some(at) => retire_at(alloc, facts, at),
+        None => refuse(alloc, 404, "not_found"),
+    }
+}
+
+fn retire_at(alloc: Global, facts: &FactStore, at: Dot) -> Result<Decision, AllocError>
+    ensures { IfOk result (λ decision. decision ≡ spec.retirement_by (facts_of facts.now) (Some at)) }
+{
+    match client_at(facts, at) {
+        Some(_) => {
+            let made = if is_retired(facts, at) {
+                None
+            } else {
+                Some(Body::ClientRetired(ClientRetired { client: at }))
+            };
+            let reply = client_reply(alloc, 200, at)?;
+            Ok(Decision { reply, made })
+        }
+        None => refuse(alloc, 404, "not_found"),
+    }
+}

@@ -1,0 +1,48 @@
+use crate::reply::Reply;
+use crate::request::Request;
+use tk_handle::{Dot, Moment, RegionNumber};
+use tk_vector::VersionVector;
+
+/// What may happen to a world.
+#[derive(Debug, Drop)]
+pub enum Event {
+    /// A region opens under this number, with no fact.
+    Open(RegionNumber),
+    /// A region is asked something at a moment, with six random words.
+    Request {
+        region: RegionNumber,
+        now: Moment,
+        words: [u64; 6],
+        request: Request,
+    },
+    /// A region makes a bundle of what the vector doesn't cover.
+    Pull {
+        region: RegionNumber,
+        vector: VersionVector,
+    },
+    /// The bundle of this number, from 0 in the order of making, reaches a region.
+    Deliver { bundle: u64, region: RegionNumber },
+}
+
+/// How an event ended.
+#[derive(Debug, Drop)]
+pub enum Outcome {
+    Opened,
+    NumberTaken,
+    /// No region is open under the number.
+    NoRegion,
+    /// No bundle of the number has been made.
+    NoBundle,
+    Reply(Reply),
+    /// The bundle's number, how many facts it has, the dot of its last one, and whether more follow it.
+    Bundle {
+        index: u64,
+        count: u16,
+        last: Option<Dot>,
+        more: bool,
+    },
+    /// How many of the bundle's facts were new.
+    Took(u16),
+    /// Memory was refused. Nothing changed, but a delivery may have added the first facts of its bundle.
+    Memory,
+}

@@ -1,0 +1,122 @@
+ghost use Rattle.std.specs.Prelude.{◌≡◌, ◌≤◌, ◌+◌, IfOk, IfSome, None, length};
+ghost use Rattle.std.specs.FinMap as map;
+ghost use Rattle.tk_fact.specs.Check.{refusal_of};
+ghost use Rattle.tk_store.specs.NextDot.{next_dot, next_serial};
+ghost use Rattle.tk_store.specs.Store.{known_in};
+ghost use Rattle.tk_world.specs.Decision as spec;
+ghost use Rattle.tk_world.specs.Page as pages;
+ghost use Rattle.tk_world.specs.Parts.{Commits, Pages};
+
+use crate::administration::{Decision, decide, refuse};
+use crate::event::Outcome;
+use crate::page::{Bundle, make_page};
+use crate::request::Request;
+use crate::settings::Settings;
+use std::alloc::{AllocError, Global};
+use tk_fact::Fact;
+use tk_handle::{Dot, Moment, RegionNumber};
+use tk_store::{AddError, Added, FactStore};
+use tk_vector::VersionVector;
+
+// Answers the request over the region's facts, and adds the fact made.
+pub fn answer(
+    alloc: Global,
+    settings: &Settings,
+    region: RegionNumber,
+    store: &mut FactStore,
+    now: Moment,
+    words: &[u64; 6],
+    request: &Request,
+) -> Outcome
+    requires { next_serial (known_in store.old) region ≤ settings.now.cap + 1 }
+    ensures { Commits (next_dot (known_in store.old) region) (spec.decided settings.now.cap store.old region now words.now request.now) store.old result store.new }
+{
+    let serial = store.next_serial(region);
+    let _cap = settings.cap();
+    match Dot::new(region, serial) {
+        Some(next) => answer_at(alloc, settings, next, store, now, words, request),
+        None => unreachable!(),
+    }
+}
+
+fn answer_at(
+    alloc: Global,
+    settings: &Settings,
+    next: Dot,
+    store: &mut FactStore,
+    now: Moment,
+    words: &[u64; 6],
+    request: &Request,
+) -> Outcome
+    requires { map.get (known_in store.old) next ≡ None }
+    ensures { Commits next (spec.decided_at settings.now.cap next store.old now words.now request.now) store.old result store.new }
+{
+    match decided(alloc, settings, next, store, now, words, request) {
+        Ok(decision) => commit(next, store, decision),
+        Err(_) => Outcome::Memory,
+    }
+}
+
+// The decision, unless it makes a fact above the cap.
+fn decided(
+    alloc: Global,
+    settings: &Settings,
+    next: Dot,
+    store: &FactStore,
+    now: Moment,
+    words: &[u64; 6],
+    request: &Request,
+) -> Result<Decision, AllocError>
+    ensures { IfOk result (λ decision. decision ≡ spec.decided_at settings.now.cap next store.now now words.now request.now) }
+{
+    let decision = decide(alloc, store, next, now, words, request)?;
+    if decision.made.is_some() && settings.cap() < next.serial() {
+        return refuse(alloc, 503, "temporarily_unavailable");
+    }
+    Ok(decision)
+}
+
+// Adds the fact made, and only then answers.
+fn commit(next: Dot, store: &mut FactStore, decision: Decision) -> Outcome
+    requires free { map.get (known_in store.old) next ≡ None }
+    requires passes { IfSome decision.made (λ body. refusal_of body ≡ None) }
+    ensures { Commits next decision store.old result store.new }
+{
+    let Decision { reply, made } = decision;
+    match made {
+        None => Outcome::Reply(reply),
+        Some(body) => match store.add(Fact { dot: next, body }) {
+            Ok(Added::New) => Outcome::Reply(reply),
+            Ok(Added::Held) => unreachable!(),
+            Err(AddError::Memory) => Outcome::Memory,
+            Err(AddError::Conflict) => unreachable!(),
+        },
+    }
+}
+
+// Makes the page, and puts it behind the other bundles.
+pub fn pull_page(
+    alloc: Global,
+    store: &FactStore,
+    bundles: &mut Vec<Bundle>,
+    vector: &VersionVector,
+) -> Outcome
+    ensures { Pages (pages.page_of (known_in store.now) vector.now) bundles.old.items result bundles.new.items }
+{
+    let index = bundles.len() as u64;
+    match make_page(alloc, store, vector) {
+        Ok(page) => {
+            let made = Outcome::Bundle {
+                index,
+                count: page.facts.facts().len() as u16,
+                last: page.last,
+                more: page.more,
+            };
+            match bundles.push(page.facts) {
+                Ok(()) => made,
+                Err(_) => Outcome::Memory,
+            }
+        }
+        Err(_) => Outcome::Memory,
+    }
+}

@@ -1,0 +1,69 @@
+use std::marker::Model;
+
+/// The lives of what is issued, in seconds, and the serial cap, up to which a region makes facts (own).
+#[derive(Clone, Copy, Debug, PartialEq, Eq)]
+pub struct Settings {
+    code: u64,
+    access: u64,
+    refresh: u64,
+    family: u64,
+    cap: u64,
+}
+
+impl Model for Settings {
+    ghost use Rattle.tk_world.specs.SettingsFields.{SettingsFields, IsSettings};
+
+    ghost Value = { SettingsFields };
+
+    ghost view = { λ s. record { code = s.code; access = s.access; refresh = s.refresh; family = s.family; cap = s.cap } };
+
+    ghost invariant = { λ s. IsSettings (record { code = s.code; access = s.access; refresh = s.refresh; family = s.family; cap = s.cap }) };
+
+    ghost inverse = { λ s. record { code = s.code; access = s.access; refresh = s.refresh; family = s.family; cap = s.cap } };
+}
+
+ghost use Rattle.std.specs.Prelude.{◌≡◌, ◌<◌, ◌-◌, ◌^◌};
+ghost use Rattle.std.specs.Option.{SomeIff};
+ghost use Rattle.tk_world.specs.SettingsFields.{IsSettings};
+
+impl Settings {
+    /// None exactly where a number is out of its range: a code lives 1 to 600 seconds, an access token to 86,400,
+    /// a refresh token to 31,536,000, a family to 315,360,000; the cap is 1 to 9,223,372,036,854,775,806.
+    pub fn new(code: u64, access: u64, refresh: u64, family: u64, cap: u64) -> Option<Settings>
+        ensures { SomeIff result (IsSettings (record { code = code; access = access; refresh = refresh; family = family; cap = cap }))
+            (record { code = code; access = access; refresh = refresh; family = family; cap = cap }) }
+    {
+        let in_range = is_up_to(600, code)
+            && is_up_to(86_400, access)
+            && is_up_to(31_536_000, refresh)
+            && is_up_to(315_360_000, family)
+            && is_up_to(9_223_372_036_854_775_806, cap);
+        if !in_range {
+            return None;
+        }
+        Some(Settings {
+            code,
+            access,
+            refresh,
+            family,
+            cap,
+        })
+    }
+
+    /// The greatest serial at which a region makes a fact.
+    pub fn cap(&self) -> u64
+        ensures value { result ≡ self.now.cap }
+        ensures high { self.now.cap < 2 ^ 63 - 1 }
+    {
+        self.cap
+    }
+}
+
+ghost use Rattle.std.specs.Prelude.{◌↔◌, IsTrue};
+ghost use Rattle.tk_world.specs.SettingsFields.{IsUpTo};
+
+fn is_up_to(greatest: u64, n: u64) -> bool
+    ensures { IsTrue result ↔ IsUpTo greatest n }
+{
+    0 < n && n <= greatest
+}

@@ -1,0 +1,211 @@
+use crate::page::Bundle;
+use crate::settings::Settings;
+use std::alloc::Global;
+use std::marker::Model;
+use tk_handle::RegionNumber;
+use tk_store::FactStore;
+
+/// Regions under their numbers, and the bundles that they made, which any of them may be handed in any order.
+#[derive(Debug, Drop)]
+pub struct World {
+    alloc: Global,
+    settings: Settings,
+    // Ascending by number.
+    regions: Vec<(RegionNumber, FactStore)>,
+    // In the order of making. All facts that regions hold or bundles carry are one set.
+    bundles: Vec<Bundle>,
+}
+
+impl Model for World {
+    ghost use Rattle.std.specs.Prelude.{T};
+    ghost use Rattle.std.specs.Ordering.{nat_cmp};
+    ghost use Rattle.std.specs.FinMap as map;
+    ghost use Rattle.tk_world.specs.State.{State, coded_state, IsConsistent};
+
+    ghost Value = { State };
+
+    ghost coded = { coded_state };
+
+    ghost view = { λ w. record { settings = w.settings; regions = map.from_sorted w.regions.items; bundles = w.bundles.items } };
+
+    ghost invariant = { λ w. T (map.is_sorted nat_cmp w.regions.items)
+        × IsConsistent (record { settings = w.settings; regions = map.from_sorted w.regions.items; bundles = w.bundles.items }) };
+}
+
+ghost use Rattle.std.specs.Prelude.{◌≡◌, ◌≤◌, ◌<◌, ◌+◌, T, ℕ, List, IfOk, OnOk, OnErr, MatchResult, length, insert, [], slice_get, vec_len, vec_capacity, ◌++◌, ◌∷◌};
+ghost use Rattle.std.specs.Option.{option_copied};
+ghost use Rattle.std.specs.Ordering.{nat_cmp};
+ghost use Rattle.std.specs.FinMap as map;
+ghost use Rattle.tk_handle.specs.SortedEntries.{IsAt, IsGap};
+ghost use Rattle.tk_store.specs.FactSet.{Facts, joined, set_of};
+ghost use Rattle.tk_world.specs.State.{facts_in, new_state};
+ghost use Rattle.tk_world.specs.World.{Step, Run, seen_by};
+ghost use Rattle.tk_world.specs.Parts.{Opens};
+
+use crate::event::{Event, Outcome};
+use crate::region::{answer, pull_page};
+use crate::request::Request;
+use crate::take::take_facts;
+use std::alloc::AllocError;
+use tk_handle::Moment;
+use tk_vector::VersionVector;
+
+impl World {
+    /// No region and no bundle.
+    pub fn new(alloc: Global, settings: Settings) -> World
+        ensures { result ≡ new_state settings }
+    {
+        let _cap = settings.cap();
+        World {
+            alloc,
+            settings,
+            regions: Vec::new(alloc),
+            bundles: Vec::new(alloc),
+        }
+    }
+
+    /// Runs the events in order. Room for the outcomes is taken first: where it is refused, no event is run.
+    pub fn run(&mut self, events: &[Event]) -> Result<Vec<Outcome>, AllocError>
+        // One outcome for each event.
+        ensures count { IfOk result (λ outcomes. length outcomes.items ≡ length events.now) }
+
+        // The old world, the events, the outcomes and the new world are a run, and each region's set of facts is
+        // its old one joined with what it has seen.
+        ensures run { IfOk result (λ outcomes. (shown : List Facts) × Run self.old events.now outcomes.items shown self.new
+            × ((r : ℕ) → facts_in self.new r ≡ joined (facts_in self.old r) (set_of (seen_by r events.now shown)))) }
+
+        ensures err { OnErr result (self.new ≡ self.old) }
+    {
+        let mut outcomes = Vec::with_capacity(self.alloc, events.len())?;
+        for event in events {
+            let outcome = self.step(event);
+            push_within(&mut outcomes, outcome);
+        }
+        Ok(outcomes)
+    }
+
+    fn step(&mut self, event: &Event) -> Outcome
+        ensures { (seen : Facts) × Step self.old event.now result seen self.new }
+    {
+        match event {
+            Event::Open(number) => self.open(*number),
+            Event::Request {
+                region,
+                now,
+                words,
+                request,
+            } => self.request(*region, *now, words, request),
+            Event::Pull { region, vector } => self.pull(*region, vector),
+            Event::Deliver { bundle, region } => self.deliver(*bundle, *region),
+        }
+    }
+
+    fn open(&mut self, number: RegionNumber) -> Outcome
+        ensures { (seen : Facts) × Step self.old (Event.Open number) result seen self.new }
+    {
+        match place(&self.regions, number) {
+            Ok(_) => Outcome::NumberTaken,
+            Err(at) => open_region(self.alloc, &mut self.regions, at, number),
+        }
+    }
+
+    fn request(
+        &mut self,
+        region: RegionNumber,
+        now: Moment,
+        words: &[u64; 6],
+        request: &Request,
+    ) -> Outcome
+        ensures { (seen : Facts) × Step self.old (Event.Request region now words.now request.now) result seen self.new }
+    {
+        match place(&self.regions, region) {
+            Ok(at) => answer(
+                self.alloc,
+                &self.settings,
+                region,
+                &mut self.regions[at].1,
+                now,
+                words,
+                request,
+            ),
+            Err(_) => Outcome::NoRegion,
+        }
+    }
+
+    fn pull(&mut self, region: RegionNumber, vector: &VersionVector) -> Outcome
+        ensures { (seen : Facts) × Step self.old (Event.Pull region vector.now) result seen self.new }
+    {
+        match place(&self.regions, region) {
+            Ok(at) => pull_page(self.alloc, &self.regions[at].1, &mut self.bundles, vector),
+            Err(_) => Outcome::NoRegion,
+        }
+    }
+
+    fn deliver(&mut self, bundle: u64, region: RegionNumber) -> Outcome
+        ensures { (seen : Facts) × Step self.old (Event.Deliver bundle region) result seen self.new }
+    {
+        match place(&self.regions, region) {
+            Ok(at) => match bundle_at(&self.bundles, bundle) {
+                Some(bundle) => take_facts(self.alloc, &mut self.regions[at].1, bundle.facts()),
+                None => Outcome::NoBundle,
+            },
+            Err(_) => Outcome::NoRegion,
+        }
+    }
+}
+
+// Pushes where there is room.
+fn push_within(outcomes: &mut Vec<Outcome>, outcome: Outcome)
+    requires { vec_len outcomes.old < vec_capacity outcomes.old }
+    ensures items { outcomes.new.items ≡ outcomes.old.items ++ outcome ∷ [] }
+    ensures len { vec_len outcomes.new ≡ vec_len outcomes.old + 1 }
+    ensures room { vec_capacity outcomes.old ≤ vec_capacity outcomes.new }
+{
+    match outcomes.push(outcome) {
+        Ok(()) => {}
+        Err(_) => unreachable!(),
+    }
+}
+
+fn bundle_at(bundles: &[Bundle], index: u64) -> Option<&Bundle>
+    ensures { option_copied result ≡ slice_get bundles.now index }
+{
+    bundles.get(index as usize)
+}
+
+// Where the region stands, or where it would go.
+fn place(regions: &[(RegionNumber, FactStore)], region: RegionNumber) -> Result<usize, usize>
+    requires { T (map.is_sorted nat_cmp regions.now) }
+    ensures { MatchResult result (IsAt nat_cmp regions.now region) (IsGap nat_cmp regions.now region) }
+{
+    regions.binary_search_by_key(&region, |pair| pair.0)
+}
+
+fn open_region(
+    alloc: Global,
+    regions: &mut Vec<(RegionNumber, FactStore)>,
+    at: usize,
+    number: RegionNumber,
+) -> Outcome
+    requires { at ≤ length regions.old.items }
+    ensures { Opens regions.old.items at number result regions.new.items }
+{
+    match insert_region(regions, at, number, FactStore::new(alloc)) {
+        Ok(()) => Outcome::Opened,
+        Err(_) => Outcome::Memory,
+    }
+}
+
+fn insert_region(
+    regions: &mut Vec<(RegionNumber, FactStore)>,
+    at: usize,
+    number: RegionNumber,
+    store: FactStore,
+) -> Result<(), AllocError>
+    requires { at ≤ length regions.old.items }
+    ensures ok { OnOk result (regions.new.items ≡ insert regions.old.items at (number, store)) }
+    ensures err { OnErr result (regions.new.items ≡ regions.old.items) }
+{
+    regions.insert(at, (number, store))?;
+    Ok(())
+}
