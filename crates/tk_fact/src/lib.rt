@@ -22,3 +22,5 @@ pub use redirects::{RedirectError, Redirects};
 pub use scope::{Scope, ScopeError};
 pub use uri::Uri;
 
+#[cfg(test)]
+mod tests;

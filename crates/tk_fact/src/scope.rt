@@ -76,6 +76,5 @@ impl Scope {
 fn is_token(text: &[u8]) -> bool
     ensures { result ≡ list_all is_scope_byte text.now }
 {
-    text.iter()
-        .all(|b| *b == 0x21 || (0x23 <= *b && *b <= 0x5b) || (0x5d <= *b && *b <= 0x7e))
+    text.iter().all(|b| *b == 0x21 || (0x23 <= *b && *b <= 0x5b) || (0x5d <= *b && *b <= 0x7e))
 }

@@ -60,7 +60,5 @@ pub(crate) fn is_uri(uri: &[u8]) -> bool
 fn has_uri_bytes(bytes: &[u8]) -> bool
     ensures { result ≡ list_all is_uri_byte bytes.now }
 {
-    bytes
-        .iter()
-        .all(|b| 0x21 <= *b && *b <= 0x7e && *b != b'#')
+    bytes.iter().all(|b| 0x21 <= *b && *b <= 0x7e && *b != b'#')
 }

@@ -27,4 +27,3 @@ next_is_free F r =
       | None ↦ λ _. refl
       | Some b ↦ λ h. let m = at_most_greatest_serial r (map.entries F) (next_dot F r) b refl (sym (map.get-entries F (next_dot F r)) ∙ h) in absurd (omega arith)
     ] refl
-

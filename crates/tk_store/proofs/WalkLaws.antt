@@ -64,19 +64,21 @@ walk a (e ∷ es) f rest sorted h =
     let s = both _ _ sorted in
     elim (is_above a e) as (λ t. is_above a e ≡ t → cond t (e ∷ filter (is_above a) es) (filter (is_above a) es) ≡ f ∷ rest → filter (is_above (Some f.0)) (e ∷ es) ≡ rest) [
       | true ↦ λ t k.
-        let same : e ≡ f = heads k in
-        subst (λ (y : Dot × Body). filter (is_above (Some y.0)) (e ∷ es) ≡ rest) same
-        (ap (λ o. cond (is_lt o) (e ∷ filter (is_above (Some e.0)) es) (filter (is_above (Some e.0)) es)) (tied_itself dot_cmp_total e.0)
+          let same : e ≡ f = heads k in
+          subst (λ (y : Dot × Body). filter (is_above (Some y.0)) (e ∷ es) ≡ rest) same
+          (ap (λ o. cond (is_lt o) (e ∷ filter (is_above (Some e.0)) es) (filter (is_above (Some e.0)) es)) (tied_itself dot_cmp_total e.0)
           ∙ keeps_low es s.0 ∙ sym (keeps_all a e es t s.0) ∙ tails k)
       | false ↦ λ t k.
-        ap (λ t. cond t (e ∷ filter (is_above (Some f.0)) es) (filter (is_above (Some f.0)) es)) (first_is_above a e es f rest s.0 k)
-        ∙ walk a es f rest s.1 k
+          ap (λ t. cond t (e ∷ filter (is_above (Some f.0)) es) (filter (is_above (Some f.0)) es)) (first_is_above a e es f rest s.0 k)
+          ∙ walk a es f rest s.1 k
     ] refl h
   where
     heads : {y z : Dot × Body} {ys zs : Facts} → y ∷ ys ≡ z ∷ zs → y ≡ z
     heads k = cc
+
     tails : {y z : Dot × Body} {ys zs : Facts} → y ∷ ys ≡ z ∷ zs → ys ≡ zs
     tails k = cc
+
     keeps_low : (xs : Facts) → T (below_all dot_cmp e.0 xs) → filter (is_above (Some e.0)) xs ≡ xs
     keeps_low [] low = refl
     keeps_low (x ∷ xs) low =

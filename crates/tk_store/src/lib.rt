@@ -14,3 +14,6 @@ mod walk;
 
 pub use store::{AddError, Added, FactStore};
 pub use walk::Facts;
+
+#[cfg(test)]
+mod tests;

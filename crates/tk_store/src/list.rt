@@ -14,7 +14,7 @@ use tk_handle::{Dot, RegionNumber};
 use tk_vector::VersionVector;
 
 // Where the fact at the dot stands, or where it would go.
-pub fn place(facts: &[Fact], dot: Dot) -> Result<usize, usize>
+pub(crate) fn place(facts: &[Fact], dot: Dot) -> Result<usize, usize>
     requires { T (sets.is_sorted dot_cmp facts.now) }
     ensures { MatchResult result (IsAt dot_cmp facts.now dot) (IsGap dot_cmp facts.now dot) }
 {
@@ -22,7 +22,7 @@ pub fn place(facts: &[Fact], dot: Dot) -> Result<usize, usize>
 }
 
 // Inserts the fact, or drops it.
-pub fn insert_at(facts: &mut Vec<Fact>, at: usize, fact: Fact) -> Result<(), AllocError>
+pub(crate) fn insert_at(facts: &mut Vec<Fact>, at: usize, fact: Fact) -> Result<(), AllocError>
     requires { at ≤ vec_len facts.old }
     ensures ok { OnOk result (facts.new.items ≡ insert facts.old.items at fact) }
     ensures err { OnErr result (facts.new.items ≡ facts.old.items) }
@@ -32,7 +32,7 @@ pub fn insert_at(facts: &mut Vec<Fact>, at: usize, fact: Fact) -> Result<(), All
 }
 
 // The first fact above the dot, or of all.
-pub fn first_above(facts: &[Fact], after: Option<Dot>) -> Option<&Fact>
+pub(crate) fn first_above(facts: &[Fact], after: Option<Dot>) -> Option<&Fact>
     requires { T (sets.is_sorted dot_cmp facts.now) }
     ensures { option_copied result ≡ slice_get (filter (is_above after) facts.now) 0 }
 {
@@ -51,13 +51,13 @@ fn fact_at(facts: &[Fact], at: usize) -> Option<&Fact>
     facts.get(at)
 }
 
-pub fn count(facts: &[Fact]) -> u64
+pub(crate) fn count(facts: &[Fact]) -> u64
     ensures { result ≡ length facts.now }
 {
     facts.len() as u64
 }
 
-pub fn dots_beyond(
+pub(crate) fn dots_beyond(
     alloc: Global,
     facts: &[Fact],
     vector: &VersionVector,
@@ -75,7 +75,7 @@ pub fn dots_beyond(
 }
 
 // The greatest serial of the region among the facts, or 0.
-pub fn greatest_serial(facts: &[Fact], region: RegionNumber) -> u64
+pub(crate) fn greatest_serial(facts: &[Fact], region: RegionNumber) -> u64
     ensures value { result ≡ next.greatest_serial region facts.now }
     ensures high { result < 2 ^ 63 }
 {

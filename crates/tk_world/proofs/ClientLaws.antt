@@ -21,6 +21,7 @@ same_dot a b h =
   where
     region_of : (a b : Dot) → is_same_dot a b ≡ true → a.region ≡ b.region
     region_of a b h = grind (arith, nat_tests)
+
     serial_of : (a b : Dot) → is_same_dot a b ≡ true → a.serial ≡ b.serial
     serial_of a b h = grind (arith, nat_tests)
 
@@ -66,8 +67,8 @@ live_complete F d live =
     ap (λ o. is_some (option_and_then client_in o) && not (is_retired F d)) live.added
     ∙ elim (is_retired F d) as (λ t. is_retired F d ≡ t → not t ≡ true) [
       | true ↦ λ held.
-        let f : Passing (retires d) F = any_fact-held (retires d) F held in
-        let r : (r : retired.ClientRetired) × (f.body ≡ ClientRetired r) × (r.client ≡ d) = retirement_in d f.body f.dot f.passes in
-        absurd (live.unretired f.dot r.0 (f.held ∙ ap Some r.1) r.2)
+          let f : Passing (retires d) F = any_fact-held (retires d) F held in
+          let r : (r : retired.ClientRetired) × (f.body ≡ ClientRetired r) × (r.client ≡ d) = retirement_in d f.body f.dot f.passes in
+          absurd (live.unretired f.dot r.0 (f.held ∙ ap Some r.1) r.2)
       | false ↦ λ _. refl
     ] refl

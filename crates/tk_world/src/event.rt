@@ -21,7 +21,10 @@ pub enum Event {
         vector: VersionVector,
     },
     /// The bundle of this number, from 0 in the order of making, reaches a region.
-    Deliver { bundle: u64, region: RegionNumber },
+    Deliver {
+        bundle: u64,
+        region: RegionNumber,
+    },
 }
 
 /// How an event ended.

@@ -1,0 +1,98 @@
+ghost use Rattle.std.specs.Prelude.{◌≡◌, None};
+ghost use Rattle.tk_fact.specs.Check.{refusal_of};
+
+use crate::{AddError, Added, FactStore};
+use std::alloc::{AllocError, Global};
+use std::test::Fail;
+use tk_fact::{Body, ClientRetired, Fact};
+use tk_handle::{Dot, RegionNumber};
+use tk_vector::VersionVector;
+
+fn dot(region: u16, serial: u64) -> Result<Dot, &'static str> {
+    let region = RegionNumber::new(region).ok_or("a region")?;
+    Dot::new(region, serial).ok_or("a dot")
+}
+
+fn retirement(at: Dot, client: Dot) -> Fact
+    ensures { refusal_of result.1 ≡ None }
+{
+    Fact {
+        dot: at,
+        body: Body::ClientRetired(ClientRetired { client }),
+    }
+}
+
+// Retirements of the client 1:1 at 2:1, 1:3, 1:1 and 3:2, added in this order.
+fn four(alloc: Global) -> Result<FactStore, Fail> {
+    let client = dot(1, 1)?;
+    let mut store = FactStore::new(alloc);
+    for (region, serial) in [(2, 1), (1, 3), (1, 1), (3, 2)] {
+        let fact = retirement(dot(region, serial)?, client);
+        if store.add(fact).ok().ok_or("an addition")? != Added::New {
+            return Err("the dot was free")?;
+        }
+    }
+    Ok(store)
+}
+
+#[test]
+fn a_dot_has_one_body(rt: HostRuntime) -> Result<(), Fail> {
+    let mut store = four(rt.alloc())?;
+    let at = dot(1, 3)?;
+    assert_eq!(rt; store.len(), 4);
+    assert_eq!(rt; store.add(retirement(at, dot(1, 1)?)), Ok(Added::Held));
+    assert_eq!(rt;
+        store.add(retirement(at, dot(1, 2)?)),
+        Err(AddError::Conflict)
+    );
+    assert_eq!(rt; store.len(), 4);
+    assert!(rt; store.get(at).map(|fact| fact.dot) == Some(at));
+    assert!(rt; store.get(dot(1, 2)?).is_none());
+    Ok(())
+}
+
+fn walked(alloc: Global, store: &FactStore) -> Result<Vec<Dot>, AllocError> {
+    let mut dots = Vec::new(alloc);
+    for fact in store.facts() {
+        dots.push(fact.dot)?;
+    }
+    Ok(dots)
+}
+
+#[test]
+fn a_walk_goes_up_by_dot(rt: HostRuntime) -> Result<(), Fail> {
+    let alloc = rt.alloc();
+    let store = four(alloc)?;
+    let all = [dot(1, 1)?, dot(1, 3)?, dot(2, 1)?, dot(3, 2)?];
+    assert_eq!(rt; walked(alloc, &store)?.as_slice(), all.as_slice());
+    let rows = [
+        (None, Some(dot(1, 1)?)),
+        (Some(dot(1, 1)?), Some(dot(1, 3)?)),
+        (Some(dot(1, 2)?), Some(dot(1, 3)?)),
+        (Some(dot(2, 9)?), Some(dot(3, 2)?)),
+        (Some(dot(3, 2)?), None),
+    ];
+    for (after, want) in rows {
+        assert!(rt; store.next_after(after).map(|fact| fact.dot) == want);
+    }
+    Ok(())
+}
+
+#[test]
+fn a_vector_leaves_out_what_it_covers(rt: HostRuntime) -> Result<(), Fail> {
+    let alloc = rt.alloc();
+    let store = four(alloc)?;
+    let mut vector = VersionVector::new(alloc);
+    let one = RegionNumber::new(1).ok_or("a region")?;
+    vector.raise(one, 2)?;
+    let beyond = [dot(1, 3)?, dot(2, 1)?, dot(3, 2)?];
+    assert_eq!(rt;
+        store.since(alloc, &vector, 9)?.as_slice(),
+        beyond.as_slice()
+    );
+    assert_eq!(rt; store.since(alloc, &vector, 2)?.len(), 2);
+    assert_eq!(rt; store.next_serial(one), 4);
+    let four = RegionNumber::new(4).ok_or("a region")?;
+    assert_eq!(rt; store.next_serial(four), 1);
+    Ok(())
+}
