@@ -1,0 +1,4 @@
+pub mod TypedNumber
+pub mod NumberTexts
+pub mod DotTexts
+pub mod EventWords

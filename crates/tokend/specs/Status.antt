@@ -1,0 +1,13 @@
+-- The exit status of a fault.
+use Rattle.std.specs.Prelude.{ℕ}
+use Rattle.tokend.specs.declared.fault.Fault.{Fault}
+use Rattle.tokend.specs.declared.fault.Fault.TheVariants.{Words, CannotRead, ScriptTooLong, BadLine, Memory, Output}
+
+-- 1 for memory and devices, 2 for words and scripts
+abbrev pub status_of : Fault → ℕ
+status_of (Words error) = 2
+status_of ScriptTooLong = 2
+status_of (BadLine number) = 2
+status_of CannotRead = 1
+status_of Memory = 1
+status_of Output = 1

@@ -1,0 +1,91 @@
+ghost use Rattle.std.specs.Prelude.{◌≡◌, ◌↔◌, IfOk, IfSome, IsSome};
+ghost use Rattle.tokend.specs.Line.{IsPrintable, IsVectorText, HasWords};
+
+use crate::fault::LineError;
+use crate::fields::{dots, fields, is_form_text, moment, number, region};
+use std::alloc::Global;
+use tk_vector::VersionVector;
+use tk_world::{Event, Request};
+
+/// The event of a line without its end, and with the words that a request draws. A line has one of these forms:
+///
+/// - `open R`
+/// - `client R NOW public - SCOPE URIS`
+/// - `retire R NOW ID`
+/// - `look R NOW ID`
+/// - `pull R VECTOR -`
+/// - `deliver B R`
+///
+/// Fields have one byte or more of `%x21-7E` and are parted by one space. R is the number of a region, NOW a moment,
+/// B a bundle's number from 0; VECTOR is `-`, or entries `R:S` of rising regions that are joined by commas. SCOPE and
+/// URIS hold none of `&`, `=`, `+` and `%`.
+pub fn event(alloc: Global, line: &[u8], words: [u64; 6]) -> Result<Event, LineError>
+    ensures { IfOk result (HasWords words) }
+{
+    let fields = fields(alloc, printable(line).ok_or(LineError::Bad)?)?;
+    if fields.iter().any(|field| field.is_empty()) {
+        return Err(LineError::Bad);
+    }
+    match fields.as_slice() {
+        ["open", at] => Ok(Event::Open(region(at).ok_or(LineError::Bad)?)),
+        ["pull", at, entries, "-"] => Ok(Event::Pull {
+            region: region(at).ok_or(LineError::Bad)?,
+            vector: vector(alloc, entries)?,
+        }),
+        ["deliver", bundle, to] => Ok(Event::Deliver {
+            bundle: number(bundle).ok_or(LineError::Bad)?,
+            region: region(to).ok_or(LineError::Bad)?,
+        }),
+        [name, at, now, form @ ..] => Ok(Event::Request {
+            region: region(at).ok_or(LineError::Bad)?,
+            now: moment(now).ok_or(LineError::Bad)?,
+            words,
+            request: request(alloc, name, form)?,
+        }),
+        _ => Err(LineError::Bad),
+    }
+}
+
+// The text of a line that has no bytes but spaces and visible ASCII.
+fn printable(line: &[u8]) -> Option<&str>
+    ensures text { IfSome result (λ text. text.now ≡ line.now) }
+    ensures printable { IsSome result ↔ IsPrintable line.now }
+{
+    if !line.iter().all(|b| matches!(b, b' '..=b'~')) {
+        return None;
+    }
+    str::from_utf8(line).ok()
+}
+
+// The request of a line by its first field, and by those after the moment.
+fn request(alloc: Global, name: &str, form: &[&str]) -> Result<Request, LineError> {
+    match (name, form) {
+        ("client", ["public", "-", scope, uris]) if is_form_text(scope) && is_form_text(uris) => {
+            Ok(Request::AddClient {
+                scope: String::from_str(alloc, scope)?,
+                redirects: String::from_str(alloc, uris)?,
+            })
+        }
+        ("look", [id]) => Ok(Request::ShowClient {
+            client_id: String::from_str(alloc, id)?,
+        }),
+        ("retire", [id]) => Ok(Request::Retire {
+            client_id: String::from_str(alloc, id)?,
+        }),
+        _ => Err(LineError::Bad),
+    }
+}
+
+// The vector of a field.
+fn vector(alloc: Global, entries: &str) -> Result<VersionVector, LineError>
+    ensures { IfOk result (IsVectorText entries.now) }
+{
+    let mut vector = VersionVector::new(alloc);
+    if entries == "-" {
+        return Ok(vector);
+    }
+    for dot in &dots(alloc, entries)? {
+        vector.raise(dot.region(), dot.serial())?;
+    }
+    Ok(vector)
+}

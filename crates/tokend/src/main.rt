@@ -1,0 +1,34 @@
+//! The program `tokend`: an authorisation server whose regions merge, run from a command line.
+//!
+//! So far it has one subcommand. `tokend script` reads events as lines from the standard input, runs all of them in
+//! a world of regions, and prints one line for each. What an event does is decided below, in `tk_world`; here stand
+//! the words, the lines and the exit statuses: 0 done, 1 memory or a device, 2 bad words or a bad script.
+//!
+//! In reading order: `options` (the words of the command line), `script` (the input as events), `line` (one line),
+//! `fields` (its numbers and texts), `print` (outcomes as lines), `fault` (what may go wrong, and how it is told),
+//! `program` (all of it in order). The definitions are in specs/: `CommandLine` and `Task` for the words, `Line` and
+//! `Fields` for the lines, `Status` for the statuses.
+#![tactic(auto)]
+
+mod fault;
+mod fields;
+mod line;
+mod options;
+mod print;
+mod program;
+mod script;
+#[cfg(test)]
+mod tests;
+
+use options::words;
+use program::{finish, run_program};
+use std::process::ExitCode;
+
+fn main(rt: HostRuntime) -> ExitCode {
+    let (mut input, mut output, mut faults) = (rt.stdin(), rt.stdout(), rt.stderr());
+    let status = match words(&rt) {
+        Ok(words) => run_program(&rt, words.as_slice(), &mut input, &mut output, &mut faults),
+        Err(fault) => finish(Err(fault), &mut faults),
+    };
+    ExitCode::from(status)
+}

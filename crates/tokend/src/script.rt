@@ -1,0 +1,58 @@
+ghost use Rattle.std.specs.Prelude.{◌≡◌, ◌≤◌, ◌<◌, ◌^◌, ℕ, IfOk, IfSome, length, slice_get, vec_len};
+ghost use Rattle.tokend.specs.Line.{HasWords, words_at};
+
+use crate::fault::{Fault, LineError};
+use crate::line::event;
+use std::alloc::Global;
+use std::io::Read;
+use tk_world::Event;
+
+/// The greatest length of a script, in bytes.
+pub const LIMIT: usize = 1_048_576;
+
+/// All that the input has, up to the limit. An input that fails or is interrupted can't be read, whatever it gave
+/// before; a longer one is too long.
+pub fn read_script<I: Read>(alloc: Global, input: &mut I) -> Result<Vec<u8>, Fault>
+    ensures { IfOk result (λ script. vec_len script ≤ LIMIT) }
+{
+    let mut script = Vec::new(alloc);
+    let mut piece = [0u8; 8192];
+    while script.len() <= LIMIT {
+        let count = input.read(&mut piece)?;
+        if count == 0 {
+            return Ok(script);
+        }
+        script.extend_from_slice(&piece[..count])?;
+    }
+    Err(Fault::ScriptTooLong)
+}
+
+/// The events of a script's lines, in order; the fault is the first bad line. Lines end with LF, the last may lack
+/// it. Empty lines, and lines that begin with `#`, are no events.
+#[tactic(auto, using(crate::proofs::EventWords::words_pushed))]
+pub fn read_events(alloc: Global, script: &[u8]) -> Result<Vec<Event>, Fault>
+    requires { length script.now ≤ LIMIT }
+    ensures { IfOk result (λ events. (k : ℕ) → IfSome (slice_get events.items k) (HasWords (words_at k))) }
+{
+    let mut events = Vec::new(alloc);
+    for (at, line) in script.split(|b| *b == b'\n').enumerate() {
+        if matches!(line, [] | [b'#', ..]) {
+            continue;
+        }
+        match event(alloc, line, words_of(events.len() as u64)) {
+            Ok(event) => events.push(event)?,
+            Err(LineError::Bad) => return Err(Fault::BadLine(at as u64 + 1)),
+            Err(LineError::Memory) => return Err(Fault::Memory),
+        }
+    }
+    Ok(events)
+}
+
+// The words that an event draws, by its place among the events.
+fn words_of(event: u64) -> [u64; 6]
+    requires { event < 2 ^ 60 }
+    ensures { result ≡ words_at event }
+{
+    let first = 6 * event;
+    [first, first + 1, first + 2, first + 3, first + 4, first + 5]
+}

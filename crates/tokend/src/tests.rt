@@ -1,0 +1,48 @@
+//! The program from its words and its input to its output, standard error and status.
+mod command_line;
+mod devices;
+mod lines;
+mod order;
+mod world;
+
+use crate::program::run_program;
+use std::process::Abort;
+use std::test::Fail;
+
+/// What a run is given, and what it must give.
+#[derive(Clone, Copy)]
+struct Row<'a> {
+    name: &'a str,
+    words: &'a [&'a str],
+    input: &'a [u8],
+    output: &'a str,
+    faults: &'a str,
+    status: u8,
+}
+
+/// Runs each row, over memory.
+fn run_rows<R: AllocGlobal + Abort>(rt: &R, rows: &[Row<'_>]) -> Result<(), Fail> {
+    for row in rows {
+        run_row(rt, row)?;
+    }
+    Ok(())
+}
+
+fn run_row<R: AllocGlobal + Abort>(rt: &R, row: &Row<'_>) -> Result<(), Fail> {
+    let (name, mut input) = (row.name, row.input);
+    let mut output = Vec::new(rt.alloc());
+    let mut faults = Vec::new(rt.alloc());
+    let status = run_program(rt, row.words, &mut input, &mut output, &mut faults);
+    assert_eq!(rt;
+        str::from_utf8(output.as_slice())?,
+        row.output,
+        "output of {name}"
+    );
+    assert_eq!(rt;
+        str::from_utf8(faults.as_slice())?,
+        row.faults,
+        "faults of {name}"
+    );
+    assert_eq!(rt; status, row.status, "status of {name}");
+    Ok(())
+}

@@ -1,0 +1,196 @@
+use super::{Row, run_rows};
+use std::test::Fail;
+
+const HELP: &str = "An authorisation server whose regions merge
+
+Usage: tokend <COMMAND>
+
+Commands:
+  script  Runs events, given as lines on the standard input
+  help    Print this message or the help of the given subcommand(s)
+
+Options:
+  -h, --help     Print help
+  -V, --version  Print version
+";
+
+const SCRIPT_HELP: &str = "Runs events, given as lines on the standard input
+
+Usage: tokend script [OPTIONS]
+
+Options:
+      --cap <N>  The greatest serial of a fact that a region makes [default: 9223372036854775806]
+  -h, --help     Print help
+";
+
+// A run with these words and a script of one region.
+fn asked<'a>(name: &'a str, words: &'a [&'a str]) -> Row<'a> {
+    Row {
+        name,
+        words,
+        input: b"open 1\n",
+        output: "opened 1\n",
+        faults: "",
+        status: 0,
+    }
+}
+
+// A run with these words that prints something else in place of running the script.
+fn shown<'a>(name: &'a str, words: &'a [&'a str], output: &'a str) -> Row<'a> {
+    Row {
+        name,
+        words,
+        input: b"open 1\n",
+        output,
+        faults: "",
+        status: 0,
+    }
+}
+
+// A run with these words that are refused.
+fn refused<'a>(name: &'a str, words: &'a [&'a str], faults: &'a str) -> Row<'a> {
+    Row {
+        name,
+        words,
+        input: b"open 1\n",
+        output: "",
+        faults,
+        status: 2,
+    }
+}
+
+#[test]
+fn words_ask_for_a_script(rt: HostRuntime) -> Result<(), Fail> {
+    let rows = [
+        asked("no option", &["tokend", "script"]),
+        asked("the least cap", &["tokend", "script", "--cap", "1"]),
+        asked(
+            "a cap after an equals sign",
+            &["tokend", "script", "--cap=5"],
+        ),
+        asked(
+            "the greatest cap",
+            &["tokend", "script", "--cap", "9223372036854775806"],
+        ),
+    ];
+    run_rows(&rt, &rows)
+}
+
+#[test]
+fn help_and_version_go_to_the_output(rt: HostRuntime) -> Result<(), Fail> {
+    let rows = [
+        shown("help", &["tokend", "--help"], HELP),
+        shown("short help", &["tokend", "-h"], HELP),
+        shown("the command help", &["tokend", "help"], HELP),
+        shown(
+            "help of script",
+            &["tokend", "script", "--help"],
+            SCRIPT_HELP,
+        ),
+        shown(
+            "the command help of script",
+            &["tokend", "help", "script"],
+            SCRIPT_HELP,
+        ),
+        shown("version", &["tokend", "--version"], "tokend 0.1.0\n"),
+        shown("short version", &["tokend", "-V"], "tokend 0.1.0\n"),
+    ];
+    run_rows(&rt, &rows)
+}
+
+#[test]
+fn bad_words_are_told_as_clap_does(rt: HostRuntime) -> Result<(), Fail> {
+    let rows = [
+        refused(
+            "no subcommand",
+            &["tokend"],
+            "error: 'tokend' requires a subcommand but one was not provided
+  [subcommands: script, help]
+
+Usage: tokend <COMMAND>
+
+For more information, try '--help'.
+",
+        ),
+        refused(
+            "an unknown subcommand",
+            &["tokend", "serve"],
+            "error: unrecognized subcommand 'serve'
+
+Usage: tokend <COMMAND>
+
+For more information, try '--help'.
+",
+        ),
+        refused(
+            "a word too many",
+            &["tokend", "script", "again"],
+            "error: unexpected argument 'again' found
+
+Usage: tokend script [OPTIONS]
+
+For more information, try '--help'.
+",
+        ),
+        refused(
+            "an unknown option",
+            &["tokend", "script", "--code", "60"],
+            "error: unexpected argument '--code' found
+
+Usage: tokend script [OPTIONS]
+
+For more information, try '--help'.
+",
+        ),
+    ];
+    run_rows(&rt, &rows)
+}
+
+#[test]
+fn bad_caps_are_told_as_clap_does(rt: HostRuntime) -> Result<(), Fail> {
+    let rows = [
+        refused(
+            "a cap of nothing",
+            &["tokend", "script", "--cap", "0"],
+            "error: invalid value '0' for '--cap <N>': 0 is not in 1..=9223372036854775806
+
+For more information, try '--help'.
+",
+        ),
+        refused(
+            "a cap above the greatest",
+            &["tokend", "script", "--cap", "9223372036854775807"],
+            "error: invalid value '9223372036854775807' for '--cap <N>': 9223372036854775807 is not in 1..=9223372036854775806
+
+For more information, try '--help'.
+",
+        ),
+        refused(
+            "a cap that is no number",
+            &["tokend", "script", "--cap", "x"],
+            "error: invalid value 'x' for '--cap <N>': invalid digit found in string
+
+For more information, try '--help'.
+",
+        ),
+        refused(
+            "two caps",
+            &["tokend", "script", "--cap", "1", "--cap", "2"],
+            "error: the argument '--cap <N>' cannot be used multiple times
+
+Usage: tokend script [OPTIONS]
+
+For more information, try '--help'.
+",
+        ),
+        refused(
+            "a cap without a value",
+            &["tokend", "script", "--cap"],
+            "error: a value is required for '--cap <N>' but none was supplied
+
+For more information, try '--help'.
+",
+        ),
+    ];
+    run_rows(&rt, &rows)
+}
