@@ -1,1 +1,1 @@
-pub mod ScopeLaws
+pub mod CheckLaws

@@ -1,9 +1,9 @@
 ghost use Rattle.std.specs.Prelude.{◌≡◌, ◌↔◌, IfOk, IsTrue};
 
-use crate::redirects::Redirects;
-use crate::scope::Scope;
 use std::alloc::{AllocError, Global};
 use tk_handle::Dot;
+use tk_match::Redirects;
+use tk_scope::Scope;
 
 /// What a client is (RFC 6749, 2.1; a resource client stands for a resource server that asks about tokens), with
 /// the SHA-256 digest of its secret where it has one.

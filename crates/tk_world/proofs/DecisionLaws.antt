@@ -1,21 +1,22 @@
 -- A fact that a decision makes passes the check.
-use Rattle.std.proofs.Common.{◌≡◌, ℕ, ◌||◌, ◌==◌, Bool, true, false, cond, nat_lt, List, length, codes, string_bytes, Option, Some, None, IfSome, refl, sym, ap, subst, ◌∙◌}
+use Rattle.std.proofs.Common.{◌≡◌, ℕ, ◌||◌, ◌==◌, Bool, true, false, cond, nat_lt, List, length, codes, string_bytes, Option, Some, None, IfSome, is_none, is_some, refl, sym, ap, subst, ◌∙◌}
 use Rattle.std.specs.List.{list_all, slice_split}
 use Rattle.tk_handle.specs.declared.dot.Dot.{Dot}
 use Rattle.tk_handle.specs.ClientId as client_id
 use Rattle.tk_fact.specs.Check.{refusal_of}
-use Rattle.tk_fact.specs.Redirects.{is_uri, redirects_of, redirects_by}
-use Rattle.tk_fact.specs.Scope.{scope_of}
+use Rattle.tk_match.specs.Redirects.{is_uri, is_absolute, redirects_of, redirects_refusal, registration_refusal}
+use Rattle.tk_scope.specs.Scope.{scope_of}
 use Rattle.tk_fact.specs.declared.body.Body.{Body}
 use Rattle.tk_fact.specs.declared.body.Body.TheVariants.{ClientRetired}
 use Rattle.tk_fact.specs.declared.body.ClientAdded as added
 use Rattle.tk_fact.specs.declared.check.FactError.{FactError}
-use Rattle.tk_fact.specs.declared.redirects.RedirectError.{RedirectError}
+use Rattle.tk_match.specs.declared.redirects.RedirectError.{RedirectError}
+use Rattle.tk_fact.proofs.CheckLaws.{kept_uris}
 use Rattle.tk_store.specs.FactSet.{FactSet}
 use Rattle.tk_world.specs.declared.administration.Decision.{Decision}
 use Rattle.tk_world.specs.declared.request.Request as request
 use Rattle.tk_world.specs.declared.request.Request.TheVariants.{AddClient, ShowClient, Retire}
-use Rattle.tk_world.specs.Administration.{refused, is_space, registration_with, registration_by, registration_of, showing_at, showing_by, showing_of, retirement_at, retirement_by, retirement_of}
+use Rattle.tk_world.specs.Administration.{refused, is_space, registered, registration_with, registration_by, registration_of, showing_at, showing_by, showing_of, retirement_at, retirement_by, retirement_of}
 use Rattle.tk_world.specs.Clients.{client_at, is_retired}
 use Rattle.tk_world.specs.Decision.{decision_of, capped_by, decided_at}
 
@@ -23,30 +24,36 @@ use Rattle.tk_world.specs.Decision.{decision_of, capped_by, decided_at}
 abbrev Passes : Option Body → Type 0
 Passes made = IfSome made (λ b. refusal_of b ≡ None)
 
--- a list that is kept has nothing but URIs
-kept_uris : (uris us : List (List ℕ)) (empty many all : Bool) → list_all is_uri uris ≡ all
-    → redirects_by uris (cond empty (Some RedirectError.Empty) (cond many (Some RedirectError.TooMany) (cond all None (Some RedirectError.Bad)))) ≡ Some us
-    → list_all is_uri us ≡ true
-kept_uris uris us true many all e h = absurd (nothing h)
+-- a list that may be registered breaks none of the rules of any list
+registrable : (uris : List (List ℕ)) → registration_refusal uris ≡ None → redirects_refusal uris ≡ None
+registrable uris h = by_refusal (redirects_refusal uris) (list_all is_absolute uris) h
   where
-    nothing : ¬ (None ≡ Some us)
-    nothing h = cc
-kept_uris uris us false true all e h = absurd (nothing h)
-  where
-    nothing : ¬ (None ≡ Some us)
-    nothing h = cc
-kept_uris uris us false false false e h = absurd (nothing h)
-  where
-    nothing : ¬ (None ≡ Some us)
-    nothing h = cc
-kept_uris uris us false false true e h = ap (list_all is_uri) (sym (same h)) ∙ e
+    by_refusal : (o : Option RedirectError) (all : Bool) → cond (is_some o) o (cond all None (Some RedirectError.Bad)) ≡ None → o ≡ None
+    by_refusal None all h = refl
+    by_refusal (Some e) all h = h
+
+-- and is registered as it is
+pub registered_list : (uris us : List (List ℕ)) → registration_refusal uris ≡ None → redirects_of uris ≡ Some us → Some us ≡ registered uris
+registered_list uris us h r =
+    let same : Some uris ≡ Some us = ap (λ o. cond (is_none o) (Some uris) None) (sym (registrable uris h)) ∙ r in
+    sym same ∙ ap (λ o. cond (is_none o) (Some uris) None) (sym h)
+
+pub unregistered_list : (uris : List (List ℕ)) (e : RedirectError) → registration_refusal uris ≡ Some e → registered uris ≡ None
+unregistered_list uris e h = ap (λ o. cond (is_none o) (Some uris) None) h
+
+registered_uris : (uris us : List (List ℕ)) (o : Option RedirectError) → registration_refusal uris ≡ o → cond (is_none o) (Some uris) None ≡ Some us → list_all is_uri us ≡ true
+registered_uris uris us None e h = ap (list_all is_uri) (sym (same h)) ∙ kept_uris uris (registrable uris e)
   where
     same : Some uris ≡ Some us → uris ≡ us
     same h = cc
+registered_uris uris us (Some x) e h = absurd (nothing h)
+  where
+    nothing : ¬ (None ≡ Some us)
+    nothing h = cc
 
-registration_passes : (next : Dot) (scope : List ℕ) (uris : List (List ℕ)) (o : Option (List (List ℕ))) → redirects_of uris ≡ o → Passes (registration_with next scope o).made
+registration_passes : (next : Dot) (scope : List ℕ) (uris : List (List ℕ)) (o : Option (List (List ℕ))) → registered uris ≡ o → Passes (registration_with next scope o).made
 registration_passes next scope uris None h = tt
-registration_passes next scope uris (Some us) h = ap (λ t. cond t None (Some FactError.Limit)) (kept_uris uris us _ _ _ refl h)
+registration_passes next scope uris (Some us) h = ap (λ t. cond t None (Some FactError.Limit)) (registered_uris uris us _ refl h)
 
 by_scope_passes : (next : Dot) (o : Option (List ℕ)) (redirects : List ℕ) → Passes (registration_by next o redirects).made
 by_scope_passes next None redirects = tt

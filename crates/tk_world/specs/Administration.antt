@@ -2,7 +2,7 @@
 --   registration_of   AddClient
 --   showing_of        ShowClient
 --   retirement_of     Retire
-use Rattle.std.specs.Prelude.{ℕ, Bool, ◌||◌, ◌==◌, if◌then◌else◌, List, codes, length, Option, Some, None}
+use Rattle.std.specs.Prelude.{ℕ, Bool, ◌||◌, ◌==◌, if◌then◌else◌, List, codes, length, Option, Some, None, is_none}
 use Rattle.std.specs.List.{slice_split}
 use Rattle.tk_handle.specs.declared.dot.Dot.{Dot}
 use Rattle.tk_handle.specs.ClientId.{client_in}
@@ -10,8 +10,8 @@ use Rattle.tk_fact.specs.declared.body.Body.{Body}
 use Rattle.tk_fact.specs.declared.body.Body.TheVariants.{ClientAdded, ClientRetired}
 use Rattle.tk_fact.specs.declared.body.ClientAdded as added
 use Rattle.tk_fact.specs.declared.body.Sort.TheVariants.{Public}
-use Rattle.tk_fact.specs.Scope.{scope_of}
-use Rattle.tk_fact.specs.Redirects.{redirects_of}
+use Rattle.tk_match.specs.Redirects.{registration_refusal}
+use Rattle.tk_scope.specs.Scope.{scope_of}
 use Rattle.tk_store.specs.FactSet.{FactSet}
 use Rattle.tk_world.specs.declared.administration.Decision.{Decision}
 use Rattle.tk_world.specs.ReplyFields.{ReplyFields}
@@ -31,7 +31,11 @@ refused status name = answered (error_reply status name)
 abbrev pub is_space : ℕ → Bool
 is_space b = b == 32
 
--- an unreadable list of URIs: invalid_request; else a public client at the next dot
+-- the list of these URIs, where each may be registered
+abbrev pub registered : List (List ℕ) → Option (List (List ℕ))
+registered uris = if is_none (registration_refusal uris) then Some uris else None
+
+-- a list that may not be registered: invalid_request; else a public client at the next dot
 abbrev pub registration_with : Dot → List ℕ → Option (List (List ℕ)) → Decision
 registration_with next scope None = refused 400 (codes "invalid_request")
 registration_with next scope (Some uris) = record {
@@ -42,7 +46,7 @@ registration_with next scope (Some uris) = record {
 -- an unreadable scope: invalid_scope
 abbrev pub registration_by : Dot → Option (List ℕ) → List ℕ → Decision
 registration_by next None redirects = refused 400 (codes "invalid_scope")
-registration_by next (Some scope) redirects = registration_with next scope (redirects_of (slice_split is_space redirects))
+registration_by next (Some scope) redirects = registration_with next scope (registered (slice_split is_space redirects))
 
 -- a parameter absent: invalid_request
 abbrev pub registration_of : Dot → List ℕ → List ℕ → Decision

@@ -8,7 +8,7 @@ pub struct Decision {
     pub made: Option<Body>,
 }
 
-ghost use Rattle.std.specs.Prelude.{◌≡◌, IfOk, Some, string_bytes};
+ghost use Rattle.std.specs.Prelude.{◌≡◌, IfOk, Some, map, string_bytes};
 ghost use Rattle.tk_store.specs.Store.{facts_of};
 ghost use Rattle.tk_world.specs.Administration as spec;
 ghost use Rattle.tk_world.specs.Decision.{decision_of};
@@ -18,8 +18,10 @@ use crate::reply::{client_reply, error_reply, shown_reply};
 use crate::request::Request;
 use crate::texts::split_spaces;
 use std::alloc::{AllocError, Global};
-use tk_fact::{ClientAdded, ClientRetired, RedirectError, Redirects, Scope, ScopeError, Sort};
+use tk_fact::{ClientAdded, ClientRetired, Sort};
 use tk_handle::{Dot, Moment, read_client};
+use tk_match::{RedirectError, Redirects};
+use tk_scope::{Scope, ScopeError};
 use tk_store::FactStore;
 
 // Decides a request over the facts, where the next fact would stand at the dot.
@@ -77,8 +79,8 @@ fn register_with(
     ensures { IfOk result (λ decision. decision ≡ spec.registration_by next (Some scope) redirects.now) }
 {
     let uris = split_spaces(alloc, redirects)?;
-    match Redirects::kept(alloc, uris.as_slice()) {
-        Ok(redirects) => {
+    match read_redirects(alloc, uris.as_slice())? {
+        Some(redirects) => {
             let reply = client_reply(alloc, 201, next)?;
             let client = ClientAdded {
                 sort: Sort::Public,
@@ -90,8 +92,19 @@ fn register_with(
                 made: Some(Body::ClientAdded(client)),
             })
         }
+        None => refuse(alloc, 400, "invalid_request"),
+    }
+}
+
+// The list of these URIs, None where one may not be registered.
+#[tactic(auto, using(crate::proofs::DecisionLaws::registered_list, crate::proofs::DecisionLaws::unregistered_list))]
+fn read_redirects(alloc: Global, uris: &[&[u8]]) -> Result<Option<Redirects>, AllocError>
+    ensures { IfOk result (λ redirects. redirects ≡ spec.registered (map (λ x. x.now) uris.now)) }
+{
+    match Redirects::new(alloc, uris) {
+        Ok(redirects) => Ok(Some(redirects)),
         Err(RedirectError::Memory) => Err(AllocError),
-        Err(_) => refuse(alloc, 400, "invalid_request"),
+        Err(RedirectError::Empty | RedirectError::TooMany | RedirectError::Bad) => Ok(None),
     }
 }
 

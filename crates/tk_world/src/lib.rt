@@ -26,3 +26,6 @@ pub use reply::{Payload, Reply};
 pub use request::Request;
 pub use settings::Settings;
 pub use world::World;
+
+#[cfg(test)]
+mod tests;

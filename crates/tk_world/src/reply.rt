@@ -37,8 +37,9 @@ ghost use Rattle.tk_world.specs.Reply as spec;
 
 use serde_json::{Value, json};
 use std::alloc::{AllocError, Global};
-use tk_fact::{Scope, Sort};
+use tk_fact::Sort;
 use tk_handle::{Dot, client_text};
+use tk_scope::Scope;
 
 // An error, by its name.
 pub fn error_reply(alloc: Global, status: u16, name: &str) -> Result<Reply, AllocError>

@@ -1,0 +1,3 @@
+pub mod AsciiTexts
+pub mod Picks
+pub mod UriLists

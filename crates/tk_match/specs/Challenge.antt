@@ -1,0 +1,59 @@
+-- Challenges and verifiers (RFC 7636, 4.1 to 4.6).
+--   ChallengeFields     what contracts see of a challenge
+--   challenge_refusal   the first rule that a method and a text break
+--   challenge_of        the challenge, where they break none
+--   Meets               a verifier meets a challenge; is_met, the same as a test
+use Rattle.std.specs.Prelude.{◌≡◌, ℕ, Bool, true, false, ◌&&◌, ◌||◌, ◌==◌, not, nat_le, is_none, IsTrue, if◌then◌else◌, List, length, codes, bytes_eq, Option, None, Some}
+use Rattle.std.specs.Char.{is_ascii_alphanumeric}
+use Rattle.std.specs.List.{list_all}
+use Rattle.base64.specs.Engines.{url_safe_no_pad}
+use Rattle.base64.specs.GeneralPurpose.{encode_of}
+use Rattle.sha2.specs.Sha256.{sha256}
+use Rattle.tk_match.specs.declared.challenge.ChallengeError.{ChallengeError}
+use Rattle.tk_match.specs.declared.challenge.ChallengeError.TheVariants.{Method, Grammar}
+
+-- whether the method is S256, or else plain; and the text (RFC 7636, 4.3)
+pub record ChallengeFields : Type 0 where
+  pub is_s256 : Bool
+  pub text : List ℕ
+
+-- ALPHA / DIGIT / "-" / "." / "_" / "~" (RFC 7636, 4.1)
+abbrev pub is_unreserved : ℕ → Bool
+is_unreserved b = is_ascii_alphanumeric b || b == 45 || b == 46 || b == 95 || b == 126
+
+-- 43 to 128 such bytes: a verifier (RFC 7636, 4.1), and a challenge too (4.2)
+abbrev pub is_verifier : List ℕ → Bool
+is_verifier text = nat_le 43 (length text) && nat_le (length text) 128 && list_all is_unreserved text
+
+-- a method's name, byte for byte (RFC 7636, 4.3)
+abbrev pub is_method : List ℕ → Bool
+is_method method = bytes_eq method (codes "plain") || bytes_eq method (codes "S256")
+
+-- the first rule that is broken: the method is known, and the text has the grammar (RFC 7636, 4.2 and 4.3)
+abbrev pub challenge_refusal : List ℕ → List ℕ → Option ChallengeError
+challenge_refusal method text =
+    if not (is_method method) then Some Method
+    else if is_verifier text then None
+    else Some Grammar
+
+-- the challenge, where no rule is broken
+abbrev pub challenge_of : List ℕ → List ℕ → Option ChallengeFields
+challenge_of method text =
+    if is_none (challenge_refusal method text)
+    then Some (record { is_s256 = bytes_eq method (codes "S256"); text = text })
+    else None
+
+-- the challenge of a verifier: itself, or the unpadded base64url of its SHA-256 (RFC 7636, 4.2)
+abbrev pub challenge_text : Bool → List ℕ → List ℕ
+challenge_text false verifier = verifier
+challenge_text true verifier = encode_of url_safe_no_pad (sha256 verifier)
+
+-- the verifier is one, and its challenge is this one (RFC 7636, 4.6)
+abbrev pub Meets : ChallengeFields → List ℕ → Type 0
+Meets challenge verifier =
+    IsTrue (is_verifier verifier) × (challenge_text challenge.is_s256 verifier ≡ challenge.text)
+
+-- `Meets` as a test
+abbrev pub is_met : ChallengeFields → List ℕ → Bool
+is_met challenge verifier =
+    is_verifier verifier && bytes_eq (challenge_text challenge.is_s256 verifier) challenge.text

@@ -1,0 +1,52 @@
+-- Which lists of redirection URIs a client may have (RFC 6749, 3.1.2; the limits are own).
+--   is_uri                 a text that may be kept
+--   redirects_refusal      the first rule that a list breaks
+--   redirects_of           the list, where it breaks none
+--   Reads, Refuses         what the URL Standard says of a text, as the crate `url` defines it
+--   registration_refusal   the first rule that a list breaks where its URIs are read too
+use Rattle.std.specs.Prelude.{◌≡◌, ℕ, Bool, ◌&&◌, ◌==◌, not, nat_lt, nat_le, is_none, is_some, is_ok, if◌then◌else◌, List, length, Option, None, Some, Ok, Err}
+use Rattle.std.specs.List.{list_all}
+use Rattle.url.specs.Parser.{parse_url, IsOutOfRoom}
+use Rattle.url.specs.Parts.{Parts}
+use Rattle.url.specs.declared.error.ParseError.{ParseError}
+use Rattle.tk_match.specs.declared.redirects.RedirectError.{RedirectError}
+use Rattle.tk_match.specs.declared.redirects.RedirectError.TheVariants.{Empty, TooMany, Bad}
+
+-- a visible ASCII byte other than `#`: a registered URI has no fragment (RFC 6749, 3.1.2)
+abbrev pub is_uri_byte : ℕ → Bool
+is_uri_byte b = nat_le 33 b && nat_le b 126 && not (b == 35)
+
+-- 1 to 512 such bytes (own)
+abbrev pub is_uri : List ℕ → Bool
+is_uri uri = nat_le 1 (length uri) && nat_le (length uri) 512 && list_all is_uri_byte uri
+
+-- the first rule that a list breaks: 1 to 8 texts, equal ones counted, each of which may be kept (own)
+abbrev pub redirects_refusal : List (List ℕ) → Option RedirectError
+redirects_refusal uris =
+    if length uris == 0 then Some Empty
+    else if nat_lt 8 (length uris) then Some TooMany
+    else if list_all is_uri uris then None
+    else Some Bad
+
+-- the list itself, where it breaks no rule
+abbrev pub redirects_of : List (List ℕ) → Option (List (List ℕ))
+redirects_of uris = if is_none (redirects_refusal uris) then Some uris else None
+
+-- the URL Standard reads the text as an absolute URL
+abbrev pub Reads : List ℕ → Type 0
+Reads text = (url : Parts) × (parse_url None text ≡ Ok url)
+
+-- it refuses the text, and not for want of room
+abbrev pub Refuses : List ℕ → Type 0
+Refuses text = (e : ParseError) × (parse_url None text ≡ Err e) × (IsOutOfRoom e → ⊥)
+
+-- `Reads` as a test: an absolute URI (RFC 6749, 3.1.2)
+abbrev pub is_absolute : List ℕ → Bool
+is_absolute uri = is_ok (parse_url None uri)
+
+-- the first rule that a list breaks where each URI must be absolute too
+abbrev pub registration_refusal : List (List ℕ) → Option RedirectError
+registration_refusal uris =
+    if is_some (redirects_refusal uris) then redirects_refusal uris
+    else if list_all is_absolute uris then None
+    else Some Bad

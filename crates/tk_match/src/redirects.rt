@@ -1,0 +1,200 @@
+use crate::uri::Uri;
+use std::marker::Model;
+
+/// The redirection URIs of a client, as they were registered: 1 to 8, equal ones counted (RFC 6749, 3.1.2).
+#[derive(Debug, Drop)]
+pub struct Redirects {
+    uris: Vec<Uri>,
+}
+
+impl Model for Redirects {
+    ghost use Rattle.std.specs.Prelude.{◌≡◌, ℕ, List, None};
+
+    ghost Value = { List (List ℕ) };
+
+    ghost use Rattle.tk_match.specs.Redirects.{redirects_refusal};
+
+    ghost view = { λ r. r.uris.items };
+
+    ghost invariant = { λ r. redirects_refusal r.uris.items ≡ None };
+}
+
+/// Why a list of redirection URIs is refused: the first that holds, in this order, but `Memory` may come at any
+/// call.
+#[derive(Clone, Copy, Debug, PartialEq, Eq)]
+pub enum RedirectError {
+    /// No URI.
+    Empty,
+    /// More than 8 URIs, equal ones counted.
+    TooMany,
+    /// A URI that isn't 1 to 512 visible ASCII bytes without `#`, or isn't an absolute URL where it was to be one.
+    Bad,
+    /// A growth of memory was refused, or a URL was too long to be read.
+    Memory,
+}
+
+impl From<AllocError> for RedirectError {
+    ghost use Rattle.std.specs.Prelude.{◌≡◌};
+    ghost use Rattle.tk_match.specs.declared.redirects.RedirectError.TheVariants.{Memory};
+
+    ghost from_gives = { λ _ e. e ≡ Memory };
+
+    fn from(_: AllocError) -> RedirectError {
+        RedirectError::Memory
+    }
+}
+
+ghost use Rattle.std.specs.Prelude.{◌≡◌, ◌↔◌, ◌⊎◌, All, Any, IfOk, IfErr, OnOk, IsErrOf, IsTrue, None, Some, true, false, map};
+ghost use Rattle.std.specs.List.{list_all};
+ghost use Rattle.std.specs.Option.{option_copied};
+ghost use Rattle.std.specs.Str.{IsUtf8};
+ghost use Rattle.tk_match.specs.Pick.{picked, shown_pick, IfUri};
+ghost use Rattle.tk_match.specs.Redirects.{is_uri, redirects_refusal, redirects_of, registration_refusal, is_absolute, Reads, Refuses};
+
+use crate::pick::{Pick, only_uri, registered_uri};
+use std::alloc::{AllocError, Global};
+
+const MOST_URIS: usize = 8;
+
+impl Redirects {
+    /// A list that is registered here: each URI is an absolute URL too.
+    ///
+    /// `Memory` is also the answer where a URL is too long for `url`, whose contract doesn't say when that is.
+    #[tactic(auto, using(crate::proofs::UriLists::all_read))]
+    pub fn new(alloc: Global, uris: &[&[u8]]) -> Result<Redirects, RedirectError>
+        ensures ok { IfOk result (λ r. redirects_of (map (λ x. x.now) uris.now) ≡ Some r) }
+        ensures absolute { OnOk result (All Reads (map (λ x. x.now) uris.now)) }
+        ensures registered { OnOk result (registration_refusal (map (λ x. x.now) uris.now) ≡ None) }
+        ensures empty { IsErrOf result RedirectError.Empty
+            → registration_refusal (map (λ x. x.now) uris.now) ≡ Some RedirectError.Empty }
+        ensures too_many { IsErrOf result RedirectError.TooMany
+            → registration_refusal (map (λ x. x.now) uris.now) ≡ Some RedirectError.TooMany }
+        ensures bad { IsErrOf result RedirectError.Bad
+            → registration_refusal (map (λ x. x.now) uris.now) ≡ Some RedirectError.Bad }
+
+        // A URL that `url` refuses for want of room is never `Bad`.
+        ensures refused { IsErrOf result RedirectError.Bad
+            → (redirects_refusal (map (λ x. x.now) uris.now) ≡ Some RedirectError.Bad)
+            ⊎ Any Refuses (map (λ x. x.now) uris.now) }
+    {
+        let redirects = Redirects::kept(alloc, uris)?;
+        check_absolute(alloc, redirects.uris())?;
+        Ok(redirects)
+    }
+
+    /// A list that was registered elsewhere: whether its URIs are absolute URLs isn't asked.
+    pub fn kept(alloc: Global, uris: &[&[u8]]) -> Result<Redirects, RedirectError>
+        ensures ok { IfOk result (λ r. redirects_of (map (λ x. x.now) uris.now) ≡ Some r) }
+        ensures empty { IsErrOf result RedirectError.Empty
+            → redirects_refusal (map (λ x. x.now) uris.now) ≡ Some RedirectError.Empty }
+        ensures too_many { IsErrOf result RedirectError.TooMany
+            → redirects_refusal (map (λ x. x.now) uris.now) ≡ Some RedirectError.TooMany }
+        ensures bad { IsErrOf result RedirectError.Bad
+            → redirects_refusal (map (λ x. x.now) uris.now) ≡ Some RedirectError.Bad }
+
+        // The same in the words of `redirects_of`, for a format of such lists.
+        ensures empty_none { IsErrOf result RedirectError.Empty → redirects_of (map (λ x. x.now) uris.now) ≡ None }
+        ensures too_many_none { IsErrOf result RedirectError.TooMany → redirects_of (map (λ x. x.now) uris.now) ≡ None }
+        ensures bad_none { IsErrOf result RedirectError.Bad → redirects_of (map (λ x. x.now) uris.now) ≡ None }
+    {
+        if uris.is_empty() {
+            return Err(RedirectError::Empty);
+        }
+        if uris.len() > MOST_URIS {
+            return Err(RedirectError::TooMany);
+        }
+        let uris = read_each(alloc, uris)?;
+        Ok(Redirects { uris })
+    }
+
+    /// The URIs in the order of their registration.
+    pub fn uris(&self) -> &[Uri]
+        ensures { result.now ≡ self.now }
+    {
+        self.uris.as_slice()
+    }
+
+    /// Tells a caller's proof that the list breaks no rule.
+    pub fn known(&self)
+        ensures { redirects_refusal self.now ≡ None }
+    {
+        let _ = &self.uris;
+    }
+
+    pub fn copy(&self, alloc: Global) -> Result<Redirects, AllocError>
+        ensures { IfOk result (λ r. r ≡ self.now) }
+    {
+        let uris = copied(alloc, &self.uris)?;
+        Ok(Redirects { uris })
+    }
+
+    /// Whether both have the same URIs in the same order.
+    pub fn same(&self, other: &Redirects) -> bool
+        ensures { IsTrue result ↔ (self.now ≡ other.now) }
+    {
+        same_uris(&self.uris, &other.uris)
+    }
+
+    /// The URI that a request means, by the one that it sent (RFC 6749, 3.1.2.3).
+    pub fn pick(&self, sent: Option<&[u8]>) -> Pick<'_>
+        ensures value { shown_pick result ≡ picked self.now (option_copied sent.entry) }
+        ensures uri { IfUri result (λ uri. IsTrue (is_uri uri)) }
+        ensures utf8 { IfUri result IsUtf8 }
+    {
+        match sent {
+            Some(sent) => registered_uri(&self.uris, sent),
+            None => only_uri(&self.uris),
+        }
+    }
+}
+
+#[tactic(auto, using(crate::proofs::UriLists::bad_text))]
+fn read_each(alloc: Global, texts: &[&[u8]]) -> Result<Vec<Uri>, RedirectError>
+    ensures ok { IfOk result (λ uris. uris.items ≡ map (λ x. x.now) texts.now) }
+    ensures rule { OnOk result (list_all is_uri (map (λ x. x.now) texts.now) ≡ true) }
+    ensures err { IfErr result (λ e. (e ≡ RedirectError.Bad) ⊎ (e ≡ RedirectError.Memory)) }
+    ensures bad { IsErrOf result RedirectError.Bad → list_all is_uri (map (λ x. x.now) texts.now) ≡ false }
+{
+    let mut uris = Vec::with_capacity(alloc, texts.len())?;
+    for text in texts {
+        let uri = Uri::read(alloc, text)?;
+        uris.push(uri).map_err(AllocError::from)?;
+    }
+    Ok(uris)
+}
+
+fn check_absolute(alloc: Global, uris: &[Uri]) -> Result<(), RedirectError>
+    ensures ok { OnOk result (list_all is_absolute uris.now ≡ true) }
+    ensures err { IfErr result (λ e. (e ≡ RedirectError.Bad) ⊎ (e ≡ RedirectError.Memory)) }
+    ensures bad { IsErrOf result RedirectError.Bad → list_all is_absolute uris.now ≡ false }
+    ensures refused { IsErrOf result RedirectError.Bad → Any Refuses uris.now }
+{
+    for uri in uris {
+        uri.check_absolute(alloc)?;
+    }
+    Ok(())
+}
+
+fn copied(alloc: Global, uris: &[Uri]) -> Result<Vec<Uri>, AllocError>
+    ensures { IfOk result (λ copies. copies.items ≡ uris.now) }
+{
+    let mut copies = Vec::with_capacity(alloc, uris.len())?;
+    for uri in uris {
+        copies.push(uri.copy(alloc)?)?;
+    }
+    Ok(copies)
+}
+
+fn same_uris(left: &[Uri], right: &[Uri]) -> bool
+    ensures { IsTrue result ↔ (left.now ≡ right.now) }
+{
+    if left.len() != right.len() {
+        return false;
+    }
+    for (i, uri) in left.iter().enumerate() {
+        if !uri.same(&right[i]) {
+            return false;
+        }
+    }
+    true
+}

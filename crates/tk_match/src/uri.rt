@@ -1,0 +1,109 @@
+use std::marker::Model;
+
+/// A redirection URI that a list may keep: 1 to 512 visible ASCII bytes, none of them `#`.
+#[derive(Debug, Drop)]
+pub struct Uri {
+    text: String,
+}
+
+impl Model for Uri {
+    ghost use Rattle.std.specs.Prelude.{ℕ, List, IsTrue, string_bytes};
+
+    ghost Value = { List ℕ };
+
+    ghost use Rattle.tk_match.specs.Redirects.{is_uri};
+
+    ghost view = { λ u. string_bytes u.text };
+
+    ghost invariant = { λ u. IsTrue (is_uri (string_bytes u.text)) };
+}
+
+ghost use Rattle.std.specs.Prelude.{◌≡◌, ◌↔◌, ◌⊎◌, true, false, IfOk, OnOk, IfErr, IsErrOf, IsTrue};
+ghost use Rattle.std.specs.List.{list_all};
+ghost use Rattle.tk_match.specs.Redirects.{is_uri, is_uri_byte, is_absolute, Refuses};
+
+use crate::redirects::RedirectError;
+use std::alloc::{AllocError, Global};
+use url::{ParseError, Url};
+
+const MOST_BYTES: usize = 512;
+
+impl Uri {
+    /// The text itself.
+    pub fn as_str(&self) -> &str
+        ensures value { result.now ≡ self.now }
+        ensures known { IsTrue (is_uri self.now) }
+    {
+        self.text.as_str()
+    }
+
+    /// The bytes of the text.
+    pub fn as_bytes(&self) -> &[u8]
+        ensures value { result.now ≡ self.now }
+        ensures known { IsTrue (is_uri self.now) }
+    {
+        self.text.as_bytes()
+    }
+
+    // `Bad` for every text that a list doesn't keep.
+    #[tactic(auto, using(crate::proofs::AsciiTexts::uri_utf8))]
+    pub(crate) fn read(alloc: Global, text: &[u8]) -> Result<Uri, RedirectError>
+        ensures ok { IfOk result (λ uri. (uri ≡ text.now) × IsTrue (is_uri text.now)) }
+        ensures err { IfErr result (λ e. (e ≡ RedirectError.Bad) ⊎ (e ≡ RedirectError.Memory)) }
+        ensures bad { IsErrOf result RedirectError.Bad → is_uri text.now ≡ false }
+    {
+        if !is_uri(text) {
+            return Err(RedirectError::Bad);
+        }
+        let Ok(text) = str::from_utf8(text) else {
+            unreachable!("visible ASCII");
+        };
+        let text = String::from_str(alloc, text)?;
+        Ok(Uri { text })
+    }
+
+    pub(crate) fn copy(&self, alloc: Global) -> Result<Uri, AllocError>
+        ensures { IfOk result (λ uri. uri ≡ self.now) }
+    {
+        let text = String::from_str(alloc, self.as_str())?;
+        Ok(Uri { text })
+    }
+
+    pub(crate) fn same(&self, other: &Uri) -> bool
+        ensures { IsTrue result ↔ (self.now ≡ other.now) }
+    {
+        self.as_str() == other.as_str()
+    }
+
+    // A URL that is too long for `url` is refused for want of memory.
+    pub(crate) fn check_absolute(&self, alloc: Global) -> Result<(), RedirectError>
+        ensures ok { OnOk result (is_absolute self.now ≡ true) }
+        ensures err { IfErr result (λ e. (e ≡ RedirectError.Bad) ⊎ (e ≡ RedirectError.Memory)) }
+        ensures bad { IsErrOf result RedirectError.Bad → is_absolute self.now ≡ false }
+        ensures refused { IsErrOf result RedirectError.Bad → Refuses self.now }
+    {
+        match Url::parse(alloc, self.as_str()) {
+            Ok(_) => Ok(()),
+            Err(ParseError::OutOfMemory | ParseError::Overflow) => Err(RedirectError::Memory),
+            Err(_) => Err(RedirectError::Bad),
+        }
+    }
+}
+
+fn is_uri(text: &[u8]) -> bool
+    ensures { result ≡ is_uri text.now }
+{
+    (1..=MOST_BYTES).contains(&text.len()) && has_uri_bytes(text)
+}
+
+fn has_uri_bytes(text: &[u8]) -> bool
+    ensures { result ≡ list_all is_uri_byte text.now }
+{
+    text.iter().all(|b| is_uri_byte(*b))
+}
+
+fn is_uri_byte(byte: u8) -> bool
+    ensures { result ≡ is_uri_byte byte }
+{
+    (0x21..=0x7e).contains(&byte) && byte != b'#'
+}

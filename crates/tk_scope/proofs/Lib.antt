@@ -1,0 +1,4 @@
+pub mod Ascii
+pub mod Order
+pub mod Printing
+pub mod Within

@@ -1,0 +1,58 @@
+-- A scope (RFC 6749, 3.3): which texts are one, the rule that another breaks, and the printed form, for which a scope stands.
+use Rattle.std.specs.Prelude.{ℕ, Bool, ◌&&◌, ◌||◌, ◌==◌, not, nat_le, nat_lt, List, [], ◌∷◌, length, All, Contains, Option, Some, None, is_some, if◌then◌else◌}
+use Rattle.std.specs.Cmp.Lexicographic.{slice_cmp}
+use Rattle.std.specs.List.{join_with_byte, list_all, slice_split}
+use Rattle.std.specs.Ordering.{is_lt, nat_cmp}
+use Rattle.std.specs.Str.{bytes_eq}
+use Rattle.tk_scope.specs.declared.error.ScopeError.{ScopeError}
+use Rattle.tk_scope.specs.declared.error.ScopeError.TheVariants.{TooLong, Grammar, TooMany}
+use Rattle.tk_scope.specs.declared.scope.TheConstants.{MAX_BYTES, MAX_TOKENS}
+
+-- %x21 / %x23-5B / %x5D-7E (RFC 6749, 3.3)
+abbrev pub is_scope_byte : ℕ → Bool
+is_scope_byte b = (b == 0x21) || (nat_le 0x23 b && nat_le b 0x5B) || (nat_le 0x5D b && nat_le b 0x7E)
+
+-- scope-token: one or more of these bytes (RFC 6749, 3.3)
+abbrev pub is_token : List ℕ → Bool
+is_token token = not (length token == 0) && list_all is_scope_byte token
+
+-- what stands between the spaces of a text
+abbrev pub tokens_of : List ℕ → List (List ℕ)
+tokens_of text = slice_split (λ b. b == 0x20) text
+
+-- the first rule that a text breaks: the length, the grammar (RFC 6749, 3.3), the number of tokens (the limits are own)
+abbrev pub scope_refusal : List ℕ → Option ScopeError
+scope_refusal text =
+    if nat_lt MAX_BYTES (length text) then Some TooLong
+    else if not (list_all is_token (tokens_of text)) then Some Grammar
+    else if nat_lt MAX_TOKENS (length (tokens_of text)) then Some TooMany
+    else None
+
+-- tokens that ascend in byte order, and one more among them, unless it is there
+abbrev pub with_token : List ℕ → List (List ℕ) → List (List ℕ)
+with_token token [] = token ∷ []
+with_token token (t ∷ ts) =
+    if bytes_eq token t then t ∷ ts
+    else if is_lt (slice_cmp nat_cmp token t) then token ∷ t ∷ ts
+    else t ∷ with_token token ts
+
+-- the tokens in byte order, without doubles
+abbrev pub in_order : List (List ℕ) → List (List ℕ)
+in_order [] = []
+in_order (t ∷ ts) = with_token t (in_order ts)
+
+-- the printed form of these tokens (own): in order, with one space between each two
+abbrev pub scope_text : List (List ℕ) → List ℕ
+scope_text tokens = join_with_byte 0x20 (in_order tokens)
+
+-- the scope that a text writes, as its printed form
+abbrev pub scope_of : List ℕ → Option (List ℕ)
+scope_of text = if is_some (scope_refusal text) then None else Some (scope_text (tokens_of text))
+
+-- each token of the one scope is a token of the other (RFC 6749, 6: no token that was not granted)
+abbrev pub IsWithin : List ℕ → List ℕ → Type 0
+IsWithin scope other = All (Contains (tokens_of other)) (tokens_of scope)
+
+-- the two have the same tokens
+abbrev pub HasSameTokens : List ℕ → List ℕ → Type 0
+HasSameTokens scope other = IsWithin scope other × IsWithin other scope

@@ -1,0 +1,163 @@
+use crate::{Event, Outcome, Payload, Request, Settings, World};
+use std::alloc::{AllocError, Global};
+use std::test::Fail;
+use tk_handle::{Moment, RegionNumber};
+
+#[test]
+fn settings_end_where_their_ranges_do(rt: HostRuntime) {
+    let cap = 9_223_372_036_854_775_806;
+    let rows = [
+        ("the least", [1, 1, 1, 1, 1], true),
+        (
+            "the greatest",
+            [600, 86_400, 31_536_000, 315_360_000, cap],
+            true,
+        ),
+        ("no life of a code", [0, 1, 1, 1, 1], false),
+        ("a code of 601 seconds", [601, 1, 1, 1, 1], false),
+        ("no life of an access token", [1, 0, 1, 1, 1], false),
+        (
+            "an access token of more than a day",
+            [1, 86_401, 1, 1, 1],
+            false,
+        ),
+        ("no life of a refresh token", [1, 1, 0, 1, 1], false),
+        (
+            "a refresh token of more than a year",
+            [1, 1, 31_536_001, 1, 1],
+            false,
+        ),
+        ("no life of a family", [1, 1, 1, 0, 1], false),
+        (
+            "a family of more than ten years",
+            [1, 1, 1, 315_360_001, 1],
+            false,
+        ),
+        ("no cap", [1, 1, 1, 1, 0], false),
+        ("a cap at the greatest serial", [1, 1, 1, 1, cap + 1], false),
+    ];
+    for (name, [code, access, refresh, family, cap], want) in rows {
+        assert_eq!(rt;
+            Settings::new(code, access, refresh, family, cap).is_some(),
+            want,
+            "{name}"
+        );
+    }
+}
+
+fn ask(region: RegionNumber, request: Request) -> Result<Event, &'static str> {
+    Ok(Event::Request {
+        region,
+        now: Moment::new(1000).ok_or("a moment")?,
+        words: [0; 6],
+        request,
+    })
+}
+
+fn registration(alloc: Global, scope: &str, redirects: &str) -> Result<Request, AllocError> {
+    Ok(Request::AddClient {
+        scope: String::from_str(alloc, scope)?,
+        redirects: String::from_str(alloc, redirects)?,
+    })
+}
+
+fn is_reply(outcome: Option<&Outcome>, status: u16, body: &str) -> bool {
+    match outcome {
+        Some(Outcome::Reply(reply)) => match &reply.body {
+            Payload::Json(bytes) => reply.status == status && bytes.as_slice() == body.as_bytes(),
+            _ => false,
+        },
+        _ => false,
+    }
+}
+
+// A world with region 1, asked to register such a client and then to show it.
+fn registered(alloc: Global, scope: &str, redirects: &str) -> Result<Vec<Outcome>, Fail> {
+    let one = RegionNumber::new(1).ok_or("a region")?;
+    let settings = Settings::new(60, 3600, 86_400, 2_592_000, 1000).ok_or("settings")?;
+    let mut world = World::new(alloc, settings);
+    let mut events = Vec::new(alloc);
+    events.push(Event::Open(one))?;
+    events.push(ask(one, registration(alloc, scope, redirects)?)?)?;
+    let client_id = String::from_str(alloc, "c1-1")?;
+    events.push(ask(one, Request::ShowClient { client_id })?)?;
+    Ok(world.run(events.as_slice())?)
+}
+
+#[test]
+fn a_registration_is_read_and_shown(rt: HostRuntime) -> Result<(), Fail> {
+    let alloc = rt.alloc();
+    let uri = "https://app.example/cb";
+    let rows = [
+        ("one token", "read", uri, 201, "{\"client_id\":\"c1-1\"}"),
+        (
+            "doubled tokens",
+            "write read read",
+            uri,
+            201,
+            "{\"client_id\":\"c1-1\"}",
+        ),
+        ("no scope", "", uri, 400, "{\"error\":\"invalid_request\"}"),
+        (
+            "no list",
+            "read",
+            "",
+            400,
+            "{\"error\":\"invalid_request\"}",
+        ),
+        (
+            "two spaces",
+            "read  write",
+            uri,
+            400,
+            "{\"error\":\"invalid_scope\"}",
+        ),
+        (
+            "a bad scope and a bad list",
+            "\"",
+            "/cb",
+            400,
+            "{\"error\":\"invalid_scope\"}",
+        ),
+        (
+            "a relative URI",
+            "read",
+            "/cb",
+            400,
+            "{\"error\":\"invalid_request\"}",
+        ),
+        (
+            "a fragment",
+            "read",
+            "https://app.example/cb#top",
+            400,
+            "{\"error\":\"invalid_request\"}",
+        ),
+        (
+            "two URIs",
+            "read",
+            "https://app.example/cb https://app.example/",
+            201,
+            "{\"client_id\":\"c1-1\"}",
+        ),
+        (
+            "two spaces in the list",
+            "read",
+            "https://a.example/  https://b.example/",
+            400,
+            "{\"error\":\"invalid_request\"}",
+        ),
+    ];
+    for (name, scope, redirects, status, body) in rows {
+        let outcomes = registered(alloc, scope, redirects)?;
+        assert!(rt; is_reply(outcomes.get(1), status, body), "{name}");
+    }
+    let outcomes = registered(alloc, "write read read", uri)?;
+    let shown =
+        "{\"client_id\":\"c1-1\",\"kind\":\"public\",\"live\":true,\"scope\":\"read write\"}";
+    assert!(rt;
+        is_reply(outcomes.get(2), 200, shown),
+        "printed in order, without doubles"
+    );
+    Ok(())
+}
