@@ -1,3 +1,5 @@
-pub mod ClientIdLaws
+pub mod DotTextLaws
+pub mod FormatLaws
+pub mod HandleLaws
 pub mod NumberTexts
 pub mod SortedEntriesLaws

@@ -1,51 +1,23 @@
--- The text of a client's id, and what a text says.
---   client_text   the spelling of a dot
+-- The text of a client's id (own; RFC 6749, 2.2 leaves its form to the server), and what a text says.
+--   client_text   the spelling of a dot: the letter c, and the dot
 --   client_in     the dot whose spelling a text is
 --   Reads         a reading gives the dot of a spelling, and nothing for any other text
-use Rattle.std.specs.Prelude.{◌≡◌, ◌≢◌, ℕ, ◌^◌, Bool, ◌&&◌, ◌==◌, nat_lt, nat_le, if◌then◌else◌, List, [], ◌∷◌, ◌++◌, codes, decimal, Option, Some, None, position, take, drop, ◌+◌}
-use Rattle.std.specs.Str.{bytes_eq}
-use Rattle.std.specs.Str.Parse.{digits_value}
+use Rattle.std.specs.Prelude.{ℕ, List, Option}
 use Rattle.tk_handle.specs.declared.dot.Dot.{Dot}
-use Rattle.tk_handle.specs.Dot.{IsDot}
+use Rattle.tk_handle.specs.DotText.{dot_text, spelled_in, ReadsDot}
+
+-- the letter c
+abbrev pub client_letter : ℕ
+client_letter = 99
 
 -- the letter c, the region, a dash, the serial, in decimals without leading zeros
 abbrev pub client_text : Dot → List ℕ
-client_text d = codes "c" ++ (decimal d.region ++ (codes "-" ++ decimal d.serial))
-
--- the number, from 1 on, whose decimal the text is
-abbrev pub number_in : List ℕ → Option ℕ
-number_in text =
-    let n = digits_value 10 text in
-    if nat_lt 0 n && (nat_lt n (2 ^ 64) && bytes_eq (decimal n) text) then Some n else None
-
--- the dot of two numbers in range
-abbrev pub dot_in : Option ℕ → Option ℕ → Option Dot
-dot_in None serial = None
-dot_in (Some r) None = None
-dot_in (Some r) (Some s) =
-    if (nat_lt 0 r && nat_le r 65535) && (nat_lt 0 s && nat_lt s (2 ^ 63)) then Some (record { region = r; serial = s })
-    else None
-
-abbrev pub is_dash : ℕ → Bool
-is_dash b = b == 45
-
--- what stands before a place, and after it
-abbrev pub before : Option ℕ → List ℕ → List ℕ
-before None text = text
-before (Some at) text = take at text
-
-abbrev pub after : Option ℕ → List ℕ → List ℕ
-after None text = []
-after (Some at) text = drop (at + 1) text
+client_text d = dot_text client_letter d
 
 -- the dot whose client id the text is
 abbrev pub client_in : List ℕ → Option Dot
-client_in [] = None
-client_in (b ∷ rest) =
-    let dash = position is_dash rest in
-    if b == 99 then dot_in (number_in (before dash rest)) (number_in (after dash rest)) else None
+client_in text = spelled_in client_letter text
 
 -- the reading gives the dot of a spelling, and nothing for another text
 abbrev pub Reads : List ℕ → Option Dot → Type 0
-Reads text (Some d) = IsDot d × (text ≡ client_text d)
-Reads text None = (d : Dot) → IsDot d → text ≢ client_text d
+Reads text result = ReadsDot client_letter text result

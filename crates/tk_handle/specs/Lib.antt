@@ -1,9 +1,23 @@
 -- The words of this crate:
 --   DotFields       what contracts see of a dot: region and serial
 --   Dot             dot_cmp, the order of dots; IsDot, their range
+--   Place           place, a dot in bytes
+--   Moment          moment_plus; moment, a moment in bytes
+--   DotText         the text of an id that names a dot, behind a letter
 --   ClientId        client_text, the text of a client's id; client_in, what a text says
+--   ConsentId       consent_text, the text of a consent's id; consent_in, what a text says
+--   Kind            kind_number; kind, a kind in bytes
+--   TokenId         token, the name of a token in bytes
+--   Handle          handle_bytes and handle_text, the spellings of a handle
 --   SortedEntries   where a key stands in a list of entries whose keys rise
 pub mod ClientId
+pub mod ConsentId
 pub mod Dot
 pub mod DotFields
+pub mod DotText
+pub mod Handle
+pub mod Kind
+pub mod Moment
+pub mod Place
 pub mod SortedEntries
+pub mod TokenId

@@ -1,8 +1,8 @@
-ghost use Rattle.std.specs.Prelude.{◌≡◌, IfOk, string_bytes, position, IfSome, length, ◌<◌};
-ghost use Rattle.tk_handle.specs.ClientId.{client_text, client_in, number_in, dot_in, is_dash, before, after, Reads};
+ghost use Rattle.std.specs.Prelude.{◌≡◌, IfOk, string_bytes};
+ghost use Rattle.tk_handle.specs.ClientId.{client_text, client_in, Reads};
 
 use crate::dot::Dot;
-use crate::region::RegionNumber;
+use crate::dot_text;
 use std::alloc::{AllocError, Global};
 
 /// The id of the client that was added at the dot: `c<region>-<serial>`, in decimals without leading zeros
@@ -10,9 +10,7 @@ use std::alloc::{AllocError, Global};
 pub fn client_text(alloc: Global, dot: Dot) -> Result<String, AllocError>
     ensures { IfOk result (λ text. string_bytes text ≡ client_text dot) }
 {
-    let region = dot.region().number();
-    let serial = dot.serial();
-    format!(in alloc; "c{region}-{serial}")
+    dot_text::text_of(alloc, b'c', dot)
 }
 
 /// The dot of a client's id, None for every other text.
@@ -20,64 +18,5 @@ pub fn read_client(text: &[u8]) -> Option<Dot>
     ensures value { result ≡ client_in text.now }
     ensures exact { Reads text.now result }
 {
-    read(text)
-}
-
-fn read(text: &[u8]) -> Option<Dot>
-    ensures { result ≡ client_in text.now }
-{
-    match text {
-        [b'c', rest @ ..] => {
-            let (region, serial) = parts(rest);
-            dot_of(read_number(region), read_number(serial))
-        }
-        _ => None,
-    }
-}
-
-// What stands before the first dash, and after it.
-fn parts(text: &[u8]) -> (&[u8], &[u8])
-    ensures front { result.0.now ≡ before (position is_dash text.now) text.now }
-    ensures back { result.1.now ≡ after (position is_dash text.now) text.now }
-{
-    match dash_in(text) {
-        Some(at) => (&text[..at], &text[at + 1..]),
-        None => (text, &[]),
-    }
-}
-
-// Where the first dash is.
-fn dash_in(text: &[u8]) -> Option<usize>
-    ensures value { result ≡ position is_dash text.now }
-    ensures bound { IfSome result (λ at. at < length text.now) }
-{
-    text.iter().position(|b| *b == b'-')
-}
-
-// The dot of two numbers, where both are there and in range.
-fn dot_of(region: Option<u64>, serial: Option<u64>) -> Option<Dot>
-    ensures { result ≡ dot_in region serial }
-{
-    match (region, serial) {
-        (Some(region), Some(serial)) if 0 < region && region <= 0xffff => {
-            Dot::new(RegionNumber::new(region as u16)?, serial)
-        }
-        _ => None,
-    }
-}
-
-// The number, from 1 on, whose decimal the text is.
-fn read_number(text: &[u8]) -> Option<u64>
-    ensures { result ≡ number_in text.now }
-{
-    let [first, ..] = text else {
-        return None;
-    };
-    if *first == b'0' || *first == b'+' {
-        return None;
-    }
-    let Ok(text) = str::from_utf8(text) else {
-        return None;
-    };
-    text.parse::<u64>().ok()
+    dot_text::read(b'c', text)
 }

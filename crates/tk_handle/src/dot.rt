@@ -21,13 +21,18 @@ impl Model for Dot {
     ghost inverse = { λ d. record { region = d.region; serial = d.serial } };
 }
 
-ghost use Rattle.std.specs.Prelude.{◌≡◌, ◌^◌, ◌<◌};
+ghost use Rattle.std.specs.Prelude.{◌≡◌, ◌^◌, ◌<◌, ◌++◌, OnOk};
 ghost use Rattle.std.specs.Option.{SomeIff};
+ghost use Rattle.tk_format.specs.Reading.{Reads};
 
 use crate::region::RegionNumber;
 use crate::serial::Serial;
+use std::alloc::{AllocError, Global};
+use tk_format::{FromBytes, ReadError, Reader, Writer};
 
 impl Dot {
+    ghost use Rattle.tk_handle.specs.Place.{place};
+
     /// None where the serial is 0 or above the greatest.
     pub fn new(region: RegionNumber, serial: u64) -> Option<Dot>
         ensures { SomeIff result ((0 < serial) × (serial < 2 ^ 63)) (record { region = region; serial = serial }) }
@@ -57,5 +62,41 @@ impl Dot {
         ensures high { self.serial < 2 ^ 63 }
     {
         self.serial
+    }
+
+    /// The two numbers are in their ranges, so that the dot can be spelled.
+    pub fn known(self)
+        ensures { place.Fits self }
+    {
+        let _region = self.region();
+        let _serial = self.serial();
+    }
+
+    /// Takes a dot from the front, None where none stands there. What the reader has left then is not said.
+    pub fn read(reader: &mut Reader<'_>) -> Option<Dot>
+        ensures { Reads (λ d. d) place result reader.old reader.new }
+    {
+        let region = RegionNumber::new(reader.take_u16()?)?;
+        let serial = reader.take_u64()?;
+        Dot::new(region, serial)
+    }
+
+    /// Writes the region's number in two bytes, and the serial in eight. What the writer holds after an error is not
+    /// said.
+    pub fn write(self, writer: &mut Writer) -> Result<(), AllocError>
+        ensures { OnOk result (writer.new ≡ writer.old ++ place.spell self) }
+    {
+        writer.put_u16(self.region().number())?;
+        writer.put_u64(self.serial())
+    }
+}
+
+impl FromBytes for Dot {
+    ghost use Rattle.tk_handle.specs.Place.{place};
+
+    ghost value_at = { place.read };
+
+    fn read_from(_alloc: Global, reader: &mut Reader<'_>) -> Result<Dot, ReadError> {
+        Dot::read(reader).ok_or(ReadError::Malformed)
     }
 }

@@ -18,8 +18,13 @@ impl Model for Moment {
     ghost inverse = { λ n. record { seconds = n } };
 }
 
-ghost use Rattle.std.specs.Prelude.{◌≡◌, ◌≤◌};
+ghost use Rattle.std.specs.Prelude.{◌≡◌, ◌≤◌, ◌++◌, OnOk};
 ghost use Rattle.std.specs.Option.{SomeIff};
+ghost use Rattle.tk_format.specs.Reading.{Reads};
+ghost use Rattle.tk_handle.specs.Moment.{moment, moment_plus};
+
+use std::alloc::AllocError;
+use tk_format::{Reader, Writer};
 
 impl Moment {
     pub const GREATEST: u64 = 253_402_300_799;
@@ -40,5 +45,36 @@ impl Moment {
         ensures high { self ≤ 253402300799 }
     {
         self.seconds
+    }
+
+    /// So many seconds later, cut at the greatest moment.
+    pub fn plus(self, seconds: u64) -> Moment
+        ensures { result ≡ moment_plus self seconds }
+    {
+        let later = self.seconds.saturating_add(seconds);
+        Moment {
+            seconds: later.min(Self::GREATEST),
+        }
+    }
+
+    /// The seconds are in their range, so that the moment can be spelled.
+    pub fn known(self)
+        ensures { moment.Fits self }
+    {
+        let _seconds = self.seconds();
+    }
+
+    /// Takes a moment from the front, None where none stands there. What the reader has left then is not said.
+    pub fn read(reader: &mut Reader<'_>) -> Option<Moment>
+        ensures { Reads (λ m. m) moment result reader.old reader.new }
+    {
+        Moment::new(reader.take_u64()?)
+    }
+
+    /// Writes the seconds in eight bytes. What the writer holds after an error is not said.
+    pub fn write(self, writer: &mut Writer) -> Result<(), AllocError>
+        ensures { OnOk result (writer.new ≡ writer.old ++ moment.spell self) }
+    {
+        writer.put_u64(self.seconds())
     }
 }

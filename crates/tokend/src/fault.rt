@@ -1,4 +1,8 @@
-ghost use Rattle.std.specs.Prelude.{◌≡◌};
+ghost use Rattle.std.specs.Prelude.{◌≡◌, ◌≢◌};
+ghost use Rattle.std.specs.IoError.{error_kind};
+ghost use Rattle.std.specs.declared.io.ErrorKind.TheVariants as kind;
+ghost use Rattle.tokend.specs.declared.fault.Fault.TheVariants as fault;
+ghost use Rattle.tokend.specs.declared.fault.LineError.TheVariants as line;
 ghost use Rattle.tokend.specs.Status.{status_of};
 
 use std::alloc::{AllocError, AllocFailed};
@@ -48,18 +52,25 @@ impl fmt::Display for Fault {
 }
 
 impl From<AllocError> for Fault {
+    ghost from_gives = { λ _ e. e ≡ fault.Memory };
+
     fn from(_error: AllocError) -> Fault {
         Fault::Memory
     }
 }
 
 impl<T: Drop> From<AllocFailed<T>> for Fault {
+    ghost from_gives = { λ _ e. e ≡ fault.Memory };
+
     fn from(_error: AllocFailed<T>) -> Fault {
         Fault::Memory
     }
 }
 
 impl From<io::Error> for Fault {
+    ghost from_gives = { λ error e. (error_kind error ≡ kind.OutOfMemory → e ≡ fault.Memory)
+        × (error_kind error ≢ kind.OutOfMemory → e ≡ fault.CannotRead) };
+
     fn from(error: io::Error) -> Fault {
         match error.kind() {
             io::ErrorKind::OutOfMemory => Fault::Memory,
@@ -78,12 +89,16 @@ pub enum LineError {
 }
 
 impl From<AllocError> for LineError {
+    ghost from_gives = { λ _ e. e ≡ line.Memory };
+
     fn from(_error: AllocError) -> LineError {
         LineError::Memory
     }
 }
 
 impl<T: Drop> From<AllocFailed<T>> for LineError {
+    ghost from_gives = { λ _ e. e ≡ line.Memory };
+
     fn from(_error: AllocFailed<T>) -> LineError {
         LineError::Memory
     }

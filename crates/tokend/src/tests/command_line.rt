@@ -99,7 +99,7 @@ fn help_and_version_go_to_the_output(rt: HostRuntime) -> Result<(), Fail> {
 }
 
 #[test]
-fn bad_words_are_told_as_clap_does(rt: HostRuntime) -> Result<(), Fail> {
+fn a_missing_or_unknown_subcommand_is_told(rt: HostRuntime) -> Result<(), Fail> {
     let rows = [
         refused(
             "no subcommand",
@@ -122,6 +122,13 @@ Usage: tokend <COMMAND>
 For more information, try '--help'.
 ",
         ),
+    ];
+    run_rows(&rt, &rows)
+}
+
+#[test]
+fn words_that_script_lacks_are_told(rt: HostRuntime) -> Result<(), Fail> {
+    let rows = [
         refused(
             "a word too many",
             &["tokend", "script", "again"],
@@ -147,7 +154,7 @@ For more information, try '--help'.
 }
 
 #[test]
-fn bad_caps_are_told_as_clap_does(rt: HostRuntime) -> Result<(), Fail> {
+fn caps_out_of_range_are_told(rt: HostRuntime) -> Result<(), Fail> {
     let rows = [
         refused(
             "a cap of nothing",
@@ -173,6 +180,13 @@ For more information, try '--help'.
 For more information, try '--help'.
 ",
         ),
+    ];
+    run_rows(&rt, &rows)
+}
+
+#[test]
+fn a_cap_is_given_once_and_with_a_value(rt: HostRuntime) -> Result<(), Fail> {
+    let rows = [
         refused(
             "two caps",
             &["tokend", "script", "--cap", "1", "--cap", "2"],

@@ -5,6 +5,37 @@ use std::test::Fail;
 
 const SCRIPT: [&str; 2] = ["tokend", "script"];
 
+const CANNOT_READ: &str = "tokend: cannot read -\n";
+
+// What an input gives before it fails, how it fails, and what is told of that.
+static INPUTS: [(&str, &[u8], ErrorKind, &str); 5] = [
+    ("at once", b"", ErrorKind::Other, CANNOT_READ),
+    (
+        "in mid-stream",
+        b"open 1\nopen 2\n",
+        ErrorKind::Other,
+        CANNOT_READ,
+    ),
+    (
+        "after a bad line",
+        b"open 0\n",
+        ErrorKind::BrokenPipe,
+        CANNOT_READ,
+    ),
+    (
+        "interrupted",
+        b"open 1\n",
+        ErrorKind::Interrupted,
+        CANNOT_READ,
+    ),
+    (
+        "for memory",
+        b"open 1\n",
+        ErrorKind::OutOfMemory,
+        "tokend: memory\n",
+    ),
+];
+
 /// A reader that gives some bytes, one at a time, and then fails.
 #[derive(Drop)]
 pub struct FailingReader<'a> {
@@ -83,43 +114,12 @@ impl Write for StuckWriter {
 
 #[test]
 fn an_input_that_fails_cannot_be_read(rt: HostRuntime) -> Result<(), Fail> {
-    let read = "tokend: cannot read -\n";
-    for (name, given, kind, told, wanted) in [
-        ("at once", b"".as_slice(), ErrorKind::Other, read, 1),
-        (
-            "in mid-stream",
-            b"open 1\nopen 2\n".as_slice(),
-            ErrorKind::Other,
-            read,
-            1,
-        ),
-        (
-            "after a bad line",
-            b"open 0\n".as_slice(),
-            ErrorKind::BrokenPipe,
-            read,
-            1,
-        ),
-        (
-            "interrupted",
-            b"open 1\n".as_slice(),
-            ErrorKind::Interrupted,
-            read,
-            1,
-        ),
-        (
-            "memory",
-            b"open 1\n".as_slice(),
-            ErrorKind::OutOfMemory,
-            "tokend: memory\n",
-            1,
-        ),
-    ] {
+    for &(name, given, kind, told) in &INPUTS {
         let mut input = FailingReader::new(given, kind);
         let (mut output, mut faults) = (Vec::new(rt.alloc()), Vec::new(rt.alloc()));
         let status = run_program(&rt, &SCRIPT, &mut input, &mut output, &mut faults);
         assert_eq!(rt; str::from_utf8(faults.as_slice())?, told, "faults {name}");
-        assert_eq!(rt; status, wanted, "status {name}");
+        assert_eq!(rt; status, 1, "status {name}");
         assert!(rt; output.is_empty(), "output {name}");
     }
     Ok(())

@@ -1,7 +1,7 @@
 use Rattle.std.proofs.Common.{◌∙◌, None}
 use Rattle.tk_handle.proofs.NumberTexts.{is_number_in, no_plus, no_zero, no_text, parsed}
-use Rattle.tk_handle.proofs.client_id.read_number.Goals as goal
-use Rattle.tk_handle.proofs.client_id.read_number.Goals.{then-first-eq48-via-then-first-eq48, then-first-eq48-via-else-first-eq48+then-first-eq43}
+use Rattle.tk_handle.proofs.dot_text.read_number.Goals as goal
+use Rattle.tk_handle.proofs.dot_text.read_number.Goals.{then-first-eq48-via-then-first-eq48, then-first-eq48-via-else-first-eq48+then-first-eq43}
 
 pub returns-then-first-eq48 : goal.returns-then-first-eq48
 returns-then-first-eq48 c = is_number_in c.args.text.now None (elim c.then-first-eq48.branch [

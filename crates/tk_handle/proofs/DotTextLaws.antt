@@ -1,4 +1,4 @@
--- A client id is read back, and nothing else is read.
+-- The text of an id is read back, and nothing else is read (`reads`), whatever its first letter is.
 use Rattle.std.proofs.Common.{◌≡◌, ℕ, ◌+◌, ◌<◌, ◌≤◌, ◌^◌, true, false, ◌&&◌, ◌==◌, nat_lt, nat_le, cond, List, [], ◌∷◌, ◌++◌, length, get_or, take, drop, Option, Some, None, suc, refl, sym, ap, subst, ◌∙◌, arith, decimal}
 use Rattle.std.specs.List.{position, position_or_len}
 use Rattle.std.specs.Str.Parse.{AllDigits, digits_value}
@@ -10,7 +10,7 @@ use Rattle.std.proofs.lemmas.Bool.Decides.{nat_tests}
 use Rattle.std.proofs.lemmas.Grind.{common_steps}
 use Rattle.tk_handle.specs.declared.dot.Dot.{Dot}
 use Rattle.tk_handle.specs.Dot.{IsDot}
-use Rattle.tk_handle.specs.ClientId.{client_text, number_in, dot_in, is_dash, before, after, client_in, Reads}
+use Rattle.tk_handle.specs.DotText.{dot_text, number_in, dot_in, is_dash, before, after, spelled_in, ReadsDot}
 use Rattle.tk_handle.proofs.NumberTexts.{IsDecimalOf, Numbers, numbers_in, is_number_in}
 
 own : IsNumeralModel (AllDigits 10) (digits_value 10)
@@ -61,15 +61,19 @@ dash_after ds ys all =
 in_range : (r s : ℕ) → 0 < r → r < 2 ^ 16 → 0 < s → s < 2 ^ 63 → dot_in (Some r) (Some s) ≡ Some (record { region = r; serial = s })
 in_range r s a b c d = grind (arith, nat_tests)
 
+same_letter : (letter : ℕ) → letter == letter ≡ true
+same_letter letter = grind (arith, nat_tests)
+
 number_back : (n : ℕ) → 0 < n → n < 2 ^ 64 → number_in (decimal n) ≡ Some n
 number_back n low high = sym (is_number_in (decimal n) (Some n) (record { low = low; high = high; same = refl }))
 
-pub read_back : (d : Dot) → IsDot d → client_in (client_text d) ≡ Some d
-read_back d h =
+pub read_back : (letter : ℕ) (d : Dot) → IsDot d → spelled_in letter (dot_text letter d) ≡ Some d
+read_back letter d h =
     let dr = decimal d.region in
     let ds = decimal d.serial in
     let at = dash_after dr ds (digits_decimal own d.region (let p = h.1 in omega arith)) in
-    ap (λ o. dot_in (number_in (before o (dr ++ 45 ∷ ds))) (number_in (after o (dr ++ 45 ∷ ds)))) at
+    ap (λ t. cond t (dot_in (number_in (before (position is_dash (dr ++ 45 ∷ ds)) (dr ++ 45 ∷ ds))) (number_in (after (position is_dash (dr ++ 45 ∷ ds)) (dr ++ 45 ∷ ds)))) None) (same_letter letter)
+    ∙ ap (λ o. dot_in (number_in (before o (dr ++ 45 ∷ ds))) (number_in (after o (dr ++ 45 ∷ ds)))) at
     ∙ ap (λ t. dot_in (number_in t) (number_in (drop (length dr + 1) (dr ++ 45 ∷ ds)))) (take_left dr (45 ∷ ds))
     ∙ ap (λ t. dot_in (number_in dr) (number_in t)) (drop_right dr ds 45)
     ∙ ap (λ o. dot_in o (number_in ds)) (number_back d.region h.0 (let p = h.1 in omega arith))
@@ -104,18 +108,18 @@ parts_of (Some r) (Some s) d h =
 split_at : (xs : List ℕ) (i : ℕ) → i < length xs → take i xs ++ get_or xs i 0 ∷ drop (i + 1) xs ≡ xs
 split_at xs i lt = grind (arith, common_steps)
 
-pub read_only : (text : List ℕ) (d : Dot) → client_in text ≡ Some d → IsDot d × (text ≡ client_text d)
-read_only [] d h = absurd (none_is_not_some d h)
-read_only (b ∷ rest) d h =
-    elim (b == 99) as (λ t. b == 99 ≡ t → cond t (dot_in (number_in (before (position is_dash rest) rest)) (number_in (after (position is_dash rest) rest))) None ≡ Some d → IsDot d × (b ∷ rest ≡ client_text d)) [
+pub read_only : (letter : ℕ) (text : List ℕ) (d : Dot) → spelled_in letter text ≡ Some d → IsDot d × (text ≡ dot_text letter d)
+read_only letter [] d h = absurd (none_is_not_some d h)
+read_only letter (b ∷ rest) d h =
+    elim (b == letter) as (λ t. b == letter ≡ t → cond t (dot_in (number_in (before (position is_dash rest) rest)) (number_in (after (position is_dash rest) rest))) None ≡ Some d → IsDot d × (b ∷ rest ≡ dot_text letter d)) [
       | true ↦ λ t k.
           let p = parts_of _ _ d k in
-          (p.2, ap (λ l. b ∷ l) (rest_is (position is_dash rest) refl p.0 p.1) ∙ ap (λ (x : ℕ). x ∷ (decimal d.region ++ 45 ∷ decimal d.serial)) (letter b t))
+          (p.2, ap (λ l. b ∷ l) (rest_is (position is_dash rest) refl p.0 p.1) ∙ ap (λ (x : ℕ). x ∷ (decimal d.region ++ 45 ∷ decimal d.serial)) (letter_is b t))
       | false ↦ λ _ k. absurd (none_is_not_some d k)
     ] refl h
   where
-    letter : (b : ℕ) → b == 99 ≡ true → b ≡ 99
-    letter b h = grind (arith, nat_tests)
+    letter_is : (b : ℕ) → b == letter ≡ true → b ≡ letter
+    letter_is b h = grind (arith, nat_tests)
 
     decimal_of : (t : List ℕ) (n : ℕ) → number_in t ≡ Some n → IsDecimalOf t n
     decimal_of t n e = subst (Numbers t) e (numbers_in t)
@@ -129,9 +133,9 @@ read_only (b ∷ rest) d h =
         ∙ ap (λ l. l ++ 45 ∷ drop (i + 1) rest) (sym (decimal_of (take i rest) d.region x).same)
         ∙ ap (λ l. decimal d.region ++ 45 ∷ l) (sym (decimal_of (drop (i + 1) rest) d.serial y).same)
 
-pub reads : (text : List ℕ) → Reads text (client_in text)
-reads text = go (client_in text) refl
+pub reads : (letter : ℕ) (text : List ℕ) → ReadsDot letter text (spelled_in letter text)
+reads letter text = go (spelled_in letter text) refl
   where
-    go : (o : Option Dot) → client_in text ≡ o → Reads text o
-    go (Some d) e = read_only text d e
-    go None e = λ d is same. none_is_not_some d (sym e ∙ ap client_in same ∙ read_back d is)
+    go : (o : Option Dot) → spelled_in letter text ≡ o → ReadsDot letter text o
+    go (Some d) e = read_only letter text d e
+    go None e = λ d is same. none_is_not_some d (sym e ∙ ap (spelled_in letter) same ∙ read_back letter d is)

@@ -1,0 +1,160 @@
+-- Formats (own): which values have a spelling, which one, and what is read from the front of bytes.
+-- First the formats of numbers and bytes, then the ways to put formats together: `⊗`, `only`, `shaped`, `partly`, `counted`, `repeated`, `after`, `sized`, `coded` and `choice`.
+use Rattle.std.specs.Prelude.{◌≡◌, ℕ, zero, suc, ◌<◌, ◌^◌, Bool, true, List, [], ◌∷◌, ◌++◌, length, take, drop, Option, Some, None, nat_lt, nat_le, ◌==◌, if◌then◌else◌}
+use Rattle.std.specs.Int.{Width, w16, byte_len, from_be_bytes, to_be_bytes}
+use Rattle.std.specs.List.{AllByRecursion, flat_map}
+use Rattle.std.specs.Str.{bytes_eq}
+
+-- how values of a type are spelled, which of them have a spelling, and what is read from the front of bytes
+pub record Format (A : Type 0) : Type 1 where
+  pub spell : A → List ℕ
+  pub Fits : A → Type 0
+  pub read : List ℕ → Option (A × List ℕ)
+
+-- a step that may fail, and then another
+infixl 10 ◌>>=◌
+abbrev pub ◌>>=◌ : {A B : Type 0} → Option A → (A → Option B) → Option B
+None >>= f = None
+(Some x) >>= f = f x
+
+-- ---- numbers and bytes
+-- The spellings and readings of numbers, bytes and texts are closed, so that a list of fields stays one in a goal.
+
+-- a number's bytes, the high byte first
+unfoldable pub number_spelling : Width → ℕ → List ℕ
+number_spelling w n = to_be_bytes w n
+
+-- the number at the front of bytes
+unfoldable pub number_at : Width → List ℕ → Option (ℕ × List ℕ)
+number_at w bytes =
+    if nat_lt (length bytes) (byte_len w) then None
+    else Some (from_be_bytes w (take (byte_len w) bytes), drop (byte_len w) bytes)
+
+-- a number of a width, the high byte first
+abbrev pub number : Width → Format ℕ
+number w = record { spell = number_spelling w; Fits = λ n. n < 256 ^ byte_len w; read = number_at w }
+
+-- the byte at the front of bytes
+abbrev pub byte_at_front : List ℕ → Option (ℕ × List ℕ)
+byte_at_front [] = None
+byte_at_front (b ∷ rest) = Some (b, rest)
+
+-- a byte
+abbrev pub byte : Format ℕ
+byte = record { spell = λ b. b ∷ []; Fits = λ b. b < 256; read = byte_at_front }
+
+-- that many bytes at the front of bytes
+unfoldable pub bytes_at : ℕ → List ℕ → Option (List ℕ × List ℕ)
+bytes_at n bytes = if nat_lt (length bytes) n then None else Some (take n bytes, drop n bytes)
+
+-- that many bytes
+abbrev pub bytes_of : ℕ → Format (List ℕ)
+bytes_of n = record { spell = λ bs. bs; Fits = λ bs. length bs ≡ n; read = bytes_at n }
+
+-- a text's length in two bytes, and the text
+unfoldable pub text_spelling : List ℕ → List ℕ
+text_spelling bs = (number w16).spell (length bs) ++ bs
+
+-- the text at the front of bytes
+unfoldable pub text_at : List ℕ → Option (List ℕ × List ℕ)
+text_at bytes = (number w16).read bytes >>= λ n. (bytes_of n.0).read n.1
+
+-- a length in two bytes, and that many bytes
+abbrev pub text : Format (List ℕ)
+text = record { spell = text_spelling; Fits = λ bs. length bs < 2 ^ 16; read = text_at }
+
+-- ---- formats put together
+
+-- one after the other
+infixr 6 ◌⊗◌
+abbrev pub ◌⊗◌ : {A B : Type 0} → Format A → Format B → Format (A × B)
+f ⊗ g = record {
+  spell = λ p. f.spell p.0 ++ g.spell p.1;
+  Fits = λ p. f.Fits p.0 × g.Fits p.1;
+  read = λ bytes. f.read bytes >>= λ a. g.read a.1 >>= λ b. Some ((a.0, b.0), b.1);
+}
+
+-- the values that pass a test
+abbrev pub only : {A : Type 0} → (A → Bool) → Format A → Format A
+only test f = record {
+  spell = f.spell;
+  Fits = λ a. f.Fits a × (test a ≡ true);
+  read = λ bytes. f.read bytes >>= λ a. if test a.0 then Some a else None;
+}
+
+-- the same values in another shape
+abbrev pub shaped : {A B : Type 0} → (A → B) → (B → A) → Format A → Format B
+shaped to of f = record {
+  spell = λ b. f.spell (of b);
+  Fits = λ b. f.Fits (of b);
+  read = λ bytes. f.read bytes >>= λ a. Some (to a.0, a.1);
+}
+
+-- the values that a partial function makes, and from which another leads back
+abbrev pub partly : {A B : Type 0} → (A → Option B) → (B → A) → Format A → Format B
+partly to of f = record {
+  spell = λ b. f.spell (of b);
+  Fits = λ b. f.Fits (of b) × (to (of b) ≡ Some b);
+  read = λ bytes. f.read bytes >>= λ a. to a.0 >>= λ b. Some (b, a.1);
+}
+
+-- that many values at the front of bytes
+unfoldable pub read_many : {A : Type 0} → (List ℕ → Option (A × List ℕ)) → ℕ → List ℕ → Option (List A × List ℕ)
+read_many read zero bytes = Some ([], bytes)
+read_many read (suc n) bytes = read bytes >>= λ a. read_many read n a.1 >>= λ others. Some (a.0 ∷ others.0, others.1)
+
+-- a count, and that many values
+abbrev pub counted : {A : Type 0} → Format ℕ → Format A → Format (List A)
+counted count f = record {
+  spell = λ xs. count.spell (length xs) ++ flat_map f.spell xs;
+  Fits = λ xs. count.Fits (length xs) × AllByRecursion f.Fits xs;
+  read = λ bytes. count.read bytes >>= λ n. read_many f.read n.0 n.1;
+}
+
+-- that many values, with no count
+abbrev pub repeated : {A : Type 0} → ℕ → Format A → Format (List A)
+repeated n f = record {
+  spell = λ xs. flat_map f.spell xs;
+  Fits = λ xs. (length xs ≡ n) × AllByRecursion f.Fits xs;
+  read = read_many f.read n;
+}
+
+-- these bytes, and then the value
+abbrev pub after : {A : Type 0} → List ℕ → Format A → Format A
+after magic f = record {
+  spell = λ a. magic ++ f.spell a;
+  Fits = f.Fits;
+  read = λ bytes. (bytes_of (length magic)).read bytes >>= λ m. if bytes_eq m.0 magic then f.read m.1 else None;
+}
+
+-- the value that all of the bytes spell
+abbrev pub whole : {A : Type 0} → Format A → List ℕ → Option A
+whole f bytes = f.read bytes >>= λ a. if length a.1 == 0 then Some a.0 else None
+
+-- a value behind the length of its spelling, which is at most the limit
+abbrev pub sized : {A : Type 0} → ℕ → Format A → Format A
+sized limit f = record {
+  spell = λ a. text.spell (f.spell a);
+  Fits = λ a. f.Fits a × (text.Fits (f.spell a) × (nat_le (length (f.spell a)) limit ≡ true));
+  read = λ bytes. (only (λ t. nat_le (length t) limit) text).read bytes >>= λ t. whole f t.0 >>= λ a. Some (a, t.1);
+}
+
+-- one of a few values, as a byte
+abbrev pub coded : {A : Type 0} → (A → ℕ) → (ℕ → Option A) → Format A
+coded code of = record {
+  spell = λ a. code a ∷ [];
+  Fits = λ _. Unit {0};
+  read = λ bytes. byte.read bytes >>= λ b. of b.0 >>= λ a. Some (a, b.1);
+}
+
+-- a byte that says which fields follow
+abbrev pub choice : {A : Type 0} → (A → ℕ) → (A → List ℕ) → (A → Type 0) → (ℕ → List ℕ → Option (A × List ℕ)) → Format A
+choice tag fields Fits cases = record {
+  spell = λ a. tag a ∷ fields a;
+  Fits = Fits;
+  read = λ bytes. byte.read bytes >>= λ b. cases b.0 b.1;
+}
+
+-- one case of a choice: what a format reads, put into the value
+abbrev pub via : {A B : Type 0} → (A → B) → Format A → List ℕ → Option (B × List ℕ)
+via into f bytes = f.read bytes >>= λ a. Some (into a.0, a.1)

@@ -1,0 +1,5 @@
+pub mod Exact
+pub mod Format
+pub mod Laws
+pub mod Reading
+pub mod Spellings

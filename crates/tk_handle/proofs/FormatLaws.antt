@@ -1,0 +1,61 @@
+-- The law of each format of this crate: what is read is spelled so, and what is spelled so is read.
+use Rattle.std.proofs.Common.{◌≡◌, ℕ, ◌<◌, ◌^◌, true, ltb, eqb, cond, [], ◌∷◌, Some, None, refl, sym, arith}
+use Rattle.std.proofs.lemmas.Bool.Decides.{nat_tests}
+use Rattle.tk_format.specs.Exact.{IsExact, some_is}
+use Rattle.tk_format.specs.Laws.{u16_exact, u64_exact, both_exact, only_exact, shaped_exact, repeated_exact, after_exact, coded_exact, case_takes}
+use Rattle.tk_handle.specs.declared.kind.Kind.{Kind}
+use Rattle.tk_handle.specs.declared.kind.Kind.TheVariants.{Code, Access, Refresh}
+use Rattle.tk_handle.specs.declared.dot.Dot.{Dot}
+use Rattle.tk_handle.specs.Dot.{IsDot}
+use Rattle.tk_handle.specs.Place.{is_serial, place}
+use Rattle.tk_handle.specs.Moment.{is_moment, moment}
+use Rattle.tk_handle.specs.Kind.{kind_number, kind_of, kind}
+use Rattle.tk_handle.specs.TokenId.{token}
+use Rattle.tk_handle.specs.Handle.{version, handle}
+
+-- dots
+pub place_exact : IsExact place
+place_exact = shaped_exact _ _ _ (both_exact _ _ (only_exact (λ n. ltb 0 n) _ u16_exact) (only_exact is_serial _ u64_exact)) (λ _. refl) (λ _. refl)
+
+-- a dot that a program can hold has a spelling
+pub place_fits : (d : Dot) → IsDot d → place.Fits d
+place_fits d h =
+    let low_region : ltb 0 d.region ≡ true = grind (arith, nat_tests) in
+    let in_range : is_serial d.serial ≡ true = grind (arith, nat_tests) in
+    ((omega arith, low_region), (omega arith, in_range))
+
+-- and no other dot has one
+pub place_in_range : (d : Dot) → place.Fits d → IsDot d
+place_in_range d fits =
+    let region_in_range : (0 < d.region) × (d.region < 2 ^ 16) = grind (arith, nat_tests) in
+    let serial_in_range : (0 < d.serial) × (d.serial < 2 ^ 63) = grind (arith, nat_tests) in
+    (region_in_range.0, region_in_range.1, serial_in_range.0, serial_in_range.1)
+
+-- moments
+pub moment_exact : IsExact moment
+moment_exact = only_exact is_moment _ u64_exact
+
+-- a kind that was found by its number has that number
+number_back : (n : ℕ) (k : Kind) → kind_of n ≡ Some k → kind_number k ≡ n
+number_back n k e =
+    case_takes n 1 (Some Code) (cond (eqb n 2) (Some Access) (cond (eqb n 3) (Some Refresh) None)) k (λ k. kind_number k ≡ n) (λ is h. rw (← some_is Code k h) (sym is))
+    (case_takes n 2 (Some Access) (cond (eqb n 3) (Some Refresh) None) k (λ k. kind_number k ≡ n) (λ is h. rw (← some_is Access k h) (sym is))
+    (case_takes n 3 (Some Refresh) None k (λ k. kind_number k ≡ n) (λ is h. rw (← some_is Refresh k h) (sym is)) (λ h. absurd cc))) e
+
+-- a kind is found by its number
+number_forth : (k : Kind) → kind_of (kind_number k) ≡ Some k
+number_forth Code = refl
+number_forth Access = refl
+number_forth Refresh = refl
+
+-- kinds
+pub kind_exact : IsExact kind
+kind_exact = coded_exact kind_number kind_of (record { back = number_back; forth = number_forth })
+
+-- names of tokens
+pub token_exact : IsExact token
+token_exact = shaped_exact _ _ _ (both_exact _ _ place_exact kind_exact) (λ _. refl) (λ _. refl)
+
+-- handles
+pub handle_exact : IsExact handle
+handle_exact = after_exact (version ∷ []) _ (shaped_exact _ _ _ (both_exact _ _ kind_exact (both_exact _ _ place_exact (repeated_exact 3 _ u64_exact))) (λ _. refl) (λ _. refl))
