@@ -1,6 +1,6 @@
 -- The test for a live client means what it says.
-use Rattle.std.proofs.Common.{◌≡◌, ◌≢◌, ◌==◌, ◌&&◌, Bool, true, false, not, Option, Some, None, is_some, refl, sym, ap, ◌∙◌, arith}
-use Rattle.std.proofs.lemmas.Bool.{true≢false, cases_Bool}
+use Rattle.std.proofs.Common.{◌≡◌, ◌≢◌, ◌&&◌, true, false, not, Option, Some, None, is_some, refl, sym, ap, ◌∙◌, arith}
+use Rattle.std.proofs.lemmas.Bool.{true≢false}
 use Rattle.std.proofs.lemmas.Bool.Decides.{nat_tests}
 use Rattle.std.specs.Option.{option_and_then}
 use Rattle.std.specs.FinMap as map
@@ -9,7 +9,7 @@ use Rattle.tk_fact.specs.declared.body.Body.{Body}
 use Rattle.tk_fact.specs.declared.body.Body.TheVariants.{ClientAdded, ClientRetired}
 use Rattle.tk_fact.specs.declared.body.ClientAdded as added
 use Rattle.tk_fact.specs.declared.body.ClientRetired as retired
-use Rattle.tk_store.specs.FactSet.{FactSet, any_fact}
+use Rattle.tk_store.specs.FactSet.{FactSet}
 use Rattle.tk_store.proofs.EntryLaws.{Passing, any_fact-held, any_fact-of}
 use Rattle.tk_world.specs.Clients.{client_in, client_at, is_same_dot, retires, is_retired, is_live_client, IsLiveClient}
 

@@ -14,7 +14,7 @@ use Rattle.tk_handle.specs.Dot.{dot_cmp}
 use Rattle.tk_fact.specs.Check.{refusal_of}
 use Rattle.tk_fact.specs.declared.body.Body.{Body}
 use Rattle.tk_vector.specs.VersionVector.{Vector}
-use Rattle.tk_store.specs.FactSet.{FactSet, Facts, IsFactSet, AllIn, Within, with_facts}
+use Rattle.tk_store.specs.FactSet.{FactSet, Facts, AllIn, Within, with_facts}
 use Rattle.tk_store.specs.Beyond.{beyond, is_beyond}
 use Rattle.tk_store.specs.NextDot.{greatest_serial, next_serial, next_dot}
 use Rattle.tk_store.proofs.EntryLaws.{AllIn-entries}

@@ -16,7 +16,7 @@ use Rattle.tk_store.specs.FactSet.{FactSet}
 use Rattle.tk_world.specs.declared.administration.Decision.{Decision}
 use Rattle.tk_world.specs.declared.request.Request as request
 use Rattle.tk_world.specs.declared.request.Request.TheVariants.{AddClient, ShowClient, Retire}
-use Rattle.tk_world.specs.Administration.{refused, is_space, registered, registration_with, registration_by, registration_of, showing_at, showing_by, showing_of, retirement_at, retirement_by, retirement_of}
+use Rattle.tk_world.specs.Administration.{refused, is_space, registered, registration_with, registration_by, registration_of, showing_at, showing_by, retirement_at, retirement_by}
 use Rattle.tk_world.specs.Clients.{client_at, is_retired}
 use Rattle.tk_world.specs.Decision.{decision_of, capped_by, decided_at}
 

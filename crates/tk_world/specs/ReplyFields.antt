@@ -2,9 +2,7 @@
 --   ReplyFields   status, location, whether credentials are asked for, content
 --   Content       nothing, a JSON text, or other bytes
 --   content_of    what a payload carries
-use Rattle.std.specs.Prelude.{ℕ, Bool, List, Option, string_bytes}
-use Rattle.std.specs.Option.{option_map}
-use Rattle.std.specs.declared.string.String.{String}
+use Rattle.std.specs.Prelude.{ℕ, Bool, List, Option}
 use Rattle.tk_world.specs.declared.reply.Payload.{Payload}
 use Rattle.tk_world.specs.declared.reply.Payload.TheVariants.{Empty, Json, Bytes}
 
