@@ -1,70 +1,64 @@
-ghost use Rattle.std.specs.Prelude.{◌≡◌, ◌↔◌, IfOk, IsTrue};
+ghost use Rattle.std.specs.Prelude.{◌≡◌, ◌++◌, ◌↔◌, None, IfOk, IsTrue, OnOk};
+ghost use Rattle.tk_format.specs.Reading.{Gets};
 
+use crate::client_added::ClientAdded;
+use crate::client_retired::ClientRetired;
+use crate::code_issued::CodeIssued;
+use crate::code_redeemed::CodeRedeemed;
+use crate::consent_given::ConsentGiven;
+use crate::consent_withdrawn::ConsentWithdrawn;
+use crate::refresh_rotated::RefreshRotated;
+use crate::reuse_seen::ReuseSeen;
+use crate::token_revoked::TokenRevoked;
 use std::alloc::{AllocError, Global};
-use tk_handle::Dot;
-use tk_match::Redirects;
-use tk_scope::Scope;
-
-/// What a client is (RFC 6749, 2.1; a resource client stands for a resource server that asks about tokens), with
-/// the SHA-256 digest of its secret where it has one.
-#[derive(Clone, Copy, Debug, PartialEq, Eq)]
-pub enum Sort {
-    Public,
-    Confidential([u8; 32]),
-    Resource([u8; 32]),
-}
-
-/// A client was registered. Its id is the fact's own dot.
-#[derive(Debug, Drop)]
-pub struct ClientAdded {
-    pub sort: Sort,
-    pub scope: Scope,
-    pub redirects: Redirects,
-}
-
-/// The client that was added at this dot was retired.
-#[derive(Clone, Copy, Debug, PartialEq, Eq)]
-pub struct ClientRetired {
-    pub client: Dot,
-}
+use tk_format::{ReadError, Reader, Writer};
 
 /// What a fact says.
 #[derive(Debug, Drop)]
 pub enum Body {
     ClientAdded(ClientAdded),
     ClientRetired(ClientRetired),
-}
-
-impl ClientAdded {
-    pub fn copy(&self, alloc: Global) -> Result<ClientAdded, AllocError>
-        ensures { IfOk result (λ copy. copy ≡ self.now) }
-    {
-        Ok(ClientAdded {
-            sort: self.sort,
-            scope: self.scope.copy(alloc)?,
-            redirects: self.redirects.copy(alloc)?,
-        })
-    }
-
-    pub fn same(&self, other: &ClientAdded) -> bool
-        ensures { IsTrue result ↔ (self.now ≡ other.now) }
-    {
-        self.sort == other.sort
-            && self.scope.same(&other.scope)
-            && self.redirects.same(&other.redirects)
-    }
+    ConsentGiven(ConsentGiven),
+    ConsentWithdrawn(ConsentWithdrawn),
+    CodeIssued(CodeIssued),
+    CodeRedeemed(CodeRedeemed),
+    RefreshRotated(RefreshRotated),
+    TokenRevoked(TokenRevoked),
+    ReuseSeen(ReuseSeen),
 }
 
 impl Body {
+    ghost use Rattle.tk_fact.specs.Check.{refusal_of};
+    ghost use Rattle.tk_fact.specs.FactBytes.{body, BodyFits};
+
     pub fn copy(&self, alloc: Global) -> Result<Body, AllocError>
         ensures { IfOk result (λ copy. copy ≡ self.now) }
     {
         match self {
-            Body::ClientAdded(added) => {
-                let added = added.copy(alloc)?;
-                Ok(Body::ClientAdded(added))
+            Body::ClientAdded(fields) => {
+                let fields = fields.copy(alloc)?;
+                Ok(Body::ClientAdded(fields))
             }
-            Body::ClientRetired(retired) => Ok(Body::ClientRetired(*retired)),
+            Body::ClientRetired(fields) => Ok(Body::ClientRetired(*fields)),
+            Body::ConsentGiven(fields) => {
+                let fields = fields.copy(alloc)?;
+                Ok(Body::ConsentGiven(fields))
+            }
+            Body::ConsentWithdrawn(fields) => Ok(Body::ConsentWithdrawn(*fields)),
+            Body::CodeIssued(fields) => {
+                let fields = fields.copy(alloc)?;
+                Ok(Body::CodeIssued(fields))
+            }
+            Body::CodeRedeemed(fields) => {
+                let fields = fields.copy(alloc)?;
+                Ok(Body::CodeRedeemed(fields))
+            }
+            Body::RefreshRotated(fields) => {
+                let fields = fields.copy(alloc)?;
+                Ok(Body::RefreshRotated(fields))
+            }
+            Body::TokenRevoked(fields) => Ok(Body::TokenRevoked(*fields)),
+            Body::ReuseSeen(fields) => Ok(Body::ReuseSeen(*fields)),
         }
     }
 
@@ -75,8 +69,121 @@ impl Body {
         match (self, other) {
             (Body::ClientAdded(left), Body::ClientAdded(right)) => left.same(right),
             (Body::ClientRetired(left), Body::ClientRetired(right)) => left == right,
-            (Body::ClientAdded(_), Body::ClientRetired(_)) => false,
-            (Body::ClientRetired(_), Body::ClientAdded(_)) => false,
+            (Body::ConsentGiven(left), Body::ConsentGiven(right)) => left.same(right),
+            (Body::ConsentWithdrawn(left), Body::ConsentWithdrawn(right)) => left == right,
+            (Body::CodeIssued(left), Body::CodeIssued(right)) => left.same(right),
+            (Body::CodeRedeemed(left), Body::CodeRedeemed(right)) => left.same(right),
+            (Body::RefreshRotated(left), Body::RefreshRotated(right)) => left.same(right),
+            (Body::TokenRevoked(left), Body::TokenRevoked(right)) => left == right,
+            (Body::ReuseSeen(left), Body::ReuseSeen(right)) => left == right,
+            _ => false,
+        }
+    }
+
+    // Where the fact passes its check, what it says has a spelling.
+    #[tactic(auto, using(crate::specs::LengthLaws::subject_fits, crate::specs::LengthLaws::code_fits))]
+    pub(crate) fn known(&self)
+        requires { refusal_of self.now ≡ None }
+        ensures { BodyFits self.now }
+    {
+        match self {
+            Body::ClientAdded(fields) => fields.known(),
+            Body::ClientRetired(fields) => fields.known(),
+            Body::ConsentGiven(fields) => fields.known(),
+            Body::ConsentWithdrawn(fields) => fields.known(),
+            Body::CodeIssued(fields) => fields.known(),
+            Body::CodeRedeemed(fields) => fields.known(),
+            Body::RefreshRotated(fields) => fields.known(),
+            Body::TokenRevoked(fields) => fields.known(),
+            Body::ReuseSeen(fields) => fields.known(),
+        }
+    }
+
+    pub(crate) fn read(alloc: Global, reader: &mut Reader<'_>) -> Result<Body, ReadError>
+        ensures { Gets (λ b. b) body result reader.old reader.new }
+    {
+        match reader.take_u8().ok_or(ReadError::Malformed)? {
+            1 => {
+                let fields = ClientAdded::read(alloc, reader)?;
+                Ok(Body::ClientAdded(fields))
+            }
+            2 => {
+                let fields = ClientRetired::read(reader).ok_or(ReadError::Malformed)?;
+                Ok(Body::ClientRetired(fields))
+            }
+            3 => {
+                let fields = ConsentGiven::read(alloc, reader)?;
+                Ok(Body::ConsentGiven(fields))
+            }
+            4 => {
+                let fields = ConsentWithdrawn::read(reader).ok_or(ReadError::Malformed)?;
+                Ok(Body::ConsentWithdrawn(fields))
+            }
+            5 => {
+                let fields = CodeIssued::read(alloc, reader)?;
+                Ok(Body::CodeIssued(fields))
+            }
+            6 => {
+                let fields = CodeRedeemed::read(alloc, reader)?;
+                Ok(Body::CodeRedeemed(fields))
+            }
+            7 => {
+                let fields = RefreshRotated::read(alloc, reader)?;
+                Ok(Body::RefreshRotated(fields))
+            }
+            8 => {
+                let fields = TokenRevoked::read(reader).ok_or(ReadError::Malformed)?;
+                Ok(Body::TokenRevoked(fields))
+            }
+            9 => {
+                let fields = ReuseSeen::read(reader).ok_or(ReadError::Malformed)?;
+                Ok(Body::ReuseSeen(fields))
+            }
+            _ => Err(ReadError::Malformed),
+        }
+    }
+
+    pub(crate) fn write(&self, writer: &mut Writer) -> Result<(), AllocError>
+        requires { BodyFits self.now }
+        ensures { OnOk result (writer.new ≡ writer.old ++ body.spell self.now) }
+    {
+        match self {
+            Body::ClientAdded(fields) => {
+                writer.put_u8(1)?;
+                fields.write(writer)
+            }
+            Body::ClientRetired(fields) => {
+                writer.put_u8(2)?;
+                fields.write(writer)
+            }
+            Body::ConsentGiven(fields) => {
+                writer.put_u8(3)?;
+                fields.write(writer)
+            }
+            Body::ConsentWithdrawn(fields) => {
+                writer.put_u8(4)?;
+                fields.write(writer)
+            }
+            Body::CodeIssued(fields) => {
+                writer.put_u8(5)?;
+                fields.write(writer)
+            }
+            Body::CodeRedeemed(fields) => {
+                writer.put_u8(6)?;
+                fields.write(writer)
+            }
+            Body::RefreshRotated(fields) => {
+                writer.put_u8(7)?;
+                fields.write(writer)
+            }
+            Body::TokenRevoked(fields) => {
+                writer.put_u8(8)?;
+                fields.write(writer)
+            }
+            Body::ReuseSeen(fields) => {
+                writer.put_u8(9)?;
+                fields.write(writer)
+            }
         }
     }
 }

@@ -20,13 +20,21 @@ impl Model for Fact {
     ghost inverse = { λ p. record { dot = p.0; body = p.1 } };
 }
 
-ghost use Rattle.std.specs.Prelude.{◌≡◌, IfOk, IfErr, OnOk, None, Some};
+ghost use Rattle.std.specs.Prelude.{◌≡◌, ◌≢◌, ◌≤◌, ◌++◌, ◌↔◌, length, None, Some, IfOk, IfErr, IsErrOf, IsTrue, OnOk};
+ghost use Rattle.tk_format.specs.Reading.{Gets, GetsAll};
 
 use crate::check::{FactError, check_body};
 use std::alloc::{AllocError, Global};
+use tk_format::{FromBytes, ReadError, Reader, Spelled, Writer, read_all};
+
+/// The most bytes of a fact (own).
+const MOST_BYTES: usize = 8_192;
 
 impl Fact {
     ghost use Rattle.tk_fact.specs.Check.{refusal_of};
+    ghost use Rattle.tk_fact.specs.FactBytes.{fact, fact_bytes, framed};
+    ghost use Rattle.tk_handle.specs.declared.dot.Dot.{Dot as AnyDot};
+    ghost use Rattle.tk_fact.specs.declared.body.Body.{Body as AnyBody};
 
     /// Which rule the fact breaks, if any: `Limit` before `Range`. Takes no memory.
     pub fn check(&self) -> Result<(), FactError>
@@ -44,5 +52,96 @@ impl Fact {
             dot: self.dot,
             body,
         })
+    }
+
+    /// Whether both stand at one dot and say the same.
+    pub fn same(&self, other: &Fact) -> bool
+        ensures { IsTrue result ↔ (self.now ≡ other.now) }
+    {
+        self.dot == other.dot && self.body.same(&other.body)
+    }
+
+    /// Tells a caller's proof that a fact that passes its check has a spelling, also behind its length.
+    #[tactic(auto, using(crate::specs::LengthLaws::framed_fits))]
+    pub fn known(&self)
+        requires { refusal_of self.now.1 ≡ None }
+        ensures { framed.Fits self.now }
+    {
+        self.fits();
+    }
+
+    fn fits(&self)
+        requires { refusal_of self.now.1 ≡ None }
+        ensures { fact.Fits self.now }
+    {
+        self.dot.known();
+        self.body.known();
+    }
+
+    /// The fact that the bytes spell, all of the bytes.
+    pub fn read(alloc: Global, bytes: &[u8]) -> Result<Fact, ReadError>
+        ensures found { IfOk result (λ f. fact.Fits f × (bytes.now ≡ fact_bytes f)) }
+        ensures malformed { IsErrOf result ReadError.Malformed → (f : AnyDot × AnyBody) → fact.Fits f → bytes.now ≢ fact_bytes f }
+
+        // The same, as what the format reads.
+        ensures exact { GetsAll (λ f. f) fact result bytes.now }
+    {
+        read_all(alloc, bytes)
+    }
+
+    /// The one spelling of the fact, at most 8,192 bytes.
+    pub fn write(&self, alloc: Global) -> Result<Vec<u8>, AllocError>
+        requires { refusal_of self.now.1 ≡ None }
+        ensures spelled { IfOk result (λ bytes. bytes.items ≡ fact_bytes self.now) }
+        ensures short { IfOk result (λ bytes. length bytes.items ≤ 8192) }
+    {
+        self.known();
+        let mut writer = Writer::new(alloc);
+        self.dot.write(&mut writer)?;
+        self.body.write(&mut writer)?;
+        Ok(writer.into_bytes())
+    }
+
+    /// Writes the fact behind its length in two bytes.
+    pub fn write_framed(&self, alloc: Global, writer: &mut Writer) -> Result<(), AllocError>
+        requires { refusal_of self.now.1 ≡ None }
+        ensures { OnOk result (writer.new ≡ writer.old ++ framed.spell self.now) }
+    {
+        let bytes = self.write(alloc)?;
+        writer.put_text(&bytes)
+    }
+}
+
+impl Spelled for Fact {
+    ghost use Rattle.tk_fact.specs.FactBytes.{fact};
+    ghost use Rattle.tk_fact.specs.FactLaws.{fact_exact};
+
+    ghost format = { fact };
+
+    fn read_from(alloc: Global, reader: &mut Reader<'_>) -> Result<Fact, ReadError> {
+        let dot = Dot::read(reader).ok_or(ReadError::Malformed)?;
+        let body = Body::read(alloc, reader)?;
+        let fact = Fact { dot, body };
+        match fact.check() {
+            Ok(()) => Ok(fact),
+            Err(_) => Err(ReadError::Malformed),
+        }
+    }
+
+    ghost exact = { fact_exact };
+}
+
+// A fact behind its length, as bundles have it.
+impl FromBytes for Fact {
+    ghost use Rattle.tk_fact.specs.FactBytes.{framed};
+
+    ghost value_at = { framed.read };
+
+    fn read_from(alloc: Global, reader: &mut Reader<'_>) -> Result<Fact, ReadError> {
+        let bytes = reader.take_text().ok_or(ReadError::Malformed)?;
+        if bytes.len() > MOST_BYTES {
+            return Err(ReadError::Malformed);
+        }
+        Fact::read(alloc, bytes)
     }
 }

@@ -1,20 +1,58 @@
 //! Facts: what a region knows, each at its dot. A fact is never changed or taken away.
 //!
-//! A `Fact` is a `Body` at a `Dot`. A body says that a client was added, or that one was retired. `Fact::check`
-//! tells which rule a fact breaks, if any; `copy` and `same` are written for every level, and a contract sees each
-//! of these types as the plain value that it stands for.
+//! A `Fact` is a `Body` at a `Dot`, and a body is of one of nine kinds. `Fact::check` tells which rule a fact breaks,
+//! if any. `Fact::write` and `Fact::read` are its one spelling in bytes: the dot, a byte for the kind, and the fields
+//! in the order in which the kind's struct has them. `Fact::minted` and `Fact::uses` tell which tokens a fact mints,
+//! and which it uses up. What follows from several facts together is said above.
 //!
-//! In reading order: `Sort`, `ClientAdded`, `ClientRetired`, `Body`, `Fact`. What a scope and a redirect list are is
-//! said below, in tk_scope and tk_match.
+//! `copy` and `same` are written for every level, and a contract sees each of these types as the plain value that it
+//! stands for. What a scope, a redirect list and a challenge are is said below, in tk_scope and tk_match.
+//!
+//! In reading order: `Text`, `Sort`, `MintedToken`, the nine kinds from `ClientAdded` to `ReuseSeen`, `Body`, `Fact`,
+//! `Minted`. The definitions are in specs/: `Check` for the rules, `Fields`, `Kinds` and `FactBytes` for the bytes,
+//! `Tokens` for the tokens.
 #![tactic(auto)]
 
 mod body;
+mod challenge_field;
 mod check;
+mod client_added;
+mod client_retired;
+mod code_issued;
+mod code_redeemed;
+mod consent_given;
+mod consent_withdrawn;
+mod digest;
 mod fact;
+mod flag;
+mod minted_token;
+mod redirects_field;
+mod refresh_rotated;
+mod reuse_seen;
+mod scope_field;
+mod sort;
+mod text;
+mod token_revoked;
+mod tokens;
 
-pub use body::{Body, ClientAdded, ClientRetired, Sort};
+pub use body::Body;
 pub use check::FactError;
+pub use client_added::ClientAdded;
+pub use client_retired::ClientRetired;
+pub use code_issued::CodeIssued;
+pub use code_redeemed::CodeRedeemed;
+pub use consent_given::ConsentGiven;
+pub use consent_withdrawn::ConsentWithdrawn;
 pub use fact::Fact;
+pub use minted_token::MintedToken;
+pub use refresh_rotated::RefreshRotated;
+pub use reuse_seen::ReuseSeen;
+pub use sort::Sort;
+pub use text::Text;
+pub use token_revoked::TokenRevoked;
+pub use tokens::Minted;
 
+#[cfg(test)]
+mod samples;
 #[cfg(test)]
 mod tests;

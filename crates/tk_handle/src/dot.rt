@@ -67,10 +67,7 @@ impl Dot {
     /// The two numbers are in their ranges, so that the dot can be spelled.
     pub fn known(self)
         ensures { place.Fits self }
-    {
-        let _region = self.region();
-        let _serial = self.serial();
-    }
+    {}
 
     /// Takes a dot from the front, None where none stands there. What the reader has left then is not said.
     pub fn read(reader: &mut Reader<'_>) -> Option<Dot>

@@ -42,7 +42,7 @@ impl Handle {
         known_words(&self.words);
     }
 
-    /// What a client is given, from `A` to `Z`, `a` to `z`, `0` to `9`, `-` and `_`: base64url without padding (RFC 4648, 5).
+    /// What a client is given: letters, digits, `-` and `_`, in base64url without padding (RFC 4648, 5).
     pub fn text(&self) -> [u8; 48]
         ensures { result ≡ handle_text self.now }
     {

@@ -60,9 +60,7 @@ impl Moment {
     /// The seconds are in their range, so that the moment can be spelled.
     pub fn known(self)
         ensures { moment.Fits self }
-    {
-        let _seconds = self.seconds();
-    }
+    {}
 
     /// Takes a moment from the front, None where none stands there. What the reader has left then is not said.
     pub fn read(reader: &mut Reader<'_>) -> Option<Moment>

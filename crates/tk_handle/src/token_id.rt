@@ -20,9 +20,7 @@ impl TokenId {
     /// The dot and the kind are in their ranges, so that the name can be spelled.
     pub fn known(self)
         ensures { token.Fits self }
-    {
-        self.dot.known();
-    }
+    {}
 
     /// Takes a name from the front, None where none stands there. What the reader has left then is not said.
     pub fn read(reader: &mut Reader<'_>) -> Option<TokenId>

@@ -7,8 +7,8 @@ use Rattle.std.specs.FinMap as map
 use Rattle.tk_handle.specs.declared.dot.Dot.{Dot}
 use Rattle.tk_fact.specs.declared.body.Body.{Body}
 use Rattle.tk_fact.specs.declared.body.Body.TheVariants.{ClientAdded, ClientRetired}
-use Rattle.tk_fact.specs.declared.body.ClientAdded as added
-use Rattle.tk_fact.specs.declared.body.ClientRetired as retired
+use Rattle.tk_fact.specs.declared.client_added.ClientAdded as added
+use Rattle.tk_fact.specs.declared.client_retired.ClientRetired as retired
 use Rattle.tk_store.specs.FactSet.{FactSet}
 use Rattle.tk_store.proofs.EntryLaws.{Passing, any_fact-held, any_fact-of}
 use Rattle.tk_world.specs.Clients.{client_in, client_at, is_same_dot, retires, is_retired, is_live_client, IsLiveClient}
@@ -38,15 +38,15 @@ added_at (Some (ClientAdded x)) c h = ap Some (ap ClientAdded (same h))
   where
     same : Some x ≡ Some c → x ≡ c
     same h = cc
-added_at (Some (ClientRetired x)) c h = absurd (nothing h)
+added_at (Some body) c h = absurd (nothing h)
   where
     nothing : ¬ (None ≡ Some c)
     nothing h = cc
 
 -- a fact that retires the client is its retirement
 retirement_in : (d : Dot) (b : Body) (q : Dot) → retires d (q, b) ≡ true → (r : retired.ClientRetired) × (b ≡ ClientRetired r) × (r.client ≡ d)
-retirement_in d (ClientAdded c) q h = absurd (true≢false (sym h))
 retirement_in d (ClientRetired r) q h = (r, refl, same_dot r.client d h)
+retirement_in d body q h = absurd (true≢false (sym h))
 
 unretired_of : (F : FactSet) (d : Dot) → is_retired F d ≡ false → (q : Dot) (r : retired.ClientRetired) → map.get F q ≡ Some (ClientRetired r) → r.client ≢ d
 unretired_of F d none q r at same =

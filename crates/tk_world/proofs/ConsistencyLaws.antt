@@ -30,7 +30,7 @@ use Rattle.tk_world.specs.declared.event.Outcome.{Outcome}
 use Rattle.tk_world.specs.declared.event.Outcome.TheVariants.{Opened, NumberTaken, NoRegion, NoBundle, Reply, Bundle, Took, Memory}
 use Rattle.tk_world.specs.Administration.{refused}
 use Rattle.tk_world.specs.Decision.{decision_of, capped_by, decided}
-use Rattle.tk_world.specs.Page.{page_of}
+use Rattle.tk_bundle.specs.Page.{page_of}
 use Rattle.tk_world.specs.World.{Step, made_at}
 use Rattle.tk_world.proofs.DecisionLaws.{made_passes}
 

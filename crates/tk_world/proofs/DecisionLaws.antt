@@ -1,5 +1,7 @@
 -- A fact that a decision makes passes the check.
-use Rattle.std.proofs.Common.{◌≡◌, ℕ, ◌||◌, ◌==◌, Bool, true, false, cond, nat_lt, List, length, codes, string_bytes, Option, Some, None, IfSome, is_none, is_some, refl, sym, ap, subst, ◌∙◌}
+use Rattle.std.proofs.Common.{◌≡◌, ℕ, ◌||◌, ◌==◌, Bool, true, false, cond, nat_lt, List, length, codes, string_bytes, Option, Some, None, IfSome, is_none, is_some, refl, sym, ap, subst, ◌∙◌, ◌<◌, arith}
+use Rattle.std.proofs.lemmas.Bool.{true≢false}
+use Rattle.std.proofs.lemmas.Bool.Decides.{nat_tests}
 use Rattle.std.specs.List.{list_all, slice_split}
 use Rattle.tk_handle.specs.declared.dot.Dot.{Dot}
 use Rattle.tk_handle.specs.ClientId as client_id
@@ -8,7 +10,7 @@ use Rattle.tk_match.specs.Redirects.{is_uri, is_absolute, redirects_of, redirect
 use Rattle.tk_scope.specs.Scope.{scope_of}
 use Rattle.tk_fact.specs.declared.body.Body.{Body}
 use Rattle.tk_fact.specs.declared.body.Body.TheVariants.{ClientRetired}
-use Rattle.tk_fact.specs.declared.body.ClientAdded as added
+use Rattle.tk_fact.specs.declared.client_added.ClientAdded as added
 use Rattle.tk_fact.specs.declared.check.FactError.{FactError}
 use Rattle.tk_match.specs.declared.redirects.RedirectError.{RedirectError}
 use Rattle.tk_fact.proofs.CheckLaws.{kept_uris}
@@ -18,7 +20,7 @@ use Rattle.tk_world.specs.declared.request.Request as request
 use Rattle.tk_world.specs.declared.request.Request.TheVariants.{AddClient, ShowClient, Retire}
 use Rattle.tk_world.specs.Administration.{refused, is_space, registered, registration_with, registration_by, registration_of, showing_at, showing_by, retirement_at, retirement_by}
 use Rattle.tk_world.specs.Clients.{client_at, is_retired}
-use Rattle.tk_world.specs.Decision.{decision_of, capped_by, decided_at}
+use Rattle.tk_world.specs.Decision.{decision_of, capped, capped_by, decided_at}
 
 -- the fact made, if any, passes the check
 abbrev Passes : Option Body → Type 0
@@ -102,3 +104,12 @@ capped_passes cap next d (Some b) e p =
 
 pub made_passes : (cap : ℕ) (next : Dot) (F : FactSet) (now : ℕ) (words : List ℕ) (q : request.Request) → Passes (decided_at cap next F now words q).made
 made_passes cap next F now words q = let d = decision_of F next now words q in capped_passes cap next d d.made refl (decision_passes F next now words q)
+
+-- a decision that makes a fact above the cap is refused
+pub capped_above : (cap : ℕ) (next : Dot) (d : Decision) (o : Option Body) → d.made ≡ o → is_some o ≡ true → cap < next.serial → refused 503 (codes "temporarily_unavailable") ≡ capped cap next d
+capped_above cap next d None e some above = absurd (true≢false (sym some))
+capped_above cap next d (Some b) e some above =
+    sym (ap (capped_by cap next d) e ∙ ap (λ t. cond t (refused 503 (codes "temporarily_unavailable")) d) (is_above cap next.serial above))
+  where
+    is_above : (m n : ℕ) → m < n → nat_lt m n ≡ true
+    is_above m n h = grind (arith, nat_tests)

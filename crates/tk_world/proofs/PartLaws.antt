@@ -22,7 +22,7 @@ use Rattle.tk_world.specs.declared.event.Event.TheVariants.{Open, Request, Pull,
 use Rattle.tk_world.specs.declared.event.Outcome.{Outcome}
 use Rattle.tk_world.specs.declared.event.Outcome.TheVariants.{Opened, Reply, Bundle, Took, Memory}
 use Rattle.tk_world.specs.Decision.{decided}
-use Rattle.tk_world.specs.Page.{page_of}
+use Rattle.tk_bundle.specs.Page.{page_of}
 use Rattle.tk_world.specs.State.{State, with_region, IsConsistent}
 use Rattle.tk_world.specs.World.{Step, made_at}
 use Rattle.tk_world.specs.Parts.{Commits, Opens, Pages, Takes}

@@ -7,8 +7,8 @@ use Rattle.std.specs.List.{slice_split}
 use Rattle.tk_handle.specs.declared.dot.Dot.{Dot}
 use Rattle.tk_handle.specs.ClientId.{client_in}
 use Rattle.tk_fact.specs.declared.body.Body.TheVariants.{ClientAdded, ClientRetired}
-use Rattle.tk_fact.specs.declared.body.ClientAdded as added
-use Rattle.tk_fact.specs.declared.body.Sort.TheVariants.{Public}
+use Rattle.tk_fact.specs.declared.client_added.ClientAdded as added
+use Rattle.tk_fact.specs.declared.sort.Sort.TheVariants.{Public}
 use Rattle.tk_match.specs.Redirects.{registration_refusal}
 use Rattle.tk_scope.specs.Scope.{scope_of}
 use Rattle.tk_store.specs.FactSet.{FactSet}

@@ -9,13 +9,13 @@ use Rattle.std.specs.FinMap as map
 use Rattle.tk_handle.specs.declared.dot.Dot.{Dot}
 use Rattle.tk_fact.specs.declared.body.Body.{Body}
 use Rattle.tk_fact.specs.declared.body.Body.TheVariants.{ClientAdded, ClientRetired}
-use Rattle.tk_fact.specs.declared.body.ClientAdded as added
-use Rattle.tk_fact.specs.declared.body.ClientRetired as retired
+use Rattle.tk_fact.specs.declared.client_added.ClientAdded as added
+use Rattle.tk_fact.specs.declared.client_retired.ClientRetired as retired
 use Rattle.tk_store.specs.FactSet.{FactSet}
 
 abbrev pub client_in : Body → Option added.ClientAdded
 client_in (ClientAdded client) = Some client
-client_in (ClientRetired retirement) = None
+client_in body = None
 
 -- the client that was added at the dot
 abbrev pub client_at : FactSet → Dot → Option added.ClientAdded
@@ -25,8 +25,8 @@ abbrev pub is_same_dot : Dot → Dot → Bool
 is_same_dot a b = (a.region == b.region) && (a.serial == b.serial)
 
 abbrev pub retires_in : Dot → Body → Bool
-retires_in d (ClientAdded client) = false
 retires_in d (ClientRetired retirement) = is_same_dot retirement.client d
+retires_in d body = false
 
 -- the fact retires the client
 abbrev pub retires : Dot → Dot × Body → Bool

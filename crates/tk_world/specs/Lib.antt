@@ -4,19 +4,21 @@
 --   Clients          client_at, is_retired, IsLiveClient
 --   Administration   what a request is answered, and the fact that it makes: ordered cases
 --   Decision         decision_of, over all requests; capped, the serial cap outside
---   Page             page_of, what a pull gives
+--   Bundles          facts_in_bytes, the facts of a bundle; IsReadable
 --   State            State, a world's regions and bundles; Consists, what holds of all of it
 --   World            Step, Run, seen_by
 --   Parts            what the parts of a step may end with
 pub mod Administration
+pub mod Bundles
 pub mod Clients
 pub mod Decision
-pub mod Page
 pub mod Parts
 pub mod Reply
 pub mod ReplyFields
 pub mod SettingsFields
 pub mod State
 pub mod World
+pub use Rattle.tk_bundle.specs.Bundle
+pub use Rattle.tk_bundle.specs.Page
 pub use Rattle.tk_store.specs.FactSet
 pub use Rattle.tk_store.specs.Store

@@ -6,7 +6,7 @@ use Rattle.tk_store.specs.FactSet.{FactSet, Facts, with_facts}
 use Rattle.tk_world.specs.declared.administration.Decision.{Decision}
 use Rattle.tk_world.specs.declared.event.Outcome.{Outcome}
 use Rattle.tk_world.specs.declared.event.Outcome.TheVariants.{Opened, Reply, Bundle, Took, Memory}
-use Rattle.tk_world.specs.declared.page.Page.{Page}
+use Rattle.tk_bundle.specs.Page.{PageFields}
 use Rattle.tk_world.specs.World.{made_at}
 
 -- the region is in its place, with nothing in it
@@ -22,7 +22,7 @@ Commits next d F Memory G = G ≡ F
 Commits next d F outcome G = ⊥
 
 -- the page joins the bundles
-abbrev pub Pages : Page → List Facts → Outcome → List Facts → Type 0
+abbrev pub Pages : PageFields → List Facts → Outcome → List Facts → Type 0
 Pages page old (Bundle index count last more) new =
     (index ≡ length old) × (count ≡ length page.facts) × (last ≡ page.last) × (more ≡ page.more) × (new ≡ old ++ page.facts ∷ [])
 Pages page old Memory new = new ≡ old

@@ -6,8 +6,8 @@ use Rattle.std.specs.Prelude.{ℕ, Bool, true, false, List, ◌++◌, codes, Non
 use Rattle.json.specs.Print.{quoted}
 use Rattle.tk_handle.specs.declared.dot.Dot.{Dot}
 use Rattle.tk_handle.specs.ClientId.{client_text}
-use Rattle.tk_fact.specs.declared.body.Sort.{Sort}
-use Rattle.tk_fact.specs.declared.body.Sort.TheVariants.{Public, Confidential, Resource}
+use Rattle.tk_fact.specs.declared.sort.Sort.{Sort}
+use Rattle.tk_fact.specs.declared.sort.Sort.TheVariants.{Public, Confidential, Resource}
 use Rattle.tk_world.specs.ReplyFields.{ReplyFields, JsonText}
 
 -- a JSON text and nothing more

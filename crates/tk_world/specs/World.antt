@@ -13,7 +13,7 @@ use Rattle.tk_world.specs.declared.event.Event.TheVariants.{Open, Request, Pull,
 use Rattle.tk_world.specs.declared.event.Outcome.{Outcome}
 use Rattle.tk_world.specs.declared.event.Outcome.TheVariants.{Opened, NumberTaken, NoRegion, NoBundle, Reply, Bundle, Took, Memory}
 use Rattle.tk_world.specs.Decision.{decided}
-use Rattle.tk_world.specs.Page.{page_of}
+use Rattle.tk_bundle.specs.Page.{page_of}
 use Rattle.tk_world.specs.State.{State, with_region, with_bundle}
 
 -- the fact at the dot, if one is made

@@ -23,7 +23,7 @@ fn client_in(body: &Body) -> Option<&ClientAdded>
 {
     match body {
         Body::ClientAdded(client) => Some(client),
-        Body::ClientRetired(_) => None,
+        _ => None,
     }
 }
 
@@ -53,6 +53,6 @@ fn retires(fact: &Fact, client: Dot) -> bool
 {
     match &fact.body {
         Body::ClientRetired(retired) => retired.client == client,
-        Body::ClientAdded(_) => false,
+        _ => false,
     }
 }

@@ -5,14 +5,14 @@
 //! what it has seen. Bundles may be lost, repeated, late or out of order.
 //!
 //! In reading order: `Settings`, `Request`, `Event`, `Outcome`, `Reply`, `World`. The definitions are in specs/:
-//! `Clients` and `Administration` say what a request is answered, `Page` what a pull gives, `State` and `World` what
+//! `Clients` and `Administration` say what a request is answered, `State` and `World` what
 //! a step and a run are. The crate reads no clock and draws no words: they come with each event.
 #![tactic(auto)]
 
 mod administration;
+mod bundle;
 mod clients;
 mod event;
-mod page;
 mod region;
 mod reply;
 mod request;

@@ -1,18 +1,20 @@
-ghost use Rattle.std.specs.Prelude.{◌≡◌, ◌≤◌, ◌+◌, IfOk, IfSome, None, length};
+ghost use Rattle.std.specs.Prelude.{◌≡◌, ◌≤◌, ◌+◌, IfOk, IfSome, None};
 ghost use Rattle.std.specs.FinMap as map;
 ghost use Rattle.tk_fact.specs.Check.{refusal_of};
 ghost use Rattle.tk_store.specs.NextDot.{next_dot, next_serial};
 ghost use Rattle.tk_store.specs.Store.{known_in};
 ghost use Rattle.tk_world.specs.Decision as spec;
-ghost use Rattle.tk_world.specs.Page as pages;
+ghost use Rattle.tk_bundle.specs.Bundle.{bundle};
+ghost use Rattle.tk_bundle.specs.Page as pages;
 ghost use Rattle.tk_world.specs.Parts.{Commits, Pages};
 
 use crate::administration::{Decision, decide, refuse};
+use crate::bundle::MadeBundle;
 use crate::event::Outcome;
-use crate::page::{Bundle, make_page};
 use crate::request::Request;
 use crate::settings::Settings;
 use std::alloc::{AllocError, Global};
+use tk_bundle::{Page, make};
 use tk_fact::Fact;
 use tk_handle::{Dot, Moment, RegionNumber};
 use tk_store::{AddError, Added, FactStore};
@@ -94,29 +96,34 @@ fn commit(next: Dot, store: &mut FactStore, decision: Decision) -> Outcome
     }
 }
 
-// Makes the page, and puts it behind the other bundles.
+// Makes the page, and puts its bundle behind the others.
 pub fn pull_page(
     alloc: Global,
     store: &FactStore,
-    bundles: &mut Vec<Bundle>,
+    bundles: &mut Vec<MadeBundle>,
     vector: &VersionVector,
 ) -> Outcome
     ensures { Pages (pages.page_of (known_in store.now) vector.now) bundles.old.items result bundles.new.items }
 {
-    let index = bundles.len() as u64;
-    match make_page(alloc, store, vector) {
-        Ok(page) => {
-            let made = Outcome::Bundle {
-                index,
-                count: page.facts.facts().len() as u16,
-                last: page.last,
-                more: page.more,
-            };
-            match bundles.push(page.facts) {
-                Ok(()) => made,
-                Err(_) => Outcome::Memory,
-            }
-        }
+    match make(alloc, store, vector) {
+        Ok(page) => keep_page(bundles, page),
+        Err(_) => Outcome::Memory,
+    }
+}
+
+fn keep_page(bundles: &mut Vec<MadeBundle>, page: Page) -> Outcome
+    requires { (fields : pages.PageFields) × pages.IsPageOf page fields × bundle.Fits fields.facts }
+    ensures { (fields : pages.PageFields) → pages.IsPageOf page fields → bundle.Fits fields.facts
+        → Pages fields bundles.old.items result bundles.new.items }
+{
+    let made = Outcome::Bundle {
+        index: bundles.len() as u64,
+        count: page.count,
+        last: page.last,
+        more: page.more,
+    };
+    match bundles.push(MadeBundle::new(page.bytes)) {
+        Ok(()) => made,
         Err(_) => Outcome::Memory,
     }
 }

@@ -5,13 +5,26 @@ ghost use Rattle.tk_store.specs.FactSet.{FactSet, IsFactSet, AllIn, Within};
 ghost use Rattle.tk_world.specs.Parts.{Takes};
 ghost use Rattle.tk_fact.specs.declared.body.Body.{Body};
 
+use crate::bundle::MadeBundle;
 use crate::event::Outcome;
 use std::alloc::{AllocError, Global};
 use tk_fact::Fact;
 use tk_store::{AddError, Added, FactStore};
 
+// Reads the bundle, and adds its facts.
+pub fn take_bundle(alloc: Global, store: &mut FactStore, bundle: &MadeBundle) -> Outcome
+    requires agree { (U : FactSet) × IsFactSet U × Within store.old U × AllIn U bundle.now }
+    requires few { length bundle.now ≤ 128 }
+    ensures { Takes store.old bundle.now result store.new }
+{
+    match bundle.read(alloc) {
+        Ok(bundle) => take_facts(alloc, store, bundle.facts()),
+        Err(_) => Outcome::Memory,
+    }
+}
+
 // Adds copies of the facts, one after another, and counts those that are new.
-pub fn take_facts(alloc: Global, store: &mut FactStore, facts: &[Fact]) -> Outcome
+fn take_facts(alloc: Global, store: &mut FactStore, facts: &[Fact]) -> Outcome
     requires agree { (U : FactSet) × IsFactSet U × Within store.old U × AllIn U facts.now }
     requires few { length facts.now ≤ 128 }
     ensures { Takes store.old facts.now result store.new }

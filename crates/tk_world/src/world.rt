@@ -1,4 +1,4 @@
-use crate::page::Bundle;
+use crate::bundle::MadeBundle;
 use crate::settings::Settings;
 use std::alloc::Global;
 use std::marker::Model;
@@ -13,7 +13,7 @@ pub struct World {
     // Ascending by number.
     regions: Vec<(RegionNumber, FactStore)>,
     // In the order of making. All facts that regions hold or bundles carry are one set.
-    bundles: Vec<Bundle>,
+    bundles: Vec<MadeBundle>,
 }
 
 impl Model for World {
@@ -33,7 +33,8 @@ impl Model for World {
 }
 
 ghost use Rattle.std.specs.Prelude.{◌≡◌, ◌≤◌, ◌<◌, ◌+◌, T, ℕ, List, IfOk, OnOk, OnErr, MatchResult, length, insert, [], slice_get, vec_len, vec_capacity, ◌++◌, ◌∷◌};
-ghost use Rattle.std.specs.Option.{option_copied};
+ghost use Rattle.std.specs.Option.{option_copied, option_map};
+ghost use Rattle.tk_bundle.specs.Bundle.{bundle_bytes};
 ghost use Rattle.std.specs.Ordering.{nat_cmp};
 ghost use Rattle.std.specs.FinMap as map;
 ghost use Rattle.tk_handle.specs.SortedEntries.{IsAt, IsGap};
@@ -45,7 +46,7 @@ ghost use Rattle.tk_world.specs.Parts.{Opens};
 use crate::event::{Event, Outcome};
 use crate::region::{answer, pull_page};
 use crate::request::Request;
-use crate::take::take_facts;
+use crate::take::take_bundle;
 use std::alloc::AllocError;
 use tk_handle::Moment;
 use tk_vector::VersionVector;
@@ -82,6 +83,16 @@ impl World {
             push_within(&mut outcomes, outcome);
         }
         Ok(outcomes)
+    }
+
+    /// The bytes of the bundle of this number, from 0 in the order of making.
+    pub fn bundle(&self, index: u64) -> Option<&[u8]>
+        ensures { option_copied result ≡ option_map bundle_bytes (slice_get self.now.bundles index) }
+    {
+        match bundle_at(&self.bundles, index) {
+            Some(bundle) => Some(bundle.bytes()),
+            None => None,
+        }
     }
 
     fn step(&mut self, event: &Event) -> Outcome
@@ -146,7 +157,7 @@ impl World {
     {
         match place(&self.regions, region) {
             Ok(at) => match bundle_at(&self.bundles, bundle) {
-                Some(bundle) => take_facts(self.alloc, &mut self.regions[at].1, bundle.facts()),
+                Some(bundle) => take_bundle(self.alloc, &mut self.regions[at].1, bundle),
                 None => Outcome::NoBundle,
             },
             Err(_) => Outcome::NoRegion,
@@ -167,7 +178,7 @@ fn push_within(outcomes: &mut Vec<Outcome>, outcome: Outcome)
     }
 }
 
-fn bundle_at(bundles: &[Bundle], index: u64) -> Option<&Bundle>
+fn bundle_at(bundles: &[MadeBundle], index: u64) -> Option<&MadeBundle>
     ensures { option_copied result ≡ slice_get bundles.now index }
 {
     bundles.get(index as usize)

@@ -16,8 +16,8 @@ returns-in-Err c =
       ),
     )
 
-pub take_facts-requires-clause-agree : goal.take_facts-requires-clause-agree
-take_facts-requires-clause-agree c =
+pub take_bundle-requires-clause-agree : goal.take_bundle-requires-clause-agree
+take_bundle-requires-clause-agree c =
     let w = c.self.inside in
     let at = rw c.deref.ensures.value at c.in-Ok.ensures in
     let p = c.index_mut.result.now in
@@ -26,12 +26,12 @@ take_facts-requires-clause-agree c =
     let held = held_at w.settings w.regions.items w.bundles.items c.self.invariant.0 c.args.region c.in-Ok.at at p is in
     let there = rw c.deref-in-Ok.ensures.value at c.in-Some.ensures in
     let k = c.self.invariant.1 in
-    (k.0, k.1.sound, k.1.held c.args.region p.1 held, rw c.facts.ensures ((k.1.carried c.args.bundle c.in-Some.bundle.now (sym there)).0))
+    (k.0, k.1.sound, k.1.held c.args.region p.1 held, (k.1.carried c.args.bundle c.in-Some.bundle.now (sym there)).0)
 
-pub take_facts-requires-clause-few : goal.take_facts-requires-clause-few
-take_facts-requires-clause-few c =
+pub take_bundle-requires-clause-few : goal.take_bundle-requires-clause-few
+take_bundle-requires-clause-few c =
     let there = rw c.deref-in-Ok.ensures.value at c.in-Some.ensures in
-    rw c.facts.ensures ((c.self.invariant.1.1.carried c.args.bundle c.in-Some.bundle.now (sym there)).1)
+    (c.self.invariant.1.1.carried c.args.bundle c.in-Some.bundle.now (sym there)).1
 
 pub invariant_of-self : goal.invariant_of-self
 invariant_of-self c =
@@ -42,10 +42,10 @@ invariant_of-self c =
     let s = state w.settings w.regions.items w.bundles.items in
     let held = held_at w.settings w.regions.items w.bundles.items c.self.invariant.0 c.args.region c.in-Ok.at at p is in
     let there = rw c.deref-in-Ok.ensures.value at c.in-Some.ensures in
-    let step = deliver_step s c.args.bundle c.args.region p.1 c.take_facts.new.store c.in-Some.bundle.now c.take_facts.result held (sym there) (rw c.facts.ensures at c.take_facts.ensures) in (
-      sorted_after w.settings w.regions.items w.bundles.items c.self.invariant.0 c.args.region c.in-Ok.at at p is c.take_facts.new.store,
-      ended_keeps s (Deliver c.args.bundle c.args.region) c.take_facts.result _ step _
-          (state_after w.settings w.regions.items w.bundles.items c.self.invariant.0 c.args.region c.in-Ok.at at p is c.take_facts.new.store) c.self.invariant.1,
+    let step = deliver_step s c.args.bundle c.args.region p.1 c.take_bundle.new.store c.in-Some.bundle.now c.take_bundle.result held (sym there) c.take_bundle.ensures in (
+      sorted_after w.settings w.regions.items w.bundles.items c.self.invariant.0 c.args.region c.in-Ok.at at p is c.take_bundle.new.store,
+      ended_keeps s (Deliver c.args.bundle c.args.region) c.take_bundle.result _ step _
+          (state_after w.settings w.regions.items w.bundles.items c.self.invariant.0 c.args.region c.in-Ok.at at p is c.take_bundle.new.store) c.self.invariant.1,
     )
 
 pub returns-in-Some : goal.returns-in-Some
@@ -57,9 +57,9 @@ returns-in-Some c =
     let s = state w.settings w.regions.items w.bundles.items in
     let held = held_at w.settings w.regions.items w.bundles.items c.self.invariant.0 c.args.region c.in-Ok.at at p is in
     let there = rw c.deref-in-Ok.ensures.value at c.in-Some.ensures in
-    let step = deliver_step s c.args.bundle c.args.region p.1 c.take_facts.new.store c.in-Some.bundle.now c.take_facts.result held (sym there) (rw c.facts.ensures at c.take_facts.ensures) in
-    ended s (Deliver c.args.bundle c.args.region) c.take_facts.result _ step _
-    (state_after w.settings w.regions.items w.bundles.items c.self.invariant.0 c.args.region c.in-Ok.at at p is c.take_facts.new.store) _ c.self.view_is
+    let step = deliver_step s c.args.bundle c.args.region p.1 c.take_bundle.new.store c.in-Some.bundle.now c.take_bundle.result held (sym there) c.take_bundle.ensures in
+    ended s (Deliver c.args.bundle c.args.region) c.take_bundle.result _ step _
+    (state_after w.settings w.regions.items w.bundles.items c.self.invariant.0 c.args.region c.in-Ok.at at p is c.take_bundle.new.store) _ c.self.view_is
 
 pub returns-in-None : goal.returns-in-None
 returns-in-None c =

@@ -1,0 +1,152 @@
+-- The walk over lengths: a loop of it, and what it leaves.
+use Rattle.std.proofs.Common.{◌≡◌, ◌≢◌, ℕ, zero, suc, ◌+◌, ◌-◌, ◌<◌, ◌≤◌, Bool, true, false, cond, ltb, List, [], ◌∷◌, ◌++◌, length, take, drop, Option, Some, None, Result, Ok, Err, refl, sym, ap, subst, ◌∙◌, append_assoc, arith}
+use Rattle.std.specs.Str.{bytes_eq}
+use Rattle.std.specs.Int.{w16}
+use Rattle.std.specs.List.{flat_map, AllByRecursion}
+use Rattle.std.proofs.lemmas.List.{take_at, drop_at, take-append-drop, length-append, append-nil}
+use Rattle.std.proofs.lemmas.Bool.{ltb-false, le-ltb}
+use Rattle.tk_format.specs.Format.{number, number_spelling, bytes_of, text_spelling}
+use Rattle.tk_format.specs.Laws.{u16_exact, bytes_exact}
+use Rattle.tk_format.specs.Exact.{IsBytes, Takes, Takes-then, prefix_free}
+use Rattle.tk_bundle.specs.BundleLaws.{bundle_exact}
+use Rattle.tk_bundle.specs.declared.error.FrontError.{FrontError}
+use Rattle.tk_bundle.specs.declared.error.FrontError.TheVariants.{Malformed, Cut, Memory}
+use Rattle.std.proofs.lemmas.List.Concat.{flat_map-cons}
+use borrow.Author.Tests.{leb-true}
+use Rattle.tk_handle.specs.declared.dot.Dot.{Dot}
+use Rattle.tk_fact.specs.declared.body.Body.{Body}
+use Rattle.tk_store.specs.FactSet.{Facts}
+use Rattle.tk_fact.specs.FactBytes.{fact, framed}
+use Rattle.tk_bundle.specs.Bundle.{magic, bundle}
+use Rattle.tk_bundle.specs.Front.{◌>>=◌, or_cut, skipped, skipped_many, walk, Walks}
+
+pub walk_more : (count i : ℕ) (now next : List ℕ) (total : Result (List ℕ) FrontError) → i < count → skipped now ≡ Ok next → skipped_many (count - i) now ≡ total → skipped_many (count - (i + 1)) next ≡ total
+unfolding skipped_many
+walk_more count i now next total lt h so_far =
+    let k : count - i ≡ suc (count - (i + 1)) = omega arith in
+    let one : skipped_many (count - i) now ≡ skipped_many (count - (i + 1)) next = rw (k, h) refl in
+    sym one ∙ so_far
+
+pub walk_fail : (count i : ℕ) (now : List ℕ) (e : FrontError) (total : Result (List ℕ) FrontError) → i < count → skipped now ≡ Err e → skipped_many (count - i) now ≡ total → total ≡ Err e
+unfolding skipped_many
+walk_fail count i now e total lt h so_far =
+    let k : count - i ≡ suc (count - (i + 1)) = omega arith in
+    let one : skipped_many (count - i) now ≡ Err e = rw (k, h) refl in
+    sym so_far ∙ one
+
+pub walk_done : (count i : ℕ) (now : List ℕ) (total : Result (List ℕ) FrontError) → count ≤ i → skipped_many (count - i) now ≡ total → total ≡ Ok now
+unfolding skipped_many
+walk_done count i now total le so_far =
+    let k : count - i ≡ 0 = omega arith in
+    let one : skipped_many (count - i) now ≡ Ok now = rw k refl in
+    sym so_far ∙ one
+
+-- ---- what the walk leaves is the end of the bytes
+
+bind_ok : {A B : Type 0} (r : Result A FrontError) (f : A → Result B FrontError) (y : B) → (r >>= f) ≡ Ok y → (x : A) × (r ≡ Ok x) × (f x ≡ Ok y)
+bind_ok (Ok x) f y e = (x, refl, e)
+bind_ok (Err d) f y e = absurd cc
+
+abbrev walked : {A : Type 0} → A → Result A FrontError
+walked x = Ok x
+
+ok_is : {A : Type 0} (x y : A) → walked x ≡ walked y → x ≡ y
+ok_is x y e = cc
+
+cut_ok : {A : Type 0} (o : Option A) (x : A) → or_cut o ≡ Ok x → o ≡ Some x
+cut_ok None x e = absurd cc
+cut_ok (Some y) x e = ap (λ z. Some z) (ok_is y x e)
+
+test_ok : {A : Type 0} (b : Bool) (e : FrontError) (r : Result A FrontError) (y : A) → cond b (Err e) r ≡ Ok y → (b ≡ false) × (r ≡ Ok y)
+test_ok true e r y h = absurd cc
+test_ok false e r y h = (refl, h)
+
+pass_ok : {A : Type 0} (b : Bool) (e : FrontError) (r : Result A FrontError) (y : A) → cond b r (Err e) ≡ Ok y → (b ≡ true) × (r ≡ Ok y)
+pass_ok true e r y h = (refl, h)
+pass_ok false e r y h = absurd cc
+
+abbrev Ends : List ℕ → List ℕ → Type 0
+Ends bytes rest = (front : List ℕ) × Takes bytes front rest
+
+Ends-then : (a x b : List ℕ) (c : List ℕ) → Takes a x b → Ends b c → Ends a c
+Ends-then a x b c p q = (x ++ q.0, Takes-then a x b q.0 c p q.1)
+
+skipped_ends : (bytes rest : List ℕ) → IsBytes bytes → skipped bytes ≡ Ok rest → Ends bytes rest
+skipped_ends bytes rest fits e =
+    let a = bind_ok (or_cut ((number w16).read bytes)) (λ n. cond (ltb 8192 n.0) (Err Malformed) (or_cut ((bytes_of n.0).read n.1) >>= λ b. Ok b.1)) rest e in
+    let first = u16_exact.takes bytes a.0 fits (cut_ok _ a.0 a.1) in
+    let t = test_ok (ltb 8192 a.0.0) Malformed (or_cut ((bytes_of a.0.0).read a.0.1) >>= λ b. Ok b.1) rest a.2 in
+    let b = bind_ok (or_cut ((bytes_of a.0.0).read a.0.1)) (λ b. Ok b.1) rest t.1 in
+    let second = (bytes_exact a.0.0).takes a.0.1 b.0 first.0.rest_fits (cut_ok _ b.0 b.1) in
+    let both = Takes-then bytes (number_spelling w16 a.0.0) a.0.1 b.0.0 b.0.1 first.0 second.0 in
+    (number_spelling w16 a.0.0 ++ b.0.0, subst (λ (r : List ℕ). Takes bytes (number_spelling w16 a.0.0 ++ b.0.0) r) (ok_is b.0.1 rest b.2) both)
+
+many_end : (n : ℕ) (bytes rest : List ℕ) → IsBytes bytes → skipped_many n bytes ≡ Ok rest → Ends bytes rest
+unfolding skipped_many
+many_end zero bytes rest fits e = ([], subst (λ (r : List ℕ). Takes bytes [] r) (ok_is bytes rest e) (record { parts = refl; rest_fits = fits }))
+many_end (suc n) bytes rest fits e =
+    let a = bind_ok (skipped bytes) (λ r. skipped_many n r) rest e in
+    let first = skipped_ends bytes a.0 fits a.1 in
+    Ends-then bytes first.0 a.0 rest first.1 (many_end n a.0 rest first.1.rest_fits a.2)
+
+pub walk_ends : (bytes rest : List ℕ) → IsBytes bytes → walk bytes ≡ Ok rest → Ends bytes rest
+walk_ends bytes rest fits e =
+    let m = bind_ok (or_cut ((bytes_of 4).read bytes)) (λ m. or_cut ((number w16).read m.1) >>= λ n. cond (bytes_eq m.0 magic) (cond (ltb 128 n.0) (Err Malformed) (skipped_many n.0 n.1)) (Err Malformed)) rest e in
+    let n = bind_ok (or_cut ((number w16).read m.0.1)) (λ n. cond (bytes_eq m.0.0 magic) (cond (ltb 128 n.0) (Err Malformed) (skipped_many n.0 n.1)) (Err Malformed)) rest m.2 in
+    let first = (bytes_exact 4).takes bytes m.0 fits (cut_ok _ m.0 m.1) in
+    let second = u16_exact.takes m.0.1 n.0 first.0.rest_fits (cut_ok _ n.0 n.1) in
+    let p = pass_ok (bytes_eq m.0.0 magic) Malformed (cond (ltb 128 n.0.0) (Err Malformed) (skipped_many n.0.0 n.0.1)) rest n.2 in
+    let t = test_ok (ltb 128 n.0.0) Malformed (skipped_many n.0.0 n.0.1) rest p.1 in
+    Ends-then bytes m.0.0 m.0.1 rest first.0 (Ends-then m.0.1 (number_spelling w16 n.0.0) n.0.1 rest second.0 (many_end n.0.0 n.0.1 rest second.0.rest_fits t.1))
+
+-- ---- a bundle at the front is walked over
+
+skipped_framed : (f : Dot × Body) (rest : List ℕ) → framed.Fits f → skipped (framed.spell f ++ rest) ≡ Ok rest
+unfolding text_spelling
+skipped_framed f rest fits =
+    let s = fact.spell f in
+    let small : ltb 8192 (length s) ≡ false = le-ltb 8192 (length s) (leb-true (length s) 8192 fits.1.1) in
+    ap skipped (append_assoc (number_spelling w16 (length s)) s rest)
+    ∙ rw (u16_exact.again (length s) (s ++ rest) fits.1.0, small, (bytes_exact (length s)).again s rest refl) refl
+
+many_framed : (fs : Facts) (rest : List ℕ) → AllByRecursion framed.Fits fs → skipped_many (length fs) (flat_map framed.spell fs ++ rest) ≡ Ok rest
+unfolding skipped_many
+many_framed [] rest fits = refl
+many_framed (f ∷ fs) rest fits =
+    let regrouped : flat_map framed.spell (f ∷ fs) ++ rest ≡ framed.spell f ++ (flat_map framed.spell fs ++ rest) = ap (λ (t : List ℕ). t ++ rest) (flat_map-cons framed.spell f fs) ∙ append_assoc (framed.spell f) (flat_map framed.spell fs) rest in
+    ap (skipped_many (suc (length fs))) regrouped ∙ rw (skipped_framed f (flat_map framed.spell fs ++ rest) fits.0) (many_framed fs rest fits.1)
+
+pub walk_bundle : (fs : Facts) (rest : List ℕ) → bundle.Fits fs → walk (bundle.spell fs ++ rest) ≡ Ok rest
+walk_bundle fs rest fits =
+    let count = number_spelling w16 (length fs) in
+    let facts = flat_map framed.spell fs in
+    let small : ltb 128 (length fs) ≡ false = le-ltb 128 (length fs) (leb-true (length fs) 128 fits.0.0.1) in
+    ap walk (append_assoc magic (count ++ facts) rest ∙ ap (λ (t : List ℕ). magic ++ t) (append_assoc count facts rest))
+    ∙ rw ((bytes_exact 4).again magic (count ++ (facts ++ rest)) refl, u16_exact.again (length fs) (facts ++ rest) fits.0.0.0, small) (many_framed fs rest fits.0.1)
+
+-- ---- the bytes before the rest
+
+pub Ends-take : (bytes rest : List ℕ) → Ends bytes rest → (take (length bytes - length rest) bytes ++ rest ≡ bytes) × (length rest ≤ length bytes)
+Ends-take bytes rest p =
+    let front = p.0 in
+    let sizes : length bytes ≡ length front + length rest = ap length p.1.parts ∙ length-append front rest in
+    let n : length bytes - length rest ≡ length front = omega arith in
+    let taken : take (length bytes - length rest) bytes ≡ front = ap (take (length bytes - length rest)) p.1.parts ∙ take_at front rest (length bytes - length rest) (sym n) in
+    (ap (λ (t : List ℕ). t ++ rest) taken ∙ sym p.1.parts, omega arith)
+
+pub front_refused : (bytes : List ℕ) (d : FrontError) (fs : Facts) (rest : List ℕ) → walk bytes ≡ Err d → bundle.Fits fs → bytes ≡ bundle.spell fs ++ rest → ⊥
+front_refused bytes d fs rest refused fits e = let t = ap walk e ∙ walk_bundle fs rest fits in cc
+
+pub front_split : (bytes left : List ℕ) (fs : Facts) (rest : List ℕ) → walk bytes ≡ Ok left → bundle.Fits fs → bytes ≡ bundle.spell fs ++ rest
+    → (take (length bytes - length left) bytes ≡ bundle.spell fs) × (length bytes - length left ≡ length (bundle.spell fs))
+front_split bytes left fs rest ok fits e =
+    let same : left ≡ rest = ok_is left rest (sym ok ∙ ap walk e ∙ walk_bundle fs rest fits) in
+    let sizes : length bytes ≡ length (bundle.spell fs) + length rest = ap length e ∙ length-append (bundle.spell fs) rest in
+    let n : length bytes - length left ≡ length (bundle.spell fs) = omega (arith, ap length same) in
+    (ap (take (length bytes - length left)) e ∙ take_at (bundle.spell fs) rest (length bytes - length left) (sym n), n)
+
+pub front_is : (bytes left : List ℕ) (b fs : Facts) (rest : List ℕ) → walk bytes ≡ Ok left → bundle.Fits b → take (length bytes - length left) bytes ≡ bundle.spell b → bundle.Fits fs → bytes ≡ bundle.spell fs ++ rest
+    → (b ≡ fs) × (length bytes - length left ≡ length (bundle.spell fs))
+front_is bytes left b fs rest ok fb taken fits e =
+    let s = front_split bytes left fs rest ok fits e in
+    ((prefix_free bundle bundle_exact b fs [] [] fb fits (ap (λ (t : List ℕ). t ++ []) (sym taken ∙ s.0))).0, s.1)

@@ -1,0 +1,11 @@
+-- The words of this crate:
+--   Bundle   bundle, how a list of facts is spelled; bundle_bytes
+--   Page     page_of, the first facts that a vector doesn't cover
+--   Front    walk, over the lengths of the first bundle of many bytes; IsCut
+pub mod Bundle
+pub mod BundleLaws
+pub mod Front
+pub mod FrontLaws
+pub mod Page
+pub use Rattle.tk_store.specs.FactSet
+pub use Rattle.tk_store.specs.Store

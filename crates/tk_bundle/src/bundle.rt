@@ -1,0 +1,81 @@
+use std::marker::Model;
+use tk_fact::Fact;
+
+/// Facts, strictly ascending by dot, at most 128 of them.
+#[derive(Debug, Drop)]
+pub struct Bundle {
+    facts: Vec<Fact>,
+}
+
+impl Model for Bundle {
+    ghost use Rattle.std.specs.Prelude.{List};
+    ghost use Rattle.tk_handle.specs.declared.dot.Dot.{Dot};
+    ghost use Rattle.tk_fact.specs.declared.body.Body.{Body};
+
+    ghost Value = { List (Dot × Body) };
+
+    ghost view = { λ b. b.facts.items };
+}
+
+ghost use Rattle.std.specs.Prelude.{◌≡◌, ◌≢◌, ◌++◌, [], List, ℕ, IfOk, IsErrOf};
+ghost use Rattle.tk_format.specs.Reading.{Gets, GetsAll};
+ghost use Rattle.tk_store.specs.FactSet.{Facts};
+ghost use Rattle.tk_bundle.specs.Bundle.{listed, bundle, bundle_bytes};
+
+use crate::order::is_ascending;
+use std::alloc::Global;
+use tk_format::{ReadError, Reader, Spelled, read_all, read_many};
+
+impl Bundle {
+    /// The bundle that the bytes spell, all of the bytes.
+    pub fn read(alloc: Global, bytes: &[u8]) -> Result<Bundle, ReadError>
+        ensures found { IfOk result (λ b. bundle.Fits b × (bytes.now ≡ bundle_bytes b)) }
+        ensures malformed { IsErrOf result ReadError.Malformed → (fs : Facts) → bundle.Fits fs → bytes.now ≢ bundle_bytes fs }
+
+        // The same, as what the format reads.
+        ensures exact { GetsAll (λ b. b) bundle result bytes.now }
+    {
+        read_all(alloc, bytes)
+    }
+
+    /// Its facts, ascending by dot.
+    pub fn facts(&self) -> &[Fact]
+        ensures { result.now ≡ self.now }
+    {
+        self.facts.as_slice()
+    }
+}
+
+fn read_listed(alloc: Global, reader: &mut Reader<'_>) -> Result<Vec<Fact>, ReadError>
+    ensures { Gets (λ v. v.items) listed result reader.old reader.new }
+{
+    reader.take_magic(b"OTB1").ok_or(ReadError::Malformed)?;
+    let count = reader.take_u16().ok_or(ReadError::Malformed)?;
+    if count > 128 {
+        return Err(ReadError::Malformed);
+    }
+    read_many(alloc, count, reader)
+}
+
+impl Spelled for Bundle {
+    ghost use Rattle.tk_bundle.specs.Bundle.{bundle};
+    ghost use Rattle.tk_bundle.specs.BundleLaws.{bundle_exact};
+
+    ghost format = { bundle };
+
+    fn read_from(alloc: Global, reader: &mut Reader<'_>) -> Result<Bundle, ReadError> {
+        let facts = read_listed(alloc, reader)?;
+        if is_ascending(&facts) {
+            Ok(Bundle { facts })
+        } else {
+            Err(ReadError::Malformed)
+        }
+    }
+
+    ghost exact = { bundle_exact };
+}
+
+/// A law: no bundle's bytes begin another's.
+pub fn none_begins_another()
+    ensures { (a b : Facts) (rest : List ℕ) → bundle.Fits a → bundle.Fits b → bundle_bytes a ++ rest ≡ bundle_bytes b → (a ≡ b) × (rest ≡ []) }
+{}

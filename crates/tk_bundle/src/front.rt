@@ -1,0 +1,66 @@
+ghost use Rattle.std.specs.Prelude.{◌≡◌, ◌≤◌, ◌++◌, List, ℕ, length, take, IfOk, IsErrOf, Err};
+ghost use Rattle.tk_store.specs.FactSet.{Facts};
+ghost use Rattle.tk_bundle.specs.Bundle.{bundle, bundle_bytes};
+ghost use Rattle.tk_bundle.specs.Front.{Walks, IsCut, skipped, skipped_many, walk, IsFrontOf};
+ghost use Rattle.tk_bundle.specs.declared.error.FrontError.{FrontError as AnyError};
+
+use crate::bundle::Bundle;
+use crate::error::FrontError;
+use std::alloc::Global;
+use tk_format::{ReadError, Reader};
+
+/// The bundle at the front of the bytes, and how many bytes it takes. The lengths are walked over first.
+pub fn read_front(alloc: Global, bytes: &[u8]) -> Result<(Bundle, usize), FrontError>
+    // What the walk over the lengths refuses is refused so, and nothing else is cut.
+    ensures walked { (e : AnyError) → walk bytes.now ≡ Err e → result ≡ Err e }
+    ensures cut { IsErrOf result FrontError.Cut → IsCut bytes.now }
+    ensures found { IfOk result (λ x. (x.1 ≤ length bytes.now) × bundle.Fits x.0 × (take x.1 bytes.now ≡ bundle_bytes x.0)) }
+
+    // A bundle that stands at the front is read, unless memory runs out.
+    ensures only { (fs : Facts) (rest : List ℕ) → bundle.Fits fs → bytes.now ≡ bundle_bytes fs ++ rest → IsFrontOf result fs }
+{
+    let mut reader = Reader::new(bytes);
+    walk(&mut reader)?;
+    let count = bytes.len() - reader.len();
+    let (front, _) = bytes.split_at(count);
+    match Bundle::read(alloc, front) {
+        Ok(bundle) => Ok((bundle, count)),
+        Err(ReadError::Malformed) => Err(FrontError::Malformed),
+        Err(ReadError::Memory) => Err(FrontError::Memory),
+    }
+}
+
+fn walk(reader: &mut Reader<'_>) -> Result<(), FrontError>
+    ensures { Walks result (walk reader.old) reader.new }
+{
+    let front = reader.take_bytes(4).ok_or(FrontError::Cut)?;
+    let count = reader.take_u16().ok_or(FrontError::Cut)?;
+    if front != b"OTB1".as_slice() {
+        return Err(FrontError::Malformed);
+    }
+    if count > 128 {
+        return Err(FrontError::Malformed);
+    }
+    skip_many(count, reader)
+}
+
+fn skip_many(count: u16, reader: &mut Reader<'_>) -> Result<(), FrontError>
+    ensures { Walks result (skipped_many count reader.old) reader.new }
+{
+    for _ in 0..count {
+        skip(reader)?;
+    }
+    Ok(())
+}
+
+// One fact behind its length.
+fn skip(reader: &mut Reader<'_>) -> Result<(), FrontError>
+    ensures { Walks result (skipped reader.old) reader.new }
+{
+    let count = reader.take_u16().ok_or(FrontError::Cut)?;
+    if count > 8192 {
+        return Err(FrontError::Malformed);
+    }
+    reader.take_bytes(count as usize).ok_or(FrontError::Cut)?;
+    Ok(())
+}

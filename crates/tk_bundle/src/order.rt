@@ -1,0 +1,29 @@
+ghost use Rattle.std.specs.Prelude.{◌≡◌, None};
+ghost use Rattle.std.specs.Ordering.{is_lt};
+ghost use Rattle.tk_handle.specs.Dot.{dot_cmp};
+ghost use Rattle.tk_bundle.specs.Bundle.{ascends};
+
+use tk_fact::Fact;
+use tk_handle::Dot;
+
+// Whether the facts rise by dot, without doubles.
+pub(crate) fn is_ascending(facts: &[Fact]) -> bool
+    ensures { result ≡ ascends None facts.now }
+{
+    let mut last: Option<Dot> = None;
+    for fact in facts {
+        if let Some(before) = last {
+            if !is_below(before, fact.dot) {
+                return false;
+            }
+        }
+        last = Some(fact.dot);
+    }
+    true
+}
+
+fn is_below(a: Dot, b: Dot) -> bool
+    ensures { result ≡ is_lt (dot_cmp a b) }
+{
+    a.cmp(&b).is_lt()
+}

@@ -1,0 +1,138 @@
+use tk_handle::Dot;
+
+/// What a pull gives: a bundle, and what it says of the facts to come.
+#[derive(Debug, Drop)]
+pub struct Page {
+    /// The bundle.
+    pub bytes: Vec<u8>,
+    /// How many facts it has, 0 to 128.
+    pub count: u16,
+    /// The dot of its last fact.
+    pub last: Option<Dot>,
+    /// Whether more facts follow it.
+    pub more: bool,
+}
+
+ghost use Rattle.std.specs.Prelude.{◌≡◌, ◌≤◌, ◌++◌, ◌∷◌, [], IfOk, OnOk, None, length, take};
+ghost use Rattle.std.specs.Int.{w16};
+ghost use Rattle.std.specs.List.{AllByRecursion, flat_map};
+ghost use Rattle.tk_format.specs.Format.{number};
+ghost use Rattle.tk_fact.specs.Check.{refusal_of};
+ghost use Rattle.tk_fact.specs.FactBytes.{framed};
+ghost use Rattle.tk_store.specs.Store.{facts_of, known_in};
+ghost use Rattle.tk_store.specs.Beyond.{beyond};
+ghost use Rattle.tk_bundle.specs.Bundle.{magic, bundle, bundle_bytes};
+ghost use Rattle.tk_bundle.specs.Page as spec;
+
+use std::alloc::{AllocError, Global};
+use tk_fact::Fact;
+use tk_format::Writer;
+use tk_store::FactStore;
+use tk_vector::VersionVector;
+
+/// The first 128 facts that the vector doesn't cover, as a bundle.
+pub fn make(alloc: Global, store: &FactStore, vector: &VersionVector) -> Result<Page, AllocError>
+    ensures page { IfOk result (λ page. spec.IsPageOf page (spec.page_of (known_in store.now) vector.now)) }
+
+    // So it can be read.
+    ensures fits { OnOk result (bundle.Fits (spec.page_of (known_in store.now) vector.now).facts) }
+{
+    page_within(alloc, store, vector, 128)
+}
+
+// One more dot than the page has room for tells whether more follow.
+fn page_within(
+    alloc: Global,
+    store: &FactStore,
+    vector: &VersionVector,
+    limit: usize,
+) -> Result<Page, AllocError>
+    requires { limit ≤ 128 }
+    ensures page { IfOk result (λ page. spec.IsPageOf page (spec.page_within limit (beyond (known_in store.now) vector.now))) }
+    ensures fits { OnOk result (bundle.Fits (take limit (beyond (known_in store.now) vector.now))) }
+{
+    let mut dots = store.since(alloc, vector, limit + 1)?;
+    let more = dots.as_slice().len() > limit;
+    dots.truncate(limit);
+    page_at(alloc, store, &dots, more)
+}
+
+// The page of the facts at these dots.
+fn page_at(alloc: Global, store: &FactStore, dots: &[Dot], more: bool) -> Result<Page, AllocError>
+    requires { length dots.now ≤ 128 }
+    ensures page { IfOk result (λ page. spec.IsPageAt page (facts_of store.now) dots.now more) }
+    ensures fits { OnOk result (AllByRecursion framed.Fits (spec.facts_at (facts_of store.now) dots.now)) }
+{
+    let mut writer = Writer::new(alloc);
+    writer.put_bytes(b"OTB1")?;
+    let count = dots.len() as u16;
+    writer.put_u16(count)?;
+    write_facts(alloc, store, dots, &mut writer)?;
+    Ok(Page {
+        bytes: writer.into_bytes(),
+        count,
+        last: last_of(dots),
+        more,
+    })
+}
+
+fn last_of(dots: &[Dot]) -> Option<Dot>
+    ensures { result ≡ spec.last_of dots.now }
+{
+    match dots.last() {
+        Some(dot) => Some(*dot),
+        None => None,
+    }
+}
+
+fn write_facts(
+    alloc: Global,
+    store: &FactStore,
+    dots: &[Dot],
+    writer: &mut Writer,
+) -> Result<(), AllocError>
+    ensures written { OnOk result (writer.new ≡ writer.old ++ flat_map framed.spell (spec.facts_at (facts_of store.now) dots.now)) }
+    ensures fits { OnOk result (AllByRecursion framed.Fits (spec.facts_at (facts_of store.now) dots.now)) }
+{
+    for dot in dots {
+        write_fact(alloc, store, *dot, writer)?;
+    }
+    Ok(())
+}
+
+// The fact at the dot, if there is one.
+fn write_fact(
+    alloc: Global,
+    store: &FactStore,
+    dot: Dot,
+    writer: &mut Writer,
+) -> Result<(), AllocError>
+    ensures written { OnOk result (writer.new ≡ writer.old ++ flat_map framed.spell (spec.facts_at (facts_of store.now) (dot ∷ []))) }
+    ensures fits { OnOk result (AllByRecursion framed.Fits (spec.facts_at (facts_of store.now) (dot ∷ []))) }
+{
+    store.known();
+    match store.get(dot) {
+        Some(fact) => {
+            fact.known();
+            fact.write_framed(alloc, writer)?;
+            Ok(())
+        }
+        None => Ok(()),
+    }
+}
+
+/// The bundle of one fact that passes its check: a record of a log.
+pub fn single(alloc: Global, fact: &Fact) -> Result<Vec<u8>, AllocError>
+    requires { refusal_of fact.now.1 ≡ None }
+    ensures spelled { IfOk result (λ bytes. bytes.items ≡ bundle_bytes (fact.now ∷ [])) }
+
+    // So it can be read.
+    ensures fits { bundle.Fits (fact.now ∷ []) }
+{
+    fact.known();
+    let mut writer = Writer::new(alloc);
+    writer.put_bytes(b"OTB1")?;
+    writer.put_u16(1)?;
+    fact.write_framed(alloc, &mut writer)?;
+    Ok(writer.into_bytes())
+}

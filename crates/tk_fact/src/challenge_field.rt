@@ -1,0 +1,104 @@
+//! The field of a challenge: a byte for its method, and its text, unless there is none.
+
+ghost use Rattle.std.specs.Prelude.{◌≡◌, ◌++◌, ◌↔◌, IfOk, IsTrue, OnOk, true, false};
+ghost use Rattle.tk_fact.specs.Fields.{challenge_field, challenge_with, challenge_text};
+ghost use Rattle.tk_format.specs.Format.{via};
+ghost use Rattle.tk_format.specs.Reading.{Gets, GetsBy};
+
+use std::alloc::{AllocError, Global};
+use tk_format::{ReadError, Reader, Writer};
+use tk_match::{Challenge, ChallengeError};
+
+#[tactic(auto, using(crate::specs::FieldLaws::challenge_fits))]
+pub(crate) fn known_challenge(value: &Option<Challenge>)
+    ensures { challenge_field.Fits value.now }
+{
+    match value {
+        None => {}
+        Some(challenge) => {
+            let _text = challenge.text();
+        }
+    }
+}
+
+pub(crate) fn read_challenge(
+    alloc: Global,
+    reader: &mut Reader<'_>,
+) -> Result<Option<Challenge>, ReadError>
+    ensures { Gets (λ c. c) challenge_field result reader.old reader.new }
+{
+    match reader.take_u8().ok_or(ReadError::Malformed)? {
+        0 => Ok(None),
+        1 => read_plain(alloc, reader),
+        2 => read_s256(alloc, reader),
+        _ => Err(ReadError::Malformed),
+    }
+}
+
+#[tactic(auto, using(crate::specs::FieldLaws::plain_challenge))]
+fn read_plain(alloc: Global, reader: &mut Reader<'_>) -> Result<Option<Challenge>, ReadError>
+    ensures { GetsBy (via (challenge_with false) challenge_text) result reader.old reader.new }
+{
+    let bytes = reader.take_text().ok_or(ReadError::Malformed)?;
+    match Challenge::read(alloc, b"plain", bytes) {
+        Ok(challenge) => Ok(Some(challenge)),
+        Err(ChallengeError::Method) => Err(ReadError::Malformed),
+        Err(ChallengeError::Grammar) => Err(ReadError::Malformed),
+        Err(ChallengeError::Memory) => Err(ReadError::Memory),
+    }
+}
+
+#[tactic(auto, using(crate::specs::FieldLaws::s256_challenge))]
+fn read_s256(alloc: Global, reader: &mut Reader<'_>) -> Result<Option<Challenge>, ReadError>
+    ensures { GetsBy (via (challenge_with true) challenge_text) result reader.old reader.new }
+{
+    let bytes = reader.take_text().ok_or(ReadError::Malformed)?;
+    match Challenge::read(alloc, b"S256", bytes) {
+        Ok(challenge) => Ok(Some(challenge)),
+        Err(ChallengeError::Method) => Err(ReadError::Malformed),
+        Err(ChallengeError::Grammar) => Err(ReadError::Malformed),
+        Err(ChallengeError::Memory) => Err(ReadError::Memory),
+    }
+}
+
+pub(crate) fn write_challenge(
+    value: &Option<Challenge>,
+    writer: &mut Writer,
+) -> Result<(), AllocError>
+    requires { challenge_field.Fits value.now }
+    ensures { OnOk result (writer.new ≡ writer.old ++ challenge_field.spell value.now) }
+{
+    match value {
+        None => writer.put_u8(0),
+        Some(challenge) => {
+            writer.put_u8(if challenge.is_s256() { 2 } else { 1 })?;
+            writer.put_text(challenge.text().as_bytes())
+        }
+    }
+}
+
+pub(crate) fn copy_challenge(
+    alloc: Global,
+    value: &Option<Challenge>,
+) -> Result<Option<Challenge>, AllocError>
+    ensures { IfOk result (λ copy. copy ≡ value.now) }
+{
+    match value {
+        None => Ok(None),
+        Some(challenge) => {
+            let copy = challenge.copy(alloc)?;
+            Ok(Some(copy))
+        }
+    }
+}
+
+pub(crate) fn same_challenge(left: &Option<Challenge>, right: &Option<Challenge>) -> bool
+    ensures { IsTrue result ↔ (left.now ≡ right.now) }
+{
+    match (left, right) {
+        (None, None) => true,
+        (Some(left), Some(right)) => left.same(right),
+        (None, Some(_)) => false,
+        (Some(_), None) => false,
+    }
+}

@@ -1,0 +1,69 @@
+ghost use Rattle.std.specs.Prelude.{◌≡◌, ◌++◌, ◌↔◌, IfOk, IsTrue, OnOk};
+ghost use Rattle.tk_fact.specs.Kinds.{client_added};
+ghost use Rattle.tk_format.specs.Reading.{Gets};
+
+use crate::redirects_field::{known_redirects, read_redirects, write_redirects};
+use crate::scope_field::{known_scope, read_scope, write_scope};
+use crate::sort::Sort;
+use std::alloc::{AllocError, Global};
+use tk_format::{ReadError, Reader, Writer};
+use tk_match::Redirects;
+use tk_scope::Scope;
+
+/// A client was registered. Its id is the fact's own dot.
+#[derive(Debug, Drop)]
+pub struct ClientAdded {
+    pub sort: Sort,
+    pub scope: Scope,
+    pub redirects: Redirects,
+}
+
+impl ClientAdded {
+    pub fn copy(&self, alloc: Global) -> Result<ClientAdded, AllocError>
+        ensures { IfOk result (λ copy. copy ≡ self.now) }
+    {
+        Ok(ClientAdded {
+            sort: self.sort,
+            scope: self.scope.copy(alloc)?,
+            redirects: self.redirects.copy(alloc)?,
+        })
+    }
+
+    pub fn same(&self, other: &ClientAdded) -> bool
+        ensures { IsTrue result ↔ (self.now ≡ other.now) }
+    {
+        self.sort == other.sort
+            && self.scope.same(&other.scope)
+            && self.redirects.same(&other.redirects)
+    }
+
+    pub(crate) fn known(&self)
+        ensures { client_added.Fits self.now }
+    {
+        self.sort.known();
+        known_scope(&self.scope);
+        known_redirects(&self.redirects);
+    }
+
+    pub(crate) fn read(alloc: Global, reader: &mut Reader<'_>) -> Result<ClientAdded, ReadError>
+        ensures { Gets (λ f. f) client_added result reader.old reader.new }
+    {
+        let sort = Sort::read(reader).ok_or(ReadError::Malformed)?;
+        let scope = read_scope(alloc, reader)?;
+        let redirects = read_redirects(alloc, reader)?;
+        Ok(ClientAdded {
+            sort,
+            scope,
+            redirects,
+        })
+    }
+
+    pub(crate) fn write(&self, writer: &mut Writer) -> Result<(), AllocError>
+        requires { client_added.Fits self.now }
+        ensures { OnOk result (writer.new ≡ writer.old ++ client_added.spell self.now) }
+    {
+        self.sort.write(writer)?;
+        write_scope(&self.scope, writer)?;
+        write_redirects(&self.redirects, writer)
+    }
+}

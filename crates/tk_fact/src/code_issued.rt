@@ -1,0 +1,136 @@
+ghost use Rattle.std.specs.Prelude.{◌≡◌, ◌<◌, ◌^◌, ◌++◌, ◌↔◌, length, IfOk, IsTrue, OnOk};
+ghost use Rattle.tk_fact.specs.Kinds.{code_issued};
+ghost use Rattle.tk_format.specs.Reading.{Gets};
+
+use crate::challenge_field::{
+    copy_challenge, known_challenge, read_challenge, same_challenge, write_challenge,
+};
+use crate::digest::read_digest;
+use crate::flag::{read_flag, write_flag};
+use crate::scope_field::{known_scope, read_scope, write_scope};
+use crate::text::Text;
+use std::alloc::{AllocError, Global};
+use tk_format::{ReadError, Reader, Writer};
+use tk_handle::{Dot, Moment};
+use tk_match::Challenge;
+use tk_scope::Scope;
+
+/// An authorization code was issued (RFC 6749, 4.1.2), and with it a family begins: the code, and the tokens that
+/// descend from it.
+#[derive(Debug, Drop)]
+pub struct CodeIssued {
+    pub client: Dot,
+    pub consent: Dot,
+    /// SHA-256 of the code's handle.
+    pub digest: [u8; 32],
+    pub start: Moment,
+    /// The code's end.
+    pub expiry: Moment,
+    /// The end of the whole family.
+    pub family_end: Moment,
+    pub subject: Text,
+    pub scope: Scope,
+    /// The redirection URI that was picked.
+    pub uri: Text,
+    /// Whether the request named the URI, so that the token request must name it too (RFC 6749, 4.1.3).
+    pub sent: bool,
+    pub challenge: Option<Challenge>,
+}
+
+impl CodeIssued {
+    pub fn copy(&self, alloc: Global) -> Result<CodeIssued, AllocError>
+        ensures { IfOk result (λ copy. copy ≡ self.now) }
+    {
+        Ok(CodeIssued {
+            client: self.client,
+            consent: self.consent,
+            digest: self.digest,
+            start: self.start,
+            expiry: self.expiry,
+            family_end: self.family_end,
+            subject: self.subject.copy(alloc)?,
+            scope: self.scope.copy(alloc)?,
+            uri: self.uri.copy(alloc)?,
+            sent: self.sent,
+            challenge: copy_challenge(alloc, &self.challenge)?,
+        })
+    }
+
+    pub fn same(&self, other: &CodeIssued) -> bool
+        ensures { IsTrue result ↔ (self.now ≡ other.now) }
+    {
+        self.client == other.client
+            && self.consent == other.consent
+            && self.digest == other.digest
+            && self.start == other.start
+            && self.expiry == other.expiry
+            && self.family_end == other.family_end
+            && self.subject.same(&other.subject)
+            && self.scope.same(&other.scope)
+            && self.uri.same(&other.uri)
+            && self.sent == other.sent
+            && same_challenge(&self.challenge, &other.challenge)
+    }
+
+    pub(crate) fn known(&self)
+        requires subject { length self.now.subject < 2 ^ 16 }
+        requires uri { length self.now.uri < 2 ^ 16 }
+        ensures { code_issued.Fits self.now }
+    {
+        self.client.known();
+        self.consent.known();
+        let _digest = self.digest;
+        self.start.known();
+        self.expiry.known();
+        self.family_end.known();
+        known_scope(&self.scope);
+        known_challenge(&self.challenge);
+    }
+
+    pub(crate) fn read(alloc: Global, reader: &mut Reader<'_>) -> Result<CodeIssued, ReadError>
+        ensures { Gets (λ f. f) code_issued result reader.old reader.new }
+    {
+        let client = Dot::read(reader).ok_or(ReadError::Malformed)?;
+        let consent = Dot::read(reader).ok_or(ReadError::Malformed)?;
+        let digest = read_digest(reader).ok_or(ReadError::Malformed)?;
+        let start = Moment::read(reader).ok_or(ReadError::Malformed)?;
+        let expiry = Moment::read(reader).ok_or(ReadError::Malformed)?;
+        let family_end = Moment::read(reader).ok_or(ReadError::Malformed)?;
+        let subject = Text::read(alloc, reader)?;
+        let scope = read_scope(alloc, reader)?;
+        let uri = Text::read(alloc, reader)?;
+        let sent = read_flag(reader).ok_or(ReadError::Malformed)?;
+        let challenge = read_challenge(alloc, reader)?;
+        Ok(CodeIssued {
+            client,
+            consent,
+            digest,
+            start,
+            expiry,
+            family_end,
+            subject,
+            scope,
+            uri,
+            sent,
+            challenge,
+        })
+    }
+
+    pub(crate) fn write(&self, writer: &mut Writer) -> Result<(), AllocError>
+        requires { code_issued.Fits self.now }
+        ensures { OnOk result (writer.new ≡ writer.old ++ code_issued.spell self.now) }
+    {
+        self.client.write(writer)?;
+        self.consent.write(writer)?;
+        writer.put_bytes(&self.digest)?;
+        self.start.write(writer)?;
+        self.expiry.write(writer)?;
+        self.family_end.write(writer)?;
+        self.subject.write(writer)?;
+        write_scope(&self.scope, writer)?;
+        self.uri.write(writer)?;
+        write_flag(self.sent, writer)?;
+        write_challenge(&self.challenge, writer)?;
+        Ok(())
+    }
+}

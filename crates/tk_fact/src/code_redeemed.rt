@@ -1,0 +1,72 @@
+ghost use Rattle.std.specs.Prelude.{◌≡◌, ◌++◌, ◌↔◌, IfOk, IsTrue, OnOk};
+ghost use Rattle.tk_fact.specs.Kinds.{code_redeemed};
+ghost use Rattle.tk_format.specs.Reading.{Gets};
+
+use crate::minted_token::MintedToken;
+use std::alloc::{AllocError, Global};
+use tk_format::{ReadError, Reader, Writer};
+use tk_handle::{Dot, Moment};
+
+/// A code was redeemed for an access token and a refresh token (RFC 6749, 4.1.3 and 4.1.4).
+#[derive(Debug, Drop)]
+pub struct CodeRedeemed {
+    pub code: Dot,
+    pub start: Moment,
+    pub access: MintedToken,
+    pub refresh: MintedToken,
+}
+
+impl CodeRedeemed {
+    pub fn copy(&self, alloc: Global) -> Result<CodeRedeemed, AllocError>
+        ensures { IfOk result (λ copy. copy ≡ self.now) }
+    {
+        Ok(CodeRedeemed {
+            code: self.code,
+            start: self.start,
+            access: self.access.copy(alloc)?,
+            refresh: self.refresh.copy(alloc)?,
+        })
+    }
+
+    pub fn same(&self, other: &CodeRedeemed) -> bool
+        ensures { IsTrue result ↔ (self.now ≡ other.now) }
+    {
+        self.code == other.code
+            && self.start == other.start
+            && self.access.same(&other.access)
+            && self.refresh.same(&other.refresh)
+    }
+
+    pub(crate) fn known(&self)
+        ensures { code_redeemed.Fits self.now }
+    {
+        self.code.known();
+        self.start.known();
+        self.access.known();
+        self.refresh.known();
+    }
+
+    pub(crate) fn read(alloc: Global, reader: &mut Reader<'_>) -> Result<CodeRedeemed, ReadError>
+        ensures { Gets (λ f. f) code_redeemed result reader.old reader.new }
+    {
+        let code = Dot::read(reader).ok_or(ReadError::Malformed)?;
+        let start = Moment::read(reader).ok_or(ReadError::Malformed)?;
+        let access = MintedToken::read(alloc, reader)?;
+        let refresh = MintedToken::read(alloc, reader)?;
+        Ok(CodeRedeemed {
+            code,
+            start,
+            access,
+            refresh,
+        })
+    }
+
+    pub(crate) fn write(&self, writer: &mut Writer) -> Result<(), AllocError>
+        ensures { OnOk result (writer.new ≡ writer.old ++ code_redeemed.spell self.now) }
+    {
+        self.code.write(writer)?;
+        self.start.write(writer)?;
+        self.access.write(writer)?;
+        self.refresh.write(writer)
+    }
+}

@@ -1,0 +1,68 @@
+ghost use Rattle.std.specs.Prelude.{◌≡◌, ◌<◌, ◌^◌, ◌++◌, ◌↔◌, length, IfOk, IsTrue, OnOk};
+ghost use Rattle.tk_fact.specs.Kinds.{consent_given};
+ghost use Rattle.tk_format.specs.Reading.{Gets};
+
+use crate::scope_field::{known_scope, read_scope, write_scope};
+use crate::text::Text;
+use std::alloc::{AllocError, Global};
+use tk_format::{ReadError, Reader, Writer};
+use tk_handle::Dot;
+use tk_scope::Scope;
+
+/// A subject let a client have a scope (RFC 6749, 4.1). The consent's id is the fact's own dot.
+#[derive(Debug, Drop)]
+pub struct ConsentGiven {
+    pub client: Dot,
+    pub subject: Text,
+    pub scope: Scope,
+}
+
+impl ConsentGiven {
+    pub fn copy(&self, alloc: Global) -> Result<ConsentGiven, AllocError>
+        ensures { IfOk result (λ copy. copy ≡ self.now) }
+    {
+        Ok(ConsentGiven {
+            client: self.client,
+            subject: self.subject.copy(alloc)?,
+            scope: self.scope.copy(alloc)?,
+        })
+    }
+
+    pub fn same(&self, other: &ConsentGiven) -> bool
+        ensures { IsTrue result ↔ (self.now ≡ other.now) }
+    {
+        self.client == other.client
+            && self.subject.same(&other.subject)
+            && self.scope.same(&other.scope)
+    }
+
+    pub(crate) fn known(&self)
+        requires { length self.now.subject < 2 ^ 16 }
+        ensures { consent_given.Fits self.now }
+    {
+        self.client.known();
+        known_scope(&self.scope);
+    }
+
+    pub(crate) fn read(alloc: Global, reader: &mut Reader<'_>) -> Result<ConsentGiven, ReadError>
+        ensures { Gets (λ f. f) consent_given result reader.old reader.new }
+    {
+        let client = Dot::read(reader).ok_or(ReadError::Malformed)?;
+        let subject = Text::read(alloc, reader)?;
+        let scope = read_scope(alloc, reader)?;
+        Ok(ConsentGiven {
+            client,
+            subject,
+            scope,
+        })
+    }
+
+    pub(crate) fn write(&self, writer: &mut Writer) -> Result<(), AllocError>
+        requires { consent_given.Fits self.now }
+        ensures { OnOk result (writer.new ≡ writer.old ++ consent_given.spell self.now) }
+    {
+        self.client.write(writer)?;
+        self.subject.write(writer)?;
+        write_scope(&self.scope, writer)
+    }
+}

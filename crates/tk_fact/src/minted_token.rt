@@ -1,0 +1,63 @@
+ghost use Rattle.std.specs.Prelude.{◌≡◌, ◌++◌, ◌↔◌, IfOk, IsTrue, OnOk};
+ghost use Rattle.tk_fact.specs.Fields.{minted_field};
+ghost use Rattle.tk_format.specs.Reading.{Gets};
+
+use crate::digest::read_digest;
+use crate::scope_field::{known_scope, read_scope, write_scope};
+use std::alloc::{AllocError, Global};
+use tk_format::{ReadError, Reader, Writer};
+use tk_handle::Moment;
+use tk_scope::Scope;
+
+/// What a fact says of an access or refresh token that it mints: the SHA-256 digest of its handle, its end, and
+/// what it gives access to.
+#[derive(Debug, Drop)]
+pub struct MintedToken {
+    pub digest: [u8; 32],
+    pub end: Moment,
+    pub scope: Scope,
+}
+
+impl MintedToken {
+    pub fn copy(&self, alloc: Global) -> Result<MintedToken, AllocError>
+        ensures { IfOk result (λ copy. copy ≡ self.now) }
+    {
+        Ok(MintedToken {
+            digest: self.digest,
+            end: self.end,
+            scope: self.scope.copy(alloc)?,
+        })
+    }
+
+    /// Whether both say the same.
+    pub fn same(&self, other: &MintedToken) -> bool
+        ensures { IsTrue result ↔ (self.now ≡ other.now) }
+    {
+        self.digest == other.digest && self.end == other.end && self.scope.same(&other.scope)
+    }
+
+    pub(crate) fn known(&self)
+        ensures { minted_field.Fits self.now }
+    {
+        let _digest = self.digest;
+        self.end.known();
+        known_scope(&self.scope);
+    }
+
+    pub(crate) fn read(alloc: Global, reader: &mut Reader<'_>) -> Result<MintedToken, ReadError>
+        ensures { Gets (λ m. m) minted_field result reader.old reader.new }
+    {
+        let digest = read_digest(reader).ok_or(ReadError::Malformed)?;
+        let end = Moment::read(reader).ok_or(ReadError::Malformed)?;
+        let scope = read_scope(alloc, reader)?;
+        Ok(MintedToken { digest, end, scope })
+    }
+
+    pub(crate) fn write(&self, writer: &mut Writer) -> Result<(), AllocError>
+        ensures { OnOk result (writer.new ≡ writer.old ++ minted_field.spell self.now) }
+    {
+        writer.put_bytes(&self.digest)?;
+        self.end.write(writer)?;
+        write_scope(&self.scope, writer)
+    }
+}

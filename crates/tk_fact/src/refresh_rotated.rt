@@ -1,0 +1,81 @@
+ghost use Rattle.std.specs.Prelude.{◌≡◌, ◌++◌, ◌↔◌, IfOk, IsTrue, OnOk};
+ghost use Rattle.tk_fact.specs.Kinds.{refresh_rotated};
+ghost use Rattle.tk_format.specs.Reading.{Gets};
+
+use crate::minted_token::MintedToken;
+use std::alloc::{AllocError, Global};
+use tk_format::{ReadError, Reader, Writer};
+use tk_handle::{Dot, Moment};
+
+/// A refresh token was used for a new access token and a new refresh token (RFC 6749, 6).
+#[derive(Debug, Drop)]
+pub struct RefreshRotated {
+    /// The fact that minted the refresh token that was used.
+    pub parent: Dot,
+    /// How many rotations lie between the code and the new tokens, this one counted.
+    pub generation: u16,
+    pub start: Moment,
+    pub access: MintedToken,
+    pub refresh: MintedToken,
+}
+
+impl RefreshRotated {
+    pub fn copy(&self, alloc: Global) -> Result<RefreshRotated, AllocError>
+        ensures { IfOk result (λ copy. copy ≡ self.now) }
+    {
+        Ok(RefreshRotated {
+            parent: self.parent,
+            generation: self.generation,
+            start: self.start,
+            access: self.access.copy(alloc)?,
+            refresh: self.refresh.copy(alloc)?,
+        })
+    }
+
+    pub fn same(&self, other: &RefreshRotated) -> bool
+        ensures { IsTrue result ↔ (self.now ≡ other.now) }
+    {
+        self.parent == other.parent
+            && self.generation == other.generation
+            && self.start == other.start
+            && self.access.same(&other.access)
+            && self.refresh.same(&other.refresh)
+    }
+
+    pub(crate) fn known(&self)
+        ensures { refresh_rotated.Fits self.now }
+    {
+        self.parent.known();
+        let _generation = self.generation;
+        self.start.known();
+        self.access.known();
+        self.refresh.known();
+    }
+
+    pub(crate) fn read(alloc: Global, reader: &mut Reader<'_>) -> Result<RefreshRotated, ReadError>
+        ensures { Gets (λ f. f) refresh_rotated result reader.old reader.new }
+    {
+        let parent = Dot::read(reader).ok_or(ReadError::Malformed)?;
+        let generation = reader.take_u16().ok_or(ReadError::Malformed)?;
+        let start = Moment::read(reader).ok_or(ReadError::Malformed)?;
+        let access = MintedToken::read(alloc, reader)?;
+        let refresh = MintedToken::read(alloc, reader)?;
+        Ok(RefreshRotated {
+            parent,
+            generation,
+            start,
+            access,
+            refresh,
+        })
+    }
+
+    pub(crate) fn write(&self, writer: &mut Writer) -> Result<(), AllocError>
+        ensures { OnOk result (writer.new ≡ writer.old ++ refresh_rotated.spell self.now) }
+    {
+        self.parent.write(writer)?;
+        writer.put_u16(self.generation)?;
+        self.start.write(writer)?;
+        self.access.write(writer)?;
+        self.refresh.write(writer)
+    }
+}

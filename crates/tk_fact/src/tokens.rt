@@ -1,0 +1,70 @@
+ghost use Rattle.std.specs.Prelude.{◌≡◌};
+ghost use Rattle.std.specs.Option.{option_map};
+ghost use Rattle.tk_fact.specs.Tokens.{shown_minted, minted_at, minted_of, uses_of};
+
+use crate::body::Body;
+use crate::fact::Fact;
+use crate::minted_token::MintedToken;
+use tk_handle::{Kind, Moment, TokenId};
+use tk_scope::Scope;
+
+/// What a fact says of a token that it mints.
+#[derive(Clone, Copy, Debug)]
+pub struct Minted<'a> {
+    /// SHA-256 of the token's handle.
+    pub digest: &'a [u8; 32],
+    pub start: Moment,
+    pub expiry: Moment,
+    pub scope: &'a Scope,
+}
+
+fn minted_at(start: Moment, token: &MintedToken) -> Minted<'_>
+    ensures { shown_minted result ≡ minted_at start token.now }
+{
+    Minted {
+        digest: &token.digest,
+        start,
+        expiry: token.end,
+        scope: &token.scope,
+    }
+}
+
+impl Fact {
+    /// The token of that kind that the fact mints, if any.
+    pub fn minted(&self, kind: Kind) -> Option<Minted<'_>>
+        ensures { option_map shown_minted result ≡ minted_of self.now.1 kind }
+    {
+        match (&self.body, kind) {
+            (Body::CodeIssued(fact), Kind::Code) => Some(Minted {
+                digest: &fact.digest,
+                start: fact.start,
+                expiry: fact.expiry,
+                scope: &fact.scope,
+            }),
+            (Body::CodeRedeemed(fact), Kind::Access) => Some(minted_at(fact.start, &fact.access)),
+            (Body::CodeRedeemed(fact), Kind::Refresh) => Some(minted_at(fact.start, &fact.refresh)),
+            (Body::RefreshRotated(fact), Kind::Access) => Some(minted_at(fact.start, &fact.access)),
+            (Body::RefreshRotated(fact), Kind::Refresh) => {
+                Some(minted_at(fact.start, &fact.refresh))
+            }
+            _ => None,
+        }
+    }
+
+    /// The code or refresh token that the fact redeems or rotates, if any.
+    pub fn uses(&self) -> Option<TokenId>
+        ensures { result ≡ uses_of self.now.1 }
+    {
+        match &self.body {
+            Body::CodeRedeemed(fact) => Some(TokenId {
+                dot: fact.code,
+                kind: Kind::Code,
+            }),
+            Body::RefreshRotated(fact) => Some(TokenId {
+                dot: fact.parent,
+                kind: Kind::Refresh,
+            }),
+            _ => None,
+        }
+    }
+}

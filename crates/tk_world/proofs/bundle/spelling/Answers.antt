@@ -1,0 +1,6 @@
+use Rattle.std.proofs.Common.{arith}
+use Rattle.tk_world.proofs.BundleLaws.{readable_bytes}
+use Rattle.tk_world.proofs.bundle.spelling.Goals as goal
+
+pub returns : goal.returns
+returns c = readable_bytes c.args.bytes.now (λ i. omega (arith, c.type_inv.bytes i)) c.requires
