@@ -53,6 +53,4 @@ pub use token_revoked::TokenRevoked;
 pub use tokens::Minted;
 
 #[cfg(test)]
-mod samples;
-#[cfg(test)]
 mod tests;
