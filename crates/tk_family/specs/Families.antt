@@ -1,0 +1,138 @@
+-- Families over links and marks. Links are given by their look-up, for each dot what the fact there does in a family, and
+-- marks by their test. A token stands at the dot of the fact that minted it, so families speak of dots.
+--   Links, Marks       what the definitions below speak of
+--   used_by, use_of    the token that a link uses
+--   named_by           the dot that a link names
+--   grant_at           the code or refresh token that a link mints
+--   fits, IsParent     the parent of a dot
+--   IsPath, IsUnder    the code that a dot is under; its family is all that is under it
+--   IsTrail            parents, whether or not they lead to a code
+--   rank, rank_of      how many parents a whole chain has
+--   IsUsed, IsTwice    the uses of a code or refresh token
+--   IsBad, IsDead      bad grants, and the dead families that they make
+--   Within             links that are part of more links
+use Rattle.std.specs.Prelude.{◌≡◌, ◌≢◌, ◌⊎◌, ◌==◌, ℕ, ◌+◌, Bool, true, false, Option, None, Some, List, [], ◌∷◌}
+use Rattle.tk_handle.specs.declared.dot.Dot.{Dot}
+use Rattle.tk_handle.specs.declared.kind.Kind.TheVariants as kind
+use Rattle.tk_handle.specs.declared.token_id.TokenId.{TokenId}
+use Rattle.tk_family.specs.declared.link.Link.{Link}
+use Rattle.tk_family.specs.declared.link.Link.TheVariants.{Code, Redeems, Rotates}
+
+-- the link at each dot, if one is there (own)
+abbrev pub Links : Type 0
+Links = Dot → Option Link
+
+-- the tokens that a reuse or a revocation marks (own)
+abbrev pub Marks : Type 0
+Marks = TokenId → Bool
+
+-- the token that a link uses: the code that it redeems or the refresh token that it rotates, as it names it
+-- (RFC 6749, 4.1.2 and 6)
+abbrev pub used_by : Link → Option TokenId
+used_by Code = None
+used_by (Redeems code) = Some (record { dot = code; kind = kind.Code })
+used_by (Rotates parent generation) = Some (record { dot = parent; kind = kind.Refresh })
+
+-- the dot that a link names (own)
+abbrev pub named_by : Link → Option Dot
+named_by Code = None
+named_by (Redeems code) = Some code
+named_by (Rotates parent generation) = Some parent
+
+-- the code or refresh token that the link at a dot mints (RFC 6749, 4.1.2, 4.1.4 and 6)
+abbrev pub grant_at : Dot → Link → TokenId
+grant_at d Code = record { dot = d; kind = kind.Code }
+grant_at d (Redeems code) = record { dot = d; kind = kind.Refresh }
+grant_at d (Rotates parent generation) = record { dot = d; kind = kind.Refresh }
+
+-- ---- parents, and the code that a dot is under
+
+-- whether a link fits the link at the dot that it names: a redemption a code, a rotation of generation 1 a redemption, and
+-- any other rotation one of the generation less one (RFC 6749, 4.1 and 6)
+abbrev pub fits : Link → Link → Bool
+fits Code above = false
+fits (Redeems code) Code = true
+fits (Redeems code) (Redeems other) = false
+fits (Redeems code) (Rotates other g) = false
+fits (Rotates parent g) Code = false
+fits (Rotates parent g) (Redeems other) = g == 1
+fits (Rotates parent g) (Rotates other h) = g == h + 1
+
+-- p is the parent of e: the link at e names p, and fits the link there (RFC 6749, 4.1 and 6)
+pub record IsParent (f : Links) (e p : Dot) : Type 0 where
+  pub link : Link
+  pub above : Link
+  pub here : f e ≡ Some link
+  pub names : named_by link ≡ Some p
+  pub there : f p ≡ Some above
+  pub fitting : fits link above ≡ true
+
+-- the dots of the list lead, each the parent of the one before, from d to the code c (own)
+abbrev pub IsPath : Links → Dot → List Dot → Dot → Type 0
+IsPath f d [] c = (d ≡ c) × (f d ≡ Some Code)
+IsPath f d (p ∷ ps) c = IsParent f d p × IsPath f p ps c
+
+-- d is under the code c: some list leads from d to it. A code is under itself (own)
+pub record IsUnder (f : Links) (d c : Dot) : Type 0 where
+  pub path : List Dot
+  pub leads : IsPath f d path c
+
+-- the dots of the list lead, each the parent of the one before, from q to d, whatever d is (own)
+abbrev pub IsTrail : Links → Dot → List Dot → Dot → Type 0
+IsTrail f q [] d = q ≡ d
+IsTrail f q (p ∷ ps) d = IsParent f q p × IsTrail f p ps d
+
+-- how many parents a whole chain from the link has (own)
+abbrev pub rank : Link → ℕ
+rank Code = 0
+rank (Redeems code) = 1
+rank (Rotates parent g) = g + 1
+
+-- the rank of what is at a dot (own)
+abbrev pub rank_of : Option Link → ℕ
+rank_of None = 0
+rank_of (Some link) = rank link
+
+-- ---- uses
+
+-- the token that the link at a dot uses (RFC 6749, 4.1.2 and 6)
+abbrev pub use_of : Option Link → Option TokenId
+use_of None = None
+use_of (Some link) = used_by link
+
+-- some dot has a link that uses the token, whatever its generation (RFC 6749, 4.1.2 and 6)
+pub record IsUsed (f : Links) (k : TokenId) : Type 0 where
+  pub user : Dot
+  pub by : use_of (f user) ≡ Some k
+
+-- two dots have links that use the token, whatever their generations (RFC 6749, 4.1.2 and 6)
+pub record IsTwice (f : Links) (k : TokenId) : Type 0 where
+  pub one : Dot
+  pub two : Dot
+  pub apart : one ≢ two
+  pub by_one : use_of (f one) ≡ Some k
+  pub by_two : use_of (f two) ≡ Some k
+
+-- ---- bad grants and dead families
+
+-- the code or refresh token that is minted at d is marked, or used twice (RFC 6749, 4.1.2, 10.4 and 10.5)
+pub record IsBad (f : Links) (m : Marks) (d : Dot) : Type 0 where
+  pub link : Link
+  pub here : f d ≡ Some link
+  pub why : (m (grant_at d link) ≡ true) ⊎ IsTwice f (grant_at d link)
+
+-- the family of c is dead: a code or refresh token under c is bad (RFC 6749, 4.1.2, 10.4 and 10.5)
+pub record IsDead (f : Links) (m : Marks) (c : Dot) : Type 0 where
+  pub member : Dot
+  pub under : IsUnder f member c
+  pub bad : IsBad f m member
+
+-- ---- more links and more marks
+
+-- what holds in f holds in g (own)
+abbrev pub Within : Links → Links → Type 0
+Within f g = (d : Dot) (l : Link) → f d ≡ Some l → g d ≡ Some l
+
+-- what is marked by m is marked by n (own)
+abbrev pub MarksWithin : Marks → Marks → Type 0
+MarksWithin m n = (k : TokenId) → m k ≡ true → n k ≡ true

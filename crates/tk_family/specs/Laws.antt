@@ -1,0 +1,43 @@
+-- The laws of families, each the contract of the function of its name in `laws` (own). They hold of all links and marks,
+-- rings and rotations that don't fit among them.
+use Rattle.std.specs.Prelude.{◌≡◌, ◌↔◌, ◌+◌, Some, List, ◌∷◌, length}
+use Rattle.tk_handle.specs.declared.dot.Dot.{Dot}
+use Rattle.tk_handle.specs.declared.token_id.TokenId.{TokenId}
+use Rattle.tk_family.specs.Families.{Links, Marks, IsParent, IsPath, IsUnder, IsTrail, rank_of, IsTwice, IsDead, Within, MarksWithin}
+use Rattle.tk_family.specs.Walks.{code_of}
+
+-- a dot is under at most one code
+abbrev pub OneCode : Type 0
+OneCode = (f : Links) (d b c : Dot) → IsUnder f d b → IsUnder f d c → b ≡ c
+
+-- the rank falls by one from a dot to its parent
+abbrev pub RankFalls : Type 0
+RankFalls = (f : Links) (d p : Dot) → IsParent f d p → rank_of (f d) ≡ rank_of (f p) + 1
+
+-- a chain from a dot to its code has as many parents as the dot's rank says
+abbrev pub ChainLength : Type 0
+ChainLength = (f : Links) (d c : Dot) (ps : List Dot) → IsPath f d ps c → length ps ≡ rank_of (f d)
+
+-- a walk from parent to parent is no longer than the rank at its start
+abbrev pub WalkEnds : Type 0
+WalkEnds = (f : Links) (d e : Dot) (ps : List Dot) → IsTrail f d ps e → length ps + rank_of (f e) ≡ rank_of (f d)
+
+-- no walk comes back to where it began
+abbrev pub NoRing : Type 0
+NoRing = (f : Links) (d p : Dot) (ps : List Dot) → ¬ IsTrail f d (p ∷ ps) d
+
+-- the walk finds a code exactly where the dot is under it
+abbrev pub WalkFinds : Type 0
+WalkFinds = (f : Links) (d c : Dot) → (code_of f d ≡ Some c) ↔ IsUnder f d c
+
+-- what is under a code stays under it when links are added
+abbrev pub UnderStays : Type 0
+UnderStays = (f g : Links) → Within f g → (d c : Dot) → IsUnder f d c → IsUnder g d c
+
+-- what is used twice stays so when links are added
+abbrev pub TwiceStays : Type 0
+TwiceStays = (f g : Links) → Within f g → (k : TokenId) → IsTwice f k → IsTwice g k
+
+-- a dead family stays dead when links and marks are added
+abbrev pub DeathStays : Type 0
+DeathStays = (f g : Links) (m n : Marks) → Within f g → MarksWithin m n → (c : Dot) → IsDead f m c → IsDead g n c
