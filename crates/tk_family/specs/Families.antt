@@ -1,16 +1,16 @@
 -- Families over links and marks. Links are given by their look-up, for each dot what the fact there does in a family, and
 -- marks by their test. A token stands at the dot of the fact that minted it, so families speak of dots.
---   Links, Marks       what the definitions below speak of
---   used_by, use_of    the token that a link uses
---   named_by           the dot that a link names
---   grant_at           the code or refresh token that a link mints
---   fits, IsParent     the parent of a dot
---   IsPath, IsUnder    the code that a dot is under; its family is all that is under it
---   IsTrail            parents, whether or not they lead to a code
---   rank, rank_of      how many parents a whole chain has
---   IsUsed, IsTwice    the uses of a code or refresh token
---   IsBad, IsDead      bad grants, and the dead families that they make
---   Within             links that are part of more links
+--   Links, Marks          what the definitions below speak of
+--   used_by, use_of       the token that a link uses
+--   named_by              the dot that a link names
+--   grant_at              the code or refresh token that a link mints
+--   fits, IsParent        the parent of a dot
+--   IsPath, IsUnder       the code that a dot is under; its family is all that is under it
+--   IsTrail               parents, whether or not they lead to a code
+--   rank, rank_of         how many parents a whole chain has
+--   IsUsed, IsTwice       the uses of a code or refresh token
+--   IsBad, IsDead         bad grants, and the dead families that they make
+--   Within, MarksWithin   links and marks that are part of more
 use Rattle.std.specs.Prelude.{◌≡◌, ◌≢◌, ◌⊎◌, ◌==◌, ℕ, ◌+◌, Bool, true, false, Option, None, Some, List, [], ◌∷◌}
 use Rattle.tk_handle.specs.declared.dot.Dot.{Dot}
 use Rattle.tk_handle.specs.declared.kind.Kind.TheVariants as kind
@@ -22,7 +22,7 @@ use Rattle.tk_family.specs.declared.link.Link.TheVariants.{Code, Redeems, Rotate
 abbrev pub Links : Type 0
 Links = Dot → Option Link
 
--- the tokens that a reuse or a revocation marks (own)
+-- the tokens that are marked, as their reuse was seen or their client revoked them (RFC 6749, 10.4 and 10.5; RFC 7009, 2.1)
 abbrev pub Marks : Type 0
 Marks = TokenId → Bool
 
@@ -47,8 +47,8 @@ grant_at d (Rotates parent generation) = record { dot = d; kind = kind.Refresh }
 
 -- ---- parents, and the code that a dot is under
 
--- whether a link fits the link at the dot that it names: a redemption a code, a rotation of generation 1 a redemption, and
--- any other rotation one of the generation less one (RFC 6749, 4.1 and 6)
+-- whether a link fits the link at the dot that it names: a redemption fits a code, a rotation of generation 1 a redemption,
+-- and any rotation one of the generation less one (RFC 6749, 4.1 and 6)
 abbrev pub fits : Link → Link → Bool
 fits Code above = false
 fits (Redeems code) Code = true

@@ -17,3 +17,6 @@ pub use laws::{
     walk_finds,
 };
 pub use link::{Link, fits, named, rank};
+
+#[cfg(test)]
+mod tests;

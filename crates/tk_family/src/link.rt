@@ -28,7 +28,7 @@ pub fn named(link: &Link) -> Option<Dot>
 }
 
 /// Whether a link fits the link at the dot that it names, so that this is its parent (RFC 6749, 4.1 and 6): a redemption
-/// fits a code, the first rotation a redemption, and each further one the rotation of the generation before.
+/// fits a code, a rotation of generation 1 a redemption, and any rotation one of the generation less one.
 pub fn fits(link: &Link, above: &Link) -> bool
     ensures { result ≡ is_fit link.now above.now }
 {
@@ -41,7 +41,7 @@ pub fn fits(link: &Link, above: &Link) -> bool
                 generation: before,
                 ..
             },
-        ) => { u32::from(*generation) == u32::from(*before) + 1 }
+        ) => u32::from(*generation) == u32::from(*before) + 1,
         _ => false,
     }
 }
