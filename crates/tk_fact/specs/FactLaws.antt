@@ -1,6 +1,5 @@
 -- The law of each kind of fact, of a fact and of a framed fact: what is read is spelled so, and what is spelled so is read.
-use Rattle.std.proofs.Common.{◌≡◌, ℕ, List, ◌++◌, Option, Some, refl}
-use Rattle.tk_format.specs.Format.{Format, via}
+use Rattle.std.proofs.Common.{◌≡◌, ℕ, List, ◌++◌, Some, refl}
 use Rattle.tk_format.specs.Exact.{IsBytes, IsExact}
 use Rattle.tk_format.specs.Laws.{Follows, u16_exact, text_exact, both_exact, only_exact, shaped_exact, choice_exact, via_again, sized_exact}
 use Rattle.tk_handle.proofs.FormatLaws.{place_exact, moment_exact, token_exact}

@@ -1,11 +1,11 @@
 -- The law of each field: what is read is spelled so, and what is spelled so is read (`.._exact`). And which values a field can spell (`.._fits`, `.._fit`).
-use Rattle.std.proofs.Common.{◌≡◌, ℕ, Bool, true, false, cond, eqb, ◌==◌, List, [], ◌∷◌, ◌++◌, length, Option, Some, None, refl, sym, ap, subst, ◌∙◌, ◌&&◌, nat_le, nat_lt, ◌<◌, ◌≤◌, codes, is_none, arith}
+use Rattle.std.proofs.Common.{◌≡◌, ℕ, Bool, true, false, cond, eqb, ◌==◌, List, [], ◌∷◌, ◌++◌, length, Option, Some, None, refl, sym, ap, subst, ◌∙◌, ◌&&◌, nat_le, nat_lt, ◌≤◌, codes, is_none, arith}
 use Rattle.std.specs.List.{list_all, AllByRecursion}
 use Rattle.std.specs.Str.{bytes_eq}
 use Rattle.std.proofs.lemmas.Slice.Eq.{bytes_eq-Decides}
 use borrow.Author.Tests.{leb-true}
 use Rattle.std.proofs.lemmas.Bool.{ltb-false}
-use Rattle.tk_format.specs.Format.{◌>>=◌, Format, via, text, byte, counted}
+use Rattle.tk_format.specs.Format.{Format, via, text}
 use Rattle.tk_format.specs.Exact.{IsBytes, Takes, IsExact, bind_some, chosen_some, some_is}
 use Rattle.tk_format.specs.Laws.{Follows, byte_exact, bytes_exact, text_exact, both_exact, only_exact, shaped_exact, partly_exact, counted_exact, coded_exact, choice_exact, via_takes, via_again, case_takes}
 use Rattle.tk_handle.proofs.FormatLaws.{moment_exact}

@@ -8,7 +8,7 @@ use Rattle.std.proofs.lemmas.Bool.{ltb-false}
 use Rattle.std.proofs.lemmas.List.{length-append}
 use Rattle.std.proofs.lemmas.List.Concat.{flat_map-cons}
 use borrow.Author.Tests.{leb-true, le-leb}
-use Rattle.tk_format.specs.Format.{◌>>=◌, text, number_spelling}
+use Rattle.tk_format.specs.Format.{text, number_spelling}
 use Rattle.tk_format.specs.Exact.{bind_some}
 use Rattle.tk_format.specs.Spellings.{number_length, both_short, text_short}
 use Rattle.tk_scope.specs.Scope.{is_token, scope_of, scope_text, tokens_of}
@@ -27,7 +27,7 @@ use Rattle.tk_fact.specs.declared.check.FactError.{FactError}
 use Rattle.tk_fact.specs.declared.body.Body.{Body}
 use Rattle.tk_fact.specs.declared.body.Body.TheVariants as bodies
 use Rattle.tk_fact.specs.Check.{refusal_of, keeps_limits, keeps_ranges, is_subject, is_visible, is_challenge}
-use Rattle.tk_fact.specs.Fields.{SortFits, sort_field, printed_scope_of, scope_field, redirects_field, ChallengeFits, challenge_field, minted_field}
+use Rattle.tk_fact.specs.Fields.{SortFits, sort_field, scope_field, redirects_field, ChallengeFits, challenge_field, minted_field}
 use Rattle.tk_fact.specs.FactBytes.{BodyFits, body, fact, framed}
 use Rattle.tk_fact.specs.FieldLaws.{both_true, kept_list, few, uri_short, redirects_keep, verifier_short}
 

@@ -31,7 +31,7 @@ impl Body {
     ghost use Rattle.tk_fact.specs.Check.{refusal_of};
     ghost use Rattle.tk_fact.specs.FactBytes.{body, BodyFits};
 
-    pub fn copy(&self, alloc: Global) -> Result<Body, AllocError>
+    pub(crate) fn copy(&self, alloc: Global) -> Result<Body, AllocError>
         ensures { IfOk result (λ copy. copy ≡ self.now) }
     {
         match self {

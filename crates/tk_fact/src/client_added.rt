@@ -19,7 +19,7 @@ pub struct ClientAdded {
 }
 
 impl ClientAdded {
-    pub fn copy(&self, alloc: Global) -> Result<ClientAdded, AllocError>
+    pub(crate) fn copy(&self, alloc: Global) -> Result<ClientAdded, AllocError>
         ensures { IfOk result (λ copy. copy ≡ self.now) }
     {
         Ok(ClientAdded {
@@ -29,7 +29,7 @@ impl ClientAdded {
         })
     }
 
-    pub fn same(&self, other: &ClientAdded) -> bool
+    pub(crate) fn same(&self, other: &ClientAdded) -> bool
         ensures { IsTrue result ↔ (self.now ≡ other.now) }
     {
         self.sort == other.sort

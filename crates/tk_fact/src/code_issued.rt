@@ -38,7 +38,7 @@ pub struct CodeIssued {
 }
 
 impl CodeIssued {
-    pub fn copy(&self, alloc: Global) -> Result<CodeIssued, AllocError>
+    pub(crate) fn copy(&self, alloc: Global) -> Result<CodeIssued, AllocError>
         ensures { IfOk result (λ copy. copy ≡ self.now) }
     {
         Ok(CodeIssued {
@@ -56,7 +56,7 @@ impl CodeIssued {
         })
     }
 
-    pub fn same(&self, other: &CodeIssued) -> bool
+    pub(crate) fn same(&self, other: &CodeIssued) -> bool
         ensures { IsTrue result ↔ (self.now ≡ other.now) }
     {
         self.client == other.client

@@ -17,7 +17,7 @@ pub struct CodeRedeemed {
 }
 
 impl CodeRedeemed {
-    pub fn copy(&self, alloc: Global) -> Result<CodeRedeemed, AllocError>
+    pub(crate) fn copy(&self, alloc: Global) -> Result<CodeRedeemed, AllocError>
         ensures { IfOk result (λ copy. copy ≡ self.now) }
     {
         Ok(CodeRedeemed {
@@ -28,7 +28,7 @@ impl CodeRedeemed {
         })
     }
 
-    pub fn same(&self, other: &CodeRedeemed) -> bool
+    pub(crate) fn same(&self, other: &CodeRedeemed) -> bool
         ensures { IsTrue result ↔ (self.now ≡ other.now) }
     {
         self.code == other.code

@@ -18,7 +18,7 @@ pub struct ConsentGiven {
 }
 
 impl ConsentGiven {
-    pub fn copy(&self, alloc: Global) -> Result<ConsentGiven, AllocError>
+    pub(crate) fn copy(&self, alloc: Global) -> Result<ConsentGiven, AllocError>
         ensures { IfOk result (λ copy. copy ≡ self.now) }
     {
         Ok(ConsentGiven {
@@ -28,7 +28,7 @@ impl ConsentGiven {
         })
     }
 
-    pub fn same(&self, other: &ConsentGiven) -> bool
+    pub(crate) fn same(&self, other: &ConsentGiven) -> bool
         ensures { IsTrue result ↔ (self.now ≡ other.now) }
     {
         self.client == other.client

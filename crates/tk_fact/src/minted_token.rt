@@ -19,7 +19,7 @@ pub struct MintedToken {
 }
 
 impl MintedToken {
-    pub fn copy(&self, alloc: Global) -> Result<MintedToken, AllocError>
+    pub(crate) fn copy(&self, alloc: Global) -> Result<MintedToken, AllocError>
         ensures { IfOk result (λ copy. copy ≡ self.now) }
     {
         Ok(MintedToken {
@@ -30,7 +30,7 @@ impl MintedToken {
     }
 
     /// Whether both say the same.
-    pub fn same(&self, other: &MintedToken) -> bool
+    pub(crate) fn same(&self, other: &MintedToken) -> bool
         ensures { IsTrue result ↔ (self.now ≡ other.now) }
     {
         self.digest == other.digest && self.end == other.end && self.scope.same(&other.scope)

@@ -20,7 +20,7 @@ pub struct RefreshRotated {
 }
 
 impl RefreshRotated {
-    pub fn copy(&self, alloc: Global) -> Result<RefreshRotated, AllocError>
+    pub(crate) fn copy(&self, alloc: Global) -> Result<RefreshRotated, AllocError>
         ensures { IfOk result (λ copy. copy ≡ self.now) }
     {
         Ok(RefreshRotated {
@@ -32,7 +32,7 @@ impl RefreshRotated {
         })
     }
 
-    pub fn same(&self, other: &RefreshRotated) -> bool
+    pub(crate) fn same(&self, other: &RefreshRotated) -> bool
         ensures { IsTrue result ↔ (self.now ≡ other.now) }
     {
         self.parent == other.parent

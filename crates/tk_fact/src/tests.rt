@@ -1,3 +1,6 @@
+mod built;
+mod limits;
+
 use crate::Fact;
 use std::alloc::Global;
 use std::test::Fail;

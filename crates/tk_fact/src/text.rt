@@ -36,14 +36,14 @@ impl Text {
         self.bytes.as_slice()
     }
 
-    pub fn copy(&self, alloc: Global) -> Result<Text, AllocError>
+    pub(crate) fn copy(&self, alloc: Global) -> Result<Text, AllocError>
         ensures { IfOk result (λ t. t ≡ self.now) }
     {
         Text::new(alloc, self.as_bytes())
     }
 
     /// Whether both have the same bytes.
-    pub fn same(&self, other: &Text) -> bool
+    pub(crate) fn same(&self, other: &Text) -> bool
         ensures { IsTrue result ↔ (self.now ≡ other.now) }
     {
         self.as_bytes() == other.as_bytes()

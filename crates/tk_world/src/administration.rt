@@ -25,7 +25,7 @@ use tk_scope::{Scope, ScopeError};
 use tk_store::FactStore;
 
 // Decides a request over the facts, where the next fact would stand at the dot.
-pub fn decide(
+pub(crate) fn decide(
     alloc: Global,
     facts: &FactStore,
     next: Dot,
@@ -45,7 +45,7 @@ pub fn decide(
 }
 
 // An error, and no fact.
-pub fn refuse(alloc: Global, status: u16, name: &str) -> Result<Decision, AllocError>
+pub(crate) fn refuse(alloc: Global, status: u16, name: &str) -> Result<Decision, AllocError>
     ensures { IfOk result (λ decision. decision ≡ spec.refused status name.now) }
 {
     let reply = error_reply(alloc, status, name)?;

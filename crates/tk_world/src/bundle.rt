@@ -30,21 +30,21 @@ use tk_format::ReadError;
 
 impl MadeBundle {
     // The bundle of bytes that spell one.
-    pub fn new(bytes: Vec<u8>) -> MadeBundle
+    pub(crate) fn new(bytes: Vec<u8>) -> MadeBundle
         requires { (fs : Facts) × bundle.Fits fs × (bytes.items ≡ bundle_bytes fs) }
         ensures { (fs : Facts) → bundle.Fits fs → bytes.items ≡ bundle_bytes fs → result ≡ fs }
     {
         MadeBundle { bytes }
     }
 
-    pub fn bytes(&self) -> &[u8]
+    pub(crate) fn bytes(&self) -> &[u8]
         ensures { result.now ≡ bundle_bytes self.now }
     {
         spelling(&self.bytes)
     }
 
     // Its facts, read from the bytes.
-    pub fn read(&self, alloc: Global) -> Result<Bundle, AllocError>
+    pub(crate) fn read(&self, alloc: Global) -> Result<Bundle, AllocError>
         ensures { IfOk result (λ bundle. bundle ≡ self.now) }
     {
         match Bundle::read(alloc, &self.bytes) {

@@ -9,7 +9,7 @@ use tk_handle::Dot;
 use tk_store::FactStore;
 
 // The client that was added at the dot.
-pub fn client_at(facts: &FactStore, at: Dot) -> Option<&ClientAdded>
+pub(crate) fn client_at(facts: &FactStore, at: Dot) -> Option<&ClientAdded>
     ensures { option_copied result ≡ spec.client_at (facts_of facts.now) at }
 {
     match facts.get(at) {
@@ -28,7 +28,7 @@ fn client_in(body: &Body) -> Option<&ClientAdded>
 }
 
 // Whether a client was added at the dot and no retirement of it is held.
-pub fn is_live(facts: &FactStore, client: Dot) -> bool
+pub(crate) fn is_live(facts: &FactStore, client: Dot) -> bool
     ensures value { result ≡ spec.is_live_client (facts_of facts.now) client }
     ensures meaning { IsTrue result ↔ spec.IsLiveClient (sets.get (facts_of facts.now)) client }
 {
@@ -42,7 +42,7 @@ fn is_added_and_kept(facts: &FactStore, client: Dot) -> bool
 }
 
 // Whether a retirement of the client is held.
-pub fn is_retired(facts: &FactStore, client: Dot) -> bool
+pub(crate) fn is_retired(facts: &FactStore, client: Dot) -> bool
     ensures { result ≡ spec.is_retired (facts_of facts.now) client }
 {
     facts.facts().any(|fact| retires(fact, client))

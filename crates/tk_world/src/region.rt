@@ -21,7 +21,7 @@ use tk_store::{AddError, Added, FactStore};
 use tk_vector::VersionVector;
 
 // Answers the request over the region's facts, and adds the fact made.
-pub fn answer(
+pub(crate) fn answer(
     alloc: Global,
     settings: &Settings,
     region: RegionNumber,
@@ -97,7 +97,7 @@ fn commit(next: Dot, store: &mut FactStore, decision: Decision) -> Outcome
 }
 
 // Makes the page, and puts its bundle behind the others.
-pub fn pull_page(
+pub(crate) fn pull_page(
     alloc: Global,
     store: &FactStore,
     bundles: &mut Vec<MadeBundle>,

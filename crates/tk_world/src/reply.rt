@@ -42,7 +42,7 @@ use tk_handle::{Dot, client_text};
 use tk_scope::Scope;
 
 // An error, by its name.
-pub fn error_reply(alloc: Global, status: u16, name: &str) -> Result<Reply, AllocError>
+pub(crate) fn error_reply(alloc: Global, status: u16, name: &str) -> Result<Reply, AllocError>
     ensures { IfOk result (λ reply. reply ≡ spec.error_reply status name.now) }
 {
     let body = error_text(alloc, name)?;
@@ -50,7 +50,7 @@ pub fn error_reply(alloc: Global, status: u16, name: &str) -> Result<Reply, Allo
 }
 
 // The id of a client.
-pub fn client_reply(alloc: Global, status: u16, client: Dot) -> Result<Reply, AllocError>
+pub(crate) fn client_reply(alloc: Global, status: u16, client: Dot) -> Result<Reply, AllocError>
     ensures { IfOk result (λ reply. reply ≡ spec.client_reply status client) }
 {
     let id = client_text(alloc, client)?;
@@ -59,7 +59,7 @@ pub fn client_reply(alloc: Global, status: u16, client: Dot) -> Result<Reply, Al
 }
 
 // What is known of a client.
-pub fn shown_reply(
+pub(crate) fn shown_reply(
     alloc: Global,
     client: Dot,
     sort: &Sort,

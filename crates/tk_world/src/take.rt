@@ -12,7 +12,7 @@ use tk_fact::Fact;
 use tk_store::{AddError, Added, FactStore};
 
 // Reads the bundle, and adds its facts.
-pub fn take_bundle(alloc: Global, store: &mut FactStore, bundle: &MadeBundle) -> Outcome
+pub(crate) fn take_bundle(alloc: Global, store: &mut FactStore, bundle: &MadeBundle) -> Outcome
     requires agree { (U : FactSet) × IsFactSet U × Within store.old U × AllIn U bundle.now }
     requires few { length bundle.now ≤ 128 }
     ensures { Takes store.old bundle.now result store.new }

@@ -5,7 +5,7 @@ ghost use Rattle.tk_world.specs.Administration.{is_space};
 use std::alloc::{AllocError, Global};
 
 // The pieces between single spaces.
-pub fn split_spaces(alloc: Global, text: &[u8]) -> Result<Vec<&[u8]>, AllocError>
+pub(crate) fn split_spaces(alloc: Global, text: &[u8]) -> Result<Vec<&[u8]>, AllocError>
     ensures { IfOk result (λ pieces. map (λ x. x.now) pieces.items ≡ slice_split is_space text.now) }
 {
     text.split(|b| *b == b' ').collect(alloc)

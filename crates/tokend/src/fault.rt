@@ -27,7 +27,7 @@ pub enum Fault {
 
 impl Fault {
     /// The exit status: 1 for memory and devices, 2 for words and scripts.
-    pub fn status(&self) -> u8
+    pub(crate) fn status(&self) -> u8
         ensures { result ≡ status_of self.now }
     {
         match self {

@@ -7,14 +7,14 @@ use std::alloc::{AllocError, Global};
 use tk_handle::{Dot, Moment, RegionNumber};
 
 /// The fields of a line: what stands between its spaces, which is empty where two spaces meet.
-pub fn fields<'a>(alloc: Global, line: &'a str) -> Result<Vec<&'a str>, AllocError>
+pub(crate) fn fields<'a>(alloc: Global, line: &'a str) -> Result<Vec<&'a str>, AllocError>
     ensures { IfOk result (λ fields. map (λ field. field.now) fields.items ≡ slice_split is_space line.now) }
 {
     line.split(' ').collect(alloc)
 }
 
 /// A decimal without a sign or leading zeros, 0 to 18,446,744,073,709,551,615.
-pub fn number(text: &str) -> Option<u64>
+pub(crate) fn number(text: &str) -> Option<u64>
     ensures { result ≡ number_in text.now }
 {
     let [first, ..] = text.as_bytes() else {
@@ -27,21 +27,21 @@ pub fn number(text: &str) -> Option<u64>
 }
 
 /// The number of a region, 1 to 65,535.
-pub fn region(text: &str) -> Option<RegionNumber>
+pub(crate) fn region(text: &str) -> Option<RegionNumber>
     ensures { result ≡ number_between 1 65535 text.now }
 {
     RegionNumber::new(u16::try_from(number(text)?).ok()?)
 }
 
 /// A moment, 0 to 253,402,300,799.
-pub fn moment(text: &str) -> Option<Moment>
+pub(crate) fn moment(text: &str) -> Option<Moment>
     ensures { result ≡ number_between 0 253402300799 text.now }
 {
     Moment::new(number(text)?)
 }
 
 /// A dot as `R:S`: a region and a serial of its, 1 to 9,223,372,036,854,775,807.
-pub fn dot(text: &str) -> Option<Dot>
+pub(crate) fn dot(text: &str) -> Option<Dot>
     ensures { IfSome result (λ dot. text.now ≡ dot_text dot) }
 {
     let (before, after) = text.split_once(':')?;
@@ -49,7 +49,7 @@ pub fn dot(text: &str) -> Option<Dot>
 }
 
 /// Dots of rising regions, joined by commas.
-pub fn dots(alloc: Global, text: &str) -> Result<Vec<Dot>, LineError>
+pub(crate) fn dots(alloc: Global, text: &str) -> Result<Vec<Dot>, LineError>
     ensures texts { IfOk result (λ dots. map dot_text dots.items ≡ slice_split is_comma text.now) }
     ensures rising { IfOk result (λ dots. IsRising dots.items) }
 {
@@ -65,7 +65,7 @@ pub fn dots(alloc: Global, text: &str) -> Result<Vec<Dot>, LineError>
 }
 
 /// Whether the text means itself in a form, with no byte that parts, joins or stands for another.
-pub fn is_form_text(text: &str) -> bool
+pub(crate) fn is_form_text(text: &str) -> bool
     ensures { IsTrue result ↔ IsFormText text.now }
 {
     text.bytes()

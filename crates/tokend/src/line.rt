@@ -19,7 +19,7 @@ use tk_world::{Event, Request};
 /// Fields have one byte or more of `%x21-7E` and are parted by one space. R is the number of a region, NOW a moment,
 /// B a bundle's number from 0; VECTOR is `-`, or entries `R:S` of rising regions that are joined by commas. SCOPE and
 /// URIS hold none of `&`, `=`, `+` and `%`.
-pub fn event(alloc: Global, line: &[u8], words: [u64; 6]) -> Result<Event, LineError>
+pub(crate) fn event(alloc: Global, line: &[u8], words: [u64; 6]) -> Result<Event, LineError>
     ensures { IfOk result (HasWords words) }
 {
     let fields = fields(alloc, printable(line).ok_or(LineError::Bad)?)?;

@@ -3,7 +3,7 @@ use tk_handle::{Dot, RegionNumber};
 use tk_world::{Event, Outcome, Payload, Reply};
 
 /// Writes one line for each event, and takes no memory for it.
-pub fn print_outcomes<O: Write>(
+pub(crate) fn print_outcomes<O: Write>(
     output: &mut O,
     events: &[Event],
     outcomes: &[Outcome],

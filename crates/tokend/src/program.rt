@@ -35,7 +35,7 @@ pub fn run_program<R: AllocGlobal, S: AsStr, I: Read, O: Write, E: Write>(
 }
 
 /// The exit status of a run, whose fault is told on `faults`.
-pub fn finish<E: Write>(ran: Result<(), Fault>, faults: &mut E) -> u8
+pub(crate) fn finish<E: Write>(ran: Result<(), Fault>, faults: &mut E) -> u8
     ensures { MatchResult ran (λ _. result ≡ 0) (λ fault. result ≡ status_of fault) }
 {
     match ran {

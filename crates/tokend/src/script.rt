@@ -12,7 +12,7 @@ pub const LIMIT: usize = 1_048_576;
 
 /// All that the input has, up to the limit. An input that fails or is interrupted can't be read, whatever it gave
 /// before; a longer one is too long.
-pub fn read_script<I: Read>(alloc: Global, input: &mut I) -> Result<Vec<u8>, Fault>
+pub(crate) fn read_script<I: Read>(alloc: Global, input: &mut I) -> Result<Vec<u8>, Fault>
     ensures { IfOk result (λ script. vec_len script ≤ LIMIT) }
 {
     let mut script = Vec::new(alloc);
@@ -30,7 +30,7 @@ pub fn read_script<I: Read>(alloc: Global, input: &mut I) -> Result<Vec<u8>, Fau
 /// The events of a script's lines, in order; the fault is the first bad line. Lines end with LF, the last may lack
 /// it. Empty lines, and lines that begin with `#`, are no events.
 #[tactic(auto, using(crate::proofs::EventWords::words_pushed))]
-pub fn read_events(alloc: Global, script: &[u8]) -> Result<Vec<Event>, Fault>
+pub(crate) fn read_events(alloc: Global, script: &[u8]) -> Result<Vec<Event>, Fault>
     requires { length script.now ≤ LIMIT }
     ensures { IfOk result (λ events. (k : ℕ) → IfSome (slice_get events.items k) (HasWords (words_at k))) }
 {
