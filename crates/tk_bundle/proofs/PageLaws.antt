@@ -6,7 +6,6 @@
 use Rattle.std.proofs.Common.{◌≡◌, ℕ, ◌+◌, ◌<◌, ◌≤◌, ◌^◌, Bool, true, false, ◌&&◌, cond, T, nat_lt, nat_le, List, [], ◌∷◌, ◌++◌, get_or, length, map, min, filter, take, zero, suc, Some, None, refl, sym, ap, subst, ◌∙◌, append_assoc, arith}
 use Rattle.std.specs.List.{AllByRecursion, cons_option, flat_map}
 use Rattle.std.specs.Option.{option_map}
-use Rattle.std.specs.Ordering.{is_lt}
 use Rattle.std.specs.FinMap as sets
 use Rattle.std.specs.FinMap.Entries.{below_all}
 use Rattle.std.proofs.lemmas.Bool.Decides.{nat_tests}

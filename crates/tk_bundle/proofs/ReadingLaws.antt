@@ -1,17 +1,16 @@
 -- A list of facts behind the magic and a count is read piece by piece.
-use Rattle.std.proofs.Common.{◌≡◌, ℕ, ◌≤◌, Bool, true, false, cond, nat_le, List, Option, Some, None, Result, Ok, Err, refl, sym, ap, ◌∙◌, arith}
+use Rattle.std.proofs.Common.{◌≡◌, ℕ, ◌≤◌, Bool, true, false, cond, nat_le, List, Option, Some, None, Result, Ok, Err, sym, ap, ◌∙◌, arith}
 use Rattle.std.proofs.lemmas.Bool.Decides.{nat_tests}
 use Rattle.std.specs.Global.{Vec}
 use Rattle.std.specs.Int.{w16}
 use Rattle.std.specs.Str.{bytes_eq}
-use Rattle.tk_format.specs.Format.{◌>>=◌, Format, number, bytes_of, counted, only, read_many}
+use Rattle.tk_format.specs.Format.{◌>>=◌, number, bytes_of, counted, only, read_many}
 use Rattle.tk_format.specs.Reading.{Gets, GetsManyBy}
 use Rattle.tk_format.specs.declared.error.ReadError.{ReadError}
 use Rattle.tk_format.specs.declared.error.ReadError.TheVariants.{Malformed, Memory}
 use Rattle.tk_handle.specs.declared.dot.Dot.{Dot}
 use Rattle.tk_fact.specs.declared.body.Body.{Body}
 use Rattle.tk_fact.specs.FactBytes.{framed}
-use Rattle.tk_store.specs.FactSet.{Facts}
 use Rattle.tk_bundle.specs.Bundle.{magic, listed}
 
 -- what is read behind the magic

@@ -1,5 +1,5 @@
 -- A bundle's bytes are read as the bundle, and as nothing else.
-use Rattle.std.proofs.Common.{◌≡◌, ℕ, nat_le, List, [], ◌++◌, None, refl, sym, ◌∙◌}
+use Rattle.std.proofs.Common.{◌≡◌, ℕ, nat_le, List, [], ◌++◌, None, sym, ◌∙◌}
 use Rattle.std.proofs.lemmas.List.{append-nil}
 use Rattle.tk_format.specs.Exact.{IsExact, prefix_free}
 use Rattle.tk_format.specs.Laws.{u16_exact, only_exact, after_exact, counted_exact}

@@ -2,7 +2,7 @@
 --   walk        what it gives, or why it ends
 --   IsCut       the bytes end before the bundle does
 --   IsFrontOf   a bundle was read with the length of its spelling
-use Rattle.std.specs.Prelude.{◌≡◌, ℕ, zero, suc, ◌-◌, ◌<◌, nat_lt, List, [], length, take, drop, Option, Some, None, Result, Ok, Err, if◌then◌else◌}
+use Rattle.std.specs.Prelude.{◌≡◌, ℕ, zero, suc, nat_lt, List, length, Option, Some, None, Result, Ok, Err, if◌then◌else◌}
 use Rattle.std.specs.Str.{bytes_eq}
 use Rattle.std.specs.Int.{w16}
 use Rattle.tk_format.specs.Format.{number, bytes_of}

@@ -1,16 +1,16 @@
 -- The walk over lengths: a loop of it, and what it leaves.
-use Rattle.std.proofs.Common.{◌≡◌, ◌≢◌, ℕ, zero, suc, ◌+◌, ◌-◌, ◌<◌, ◌≤◌, Bool, true, false, cond, ltb, List, [], ◌∷◌, ◌++◌, length, take, drop, Option, Some, None, Result, Ok, Err, refl, sym, ap, subst, ◌∙◌, append_assoc, arith}
+use Rattle.std.proofs.Common.{◌≡◌, ℕ, zero, suc, ◌+◌, ◌-◌, ◌<◌, ◌≤◌, Bool, true, false, cond, ltb, List, [], ◌∷◌, ◌++◌, length, take, Option, Some, None, Result, Ok, Err, refl, sym, ap, subst, ◌∙◌, append_assoc, arith}
 use Rattle.std.specs.Str.{bytes_eq}
 use Rattle.std.specs.Int.{w16}
 use Rattle.std.specs.List.{flat_map, AllByRecursion}
-use Rattle.std.proofs.lemmas.List.{take_at, drop_at, take-append-drop, length-append, append-nil}
-use Rattle.std.proofs.lemmas.Bool.{ltb-false, le-ltb}
+use Rattle.std.proofs.lemmas.List.{take_at, length-append}
+use Rattle.std.proofs.lemmas.Bool.{le-ltb}
 use Rattle.tk_format.specs.Format.{number, number_spelling, bytes_of, text_spelling}
 use Rattle.tk_format.specs.Laws.{u16_exact, bytes_exact}
 use Rattle.tk_format.specs.Exact.{IsBytes, Takes, Takes-then, prefix_free}
 use Rattle.tk_bundle.specs.BundleLaws.{bundle_exact}
 use Rattle.tk_bundle.specs.declared.error.FrontError.{FrontError}
-use Rattle.tk_bundle.specs.declared.error.FrontError.TheVariants.{Malformed, Cut, Memory}
+use Rattle.tk_bundle.specs.declared.error.FrontError.TheVariants.{Malformed}
 use Rattle.std.proofs.lemmas.List.Concat.{flat_map-cons}
 use borrow.Author.Tests.{leb-true}
 use Rattle.tk_handle.specs.declared.dot.Dot.{Dot}
@@ -18,7 +18,7 @@ use Rattle.tk_fact.specs.declared.body.Body.{Body}
 use Rattle.tk_store.specs.FactSet.{Facts}
 use Rattle.tk_fact.specs.FactBytes.{fact, framed}
 use Rattle.tk_bundle.specs.Bundle.{magic, bundle}
-use Rattle.tk_bundle.specs.Front.{◌>>=◌, or_cut, skipped, skipped_many, walk, Walks}
+use Rattle.tk_bundle.specs.Front.{◌>>=◌, or_cut, skipped, skipped_many, walk}
 
 pub walk_more : (count i : ℕ) (now next : List ℕ) (total : Result (List ℕ) FrontError) → i < count → skipped now ≡ Ok next → skipped_many (count - i) now ≡ total → skipped_many (count - (i + 1)) next ≡ total
 unfolding skipped_many
