@@ -1,0 +1,5 @@
+pub mod ClientLaws
+pub mod FamilyEnds
+pub mod SameLaws
+pub mod StatusLaws
+pub mod TokenLaws

@@ -1,0 +1,5 @@
+use Rattle.tk_ledger.proofs.TokenLaws.{IsDead-below}
+use Rattle.tk_ledger.proofs.laws.death_stays.Goals as goal
+
+pub returns : goal.returns
+returns c = IsDead-below

@@ -1,0 +1,5 @@
+use Rattle.tk_ledger.proofs.TokenLaws.{IsEnded-below}
+use Rattle.tk_ledger.proofs.laws.ended_stays.Goals as goal
+
+pub returns : goal.returns
+returns c = IsEnded-below

@@ -1,0 +1,18 @@
+-- The words of this crate:
+--   Clients          clients and consents of a fact set
+--   Views            what the ledger shows of them; ViewFields, what contracts see
+--   Tokens           what is minted, used and revoked, and which families are dead
+--   Status           the status of a handle at a moment; StandingFields, what contracts see
+--   Ends             what ends a whole family
+--   Laws             what holds of all sets of facts
+pub mod Clients
+pub mod Ends
+pub mod Laws
+pub mod StandingFields
+pub mod Status
+pub mod Tokens
+pub mod ViewFields
+pub mod Views
+pub use Rattle.tk_store.specs.FactSet
+pub use Rattle.tk_family.specs.Families
+pub use Rattle.tk_family.specs.Walks

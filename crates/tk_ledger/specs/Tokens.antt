@@ -1,0 +1,181 @@
+-- Tokens of a fact set: what is minted, used and revoked, and which families are dead.
+-- Relations speak of what stands at each dot. Tests are functions of the set, each cited by the function that computes it.
+--   Bodies                  what stands at each dot
+--   link_of, links_in       what a fact does in a family
+--   code_in, issued_at      the code that a token is under, and the fact that issued it
+--   minted_in               what the fact at a token's dot says of it
+--   is_used, is_twice       one fact, or two, use a code or refresh token
+--   IsRevoked, is_revoked   a client revoked the token of a digest
+--   IsEnded, is_ended       the client of its code revoked a token
+--   IsReused                a reuse of a token was seen
+--   IsMarked, marks_in      the tokens that a reuse or a revocation marks
+--   is_bad, is_dead         bad grants, and the dead families that they make
+use Rattle.std.specs.Prelude.{◌≡◌, ◌⊎◌, ℕ, Bool, true, false, ◌&&◌, ◌||◌, ◌==◌, not, List, Option, Some, None}
+use Rattle.std.specs.Option.{option_and_then}
+use Rattle.std.specs.Str.{bytes_eq}
+use Rattle.std.specs.FinMap as map
+use Rattle.tk_handle.specs.declared.dot.Dot.{Dot}
+use Rattle.tk_handle.specs.declared.kind.Kind.{Kind}
+use Rattle.tk_handle.specs.declared.kind.Kind.TheVariants as kind
+use Rattle.tk_handle.specs.declared.token_id.TokenId.{TokenId}
+use Rattle.tk_handle.specs.Kind.{kind_number}
+use Rattle.tk_family.specs.declared.link.Link.{Link}
+use Rattle.tk_family.specs.declared.link.Link.TheVariants.{Code, Redeems, Rotates}
+use Rattle.tk_family.specs.Families.{Links, Marks, IsUnder, grant_at}
+use Rattle.tk_family.specs.Walks.{code_of}
+use Rattle.tk_fact.specs.declared.body.Body.{Body}
+use Rattle.tk_fact.specs.declared.body.Body.TheVariants.{CodeIssued, CodeRedeemed, RefreshRotated, TokenRevoked, ReuseSeen}
+use Rattle.tk_fact.specs.declared.code_issued.CodeIssued as issued
+use Rattle.tk_fact.specs.declared.token_revoked.TokenRevoked as revoked
+use Rattle.tk_fact.specs.declared.reuse_seen.ReuseSeen as seen
+use Rattle.tk_fact.specs.Tokens.{MintedFields, minted_of, uses_of}
+use Rattle.tk_store.specs.FactSet.{FactSet, any_fact}
+use Rattle.tk_ledger.specs.Clients.{is_same_dot}
+
+-- what stands at each dot, if a fact does (own)
+abbrev pub Bodies : Type 0
+Bodies = Dot → Option Body
+
+-- ---- links, and the code that a token is under
+
+-- what a fact does in a family: it mints a code, redeems one, or rotates a refresh token (RFC 6749, 4.1 and 6)
+abbrev pub link_of : Body → Option Link
+link_of (CodeIssued f) = Some Code
+link_of (CodeRedeemed f) = Some (Redeems f.code)
+link_of (RefreshRotated f) = Some (Rotates f.parent f.generation)
+link_of body = None
+
+-- the link at each dot
+abbrev pub links_in : Bodies → Links
+links_in body_at d = option_and_then link_of (body_at d)
+
+-- the code that the tokens minted at a dot are under (own)
+abbrev pub code_in : Bodies → Dot → Option Dot
+code_in body_at d = code_of (links_in body_at) d
+
+abbrev pub issued_in : Body → Option issued.CodeIssued
+issued_in (CodeIssued f) = Some f
+issued_in body = None
+
+-- the fact that issued the code
+abbrev pub issued_at : Bodies → Dot → Option issued.CodeIssued
+issued_at body_at c = option_and_then issued_in (body_at c)
+
+-- ---- what is minted
+
+-- what the fact at the token's dot says of it, where it mints the token's kind (RFC 6749, 4.1.2, 4.1.4 and 6)
+abbrev pub minted_in : Bodies → TokenId → Option MintedFields
+minted_in body_at k = option_and_then (λ b. minted_of b k.kind) (body_at k.dot)
+
+-- ---- uses
+
+abbrev pub is_same_token : TokenId → TokenId → Bool
+is_same_token j k = is_same_dot j.dot k.dot && (kind_number j.kind == kind_number k.kind)
+
+abbrev pub is_token : Option TokenId → TokenId → Bool
+is_token None k = false
+is_token (Some j) k = is_same_token j k
+
+-- the fact redeems or rotates the token, as it names it (RFC 6749, 4.1.2 and 6)
+abbrev pub uses : TokenId → Dot × Body → Bool
+uses k f = is_token (uses_of f.1) k
+
+-- some fact uses the token, whatever its generation
+abbrev pub is_used : FactSet → TokenId → Bool
+is_used F k = any_fact (uses k) F
+
+abbrev pub uses_elsewhere : TokenId → Dot → Dot × Body → Bool
+uses_elsewhere k d f = not (is_same_dot d f.0) && uses k f
+
+abbrev pub uses_first : FactSet → TokenId → Dot × Body → Bool
+uses_first F k f = uses k f && any_fact (uses_elsewhere k f.0) F
+
+-- two facts use the token, whatever their generations (RFC 6749, 4.1.2 and 10.4)
+abbrev pub is_twice : FactSet → TokenId → Bool
+is_twice F k = any_fact (uses_first F k) F
+
+-- ---- revocations
+
+-- a fact says that the client revoked the token of this digest (RFC 7009, 2.1)
+pub record IsRevoked (body_at : Bodies) (k : TokenId) (digest : List ℕ) (client : Dot) : Type 0 where
+  pub place : Dot
+  pub revocation : revoked.TokenRevoked
+  pub held : body_at place ≡ Some (TokenRevoked revocation)
+  pub token : revocation.token ≡ k
+  pub digest_is : revocation.digest ≡ digest
+  pub client_is : revocation.client ≡ client
+
+abbrev pub revoked_by : TokenId → List ℕ → Dot → Body → Bool
+revoked_by k digest client (TokenRevoked f) = is_same_token f.token k && (bytes_eq f.digest digest && is_same_dot f.client client)
+revoked_by k digest client body = false
+
+abbrev pub revokes : TokenId → List ℕ → Dot → Dot × Body → Bool
+revokes k digest client f = revoked_by k digest client f.1
+
+abbrev pub is_revoked : FactSet → TokenId → List ℕ → Dot → Bool
+is_revoked F k digest client = any_fact (revokes k digest client) F
+
+-- the client of the code that the token is under revoked it, by its minted digest (RFC 7009, 2.1: its own client alone)
+pub record IsEnded (body_at : Bodies) (k : TokenId) : Type 0 where
+  pub minted : MintedFields
+  pub code : Dot
+  pub issued : issued.CodeIssued
+  pub mints : minted_in body_at k ≡ Some minted
+  pub under : IsUnder (links_in body_at) k.dot code
+  pub issues : issued_at body_at code ≡ Some issued
+  pub by_client : IsRevoked body_at k minted.digest issued.client
+
+abbrev pub is_ended_by : FactSet → TokenId → Option MintedFields → Option issued.CodeIssued → Bool
+is_ended_by F k None code = false
+is_ended_by F k (Some minted) None = false
+is_ended_by F k (Some minted) (Some code) = is_revoked F k minted.digest code.client
+
+abbrev pub is_ended : FactSet → TokenId → Bool
+is_ended F k = is_ended_by F k (minted_in (map.get F) k) (option_and_then (issued_at (map.get F)) (code_in (map.get F) k.dot))
+
+-- ---- marks, bad grants and dead families
+
+-- a fact says that a reuse of the token was seen (RFC 6749, 4.1.2, 10.4 and 10.5)
+pub record IsReused (body_at : Bodies) (k : TokenId) : Type 0 where
+  pub place : Dot
+  pub reuse : seen.ReuseSeen
+  pub held : body_at place ≡ Some (ReuseSeen reuse)
+  pub token : reuse.token ≡ k
+
+abbrev pub reuse_of : TokenId → Body → Bool
+reuse_of k (ReuseSeen f) = is_same_token f.token k
+reuse_of k body = false
+
+abbrev pub sees_reuse : TokenId → Dot × Body → Bool
+sees_reuse k f = reuse_of k f.1
+
+abbrev pub is_refresh : Kind → Bool
+is_refresh kind.Code = false
+is_refresh kind.Access = false
+is_refresh kind.Refresh = true
+
+-- a reuse of the token was seen (RFC 6749, 10.4 and 10.5), or it is a refresh token that its client revoked (RFC 7009, 2.1)
+abbrev pub IsMarked : Bodies → TokenId → Type 0
+IsMarked body_at k = IsReused body_at k ⊎ ((k.kind ≡ kind.Refresh) × IsEnded body_at k)
+
+abbrev pub marks_in : FactSet → Marks
+marks_in F k = any_fact (sees_reuse k) F || (is_refresh k.kind && is_ended F k)
+
+abbrev pub is_bad_grant : FactSet → Dot → Option Link → Bool
+is_bad_grant F d None = false
+is_bad_grant F d (Some link) = marks_in F (grant_at d link) || is_twice F (grant_at d link)
+
+-- the code or refresh token that the fact mints is marked, or used twice (RFC 6749, 4.1.2, 10.4 and 10.5)
+abbrev pub is_bad : FactSet → Dot × Body → Bool
+is_bad F f = is_bad_grant F f.0 (link_of f.1)
+
+abbrev pub is_dot : Option Dot → Dot → Bool
+is_dot None c = false
+is_dot (Some d) c = is_same_dot d c
+
+abbrev pub kills : FactSet → Dot → Dot × Body → Bool
+kills F c f = is_dot (code_in (map.get F) f.0) c && is_bad F f
+
+-- a code or refresh token under the code is bad (RFC 6749, 4.1.2, 10.4 and 10.5)
+abbrev pub is_dead : FactSet → Dot → Bool
+is_dead F c = any_fact (kills F c) F

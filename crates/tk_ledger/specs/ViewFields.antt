@@ -1,0 +1,18 @@
+-- What contracts see of the views of clients and consents.
+use Rattle.std.specs.Prelude.{ℕ, Bool, List}
+use Rattle.tk_handle.specs.declared.dot.Dot.{Dot}
+use Rattle.tk_fact.specs.declared.sort.Sort.{Sort}
+
+-- a client as it was added, and whether it is live
+pub record ClientFields : Type 0 where
+  pub sort : Sort
+  pub scope : List ℕ
+  pub redirects : List (List ℕ)
+  pub live : Bool
+
+-- a consent as it was given, and whether it is live
+pub record ConsentFields : Type 0 where
+  pub client : Dot
+  pub subject : List ℕ
+  pub scope : List ℕ
+  pub live : Bool

@@ -1,0 +1,147 @@
+//! Revocations, marks, bad grants, and the families that they kill.
+
+ghost use Rattle.std.specs.Prelude.{◌≡◌};
+ghost use Rattle.std.specs.Option.{option_copied, option_map};
+ghost use Rattle.std.specs.FinMap as map;
+ghost use Rattle.tk_family.specs.Families.{grant_at};
+ghost use Rattle.tk_fact.specs.Tokens.{shown_minted};
+ghost use Rattle.tk_store.specs.Store.{facts_of};
+ghost use Rattle.tk_store.specs.FactSet.{any_fact};
+ghost use Rattle.tk_ledger.specs.Tokens as spec;
+
+use crate::compare::{found_dot, same_digests, same_dots, same_tokens};
+use crate::tokens::{code_above, is_twice, issued_above, link_of, minted_at};
+use tk_fact::{Body, CodeIssued, Fact, Minted};
+use tk_family::Link;
+use tk_handle::{Dot, Kind, TokenId};
+use tk_store::FactStore;
+
+// ---- revocations
+
+fn revokes(fact: &Fact, token: &TokenId, digest: &[u8; 32], client: Dot) -> bool
+    ensures { result ≡ spec.revokes token.now digest.now client fact.now }
+{
+    match &fact.body {
+        Body::TokenRevoked(revoked) => {
+            same_tokens(&revoked.token, token)
+                && same_digests(&revoked.digest, digest)
+                && same_dots(revoked.client, client)
+        }
+        _ => false,
+    }
+}
+
+// Whether the client revoked the token of this digest.
+pub(crate) fn is_revoked(facts: &FactStore, token: &TokenId, digest: &[u8; 32], client: Dot) -> bool
+    ensures { result ≡ spec.is_revoked (facts_of facts.now) token.now digest.now client }
+{
+    facts
+        .facts()
+        .any(|fact| revokes(fact, token, digest, client))
+}
+
+fn is_ended_by(
+    facts: &FactStore,
+    token: &TokenId,
+    minted: &Option<Minted<'_>>,
+    code: Option<&CodeIssued>,
+) -> bool
+    ensures { result ≡ spec.is_ended_by (facts_of facts.now) token.now (option_map shown_minted minted.now) (option_copied code.entry) }
+{
+    match (minted, code) {
+        (Some(minted), Some(code)) => is_revoked(facts, token, minted.digest, code.client),
+        (Some(_), None) => false,
+        (None, _) => false,
+    }
+}
+
+// Whether the client of the code that it is under revoked the token.
+pub(crate) fn is_ended(facts: &FactStore, token: &TokenId) -> bool
+    ensures { result ≡ spec.is_ended (facts_of facts.now) token.now }
+{
+    is_ended_by(
+        facts,
+        token,
+        &minted_at(facts, token),
+        issued_above(facts, token.dot),
+    )
+}
+
+// ---- marks, bad grants and dead families
+
+fn sees_reuse(fact: &Fact, token: &TokenId) -> bool
+    ensures { result ≡ spec.sees_reuse token.now fact.now }
+{
+    match &fact.body {
+        Body::ReuseSeen(seen) => same_tokens(&seen.token, token),
+        _ => false,
+    }
+}
+
+fn is_reused(facts: &FactStore, token: &TokenId) -> bool
+    ensures { result ≡ any_fact (spec.sees_reuse token.now) (facts_of facts.now) }
+{
+    facts.facts().any(|fact| sees_reuse(fact, token))
+}
+
+fn is_refresh(kind: Kind) -> bool
+    ensures { result ≡ spec.is_refresh kind }
+{
+    matches!(kind, Kind::Refresh)
+}
+
+fn is_marked(facts: &FactStore, token: &TokenId) -> bool
+    ensures { result ≡ spec.marks_in (facts_of facts.now) token.now }
+{
+    is_reused(facts, token) || (is_refresh(token.kind) && is_ended(facts, token))
+}
+
+fn grant(dot: Dot, link: &Link) -> TokenId
+    ensures { result ≡ grant_at dot link.now }
+{
+    match link {
+        Link::Code => TokenId {
+            dot,
+            kind: Kind::Code,
+        },
+        Link::Redeems(_) => TokenId {
+            dot,
+            kind: Kind::Refresh,
+        },
+        Link::Rotates { .. } => TokenId {
+            dot,
+            kind: Kind::Refresh,
+        },
+    }
+}
+
+fn is_bad_grant(facts: &FactStore, dot: Dot, link: &Option<Link>) -> bool
+    ensures { result ≡ spec.is_bad_grant (facts_of facts.now) dot link.now }
+{
+    match link {
+        Some(link) => {
+            let token = grant(dot, link);
+            is_marked(facts, &token) || is_twice(facts, &token)
+        }
+        None => false,
+    }
+}
+
+fn is_bad(facts: &FactStore, fact: &Fact) -> bool
+    ensures { result ≡ spec.is_bad (facts_of facts.now) fact.now }
+{
+    is_bad_grant(facts, fact.dot, &link_of(&fact.body))
+}
+
+fn kills(facts: &FactStore, code: Dot, fact: &Fact) -> bool
+    ensures { result ≡ spec.kills (facts_of facts.now) code fact.now }
+{
+    found_dot(code_above(facts, fact.dot), code) && is_bad(facts, fact)
+}
+
+// Whether the family of the code is dead.
+pub(crate) fn is_dead(facts: &FactStore, code: Dot) -> bool
+    ensures { result ≡ spec.is_dead (facts_of facts.now) code }
+{
+    facts.facts().any(|fact| kills(facts, code, fact))
+}

@@ -1,0 +1,114 @@
+use std::marker::Model;
+use tk_store::FactStore;
+
+/// A set of facts, and what it says of clients, consents and tokens. Contracts see the set alone.
+#[derive(Debug, Drop)]
+pub struct Ledger {
+    store: FactStore,
+}
+
+impl Model for Ledger {
+    ghost use Rattle.tk_store.specs.FactSet.{coded_facts};
+    ghost use Rattle.tk_store.specs.Store.{Store};
+
+    ghost Value = { Store };
+
+    ghost coded = { coded_facts };
+
+    ghost view = { λ l. l.store };
+}
+
+ghost use Rattle.std.specs.Prelude.{◌≡◌, ◌≢◌, ◌↔◌, None, IsTrue};
+ghost use Rattle.std.specs.FinMap as map;
+ghost use Rattle.tk_handle.specs.declared.kind.Kind.TheVariants as kind;
+ghost use Rattle.tk_fact.specs.Check.{refusal_of};
+ghost use Rattle.tk_store.specs.Adding.{Adds};
+ghost use Rattle.tk_store.specs.Store.{facts_of};
+ghost use Rattle.tk_ledger.specs.Clients as clients_of;
+ghost use Rattle.tk_ledger.specs.Ends.{FamilyEnds};
+ghost use Rattle.tk_ledger.specs.Status.{status_in, IsActive, IsLive};
+ghost use Rattle.tk_ledger.specs.Tokens.{is_revoked, IsEnded};
+ghost use Rattle.tk_ledger.specs.Views.{client_view, consent_view};
+
+use crate::clients::{ClientView, view_client};
+use crate::consents::{ConsentView, find_consent, view_consent};
+use crate::families;
+use crate::status::{Status, of_handle};
+use std::alloc::Global;
+use tk_fact::{Fact, Text};
+use tk_handle::{Dot, Handle, Moment, TokenId};
+use tk_scope::Scope;
+use tk_store::{AddError, Added};
+
+impl Ledger {
+    /// No fact.
+    pub fn new(alloc: Global) -> Ledger
+        ensures { result ≡ map.empty }
+    {
+        Ledger {
+            store: FactStore::new(alloc),
+        }
+    }
+
+    /// Adds a fact that passes its check. A refused one is dropped, and the set is as before.
+    pub fn add(&mut self, fact: Fact) -> Result<Added, AddError>
+        requires { refusal_of fact.1 ≡ None }
+        ensures { Adds self.old fact result self.new }
+    {
+        self.store.add(fact)
+    }
+
+    /// The facts themselves.
+    pub fn store(&self) -> &FactStore
+        ensures { result.now ≡ self.now }
+    {
+        &self.store
+    }
+
+    /// The client that was added at the dot, retired or not (RFC 6749, 2).
+    pub fn client(&self, dot: Dot) -> Option<ClientView<'_>>
+        ensures { result ≡ client_view (facts_of self.now) dot }
+    {
+        view_client(&self.store, dot)
+    }
+
+    /// The consent that was given at the dot, withdrawn or not (RFC 6749, 4.1).
+    pub fn consent(&self, dot: Dot) -> Option<ConsentView<'_>>
+        ensures { result ≡ consent_view (facts_of self.now) dot }
+    {
+        view_consent(&self.store, dot)
+    }
+
+    /// The least dot of a live consent of the client and subject whose scope includes the scope, if any.
+    pub fn consent_for(&self, client: Dot, subject: &Text, scope: &Scope) -> Option<Dot>
+        ensures { result ≡ clients_of.consent_for (facts_of self.now) client subject.now scope.now }
+    {
+        find_consent(&self.store, client, subject, scope)
+    }
+
+    /// Whether a fact says that the client revoked the token of this digest, SHA-256 of a handle (RFC 7009, 2.1). Whether
+    /// such a token was minted, and for that client, isn't asked.
+    pub fn revoked(&self, token: &TokenId, digest: &[u8; 32], client: Dot) -> bool
+        ensures { result ≡ is_revoked (facts_of self.now) token.now digest.now client }
+    {
+        families::is_revoked(&self.store, token, digest, client)
+    }
+
+    /// Where the token of a handle stands at the moment: a token is over at its end, a family at its own.
+    pub fn status(&self, now: Moment, handle: &Handle) -> Status<'_>
+        ensures value { result ≡ status_in (facts_of self.now) now handle.now }
+
+        // Live is said of exactly the active access and refresh tokens (RFC 7662, 2.2).
+        ensures live { handle.now.id.kind ≢ kind.Code → (IsLive result ↔ IsActive (facts_of self.now) now handle.now) }
+
+        // A code is never active.
+        ensures code { handle.now.id.kind ≡ kind.Code → ¬ IsActive (facts_of self.now) now handle.now }
+
+        // Nor is a token that its client revoked (RFC 7009, 2.1), or one of a family with a spent grant (RFC 6749, 4.1.2,
+        // 10.4 and 10.5).
+        ensures revoked { IsEnded (map.get (facts_of self.now)) handle.now.id → ¬ IsActive (facts_of self.now) now handle.now }
+        ensures family { FamilyEnds (facts_of self.now) now handle.now }
+    {
+        of_handle(&self.store, now, handle)
+    }
+}

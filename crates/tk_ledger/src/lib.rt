@@ -1,0 +1,30 @@
+//! What a set of facts says of clients, consents and tokens.
+//!
+//! A `Ledger` holds the facts of one region, in a `FactStore`. `add` joins a fact to the set or refuses it. `client` and
+//! `consent` show what was registered and granted, `consent_for` finds the consent for a scope, `revoked` asks for a
+//! revocation, and `status` says where the token of a handle stands at a moment. Every answer is computed afresh from the
+//! facts, by walks over the store, and takes no memory. Facts may come from anyone, in any order: all of these answer for
+//! every set.
+//!
+//! Contracts see a ledger as its set of facts alone. In reading order: `Ledger`, `ClientView`, `ConsentView`, `Status`,
+//! `Standing`, `State`. The definitions are in specs/: `Clients`, `Tokens`, `Status`, `Ends`. The functions of `laws` have
+//! empty bodies: they are laws of these definitions, stated in specs/Laws.antt.
+#![tactic(auto)]
+
+mod clients;
+mod compare;
+mod consents;
+mod families;
+mod laws;
+mod ledger;
+mod status;
+mod tokens;
+
+pub use clients::ClientView;
+pub use consents::ConsentView;
+pub use laws::{
+    death_stays, ended_stays, retired_stays, revoked_inactive, spent_inactive, tests_decide,
+    withdrawn_stays,
+};
+pub use ledger::Ledger;
+pub use status::{Standing, State, Status};
