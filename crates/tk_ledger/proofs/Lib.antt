@@ -1,4 +1,5 @@
 pub mod ClientLaws
+pub mod ConsentLaws
 pub mod FamilyEnds
 pub mod SameLaws
 pub mod StatusLaws

@@ -5,14 +5,16 @@
 --   consent_at       the consent that was given at a dot
 --   is_withdrawn     a withdrawal of it is held
 --   IsLiveConsent    a code's consent was given, and no withdrawal names it; is_live_consent is the test of it
---   IsConsentFor     a live consent includes a scope; consent_for is the least dot of one
+--   IsConsentFor     a live consent includes a scope; IsLeastConsent is the least dot of one, and consent_for finds it
 use Rattle.std.specs.Prelude.{◌≡◌, ◌≢◌, ℕ, Bool, false, ◌&&◌, ◌==◌, not, List, Option, Some, None, is_some}
 use Rattle.std.specs.Option.{option_and_then, option_map}
 use Rattle.std.specs.List.{list_any, list_all, find}
 use Rattle.std.specs.Str.{bytes_eq}
+use Rattle.std.specs.declared.cmp.Ordering.TheVariants.{Less}
 use Rattle.std.specs.FinMap as map
 use Rattle.tk_scope.specs.Scope.{IsWithin, tokens_of}
 use Rattle.tk_handle.specs.declared.dot.Dot.{Dot}
+use Rattle.tk_handle.specs.Dot.{dot_cmp}
 use Rattle.tk_fact.specs.declared.body.Body.{Body}
 use Rattle.tk_fact.specs.declared.body.Body.TheVariants.{ClientAdded, ClientRetired, ConsentGiven, ConsentWithdrawn}
 use Rattle.tk_fact.specs.declared.client_added.ClientAdded as added
@@ -96,6 +98,20 @@ pub record IsLiveConsent (body_at : Dot → Option Body) (code : issued.CodeIssu
 
 -- ---- the consent for a scope
 
+-- at the dot the subject gave a consent to the client, its scope includes the scope, and no withdrawal names it
+pub record IsConsentFor (body_at : Dot → Option Body) (client : Dot) (subject scope : List ℕ) (d : Dot) : Type 0 where
+  pub consent : given.ConsentGiven
+  pub given : body_at d ≡ Some (ConsentGiven consent)
+  pub client_is : consent.client ≡ client
+  pub subject_is : consent.subject ≡ subject
+  pub includes : IsWithin scope consent.scope
+  pub unwithdrawn : (q : Dot) (w : withdrawn.ConsentWithdrawn) → body_at q ≡ Some (ConsentWithdrawn w) → w.consent ≢ d
+
+-- the least dot of one, or none where there is none
+abbrev pub IsLeastConsent : (Dot → Option Body) → Dot → List ℕ → List ℕ → Option Dot → Type 0
+IsLeastConsent body_at client subject scope None = (d : Dot) → ¬ IsConsentFor body_at client subject scope d
+IsLeastConsent body_at client subject scope (Some d) = IsConsentFor body_at client subject scope d × ((q : Dot) → IsConsentFor body_at client subject scope q → dot_cmp q d ≢ Less)
+
 -- each token of the scope is one of the other's, as a test (RFC 6749, 3.3)
 abbrev pub is_within : List ℕ → List ℕ → Bool
 is_within scope other = list_all (λ t. list_any (bytes_eq t) (tokens_of other)) (tokens_of scope)
@@ -108,15 +124,6 @@ grants client subject scope (Some consent) = gives client subject (Some consent)
 abbrev pub consents : FactSet → Dot → List ℕ → List ℕ → Dot × Body → Bool
 consents F client subject scope f = grants client subject scope (consent_in f.1) && not (is_withdrawn F f.0)
 
--- the least dot of one
+-- the first of these, by dot
 abbrev pub consent_for : FactSet → Dot → List ℕ → List ℕ → Option Dot
 consent_for F client subject scope = option_map dot_of (find (consents F client subject scope) (map.entries F))
-
--- at the dot the subject gave a consent to the client, its scope includes the scope, and no withdrawal names it
-pub record IsConsentFor (body_at : Dot → Option Body) (client : Dot) (subject scope : List ℕ) (d : Dot) : Type 0 where
-  pub consent : given.ConsentGiven
-  pub given : body_at d ≡ Some (ConsentGiven consent)
-  pub client_is : consent.client ≡ client
-  pub subject_is : consent.subject ≡ subject
-  pub includes : IsWithin scope consent.scope
-  pub unwithdrawn : (q : Dot) (w : withdrawn.ConsentWithdrawn) → body_at q ≡ Some (ConsentWithdrawn w) → w.consent ≢ d

@@ -27,7 +27,7 @@ ghost use Rattle.tk_store.specs.Store.{facts_of};
 ghost use Rattle.tk_ledger.specs.Clients as clients_of;
 ghost use Rattle.tk_ledger.specs.Ends.{FamilyEnds};
 ghost use Rattle.tk_ledger.specs.Status.{status_in, IsActive, IsLive};
-ghost use Rattle.tk_ledger.specs.Tokens.{is_revoked, IsEnded};
+ghost use Rattle.tk_ledger.specs.Tokens.{is_revoked, IsEnded, IsRevoked};
 ghost use Rattle.tk_ledger.specs.Views.{client_view, consent_view};
 
 use crate::clients::{ClientView, view_client};
@@ -81,7 +81,8 @@ impl Ledger {
 
     /// The least dot of a live consent of the client and subject whose scope includes the scope, if any.
     pub fn consent_for(&self, client: Dot, subject: &Text, scope: &Scope) -> Option<Dot>
-        ensures { result ≡ clients_of.consent_for (facts_of self.now) client subject.now scope.now }
+        ensures value { result ≡ clients_of.consent_for (facts_of self.now) client subject.now scope.now }
+        ensures least { clients_of.IsLeastConsent (map.get (facts_of self.now)) client subject.now scope.now result }
     {
         find_consent(&self.store, client, subject, scope)
     }
@@ -89,7 +90,8 @@ impl Ledger {
     /// Whether a fact says that the client revoked the token of this digest, SHA-256 of a handle (RFC 7009, 2.1). Whether
     /// such a token was minted, and for that client, isn't asked.
     pub fn revoked(&self, token: &TokenId, digest: &[u8; 32], client: Dot) -> bool
-        ensures { result ≡ is_revoked (facts_of self.now) token.now digest.now client }
+        ensures value { result ≡ is_revoked (facts_of self.now) token.now digest.now client }
+        ensures meaning { IsTrue result ↔ IsRevoked (map.get (facts_of self.now)) token.now digest.now client }
     {
         families::is_revoked(&self.store, token, digest, client)
     }

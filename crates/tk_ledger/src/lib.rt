@@ -28,3 +28,6 @@ pub use laws::{
 };
 pub use ledger::Ledger;
 pub use status::{Standing, State, Status};
+
+#[cfg(test)]
+mod tests;

@@ -1,0 +1,450 @@
+mod facts;
+
+use crate::{Ledger, State, Status};
+use facts::{
+    Place, client_added, client_retired, code_issued, code_redeemed, consent_given,
+    consent_withdrawn, dot, handle, moment, refresh_rotated, reuse_seen, token_revoked,
+};
+use std::alloc::Global;
+use std::test::Fail;
+use tk_fact::{Fact, Sort, Text};
+use tk_handle::{Handle, Kind};
+use tk_scope::Scope;
+use tk_store::{AddError, Added};
+
+const BOTH: &[u8] = b"read write";
+
+fn add(alloc: Global, ledger: &mut Ledger, bytes: &[u8]) -> Result<Added, Fail> {
+    let fact = Fact::read(alloc, bytes)?;
+    match fact.check() {
+        Ok(()) => match ledger.add(fact) {
+            Ok(added) => Ok(added),
+            Err(AddError::Conflict) => Err("another body is there")?,
+            Err(AddError::Memory) => Err("no memory")?,
+        },
+        Err(_) => Err("a fact that was read breaks a rule")?,
+    }
+}
+
+// The facts, added in the order that has this number: each is one of those left, told by a remainder.
+fn in_order(alloc: Global, facts: &[Vec<u8>], order: usize) -> Result<Ledger, Fail> {
+    let mut ledger = Ledger::new(alloc);
+    let mut left: Vec<&[u8]> = Vec::new(alloc);
+    for fact in facts {
+        left.push(fact.as_slice())?;
+    }
+    let mut order = order;
+    for count in (1..=facts.len()).rev() {
+        let at = order % count;
+        order /= count;
+        if at < left.len() {
+            let fact = left.remove(at);
+            add(alloc, &mut ledger, fact)?;
+        }
+    }
+    Ok(ledger)
+}
+
+// What a status says in short.
+#[derive(Clone, Copy, Debug, PartialEq, Eq)]
+enum Said {
+    Unseen,
+    Wrong,
+    Broken(u64),
+    Known(State),
+}
+
+fn in_short(ledger: &Ledger, now: u64, handle: &Handle) -> Result<Said, Fail> {
+    let now = moment(now)?;
+    Ok(match ledger.status(now, handle) {
+        Status::Unseen => Said::Unseen,
+        Status::Wrong => Said::Wrong,
+        Status::Broken(end) => Said::Broken(end.seconds()),
+        Status::Known(standing) => Said::Known(standing.state),
+    })
+}
+
+type Row = (Handle, Said);
+
+// At 1,020, whatever the order in which the facts came.
+fn say_in_every_order(
+    alloc: Global,
+    facts: &[Vec<u8>],
+    orders: usize,
+    rows: &[Row],
+) -> Result<bool, Fail> {
+    for order in 0..orders {
+        let ledger = in_order(alloc, facts, order)?;
+        if ledger.store().len() != facts.len() as u64 {
+            return Ok(false);
+        }
+        for (handle, want) in rows {
+            if in_short(&ledger, 1_020, handle)? != *want {
+                return Ok(false);
+            }
+        }
+    }
+    Ok(true)
+}
+
+const DEAD: Said = Said::Known(State::Dead);
+
+const LIVE: Said = Said::Known(State::Live);
+
+const USED: Said = Said::Known(State::Used);
+
+const ENDED: Said = Said::Known(State::Ended);
+
+const CLIENT: Place = (1, 1);
+
+const CONSENT: Place = (1, 2);
+
+fn code() -> Result<Handle, Fail> {
+    handle((1, 3), Kind::Code, 24)
+}
+
+// A client, a consent and a code.
+fn before_grants(alloc: Global) -> Result<Vec<Vec<u8>>, Fail> {
+    let code = code()?;
+    let mut facts = Vec::new(alloc);
+    facts.push(client_added(alloc, CLIENT)?)?;
+    facts.push(consent_given(alloc, CONSENT, CLIENT, BOTH)?)?;
+    facts.push(code_issued(alloc, &code, CLIENT, CONSENT)?)?;
+    Ok(facts)
+}
+
+#[test]
+fn a_code_redeemed_in_two_regions_kills_its_family(rt: HostRuntime) -> Result<(), Fail> {
+    let alloc = rt.alloc();
+    let rows = [
+        (code()?, DEAD),
+        (handle((1, 4), Kind::Access, 42)?, DEAD),
+        (handle((1, 4), Kind::Refresh, 45)?, DEAD),
+        (handle((2, 1), Kind::Access, 48)?, DEAD),
+        (handle((2, 1), Kind::Refresh, 51)?, DEAD),
+    ];
+    let mut facts = before_grants(alloc)?;
+    facts.push(code_redeemed(alloc, (1, 4), (1, 3), (42, 45))?)?;
+    facts.push(code_redeemed(alloc, (2, 1), (1, 3), (48, 51))?)?;
+    assert!(rt; say_in_every_order(alloc, &facts, 120, &rows)?);
+    Ok(())
+}
+
+#[test]
+fn a_code_redeemed_once_is_used(rt: HostRuntime) -> Result<(), Fail> {
+    let alloc = rt.alloc();
+    let rows = [
+        (code()?, USED),
+        (handle((1, 4), Kind::Access, 42)?, LIVE),
+        (handle((1, 4), Kind::Refresh, 45)?, LIVE),
+        (handle((2, 1), Kind::Access, 48)?, Said::Unseen),
+    ];
+    let mut facts = before_grants(alloc)?;
+    facts.push(code_redeemed(alloc, (1, 4), (1, 3), (42, 45))?)?;
+    assert!(rt; say_in_every_order(alloc, &facts, 24, &rows)?);
+    Ok(())
+}
+
+#[test]
+fn a_token_refreshed_in_two_regions_kills_its_family(rt: HostRuntime) -> Result<(), Fail> {
+    let alloc = rt.alloc();
+    let rows = [
+        (code()?, DEAD),
+        (handle((1, 4), Kind::Access, 36)?, DEAD),
+        (handle((1, 4), Kind::Refresh, 39)?, DEAD),
+        (handle((1, 5), Kind::Access, 54)?, DEAD),
+        (handle((1, 5), Kind::Refresh, 57)?, DEAD),
+        (handle((2, 1), Kind::Access, 60)?, DEAD),
+        (handle((2, 1), Kind::Refresh, 63)?, DEAD),
+    ];
+    let mut facts = before_grants(alloc)?;
+    facts.push(code_redeemed(alloc, (1, 4), (1, 3), (36, 39))?)?;
+    facts.push(refresh_rotated(alloc, (1, 5), ((1, 4), 1), (54, 57))?)?;
+    facts.push(refresh_rotated(alloc, (2, 1), ((1, 4), 1), (60, 63))?)?;
+    assert!(rt; say_in_every_order(alloc, &facts, 720, &rows)?);
+    Ok(())
+}
+
+#[test]
+fn a_token_refreshed_once_is_used(rt: HostRuntime) -> Result<(), Fail> {
+    let alloc = rt.alloc();
+    let rows = [
+        (handle((1, 4), Kind::Access, 36)?, LIVE),
+        (handle((1, 4), Kind::Refresh, 39)?, USED),
+        (handle((1, 5), Kind::Access, 54)?, LIVE),
+        (handle((1, 5), Kind::Refresh, 57)?, LIVE),
+    ];
+    let mut facts = before_grants(alloc)?;
+    facts.push(code_redeemed(alloc, (1, 4), (1, 3), (36, 39))?)?;
+    facts.push(refresh_rotated(alloc, (1, 5), ((1, 4), 1), (54, 57))?)?;
+    assert!(rt; say_in_every_order(alloc, &facts, 120, &rows)?);
+    Ok(())
+}
+
+#[test]
+fn rotations_wait_for_their_parent(rt: HostRuntime) -> Result<(), Fail> {
+    let alloc = rt.alloc();
+    let rows = [
+        (handle((1, 4), Kind::Access, 36)?, Said::Unseen),
+        (handle((1, 5), Kind::Access, 54)?, Said::Broken(4_610)),
+        (handle((2, 1), Kind::Refresh, 63)?, Said::Broken(87_410)),
+    ];
+    let mut facts = Vec::new(alloc);
+    facts.push(refresh_rotated(alloc, (1, 5), ((1, 4), 1), (54, 57))?)?;
+    facts.push(refresh_rotated(alloc, (2, 1), ((1, 4), 1), (60, 63))?)?;
+    assert!(rt; say_in_every_order(alloc, &facts, 2, &rows)?);
+    Ok(())
+}
+
+// Two clients, the first one's tokens, and a revocation of one of them that is made where no token is known yet.
+fn revoked_in_advance(alloc: Global, token: &Handle, client: Place) -> Result<Vec<Vec<u8>>, Fail> {
+    let mut facts = before_grants(alloc)?;
+    facts.push(client_added(alloc, (1, 4))?)?;
+    facts.push(code_redeemed(alloc, (1, 5), (1, 3), (48, 51))?)?;
+    facts.push(token_revoked(alloc, (2, 1), token, client)?)?;
+    Ok(facts)
+}
+
+#[test]
+fn a_client_revokes_its_own_tokens_in_advance(rt: HostRuntime) -> Result<(), Fail> {
+    let alloc = rt.alloc();
+    let access = handle((1, 5), Kind::Access, 48)?;
+    let refresh = handle((1, 5), Kind::Refresh, 51)?;
+    let by_another = revoked_in_advance(alloc, &access, (1, 4))?;
+    let rows = [(code()?, USED), (access, LIVE), (refresh, LIVE)];
+    assert!(rt; say_in_every_order(alloc, &by_another, 720, &rows)?);
+    let by_its_own = revoked_in_advance(alloc, &access, CLIENT)?;
+    let rows = [(code()?, USED), (access, ENDED), (refresh, LIVE)];
+    assert!(rt; say_in_every_order(alloc, &by_its_own, 720, &rows)?);
+    Ok(())
+}
+
+#[test]
+fn a_revoked_refresh_token_kills_its_family(rt: HostRuntime) -> Result<(), Fail> {
+    let alloc = rt.alloc();
+    let access = handle((1, 5), Kind::Access, 48)?;
+    let refresh = handle((1, 5), Kind::Refresh, 51)?;
+    let by_its_own = revoked_in_advance(alloc, &refresh, CLIENT)?;
+    let rows = [(code()?, DEAD), (access, DEAD), (refresh, DEAD)];
+    assert!(rt; say_in_every_order(alloc, &by_its_own, 720, &rows)?);
+    let guessed = handle((1, 5), Kind::Refresh, 52)?;
+    let of_a_guess = revoked_in_advance(alloc, &guessed, CLIENT)?;
+    let rows = [(access, LIVE), (refresh, LIVE), (guessed, Said::Wrong)];
+    assert!(rt; say_in_every_order(alloc, &of_a_guess, 720, &rows)?);
+    Ok(())
+}
+
+#[test]
+fn a_reuse_that_was_seen_kills_its_family(rt: HostRuntime) -> Result<(), Fail> {
+    let alloc = rt.alloc();
+    let code = code()?;
+    let access = handle((1, 4), Kind::Access, 42)?;
+    let mut facts = before_grants(alloc)?;
+    facts.push(code_redeemed(alloc, (1, 4), (1, 3), (42, 45))?)?;
+    facts.push(reuse_seen(alloc, (2, 1), &code)?)?;
+    let rows = [(code, DEAD), (access, DEAD)];
+    assert!(rt; say_in_every_order(alloc, &facts, 120, &rows)?);
+    Ok(())
+}
+
+// The ledger of a family with one rotation, and one fact more.
+fn after(alloc: Global, last: &[u8]) -> Result<Ledger, Fail> {
+    let mut facts = before_grants(alloc)?;
+    facts.push(code_redeemed(alloc, (1, 4), (1, 3), (42, 45))?)?;
+    facts.push(refresh_rotated(alloc, (1, 5), ((1, 4), 1), (54, 57))?)?;
+    let mut ledger = in_order(alloc, &facts, 0)?;
+    add(alloc, &mut ledger, last)?;
+    Ok(ledger)
+}
+
+#[test]
+fn what_was_retired_or_withdrawn_serves_no_more(rt: HostRuntime) -> Result<(), Fail> {
+    let alloc = rt.alloc();
+    let token = handle((1, 5), Kind::Access, 54)?;
+    let withdrawn = Said::Known(State::Withdrawn);
+    let retired = after(alloc, &client_retired(alloc, (2, 1), CLIENT)?)?;
+    assert_eq!(rt; in_short(&retired, 1_020, &token)?, withdrawn);
+    let revoked = after(alloc, &consent_withdrawn(alloc, (2, 1), CONSENT)?)?;
+    assert_eq!(rt; in_short(&revoked, 1_020, &token)?, withdrawn);
+    let another = after(alloc, &client_retired(alloc, (2, 1), (7, 7))?)?;
+    assert_eq!(rt; in_short(&another, 1_020, &token)?, LIVE);
+    Ok(())
+}
+
+// From its end on a token is past, and from the family's end on it is over.
+#[test]
+fn ends_begin_at_their_moment(rt: HostRuntime) -> Result<(), Fail> {
+    let alloc = rt.alloc();
+    let access = handle((1, 5), Kind::Access, 54)?;
+    let refresh = handle((1, 5), Kind::Refresh, 57)?;
+    let used = handle((1, 4), Kind::Refresh, 45)?;
+    let ledger = after(alloc, &client_added(alloc, (2, 1))?)?;
+    let (past, over) = (Said::Known(State::Past), Said::Known(State::Over));
+    assert_eq!(rt; in_short(&ledger, 4_609, &access)?, LIVE);
+    assert_eq!(rt; in_short(&ledger, 4_610, &access)?, past);
+    assert_eq!(rt; in_short(&ledger, 87_409, &refresh)?, LIVE);
+    assert_eq!(rt; in_short(&ledger, 87_410, &refresh)?, past);
+    assert_eq!(rt; in_short(&ledger, 89_999, &refresh)?, past);
+    assert_eq!(rt; in_short(&ledger, 90_000, &refresh)?, over);
+    assert_eq!(rt; in_short(&ledger, 89_999, &used)?, USED);
+    assert_eq!(rt; in_short(&ledger, 90_000, &used)?, over);
+    assert_eq!(rt; in_short(&ledger, 253_402_300_799, &access)?, over);
+    Ok(())
+}
+
+#[test]
+fn a_standing_tells_what_was_minted(rt: HostRuntime) -> Result<(), Fail> {
+    let alloc = rt.alloc();
+    let ledger = after(alloc, &client_added(alloc, (2, 1))?)?;
+    let (now, token) = (moment(1_020)?, handle((1, 5), Kind::Access, 54)?);
+    let (client, code) = (dot(CLIENT)?, dot((1, 3))?);
+    match ledger.status(now, &token) {
+        Status::Known(standing) => {
+            assert!(rt; standing.client == client && standing.code == code);
+            assert!(rt; standing.subject.as_bytes() == b"ann".as_slice());
+            assert_eq!(rt; standing.scope.text(), "read write");
+            assert_eq!(rt; standing.start.seconds(), 1_010);
+            assert_eq!(rt; standing.expiry.seconds(), 4_610);
+            assert_eq!(rt; standing.family_end.seconds(), 90_000);
+            assert_eq!(rt; standing.generation, 1);
+            assert_eq!(rt; standing.state, State::Live);
+        }
+        _ => assert!(rt; false, "known"),
+    }
+    Ok(())
+}
+
+#[test]
+fn a_handle_is_wrong_by_its_kind_or_its_digest(rt: HostRuntime) -> Result<(), Fail> {
+    let alloc = rt.alloc();
+    let ledger = after(alloc, &client_added(alloc, (2, 1))?)?;
+    for (place, kind, word, want) in [
+        ((1, 4), Kind::Access, 42, LIVE),
+        ((1, 4), Kind::Access, 43, Said::Wrong),
+        ((1, 4), Kind::Refresh, 42, Said::Wrong),
+        ((1, 4), Kind::Code, 42, Said::Wrong),
+        ((1, 3), Kind::Access, 24, Said::Wrong),
+        ((1, 1), Kind::Code, 24, Said::Wrong),
+        ((9, 9), Kind::Code, 24, Said::Unseen),
+    ] {
+        let handle = handle(place, kind, word)?;
+        assert_eq!(rt; in_short(&ledger, 1_020, &handle)?, want, "{handle:?}");
+    }
+    Ok(())
+}
+
+// Rotations in a ring, one of a generation that doesn't fit, a redemption of a client, and uses that differ in generation.
+#[test]
+fn hostile_facts_are_broken(rt: HostRuntime) -> Result<(), Fail> {
+    let alloc = rt.alloc();
+    let mut facts = before_grants(alloc)?;
+    facts.push(refresh_rotated(alloc, (8, 1), ((8, 2), 2), (1, 2))?)?;
+    facts.push(refresh_rotated(alloc, (8, 2), ((8, 1), 1), (3, 4))?)?;
+    facts.push(code_redeemed(alloc, (8, 3), CLIENT, (5, 6))?)?;
+    let rows = [
+        (code()?, LIVE),
+        (handle((8, 1), Kind::Access, 1)?, Said::Broken(4_610)),
+        (handle((8, 2), Kind::Refresh, 4)?, Said::Broken(87_410)),
+        (handle((8, 3), Kind::Access, 5)?, Said::Broken(4_610)),
+    ];
+    assert!(rt; say_in_every_order(alloc, &facts, 720, &rows)?);
+    Ok(())
+}
+
+#[test]
+fn uses_count_whatever_their_generation(rt: HostRuntime) -> Result<(), Fail> {
+    let alloc = rt.alloc();
+    let refresh = handle((1, 4), Kind::Refresh, 45)?;
+    let stray = handle((8, 1), Kind::Access, 1)?;
+    let mut facts = before_grants(alloc)?;
+    facts.push(code_redeemed(alloc, (1, 4), (1, 3), (42, 45))?)?;
+    facts.push(refresh_rotated(alloc, (8, 1), ((1, 4), 7), (1, 2))?)?;
+    let rows = [(refresh, USED), (stray, Said::Broken(4_610))];
+    assert!(rt; say_in_every_order(alloc, &facts, 120, &rows)?);
+    facts.push(refresh_rotated(alloc, (1, 5), ((1, 4), 1), (54, 57))?)?;
+    let rows = [(refresh, DEAD), (stray, Said::Broken(4_610))];
+    assert!(rt; say_in_every_order(alloc, &facts, 720, &rows)?);
+    Ok(())
+}
+
+#[test]
+fn a_client_and_a_consent_are_shown(rt: HostRuntime) -> Result<(), Fail> {
+    let alloc = rt.alloc();
+    let ledger = after(alloc, &client_retired(alloc, (2, 1), CLIENT)?)?;
+    let (client, consent) = (dot(CLIENT)?, dot(CONSENT)?);
+    let shown = ledger.client(client).ok_or("a client")?;
+    assert!(rt; matches!(shown.sort, Sort::Public) && !shown.live);
+    assert_eq!(rt; shown.scope.text(), "read write");
+    assert_eq!(rt; shown.redirects.uris().len(), 1);
+    let given = ledger.consent(consent).ok_or("a consent")?;
+    assert!(rt; given.client == client && given.live);
+    assert!(rt; given.subject.as_bytes() == b"ann".as_slice());
+    assert_eq!(rt; given.scope.text(), "read write");
+    assert!(rt; ledger.client(consent).is_none() && ledger.consent(client).is_none());
+    Ok(())
+}
+
+// Consents at 1:2 for `read`, at 1:3 and 1:5 for `read write`; that at 1:3 is withdrawn.
+fn consents(alloc: Global) -> Result<Ledger, Fail> {
+    let mut facts = Vec::new(alloc);
+    facts.push(client_added(alloc, CLIENT)?)?;
+    facts.push(consent_given(alloc, (1, 5), CLIENT, BOTH)?)?;
+    facts.push(consent_given(alloc, (1, 3), CLIENT, BOTH)?)?;
+    facts.push(consent_given(alloc, (1, 2), CLIENT, b"read")?)?;
+    facts.push(consent_withdrawn(alloc, (1, 4), (1, 3))?)?;
+    in_order(alloc, &facts, 0)
+}
+
+#[test]
+fn the_least_consent_that_includes_the_scope_is_found(rt: HostRuntime) -> Result<(), Fail> {
+    let alloc = rt.alloc();
+    let (first, last) = (dot((1, 2))?, dot((1, 5))?);
+    let client = dot(CLIENT)?;
+    let ann = Text::new(alloc, b"ann")?;
+    let ledger = consents(alloc)?;
+    let read = Scope::read(alloc, b"read")?;
+    assert!(rt; ledger.consent_for(client, &ann, &read) == Some(first));
+    let both = Scope::read(alloc, b"write read")?;
+    assert!(rt; ledger.consent_for(client, &ann, &both) == Some(last));
+    let more = Scope::read(alloc, b"admin read")?;
+    assert!(rt; ledger.consent_for(client, &ann, &more).is_none());
+    assert!(rt; ledger.consent_for(first, &ann, &read).is_none());
+    let bob = Text::new(alloc, b"bob")?;
+    assert!(rt; ledger.consent_for(client, &bob, &read).is_none());
+    Ok(())
+}
+
+#[test]
+fn a_revocation_is_told_by_token_digest_and_client(rt: HostRuntime) -> Result<(), Fail> {
+    let alloc = rt.alloc();
+    let token = handle((1, 5), Kind::Access, 48)?;
+    let other = handle((1, 5), Kind::Access, 49)?;
+    let (client, another) = (dot(CLIENT)?, dot((1, 4))?);
+    let facts = revoked_in_advance(alloc, &token, CLIENT)?;
+    let ledger = in_order(alloc, &facts, 0)?;
+    assert!(rt; ledger.revoked(&token.id, &token.digest(), client));
+    assert!(rt; !ledger.revoked(&token.id, &token.digest(), another));
+    assert!(rt; !ledger.revoked(&token.id, &other.digest(), client));
+    let refresh = handle((1, 5), Kind::Refresh, 48)?;
+    assert!(rt; !ledger.revoked(&refresh.id, &token.digest(), client));
+    Ok(())
+}
+
+#[test]
+fn a_dot_holds_one_body(rt: HostRuntime) -> Result<(), Fail> {
+    let alloc = rt.alloc();
+    let facts = before_grants(alloc)?;
+    let mut ledger = in_order(alloc, &facts, 0)?;
+    let again = client_added(alloc, CLIENT)?;
+    assert!(rt; matches!(add(alloc, &mut ledger, &again)?, Added::Held));
+    let other = Fact::read(alloc, &client_retired(alloc, CLIENT, CLIENT)?)?;
+    match other.check() {
+        Ok(()) => {
+            let added = ledger.add(other);
+            assert!(rt; matches!(added, Err(AddError::Conflict)));
+        }
+        Err(_) => assert!(rt; false, "a fact that keeps the rules"),
+    }
+    assert_eq!(rt; ledger.store().len(), 3);
+    Ok(())
+}
