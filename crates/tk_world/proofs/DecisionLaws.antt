@@ -19,7 +19,7 @@ use Rattle.tk_world.specs.declared.administration.Decision.{Decision}
 use Rattle.tk_world.specs.declared.request.Request as request
 use Rattle.tk_world.specs.declared.request.Request.TheVariants.{AddClient, ShowClient, Retire}
 use Rattle.tk_world.specs.Administration.{refused, is_space, registered, registration_with, registration_by, registration_of, showing_at, showing_by, retirement_at, retirement_by}
-use Rattle.tk_world.specs.Clients.{client_at, is_retired}
+use Rattle.tk_ledger.specs.Clients.{client_at, is_retired}
 use Rattle.tk_world.specs.Decision.{decision_of, capped, capped_by, decided_at}
 
 -- the fact made, if any, passes the check

@@ -1,5 +1,4 @@
 pub mod BundleLaws
-pub mod ClientLaws
 pub mod ConsistencyLaws
 pub mod DecisionLaws
 pub mod PartLaws

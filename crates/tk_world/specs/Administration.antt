@@ -15,7 +15,7 @@ use Rattle.tk_store.specs.FactSet.{FactSet}
 use Rattle.tk_world.specs.declared.administration.Decision.{Decision}
 use Rattle.tk_world.specs.ReplyFields.{ReplyFields}
 use Rattle.tk_world.specs.Reply.{error_reply, client_reply, shown_reply}
-use Rattle.tk_world.specs.Clients.{client_at, is_retired, is_live_client}
+use Rattle.tk_ledger.specs.Clients.{client_at, is_retired, is_live_client}
 
 -- a reply, and no fact
 abbrev pub answered : ReplyFields → Decision

@@ -1,7 +1,6 @@
 -- The words of this crate, in reading order:
 --   SettingsFields, ReplyFields   what contracts see of settings and replies
 --   Reply            the bytes of replies
---   Clients          client_at, is_retired, IsLiveClient
 --   Administration   what a request is answered, and the fact that it makes: ordered cases
 --   Decision         decision_of, over all requests; capped, the serial cap outside
 --   Bundles          facts_in_bytes, the facts of a bundle; IsReadable
@@ -10,7 +9,6 @@
 --   Parts            what the parts of a step may end with
 pub mod Administration
 pub mod Bundles
-pub mod Clients
 pub mod Decision
 pub mod Parts
 pub mod Reply

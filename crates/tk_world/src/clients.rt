@@ -2,7 +2,7 @@ ghost use Rattle.std.specs.Prelude.{◌≡◌, ◌↔◌, IsTrue};
 ghost use Rattle.std.specs.Option.{option_copied};
 ghost use Rattle.std.specs.FinMap as sets;
 ghost use Rattle.tk_store.specs.Store.{facts_of};
-ghost use Rattle.tk_world.specs.Clients as spec;
+ghost use Rattle.tk_ledger.specs.Clients as spec;
 
 use tk_fact::{Body, ClientAdded, Fact};
 use tk_handle::Dot;

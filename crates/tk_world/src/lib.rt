@@ -5,8 +5,8 @@
 //! what it has seen. Bundles may be lost, repeated, late or out of order.
 //!
 //! In reading order: `Settings`, `Request`, `Event`, `Outcome`, `Reply`, `World`. The definitions are in specs/:
-//! `Clients` and `Administration` say what a request is answered, `State` and `World` what
-//! a step and a run are. The crate reads no clock and draws no words: they come with each event.
+//! `Administration` says what a request is answered, over the clients of tk_ledger, `State` and `World` what a step
+//! and a run are. The crate reads no clock and draws no words: they come with each event.
 #![tactic(auto)]
 
 mod administration;

@@ -1,5 +1,5 @@
 use Rattle.std.proofs.Common.{sym, ◌∙◌}
-use Rattle.tk_world.proofs.ClientLaws.{live_sound, live_complete}
+use Rattle.tk_ledger.proofs.ClientLaws.{live_sound, live_complete}
 use Rattle.tk_world.proofs.clients.is_live.Goals as goal
 
 pub returns-clause-meaning : goal.returns-clause-meaning
