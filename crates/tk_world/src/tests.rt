@@ -84,75 +84,69 @@ fn registered(alloc: Global, scope: &str, redirects: &str) -> Result<Vec<Outcome
     Ok(world.run(events.as_slice())?)
 }
 
+const ADDED: &str = "{\"client_id\":\"c1-1\"}";
+
+const BAD_REQUEST: &str = "{\"error\":\"invalid_request\"}";
+
+const BAD_SCOPE: &str = "{\"error\":\"invalid_scope\"}";
+
+const URI: &str = "https://app.example/cb";
+
+// Scopes, and how their registration is answered.
+const SCOPES: [(&str, &str, u16, &str); 4] = [
+    ("one token", "read", 201, ADDED),
+    ("doubled tokens", "write read read", 201, ADDED),
+    ("no scope", "", 400, BAD_REQUEST),
+    ("two spaces", "read  write", 400, BAD_SCOPE),
+];
+
 #[test]
-fn a_registration_is_read_and_shown(rt: HostRuntime) -> Result<(), Fail> {
+fn a_registered_scope_is_read(rt: HostRuntime) -> Result<(), Fail> {
     let alloc = rt.alloc();
-    let uri = "https://app.example/cb";
-    let rows = [
-        ("one token", "read", uri, 201, "{\"client_id\":\"c1-1\"}"),
-        (
-            "doubled tokens",
-            "write read read",
-            uri,
-            201,
-            "{\"client_id\":\"c1-1\"}",
-        ),
-        ("no scope", "", uri, 400, "{\"error\":\"invalid_request\"}"),
-        (
-            "no list",
-            "read",
-            "",
-            400,
-            "{\"error\":\"invalid_request\"}",
-        ),
-        (
-            "two spaces",
-            "read  write",
-            uri,
-            400,
-            "{\"error\":\"invalid_scope\"}",
-        ),
-        (
-            "a bad scope and a bad list",
-            "\"",
-            "/cb",
-            400,
-            "{\"error\":\"invalid_scope\"}",
-        ),
-        (
-            "a relative URI",
-            "read",
-            "/cb",
-            400,
-            "{\"error\":\"invalid_request\"}",
-        ),
-        (
-            "a fragment",
-            "read",
-            "https://app.example/cb#top",
-            400,
-            "{\"error\":\"invalid_request\"}",
-        ),
-        (
-            "two URIs",
-            "read",
-            "https://app.example/cb https://app.example/",
-            201,
-            "{\"client_id\":\"c1-1\"}",
-        ),
-        (
-            "two spaces in the list",
-            "read",
-            "https://a.example/  https://b.example/",
-            400,
-            "{\"error\":\"invalid_request\"}",
-        ),
-    ];
-    for (name, scope, redirects, status, body) in rows {
-        let outcomes = registered(alloc, scope, redirects)?;
+    for (name, scope, status, body) in SCOPES {
+        let outcomes = registered(alloc, scope, URI)?;
         assert!(rt; is_reply(outcomes.get(1), status, body), "{name}");
     }
-    let outcomes = registered(alloc, "write read read", uri)?;
+    let outcomes = registered(alloc, "\"", "/cb")?;
+    assert!(rt;
+        is_reply(outcomes.get(1), 400, BAD_SCOPE),
+        "the scope is read before the list"
+    );
+    Ok(())
+}
+
+// Lists of URIs, and how their registration is answered.
+const LISTS: [(&str, &str, u16, &str); 5] = [
+    ("no list", "", 400, BAD_REQUEST),
+    ("a relative URI", "/cb", 400, BAD_REQUEST),
+    ("a fragment", "https://app.example/cb#top", 400, BAD_REQUEST),
+    (
+        "two URIs",
+        "https://app.example/cb https://app.example/",
+        201,
+        ADDED,
+    ),
+    (
+        "two spaces",
+        "https://a.example/  https://b.example/",
+        400,
+        BAD_REQUEST,
+    ),
+];
+
+#[test]
+fn registered_uris_are_read(rt: HostRuntime) -> Result<(), Fail> {
+    let alloc = rt.alloc();
+    for (name, redirects, status, body) in LISTS {
+        let outcomes = registered(alloc, "read", redirects)?;
+        assert!(rt; is_reply(outcomes.get(1), status, body), "{name}");
+    }
+    Ok(())
+}
+
+#[test]
+fn a_registration_is_shown(rt: HostRuntime) -> Result<(), Fail> {
+    let outcomes = registered(rt.alloc(), "write read read", URI)?;
     let shown =
         "{\"client_id\":\"c1-1\",\"kind\":\"public\",\"live\":true,\"scope\":\"read write\"}";
     assert!(rt;

@@ -58,66 +58,67 @@ fn a_handle_is_read_back(rt: HostRuntime) -> Result<(), Fail> {
 }
 
 // Variants of the access token's text above.
+const OTHER_TEXTS: [(&str, &str); 16] = [
+    ("empty", ""),
+    (
+        "the last letter dropped",
+        "AQIAAQAAAAAAAAAEAAAAAAAAABgAAAAAAAAAGQAAAAAAAAA",
+    ),
+    (
+        "the last letter as padding",
+        "AQIAAQAAAAAAAAAEAAAAAAAAABgAAAAAAAAAGQAAAAAAAAA=",
+    ),
+    (
+        "padding added",
+        "AQIAAQAAAAAAAAAEAAAAAAAAABgAAAAAAAAAGQAAAAAAAAAa=",
+    ),
+    (
+        "a byte more",
+        "AQIAAQAAAAAAAAAEAAAAAAAAABgAAAAAAAAAGQAAAAAAAAAaAA",
+    ),
+    (
+        "a letter that is none",
+        "AQIAAQAAAAAAAAAEAAAAAAAAABgAAAAAAAAAGQAAAAAAAAA.",
+    ),
+    (
+        "a space before",
+        " QIAAQAAAAAAAAAEAAAAAAAAABgAAAAAAAAAGQAAAAAAAAAa",
+    ),
+    (
+        "a plus for a dash",
+        "AQEAAQAAAAAAAAAD+-------------------------------",
+    ),
+    (
+        "a slash for a low line",
+        "AQP/_3____________________8AAAAAAAAAAP__________",
+    ),
+    (
+        "version 0",
+        "AAIAAQAAAAAAAAAEAAAAAAAAABgAAAAAAAAAGQAAAAAAAAAa",
+    ),
+    (
+        "version 2",
+        "AgIAAQAAAAAAAAAEAAAAAAAAABgAAAAAAAAAGQAAAAAAAAAa",
+    ),
+    ("kind 0", "AQAAAQAAAAAAAAAEAAAAAAAAABgAAAAAAAAAGQAAAAAAAAAa"),
+    ("kind 4", "AQQAAQAAAAAAAAAEAAAAAAAAABgAAAAAAAAAGQAAAAAAAAAa"),
+    (
+        "region 0",
+        "AQIAAAAAAAAAAAAEAAAAAAAAABgAAAAAAAAAGQAAAAAAAAAa",
+    ),
+    (
+        "serial 0",
+        "AQIAAQAAAAAAAAAAAAAAAAAAABgAAAAAAAAAGQAAAAAAAAAa",
+    ),
+    (
+        "a serial above the greatest",
+        "AQIAAYAAAAAAAAAAAAAAAAAAABgAAAAAAAAAGQAAAAAAAAAa",
+    ),
+];
+
 #[test]
 fn other_texts_are_no_handles(rt: HostRuntime) {
-    let rows = [
-        ("empty", ""),
-        (
-            "the last letter dropped",
-            "AQIAAQAAAAAAAAAEAAAAAAAAABgAAAAAAAAAGQAAAAAAAAA",
-        ),
-        (
-            "the last letter as padding",
-            "AQIAAQAAAAAAAAAEAAAAAAAAABgAAAAAAAAAGQAAAAAAAAA=",
-        ),
-        (
-            "padding added",
-            "AQIAAQAAAAAAAAAEAAAAAAAAABgAAAAAAAAAGQAAAAAAAAAa=",
-        ),
-        (
-            "a byte more",
-            "AQIAAQAAAAAAAAAEAAAAAAAAABgAAAAAAAAAGQAAAAAAAAAaAA",
-        ),
-        (
-            "a letter that is none",
-            "AQIAAQAAAAAAAAAEAAAAAAAAABgAAAAAAAAAGQAAAAAAAAA.",
-        ),
-        (
-            "a space before",
-            " QIAAQAAAAAAAAAEAAAAAAAAABgAAAAAAAAAGQAAAAAAAAAa",
-        ),
-        (
-            "a plus for a dash",
-            "AQEAAQAAAAAAAAAD+-------------------------------",
-        ),
-        (
-            "a slash for a low line",
-            "AQP/_3____________________8AAAAAAAAAAP__________",
-        ),
-        (
-            "version 0",
-            "AAIAAQAAAAAAAAAEAAAAAAAAABgAAAAAAAAAGQAAAAAAAAAa",
-        ),
-        (
-            "version 2",
-            "AgIAAQAAAAAAAAAEAAAAAAAAABgAAAAAAAAAGQAAAAAAAAAa",
-        ),
-        ("kind 0", "AQAAAQAAAAAAAAAEAAAAAAAAABgAAAAAAAAAGQAAAAAAAAAa"),
-        ("kind 4", "AQQAAQAAAAAAAAAEAAAAAAAAABgAAAAAAAAAGQAAAAAAAAAa"),
-        (
-            "region 0",
-            "AQIAAAAAAAAAAAAEAAAAAAAAABgAAAAAAAAAGQAAAAAAAAAa",
-        ),
-        (
-            "serial 0",
-            "AQIAAQAAAAAAAAAAAAAAAAAAABgAAAAAAAAAGQAAAAAAAAAa",
-        ),
-        (
-            "a serial above the greatest",
-            "AQIAAYAAAAAAAAAAAAAAAAAAABgAAAAAAAAAGQAAAAAAAAAa",
-        ),
-    ];
-    for (name, text) in rows {
+    for (name, text) in OTHER_TEXTS {
         assert_eq!(rt; Handle::read(text.as_bytes()), None, "{name}");
     }
 }
