@@ -1,5 +1,5 @@
 -- The consent that is found for a scope is the live one with the least dot. Key result: `least_consent`.
-use Rattle.std.proofs.Common.{◌≡◌, ◌≢◌, ◌&&◌, ◌||◌, Bool, true, false, cond, T, not, ℕ, List, [], ◌∷◌, Option, Some, None, refl, sym, ap, subst, ◌∙◌, inl, inr}
+use Rattle.std.proofs.Common.{◌≡◌, ◌≢◌, ◌&&◌, Bool, true, false, T, not, ℕ, List, [], ◌∷◌, Option, Some, None, refl, sym, ap, subst, ◌∙◌, inl, inr}
 use Rattle.std.proofs.lemmas.Bool.{true≢false, cases_Bool, cond-true, cond-false, and_parts, and_from, not-true, not_from_false}
 use Rattle.std.proofs.lemmas.Cmp.{tied_itself}
 use Rattle.std.proofs.lemmas.Slice.Eq.{bytes_eq-Decides}
@@ -19,7 +19,7 @@ use Rattle.tk_fact.specs.declared.body.Body.TheVariants.{ConsentGiven}
 use Rattle.tk_store.specs.FactSet.{FactSet, Facts, AllIn, dot_of}
 use Rattle.tk_store.proofs.EntryLaws.{AllIn-entries}
 use Rattle.tk_store.proofs.PutLaws.{tied, none_is_not_some, some_injective}
-use Rattle.tk_ledger.specs.Clients.{is_same_dot, is_withdrawn, is_within, gives, grants, consents, consent_in, consent_for, IsConsentFor, IsLeastConsent}
+use Rattle.tk_ledger.specs.Clients.{is_same_dot, is_withdrawn, is_within, gives, grants, consents, consent_for, IsConsentFor, IsLeastConsent}
 use Rattle.tk_ledger.proofs.ClientLaws.{unwithdrawn_of, not_withdrawn}
 use Rattle.tk_ledger.proofs.SameLaws.{same_dot-true, same_dot-itself}
 

@@ -1,7 +1,7 @@
 -- Revoked tokens and tokens of families with a spent grant aren't active, at any moment, where those facts are held. Key results:
 --   family_ends, revoked_ends          in the set itself
 --   spent_inactive, revoked_inactive   in every greater one
-use Rattle.std.proofs.Common.{◌≡◌, ◌≢◌, ◌⊎◌, inl, inr, ℕ, true, Option, Some, None, refl, sym, ap, subst, ◌∙◌}
+use Rattle.std.proofs.Common.{◌≡◌, ◌≢◌, ◌⊎◌, inl, inr, ℕ, true, Some, refl, sym, subst, ◌∙◌}
 use Rattle.std.specs.FinMap as map
 use Rattle.tk_handle.specs.declared.dot.Dot.{Dot}
 use Rattle.tk_handle.specs.declared.kind.Kind.{Kind}
@@ -16,7 +16,7 @@ use Rattle.tk_fact.specs.declared.body.Body.{Body}
 use Rattle.tk_fact.specs.declared.body.Body.TheVariants.{ClientAdded, ClientRetired, ConsentGiven, ConsentWithdrawn, CodeIssued, CodeRedeemed, RefreshRotated, TokenRevoked, ReuseSeen}
 use Rattle.tk_fact.specs.Tokens.{MintedFields, minted_of}
 use Rattle.tk_store.specs.FactSet.{FactSet, Within}
-use Rattle.tk_ledger.specs.Tokens.{link_of, links_in, marks_in, minted_in, IsEnded, IsMarked}
+use Rattle.tk_ledger.specs.Tokens.{link_of, links_in, marks_in, minted_in, IsEnded}
 use Rattle.tk_ledger.specs.Status.{IsActive}
 use Rattle.tk_ledger.specs.Ends.{IsSpent, IsSpentUnder}
 use Rattle.tk_ledger.proofs.TokenLaws.{from_some, links_at, links-below, minted-below, marks-complete, IsEnded-below, IsMarked-below}

@@ -1,7 +1,7 @@
 -- A status says Live of exactly the active tokens. Key results:
 --   status_known, known_status   what is behind a standing, and back
 --   live_exactly                 Live and active are the same
-use Rattle.std.proofs.Common.{◌≡◌, ◌≢◌, ◌⊎◌, inl, inr, ℕ, ◌<◌, nat_le, Bool, true, false, ◌&&◌, not, cond, if◌then◌else◌, List, Option, Some, None, refl, sym, ap, subst, ◌∙◌, arith}
+use Rattle.std.proofs.Common.{◌≡◌, ◌≢◌, ◌⊎◌, inl, inr, ℕ, ◌<◌, nat_le, Bool, true, false, ◌&&◌, not, if◌then◌else◌, List, Option, Some, None, refl, sym, ap, subst, ◌∙◌, arith}
 use Rattle.std.proofs.lemmas.Bool.{true≢false, cases_Bool, cond-true, cond-false, false_from_ne_true}
 use Rattle.std.proofs.lemmas.Bool.Decides.{nat_tests}
 use Rattle.std.proofs.lemmas.Slice.Eq.{bytes_eq-Decides}
@@ -24,7 +24,7 @@ use Rattle.tk_ledger.specs.declared.status.Status.{Status}
 use Rattle.tk_ledger.specs.declared.status.Status.TheVariants.{Unseen, Wrong, Broken, Known}
 use Rattle.tk_ledger.specs.StandingFields.{StandingFields}
 use Rattle.tk_ledger.specs.Clients.{is_live_client, is_live_consent}
-use Rattle.tk_ledger.specs.Tokens.{minted_in, links_in, marks_in, code_in, issued_at, is_dead, is_used, is_ended}
+use Rattle.tk_ledger.specs.Tokens.{minted_in, links_in, code_in, issued_at, is_dead, is_used, is_ended}
 use Rattle.tk_ledger.specs.Status.{is_access, state_in, generation_of, by_issued, by_code, by_minted, by_body, status_of, digest_of, status_in, IsActive, IsLive}
 use Rattle.tk_ledger.proofs.ClientLaws.{live_sound, live_complete, consent_sound, consent_complete}
 use Rattle.tk_ledger.proofs.TokenLaws.{from_some, is_dead-sound, is_dead-complete, is_ended-sound, is_ended-complete, is_used-sound, is_used-complete}

@@ -1,11 +1,10 @@
 -- The tests of a fact set mean the relations over what stands at each dot, and what is so stays so when facts are added. Key results:
 --   is_used-sound .. is_dead-complete      the tests and the relations, both ways
 --   IsEnded-below, marks-below, IsDead-below      a greater set keeps them
-use Rattle.std.proofs.Common.{◌≡◌, ◌≢◌, ◌⊎◌, inl, inr, ℕ, Bool, true, false, ◌&&◌, ◌||◌, not, cond, List, Option, Some, None, refl, sym, ap, subst, ◌∙◌}
-use Rattle.std.proofs.lemmas.Bool.{true≢false, cases_Bool, cond-true, cond-false, or_cases, or_left, or_right, and_parts, and_from, not-true, not_from_false}
+use Rattle.std.proofs.Common.{◌≡◌, inl, inr, ℕ, true, ◌&&◌, List, Option, Some, None, refl, sym, ap, ◌∙◌}
+use Rattle.std.proofs.lemmas.Bool.{true≢false, or_cases, or_left, or_right, and_parts, and_from, not-true, not_from_false}
 use Rattle.std.proofs.lemmas.Slice.Eq.{bytes_eq-Decides}
 use Rattle.std.specs.Option.{option_and_then}
-use Rattle.std.specs.Str.{bytes_eq}
 use Rattle.std.specs.FinMap as map
 use Rattle.tk_handle.specs.declared.dot.Dot.{Dot}
 use Rattle.tk_handle.specs.declared.kind.Kind.{Kind}
@@ -14,7 +13,6 @@ use Rattle.tk_handle.specs.declared.token_id.TokenId.{TokenId}
 use Rattle.tk_family.specs.declared.link.Link.{Link}
 use Rattle.tk_family.specs.Families.{IsUnder, IsUsed, IsTwice, IsBad, IsDead, MarksWithin, use_of, grant_at}
 use Rattle.tk_family.specs.Families as families
-use Rattle.tk_family.specs.Walks.{code_of}
 use Rattle.tk_family.proofs.FamilyLaws.{IsUnder-within, IsDead-within}
 use Rattle.tk_family.proofs.WalkLaws.{code_of-sound, code_of-complete}
 use Rattle.tk_fact.specs.declared.body.Body.{Body}
@@ -26,7 +24,7 @@ use Rattle.tk_fact.specs.Tokens.{MintedFields, minted_of, uses_of}
 use Rattle.tk_store.specs.FactSet.{FactSet, Within, any_fact}
 use Rattle.tk_store.proofs.EntryLaws.{Passing, any_fact-held, any_fact-of}
 use Rattle.tk_ledger.specs.Clients.{is_same_dot}
-use Rattle.tk_ledger.specs.Tokens.{link_of, links_in, code_in, issued_at, issued_in, minted_in, is_same_token, is_token, uses, is_used, uses_elsewhere, uses_first, is_twice, IsRevoked, revoked_by, revokes, is_revoked, IsEnded, is_ended_by, is_ended, IsReused, reuse_of, sees_reuse, is_refresh, IsMarked, marks_in, is_bad_grant, is_bad, is_dot, kills, is_dead}
+use Rattle.tk_ledger.specs.Tokens.{link_of, links_in, code_in, issued_at, issued_in, minted_in, is_same_token, uses, is_used, uses_elsewhere, uses_first, is_twice, IsRevoked, revoked_by, revokes, is_revoked, IsEnded, is_ended_by, is_ended, reuse_of, sees_reuse, is_refresh, IsMarked, marks_in, is_bad_grant, kills, is_dead}
 use Rattle.tk_ledger.proofs.SameLaws.{same_dot-true, same_dot-false, same_dot-apart, same_dot-itself, same_token-true, same_token-itself, is_token-true, is_token-of, is_dot-true, is_dot-of}
 
 -- what an option's function gives comes from a value there

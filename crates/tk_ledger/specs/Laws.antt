@@ -1,6 +1,6 @@
 -- The laws of the ledger, each the contract of the function of its name in `laws` (own). They hold of all sets of facts, hostile
 -- ones too. `Within F G` says that G holds each fact of F.
-use Rattle.std.specs.Prelude.{◌≡◌, ◌≢◌, ◌↔◌, ℕ, List, true, IsTrue}
+use Rattle.std.specs.Prelude.{◌↔◌, ℕ, List, IsTrue}
 use Rattle.std.specs.FinMap as map
 use Rattle.tk_handle.specs.declared.dot.Dot.{Dot}
 use Rattle.tk_handle.specs.declared.token_id.TokenId.{TokenId}

@@ -63,17 +63,26 @@ pub(super) fn consent_withdrawn(alloc: Global, at: Place, consent: Place) -> Res
     naming(alloc, at, 4, consent)
 }
 
-pub(super) fn consent_given(
-    alloc: Global,
-    at: Place,
-    client: Place,
-    scope: &[u8],
-) -> Result<Vec<u8>, Fail> {
+// A consent of ann's for the client, up to its scope.
+fn consent_of_ann(alloc: Global, at: Place, client: Place) -> Result<Writer, Fail> {
     let client = dot(client)?;
     let mut writer = fact_of_kind(alloc, at, 3)?;
     client.write(&mut writer)?;
     writer.put_text(b"ann")?;
-    writer.put_text(scope)?;
+    Ok(writer)
+}
+
+/// For the scope `read write`.
+pub(super) fn consent_given(alloc: Global, at: Place, client: Place) -> Result<Vec<u8>, Fail> {
+    let mut writer = consent_of_ann(alloc, at, client)?;
+    writer.put_text(b"read write")?;
+    Ok(writer.into_bytes())
+}
+
+/// For the scope `read`.
+pub(super) fn read_consent_given(alloc: Global, at: Place, client: Place) -> Result<Vec<u8>, Fail> {
+    let mut writer = consent_of_ann(alloc, at, client)?;
+    writer.put_text(b"read")?;
     Ok(writer.into_bytes())
 }
 
