@@ -96,7 +96,7 @@ impl Ledger {
         families::is_revoked(&self.store, token, digest, client)
     }
 
-    /// Where the token of a handle stands at the moment: a token is over at its end, a family at its own.
+    /// Where the token of a handle stands at the moment. From its end on a token is past, and a family over.
     pub fn status(&self, now: Moment, handle: &Handle) -> Status<'_>
         ensures value { result ≡ status_in (facts_of self.now) now handle.now }
 
