@@ -54,11 +54,16 @@ fn spelled(alloc: Global, fact: &Fact) -> Result<Vec<u8>, Fail> {
     }
 }
 
-// Whether a fact has these bytes, and its copy is the same and has them too.
+// Whether its copy is the same and has these bytes.
+fn is_copied(alloc: Global, fact: &Fact, bytes: &[u8]) -> Result<bool, Fail> {
+    let copy = fact.copy(alloc)?;
+    Ok(copy.same(fact) && spelled(alloc, &copy)?.as_slice() == bytes)
+}
+
+// Whether a fact has these bytes, and so has its copy.
 fn is_kept(alloc: Global, bytes: &[u8]) -> Result<bool, Fail> {
     let fact = Fact::read(alloc, bytes)?;
-    let copy = fact.copy(alloc)?;
-    Ok(copy.same(&fact) && spelled(alloc, &copy)?.as_slice() == bytes)
+    is_copied(alloc, &fact, bytes)
 }
 
 #[test]

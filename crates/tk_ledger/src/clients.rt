@@ -6,7 +6,7 @@ use tk_scope::Scope;
 use tk_store::FactStore;
 
 /// A client as it was added (RFC 6749, 2).
-#[derive(Debug, Drop)]
+#[derive(Drop)]
 pub struct ClientView<'a> {
     /// What the client is, with the digest of its secret where it has one.
     pub sort: &'a Sort,

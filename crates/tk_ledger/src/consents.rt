@@ -5,7 +5,7 @@ use tk_scope::Scope;
 use tk_store::FactStore;
 
 /// A consent as it was given (RFC 6749, 4.1).
-#[derive(Debug, Drop)]
+#[derive(Drop)]
 pub struct ConsentView<'a> {
     /// The client that it was given to.
     pub client: Dot,

@@ -1,7 +1,7 @@
 mod facts;
 mod views;
 
-use crate::{Ledger, State, Status};
+use crate::{Ledger, Standing, State, Status};
 use facts::{
     Place, client_added, client_retired, code_issued, code_redeemed, consent_given,
     consent_withdrawn, dot, handle, moment, refresh_rotated, reuse_seen, token_revoked,
@@ -9,7 +9,7 @@ use facts::{
 use std::alloc::Global;
 use std::test::Fail;
 use tk_fact::Fact;
-use tk_handle::{Handle, Kind};
+use tk_handle::{Dot, Handle, Kind};
 use tk_store::{AddError, Added};
 
 fn add(alloc: Global, ledger: &mut Ledger, bytes: &[u8]) -> Result<Added, Fail> {
@@ -92,6 +92,10 @@ const LIVE: Said = Said::Known(State::Live);
 const USED: Said = Said::Known(State::Used);
 
 const ENDED: Said = Said::Known(State::Ended);
+
+const PAST: Said = Said::Known(State::Past);
+
+const OVER: Said = Said::Known(State::Over);
 
 const CLIENT: Place = (1, 1);
 
@@ -276,39 +280,47 @@ fn ends_begin_at_their_moment(rt: HostRuntime) -> Result<(), Fail> {
     let access = handle((1, 5), Kind::Access, 54)?;
     let refresh = handle((1, 5), Kind::Refresh, 57)?;
     let used = handle((1, 4), Kind::Refresh, 45)?;
+    let rows = [
+        (access, 4_609, LIVE),
+        (access, 4_610, PAST),
+        (refresh, 87_409, LIVE),
+        (refresh, 87_410, PAST),
+        (refresh, 89_999, PAST),
+        (refresh, 90_000, OVER),
+        (used, 89_999, USED),
+        (used, 90_000, OVER),
+        (access, 253_402_300_799, OVER),
+    ];
     let ledger = after(alloc, &client_added(alloc, (2, 1))?)?;
-    let (past, over) = (Said::Known(State::Past), Said::Known(State::Over));
-    assert_eq!(rt; in_short(&ledger, 4_609, &access)?, LIVE);
-    assert_eq!(rt; in_short(&ledger, 4_610, &access)?, past);
-    assert_eq!(rt; in_short(&ledger, 87_409, &refresh)?, LIVE);
-    assert_eq!(rt; in_short(&ledger, 87_410, &refresh)?, past);
-    assert_eq!(rt; in_short(&ledger, 89_999, &refresh)?, past);
-    assert_eq!(rt; in_short(&ledger, 90_000, &refresh)?, over);
-    assert_eq!(rt; in_short(&ledger, 89_999, &used)?, USED);
-    assert_eq!(rt; in_short(&ledger, 90_000, &used)?, over);
-    assert_eq!(rt; in_short(&ledger, 253_402_300_799, &access)?, over);
+    for (token, now, want) in rows {
+        assert!(rt; in_short(&ledger, now, &token)? == want, "{now}");
+    }
     Ok(())
+}
+
+fn is_as_minted(standing: &Standing<'_>, client: Dot, code: Dot) -> bool {
+    standing.client == client
+        && standing.code == code
+        && standing.subject.as_bytes() == b"ann".as_slice()
+        && standing.scope.text() == "read write"
+        && standing.start.seconds() == 1_010
+        && standing.expiry.seconds() == 4_610
+        && standing.family_end.seconds() == 90_000
+        && standing.generation == 1
+        && standing.state == State::Live
 }
 
 #[test]
 fn a_standing_tells_what_was_minted(rt: HostRuntime) -> Result<(), Fail> {
     let alloc = rt.alloc();
-    let ledger = after(alloc, &client_added(alloc, (2, 1))?)?;
     let (now, token) = (moment(1_020)?, handle((1, 5), Kind::Access, 54)?);
     let (client, code) = (dot(CLIENT)?, dot((1, 3))?);
-    match ledger.status(now, &token) {
-        Status::Known(standing) => {
-            assert!(rt; standing.client == client && standing.code == code);
-            assert!(rt; standing.subject.as_bytes() == b"ann".as_slice());
-            assert_eq!(rt; standing.scope.text(), "read write");
-            assert_eq!(rt; standing.start.seconds(), 1_010);
-            assert_eq!(rt; standing.expiry.seconds(), 4_610);
-            assert_eq!(rt; standing.family_end.seconds(), 90_000);
-            assert_eq!(rt; standing.generation, 1);
-            assert_eq!(rt; standing.state, State::Live);
-        }
-        _ => assert!(rt; false, "known"),
-    }
+    let ledger = after(alloc, &client_added(alloc, (2, 1))?)?;
+    let is_known = match ledger.status(now, &token) {
+        Status::Known(standing) => is_as_minted(&standing, client, code),
+        _ => false,
+    };
+    assert!(rt; is_known);
     Ok(())
 }
 

@@ -129,7 +129,9 @@ fn reuse(kind: Kind) -> Result<Body, Fail> {
     }))
 }
 
-fn has_bytes(alloc: Global, dot: Dot, body: Body, bytes: &[u8]) -> Result<bool, Fail> {
+// Whether the body has these bytes at the dot of that region and serial.
+fn has_bytes(alloc: Global, place: (u16, u64), body: Body, bytes: &[u8]) -> Result<bool, Fail> {
+    let dot = dot(place.0, place.1)?;
     let fact = Fact { dot, body };
     Ok(spelled(alloc, &fact)?.as_slice() == bytes)
 }
@@ -140,10 +142,10 @@ const URI: &[u8] = b"https://app.example/cb";
 fn built_clients_have_these_bytes(rt: HostRuntime) -> Result<(), Fail> {
     let alloc = rt.alloc();
     let public = client(alloc, Sort::Public, b"read", &[URI])?;
-    assert!(rt; has_bytes(alloc, dot(1, 1)?, public, PUBLIC_CLIENT)?);
+    assert!(rt; has_bytes(alloc, (1, 1), public, PUBLIC_CLIENT)?);
     let server = client(alloc, Sort::Resource(DIGEST), b"write read", &[URI, b"/cb"])?;
-    assert!(rt; has_bytes(alloc, dot(1, 2)?, server, RESOURCE_SERVER)?);
-    assert!(rt; has_bytes(alloc, dot(2, 1)?, retirement()?, RETIRED_CLIENT)?);
+    assert!(rt; has_bytes(alloc, (1, 2), server, RESOURCE_SERVER)?);
+    assert!(rt; has_bytes(alloc, (2, 1), retirement()?, RETIRED_CLIENT)?);
     Ok(())
 }
 
@@ -151,8 +153,8 @@ fn built_clients_have_these_bytes(rt: HostRuntime) -> Result<(), Fail> {
 fn built_consents_have_these_bytes(rt: HostRuntime) -> Result<(), Fail> {
     let alloc = rt.alloc();
     let given = consent(alloc, b"alice")?;
-    assert!(rt; has_bytes(alloc, dot(1, 3)?, given, GIVEN_CONSENT)?);
-    let last = dot(65_535, 9_223_372_036_854_775_807)?;
+    assert!(rt; has_bytes(alloc, (1, 3), given, GIVEN_CONSENT)?);
+    let last = (65_535, 9_223_372_036_854_775_807);
     assert!(rt; has_bytes(alloc, last, withdrawal()?, WITHDRAWN_CONSENT)?);
     Ok(())
 }
@@ -161,11 +163,11 @@ fn built_consents_have_these_bytes(rt: HostRuntime) -> Result<(), Fail> {
 fn built_tokens_have_these_bytes(rt: HostRuntime) -> Result<(), Fail> {
     let alloc = rt.alloc();
     let issued = code(alloc, b"alice", URI, (1_060, 9_000))?;
-    assert!(rt; has_bytes(alloc, dot(1, 4)?, issued, CODE)?);
+    assert!(rt; has_bytes(alloc, (1, 4), issued, CODE)?);
     let redeemed = redemption(alloc, (1_310, 9_000))?;
-    assert!(rt; has_bytes(alloc, dot(1, 5)?, redeemed, REDEEMED_CODE)?);
+    assert!(rt; has_bytes(alloc, (1, 5), redeemed, REDEEMED_CODE)?);
     let rotated = rotation(alloc, 1, (1_700, 9_000))?;
-    assert!(rt; has_bytes(alloc, dot(1, 6)?, rotated, FIRST_ROTATION)?);
+    assert!(rt; has_bytes(alloc, (1, 6), rotated, FIRST_ROTATION)?);
     Ok(())
 }
 
@@ -173,9 +175,9 @@ fn built_tokens_have_these_bytes(rt: HostRuntime) -> Result<(), Fail> {
 fn built_revocations_have_these_bytes(rt: HostRuntime) -> Result<(), Fail> {
     let alloc = rt.alloc();
     let revoked = revocation(Kind::Refresh)?;
-    assert!(rt; has_bytes(alloc, dot(1, 7)?, revoked, REVOKED_TOKEN)?);
+    assert!(rt; has_bytes(alloc, (1, 7), revoked, REVOKED_TOKEN)?);
     let seen = reuse(Kind::Code)?;
-    assert!(rt; has_bytes(alloc, dot(1, 5)?, seen, REUSED_CODE)?);
+    assert!(rt; has_bytes(alloc, (1, 5), seen, REUSED_CODE)?);
     Ok(())
 }
 
