@@ -93,6 +93,8 @@ const USED: Said = Said::Known(State::Used);
 
 const ENDED: Said = Said::Known(State::Ended);
 
+const WITHDRAWN: Said = Said::Known(State::Withdrawn);
+
 const PAST: Said = Said::Known(State::Past);
 
 const OVER: Said = Said::Known(State::Over);
@@ -259,17 +261,22 @@ fn after(alloc: Global, last: &[u8]) -> Result<Ledger, Fail> {
     Ok(ledger)
 }
 
+// What is said of the family's last access token once that fact is held too.
+fn said_after(alloc: Global, last: &[u8]) -> Result<Said, Fail> {
+    let token = handle((1, 5), Kind::Access, 54)?;
+    let ledger = after(alloc, last)?;
+    in_short(&ledger, 1_020, &token)
+}
+
 #[test]
 fn what_was_retired_or_withdrawn_serves_no_more(rt: HostRuntime) -> Result<(), Fail> {
     let alloc = rt.alloc();
-    let token = handle((1, 5), Kind::Access, 54)?;
-    let withdrawn = Said::Known(State::Withdrawn);
-    let retired = after(alloc, &client_retired(alloc, (2, 1), CLIENT)?)?;
-    assert_eq!(rt; in_short(&retired, 1_020, &token)?, withdrawn);
-    let revoked = after(alloc, &consent_withdrawn(alloc, (2, 1), CONSENT)?)?;
-    assert_eq!(rt; in_short(&revoked, 1_020, &token)?, withdrawn);
-    let another = after(alloc, &client_retired(alloc, (2, 1), (7, 7))?)?;
-    assert_eq!(rt; in_short(&another, 1_020, &token)?, LIVE);
+    let retired = client_retired(alloc, (2, 1), CLIENT)?;
+    assert!(rt; said_after(alloc, &retired)? == WITHDRAWN);
+    let withdrawn = consent_withdrawn(alloc, (2, 1), CONSENT)?;
+    assert!(rt; said_after(alloc, &withdrawn)? == WITHDRAWN);
+    let another = client_retired(alloc, (2, 1), (7, 7))?;
+    assert!(rt; said_after(alloc, &another)? == LIVE);
     Ok(())
 }
 

@@ -4,27 +4,42 @@ use super::facts::{
     client_added, client_retired, consent_given, consent_withdrawn, dot, handle, read_consent_given,
 };
 use super::{CLIENT, CONSENT, add, after, before_grants, in_order, revoked_in_advance};
-use crate::Ledger;
+use crate::{ClientView, ConsentView, Ledger};
 use std::alloc::Global;
 use std::test::Fail;
 use tk_fact::{Fact, Sort, Text};
-use tk_handle::Kind;
+use tk_handle::{Dot, Kind};
 use tk_scope::Scope;
 use tk_store::{AddError, Added};
+
+fn is_retired_client(client: &ClientView<'_>) -> bool {
+    matches!(client.sort, Sort::Public)
+        && client.scope.text() == "read write"
+        && client.redirects.uris().len() == 1
+        && !client.live
+}
+
+fn is_consent_of_ann(consent: &ConsentView<'_>, client: Dot) -> bool {
+    consent.client == client
+        && consent.subject.as_bytes() == b"ann".as_slice()
+        && consent.scope.text() == "read write"
+        && consent.live
+}
 
 #[test]
 fn a_client_and_a_consent_are_shown(rt: HostRuntime) -> Result<(), Fail> {
     let alloc = rt.alloc();
-    let ledger = after(alloc, &client_retired(alloc, (2, 1), CLIENT)?)?;
     let (client, consent) = (dot(CLIENT)?, dot(CONSENT)?);
-    let shown = ledger.client(client).ok_or("a client")?;
-    assert!(rt; matches!(shown.sort, Sort::Public) && !shown.live);
-    assert_eq!(rt; shown.scope.text(), "read write");
-    assert_eq!(rt; shown.redirects.uris().len(), 1);
-    let given = ledger.consent(consent).ok_or("a consent")?;
-    assert!(rt; given.client == client && given.live);
-    assert!(rt; given.subject.as_bytes() == b"ann".as_slice());
-    assert_eq!(rt; given.scope.text(), "read write");
+    let ledger = after(alloc, &client_retired(alloc, (2, 1), CLIENT)?)?;
+    let is_client_shown = match ledger.client(client) {
+        Some(shown) => is_retired_client(&shown),
+        None => false,
+    };
+    let is_consent_shown = match ledger.consent(consent) {
+        Some(shown) => is_consent_of_ann(&shown, client),
+        None => false,
+    };
+    assert!(rt; is_client_shown && is_consent_shown);
     assert!(rt; ledger.client(consent).is_none() && ledger.consent(client).is_none());
     Ok(())
 }
@@ -40,22 +55,28 @@ fn consents(alloc: Global) -> Result<Ledger, Fail> {
     in_order(alloc, &facts, 0)
 }
 
+fn found(
+    alloc: Global,
+    ledger: &Ledger,
+    client: Dot,
+    subject: &[u8],
+    scope: &[u8],
+) -> Result<Option<Dot>, Fail> {
+    let subject = Text::new(alloc, subject)?;
+    let scope = Scope::read(alloc, scope)?;
+    Ok(ledger.consent_for(client, &subject, &scope))
+}
+
 #[test]
 fn the_least_consent_that_includes_the_scope_is_found(rt: HostRuntime) -> Result<(), Fail> {
     let alloc = rt.alloc();
-    let (first, last) = (dot((1, 2))?, dot((1, 5))?);
-    let client = dot(CLIENT)?;
-    let ann = Text::new(alloc, b"ann")?;
+    let (client, first, last) = (dot(CLIENT)?, dot((1, 2))?, dot((1, 5))?);
     let ledger = consents(alloc)?;
-    let read = Scope::read(alloc, b"read")?;
-    assert!(rt; ledger.consent_for(client, &ann, &read) == Some(first));
-    let both = Scope::read(alloc, b"write read")?;
-    assert!(rt; ledger.consent_for(client, &ann, &both) == Some(last));
-    let more = Scope::read(alloc, b"admin read")?;
-    assert!(rt; ledger.consent_for(client, &ann, &more).is_none());
-    assert!(rt; ledger.consent_for(first, &ann, &read).is_none());
-    let bob = Text::new(alloc, b"bob")?;
-    assert!(rt; ledger.consent_for(client, &bob, &read).is_none());
+    assert!(rt; found(alloc, &ledger, client, b"ann", b"read")? == Some(first));
+    assert!(rt; found(alloc, &ledger, client, b"ann", b"write read")? == Some(last));
+    assert!(rt; found(alloc, &ledger, client, b"ann", b"admin read")?.is_none());
+    assert!(rt; found(alloc, &ledger, client, b"bob", b"read")?.is_none());
+    assert!(rt; found(alloc, &ledger, first, b"ann", b"read")?.is_none());
     Ok(())
 }
 
