@@ -1,8 +1,10 @@
+mod bodies;
 mod built;
 mod limits;
 
-use crate::Fact;
-use std::alloc::Global;
+use crate::{Body, Fact};
+use bodies::{Place, dot};
+use std::alloc::{AllocError, Global};
 use std::test::Fail;
 use tk_format::ReadError;
 use tk_handle::{Dot, Kind, RegionNumber, TokenId};
@@ -47,23 +49,32 @@ const REVOKED_TOKEN: &[u8] =
 const REUSED_CODE: &[u8] =
     b"\x00\x01\x00\x00\x00\x00\x00\x00\x00\x05\x09\x00\x01\x00\x00\x00\x00\x00\x00\x00\x03\x01";
 
-fn spelled(alloc: Global, fact: &Fact) -> Result<Vec<u8>, Fail> {
-    match fact.check() {
-        Ok(()) => Ok(fact.write(alloc)?),
-        Err(_) => Err("a fact that was read breaks a rule")?,
+// Whether the fact keeps the rules and has these bytes.
+fn is_spelled(alloc: Global, fact: &Fact, bytes: &[u8]) -> Result<bool, AllocError> {
+    if fact.check().is_err() {
+        return Ok(false);
     }
+    let spelling = fact.write(alloc)?;
+    Ok(spelling.as_slice() == bytes)
 }
 
-// Whether its copy is the same and has these bytes.
-fn is_copied(alloc: Global, fact: &Fact, bytes: &[u8]) -> Result<bool, Fail> {
+// Whether the fact has these bytes, and so has its copy, which is the same.
+fn is_copied(alloc: Global, fact: &Fact, bytes: &[u8]) -> Result<bool, AllocError> {
     let copy = fact.copy(alloc)?;
-    Ok(copy.same(fact) && spelled(alloc, &copy)?.as_slice() == bytes)
+    Ok(copy.same(fact) && is_spelled(alloc, fact, bytes)? && is_spelled(alloc, &copy, bytes)?)
 }
 
-// Whether a fact has these bytes, and so has its copy.
+// Whether the body has these bytes at the dot.
+fn has_bytes(alloc: Global, place: Place, body: Body, bytes: &[u8]) -> Result<bool, Fail> {
+    let dot = dot(place)?;
+    let fact = Fact { dot, body };
+    Ok(is_copied(alloc, &fact, bytes)?)
+}
+
+// Whether a fact has these bytes.
 fn is_kept(alloc: Global, bytes: &[u8]) -> Result<bool, Fail> {
     let fact = Fact::read(alloc, bytes)?;
-    is_copied(alloc, &fact, bytes)
+    Ok(is_copied(alloc, &fact, bytes)?)
 }
 
 #[test]

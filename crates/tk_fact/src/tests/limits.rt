@@ -1,27 +1,40 @@
-//! Facts read at the limits of their fields, and one past them.
+//! Facts of each kind at the limits of their fields, built, written, copied and read, and one past them.
 
-use super::{is_kept, is_malformed};
-use crate::Fact;
-use std::alloc::Global;
+use super::bodies::{
+    CodeFields, DIGEST, Place, TokenFields, client, code, consent, redemption, retirement, reuse,
+    revocation, rotation, withdrawal,
+};
+use super::{has_bytes, is_kept, is_malformed};
+use crate::{Body, Fact, Sort};
+use std::alloc::{AllocError, Global};
 use std::test::Fail;
 use tk_format::{FromBytes, ReadError, Reader};
+use tk_handle::Kind;
+
+// The dot and the moment after all others.
+const LAST: Place = (65_535, 9_223_372_036_854_775_807);
+
+const LAST_MOMENT: u64 = 253_402_300_799;
 
 // Bytes as they stand, and behind them one byte, so many times.
 type Part = (&'static [u8], u8, usize);
 
-fn joined(alloc: Global, parts: &[Part]) -> Result<Vec<u8>, Fail> {
+fn joined(alloc: Global, parts: &[Part]) -> Result<Vec<u8>, AllocError> {
     let mut joined = Vec::new(alloc);
     for (bytes, fill, count) in parts {
         joined.extend_from_slice(bytes)?;
-        joined.extend_from_slice(vec![in alloc; *fill; *count]?.as_slice())?;
+        for _ in 0..*count {
+            joined.push(*fill)?;
+        }
     }
     Ok(joined)
 }
 
-// Whether a fact has these bytes, so many of them.
-fn keeps(alloc: Global, length: usize, parts: &[Part]) -> Result<bool, Fail> {
+// Whether the body at the last dot has these bytes, so many of them, and so has the fact read from them.
+fn keeps(alloc: Global, body: Body, length: usize, parts: &[Part]) -> Result<bool, Fail> {
     let bytes = joined(alloc, parts)?;
-    Ok(bytes.len() == length && is_kept(alloc, bytes.as_slice())?)
+    let kept = is_kept(alloc, bytes.as_slice())?;
+    Ok(kept && bytes.len() == length && has_bytes(alloc, LAST, body, bytes.as_slice())?)
 }
 
 fn refuses(alloc: Global, parts: &[Part]) -> Result<bool, Fail> {
@@ -29,7 +42,42 @@ fn refuses(alloc: Global, parts: &[Part]) -> Result<bool, Fail> {
     Ok(is_malformed(alloc, bytes.as_slice()))
 }
 
-// The greatest dot, and a consent for the client there, up to its subject.
+const LAST_RETIREMENT: Part = (
+    b"\xff\xff\x7f\xff\xff\xff\xff\xff\xff\xff\x02\xff\xff\x7f\xff\xff\xff\xff\xff\xff\xff",
+    0,
+    0,
+);
+
+const LAST_WITHDRAWAL: Part = (
+    b"\xff\xff\x7f\xff\xff\xff\xff\xff\xff\xff\x04\xff\xff\x7f\xff\xff\xff\xff\xff\xff\xff",
+    0,
+    0,
+);
+
+const LAST_REVOCATION: Part = (
+    b"\xff\xff\x7f\xff\xff\xff\xff\xff\xff\xff\x08\xff\xff\x7f\xff\xff\xff\xff\xff\xff\xff\x030123456789abcdef0123456789abcdef\xff\xff\x7f\xff\xff\xff\xff\xff\xff\xff",
+    0,
+    0,
+);
+
+const LAST_REUSE: Part = (
+    b"\xff\xff\x7f\xff\xff\xff\xff\xff\xff\xff\x09\xff\xff\x7f\xff\xff\xff\xff\xff\xff\xff\x03",
+    0,
+    0,
+);
+
+#[test]
+fn dots_go_to_the_last(rt: HostRuntime) -> Result<(), Fail> {
+    let alloc = rt.alloc();
+    assert!(rt; keeps(alloc, retirement(LAST)?, 21, &[LAST_RETIREMENT])?);
+    assert!(rt; keeps(alloc, withdrawal(LAST)?, 21, &[LAST_WITHDRAWAL])?);
+    let revoked = revocation(LAST, Kind::Refresh, LAST)?;
+    assert!(rt; keeps(alloc, revoked, 64, &[LAST_REVOCATION])?);
+    assert!(rt; keeps(alloc, reuse(LAST, Kind::Refresh)?, 22, &[LAST_REUSE])?);
+    Ok(())
+}
+
+// A consent for the client at the last dot, up to its subject.
 const CONSENT: &[u8] =
     b"\xff\xff\x7f\xff\xff\xff\xff\xff\xff\xff\x03\xff\xff\x7f\xff\xff\xff\xff\xff\xff\xff";
 
@@ -41,17 +89,23 @@ const SCOPE: Part = (b"\x04\x00", b'~', 1_024);
 
 const LONG_SCOPE: Part = (b"\x04\x01", b'~', 1_025);
 
+fn long_consent(alloc: Global) -> Result<Body, Fail> {
+    let subject = vec![in alloc; b'!'; 128]?;
+    let scope = vec![in alloc; b'~'; 1_024]?;
+    consent(alloc, LAST, subject.as_slice(), scope.as_slice())
+}
+
 #[test]
 fn a_subject_has_128_bytes_and_a_scope_1024(rt: HostRuntime) -> Result<(), Fail> {
     let alloc = rt.alloc();
     let front = (CONSENT, 0, 0);
-    assert!(rt; keeps(alloc, 1_177, &[front, SUBJECT, SCOPE])?);
+    assert!(rt; keeps(alloc, long_consent(alloc)?, 1_177, &[front, SUBJECT, SCOPE])?);
     assert!(rt; refuses(alloc, &[front, LONG_SUBJECT, SCOPE])?);
     assert!(rt; refuses(alloc, &[front, SUBJECT, LONG_SCOPE])?);
     Ok(())
 }
 
-// A resource server at the greatest dot, up to its scope.
+// A resource server at the last dot, up to its scope.
 const CLIENT: Part = (
     b"\xff\xff\x7f\xff\xff\xff\xff\xff\xff\xff\x01\x020123456789abcdef0123456789abcdef",
     0,
@@ -66,11 +120,24 @@ const EIGHT: Part = (b"\x08", 0, 0);
 
 const NINE: Part = (b"\x09", 0, 0);
 
+fn long_client(alloc: Global) -> Result<Body, Fail> {
+    let scope = vec![in alloc; b'~'; 1_024]?;
+    let longest = vec![in alloc; b'!'; 512]?;
+    let uri = longest.as_slice();
+    let uris = [uri, uri, uri, uri, uri, uri, uri, uri];
+    client(
+        alloc,
+        Sort::Resource(DIGEST),
+        scope.as_slice(),
+        uris.as_slice(),
+    )
+}
+
 #[test]
 fn a_client_has_eight_uris_of_512_bytes(rt: HostRuntime) -> Result<(), Fail> {
     let alloc = rt.alloc();
     let eight = [CLIENT, SCOPE, EIGHT, URI, URI, URI, URI, URI, URI, URI, URI];
-    assert!(rt; keeps(alloc, 5_183, &eight)?);
+    assert!(rt; keeps(alloc, long_client(alloc)?, 5_183, &eight)?);
     let nine = [
         CLIENT, SCOPE, NINE, URI, URI, URI, URI, URI, URI, URI, URI, URI,
     ];
@@ -82,7 +149,7 @@ fn a_client_has_eight_uris_of_512_bytes(rt: HostRuntime) -> Result<(), Fail> {
     Ok(())
 }
 
-// A code at the greatest dot, from the greatest moment to the same, up to its subject.
+// A code at the last dot, from the last moment to the same, up to its subject.
 const CODE: Part = (
     b"\xff\xff\x7f\xff\xff\xff\xff\xff\xff\xff\x05\xff\xff\x7f\xff\xff\xff\xff\xff\xff\xff\xff\xff\x7f\xff\xff\xff\xff\xff\xff\xff0123456789abcdef0123456789abcdef\x00\x00\x00:\xff\xf4A\x7f\x00\x00\x00:\xff\xf4A\x7f\x00\x00\x00:\xff\xf4A\x7f",
     0,
@@ -95,17 +162,39 @@ const LONG_CHALLENGE: Part = (b"\x01\x02\x00\x81", b'-', 129);
 
 const SHORT_CHALLENGE: Part = (b"\x01\x02\x00\x2a", b'-', 42);
 
+fn long_code(alloc: Global) -> Result<Body, Fail> {
+    let subject = vec![in alloc; b'!'; 128]?;
+    let scope = vec![in alloc; b'~'; 1_024]?;
+    let uri = vec![in alloc; b'!'; 512]?;
+    let challenge = vec![in alloc; b'-'; 128]?;
+    code(
+        alloc,
+        CodeFields {
+            client: LAST,
+            consent: LAST,
+            start: LAST_MOMENT,
+            expiry: LAST_MOMENT,
+            family_end: LAST_MOMENT,
+            subject: subject.as_slice(),
+            scope: scope.as_slice(),
+            uri: uri.as_slice(),
+            challenge: challenge.as_slice(),
+        },
+    )
+}
+
 #[test]
 fn a_challenge_has_43_to_128_bytes(rt: HostRuntime) -> Result<(), Fail> {
     let alloc = rt.alloc();
-    assert!(rt; keeps(alloc, 1_889, &[CODE, SUBJECT, SCOPE, URI, CHALLENGE])?);
+    let whole = [CODE, SUBJECT, SCOPE, URI, CHALLENGE];
+    assert!(rt; keeps(alloc, long_code(alloc)?, 1_889, &whole)?);
     assert!(rt; refuses(alloc, &[CODE, SUBJECT, SCOPE, URI, LONG_CHALLENGE])?);
     assert!(rt; refuses(alloc, &[CODE, SUBJECT, SCOPE, URI, SHORT_CHALLENGE])?);
     assert!(rt; refuses(alloc, &[CODE, SUBJECT, SCOPE, LONG_URI, CHALLENGE])?);
     Ok(())
 }
 
-// Tokens that begin and end at the greatest moment, up to their first scope.
+// Tokens that begin and end at the last moment, up to their first scope.
 const REDEMPTION: Part = (
     b"\xff\xff\x7f\xff\xff\xff\xff\xff\xff\xff\x06\xff\xff\x7f\xff\xff\xff\xff\xff\xff\xff\x00\x00\x00:\xff\xf4A\x7f0123456789abcdef0123456789abcdef\x00\x00\x00:\xff\xf4A\x7f",
     0,
@@ -119,16 +208,38 @@ const LAST_ROTATION: Part = (
 );
 
 const REFRESH: Part = (
-    b"0123456789abcdef0123456789abcdef\x00\x00\x00:\xff\xf4A\x7f",
+    b"fedcba9876543210fedcba9876543210\x00\x00\x00:\xff\xf4A\x7f",
     0,
     0,
 );
 
+fn last_tokens(scope: &[u8]) -> TokenFields<'_> {
+    TokenFields {
+        parent: LAST,
+        start: LAST_MOMENT,
+        access_end: LAST_MOMENT,
+        refresh_end: LAST_MOMENT,
+        scope,
+    }
+}
+
+fn long_redemption(alloc: Global) -> Result<Body, Fail> {
+    let scope = vec![in alloc; b'~'; 1_024]?;
+    redemption(alloc, last_tokens(scope.as_slice()))
+}
+
+fn long_rotation(alloc: Global) -> Result<Body, Fail> {
+    let scope = vec![in alloc; b'~'; 1_024]?;
+    rotation(alloc, 10_000, last_tokens(scope.as_slice()))
+}
+
 #[test]
 fn both_tokens_have_scopes_of_1024_bytes(rt: HostRuntime) -> Result<(), Fail> {
     let alloc = rt.alloc();
-    assert!(rt; keeps(alloc, 2_161, &[REDEMPTION, SCOPE, REFRESH, SCOPE])?);
-    assert!(rt; keeps(alloc, 2_163, &[LAST_ROTATION, SCOPE, REFRESH, SCOPE])?);
+    let redeemed = [REDEMPTION, SCOPE, REFRESH, SCOPE];
+    assert!(rt; keeps(alloc, long_redemption(alloc)?, 2_161, &redeemed)?);
+    let rotated = [LAST_ROTATION, SCOPE, REFRESH, SCOPE];
+    assert!(rt; keeps(alloc, long_rotation(alloc)?, 2_163, &rotated)?);
     assert!(rt; refuses(alloc, &[LAST_ROTATION, SCOPE, REFRESH, LONG_SCOPE])?);
     Ok(())
 }

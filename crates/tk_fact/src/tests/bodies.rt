@@ -1,0 +1,150 @@
+//! Bodies of each kind, built from their fields.
+
+use crate::{
+    Body, ClientAdded, ClientRetired, CodeIssued, CodeRedeemed, ConsentGiven, ConsentWithdrawn,
+    MintedToken, RefreshRotated, ReuseSeen, Sort, Text, TokenRevoked,
+};
+use std::alloc::Global;
+use std::test::Fail;
+use tk_handle::{Dot, Kind, Moment, RegionNumber, TokenId};
+use tk_match::{Challenge, Redirects};
+use tk_scope::Scope;
+
+pub const DIGEST: [u8; 32] = *b"0123456789abcdef0123456789abcdef";
+
+pub const OTHER_DIGEST: [u8; 32] = *b"fedcba9876543210fedcba9876543210";
+
+// A region and a serial.
+pub type Place = (u16, u64);
+
+pub fn dot(place: Place) -> Result<Dot, Fail> {
+    let region = RegionNumber::new(place.0).ok_or("a region")?;
+    Ok(Dot::new(region, place.1).ok_or("a dot")?)
+}
+
+pub fn moment(seconds: u64) -> Result<Moment, Fail> {
+    Ok(Moment::new(seconds).ok_or("a moment")?)
+}
+
+pub fn client(alloc: Global, sort: Sort, scope: &[u8], uris: &[&[u8]]) -> Result<Body, Fail> {
+    let redirects = Redirects::kept(alloc, uris)?;
+    Ok(Body::ClientAdded(ClientAdded {
+        sort,
+        scope: Scope::read(alloc, scope)?,
+        redirects,
+    }))
+}
+
+pub fn retirement(client: Place) -> Result<Body, Fail> {
+    let client = dot(client)?;
+    Ok(Body::ClientRetired(ClientRetired { client }))
+}
+
+pub fn consent(alloc: Global, client: Place, subject: &[u8], scope: &[u8]) -> Result<Body, Fail> {
+    let client = dot(client)?;
+    let subject = Text::new(alloc, subject)?;
+    Ok(Body::ConsentGiven(ConsentGiven {
+        client,
+        subject,
+        scope: Scope::read(alloc, scope)?,
+    }))
+}
+
+pub fn withdrawal(consent: Place) -> Result<Body, Fail> {
+    let consent = dot(consent)?;
+    Ok(Body::ConsentWithdrawn(ConsentWithdrawn { consent }))
+}
+
+// What a code is issued with. Its challenge has the method S256.
+#[derive(Clone, Copy)]
+pub struct CodeFields<'a> {
+    pub client: Place,
+    pub consent: Place,
+    pub start: u64,
+    pub expiry: u64,
+    pub family_end: u64,
+    pub subject: &'a [u8],
+    pub scope: &'a [u8],
+    pub uri: &'a [u8],
+    pub challenge: &'a [u8],
+}
+
+pub fn code(alloc: Global, fields: CodeFields<'_>) -> Result<Body, Fail> {
+    let (client, consent) = (dot(fields.client)?, dot(fields.consent)?);
+    let (start, expiry) = (moment(fields.start)?, moment(fields.expiry)?);
+    let family_end = moment(fields.family_end)?;
+    let subject = Text::new(alloc, fields.subject)?;
+    let scope = Scope::read(alloc, fields.scope)?;
+    let uri = Text::new(alloc, fields.uri)?;
+    Ok(Body::CodeIssued(CodeIssued {
+        client,
+        consent,
+        digest: DIGEST,
+        start,
+        expiry,
+        family_end,
+        subject,
+        scope,
+        uri,
+        sent: true,
+        challenge: Some(Challenge::read(alloc, b"S256", fields.challenge)?),
+    }))
+}
+
+// What both tokens of a redemption or a rotation are minted with.
+#[derive(Clone, Copy)]
+pub struct TokenFields<'a> {
+    pub parent: Place,
+    pub start: u64,
+    pub access_end: u64,
+    pub refresh_end: u64,
+    pub scope: &'a [u8],
+}
+
+fn token(alloc: Global, digest: [u8; 32], end: u64, scope: &[u8]) -> Result<MintedToken, Fail> {
+    let end = moment(end)?;
+    Ok(MintedToken {
+        digest,
+        end,
+        scope: Scope::read(alloc, scope)?,
+    })
+}
+
+pub fn redemption(alloc: Global, fields: TokenFields<'_>) -> Result<Body, Fail> {
+    let (code, start) = (dot(fields.parent)?, moment(fields.start)?);
+    let access = token(alloc, DIGEST, fields.access_end, fields.scope)?;
+    Ok(Body::CodeRedeemed(CodeRedeemed {
+        code,
+        start,
+        access,
+        refresh: token(alloc, OTHER_DIGEST, fields.refresh_end, fields.scope)?,
+    }))
+}
+
+pub fn rotation(alloc: Global, generation: u16, fields: TokenFields<'_>) -> Result<Body, Fail> {
+    let (parent, start) = (dot(fields.parent)?, moment(fields.start)?);
+    let access = token(alloc, DIGEST, fields.access_end, fields.scope)?;
+    Ok(Body::RefreshRotated(RefreshRotated {
+        parent,
+        generation,
+        start,
+        access,
+        refresh: token(alloc, OTHER_DIGEST, fields.refresh_end, fields.scope)?,
+    }))
+}
+
+pub fn revocation(minted_by: Place, kind: Kind, client: Place) -> Result<Body, Fail> {
+    let (dot, client) = (dot(minted_by)?, dot(client)?);
+    Ok(Body::TokenRevoked(TokenRevoked {
+        token: TokenId { dot, kind },
+        digest: DIGEST,
+        client,
+    }))
+}
+
+pub fn reuse(minted_by: Place, kind: Kind) -> Result<Body, Fail> {
+    let dot = dot(minted_by)?;
+    Ok(Body::ReuseSeen(ReuseSeen {
+        token: TokenId { dot, kind },
+    }))
+}
