@@ -1,6 +1,9 @@
 use std::marker::Model;
 use tk_fact::Fact;
 
+/// The greatest number of facts in a bundle (own).
+pub(crate) const MOST_FACTS: u16 = 128;
+
 /// Facts, strictly ascending by dot, at most 128 of them.
 #[derive(Debug, Drop)]
 pub struct Bundle {
@@ -51,7 +54,7 @@ fn read_listed(alloc: Global, reader: &mut Reader<'_>) -> Result<Vec<Fact>, Read
 {
     reader.take_magic(b"OTB1").ok_or(ReadError::Malformed)?;
     let count = reader.take_u16().ok_or(ReadError::Malformed)?;
-    if count > 128 {
+    if count > MOST_FACTS {
         return Err(ReadError::Malformed);
     }
     read_many(alloc, count, reader)

@@ -4,7 +4,7 @@ ghost use Rattle.tk_bundle.specs.Bundle.{bundle, bundle_bytes};
 ghost use Rattle.tk_bundle.specs.Front.{Walks, IsCut, skipped, skipped_many, walk, IsFrontOf};
 ghost use Rattle.tk_bundle.specs.declared.error.FrontError.{FrontError as AnyError};
 
-use crate::bundle::Bundle;
+use crate::bundle::{Bundle, MOST_FACTS};
 use crate::error::FrontError;
 use std::alloc::Global;
 use tk_format::{ReadError, Reader};
@@ -38,7 +38,7 @@ fn walk(reader: &mut Reader<'_>) -> Result<(), FrontError>
     if front != b"OTB1".as_slice() {
         return Err(FrontError::Malformed);
     }
-    if count > 128 {
+    if count > MOST_FACTS {
         return Err(FrontError::Malformed);
     }
     skip_many(count, reader)

@@ -24,6 +24,7 @@ ghost use Rattle.tk_store.specs.Beyond.{beyond};
 ghost use Rattle.tk_bundle.specs.Bundle.{magic, bundle, bundle_bytes};
 ghost use Rattle.tk_bundle.specs.Page as spec;
 
+use crate::bundle::MOST_FACTS;
 use std::alloc::{AllocError, Global};
 use tk_fact::Fact;
 use tk_format::Writer;
@@ -37,7 +38,7 @@ pub fn make(alloc: Global, store: &FactStore, vector: &VersionVector) -> Result<
     // So it can be read.
     ensures fits { OnOk result (bundle.Fits (spec.page_of (known_in store.now) vector.now).facts) }
 {
-    page_within(alloc, store, vector, 128)
+    page_within(alloc, store, vector, MOST_FACTS as usize)
 }
 
 // One more dot than the page has room for tells whether more follow.

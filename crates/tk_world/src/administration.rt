@@ -13,21 +13,20 @@ ghost use Rattle.tk_store.specs.Store.{facts_of};
 ghost use Rattle.tk_world.specs.Administration as spec;
 ghost use Rattle.tk_world.specs.Decision.{decision_of};
 
-use crate::clients::{client_at, is_live, is_retired};
 use crate::reply::{client_reply, error_reply, shown_reply};
 use crate::request::Request;
 use crate::texts::split_spaces;
 use std::alloc::{AllocError, Global};
 use tk_fact::{ClientAdded, ClientRetired, Sort};
 use tk_handle::{Dot, Moment, read_client};
+use tk_ledger::Ledger;
 use tk_match::{RedirectError, Redirects};
 use tk_scope::{Scope, ScopeError};
-use tk_store::FactStore;
 
 // Decides a request over the facts, where the next fact would stand at the dot.
 pub(crate) fn decide(
     alloc: Global,
-    facts: &FactStore,
+    facts: &Ledger,
     next: Dot,
     _now: Moment,
     _words: &[u64; 6],
@@ -108,7 +107,7 @@ fn read_redirects(alloc: Global, uris: &[&[u8]]) -> Result<Option<Redirects>, Al
     }
 }
 
-fn show(alloc: Global, facts: &FactStore, id: &[u8]) -> Result<Decision, AllocError>
+fn show(alloc: Global, facts: &Ledger, id: &[u8]) -> Result<Decision, AllocError>
     ensures { IfOk result (λ decision. decision ≡ spec.showing_of (facts_of facts.now) id.now) }
 {
     if id.is_empty() {
@@ -120,20 +119,19 @@ fn show(alloc: Global, facts: &FactStore, id: &[u8]) -> Result<Decision, AllocEr
     }
 }
 
-fn show_at(alloc: Global, facts: &FactStore, at: Dot) -> Result<Decision, AllocError>
+fn show_at(alloc: Global, facts: &Ledger, at: Dot) -> Result<Decision, AllocError>
     ensures { IfOk result (λ decision. decision ≡ spec.showing_by (facts_of facts.now) (Some at)) }
 {
-    match client_at(facts, at) {
+    match facts.client(at) {
         Some(client) => {
-            let live = is_live(facts, at);
-            let reply = shown_reply(alloc, at, &client.sort, live, &client.scope)?;
+            let reply = shown_reply(alloc, at, client.sort, client.live, client.scope)?;
             Ok(Decision { reply, made: None })
         }
         None => refuse(alloc, 404, "not_found"),
     }
 }
 
-fn retire(alloc: Global, facts: &FactStore, id: &[u8]) -> Result<Decision, AllocError>
+fn retire(alloc: Global, facts: &Ledger, id: &[u8]) -> Result<Decision, AllocError>
     ensures { IfOk result (λ decision. decision ≡ spec.retirement_of (facts_of facts.now) id.now) }
 {
     if id.is_empty() {
@@ -145,15 +143,15 @@ fn retire(alloc: Global, facts: &FactStore, id: &[u8]) -> Result<Decision, Alloc
     }
 }
 
-fn retire_at(alloc: Global, facts: &FactStore, at: Dot) -> Result<Decision, AllocError>
+fn retire_at(alloc: Global, facts: &Ledger, at: Dot) -> Result<Decision, AllocError>
     ensures { IfOk result (λ decision. decision ≡ spec.retirement_by (facts_of facts.now) (Some at)) }
 {
-    match client_at(facts, at) {
-        Some(_) => {
-            let made = if is_retired(facts, at) {
-                None
-            } else {
+    match facts.client(at) {
+        Some(client) => {
+            let made = if client.live {
                 Some(Body::ClientRetired(ClientRetired { client: at }))
+            } else {
+                None
             };
             let reply = client_reply(alloc, 200, at)?;
             Ok(Decision { reply, made })

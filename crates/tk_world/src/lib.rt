@@ -11,7 +11,6 @@
 
 mod administration;
 mod bundle;
-mod clients;
 mod event;
 mod region;
 mod reply;

@@ -17,7 +17,8 @@ use std::alloc::{AllocError, Global};
 use tk_bundle::{Page, make};
 use tk_fact::Fact;
 use tk_handle::{Dot, Moment, RegionNumber};
-use tk_store::{AddError, Added, FactStore};
+use tk_ledger::Ledger;
+use tk_store::{AddError, Added};
 use tk_vector::VersionVector;
 
 // Answers the request over the region's facts, and adds the fact made.
@@ -25,18 +26,18 @@ pub(crate) fn answer(
     alloc: Global,
     settings: &Settings,
     region: RegionNumber,
-    store: &mut FactStore,
+    ledger: &mut Ledger,
     now: Moment,
     words: &[u64; 6],
     request: &Request,
 ) -> Outcome
-    requires { next_serial (known_in store.old) region ≤ settings.now.cap + 1 }
-    ensures { Commits (next_dot (known_in store.old) region) (spec.decided settings.now.cap store.old region now words.now request.now) store.old result store.new }
+    requires { next_serial (known_in ledger.old) region ≤ settings.now.cap + 1 }
+    ensures { Commits (next_dot (known_in ledger.old) region) (spec.decided settings.now.cap ledger.old region now words.now request.now) ledger.old result ledger.new }
 {
-    let serial = store.next_serial(region);
+    let serial = ledger.store().next_serial(region);
     let _cap = settings.cap();
     match Dot::new(region, serial) {
-        Some(next) => answer_at(alloc, settings, next, store, now, words, request),
+        Some(next) => answer_at(alloc, settings, next, ledger, now, words, request),
         None => unreachable!(),
     }
 }
@@ -45,16 +46,16 @@ fn answer_at(
     alloc: Global,
     settings: &Settings,
     next: Dot,
-    store: &mut FactStore,
+    ledger: &mut Ledger,
     now: Moment,
     words: &[u64; 6],
     request: &Request,
 ) -> Outcome
-    requires { map.get (known_in store.old) next ≡ None }
-    ensures { Commits next (spec.decided_at settings.now.cap next store.old now words.now request.now) store.old result store.new }
+    requires { map.get (known_in ledger.old) next ≡ None }
+    ensures { Commits next (spec.decided_at settings.now.cap next ledger.old now words.now request.now) ledger.old result ledger.new }
 {
-    match decided(alloc, settings, next, store, now, words, request) {
-        Ok(decision) => commit(next, store, decision),
+    match decided(alloc, settings, next, ledger, now, words, request) {
+        Ok(decision) => commit(next, ledger, decision),
         Err(_) => Outcome::Memory,
     }
 }
@@ -64,14 +65,14 @@ fn decided(
     alloc: Global,
     settings: &Settings,
     next: Dot,
-    store: &FactStore,
+    ledger: &Ledger,
     now: Moment,
     words: &[u64; 6],
     request: &Request,
 ) -> Result<Decision, AllocError>
-    ensures { IfOk result (λ decision. decision ≡ spec.decided_at settings.now.cap next store.now now words.now request.now) }
+    ensures { IfOk result (λ decision. decision ≡ spec.decided_at settings.now.cap next ledger.now now words.now request.now) }
 {
-    let decision = decide(alloc, store, next, now, words, request)?;
+    let decision = decide(alloc, ledger, next, now, words, request)?;
     if decision.made.is_some() && settings.cap() < next.serial() {
         return refuse(alloc, 503, "temporarily_unavailable");
     }
@@ -79,15 +80,15 @@ fn decided(
 }
 
 // Adds the fact made, and only then answers.
-fn commit(next: Dot, store: &mut FactStore, decision: Decision) -> Outcome
-    requires free { map.get (known_in store.old) next ≡ None }
+fn commit(next: Dot, ledger: &mut Ledger, decision: Decision) -> Outcome
+    requires free { map.get (known_in ledger.old) next ≡ None }
     requires passes { IfSome decision.made (λ body. refusal_of body ≡ None) }
-    ensures { Commits next decision store.old result store.new }
+    ensures { Commits next decision ledger.old result ledger.new }
 {
     let Decision { reply, made } = decision;
     match made {
         None => Outcome::Reply(reply),
-        Some(body) => match store.add(Fact { dot: next, body }) {
+        Some(body) => match ledger.add(Fact { dot: next, body }) {
             Ok(Added::New) => Outcome::Reply(reply),
             Ok(Added::Held) => unreachable!(),
             Err(AddError::Memory) => Outcome::Memory,
@@ -99,13 +100,13 @@ fn commit(next: Dot, store: &mut FactStore, decision: Decision) -> Outcome
 // Makes the page, and puts its bundle behind the others.
 pub(crate) fn pull_page(
     alloc: Global,
-    store: &FactStore,
+    ledger: &Ledger,
     bundles: &mut Vec<MadeBundle>,
     vector: &VersionVector,
 ) -> Outcome
-    ensures { Pages (pages.page_of (known_in store.now) vector.now) bundles.old.items result bundles.new.items }
+    ensures { Pages (pages.page_of (known_in ledger.now) vector.now) bundles.old.items result bundles.new.items }
 {
-    match make(alloc, store, vector) {
+    match make(alloc, ledger.store(), vector) {
         Ok(page) => keep_page(bundles, page),
         Err(_) => Outcome::Memory,
     }

@@ -3,7 +3,7 @@ use crate::settings::Settings;
 use std::alloc::Global;
 use std::marker::Model;
 use tk_handle::RegionNumber;
-use tk_store::FactStore;
+use tk_ledger::Ledger;
 
 /// Regions under their numbers, and the bundles that they made, which any of them may be handed in any order.
 #[derive(Debug, Drop)]
@@ -11,7 +11,7 @@ pub struct World {
     alloc: Global,
     settings: Settings,
     // Ascending by number.
-    regions: Vec<(RegionNumber, FactStore)>,
+    regions: Vec<(RegionNumber, Ledger)>,
     // In the order of making. All facts that regions hold or bundles carry are one set.
     bundles: Vec<MadeBundle>,
 }
@@ -185,7 +185,7 @@ fn bundle_at(bundles: &[MadeBundle], index: u64) -> Option<&MadeBundle>
 }
 
 // Where the region stands, or where it would go.
-fn place(regions: &[(RegionNumber, FactStore)], region: RegionNumber) -> Result<usize, usize>
+fn place(regions: &[(RegionNumber, Ledger)], region: RegionNumber) -> Result<usize, usize>
     requires { T (map.is_sorted nat_cmp regions.now) }
     ensures { MatchResult result (IsAt nat_cmp regions.now region) (IsGap nat_cmp regions.now region) }
 {
@@ -194,29 +194,29 @@ fn place(regions: &[(RegionNumber, FactStore)], region: RegionNumber) -> Result<
 
 fn open_region(
     alloc: Global,
-    regions: &mut Vec<(RegionNumber, FactStore)>,
+    regions: &mut Vec<(RegionNumber, Ledger)>,
     at: usize,
     number: RegionNumber,
 ) -> Outcome
     requires { at ≤ length regions.old.items }
     ensures { Opens regions.old.items at number result regions.new.items }
 {
-    match insert_region(regions, at, number, FactStore::new(alloc)) {
+    match insert_region(regions, at, number, Ledger::new(alloc)) {
         Ok(()) => Outcome::Opened,
         Err(_) => Outcome::Memory,
     }
 }
 
 fn insert_region(
-    regions: &mut Vec<(RegionNumber, FactStore)>,
+    regions: &mut Vec<(RegionNumber, Ledger)>,
     at: usize,
     number: RegionNumber,
-    store: FactStore,
+    ledger: Ledger,
 ) -> Result<(), AllocError>
     requires { at ≤ length regions.old.items }
-    ensures ok { OnOk result (regions.new.items ≡ insert regions.old.items at (number, store)) }
+    ensures ok { OnOk result (regions.new.items ≡ insert regions.old.items at (number, ledger)) }
     ensures err { OnErr result (regions.new.items ≡ regions.old.items) }
 {
-    regions.insert(at, (number, store))?;
+    regions.insert(at, (number, ledger))?;
     Ok(())
 }

@@ -7,4 +7,4 @@ use Rattle.tk_world.proofs.region.answer_at.Goals as goal
 pub commit-requires-clause-passes : goal.commit-requires-clause-passes
 commit-requires-clause-passes c =
     let P : Decision → Type 0 = λ d. IfSome d.made (λ body. refusal_of body ≡ None) in
-    subst P (sym c.in-Ok.ensures) (made_passes c.args.settings.now.cap c.args.next c.args.store.now c.args.now c.args.words.now c.args.request.now)
+    subst P (sym c.in-Ok.ensures) (made_passes c.args.settings.now.cap c.args.next c.args.ledger.now c.args.now c.args.words.now c.args.request.now)

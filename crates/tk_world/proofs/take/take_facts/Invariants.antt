@@ -5,7 +5,7 @@ use Rattle.tk_world.proofs.take.take_facts.Given as goal
 
 abbrev pub invariant-loop-fact : goal.invariant-loop-fact
 invariant-loop-fact l = record {
-  so_far : l.store ≡ with_facts l.fn.store (take l.fact-index l.facts);
-  counted : map.len l.fn.store + l.taken ≡ map.len l.store;
+  so_far : l.ledger ≡ with_facts l.fn.ledger (take l.fact-index l.facts);
+  counted : map.len l.fn.ledger + l.taken ≡ map.len l.ledger;
   few : l.taken ≤ l.fact-index;
 }

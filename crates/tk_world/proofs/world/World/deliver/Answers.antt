@@ -42,10 +42,10 @@ invariant_of-self c =
     let s = state w.settings w.regions.items w.bundles.items in
     let held = held_at w.settings w.regions.items w.bundles.items c.self.invariant.0 c.args.region c.in-Ok.at at p is in
     let there = rw c.deref-in-Ok.ensures.value at c.in-Some.ensures in
-    let step = deliver_step s c.args.bundle c.args.region p.1 c.take_bundle.new.store c.in-Some.bundle.now c.take_bundle.result held (sym there) c.take_bundle.ensures in (
-      sorted_after w.settings w.regions.items w.bundles.items c.self.invariant.0 c.args.region c.in-Ok.at at p is c.take_bundle.new.store,
+    let step = deliver_step s c.args.bundle c.args.region p.1 c.take_bundle.new.ledger c.in-Some.bundle.now c.take_bundle.result held (sym there) c.take_bundle.ensures in (
+      sorted_after w.settings w.regions.items w.bundles.items c.self.invariant.0 c.args.region c.in-Ok.at at p is c.take_bundle.new.ledger,
       ended_keeps s (Deliver c.args.bundle c.args.region) c.take_bundle.result _ step _
-          (state_after w.settings w.regions.items w.bundles.items c.self.invariant.0 c.args.region c.in-Ok.at at p is c.take_bundle.new.store) c.self.invariant.1,
+          (state_after w.settings w.regions.items w.bundles.items c.self.invariant.0 c.args.region c.in-Ok.at at p is c.take_bundle.new.ledger) c.self.invariant.1,
     )
 
 pub returns-in-Some : goal.returns-in-Some
@@ -57,9 +57,9 @@ returns-in-Some c =
     let s = state w.settings w.regions.items w.bundles.items in
     let held = held_at w.settings w.regions.items w.bundles.items c.self.invariant.0 c.args.region c.in-Ok.at at p is in
     let there = rw c.deref-in-Ok.ensures.value at c.in-Some.ensures in
-    let step = deliver_step s c.args.bundle c.args.region p.1 c.take_bundle.new.store c.in-Some.bundle.now c.take_bundle.result held (sym there) c.take_bundle.ensures in
+    let step = deliver_step s c.args.bundle c.args.region p.1 c.take_bundle.new.ledger c.in-Some.bundle.now c.take_bundle.result held (sym there) c.take_bundle.ensures in
     ended s (Deliver c.args.bundle c.args.region) c.take_bundle.result _ step _
-    (state_after w.settings w.regions.items w.bundles.items c.self.invariant.0 c.args.region c.in-Ok.at at p is c.take_bundle.new.store) _ c.self.view_is
+    (state_after w.settings w.regions.items w.bundles.items c.self.invariant.0 c.args.region c.in-Ok.at at p is c.take_bundle.new.ledger) _ c.self.view_is
 
 pub returns-in-None : goal.returns-in-None
 returns-in-None c =

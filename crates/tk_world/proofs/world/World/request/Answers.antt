@@ -35,10 +35,10 @@ invariant_of-self c =
     let is = c.index_mut.ensures.value in
     let s = state w.settings w.regions.items w.bundles.items in
     let held = held_at w.settings w.regions.items w.bundles.items c.self.invariant.0 c.args.region c.in-Ok.at at p is in
-    let step = request_step s c.args.region p.1 c.answer.new.store c.args.now c.args.words.now c.args.request.now c.answer.result held c.answer.ensures in (
-      sorted_after w.settings w.regions.items w.bundles.items c.self.invariant.0 c.args.region c.in-Ok.at at p is c.answer.new.store,
+    let step = request_step s c.args.region p.1 c.answer.new.ledger c.args.now c.args.words.now c.args.request.now c.answer.result held c.answer.ensures in (
+      sorted_after w.settings w.regions.items w.bundles.items c.self.invariant.0 c.args.region c.in-Ok.at at p is c.answer.new.ledger,
       ended_keeps s (Request c.args.region c.args.now c.args.words.now c.args.request.now) c.answer.result _ step _
-          (state_after w.settings w.regions.items w.bundles.items c.self.invariant.0 c.args.region c.in-Ok.at at p is c.answer.new.store) c.self.invariant.1,
+          (state_after w.settings w.regions.items w.bundles.items c.self.invariant.0 c.args.region c.in-Ok.at at p is c.answer.new.ledger) c.self.invariant.1,
     )
 
 pub returns-in-Ok : goal.returns-in-Ok
@@ -49,6 +49,6 @@ returns-in-Ok c =
     let is = c.index_mut.ensures.value in
     let s = state w.settings w.regions.items w.bundles.items in
     let held = held_at w.settings w.regions.items w.bundles.items c.self.invariant.0 c.args.region c.in-Ok.at at p is in
-    let step = request_step s c.args.region p.1 c.answer.new.store c.args.now c.args.words.now c.args.request.now c.answer.result held c.answer.ensures in
+    let step = request_step s c.args.region p.1 c.answer.new.ledger c.args.now c.args.words.now c.args.request.now c.answer.result held c.answer.ensures in
     ended s (Request c.args.region c.args.now c.args.words.now c.args.request.now) c.answer.result _ step _
-    (state_after w.settings w.regions.items w.bundles.items c.self.invariant.0 c.args.region c.in-Ok.at at p is c.answer.new.store) _ c.self.view_is
+    (state_after w.settings w.regions.items w.bundles.items c.self.invariant.0 c.args.region c.in-Ok.at at p is c.answer.new.ledger) _ c.self.view_is
