@@ -10,7 +10,7 @@ use Rattle.std.specs.Option.{option_map}
 use Rattle.std.specs.Ordering.{eq_by_cmp, is_lt, ordering_reverse}
 use Rattle.std.specs.declared.cmp.Ordering.{Ordering}
 use Rattle.std.specs.declared.cmp.Ordering.TheVariants.{Less, Equal, Greater}
-use Rattle.tk_scope.specs.Scope.{tokens_of}
+use Rattle.tk_scope.specs.Scope.{tokens_of, is_within}
 use Rattle.tk_scope.proofs.Within.{within_decides}
 use Rattle.tk_handle.specs.declared.dot.Dot.{Dot}
 use Rattle.tk_handle.specs.Dot.{dot_cmp, dot_cmp_total}
@@ -19,7 +19,7 @@ use Rattle.tk_fact.specs.declared.body.Body.TheVariants.{ConsentGiven}
 use Rattle.tk_store.specs.FactSet.{FactSet, Facts, AllIn, dot_of}
 use Rattle.tk_store.proofs.EntryLaws.{AllIn-entries}
 use Rattle.tk_store.proofs.PutLaws.{tied, none_is_not_some, some_injective}
-use Rattle.tk_ledger.specs.Clients.{is_same_dot, is_withdrawn, is_within, gives, grants, consents, consent_for, IsConsentFor, IsLeastConsent}
+use Rattle.tk_ledger.specs.Clients.{is_same_dot, is_withdrawn, gives, grants, consents, consent_for, IsConsentFor, IsLeastConsent}
 use Rattle.tk_ledger.proofs.ClientLaws.{unwithdrawn_of, not_withdrawn}
 use Rattle.tk_ledger.proofs.SameLaws.{same_dot-true, same_dot-itself}
 

@@ -71,11 +71,3 @@ is_dot-true (Some d) c h = ap (λ (x : Dot). Some x) (same_dot-true d c h)
 
 pub is_dot-of : (o : Option Dot) (c : Dot) → o ≡ Some c → is_dot o c ≡ true
 is_dot-of o c h = ap (λ (x : Option Dot). is_dot x c) h ∙ same_dot-itself c
-
--- ---- tests
-
--- two tests that hold together are the same
-pub same_tests : (a b : Bool) → (a ≡ true → b ≡ true) → (b ≡ true → a ≡ true) → a ≡ b
-same_tests true b h i = sym (h refl)
-same_tests false true h i = i refl
-same_tests false false h i = refl

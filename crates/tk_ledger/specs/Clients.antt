@@ -8,11 +8,11 @@
 --   IsConsentFor     a live consent includes a scope; IsLeastConsent is the least dot of one, and consent_for finds it
 use Rattle.std.specs.Prelude.{◌≡◌, ◌≢◌, ℕ, Bool, false, ◌&&◌, ◌==◌, not, List, Option, Some, None, is_some}
 use Rattle.std.specs.Option.{option_and_then, option_map}
-use Rattle.std.specs.List.{list_any, list_all, find}
+use Rattle.std.specs.List.{list_any, find}
 use Rattle.std.specs.Str.{bytes_eq}
 use Rattle.std.specs.declared.cmp.Ordering.TheVariants.{Less}
 use Rattle.std.specs.FinMap as map
-use Rattle.tk_scope.specs.Scope.{IsWithin, tokens_of}
+use Rattle.tk_scope.specs.Scope.{IsWithin, is_within}
 use Rattle.tk_handle.specs.declared.dot.Dot.{Dot}
 use Rattle.tk_handle.specs.Dot.{dot_cmp}
 use Rattle.tk_fact.specs.declared.body.Body.{Body}
@@ -111,10 +111,6 @@ pub record IsConsentFor (body_at : Dot → Option Body) (client : Dot) (subject 
 abbrev pub IsLeastConsent : (Dot → Option Body) → Dot → List ℕ → List ℕ → Option Dot → Type 0
 IsLeastConsent body_at client subject scope None = (d : Dot) → ¬ IsConsentFor body_at client subject scope d
 IsLeastConsent body_at client subject scope (Some d) = IsConsentFor body_at client subject scope d × ((q : Dot) → IsConsentFor body_at client subject scope q → dot_cmp q d ≢ Less)
-
--- each token of the scope is one of the other's, as a test (RFC 6749, 3.3)
-abbrev pub is_within : List ℕ → List ℕ → Bool
-is_within scope other = list_all (λ t. list_any (bytes_eq t) (tokens_of other)) (tokens_of scope)
 
 abbrev pub grants : Dot → List ℕ → List ℕ → Option given.ConsentGiven → Bool
 grants client subject scope None = false

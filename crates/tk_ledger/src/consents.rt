@@ -104,17 +104,11 @@ pub(crate) fn is_live_consent(facts: &FactStore, code: &CodeIssued) -> bool
         && !is_withdrawn(facts, code.consent)
 }
 
-fn is_within(scope: &Scope, other: &Scope) -> bool
-    ensures { result ≡ spec.is_within scope.now other.now }
-{
-    scope.within(other)
-}
-
 fn grants(consent: Option<&ConsentGiven>, client: Dot, subject: &Text, scope: &Scope) -> bool
     ensures { result ≡ spec.grants client subject.now scope.now (option_copied consent.entry) }
 {
     match consent {
-        Some(given) => { gives(Some(given), client, subject) && is_within(scope, &given.scope) }
+        Some(given) => gives(Some(given), client, subject) && scope.within(&given.scope),
         None => false,
     }
 }

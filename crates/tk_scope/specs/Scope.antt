@@ -1,7 +1,7 @@
 -- A scope (RFC 6749, 3.3): which texts are one, the rule that another breaks, and the printed form, for which a scope stands.
 use Rattle.std.specs.Prelude.{ℕ, Bool, ◌&&◌, ◌||◌, ◌==◌, not, nat_le, nat_lt, List, [], ◌∷◌, length, All, Contains, Option, Some, None, is_some, if◌then◌else◌}
 use Rattle.std.specs.Cmp.Lexicographic.{slice_cmp}
-use Rattle.std.specs.List.{join_with_byte, list_all, slice_split}
+use Rattle.std.specs.List.{join_with_byte, list_all, list_any, slice_split}
 use Rattle.std.specs.Ordering.{is_lt, nat_cmp}
 use Rattle.std.specs.Str.{bytes_eq}
 use Rattle.tk_scope.specs.declared.error.ScopeError.{ScopeError}
@@ -52,6 +52,10 @@ scope_of text = if is_some (scope_refusal text) then None else Some (scope_text 
 -- each token of the one scope is a token of the other (RFC 6749, 6: no token that was not granted)
 abbrev pub IsWithin : List ℕ → List ℕ → Type 0
 IsWithin scope other = All (Contains (tokens_of other)) (tokens_of scope)
+
+-- the same, as a test
+abbrev pub is_within : List ℕ → List ℕ → Bool
+is_within scope other = list_all (λ t. list_any (bytes_eq t) (tokens_of other)) (tokens_of scope)
 
 -- the two have the same tokens
 abbrev pub HasSameTokens : List ℕ → List ℕ → Type 0

@@ -24,7 +24,7 @@ ghost use Rattle.std.specs.Prelude.{◌≡◌, ◌≤◌, ◌↔◌, ◌⊎◌, 
 ghost use Rattle.std.specs.Cmp.Lexicographic.{slice_cmp};
 ghost use Rattle.std.specs.List.Sorted.{IsStrictlySortedBy};
 ghost use Rattle.std.specs.Ordering.{nat_cmp};
-ghost use Rattle.tk_scope.specs.Scope.{scope_of, scope_refusal, HasSameTokens, IsWithin, tokens_of};
+ghost use Rattle.tk_scope.specs.Scope.{scope_of, scope_refusal, HasSameTokens, IsWithin, is_within, tokens_of};
 
 use crate::ScopeError;
 use crate::grammar::is_list_of_tokens;
@@ -70,7 +70,8 @@ impl Scope {
 
     /// Whether each token of this scope is one of the other.
     pub fn within(&self, other: &Scope) -> bool
-        ensures { IsTrue result ↔ IsWithin self.now other.now }
+        ensures value { result ≡ is_within self.now other.now }
+        ensures meaning { IsTrue result ↔ IsWithin self.now other.now }
     {
         are_tokens_within(self.text(), other.text())
     }

@@ -1,9 +1,9 @@
 //! The tokens that a text writes.
 
 ghost use Rattle.std.specs.Prelude.{◌≡◌, length};
-ghost use Rattle.std.specs.List.{list_all, list_any};
+ghost use Rattle.std.specs.List.{list_any};
 ghost use Rattle.std.specs.Str.{bytes_eq};
-ghost use Rattle.tk_scope.specs.Scope.{tokens_of};
+ghost use Rattle.tk_scope.specs.Scope.{is_within, tokens_of};
 
 /// How many tokens the text writes, doubles counted.
 pub(crate) fn token_count(text: &str) -> usize
@@ -14,7 +14,7 @@ pub(crate) fn token_count(text: &str) -> usize
 
 /// Whether each token of the text is one of the other text.
 pub(crate) fn are_tokens_within(text: &str, other: &str) -> bool
-    ensures { result ≡ list_all (λ t. list_any (bytes_eq t) (tokens_of other.now)) (tokens_of text.now) }
+    ensures { result ≡ is_within text.now other.now }
 {
     text.split(' ').all(|token| has_token(other, token))
 }
