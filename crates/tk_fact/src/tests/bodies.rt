@@ -10,23 +10,28 @@ use tk_handle::{Dot, Kind, Moment, RegionNumber, TokenId};
 use tk_match::{Challenge, Redirects};
 use tk_scope::Scope;
 
-pub const DIGEST: [u8; 32] = *b"0123456789abcdef0123456789abcdef";
+pub(super) const DIGEST: [u8; 32] = *b"0123456789abcdef0123456789abcdef";
 
-pub const OTHER_DIGEST: [u8; 32] = *b"fedcba9876543210fedcba9876543210";
+pub(super) const OTHER_DIGEST: [u8; 32] = *b"fedcba9876543210fedcba9876543210";
 
 // A region and a serial.
-pub type Place = (u16, u64);
+pub(super) type Place = (u16, u64);
 
-pub fn dot(place: Place) -> Result<Dot, Fail> {
+pub(super) fn dot(place: Place) -> Result<Dot, Fail> {
     let region = RegionNumber::new(place.0).ok_or("a region")?;
     Ok(Dot::new(region, place.1).ok_or("a dot")?)
 }
 
-pub fn moment(seconds: u64) -> Result<Moment, Fail> {
+pub(super) fn moment(seconds: u64) -> Result<Moment, Fail> {
     Ok(Moment::new(seconds).ok_or("a moment")?)
 }
 
-pub fn client(alloc: Global, sort: Sort, scope: &[u8], uris: &[&[u8]]) -> Result<Body, Fail> {
+pub(super) fn client(
+    alloc: Global,
+    sort: Sort,
+    scope: &[u8],
+    uris: &[&[u8]],
+) -> Result<Body, Fail> {
     let redirects = Redirects::kept(alloc, uris)?;
     Ok(Body::ClientAdded(ClientAdded {
         sort,
@@ -35,12 +40,17 @@ pub fn client(alloc: Global, sort: Sort, scope: &[u8], uris: &[&[u8]]) -> Result
     }))
 }
 
-pub fn retirement(client: Place) -> Result<Body, Fail> {
+pub(super) fn retirement(client: Place) -> Result<Body, Fail> {
     let client = dot(client)?;
     Ok(Body::ClientRetired(ClientRetired { client }))
 }
 
-pub fn consent(alloc: Global, client: Place, subject: &[u8], scope: &[u8]) -> Result<Body, Fail> {
+pub(super) fn consent(
+    alloc: Global,
+    client: Place,
+    subject: &[u8],
+    scope: &[u8],
+) -> Result<Body, Fail> {
     let client = dot(client)?;
     let subject = Text::new(alloc, subject)?;
     Ok(Body::ConsentGiven(ConsentGiven {
@@ -50,26 +60,26 @@ pub fn consent(alloc: Global, client: Place, subject: &[u8], scope: &[u8]) -> Re
     }))
 }
 
-pub fn withdrawal(consent: Place) -> Result<Body, Fail> {
+pub(super) fn withdrawal(consent: Place) -> Result<Body, Fail> {
     let consent = dot(consent)?;
     Ok(Body::ConsentWithdrawn(ConsentWithdrawn { consent }))
 }
 
 // What a code is issued with. Its challenge has the method S256.
 #[derive(Clone, Copy)]
-pub struct CodeFields<'a> {
-    pub client: Place,
-    pub consent: Place,
-    pub start: u64,
-    pub expiry: u64,
-    pub family_end: u64,
-    pub subject: &'a [u8],
-    pub scope: &'a [u8],
-    pub uri: &'a [u8],
-    pub challenge: &'a [u8],
+pub(super) struct CodeFields<'a> {
+    pub(super) client: Place,
+    pub(super) consent: Place,
+    pub(super) start: u64,
+    pub(super) expiry: u64,
+    pub(super) family_end: u64,
+    pub(super) subject: &'a [u8],
+    pub(super) scope: &'a [u8],
+    pub(super) uri: &'a [u8],
+    pub(super) challenge: &'a [u8],
 }
 
-pub fn code(alloc: Global, fields: CodeFields<'_>) -> Result<Body, Fail> {
+pub(super) fn code(alloc: Global, fields: CodeFields<'_>) -> Result<Body, Fail> {
     let (client, consent) = (dot(fields.client)?, dot(fields.consent)?);
     let (start, expiry) = (moment(fields.start)?, moment(fields.expiry)?);
     let family_end = moment(fields.family_end)?;
@@ -93,12 +103,12 @@ pub fn code(alloc: Global, fields: CodeFields<'_>) -> Result<Body, Fail> {
 
 // What both tokens of a redemption or a rotation are minted with.
 #[derive(Clone, Copy)]
-pub struct TokenFields<'a> {
-    pub parent: Place,
-    pub start: u64,
-    pub access_end: u64,
-    pub refresh_end: u64,
-    pub scope: &'a [u8],
+pub(super) struct TokenFields<'a> {
+    pub(super) parent: Place,
+    pub(super) start: u64,
+    pub(super) access_end: u64,
+    pub(super) refresh_end: u64,
+    pub(super) scope: &'a [u8],
 }
 
 fn token(alloc: Global, digest: [u8; 32], end: u64, scope: &[u8]) -> Result<MintedToken, Fail> {
@@ -110,7 +120,7 @@ fn token(alloc: Global, digest: [u8; 32], end: u64, scope: &[u8]) -> Result<Mint
     })
 }
 
-pub fn redemption(alloc: Global, fields: TokenFields<'_>) -> Result<Body, Fail> {
+pub(super) fn redemption(alloc: Global, fields: TokenFields<'_>) -> Result<Body, Fail> {
     let (code, start) = (dot(fields.parent)?, moment(fields.start)?);
     let access = token(alloc, DIGEST, fields.access_end, fields.scope)?;
     Ok(Body::CodeRedeemed(CodeRedeemed {
@@ -121,7 +131,11 @@ pub fn redemption(alloc: Global, fields: TokenFields<'_>) -> Result<Body, Fail> 
     }))
 }
 
-pub fn rotation(alloc: Global, generation: u16, fields: TokenFields<'_>) -> Result<Body, Fail> {
+pub(super) fn rotation(
+    alloc: Global,
+    generation: u16,
+    fields: TokenFields<'_>,
+) -> Result<Body, Fail> {
     let (parent, start) = (dot(fields.parent)?, moment(fields.start)?);
     let access = token(alloc, DIGEST, fields.access_end, fields.scope)?;
     Ok(Body::RefreshRotated(RefreshRotated {
@@ -133,7 +147,7 @@ pub fn rotation(alloc: Global, generation: u16, fields: TokenFields<'_>) -> Resu
     }))
 }
 
-pub fn revocation(minted_by: Place, kind: Kind, client: Place) -> Result<Body, Fail> {
+pub(super) fn revocation(minted_by: Place, kind: Kind, client: Place) -> Result<Body, Fail> {
     let (dot, client) = (dot(minted_by)?, dot(client)?);
     Ok(Body::TokenRevoked(TokenRevoked {
         token: TokenId { dot, kind },
@@ -142,7 +156,7 @@ pub fn revocation(minted_by: Place, kind: Kind, client: Place) -> Result<Body, F
     }))
 }
 
-pub fn reuse(minted_by: Place, kind: Kind) -> Result<Body, Fail> {
+pub(super) fn reuse(minted_by: Place, kind: Kind) -> Result<Body, Fail> {
     let dot = dot(minted_by)?;
     Ok(Body::ReuseSeen(ReuseSeen {
         token: TokenId { dot, kind },
