@@ -4,3 +4,4 @@ pub mod FamilyEnds
 pub mod SameLaws
 pub mod StatusLaws
 pub mod TokenLaws
+pub mod WalkSteps

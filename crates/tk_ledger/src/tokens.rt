@@ -69,14 +69,18 @@ fn parent(facts: &FactStore, dot: Dot) -> Option<Dot>
 fn code_within(facts: &FactStore, dot: Dot, steps: u32) -> Option<Dot>
     ensures { result ≡ code_by (spec.links_in (map.get (facts_of facts.now))) steps dot }
 {
-    if is_code(&link_at(facts, dot)) {
-        return Some(dot);
+    let mut at = dot;
+    for _ in 0..steps {
+        if is_code(&link_at(facts, at)) {
+            return Some(at);
+        }
+        at = parent(facts, at)?;
     }
-    if steps == 0 {
-        return None;
+    if is_code(&link_at(facts, at)) {
+        Some(at)
+    } else {
+        None
     }
-    let above = parent(facts, dot)?;
-    code_within(facts, above, steps - 1)
 }
 
 fn rank_at(link: &Option<Link>) -> u32
