@@ -1,5 +1,5 @@
 -- What number a text is the decimal of.
-use Rattle.std.proofs.Common.{◌≡◌, ◌≢◌, ℕ, ◌<◌, ◌^◌, Bool, true, false, ◌&&◌, nat_lt, cond, List, length, get_or, Option, Some, None, zero, suc, refl, sym, ap, ◌∙◌, subst, arith, decimal, MatchOption, Result, Ok, Err}
+use Rattle.std.proofs.Common.{◌≡◌, ◌≢◌, ℕ, ◌<◌, ◌≤◌, ◌^◌, Bool, true, false, ◌&&◌, nat_lt, nat_le, cond, List, length, get_or, Option, Some, None, zero, suc, refl, sym, ap, ◌∙◌, subst, arith, decimal, MatchOption, Result, Ok, Err}
 use Rattle.std.specs.Str.{bytes_eq}
 use Rattle.std.specs.Str.Parse.{digits_value, ParsesUnsigned, AllDigits}
 use Rattle.std.specs.Result.{result_ok}
@@ -39,6 +39,9 @@ both_true false b h = absurd (false≢true h)
 
 lt_from_test : (a b : ℕ) → nat_lt a b ≡ true → a < b
 lt_from_test a b h = grind (arith, nat_tests)
+
+le_from_test : (a b : ℕ) → nat_le a b ≡ true → a ≤ b
+le_from_test a b h = grind (arith, nat_tests)
 
 test_from_lt : (a b : ℕ) → a < b → nat_lt a b ≡ true
 test_from_lt a b h = grind (arith, nat_tests)
@@ -89,6 +92,28 @@ no_nothing text short n h =
     let e = ap length h.same in
     absurd (omega (arith, f, e, short))
 
+-- a number is read back from its decimal
+number_back : (n : ℕ) → n < 2 ^ 64 → number_in (decimal n) ≡ Some n
+number_back n high = sym (is_number_in (decimal n) (Some n) (record { high = high; same = refl }))
+
+within : (low high n : ℕ) → low ≤ n → n ≤ high → between low high (Some n) ≡ Some n
+within low high n a b = grind (arith, nat_tests)
+
+none_is_not_some : {A : Type 0} (x : A) → ¬ (None ≡ Some x)
+none_is_not_some x h = cc
+
+-- what is read from a decimal is its number
+pub number_of : (text : List ℕ) (m n : ℕ) → number_in text ≡ Some m → n < 2 ^ 64 → text ≡ decimal n → m ≡ n
+number_of text m n read fits same = let both : Some m ≡ Some n = sym read ∙ ap number_in same ∙ number_back n fits in cc
+
+-- so a text that is read as none is the decimal of none
+pub no_number : (text : List ℕ) (n : ℕ) → number_in text ≡ None → n < 2 ^ 64 → text ≢ decimal n
+no_number text n none high same = none_is_not_some n (sym none ∙ ap number_in same ∙ number_back n high)
+
+pub no_number_between : (low high : ℕ) (text : List ℕ) (n : ℕ) → number_between low high text ≡ None → low ≤ n → n ≤ high → n < 2 ^ 64 → text ≢ decimal n
+no_number_between low high text n none a b fits same =
+    none_is_not_some n (sym none ∙ ap (number_between low high) same ∙ ap (between low high) (number_back n fits) ∙ within low high n a b)
+
 -- the text of a number that was read
 pub spelled : (text : List ℕ) (n : ℕ) → number_in text ≡ Some n → decimal n ≡ text
 spelled text n e = (subst (Numbers text) e (numbers_in text)).same
@@ -103,3 +128,15 @@ between_was low high n (Some m) e = go _ e
 
 pub spelled_between : (low high : ℕ) (text : List ℕ) (n : ℕ) → number_between low high text ≡ Some n → decimal n ≡ text
 spelled_between low high text n e = spelled text n (between_was low high n (number_in text) e)
+
+-- and its range
+pub ends : (low high : ℕ) (text : List ℕ) (n : ℕ) → number_between low high text ≡ Some n → (low ≤ n) × (n ≤ high)
+ends low high text n e = go (number_in text) e
+  where
+    in_test : (m : ℕ) (b : Bool) → (nat_le low m && nat_le m high) ≡ b → cond b (Some m) None ≡ Some n → (low ≤ n) × (n ≤ high)
+    in_test m true t e = let same : m ≡ n = cc in let p = both_true _ _ t in (le_from_test low n (ap (nat_le low) (sym same) ∙ p.0), le_from_test n high (ap (λ k. nat_le k high) (sym same) ∙ p.1))
+    in_test m false t e = absurd (none_is_not_some n e)
+
+    go : (o : Option ℕ) → between low high o ≡ Some n → (low ≤ n) × (n ≤ high)
+    go None e = absurd (none_is_not_some n e)
+    go (Some m) e = in_test m _ refl e

@@ -1,9 +1,10 @@
--- The numbers and texts that a line's fields stand for.
-use Rattle.std.specs.Prelude.{ℕ, ◌^◌, ◌<◌, ◌≢◌, Bool, ◌&&◌, ◌==◌, nat_lt, nat_le, if◌then◌else◌, List, ◌++◌, length, codes, decimal, Option, Some, None}
-use Rattle.std.specs.List.{All, AllAdjacentBelow}
+-- The numbers, dots and texts that a line's fields stand for.
+use Rattle.std.specs.Prelude.{◌≡◌, ℕ, ◌^◌, ◌<◌, ◌≢◌, Bool, ◌&&◌, ◌==◌, nat_lt, nat_le, if◌then◌else◌, List, ◌++◌, map, length, codes, decimal, Option, Some, None}
+use Rattle.std.specs.List.{All, AllAdjacentBelow, slice_split}
 use Rattle.std.specs.Str.{bytes_eq}
 use Rattle.std.specs.Str.Parse.{digits_value}
 use Rattle.tk_handle.specs.declared.dot.Dot.{Dot}
+use Rattle.tk_handle.specs.Dot.{IsDot}
 
 abbrev pub is_space : ℕ → Bool
 is_space b = b == 32
@@ -29,9 +30,28 @@ is_comma b = b == 44
 abbrev pub dot_text : Dot → List ℕ
 dot_text dot = decimal dot.region ++ (codes ":" ++ decimal dot.serial)
 
+-- the text is the dot's, and the dot is in its range
+pub record IsDotText (text : List ℕ) (dot : Dot) : Type 0 where
+  pub range : IsDot dot
+  pub spelled : text ≡ dot_text dot
+
+-- it is no dot's
+abbrev pub IsNoDot : List ℕ → Type 0
+IsNoDot text = (dot : Dot) → ¬ (IsDotText text dot)
+
 -- each dot's region is below that of the next
 abbrev pub IsRising : List Dot → Type 0
 IsRising dots = AllAdjacentBelow (λ one next. one.region < next.region) dots (length dots)
+
+-- the text has an entry for each dot, joined by commas, and the regions rise
+pub record IsDotsText (text : List ℕ) (dots : List Dot) : Type 0 where
+  pub ranges : All IsDot dots
+  pub spelled : slice_split is_comma text ≡ map dot_text dots
+  pub rising : IsRising dots
+
+-- it is of no dots
+abbrev pub AreNoDots : List ℕ → Type 0
+AreNoDots text = (dots : List Dot) → ¬ (IsDotsText text dots)
 
 -- no byte of the text is `&`, `=`, `+` or `%`
 abbrev pub IsFormText : List ℕ → Type 0

@@ -1,6 +1,6 @@
-ghost use Rattle.std.specs.Prelude.{◌≡◌, ◌↔◌, IfOk, IfSome, IsTrue, map};
+ghost use Rattle.std.specs.Prelude.{◌≡◌, ◌↔◌, IfOk, IsErrOf, IsTrue, MatchOption, map};
 ghost use Rattle.std.specs.List.{slice_split};
-ghost use Rattle.tokend.specs.Fields.{is_space, is_comma, number_in, number_between, dot_text, IsRising, IsFormText};
+ghost use Rattle.tokend.specs.Fields.{is_space, number_in, number_between, IsDotText, IsNoDot, IsDotsText, AreNoDots, IsFormText};
 
 use crate::fault::LineError;
 use std::alloc::{AllocError, Global};
@@ -42,7 +42,7 @@ pub(crate) fn moment(text: &str) -> Option<Moment>
 
 /// A dot as `R:S`: a region and a serial of its, 1 to 9,223,372,036,854,775,807.
 pub(crate) fn dot(text: &str) -> Option<Dot>
-    ensures { IfSome result (λ dot. text.now ≡ dot_text dot) }
+    ensures { MatchOption result (IsNoDot text.now) (IsDotText text.now) }
 {
     let (before, after) = text.split_once(':')?;
     Dot::new(region(before)?, number(after)?)
@@ -50,8 +50,8 @@ pub(crate) fn dot(text: &str) -> Option<Dot>
 
 /// Dots of rising regions, joined by commas.
 pub(crate) fn dots(alloc: Global, text: &str) -> Result<Vec<Dot>, LineError>
-    ensures texts { IfOk result (λ dots. map dot_text dots.items ≡ slice_split is_comma text.now) }
-    ensures rising { IfOk result (λ dots. IsRising dots.items) }
+    ensures found { IfOk result (λ dots. IsDotsText text.now dots.items) }
+    ensures bad { IsErrOf result LineError.Bad → AreNoDots text.now }
 {
     let mut dots: Vec<Dot> = Vec::new(alloc);
     for entry in text.split(',') {

@@ -1,5 +1,5 @@
-ghost use Rattle.std.specs.Prelude.{◌≡◌, ◌↔◌, IfOk, IfSome, IsSome};
-ghost use Rattle.tokend.specs.Line.{IsPrintable, IsVectorText, HasWords};
+ghost use Rattle.std.specs.Prelude.{◌≡◌, ◌↔◌, IfOk, IfSome, IsErrOf, IsSome};
+ghost use Rattle.tokend.specs.Line.{IsPrintable, IsVectorText, IsNoVector, HasWords};
 
 use crate::fault::LineError;
 use crate::fields::{dots, fields, is_form_text, moment, number, region};
@@ -78,7 +78,8 @@ fn request(alloc: Global, name: &str, form: &[&str]) -> Result<Request, LineErro
 
 // The vector of a field.
 fn vector(alloc: Global, entries: &str) -> Result<VersionVector, LineError>
-    ensures { IfOk result (IsVectorText entries.now) }
+    ensures found { IfOk result (IsVectorText entries.now) }
+    ensures bad { IsErrOf result LineError.Bad → IsNoVector entries.now }
 {
     let mut vector = VersionVector::new(alloc);
     if entries == "-" {

@@ -1,13 +1,17 @@
-use Rattle.std.proofs.Common.{rules, ◌≡◌, lit<, decimal}
-use Rattle.std.proofs.lemmas.Str.Pattern.{split_parts}
-use Rattle.tokend.proofs.NumberTexts.{spelled, spelled_between}
-use Rattle.tokend.proofs.DotTexts.{joined, made}
+use Rattle.std.proofs.Common.{rules}
+use Rattle.tokend.proofs.DotTexts.{no_colon_there, no_region_there, no_serial_there, dot_there}
 use Rattle.tokend.proofs.fields.dot.Goals as goal
 
 pub returns : goal.returns
-returns c =
-    let parts = split_parts 58 c.args.text.now c.split_once.result c.split_once.ensures.cases (lit< tt) in
-    let region : decimal c.in_ok-region.field-0 ≡ c.in_ok-before.before.now = spelled_between 1 65535 _ _ (search rules) in
-    let serial : decimal c.in_ok-number.field-0 ≡ c.in_ok-before.after.now = spelled _ _ (search rules) in
-    let cut = rw c.in_ok-before.was at parts in
-    made _ c.args.text.now _ _ c.new.result c.new.ensures (joined c.args.text.now _ _ _ _ cut.0 region serial)
+returns c = dot_there c.args.text.now c.split_once.result c.in_ok-before.before c.in_ok-before.after c.split_once.ensures.cases (search rules) _ _ c.new.result (search rules) (search rules) c.new.ensures
+
+pub returns-in_err-before : goal.returns-in_err-before
+returns-in_err-before c = rw c.from_residual.ensures (no_colon_there c.args.text.now c.split_once.result c.split_once.ensures.cases (search rules))
+
+pub returns-in_err-region : goal.returns-in_err-region
+returns-in_err-region c =
+    rw c.from_residual-in_err-region.ensures (no_region_there c.args.text.now c.split_once.result c.in_ok-before.before c.in_ok-before.after c.split_once.ensures.cases (search rules) (search rules))
+
+pub returns-in_err-number : goal.returns-in_err-number
+returns-in_err-number c =
+    rw c.from_residual-in_err-number.ensures (no_serial_there c.args.text.now c.split_once.result c.in_ok-before.before c.in_ok-before.after c.split_once.ensures.cases (search rules) (search rules))
