@@ -2,3 +2,4 @@ pub mod TypedNumber
 pub mod NumberTexts
 pub mod DotTexts
 pub mod EventWords
+pub mod EventForms

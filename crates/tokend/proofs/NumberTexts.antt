@@ -118,6 +118,9 @@ no_number_between low high text n none a b fits same =
 pub spelled : (text : List ℕ) (n : ℕ) → number_in text ≡ Some n → decimal n ≡ text
 spelled text n e = (subst (Numbers text) e (numbers_in text)).same
 
+pub fits : (text : List ℕ) (n : ℕ) → number_in text ≡ Some n → n < 2 ^ 64
+fits text n e = (subst (Numbers text) e (numbers_in text)).high
+
 between_was : (low high n : ℕ) (o : Option ℕ) → between low high o ≡ Some n → o ≡ Some n
 between_was low high n None e = e
 between_was low high n (Some m) e = go _ e

@@ -1,5 +1,5 @@
 -- The numbers, dots and texts that a line's fields stand for.
-use Rattle.std.specs.Prelude.{◌≡◌, ℕ, ◌^◌, ◌<◌, ◌≢◌, Bool, ◌&&◌, ◌==◌, nat_lt, nat_le, if◌then◌else◌, List, ◌++◌, map, length, codes, decimal, Option, Some, None}
+use Rattle.std.specs.Prelude.{◌≡◌, ℕ, ◌^◌, ◌<◌, ◌≤◌, ◌≢◌, Bool, ◌&&◌, ◌==◌, nat_lt, nat_le, if◌then◌else◌, List, ◌++◌, map, length, codes, decimal, Option, Some, None}
 use Rattle.std.specs.List.{All, AllAdjacentBelow, slice_split}
 use Rattle.std.specs.Str.{bytes_eq}
 use Rattle.std.specs.Str.Parse.{digits_value}
@@ -22,6 +22,14 @@ between low high (Some n) = if nat_le low n && nat_le n high then Some n else No
 
 abbrev pub number_between : ℕ → ℕ → List ℕ → Option ℕ
 number_between low high text = between low high (number_in text)
+
+-- the number of a region
+abbrev pub IsRegion : ℕ → Type 0
+IsRegion n = (1 ≤ n) × (n ≤ 65535)
+
+-- the seconds of a moment
+abbrev pub IsMoment : ℕ → Type 0
+IsMoment n = n ≤ 253402300799
 
 abbrev pub is_comma : ℕ → Bool
 is_comma b = b == 44

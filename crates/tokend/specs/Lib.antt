@@ -2,7 +2,7 @@
 --   CommandLine   the command line, as clap's contracts see it
 --   Task          what the words ask for
 --   Fields        the numbers, dots and texts that a line's fields stand for
---   Line          what a line may hold, and the vector that a field stands for
+--   Line          the lines that are events, and the words that these draw
 --   Status        the exit status of a fault
 pub mod CommandLine
 pub mod Task

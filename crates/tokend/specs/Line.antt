@@ -1,15 +1,20 @@
--- The lines of a script, and the words that their events draw.
---   IsPrintable    what a line may hold
---   IsVectorText   the vector that a field stands for
---   HasWords       the words of a request; words_at, those of an event by its place
-use Rattle.std.specs.Prelude.{◌≡◌, ◌⊎◌, ◌≤◌, ◌+◌, ◌*◌, ⊤, ℕ, List, [], ◌∷◌, codes}
+-- The lines of a script that are events, and the words that their events draw.
+--   IsVectorText    the vector that a field stands for
+--   IsRequestForm   the request of a line's first field and of those after the moment
+--   IsEventForm     the event of a line's fields
+--   IsEventLine     the event of a line
+--   HasWords        the words of a request; words_at, those of an event by its place
+use Rattle.std.specs.Prelude.{◌≡◌, ◌⊎◌, ◌≤◌, ◌<◌, ◌+◌, ◌*◌, ◌^◌, ⊤, ℕ, List, [], ◌∷◌, map, length, codes, decimal, string_bytes}
+use Rattle.std.specs.Borrow.{Bor}
 use Rattle.std.specs.FinMap as fin
-use Rattle.std.specs.List.{All, fold}
+use Rattle.std.specs.List.{All, fold, slice_split}
 use Rattle.tk_handle.specs.declared.dot.Dot.{Dot}
 use Rattle.tk_vector.specs.VersionVector.{Vector, raised}
 use Rattle.tk_world.specs.declared.event.Event.{Event}
 use Rattle.tk_world.specs.declared.event.Event.TheVariants.{Open, Request, Pull, Deliver}
-use Rattle.tokend.specs.Fields.{IsDotsText}
+use Rattle.tk_world.specs.declared.request.Request as asked
+use Rattle.tk_world.specs.declared.request.Request.TheVariants.{AddClient, ShowClient, Retire}
+use Rattle.tokend.specs.Fields.{is_space, IsRegion, IsMoment, IsDotsText, IsFormText}
 
 -- the bytes are spaces and visible ASCII
 abbrev pub IsPrintable : List ℕ → Type 0
@@ -27,6 +32,48 @@ IsVectorText text vector = ((text ≡ codes "-") × (vector ≡ fin.empty))
 -- the text is no vector's
 abbrev pub IsNoVector : List ℕ → Type 0
 IsNoVector text = (vector : Vector) → ¬ (IsVectorText text vector)
+
+-- a `&[&str]` as texts
+abbrev pub texts : List (Bor (List ℕ)) → List (List ℕ)
+texts fields = map (λ field. field.now) fields
+
+-- `client .. public - SCOPE URIS`, `look .. ID` and `retire .. ID`, by the name and by what stands behind the moment
+abbrev pub IsRequestForm : List ℕ → List (List ℕ) → asked.Request → Type 0
+IsRequestForm name form (AddClient scope redirects) =
+    (name ≡ codes "client") × (form ≡ codes "public" ∷ codes "-" ∷ string_bytes scope ∷ string_bytes redirects ∷ [])
+    × IsFormText (string_bytes scope) × IsFormText (string_bytes redirects)
+IsRequestForm name form (ShowClient id) = (name ≡ codes "look") × (form ≡ string_bytes id ∷ [])
+IsRequestForm name form (Retire id) = (name ≡ codes "retire") × (form ≡ string_bytes id ∷ [])
+
+-- they are no request's
+abbrev pub IsNoRequest : List ℕ → List (List ℕ) → Type 0
+IsNoRequest name form = (request : asked.Request) → ¬ (IsRequestForm name form request)
+
+-- `open R`, NAME R NOW and a request's form, `pull R VECTOR -`, and `deliver B R`
+abbrev pub IsEventForm : List (List ℕ) → Event → Type 0
+IsEventForm fields (Open region) = (fields ≡ codes "open" ∷ decimal region ∷ []) × IsRegion region
+IsEventForm fields (Request region now words request) =
+    (name : List ℕ) × (form : List (List ℕ)) × (fields ≡ name ∷ decimal region ∷ decimal now ∷ form)
+    × IsRegion region × IsMoment now × IsRequestForm name form request
+IsEventForm fields (Pull region vector) =
+    (entries : List ℕ) × (fields ≡ codes "pull" ∷ decimal region ∷ entries ∷ codes "-" ∷ [])
+    × IsRegion region × IsVectorText entries vector
+IsEventForm fields (Deliver bundle region) =
+    (fields ≡ codes "deliver" ∷ decimal bundle ∷ decimal region ∷ []) × (bundle < 2 ^ 64) × IsRegion region
+
+-- they are no event's
+abbrev pub IsNoEventForm : List (List ℕ) → Type 0
+IsNoEventForm fields = (event : Event) → ¬ (IsEventForm fields event)
+
+-- the line's fields are parted by single spaces, and have the event's form
+pub record IsEventLine (line : List ℕ) (event : Event) : Type 0 where
+  pub printable : IsPrintable line
+  pub parted : All (λ field. 0 < length field) (slice_split is_space line)
+  pub form : IsEventForm (slice_split is_space line) event
+
+-- the line has another form, or a number out of its range
+abbrev pub IsNoEventLine : List ℕ → Type 0
+IsNoEventLine line = (event : Event) → ¬ (IsEventLine line event)
 
 -- a request has these words, and other events have none
 abbrev pub HasWords : List ℕ → Event → Type 0

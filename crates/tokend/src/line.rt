@@ -1,5 +1,5 @@
 ghost use Rattle.std.specs.Prelude.{◌≡◌, ◌↔◌, IfOk, IfSome, IsErrOf, IsSome};
-ghost use Rattle.tokend.specs.Line.{IsPrintable, IsVectorText, IsNoVector, HasWords};
+ghost use Rattle.tokend.specs.Line.{IsPrintable, texts, IsVectorText, IsNoVector, IsRequestForm, IsNoRequest, IsEventForm, IsNoEventForm, IsEventLine, IsNoEventLine, HasWords};
 
 use crate::fault::LineError;
 use crate::fields::{dots, fields, is_form_text, moment, number, region};
@@ -20,13 +20,24 @@ use tk_world::{Event, Request};
 /// B a bundle's number from 0; VECTOR is `-`, or entries `R:S` of rising regions that are joined by commas. SCOPE and
 /// URIS hold none of `&`, `=`, `+` and `%`.
 pub(crate) fn event(alloc: Global, line: &[u8], words: [u64; 6]) -> Result<Event, LineError>
-    ensures { IfOk result (HasWords words) }
+    ensures found { IfOk result (IsEventLine line.now) }
+    ensures words { IfOk result (HasWords words) }
+    ensures bad { IsErrOf result LineError.Bad → IsNoEventLine line.now }
 {
     let fields = fields(alloc, printable(line).ok_or(LineError::Bad)?)?;
     if fields.iter().any(|field| field.is_empty()) {
         return Err(LineError::Bad);
     }
-    match fields.as_slice() {
+    event_of(alloc, &fields, words)
+}
+
+// The event of a line's fields.
+fn event_of(alloc: Global, fields: &[&str], words: [u64; 6]) -> Result<Event, LineError>
+    ensures found { IfOk result (IsEventForm (texts fields.now)) }
+    ensures words { IfOk result (HasWords words) }
+    ensures bad { IsErrOf result LineError.Bad → IsNoEventForm (texts fields.now) }
+{
+    match fields {
         ["open", at] => Ok(Event::Open(region(at).ok_or(LineError::Bad)?)),
         ["pull", at, entries, "-"] => Ok(Event::Pull {
             region: region(at).ok_or(LineError::Bad)?,
@@ -58,7 +69,10 @@ fn printable(line: &[u8]) -> Option<&str>
 }
 
 // The request of a line by its first field, and by those after the moment.
-fn request(alloc: Global, name: &str, form: &[&str]) -> Result<Request, LineError> {
+fn request(alloc: Global, name: &str, form: &[&str]) -> Result<Request, LineError>
+    ensures found { IfOk result (IsRequestForm name.now (texts form.now)) }
+    ensures bad { IsErrOf result LineError.Bad → IsNoRequest name.now (texts form.now) }
+{
     match (name, form) {
         ("client", ["public", "-", scope, uris]) if is_form_text(scope) && is_form_text(uris) => {
             Ok(Request::AddClient {

@@ -1,0 +1,207 @@
+-- The forms of events' fields: what fields that are given by their number and their texts are, and which have no event.
+use Rattle.std.proofs.Common.{◌≡◌, ◌≢◌, ℕ, ◌<◌, ◌≤◌, ◌^◌, List, [], ◌∷◌, length, get_or, slice_index_or, drop, codes, decimal, string_bytes, Some, None, Bor, refl, sym, ap, ◌∙◌, subst, arith}
+use Rattle.std.specs.List.{All, AllWithin, HoldsAt, slice_split}
+use Rattle.std.proofs.lemmas.List.{get_or-map, length-map}
+use Rattle.std.proofs.lemmas.List.Elements.{All-map, All-from_all_within}
+use Rattle.tk_vector.specs.VersionVector.{Vector}
+use Rattle.tk_world.specs.declared.event.Event.{Event}
+use Rattle.tk_world.specs.declared.event.Event.TheVariants.{Open, Request, Pull, Deliver}
+use Rattle.tk_world.specs.declared.request.Request as asked
+use Rattle.tk_world.specs.declared.request.Request.TheVariants.{AddClient, ShowClient, Retire}
+use Rattle.tokend.specs.Fields.{number_in, number_between, is_space, IsRegion, IsMoment, IsFormText}
+use Rattle.tokend.specs.Line.{texts, IsVectorText, IsNoVector, IsRequestForm, IsNoRequest, IsPrintable, IsEventForm, IsNoEventForm, IsEventLine, IsNoEventLine}
+use Rattle.tokend.proofs.NumberTexts.{no_number, no_number_between, spelled, spelled_between, ends, fits}
+
+-- the text at an index, empty past the end; a slice pattern reads its texts with this default
+abbrev pub text_at : List (Bor (List ℕ)) → ℕ → List ℕ
+text_at fields i = (slice_index_or fields i (record { ref_ptr = (0, 0); now = [] })).now
+
+-- ---- between the two ways to give fields
+
+one : (fs : List (Bor (List ℕ))) → length fs ≡ 1 → texts fs ≡ text_at fs 0 ∷ []
+one [] e = absurd (omega (arith, e))
+one (x ∷ []) e = refl
+one (x ∷ y ∷ fs) e = absurd (omega (arith, e))
+
+two : (fs : List (Bor (List ℕ))) → length fs ≡ 2 → texts fs ≡ text_at fs 0 ∷ text_at fs 1 ∷ []
+two [] e = absurd (omega (arith, e))
+two (x ∷ fs) e = ap (λ l. x.now ∷ l) (one fs (omega (arith, e)))
+
+three : (fs : List (Bor (List ℕ))) → length fs ≡ 3 → texts fs ≡ text_at fs 0 ∷ text_at fs 1 ∷ text_at fs 2 ∷ []
+three [] e = absurd (omega (arith, e))
+three (x ∷ fs) e = ap (λ l. x.now ∷ l) (two fs (omega (arith, e)))
+
+four : (fs : List (Bor (List ℕ))) → length fs ≡ 4 → texts fs ≡ text_at fs 0 ∷ text_at fs 1 ∷ text_at fs 2 ∷ text_at fs 3 ∷ []
+four [] e = absurd (omega (arith, e))
+four (x ∷ fs) e = ap (λ l. x.now ∷ l) (three fs (omega (arith, e)))
+
+three_up : (fs : List (Bor (List ℕ))) → 3 ≤ length fs → texts fs ≡ text_at fs 0 ∷ text_at fs 1 ∷ text_at fs 2 ∷ texts (drop 3 fs)
+three_up [] e = absurd (omega (arith, e))
+three_up (x ∷ []) e = absurd (omega (arith, e))
+three_up (x ∷ y ∷ []) e = absurd (omega (arith, e))
+three_up (x ∷ y ∷ z ∷ fs) e = refl
+
+count : (fs : List (Bor (List ℕ))) (l : List (List ℕ)) → texts fs ≡ l → length fs ≡ length l
+count [] [] e = refl
+count [] (a ∷ l) e = absurd (cc)
+count (x ∷ fs) [] e = absurd (cc)
+count (x ∷ fs) (a ∷ l) e = let rest : texts fs ≡ l = cc in let n = count fs l rest in omega (arith, n)
+
+-- ---- names
+
+first_letter : {a b : ℕ} {s t : List ℕ} → a ∷ s ≡ b ∷ t → a ≡ b
+first_letter e = cc
+
+request_names : (name : List ℕ) (form : List (List ℕ)) (request : asked.Request) → IsRequestForm name form request → (name ≢ codes "open") × (name ≢ codes "deliver") × (name ≢ codes "pull")
+request_names name form (AddClient scope redirects) h = (λ e. absurd (omega (arith, first_letter (sym h.0 ∙ e))), λ e. absurd (omega (arith, first_letter (sym h.0 ∙ e))), λ e. absurd (omega (arith, first_letter (sym h.0 ∙ e))))
+request_names name form (ShowClient id) h = (λ e. absurd (omega (arith, first_letter (sym h.0 ∙ e))), λ e. absurd (omega (arith, first_letter (sym h.0 ∙ e))), λ e. absurd (omega (arith, first_letter (sym h.0 ∙ e))))
+request_names name form (Retire id) h = (λ e. absurd (omega (arith, first_letter (sym h.0 ∙ e))), λ e. absurd (omega (arith, first_letter (sym h.0 ∙ e))), λ e. absurd (omega (arith, first_letter (sym h.0 ∙ e))))
+
+-- ---- fields of an event
+
+module _ (fs : List (Bor (List ℕ))) where
+  pub open_there : (region : ℕ) → length fs ≡ 2 → text_at fs 0 ≡ codes "open" → number_between 1 65535 (text_at fs 1) ≡ Some region → IsEventForm (texts fs) (Open region)
+  open_there region long name at =
+      let s = sym (spelled_between 1 65535 (text_at fs 1) region at) in
+      (rw (two fs long, name, s) refl, ends 1 65535 (text_at fs 1) region at)
+
+  pub deliver_there : (bundle region : ℕ) → length fs ≡ 3 → text_at fs 0 ≡ codes "deliver" → number_in (text_at fs 1) ≡ Some bundle → number_between 1 65535 (text_at fs 2) ≡ Some region → IsEventForm (texts fs) (Deliver bundle region)
+  deliver_there bundle region long name number at =
+      let n = sym (spelled (text_at fs 1) bundle number) in
+      let s = sym (spelled_between 1 65535 (text_at fs 2) region at) in
+      (rw (three fs long, name, n, s) refl, fits (text_at fs 1) bundle number, ends 1 65535 (text_at fs 2) region at)
+
+  pub pull_there : (region : ℕ) (vector : Vector) → length fs ≡ 4 → text_at fs 0 ≡ codes "pull" → text_at fs 3 ≡ codes "-" → number_between 1 65535 (text_at fs 1) ≡ Some region → IsVectorText (text_at fs 2) vector → IsEventForm (texts fs) (Pull region vector)
+  pull_there region vector long name last at is =
+      let s = sym (spelled_between 1 65535 (text_at fs 1) region at) in
+      (text_at fs 2, rw (four fs long, name, last, s) refl, ends 1 65535 (text_at fs 1) region at, is)
+
+  pub request_there : (region now : ℕ) (words : List ℕ) (request : asked.Request) → 3 ≤ length fs → number_between 1 65535 (text_at fs 1) ≡ Some region → number_between 0 253402300799 (text_at fs 2) ≡ Some now → IsRequestForm (text_at fs 0) (texts (drop 3 fs)) request → IsEventForm (texts fs) (Request region now words request)
+  request_there region now words request long at then is =
+      let s = sym (spelled_between 1 65535 (text_at fs 1) region at) in
+      let n = sym (spelled_between 0 253402300799 (text_at fs 2) now then) in
+      (text_at fs 0, texts (drop 3 fs), rw (three_up fs long, s, n) refl, ends 1 65535 (text_at fs 1) region at, (ends 0 253402300799 (text_at fs 2) now then).1, is)
+
+-- ---- fields of no event
+
+module _ (fs : List (Bor (List ℕ))) where
+  -- `open` alone has two fields
+  pub open_bad : length fs ≡ 2 → number_between 1 65535 (text_at fs 1) ≡ None → IsNoEventForm (texts fs)
+  open_bad long none (Open region) h =
+      let parts = sym (two fs long) ∙ h.0 in
+      let same : text_at fs 1 ≡ decimal region = cc in
+      let r = h.1 in
+      no_number_between 1 65535 (text_at fs 1) region none r.0 r.1 (omega arith) same
+  open_bad long none (Request region now words request) h = absurd (omega (arith, count fs _ h.2))
+  open_bad long none (Pull region vector) h = absurd (omega (arith, count fs _ h.1))
+  open_bad long none (Deliver bundle region) h = absurd (omega (arith, count fs _ h.0))
+
+  pub short_bad : length fs < 3 → (length fs ≡ 2 → text_at fs 0 ≢ codes "open") → IsNoEventForm (texts fs)
+  short_bad short other (Open region) h =
+      let long = count fs _ h.0 in
+      let parts = sym (two fs long) ∙ h.0 in
+      other long (cc)
+  short_bad short other (Request region now words request) h = absurd (omega (arith, count fs _ h.2))
+  short_bad short other (Pull region vector) h = absurd (omega (arith, count fs _ h.1))
+  short_bad short other (Deliver bundle region) h = absurd (omega (arith, count fs _ h.0))
+
+  -- three fields that begin with `deliver` are no other event's
+  deliver_only : length fs ≡ 3 → text_at fs 0 ≡ codes "deliver" → ((bundle region : ℕ) → text_at fs 1 ≡ decimal bundle → bundle < 2 ^ 64 → text_at fs 2 ≡ decimal region → IsRegion region → ⊥) → IsNoEventForm (texts fs)
+  deliver_only long name none (Open region) h = absurd (omega (arith, count fs _ h.0))
+  deliver_only long name none (Request region now words request) h =
+      let parts = sym (three_up fs (omega arith)) ∙ h.2 in
+      let same : h.0 ≡ codes "deliver" = cc in
+      (request_names h.0 h.1 request h.5).1 same
+  deliver_only long name none (Pull region vector) h = absurd (omega (arith, count fs _ h.1))
+  deliver_only long name none (Deliver bundle region) h =
+      let parts = sym (three fs long) ∙ h.0 in
+      none bundle region (cc) h.1 (cc) h.2
+
+  pub deliver_bad_bundle : length fs ≡ 3 → text_at fs 0 ≡ codes "deliver" → number_in (text_at fs 1) ≡ None → IsNoEventForm (texts fs)
+  deliver_bad_bundle long name none = deliver_only long name (λ bundle region same high at is. no_number (text_at fs 1) bundle none high same)
+
+  pub deliver_bad_region : length fs ≡ 3 → text_at fs 0 ≡ codes "deliver" → number_between 1 65535 (text_at fs 2) ≡ None → IsNoEventForm (texts fs)
+  deliver_bad_region long name none = deliver_only long name (λ bundle region same high at is. no_number_between 1 65535 (text_at fs 2) region none is.0 is.1 (omega arith) at)
+
+  -- nor are four that begin with `pull`
+  pull_only : length fs ≡ 4 → text_at fs 0 ≡ codes "pull" → ((region : ℕ) (vector : Vector) → text_at fs 1 ≡ decimal region → IsRegion region → IsVectorText (text_at fs 2) vector → ⊥) → IsNoEventForm (texts fs)
+  pull_only long name none (Open region) h = absurd (omega (arith, count fs _ h.0))
+  pull_only long name none (Request region now words request) h =
+      let parts = sym (three_up fs (omega arith)) ∙ h.2 in
+      let same : h.0 ≡ codes "pull" = cc in
+      (request_names h.0 h.1 request h.5).2 same
+  pull_only long name none (Pull region vector) h =
+      let parts = sym (four fs long) ∙ h.1 in
+      let entries : h.0 ≡ text_at fs 2 = cc in
+      none region vector (cc) h.2 (subst (λ t. IsVectorText t vector) entries h.3)
+  pull_only long name none (Deliver bundle region) h = absurd (omega (arith, count fs _ h.0))
+
+  pub pull_bad_region : length fs ≡ 4 → text_at fs 0 ≡ codes "pull" → number_between 1 65535 (text_at fs 1) ≡ None → IsNoEventForm (texts fs)
+  pull_bad_region long name none = pull_only long name (λ region vector at is entries. no_number_between 1 65535 (text_at fs 1) region none is.0 is.1 (omega arith) at)
+
+  pub pull_bad_vector : length fs ≡ 4 → text_at fs 0 ≡ codes "pull" → IsNoVector (text_at fs 2) → IsNoEventForm (texts fs)
+  pull_bad_vector long name none = pull_only long name (λ region vector at is entries. none vector entries)
+
+  -- other fields, of which there are three or more, are a request's if they are an event's
+  pub record IsOther : Type 0 where
+    pub long : 3 ≤ length fs
+    pub deliver : length fs ≡ 3 → text_at fs 0 ≢ codes "deliver"
+    pub pull : length fs ≡ 4 → text_at fs 3 ≡ codes "-" → text_at fs 0 ≢ codes "pull"
+
+  request_only : IsOther → ((region now : ℕ) (request : asked.Request) → text_at fs 1 ≡ decimal region → IsRegion region → text_at fs 2 ≡ decimal now → IsMoment now → IsRequestForm (text_at fs 0) (texts (drop 3 fs)) request → ⊥) → IsNoEventForm (texts fs)
+  request_only other none (Open region) h = let long = other.long in absurd (omega (arith, count fs _ h.0))
+  request_only other none (Request region now words request) h =
+      let parts = sym (three_up fs other.long) ∙ h.2 in
+      let name : h.0 ≡ text_at fs 0 = cc in
+      let form : h.1 ≡ texts (drop 3 fs) = cc in
+      none region now request (cc) h.3 (cc) h.4 (subst (λ t. IsRequestForm (text_at fs 0) t request) form (subst (λ t. IsRequestForm t h.1 request) name h.5))
+  request_only other none (Pull region vector) h =
+      let long = count fs _ h.1 in
+      let parts = sym (four fs long) ∙ h.1 in
+      other.pull long (cc) (cc)
+  request_only other none (Deliver bundle region) h =
+      let long = count fs _ h.0 in
+      let parts = sym (three fs long) ∙ h.0 in
+      other.deliver long (cc)
+
+  pub request_bad_region : IsOther → number_between 1 65535 (text_at fs 1) ≡ None → IsNoEventForm (texts fs)
+  request_bad_region other none = request_only other (λ region now request at is then late form. no_number_between 1 65535 (text_at fs 1) region none is.0 is.1 (omega arith) at)
+
+  pub request_bad_moment : IsOther → number_between 0 253402300799 (text_at fs 2) ≡ None → IsNoEventForm (texts fs)
+  request_bad_moment other none = request_only other (λ region now request at is then late form. no_number_between 0 253402300799 (text_at fs 2) now none (omega arith) late (omega arith) then)
+
+  pub request_bad : IsOther → IsNoRequest (text_at fs 0) (texts (drop 3 fs)) → IsNoEventForm (texts fs)
+  request_bad other none = request_only other (λ region now request at is then late form. none request form)
+
+-- ---- fields of no request
+
+pub no_request : (name : List ℕ) (fs : List (Bor (List ℕ)))
+    → (length fs ≡ 4 → name ≡ codes "client" → text_at fs 0 ≡ codes "public" → text_at fs 1 ≡ codes "-" → IsFormText (text_at fs 2) → IsFormText (text_at fs 3) → ⊥)
+    → (length fs ≡ 1 → name ≡ codes "look" → ⊥) → (length fs ≡ 1 → name ≡ codes "retire" → ⊥)
+    → IsNoRequest name (texts fs)
+no_request name fs client look retire (AddClient scope redirects) h =
+    let long = count fs _ h.1 in
+    let parts = sym (four fs long) ∙ h.1 in
+    let one : string_bytes scope ≡ text_at fs 2 = cc in
+    let other : string_bytes redirects ≡ text_at fs 3 = cc in
+    client long h.0 (cc) (cc) (subst IsFormText one h.2) (subst IsFormText other h.3)
+no_request name fs client look retire (ShowClient id) h = look (count fs _ h.1) h.0
+no_request name fs client look retire (Retire id) h = retire (count fs _ h.1) h.0
+
+-- ---- lines
+
+module _ (line : List ℕ) (fs : List (Bor (List ℕ))) (parts : texts fs ≡ slice_split is_space line) where
+  pub line_there : (event : Event) → IsPrintable line → AllWithin (λ f. 0 < length f.now) fs 0 (length fs) → IsEventForm (texts fs) event → IsEventLine line event
+  line_there event plain each form = record {
+    printable = plain;
+    parted = subst (All (λ field. 0 < length field)) parts (All-map (λ field. 0 < length field) (λ f. f.now) fs (All-from_all_within (λ f. 0 < length f.now) fs each));
+    form = subst (λ fields. IsEventForm fields event) parts form;
+  }
+
+  -- a line with an empty field
+  pub line_bad : (k : ℕ) × (k < length fs) × HoldsAt (λ f. length f.now ≡ 0) fs k → IsNoEventLine line
+  line_bad (k, there, empty) event h =
+      let d : Bor (List ℕ) = record { ref_ptr = (0, 0); now = [] } in
+      let long = h.parted k [] (omega (arith, ap length parts, length-map fs (λ (f : Bor (List ℕ)). f.now))) in
+      let same = sym (ap (λ l. get_or l k []) parts) ∙ get_or-map (λ (f : Bor (List ℕ)). f.now) fs k d [] there in
+      omega (arith, empty d, ap length same)

@@ -1,0 +1,69 @@
+use Rattle.std.proofs.Common.{◌≡◌, ◌-◌, length, take, drop, sym, subst, ◌∙◌, Some, None, arith, rules}
+use borrow.Author.Tests.{tests}
+use Rattle.std.proofs.lemmas.Grind.{common_steps}
+use Rattle.std.proofs.lemmas.List.{take_rest}
+use Rattle.tokend.specs.Line.{texts, IsRequestForm}
+use Rattle.tokend.proofs.EventForms.{text_at, open_there, deliver_there, pull_there, request_there, open_bad, deliver_bad_bundle, deliver_bad_region, pull_bad_region, pull_bad_vector, IsOther, request_bad_region, request_bad_moment}
+use Rattle.tokend.proofs.line.event_of.Goals as goal
+use Rattle.tokend.proofs.line.event_of.Goals.{then-fields-lt4+in_default, else-fields-lt4+then-fields-lt5+in-pull+in_default, else-fields-lt4+then-fields-lt5+in_default, else-fields-lt4+else-fields-lt5}
+
+pub returns-in_err-ok_or-in-open-clause-bad : goal.returns-in_err-ok_or-in-open-clause-bad
+returns-in_err-ok_or-in-open-clause-bad c _ =
+    let none : c.region.result ≡ None = grind arith in
+    open_bad c.args.fields.now (omega arith) (sym c.region.ensures ∙ none)
+
+pub returns-in_err-ok_or-in-deliver-clause-bad : goal.returns-in_err-ok_or-in-deliver-clause-bad
+returns-in_err-ok_or-in-deliver-clause-bad c _ =
+    let none : c.number.result ≡ None = grind arith in
+    deliver_bad_bundle c.args.fields.now (omega arith) (search (rules, tests)) (sym c.number.ensures ∙ none)
+
+pub returns-in_err-ok_or-in-deliver-2-clause-bad : goal.returns-in_err-ok_or-in-deliver-2-clause-bad
+returns-in_err-ok_or-in-deliver-2-clause-bad c _ =
+    let none : c.region-in-deliver.result ≡ None = grind arith in
+    deliver_bad_region c.args.fields.now (omega arith) (search (rules, tests)) (sym c.region-in-deliver.ensures ∙ none)
+
+pub returns-in_err-ok_or-in-pull-clause-bad : goal.returns-in_err-ok_or-in-pull-clause-bad
+returns-in_err-ok_or-in-pull-clause-bad c _ =
+    let none : c.region-in-pull.result ≡ None = grind arith in
+    pull_bad_region c.args.fields.now (omega arith) (search (rules, tests)) (sym c.region-in-pull.ensures ∙ none)
+
+pub returns-in_err-vector-in-pull-clause-bad : goal.returns-in_err-vector-in-pull-clause-bad
+returns-in_err-vector-in-pull-clause-bad c e = pull_bad_vector c.args.fields.now (omega arith) (search (rules, tests)) (c.vector.ensures.bad (grind arith))
+
+pub returns-in_err-ok_or-in-len3-up-clause-bad : goal.returns-in_err-ok_or-in-len3-up-clause-bad
+returns-in_err-ok_or-in-len3-up-clause-bad c _ =
+    let none : c.region-in-len3-up.result ≡ None = grind arith in
+    let other : IsOther c.args.fields.now = record { long = grind arith; deliver = λ n e. search (rules, tests); pull = λ n a e. search (rules, tests) } in
+    request_bad_region c.args.fields.now other (sym c.region-in-len3-up.ensures ∙ none)
+
+pub returns-in_err-ok_or-in-len3-up-2-clause-bad : goal.returns-in_err-ok_or-in-len3-up-2-clause-bad
+returns-in_err-ok_or-in-len3-up-2-clause-bad c _ =
+    let none : c.moment.result ≡ None = grind arith in
+    let other : IsOther c.args.fields.now = record { long = grind arith; deliver = λ n e. grind (arith, common_steps); pull = λ n a e. grind (arith, common_steps) } in
+    request_bad_moment c.args.fields.now other (sym c.moment.ensures ∙ none)
+
+pub returns-in_ok-ok_or-in-open-clause-found : goal.returns-in_ok-ok_or-in-open-clause-found
+returns-in_ok-ok_or-in-open-clause-found c =
+    let region : c.region.result ≡ Some c.in_ok-ok_or-in-open.field-0 = grind arith in
+    open_there c.args.fields.now _ (omega arith) (search (rules, tests)) (sym c.region.ensures ∙ region)
+
+pub returns-in_ok-ok_or-in-deliver-2-clause-found : goal.returns-in_ok-ok_or-in-deliver-2-clause-found
+returns-in_ok-ok_or-in-deliver-2-clause-found c =
+    let bundle : c.number.result ≡ Some c.in_ok-ok_or-in-deliver.field-0 = grind arith in
+    let region : c.region-in-deliver.result ≡ Some c.in_ok-ok_or-in-deliver-2.field-0 = grind arith in
+    deliver_there c.args.fields.now _ _ (omega arith) (search (rules, tests)) (sym c.number.ensures ∙ bundle) (sym c.region-in-deliver.ensures ∙ region)
+
+pub returns-in_ok-vector-in-pull-clause-found : goal.returns-in_ok-vector-in-pull-clause-found
+returns-in_ok-vector-in-pull-clause-found c =
+    let region : c.region-in-pull.result ≡ Some c.in_ok-ok_or-in-pull.field-0 = grind arith in
+    pull_there c.args.fields.now _ _ (omega arith) (search (rules, tests)) (search (rules, tests)) (sym c.region-in-pull.ensures ∙ region) (search rules)
+
+pub returns-in_ok-request-in-len3-up-clause-found : goal.returns-in_ok-request-in-len3-up-clause-found
+returns-in_ok-request-in-len3-up-clause-found c =
+    let region : c.region-in-len3-up.result ≡ Some c.in_ok-ok_or-in-len3-up.field-0 = grind arith in
+    let now : c.moment.result ≡ Some c.in_ok-ok_or-in-len3-up-2.field-0 = grind arith in
+    let fields = c.args.fields.now in
+    let asked = c.in_ok-request-in-len3-up.field-0 in
+    let form : IsRequestForm (text_at fields 0) (texts (take (length fields - 3) (drop 3 fields))) asked = search rules in
+    request_there fields _ _ c.args.words asked (grind arith) (sym c.region-in-len3-up.ensures ∙ region) (sym c.moment.ensures ∙ now)
+    (subst (λ rest. IsRequestForm (text_at fields 0) (texts rest) asked) (take_rest fields 3) form)
