@@ -3,3 +3,4 @@ pub mod NumberTexts
 pub mod DotTexts
 pub mod EventWords
 pub mod EventForms
+pub mod ScriptEvents

@@ -3,9 +3,11 @@
 --   Task          what the words ask for
 --   Fields        the numbers, dots and texts that a line's fields stand for
 --   Line          the lines that are events, and the words that these draw
+--   Script        the events of a script, and its first bad line
 --   Status        the exit status of a fault
 pub mod CommandLine
 pub mod Task
 pub mod Fields
 pub mod Line
+pub mod Script
 pub mod Status

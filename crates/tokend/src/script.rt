@@ -1,5 +1,6 @@
-ghost use Rattle.std.specs.Prelude.{◌≡◌, ◌≤◌, ◌<◌, ◌^◌, ℕ, IfOk, IfSome, length, slice_get, vec_len};
+ghost use Rattle.std.specs.Prelude.{◌≡◌, ◌≤◌, ◌<◌, ◌^◌, ℕ, IfOk, IfErr, IfSome, length, slice_get, vec_len};
 ghost use Rattle.tokend.specs.Line.{HasWords, words_at};
+ghost use Rattle.tokend.specs.Script.{lines_of, AreEvents, IsFaultOf};
 
 use crate::fault::{Fault, LineError};
 use crate::line::event;
@@ -29,10 +30,11 @@ pub(crate) fn read_script<I: Read>(alloc: Global, input: &mut I) -> Result<Vec<u
 
 /// The events of a script's lines, in order; the fault is the first bad line. Lines end with LF, the last may lack
 /// it. Empty lines, and lines that begin with `#`, are no events.
-#[tactic(auto, using(crate::proofs::EventWords::words_pushed))]
 pub(crate) fn read_events(alloc: Global, script: &[u8]) -> Result<Vec<Event>, Fault>
     requires { length script.now ≤ LIMIT }
-    ensures { IfOk result (λ events. (k : ℕ) → IfSome (slice_get events.items k) (HasWords (words_at k))) }
+    ensures found { IfOk result (λ events. AreEvents (lines_of script.now) events.items) }
+    ensures words { IfOk result (λ events. (k : ℕ) → IfSome (slice_get events.items k) (HasWords (words_at k))) }
+    ensures fault { IfErr result (IsFaultOf script.now) }
 {
     let mut events = Vec::new(alloc);
     for (at, line) in script.split(|b| *b == b'\n').enumerate() {

@@ -1,0 +1,46 @@
+-- The events of a script.
+--   lines_of     its lines; is_told, which of them should be events
+--   AreEvents    the events of lines, in order
+--   IsFirstBad   the number of the first line that should be an event and is none
+--   IsFaultOf    why a script is refused
+use Rattle.std.specs.Prelude.{◌≡◌, ℕ, ◌+◌, ◌==◌, ⊤, Bool, false, true, not, List, [], ◌∷◌, ◌++◌, length, filter}
+use Rattle.std.specs.List.{AllZip, slice_split}
+use Rattle.tk_world.specs.declared.event.Event.{Event}
+use Rattle.tokend.specs.Line.{IsEventLine, IsNoEventLine}
+use Rattle.tokend.specs.declared.fault.Fault.{Fault}
+use Rattle.tokend.specs.declared.fault.Fault.TheVariants.{BadLine, Memory}
+
+-- LF
+abbrev pub is_newline : ℕ → Bool
+is_newline b = b == 10
+
+-- what stands between the ends of lines, and behind the last of them, where it may be nothing
+abbrev pub lines_of : List ℕ → List (List ℕ)
+lines_of script = slice_split is_newline script
+
+-- the line is neither empty nor begins with `#`
+abbrev pub is_told : List ℕ → Bool
+is_told [] = false
+is_told (b ∷ rest) = not (b == 35)
+
+-- an event for each of the lines that are told, in order
+abbrev pub AreEvents : List (List ℕ) → List Event → Type 0
+AreEvents lines events = AllZip IsEventLine (filter is_told lines) events
+
+-- the line of this number, counted from 1, is told and has no event, and those before it have theirs
+pub record IsFirstBad (script : List ℕ) (number : ℕ) : Type 0 where
+  pub before : List (List ℕ)
+  pub line : List ℕ
+  pub after : List (List ℕ)
+  pub events : List Event
+  pub stands : lines_of script ≡ before ++ line ∷ after
+  pub counted : number ≡ length before + 1
+  pub earlier : AreEvents before events
+  pub told : is_told line ≡ true
+  pub bad : IsNoEventLine line
+
+-- memory ran out, or this is the first bad line; nothing else
+abbrev pub IsFaultOf : List ℕ → Fault → Type 0
+IsFaultOf script Memory = ⊤
+IsFaultOf script (BadLine number) = IsFirstBad script number
+IsFaultOf script fault = ⊥
