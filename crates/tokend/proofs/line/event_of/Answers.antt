@@ -5,7 +5,6 @@ use Rattle.std.proofs.lemmas.List.{take_rest}
 use Rattle.tokend.specs.Line.{texts, IsRequestForm}
 use Rattle.tokend.proofs.EventForms.{text_at, open_there, deliver_there, pull_there, request_there, open_bad, deliver_bad_bundle, deliver_bad_region, pull_bad_region, pull_bad_vector, IsOther, request_bad_region, request_bad_moment}
 use Rattle.tokend.proofs.line.event_of.Goals as goal
-use Rattle.tokend.proofs.line.event_of.Goals.{then-fields-lt4+in_default, else-fields-lt4+then-fields-lt5+in-pull+in_default, else-fields-lt4+then-fields-lt5+in_default, else-fields-lt4+else-fields-lt5}
 
 pub returns-in_err-ok_or-in-open-clause-bad : goal.returns-in_err-ok_or-in-open-clause-bad
 returns-in_err-ok_or-in-open-clause-bad c _ =
