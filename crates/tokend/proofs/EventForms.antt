@@ -96,15 +96,6 @@ module _ (fs : List (Bor (List ℕ))) where
   open_bad long none (Pull region vector) h = absurd (omega (arith, count fs _ h.1))
   open_bad long none (Deliver bundle region) h = absurd (omega (arith, count fs _ h.0))
 
-  pub short_bad : length fs < 3 → (length fs ≡ 2 → text_at fs 0 ≢ codes "open") → IsNoEventForm (texts fs)
-  short_bad short other (Open region) h =
-      let long = count fs _ h.0 in
-      let parts = sym (two fs long) ∙ h.0 in
-      other long (cc)
-  short_bad short other (Request region now words request) h = absurd (omega (arith, count fs _ h.2))
-  short_bad short other (Pull region vector) h = absurd (omega (arith, count fs _ h.1))
-  short_bad short other (Deliver bundle region) h = absurd (omega (arith, count fs _ h.0))
-
   -- three fields that begin with `deliver` are no other event's
   deliver_only : length fs ≡ 3 → text_at fs 0 ≡ codes "deliver" → ((bundle region : ℕ) → text_at fs 1 ≡ decimal bundle → bundle < 2 ^ 64 → text_at fs 2 ≡ decimal region → IsRegion region → ⊥) → IsNoEventForm (texts fs)
   deliver_only long name none (Open region) h = absurd (omega (arith, count fs _ h.0))
@@ -169,9 +160,6 @@ module _ (fs : List (Bor (List ℕ))) where
 
   pub request_bad_moment : IsOther → number_between 0 253402300799 (text_at fs 2) ≡ None → IsNoEventForm (texts fs)
   request_bad_moment other none = request_only other (λ region now request at is then late form. no_number_between 0 253402300799 (text_at fs 2) now none (omega arith) late (omega arith) then)
-
-  pub request_bad : IsOther → IsNoRequest (text_at fs 0) (texts (drop 3 fs)) → IsNoEventForm (texts fs)
-  request_bad other none = request_only other (λ region now request at is then late form. none request form)
 
 -- ---- fields of no request
 
