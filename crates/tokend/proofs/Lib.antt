@@ -4,3 +4,4 @@ pub mod DotTexts
 pub mod EventWords
 pub mod EventForms
 pub mod ScriptEvents
+pub mod Printing

@@ -4,10 +4,12 @@
 --   Fields        the numbers, dots and texts that a line's fields stand for
 --   Line          the lines that are events, and the words that these draw
 --   Script        the events of a script, and its first bad line
+--   Printed       what is printed of an event
 --   Status        the exit status of a fault
 pub mod CommandLine
 pub mod Task
 pub mod Fields
 pub mod Line
 pub mod Script
+pub mod Printed
 pub mod Status

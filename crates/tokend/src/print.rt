@@ -1,3 +1,7 @@
+ghost use Rattle.std.specs.Prelude.{◌≡◌, OnOk};
+ghost use Rattle.std.specs.Io.KnownBytes.{Appends};
+ghost use Rattle.tokend.specs.Printed as spec;
+
 use std::io::{self, Write};
 use tk_handle::{Dot, RegionNumber};
 use tk_world::{Event, Outcome, Payload, Reply};
@@ -7,7 +11,9 @@ pub(crate) fn print_outcomes<O: Write>(
     output: &mut O,
     events: &[Event],
     outcomes: &[Outcome],
-) -> io::Result<()> {
+) -> io::Result<()>
+    ensures { OnOk result (Appends (O.contents output.old) (O.contents output.new) (spec.lines_text events.now outcomes.now)) }
+{
     for (event, outcome) in events.iter().zip(outcomes) {
         print_outcome(output, region_of(event), outcome)?;
         output.write_all(b"\n")?;
@@ -16,7 +22,9 @@ pub(crate) fn print_outcomes<O: Write>(
 }
 
 // The region that an event is for.
-fn region_of(event: &Event) -> RegionNumber {
+fn region_of(event: &Event) -> RegionNumber
+    ensures { result ≡ spec.region_of event.now }
+{
     match event {
         Event::Open(region) => *region,
         Event::Request { region, .. } => *region,
@@ -29,7 +37,9 @@ fn print_outcome<O: Write>(
     output: &mut O,
     region: RegionNumber,
     outcome: &Outcome,
-) -> io::Result<()> {
+) -> io::Result<()>
+    ensures { OnOk result (Appends (O.contents output.old) (O.contents output.new) (spec.outcome_text region outcome.now)) }
+{
     match outcome {
         Outcome::Opened => write!(output, "opened {}", region.number()),
         Outcome::NumberTaken => write!(output, "number taken"),
@@ -52,14 +62,18 @@ fn print_outcome<O: Write>(
 }
 
 // The greatest dot of a bundle.
-fn print_last<O: Write>(output: &mut O, last: Option<Dot>) -> io::Result<()> {
+fn print_last<O: Write>(output: &mut O, last: Option<Dot>) -> io::Result<()>
+    ensures { OnOk result (Appends (O.contents output.old) (O.contents output.new) (spec.last_text last)) }
+{
     match last {
         Some(dot) => write!(output, "{}:{}", dot.region().number(), dot.serial()),
         None => write!(output, "-"),
     }
 }
 
-fn print_reply<O: Write>(output: &mut O, reply: &Reply) -> io::Result<()> {
+fn print_reply<O: Write>(output: &mut O, reply: &Reply) -> io::Result<()>
+    ensures { OnOk result (Appends (O.contents output.old) (O.contents output.new) (spec.reply_text reply.now)) }
+{
     write!(output, "reply {}", reply.status)?;
     if let Some(location) = &reply.location {
         write!(output, " {location}")?;
@@ -70,7 +84,9 @@ fn print_reply<O: Write>(output: &mut O, reply: &Reply) -> io::Result<()> {
     }
 }
 
-fn print_body<O: Write>(output: &mut O, bytes: &[u8]) -> io::Result<()> {
+fn print_body<O: Write>(output: &mut O, bytes: &[u8]) -> io::Result<()>
+    ensures { OnOk result (Appends (O.contents output.old) (O.contents output.new) (spec.part_text bytes.now)) }
+{
     if bytes.is_empty() {
         return Ok(());
     }

@@ -1,4 +1,7 @@
-ghost use Rattle.std.specs.Prelude.{◌≡◌, ◌≤◌, MatchResult};
+ghost use Rattle.std.specs.Prelude.{◌≡◌, ◌≤◌, OnOk, MatchResult};
+ghost use Rattle.std.specs.Io.Buffered.{writer_contents, writer_inner};
+ghost use Rattle.std.specs.Io.KnownBytes.{Appends};
+ghost use Rattle.tokend.specs.Printed.{lines_text};
 ghost use Rattle.tokend.specs.Status.{status_of};
 
 use crate::fault::Fault;
@@ -8,8 +11,8 @@ use crate::script::{read_events, read_script};
 use clap::error::ErrorKind;
 use std::alloc::Global;
 use std::convert::AsStr;
-use std::io::{BufWriter, Read, Write};
-use tk_world::{Settings, World};
+use std::io::{self, BufWriter, Read, Write};
+use tk_world::{Event, Outcome, Settings, World};
 
 // The lives of a code, an access token, a refresh token and a family, in seconds.
 const CODE: u64 = 60;
@@ -80,12 +83,22 @@ fn run_script<I: Read, O: Write>(
     let mut world = World::new(alloc, settings(cap));
     let mut lines = BufWriter::new(alloc, output).map_err(|_| Fault::Memory)?;
     let outcomes = world.run(events.as_slice())?;
-    let printed = print_outcomes(&mut lines, events.as_slice(), outcomes.as_slice()).and_then(
-        |()| lines.flush(),
-    );
+    let printed = print_all(&mut lines, events.as_slice(), outcomes.as_slice());
     // A buffer that is dropped is written once more, so what a failed output left is taken from it.
     let _ = lines.into_parts();
     printed.map_err(|_| Fault::Output)
+}
+
+// A line for each event, down to the writer itself.
+fn print_all<O: Write + Drop>(
+    lines: &mut BufWriter<O>,
+    events: &[Event],
+    outcomes: &[Outcome],
+) -> io::Result<()>
+    ensures { OnOk result (Appends (writer_contents O.contents lines.old) (O.contents (writer_inner lines.new)) (lines_text events.now outcomes.now)) }
+{
+    print_outcomes(lines, events, outcomes)?;
+    lines.flush()
 }
 
 // The default lives, and this cap.

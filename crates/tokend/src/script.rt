@@ -1,4 +1,5 @@
-ghost use Rattle.std.specs.Prelude.{◌≡◌, ◌≤◌, ◌<◌, ◌^◌, ℕ, IfOk, IfErr, IfSome, length, slice_get, vec_len};
+ghost use Rattle.std.specs.Prelude.{◌≡◌, ◌≤◌, ◌<◌, ◌^◌, ℕ, IfOk, IfErr, IsErrOf, IfSome, length, slice_get, vec_len};
+ghost use Rattle.tokend.specs.declared.fault.Fault.TheVariants as fault;
 ghost use Rattle.tokend.specs.Line.{HasWords, words_at};
 ghost use Rattle.tokend.specs.Script.{lines_of, AreEvents, IsFaultOf};
 
@@ -14,7 +15,9 @@ pub const LIMIT: usize = 1_048_576;
 /// All that the input has, up to the limit. An input that fails or is interrupted can't be read, whatever it gave
 /// before; a longer one is too long.
 pub(crate) fn read_script<I: Read>(alloc: Global, input: &mut I) -> Result<Vec<u8>, Fault>
-    ensures { IfOk result (λ script. vec_len script ≤ LIMIT) }
+    ensures short { IfOk result (λ script. vec_len script ≤ LIMIT) }
+    ensures whole { IfOk result (λ script. IfSome (I.remaining input.old) (λ bytes. script.items ≡ bytes)) }
+    ensures long { IsErrOf result fault.ScriptTooLong → IfSome (I.remaining input.old) (λ bytes. LIMIT < length bytes) }
 {
     let mut script = Vec::new(alloc);
     let mut piece = [0u8; 8192];
