@@ -56,7 +56,8 @@ code_by-sound f (suc n) d c h = elim (cases_Bool (is_code_link (f d))) [
   | inr none ↦ step-sound f n d c (parent_of f d) (λ q e. code_by-sound f n q c e) refl (sym (cond-false _ _ _ none) ∙ h)
 ]
 
-code_here : (f : Links) (n : ℕ) (d : Dot) → is_code_link (f d) ≡ true → code_by f n d ≡ Some d
+-- a code ends the walk at once
+pub code_here : (f : Links) (n : ℕ) (d : Dot) → is_code_link (f d) ≡ true → code_by f n d ≡ Some d
 code_here f zero d is = cond-true _ _ _ is
 code_here f (suc n) d is = cond-true _ _ _ is
 

@@ -1,14 +1,11 @@
 -- A loop of the walk from a token to its code: each step keeps what the whole walk gives.
-use Rattle.std.proofs.Common.{◌≡◌, ℕ, zero, suc, ◌+◌, ◌-◌, ◌<◌, ◌≤◌, true, false, Option, Some, None, refl, sym, ap, ◌∙◌, arith}
-use Rattle.std.proofs.lemmas.Bool.{cond-true, cond-false}
+use Rattle.std.proofs.Common.{◌≡◌, ℕ, suc, ◌+◌, ◌-◌, ◌<◌, ◌≤◌, true, false, Option, Some, None, sym, ap, ◌∙◌, arith}
+use Rattle.std.proofs.lemmas.Bool.{cond-false}
 use Rattle.std.specs.Option.{option_and_then}
 use Rattle.tk_handle.specs.declared.dot.Dot.{Dot}
 use Rattle.tk_family.specs.Families.{Links}
 use Rattle.tk_family.specs.Walks.{is_code_link, parent_of, code_by}
-
-here : (f : Links) (n : ℕ) (d : Dot) → is_code_link (f d) ≡ true → code_by f n d ≡ Some d
-here f zero d h = cond-true _ _ _ h
-here f (suc n) d h = cond-true _ _ _ h
+use Rattle.tk_family.proofs.WalkLaws.{code_here}
 
 -- so many steps are left, and one of them is taken
 left : (f : Links) (n i : ℕ) (d : Dot) → i < n → is_code_link (f d) ≡ false → code_by f (n - i) d ≡ option_and_then (code_by f (n - (i + 1))) (parent_of f d)
@@ -18,7 +15,7 @@ left f n i d lt other =
 
 -- a code ends the walk
 pub walk_here : (f : Links) (n i : ℕ) (d : Dot) (total : Option Dot) → true ≡ is_code_link (f d) → code_by f (n - i) d ≡ total → Some d ≡ total
-walk_here f n i d total h so_far = sym (here f (n - i) d (sym h)) ∙ so_far
+walk_here f n i d total h so_far = sym (code_here f (n - i) d (sym h)) ∙ so_far
 
 -- a parent goes on with it
 pub walk_on : (f : Links) (n i : ℕ) (d p : Dot) (total : Option Dot) → i < n → false ≡ is_code_link (f d) → parent_of f d ≡ Some p → code_by f (n - i) d ≡ total → code_by f (n - (i + 1)) p ≡ total

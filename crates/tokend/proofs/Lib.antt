@@ -5,3 +5,5 @@ pub mod EventWords
 pub mod EventForms
 pub mod ScriptEvents
 pub mod Printing
+pub mod Tasks
+pub mod Runs

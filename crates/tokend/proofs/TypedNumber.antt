@@ -1,15 +1,14 @@
--- A number that a typed getter read.
-use Rattle.std.proofs.Common.{◌≡◌, ℕ, List, Option, Some, None, Result, Ok, refl, sym, ◌∙◌}
-use Rattle.std.specs.Prelude.{IfSome}
-use Rattle.std.specs.Str.Parse.{digits_value, without_leading_plus}
-use Rattle.clap.specs.Words.{one_text, rows_of}
+-- A number that a typed getter read, or did not.
+use Rattle.std.proofs.Common.{◌≡◌, ◌<◌, ◌^◌, ℕ, List, Option, Some, None, Result, Ok, Err, refl, sym, ◌∙◌, arith}
+use Rattle.std.specs.Prelude.{IfSome, IfNone}
+use Rattle.clap.specs.Words.{Row, one_text, rows_of}
 use Rattle.clap.specs.Matches.{ReadsOne}
 use Rattle.clap.specs.declared.parser.matches.Found.{Found}
 use Rattle.clap.proofs.WalkLemmas.{one_text-rows}
-use Rattle.tokend.specs.CommandLine.{ReadsNumber}
+use Rattle.tokend.specs.CommandLine.{IsDecimal, ReadsNumber, HasNumber}
 
 pub number_read : {E : Type 0} (gives : List ℕ → Result ℕ E → Type 0) (f : Found) (id : List ℕ) (r : Option ℕ)
-    → ((t : List ℕ) (n : ℕ) → gives t (Ok n) → digits_value 10 (without_leading_plus t) ≡ n)
+    → ((t : List ℕ) (n : ℕ) → gives t (Ok n) → IsDecimal t n)
     → (one_text f id ≡ None → r ≡ None) → ((t : List ℕ) → one_text f id ≡ Some t → ReadsOne gives t r)
     → IfSome r (ReadsNumber (rows_of f) id)
 number_read gives f id r digits none value =
@@ -25,3 +24,18 @@ number_read gives f id r digits none value =
     present : (r : Option ℕ) (t : List ℕ) → one_text f id ≡ Some t → ReadsOne gives t r → IfSome r (ReadsNumber (rows_of f) id)
     present None t e h = tt
     present (Some n) t e h = (t, sym (one_text-rows f id) ∙ e, digits t n h)
+
+pub number_unread : {E : Type 0} (gives : List ℕ → Result ℕ E → Type 0) (f : Found) (id : List ℕ) (r : Option ℕ)
+    → ((t : List ℕ) (e : E) (n : ℕ) → gives t (Err e) → n < 2 ^ 64 → ¬ (IsDecimal t n))
+    → ((t : List ℕ) → one_text f id ≡ Some t → ReadsOne gives t r)
+    → IfNone r ((n : ℕ) → n < 2 ^ 64 → ¬ (ReadsNumber (rows_of f) id n))
+number_unread gives f id (Some x) digits value = tt
+number_unread gives f id None digits value = λ n lt h.
+    let failed = value h.0 (one_text-rows f id ∙ h.1) in
+    digits h.0 failed.0 n failed.1 lt h.2
+
+-- so none between the ends is under that id
+pub none_between : (rows : List Row) (id : List ℕ) (greatest : ℕ) (r : Option ℕ) → greatest < 2 ^ 64
+    → ((n : ℕ) → n < 2 ^ 64 → ¬ (ReadsNumber rows id n)) → IfNone r ((n : ℕ) → ¬ (HasNumber rows id greatest n))
+none_between rows id greatest (Some x) fits none = tt
+none_between rows id greatest None fits none = λ n h. none n (omega (h.2, fits, arith)) h.0

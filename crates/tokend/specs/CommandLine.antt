@@ -1,6 +1,6 @@
 -- The command line, as clap's contracts see it.
 use Rattle.std.specs.Prelude.{◌≡◌, ℕ, ◌≤◌, List, [], ◌∷◌, Some, codes, true}
-use Rattle.std.specs.Str.Parse.{digits_value, without_leading_plus}
+use Rattle.std.specs.Str.Parse.{IsNumeral, digits_value, without_leading_plus}
 use Rattle.clap.specs.Words.{App, Row, Rule, Text, new_app, new_rule, one_of, with_rule, with_subcommand}
 use Rattle.clap.specs.Simple.{on_top}
 use Rattle.clap.specs.declared.builder.value_parser.ValueParser.TheVariants as parser
@@ -18,9 +18,13 @@ script_app = with_rule (new_app (codes "script")) (number_rule (codes "cap") (co
 abbrev pub tokend_app : App
 tokend_app = with_subcommand (on_top (λ s. record s { has_version = true; subcommand_required = true }) (new_app (codes "tokend"))) script_app.top
 
+-- the text is decimal digits, `+` before them or not, that stand for this number
+abbrev pub IsDecimal : Text → ℕ → Type 0
+IsDecimal text n = IsNumeral 10 (without_leading_plus text) × (digits_value 10 (without_leading_plus text) ≡ n)
+
 -- the text under the id stands for this number
 abbrev pub ReadsNumber : List Row → Text → ℕ → Type 0
-ReadsNumber rows id n = (text : Text) × (one_of id rows ≡ Some text) × (digits_value 10 (without_leading_plus text) ≡ n)
+ReadsNumber rows id n = (text : Text) × (one_of id rows ≡ Some text) × IsDecimal text n
 
 -- the rows have this number under the id, and it is from 1 to the greatest
 abbrev pub HasNumber : List Row → Text → ℕ → ℕ → Type 0

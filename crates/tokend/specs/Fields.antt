@@ -5,6 +5,7 @@ use Rattle.std.specs.Str.{bytes_eq}
 use Rattle.std.specs.Str.Parse.{digits_value}
 use Rattle.tk_handle.specs.declared.dot.Dot.{Dot}
 use Rattle.tk_handle.specs.Dot.{IsDot}
+use Rattle.tk_handle.specs.Moment.{greatest_moment}
 
 abbrev pub is_space : ℕ → Bool
 is_space b = b == 32
@@ -29,7 +30,7 @@ IsRegion n = (1 ≤ n) × (n ≤ 65535)
 
 -- the seconds of a moment
 abbrev pub IsMoment : ℕ → Type 0
-IsMoment n = n ≤ 253402300799
+IsMoment n = n ≤ greatest_moment
 
 abbrev pub is_comma : ℕ → Bool
 is_comma b = b == 44

@@ -6,6 +6,8 @@
 --   Script        the events of a script, and its first bad line
 --   Printed       what is printed of an event
 --   Status        the exit status of a fault
+--   ScriptRun     what a script comes to when it is run
+--   ProgramRun    what a run of the program comes to
 pub mod CommandLine
 pub mod Task
 pub mod Fields
@@ -13,3 +15,5 @@ pub mod Line
 pub mod Script
 pub mod Printed
 pub mod Status
+pub mod ScriptRun
+pub mod ProgramRun

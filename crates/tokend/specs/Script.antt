@@ -2,13 +2,14 @@
 --   lines_of     its lines; is_told, which of them should be events
 --   AreEvents    the events of lines, in order
 --   IsFirstBad   the number of the first line that should be an event and is none
---   IsFaultOf    why a script is refused
-use Rattle.std.specs.Prelude.{◌≡◌, ℕ, ◌+◌, ◌==◌, ⊤, Bool, false, true, not, List, [], ◌∷◌, ◌++◌, length, filter}
+--   IsInputFault, IsFaultOf    why an input gives no script, and a script no events
+use Rattle.std.specs.Prelude.{◌≡◌, ◌<◌, ℕ, ◌+◌, ◌==◌, ⊤, Bool, false, true, not, List, [], ◌∷◌, ◌++◌, length, filter, Option, IfSome}
 use Rattle.std.specs.List.{AllZip, slice_split}
 use Rattle.tk_world.specs.declared.event.Event.{Event}
 use Rattle.tokend.specs.Line.{IsEventLine, IsNoEventLine}
 use Rattle.tokend.specs.declared.fault.Fault.{Fault}
-use Rattle.tokend.specs.declared.fault.Fault.TheVariants.{BadLine, Memory}
+use Rattle.tokend.specs.declared.fault.Fault.TheVariants.{BadLine, CannotRead, Memory, ScriptTooLong}
+use Rattle.tokend.specs.declared.script.TheConstants.{LIMIT}
 
 -- LF
 abbrev pub is_newline : ℕ → Bool
@@ -38,6 +39,13 @@ pub record IsFirstBad (script : List ℕ) (number : ℕ) : Type 0 where
   pub earlier : AreEvents before events
   pub told : is_told line ≡ true
   pub bad : IsNoEventLine line
+
+-- memory ran out, the input failed, or it has more than a script may; nothing else
+abbrev pub IsInputFault : Option (List ℕ) → Fault → Type 0
+IsInputFault input Memory = ⊤
+IsInputFault input CannotRead = ⊤
+IsInputFault input ScriptTooLong = IfSome input (λ bytes. LIMIT < length bytes)
+IsInputFault input fault = ⊥
 
 -- memory ran out, or this is the first bad line; nothing else
 abbrev pub IsFaultOf : List ℕ → Fault → Type 0

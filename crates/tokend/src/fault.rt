@@ -1,9 +1,8 @@
-ghost use Rattle.std.specs.Prelude.{◌≡◌, ◌≢◌};
+ghost use Rattle.std.specs.Prelude.{◌≡◌};
 ghost use Rattle.std.specs.IoError.{error_kind};
-ghost use Rattle.std.specs.declared.io.ErrorKind.TheVariants as kind;
 ghost use Rattle.tokend.specs.declared.fault.Fault.TheVariants as fault;
 ghost use Rattle.tokend.specs.declared.fault.LineError.TheVariants as line;
-ghost use Rattle.tokend.specs.Status.{status_of};
+ghost use Rattle.tokend.specs.Status.{input_fault, status_of};
 
 use std::alloc::{AllocError, AllocFailed};
 use std::{fmt, io};
@@ -68,8 +67,7 @@ impl<T: Drop> From<AllocFailed<T>> for Fault {
 }
 
 impl From<io::Error> for Fault {
-    ghost from_gives = { λ error e. (error_kind error ≡ kind.OutOfMemory → e ≡ fault.Memory)
-        × (error_kind error ≢ kind.OutOfMemory → e ≡ fault.CannotRead) };
+    ghost from_gives = { λ error e. e ≡ input_fault (error_kind error) };
 
     fn from(error: io::Error) -> Fault {
         match error.kind() {

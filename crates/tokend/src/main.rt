@@ -20,15 +20,23 @@ mod script;
 #[cfg(test)]
 mod tests;
 
+use fault::Fault;
 use options::words;
 use program::{finish, run_program};
+use std::io::BufWriter;
 use std::process::ExitCode;
 
 fn main(rt: HostRuntime) -> ExitCode {
-    let (mut input, mut output, mut faults) = (rt.stdin(), rt.stdout(), rt.stderr());
-    let status = match words(&rt) {
-        Ok(words) => run_program(&rt, words.as_slice(), &mut input, &mut output, &mut faults),
-        Err(fault) => finish(Err(fault), &mut faults),
+    let (mut input, mut faults) = (rt.stdin(), rt.stderr());
+    let status = match (words(&rt), BufWriter::new(rt.alloc(), rt.stdout())) {
+        (Ok(words), Ok(mut output)) => {
+            let status = run_program(&rt, words.as_slice(), &mut input, &mut output, &mut faults);
+            // A buffer that is dropped is written once more, so what a failed output left is taken from it.
+            let _ = output.into_parts();
+            status
+        }
+        (Err(fault), _) => finish(Err(fault), &mut faults),
+        (_, Err(_)) => finish(Err(Fault::Memory), &mut faults),
     };
     ExitCode::from(status)
 }

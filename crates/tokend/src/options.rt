@@ -1,8 +1,9 @@
-ghost use Rattle.std.specs.Prelude.{◌≡◌, IfOk, IfSome, map, false};
-ghost use Rattle.clap.specs.Words.{app_of, rows_of, found_of, subcommand_of, subcommand_rows_of};
+ghost use Rattle.std.specs.Prelude.{◌≡◌, ◌⊎◌, ◌<◌, ◌^◌, ℕ, IfOk, IfErr, IfSome, IfNone, map, false};
+ghost use Rattle.clap.specs.Words.{app_of, kind_of, rows_of, found_of, subcommand_rows_of};
+ghost use Rattle.clap.specs.declared.error.kind.ErrorKind.TheVariants as kind;
 ghost use Rattle.clap.specs.declared.builder.command.Command.TheViews.{out-Command};
 ghost use Rattle.tokend.specs.CommandLine.{script_app, tokend_app, ReadsNumber, HasNumber};
-ghost use Rattle.tokend.specs.Task.{IsTask};
+ghost use Rattle.tokend.specs.Task.{Asks, IsTask, IsNoTask, IsRefusalOf};
 
 use crate::fault::Fault;
 use clap::builder::ValueParser;
@@ -24,7 +25,8 @@ pub enum Task {
 /// What the words ask for, the first of them being the program's name. An error is a mistake in the words, a
 /// request for help or the version, or want of memory, as its kind says.
 pub fn options<'a, S: AsStr>(alloc: Global, words: &'a [S]) -> Result<Task, Error>
-    ensures { IfOk result (IsTask (subcommand_of tokend_app (map S.text words.entry.now))) }
+    ensures task { IfOk result (Asks (map S.text words.entry.now)) }
+    ensures refused { IfErr result (λ e. (kind_of e ≡ kind.OutOfMemory) ⊎ IsRefusalOf (map S.text words.entry.now) (kind_of e)) }
 {
     let mut command = tokend_command(alloc)?;
     let matches = command.try_get_matches_from_mut(words)?;
@@ -74,7 +76,8 @@ fn script_command<'a>(alloc: Global) -> Result<Command<'a>, AllocError>
 
 // What the matches say. A subcommand is always there, and so is its number: clap has seen to it.
 fn read_matches(matches: &ArgMatches<'_>) -> Option<Task>
-    ensures { IfSome result (IsTask (subcommand_rows_of matches.now)) }
+    ensures task { IfSome result (IsTask (subcommand_rows_of matches.now)) }
+    ensures none { IfNone result (IsNoTask (subcommand_rows_of matches.now)) }
 {
     match matches.subcommand()? {
         ("script", values) => {
@@ -87,17 +90,21 @@ fn read_matches(matches: &ArgMatches<'_>) -> Option<Task>
 
 // A number within its range. Clap has tested the range, and its contract says so of the top level alone.
 fn number(matches: &ArgMatches<'_>, id: &str, greatest: u64) -> Option<u64>
-    ensures { IfSome result (HasNumber (rows_of (found_of matches.now)) id.now greatest) }
+    ensures value { IfSome result (HasNumber (rows_of (found_of matches.now)) id.now greatest) }
+    ensures none { IfNone result ((n : ℕ) → ¬ (HasNumber (rows_of (found_of matches.now)) id.now greatest n)) }
 {
-    match given(matches, id) {
-        Some(n) if 1 <= n && n <= greatest => Some(n),
-        _ => None,
+    let n = given(matches, id)?;
+    if 1 <= n && n <= greatest {
+        Some(n)
+    } else {
+        None
     }
 }
 
 // The number of an option.
 fn given(matches: &ArgMatches<'_>, id: &str) -> Option<u64>
-    ensures { IfSome result (ReadsNumber (rows_of (found_of matches.now)) id.now) }
+    ensures value { IfSome result (ReadsNumber (rows_of (found_of matches.now)) id.now) }
+    ensures none { IfNone result ((n : ℕ) → n < 2 ^ 64 → ¬ (ReadsNumber (rows_of (found_of matches.now)) id.now n)) }
 {
     matches.get_one::<u64>(id)
 }

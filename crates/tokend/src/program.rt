@@ -1,8 +1,10 @@
-ghost use Rattle.std.specs.Prelude.{◌≡◌, ◌≤◌, OnOk, MatchResult};
-ghost use Rattle.std.specs.Io.Buffered.{writer_contents, writer_inner};
-ghost use Rattle.std.specs.Io.KnownBytes.{Appends};
+ghost use Rattle.std.specs.Prelude.{◌≡◌, ◌≤◌, OnOk, IfErr, MatchResult, map};
+ghost use Rattle.std.specs.Io.KnownBytes.{Appends, Keeps};
 ghost use Rattle.tokend.specs.Printed.{lines_text};
+ghost use Rattle.tokend.specs.ProgramRun.{IsDone, IsFaultFor, KeepsUnlessOutput};
+ghost use Rattle.tokend.specs.ScriptRun.{settings_of, PrintsScript, IsScriptFault};
 ghost use Rattle.tokend.specs.Status.{status_of};
+ghost use Rattle.tokend.specs.declared.fault.Fault.{Fault as FaultValue};
 
 use crate::fault::Fault;
 use crate::options::{Task, options};
@@ -11,20 +13,24 @@ use crate::script::{read_events, read_script};
 use clap::error::ErrorKind;
 use std::alloc::Global;
 use std::convert::AsStr;
-use std::io::{self, BufWriter, Read, Write};
+use std::io::{self, Read, Write};
 use tk_world::{Event, Outcome, Settings, World};
 
-// The lives of a code, an access token, a refresh token and a family, in seconds.
-const CODE: u64 = 60;
+/// The life of a code, in seconds.
+pub const CODE: u64 = 60;
 
-const ACCESS: u64 = 3_600;
+/// The life of an access token, in seconds.
+pub const ACCESS: u64 = 3_600;
 
-const REFRESH: u64 = 86_400;
+/// The life of a refresh token, in seconds.
+pub const REFRESH: u64 = 86_400;
 
-const FAMILY: u64 = 2_592_000;
+/// The life of a family of tokens, in seconds.
+pub const FAMILY: u64 = 2_592_000;
 
 /// Does what the words ask for, the first of them being the program's name, and gives the exit status: 0 done,
 /// 1 memory or a device, 2 bad words or a bad script. A fault is told on `faults`, whose own failures are ignored.
+/// The output is written in small pieces and flushed at the end.
 pub fn run_program<R: AllocGlobal, S: AsStr, I: Read, O: Write, E: Write>(
     rt: &R,
     words: &[S],
@@ -32,7 +38,12 @@ pub fn run_program<R: AllocGlobal, S: AsStr, I: Read, O: Write, E: Write>(
     output: &mut O,
     faults: &mut E,
 ) -> u8
-    ensures { result ≤ 2 }
+    ensures status { result ≤ 2 }
+    ensures done { result ≡ 0 → IsDone (map S.text words.now) (I.remaining input.old) (O.contents output.old) (O.contents output.new) }
+
+    // A refusal writes nothing.
+    ensures refused { result ≡ 2 → (fault : FaultValue) × (status_of fault ≡ 2)
+        × IsFaultFor (map S.text words.now) (I.remaining input.old) fault × Keeps (O.contents output.old) (O.contents output.new) }
 {
     finish(run(rt.alloc(), words, input, output), faults)
 }
@@ -55,12 +66,17 @@ fn run<S: AsStr, I: Read, O: Write>(
     words: &[S],
     input: &mut I,
     output: &mut O,
-) -> Result<(), Fault> {
+) -> Result<(), Fault>
+    ensures done { OnOk result (IsDone (map S.text words.now) (I.remaining input.old) (O.contents output.old) (O.contents output.new)) }
+    ensures fault { IfErr result (IsFaultFor (map S.text words.now) (I.remaining input.old)) }
+    ensures kept { IfErr result (λ fault. KeepsUnlessOutput fault (O.contents output.old) (O.contents output.new)) }
+{
     match options(alloc, words) {
         Ok(Task::Script { cap }) => run_script(alloc, cap, input, output),
         Err(error) => match error.kind() {
             ErrorKind::DisplayHelp | ErrorKind::DisplayVersion => {
-                write!(output, "{error}").map_err(|_| Fault::Output)
+                write!(output, "{error}").map_err(|_| Fault::Output)?;
+                output.flush().map_err(|_| Fault::Output)
             }
             ErrorKind::OutOfMemory => Err(Fault::Memory),
             _ => Err(Fault::Words(error)),
@@ -68,7 +84,7 @@ fn run<S: AsStr, I: Read, O: Write>(
     }
 }
 
-// All that may fail for memory or input comes before the first event, and the room for printing too.
+// All that may fail for memory or input comes before the first event.
 fn run_script<I: Read, O: Write>(
     alloc: Global,
     cap: u64,
@@ -77,35 +93,30 @@ fn run_script<I: Read, O: Write>(
 ) -> Result<(), Fault>
     requires low { 1 ≤ cap }
     requires high { cap ≤ 9223372036854775806 }
+    ensures done { OnOk result (PrintsScript cap (I.remaining input.old) (O.contents output.old) (O.contents output.new)) }
+    ensures fault { IfErr result (IsScriptFault (I.remaining input.old)) }
+    ensures kept { IfErr result (λ fault. KeepsUnlessOutput fault (O.contents output.old) (O.contents output.new)) }
 {
     let script = read_script(alloc, input)?;
     let events = read_events(alloc, script.as_slice())?;
     let mut world = World::new(alloc, settings(cap));
-    let mut lines = BufWriter::new(alloc, output).map_err(|_| Fault::Memory)?;
     let outcomes = world.run(events.as_slice())?;
-    let printed = print_all(&mut lines, events.as_slice(), outcomes.as_slice());
-    // A buffer that is dropped is written once more, so what a failed output left is taken from it.
-    let _ = lines.into_parts();
-    printed.map_err(|_| Fault::Output)
+    print_all(output, events.as_slice(), outcomes.as_slice()).map_err(|_| Fault::Output)
 }
 
-// A line for each event, down to the writer itself.
-fn print_all<O: Write + Drop>(
-    lines: &mut BufWriter<O>,
-    events: &[Event],
-    outcomes: &[Outcome],
-) -> io::Result<()>
-    ensures { OnOk result (Appends (writer_contents O.contents lines.old) (O.contents (writer_inner lines.new)) (lines_text events.now outcomes.now)) }
+// A line for each event, and none is left in a buffer.
+fn print_all<O: Write>(output: &mut O, events: &[Event], outcomes: &[Outcome]) -> io::Result<()>
+    ensures { OnOk result (Appends (O.contents output.old) (O.contents output.new) (lines_text events.now outcomes.now)) }
 {
-    print_outcomes(lines, events, outcomes)?;
-    lines.flush()
+    print_outcomes(output, events, outcomes)?;
+    output.flush()
 }
 
-// The default lives, and this cap.
+// The program's lives, and this cap.
 fn settings(cap: u64) -> Settings
     requires low { 1 ≤ cap }
     requires high { cap ≤ 9223372036854775806 }
-    ensures { result ≡ record { code = CODE; access = ACCESS; refresh = REFRESH; family = FAMILY; cap = cap } }
+    ensures { result ≡ settings_of cap }
 {
     Settings::new(CODE, ACCESS, REFRESH, FAMILY, cap).unwrap()
 }

@@ -1,7 +1,6 @@
-ghost use Rattle.std.specs.Prelude.{◌≡◌, ◌≤◌, ◌<◌, ◌^◌, ℕ, IfOk, IfErr, IsErrOf, IfSome, length, slice_get, vec_len};
-ghost use Rattle.tokend.specs.declared.fault.Fault.TheVariants as fault;
+ghost use Rattle.std.specs.Prelude.{◌≡◌, ◌≤◌, ◌<◌, ◌^◌, ℕ, IfOk, IfErr, IfSome, length, slice_get, vec_len};
 ghost use Rattle.tokend.specs.Line.{HasWords, words_at};
-ghost use Rattle.tokend.specs.Script.{lines_of, AreEvents, IsFaultOf};
+ghost use Rattle.tokend.specs.Script.{lines_of, AreEvents, IsFaultOf, IsInputFault};
 
 use crate::fault::{Fault, LineError};
 use crate::line::event;
@@ -17,7 +16,7 @@ pub const LIMIT: usize = 1_048_576;
 pub(crate) fn read_script<I: Read>(alloc: Global, input: &mut I) -> Result<Vec<u8>, Fault>
     ensures short { IfOk result (λ script. vec_len script ≤ LIMIT) }
     ensures whole { IfOk result (λ script. IfSome (I.remaining input.old) (λ bytes. script.items ≡ bytes)) }
-    ensures long { IsErrOf result fault.ScriptTooLong → IfSome (I.remaining input.old) (λ bytes. LIMIT < length bytes) }
+    ensures fault { IfErr result (IsInputFault (I.remaining input.old)) }
 {
     let mut script = Vec::new(alloc);
     let mut piece = [0u8; 8192];

@@ -1,0 +1,14 @@
+use Rattle.std.proofs.Common.{rules, map}
+use Rattle.clap.specs.Words.{app_of}
+use Rattle.tokend.proofs.Tasks.{fails_by, refused_by}
+use Rattle.tokend.proofs.options.options.Goals as goal
+
+pub returns-in_err-matches-clause-refused : goal.returns-in_err-matches-clause-refused
+returns-in_err-matches-clause-refused g c =
+    refused_by (map g.S.AsStr.text c.args.words.now) c.try_get_matches_from_mut.result c.in_err-matches.field-0.0 c.from_residual-in_err-matches.result
+    (search rules) (fails_by (app_of c.in_ok-command.command) _ _ (search rules) c.try_get_matches_from_mut.ensures.kinds) (search rules)
+
+pub returns-in-Some-clause-task : goal.returns-in-Some-clause-task
+returns-in-Some-clause-task g c =
+    let fails = fails_by (app_of c.in_ok-command.command) (map g.S.AsStr.text c.args.words.now) c.try_get_matches_from_mut.result (search rules) c.try_get_matches_from_mut.ensures.kinds in
+    (search rules, search rules)
