@@ -14,10 +14,14 @@ pub record SettingsFields : Type 0 where
 abbrev pub IsUpTo : ℕ → ℕ → Type 0
 IsUpTo greatest n = (0 < n) × (n ≤ greatest)
 
--- ten minutes, a day, a year, ten years, and the greatest serial less one
+-- the greatest serial less one
+abbrev pub greatest_cap : ℕ
+greatest_cap = 9223372036854775806
+
+-- ten minutes, a day, a year, ten years, and the greatest cap
 pub record IsSettings (s : SettingsFields) : Type 0 where
   pub code : IsUpTo 600 s.code
   pub access : IsUpTo 86400 s.access
   pub refresh : IsUpTo 31536000 s.refresh
   pub family : IsUpTo 315360000 s.family
-  pub cap : IsUpTo 9223372036854775806 s.cap
+  pub cap : IsUpTo greatest_cap s.cap

@@ -10,7 +10,7 @@ use Rattle.tk_handle.specs.declared.dot.Dot.{Dot}
 use Rattle.tk_handle.specs.Dot.{coded_dot}
 use Rattle.tk_fact.specs.declared.body.Body.{Body}
 use Rattle.tk_fact.specs.contracts.body.Body.{the_row}
-use Rattle.tk_store.specs.FactSet.{FactSet, Facts, IsFactSet, coded_facts}
+use Rattle.tk_store.specs.FactSet.{FactSet, Facts, AllIn, IsFactSet, Within, coded_facts}
 use Rattle.tk_world.specs.SettingsFields.{SettingsFields}
 
 pub record State : Type 0 where
@@ -46,15 +46,6 @@ with_bundle s fs = record { settings = s.settings; regions = s.regions; bundles 
 -- what a region holds, and nothing where it isn't open
 abbrev pub facts_in : State → ℕ → FactSet
 facts_in s r = unwrap_or (map.get s.regions r) map.empty
-
--- each of these facts is in the set
-abbrev pub AllIn : FactSet → Facts → Type 0
-AllIn U [] = Unit {0}
-AllIn U (f ∷ fs) = (map.get U f.0 ≡ Some f.1) × AllIn U fs
-
--- every fact of the one is in the other
-abbrev pub Within : FactSet → FactSet → Type 0
-Within F U = (d : Dot) (b : Body) → map.get F d ≡ Some b → map.get U d ≡ Some b
 
 -- U is the set of all facts made: each stands in the region of its number, under the cap
 pub record Consists (s : State) (U : FactSet) : Type 0 where

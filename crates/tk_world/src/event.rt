@@ -30,12 +30,15 @@ pub enum Event {
 /// How an event ended.
 #[derive(Debug, Drop)]
 pub enum Outcome {
+    /// The region is open.
     Opened,
+    /// A region is open under the number already. Nothing changed.
     NumberTaken,
     /// No region is open under the number.
     NoRegion,
     /// No bundle of the number has been made.
     NoBundle,
+    /// What the region answers, with the fact that it made for it, if any, held.
     Reply(Reply),
     /// The bundle's number, how many facts it has, the dot of its last one, and whether more follow it.
     Bundle {

@@ -35,6 +35,7 @@ pub(crate) fn answer(
     ensures { Commits (next_dot (known_in ledger.old) region) (spec.decided settings.now.cap ledger.old region now words.now request.now) ledger.old result ledger.new }
 {
     let serial = ledger.store().next_serial(region);
+    // The proof reads the cap's range from this call.
     let _cap = settings.cap();
     match Dot::new(region, serial) {
         Some(next) => answer_at(alloc, settings, next, ledger, now, words, request),

@@ -9,14 +9,18 @@ pub struct Reply {
     pub location: Option<String>,
     /// Whether credentials are asked for (RFC 6749, 5.2).
     pub www: bool,
+    /// What it carries.
     pub body: Payload,
 }
 
-/// What a reply carries.
+/// What a reply carries. The requests of today are all answered with JSON and without a location.
 #[derive(Debug, Drop)]
 pub enum Payload {
+    /// Nothing.
     Empty,
+    /// A JSON text (RFC 8259).
     Json(Vec<u8>),
+    /// Other bytes, as a bundle's.
     Bytes(Vec<u8>),
 }
 

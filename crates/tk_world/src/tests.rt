@@ -2,6 +2,7 @@ use crate::{Event, Outcome, Payload, Request, Settings, World};
 use std::alloc::{AllocError, Global};
 use std::test::Fail;
 use tk_handle::{Moment, RegionNumber};
+use tk_vector::VersionVector;
 
 #[test]
 fn settings_end_where_their_ranges_do(rt: HostRuntime) {
@@ -71,11 +72,16 @@ fn is_reply(outcome: Option<&Outcome>, status: u16, body: &str) -> bool {
     }
 }
 
+// A world of no region.
+fn new_world(alloc: Global) -> Result<World, Fail> {
+    let settings = Settings::new(60, 3600, 86_400, 2_592_000, 1000).ok_or("settings")?;
+    Ok(World::new(alloc, settings))
+}
+
 // A world with region 1, asked to register such a client and then to show it.
 fn registered(alloc: Global, scope: &str, redirects: &str) -> Result<Vec<Outcome>, Fail> {
     let one = RegionNumber::new(1).ok_or("a region")?;
-    let settings = Settings::new(60, 3600, 86_400, 2_592_000, 1000).ok_or("settings")?;
-    let mut world = World::new(alloc, settings);
+    let mut world = new_world(alloc)?;
     let mut events = Vec::new(alloc);
     events.push(Event::Open(one))?;
     events.push(ask(one, registration(alloc, scope, redirects)?)?)?;
@@ -153,5 +159,28 @@ fn a_registration_is_shown(rt: HostRuntime) -> Result<(), Fail> {
         is_reply(outcomes.get(2), 200, shown),
         "printed in order, without doubles"
     );
+    Ok(())
+}
+
+// The bytes of the first of the two bundles in docs/FORMATS.md.
+const FIRST_BUNDLE: &[u8] =
+    b"OTB1\x00\x01\x00\x2b\x00\x01\x00\x00\x00\x00\x00\x00\x00\x01\x01\x00\x00\x04read\x01\x00\x16https://app.example/cb";
+
+#[test]
+fn a_bundle_is_shown_under_its_number(rt: HostRuntime) -> Result<(), Fail> {
+    let alloc = rt.alloc();
+    let one = RegionNumber::new(1).ok_or("a region")?;
+    let mut world = new_world(alloc)?;
+    let mut events = Vec::new(alloc);
+    events.push(Event::Open(one))?;
+    events.push(ask(one, registration(alloc, "read", URI)?)?)?;
+    let vector = VersionVector::new(alloc);
+    events.push(Event::Pull {
+        region: one,
+        vector,
+    })?;
+    let _ = world.run(events.as_slice())?;
+    assert_eq!(rt; world.bundle(0), Some(FIRST_BUNDLE));
+    assert!(rt; world.bundle(1).is_none());
     Ok(())
 }

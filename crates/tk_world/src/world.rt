@@ -56,6 +56,7 @@ impl World {
     pub fn new(alloc: Global, settings: Settings) -> World
         ensures { result ≡ new_state settings }
     {
+        // The proof reads the cap's range from this call.
         let _cap = settings.cap();
         World {
             alloc,

@@ -8,7 +8,8 @@ use Rattle.tk_world.specs.declared.event.Event.{Event}
 use Rattle.tk_world.specs.declared.event.Event.TheVariants.{Open, Request, Pull, Deliver}
 use Rattle.tk_world.specs.declared.request.Request as asked
 use Rattle.tk_world.specs.declared.request.Request.TheVariants.{AddClient, ShowClient, Retire}
-use Rattle.tokend.specs.Fields.{number_in, number_between, is_space, IsRegion, IsMoment, IsFormText}
+use Rattle.tk_world.specs.Administration.{is_space}
+use Rattle.tokend.specs.Fields.{number_in, number_between, IsRegion, IsMoment, IsFormText}
 use Rattle.tokend.specs.Line.{texts, IsVectorText, IsNoVector, IsRequestForm, IsNoRequest, IsPrintable, IsEventForm, IsNoEventForm, IsEventLine, IsNoEventLine}
 use Rattle.tokend.proofs.NumberTexts.{no_number, no_number_between, spelled, spelled_between, ends, fits}
 

@@ -5,7 +5,8 @@ use Rattle.std.specs.Io.KnownBytes.{Appends}
 use Rattle.std.specs.List.{flat_map}
 use Rattle.tk_world.specs.declared.event.Event.{Event}
 use Rattle.tk_world.specs.declared.event.Outcome.{Outcome}
-use Rattle.tokend.specs.Printed.{region_of, outcome_text, line_text}
+use Rattle.tk_world.specs.World.{region_of}
+use Rattle.tokend.specs.Printed.{outcome_text, line_text}
 
 abbrev pub seen : Bor Event × Bor Outcome → Event × Outcome
 seen p = (p.0.now, p.1.now)

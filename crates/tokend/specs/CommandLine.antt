@@ -3,6 +3,7 @@ use Rattle.std.specs.Prelude.{◌≡◌, ℕ, ◌≤◌, List, [], ◌∷◌, So
 use Rattle.std.specs.Str.Parse.{IsNumeral, digits_value, without_leading_plus}
 use Rattle.clap.specs.Words.{App, Row, Rule, Text, new_app, new_rule, one_of, with_rule, with_subcommand}
 use Rattle.clap.specs.Simple.{on_top}
+use Rattle.tk_world.specs.SettingsFields.{greatest_cap}
 use Rattle.clap.specs.declared.builder.value_parser.ValueParser.TheVariants as parser
 
 -- `--id N`, from 1 to the greatest, with a default
@@ -12,7 +13,7 @@ number_rule id default greatest =
 
 -- `script [--cap N]`
 abbrev pub script_app : App
-script_app = with_rule (new_app (codes "script")) (number_rule (codes "cap") (codes "9223372036854775806") 9223372036854775806)
+script_app = with_rule (new_app (codes "script")) (number_rule (codes "cap") (codes "9223372036854775806") greatest_cap)
 
 -- the program has a version, and wants a subcommand
 abbrev pub tokend_app : App

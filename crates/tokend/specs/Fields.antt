@@ -7,9 +7,6 @@ use Rattle.tk_handle.specs.declared.dot.Dot.{Dot}
 use Rattle.tk_handle.specs.Dot.{IsDot}
 use Rattle.tk_handle.specs.Moment.{greatest_moment}
 
-abbrev pub is_space : ℕ → Bool
-is_space b = b == 32
-
 -- the number whose decimal the text is
 abbrev pub number_in : List ℕ → Option ℕ
 number_in text =

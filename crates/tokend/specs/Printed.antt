@@ -6,7 +6,7 @@ use Rattle.std.specs.List.{flat_map, zip}
 use Rattle.tk_handle.specs.declared.dot.Dot.{Dot}
 use Rattle.tk_world.specs.ReplyFields.{ReplyFields, Content, Nothing, JsonText, OtherBytes}
 use Rattle.tk_world.specs.declared.event.Event.{Event}
-use Rattle.tk_world.specs.declared.event.Event.TheVariants as event
+use Rattle.tk_world.specs.World.{region_of}
 use Rattle.tk_world.specs.declared.event.Outcome.{Outcome}
 use Rattle.tk_world.specs.declared.event.Outcome.TheVariants.{Opened, NumberTaken, NoRegion, NoBundle, Reply, Bundle, Took, Memory}
 use Rattle.tokend.specs.Fields.{dot_text}
@@ -44,13 +44,6 @@ outcome_text region (Bundle index count last more) =
     codes "bundle " ++ decimal index ++ codes " " ++ decimal count ++ codes " " ++ last_text last ++ (if more then codes " more" else codes " end")
 outcome_text region (Took count) = codes "took " ++ decimal count
 outcome_text region Memory = codes "memory"
-
--- the region that an event is for
-abbrev pub region_of : Event → ℕ
-region_of (event.Open region) = region
-region_of (event.Request region now words request) = region
-region_of (event.Pull region vector) = region
-region_of (event.Deliver bundle region) = region
 
 -- an outcome on a line of its own
 abbrev pub line_text : Event × Outcome → List ℕ

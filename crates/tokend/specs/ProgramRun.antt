@@ -5,7 +5,7 @@
 use Rattle.std.specs.Prelude.{◌⊎◌, ⊤, ℕ, List, Option}
 use Rattle.std.specs.Io.KnownBytes.{Keeps}
 use Rattle.clap.specs.Words.{Text, kind_of}
-use Rattle.tokend.specs.Task.{Asks, AsksToShow, IsRefusalOf}
+use Rattle.tokend.specs.Task.{Asks, AsksToShow, IsNoShow, IsRefusalOf}
 use Rattle.tokend.specs.ScriptRun.{PrintsScript, IsScriptFault}
 use Rattle.tokend.specs.declared.options.Task.TheVariants.{Script}
 use Rattle.tokend.specs.declared.fault.Fault.{Fault}
@@ -17,7 +17,7 @@ IsDone words input old new = ((cap : ℕ) × Asks words (Script cap) × PrintsSc
 
 -- the words are refused, or they ask for a script and it has the fault; memory and the output may fail in any run
 abbrev pub IsFaultFor : List Text → Option (List ℕ) → Fault → Type 0
-IsFaultFor words input (Words error) = IsRefusalOf words (kind_of error)
+IsFaultFor words input (Words error) = IsRefusalOf words (kind_of error) × IsNoShow (kind_of error)
 IsFaultFor words input Memory = ⊤
 IsFaultFor words input Output = ⊤
 IsFaultFor words input fault = ((cap : ℕ) × Asks words (Script cap)) × IsScriptFault input fault

@@ -9,7 +9,6 @@ use Rattle.tk_world.specs.declared.event.Event.{Event}
 use Rattle.tokend.specs.Line.{IsEventLine, IsNoEventLine}
 use Rattle.tokend.specs.declared.fault.Fault.{Fault}
 use Rattle.tokend.specs.declared.fault.Fault.TheVariants.{BadLine, CannotRead, Memory, ScriptTooLong}
-use Rattle.tokend.specs.declared.script.TheConstants.{LIMIT}
 
 -- LF
 abbrev pub is_newline : ℕ → Bool
@@ -40,11 +39,15 @@ pub record IsFirstBad (script : List ℕ) (number : ℕ) : Type 0 where
   pub told : is_told line ≡ true
   pub bad : IsNoEventLine line
 
+-- the greatest length of a script in bytes, 1 MiB (own)
+abbrev pub greatest_length : ℕ
+greatest_length = 1048576
+
 -- memory ran out, the input failed, or it has more than a script may; nothing else
 abbrev pub IsInputFault : Option (List ℕ) → Fault → Type 0
 IsInputFault input Memory = ⊤
 IsInputFault input CannotRead = ⊤
-IsInputFault input ScriptTooLong = IfSome input (λ bytes. LIMIT < length bytes)
+IsInputFault input ScriptTooLong = IfSome input (λ bytes. greatest_length < length bytes)
 IsInputFault input fault = ⊥
 
 -- memory ran out, or this is the first bad line; nothing else

@@ -6,30 +6,28 @@ use Rattle.std.specs.Prelude.{◌≡◌, ◌≤◌, ⊤, ℕ, List, Option, IfSo
 use Rattle.std.specs.Io.KnownBytes.{Appends}
 use Rattle.tk_world.specs.SettingsFields.{SettingsFields}
 use Rattle.tk_world.specs.State.{State, new_state}
-use Rattle.tk_world.specs.World.{Run}
+use Rattle.tk_world.specs.World.{Facts, Run}
 use Rattle.tk_world.specs.declared.event.Event.{Event}
 use Rattle.tk_world.specs.declared.event.Outcome.{Outcome}
 use Rattle.tokend.specs.Line.{HasWords, words_at}
-use Rattle.tokend.specs.Script.{lines_of, AreEvents, IsFirstBad, IsInputFault}
+use Rattle.tokend.specs.Script.{greatest_length, lines_of, AreEvents, IsFirstBad, IsInputFault}
 use Rattle.tokend.specs.Printed.{lines_text}
 use Rattle.tokend.specs.declared.fault.Fault.{Fault}
 use Rattle.tokend.specs.declared.fault.Fault.TheVariants.{BadLine, Output}
-use Rattle.tokend.specs.declared.program.TheConstants.{CODE, ACCESS, REFRESH, FAMILY}
-use Rattle.tokend.specs.declared.script.TheConstants.{LIMIT}
 
--- the program's lives, and this cap
+-- a code lives a minute, an access token an hour, a refresh token a day and a family thirty days (own)
 abbrev pub settings_of : ℕ → SettingsFields
-settings_of cap = record { code = CODE; access = ACCESS; refresh = REFRESH; family = FAMILY; cap = cap }
+settings_of cap = record { code = 60; access = 3600; refresh = 86400; family = 2592000; cap = cap }
 
 -- the script is short enough; its events, with their words, are run in a new world; and the lines are their outcomes'
 pub record IsScriptRun (cap : ℕ) (script : List ℕ) (lines : List ℕ) : Type 0 where
-  pub short : length script ≤ LIMIT
+  pub short : length script ≤ greatest_length
   pub events : List Event
   pub outcomes : List Outcome
   pub after : State
   pub found : AreEvents (lines_of script) events
   pub words : (k : ℕ) → IfSome (slice_get events k) (HasWords (words_at k))
-  pub run : (shown : _) × Run (new_state (settings_of cap)) events outcomes shown after
+  pub run : (shown : List Facts) × Run (new_state (settings_of cap)) events outcomes shown after
   pub printed : lines ≡ lines_text events outcomes
 
 -- the lines that the input's script comes to were written behind what the output had
@@ -40,5 +38,5 @@ PrintsScript cap input old new =
 -- the input gives no script, or its script no events; or memory or the output fails
 abbrev pub IsScriptFault : Option (List ℕ) → Fault → Type 0
 IsScriptFault input Output = ⊤
-IsScriptFault input (BadLine number) = IfSome input (λ script. (length script ≤ LIMIT) × IsFirstBad script number)
+IsScriptFault input (BadLine number) = IfSome input (λ script. (length script ≤ greatest_length) × IsFirstBad script number)
 IsScriptFault input fault = IsInputFault input fault

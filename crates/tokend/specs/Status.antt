@@ -1,5 +1,8 @@
--- Faults: the exit status of each, and the one of an input that fails.
-use Rattle.std.specs.Prelude.{ℕ}
+-- Faults.
+--   status_of     the exit status of each
+--   fault_text    what is told of it
+--   input_fault   the one of an input that fails
+use Rattle.std.specs.Prelude.{ℕ, List, [], ◌∷◌, ◌++◌, codes, decimal, Option, Some, None}
 use Rattle.std.specs.declared.io.ErrorKind.{ErrorKind}
 use Rattle.std.specs.declared.io.ErrorKind.TheVariants.{OutOfMemory}
 use Rattle.tokend.specs.declared.fault.Fault.{Fault}
@@ -18,3 +21,12 @@ status_of Output = 1
 abbrev pub input_fault : ErrorKind → Fault
 input_fault OutOfMemory = Memory
 input_fault kind = CannotRead
+
+-- a line of its own; the words' fault is told as clap does, and an output that failed by its status alone
+abbrev pub fault_text : Fault → Option (List ℕ)
+fault_text (Words error) = None
+fault_text CannotRead = Some (codes "tokend: cannot read -" ++ 10 ∷ [])
+fault_text ScriptTooLong = Some (codes "tokend: script too long" ++ 10 ∷ [])
+fault_text (BadLine number) = Some (codes "tokend: bad line " ++ (decimal number ++ 10 ∷ []))
+fault_text Memory = Some (codes "tokend: memory" ++ 10 ∷ [])
+fault_text Output = Some []

@@ -2,17 +2,18 @@
 --   Asks           a task
 --   AsksToShow     help, or the version
 --   IsRefusalOf    the kind of a fault in the words
-use Rattle.std.specs.Prelude.{◌≡◌, ◌⊎◌, List, [], Option, Some, codes}
+use Rattle.std.specs.Prelude.{◌≡◌, ◌≢◌, ◌⊎◌, List, [], Option, Some, codes}
 use Rattle.clap.specs.Words.{Row, Text, IsAmong, fault_of, subcommand_of}
 use Rattle.clap.specs.declared.error.kind.ErrorKind.{ErrorKind}
 use Rattle.clap.specs.declared.error.kind.ErrorKind.TheVariants.{DisplayHelp, DisplayVersion, MissingSubcommand}
+use Rattle.tk_world.specs.SettingsFields.{greatest_cap}
 use Rattle.tokend.specs.CommandLine.{HasNumber, tokend_app}
 use Rattle.tokend.specs.declared.options.Task.{Task}
 use Rattle.tokend.specs.declared.options.Task.TheVariants.{Script}
 
 -- the subcommand and its values
 abbrev pub IsTask : Option (Text × List Row) → Task → Type 0
-IsTask found (Script cap) = (rows : List Row) × (found ≡ Some (codes "script", rows)) × HasNumber rows (codes "cap") 9223372036854775806 cap
+IsTask found (Script cap) = (rows : List Row) × (found ≡ Some (codes "script", rows)) × HasNumber rows (codes "cap") greatest_cap cap
 
 -- they are no task's
 abbrev pub IsNoTask : Option (Text × List Row) → Type 0
@@ -26,7 +27,11 @@ Asks words task = (fault_of tokend_app words ≡ []) × IsTask (subcommand_of to
 abbrev pub AsksToShow : List Text → Type 0
 AsksToShow words = IsAmong DisplayHelp (fault_of tokend_app words) ⊎ IsAmong DisplayVersion (fault_of tokend_app words)
 
+-- the kind is no text to show
+abbrev pub IsNoShow : ErrorKind → Type 0
+IsNoShow kind = (kind ≢ DisplayHelp) × (kind ≢ DisplayVersion)
+
 -- clap finds this fault in the words, or none and they name no task
 abbrev pub IsRefusalOf : List Text → ErrorKind → Type 0
 IsRefusalOf words kind = IsAmong kind (fault_of tokend_app words)
-    ⊎ ((kind ≡ MissingSubcommand) × IsNoTask (subcommand_of tokend_app words))
+    ⊎ ((kind ≡ MissingSubcommand) × (fault_of tokend_app words ≡ []) × IsNoTask (subcommand_of tokend_app words))

@@ -2,7 +2,7 @@ ghost use Rattle.std.specs.Prelude.{◌≡◌};
 ghost use Rattle.std.specs.IoError.{error_kind};
 ghost use Rattle.tokend.specs.declared.fault.Fault.TheVariants as fault;
 ghost use Rattle.tokend.specs.declared.fault.LineError.TheVariants as line;
-ghost use Rattle.tokend.specs.Status.{input_fault, status_of};
+ghost use Rattle.tokend.specs.Status.{fault_text, input_fault, status_of};
 
 use std::alloc::{AllocError, AllocFailed};
 use std::{fmt, io};
@@ -38,6 +38,8 @@ impl Fault {
 
 /// The whole lines for the standard error. An output that failed is told by the status alone.
 impl fmt::Display for Fault {
+    ghost output = { fault_text };
+
     fn fmt<W: fmt::Write>(&self, f: &mut fmt::Formatter<W>) -> fmt::Result {
         match self {
             Fault::Words(error) => write!(f, "{error}"),

@@ -1,6 +1,7 @@
 ghost use Rattle.std.specs.Prelude.{◌≡◌, ◌↔◌, IfOk, IsErrOf, IsTrue, MatchOption, map};
 ghost use Rattle.std.specs.List.{slice_split};
-ghost use Rattle.tokend.specs.Fields.{is_space, number_in, number_between, IsDotText, IsNoDot, IsDotsText, AreNoDots, IsFormText};
+ghost use Rattle.tk_world.specs.Administration.{is_space};
+ghost use Rattle.tokend.specs.Fields.{number_in, number_between, IsDotText, IsNoDot, IsDotsText, AreNoDots, IsFormText};
 
 use crate::fault::LineError;
 use std::alloc::{AllocError, Global};

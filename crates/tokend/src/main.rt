@@ -7,7 +7,8 @@
 //! In reading order: `options` (the words of the command line), `script` (the input as events), `line` (one line),
 //! `fields` (its numbers and texts), `print` (outcomes as lines), `fault` (what may go wrong, and how it is told),
 //! `program` (all of it in order). The definitions are in specs/: `CommandLine` and `Task` for the words, `Line` and
-//! `Fields` for the lines, `Script` for all of them, `Status` for the statuses.
+//! `Fields` for the lines, `Script` for all of them, `Printed` for what is printed, `Status` for faults, `ScriptRun` and
+//! `ProgramRun` for what a run comes to.
 #![tactic(auto)]
 
 mod fault;

@@ -22,6 +22,9 @@ pub enum Task {
     Script { cap: u64 },
 }
 
+/// The greatest cap: one below the greatest serial.
+const GREATEST_CAP: u64 = 9_223_372_036_854_775_806;
+
 /// What the words ask for, the first of them being the program's name. An error is a mistake in the words, a
 /// request for help or the version, or want of memory, as its kind says.
 pub fn options<'a, S: AsStr>(alloc: Global, words: &'a [S]) -> Result<Task, Error>
@@ -67,7 +70,7 @@ fn script_command<'a>(alloc: Global) -> Result<Command<'a>, AllocError>
         .long("cap")
         .value_name("N")
         .help("The greatest serial of a fact that a region makes")
-        .value_parser(ValueParser::Unsigned(1, 9_223_372_036_854_775_806))
+        .value_parser(ValueParser::Unsigned(1, GREATEST_CAP))
         .default_value("9223372036854775806");
     Command::new(alloc, "script")
         .about("Runs events, given as lines on the standard input")
@@ -81,7 +84,7 @@ fn read_matches(matches: &ArgMatches<'_>) -> Option<Task>
 {
     match matches.subcommand()? {
         ("script", values) => {
-            let cap = number(values, "cap", 9_223_372_036_854_775_806)?;
+            let cap = number(values, "cap", GREATEST_CAP)?;
             Some(Task::Script { cap })
         }
         _ => None,

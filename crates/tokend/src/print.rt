@@ -1,5 +1,6 @@
 ghost use Rattle.std.specs.Prelude.{◌≡◌, OnOk};
 ghost use Rattle.std.specs.Io.KnownBytes.{Appends};
+ghost use Rattle.tk_world.specs.World.{region_of as event_region};
 ghost use Rattle.tokend.specs.Printed as spec;
 
 use std::io::{self, Write};
@@ -23,7 +24,7 @@ pub(crate) fn print_outcomes<O: Write>(
 
 // The region that an event is for.
 fn region_of(event: &Event) -> RegionNumber
-    ensures { result ≡ spec.region_of event.now }
+    ensures { result ≡ event_region event.now }
 {
     match event {
         Event::Open(region) => *region,

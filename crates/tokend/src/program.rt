@@ -1,9 +1,10 @@
-ghost use Rattle.std.specs.Prelude.{◌≡◌, ◌≤◌, OnOk, IfErr, MatchResult, map};
+ghost use Rattle.std.specs.Prelude.{◌≡◌, ◌≤◌, OnOk, IfErr, IfSome, MatchResult, map};
 ghost use Rattle.std.specs.Io.KnownBytes.{Appends, Keeps};
 ghost use Rattle.tokend.specs.Printed.{lines_text};
 ghost use Rattle.tokend.specs.ProgramRun.{IsDone, IsFaultFor, KeepsUnlessOutput};
 ghost use Rattle.tokend.specs.ScriptRun.{settings_of, PrintsScript, IsScriptFault};
-ghost use Rattle.tokend.specs.Status.{status_of};
+ghost use Rattle.tk_world.specs.SettingsFields.{greatest_cap};
+ghost use Rattle.tokend.specs.Status.{fault_text, status_of};
 ghost use Rattle.tokend.specs.declared.fault.Fault.{Fault as FaultValue};
 
 use crate::fault::Fault;
@@ -16,17 +17,14 @@ use std::convert::AsStr;
 use std::io::{self, Read, Write};
 use tk_world::{Event, Outcome, Settings, World};
 
-/// The life of a code, in seconds.
-pub const CODE: u64 = 60;
+// The lives of a code, an access token, a refresh token and a family, in seconds.
+const CODE: u64 = 60;
 
-/// The life of an access token, in seconds.
-pub const ACCESS: u64 = 3_600;
+const ACCESS: u64 = 3_600;
 
-/// The life of a refresh token, in seconds.
-pub const REFRESH: u64 = 86_400;
+const REFRESH: u64 = 86_400;
 
-/// The life of a family of tokens, in seconds.
-pub const FAMILY: u64 = 2_592_000;
+const FAMILY: u64 = 2_592_000;
 
 /// Does what the words ask for, the first of them being the program's name, and gives the exit status: 0 done,
 /// 1 memory or a device, 2 bad words or a bad script. A fault is told on `faults`, whose own failures are ignored.
@@ -55,10 +53,16 @@ pub(crate) fn finish<E: Write>(ran: Result<(), Fault>, faults: &mut E) -> u8
     match ran {
         Ok(()) => 0,
         Err(fault) => {
-            let _ = write!(faults, "{fault}");
+            let _ = tell(faults, &fault);
             fault.status()
         }
     }
+}
+
+fn tell<E: Write>(faults: &mut E, fault: &Fault) -> io::Result<()>
+    ensures { OnOk result (IfSome (fault_text fault.now) (Appends (E.contents faults.old) (E.contents faults.new))) }
+{
+    write!(faults, "{fault}")
 }
 
 fn run<S: AsStr, I: Read, O: Write>(
@@ -92,7 +96,7 @@ fn run_script<I: Read, O: Write>(
     output: &mut O,
 ) -> Result<(), Fault>
     requires low { 1 ≤ cap }
-    requires high { cap ≤ 9223372036854775806 }
+    requires high { cap ≤ greatest_cap }
     ensures done { OnOk result (PrintsScript cap (I.remaining input.old) (O.contents output.old) (O.contents output.new)) }
     ensures fault { IfErr result (IsScriptFault (I.remaining input.old)) }
     ensures kept { IfErr result (λ fault. KeepsUnlessOutput fault (O.contents output.old) (O.contents output.new)) }
@@ -115,7 +119,7 @@ fn print_all<O: Write>(output: &mut O, events: &[Event], outcomes: &[Outcome]) -
 // The program's lives, and this cap.
 fn settings(cap: u64) -> Settings
     requires low { 1 ≤ cap }
-    requires high { cap ≤ 9223372036854775806 }
+    requires high { cap ≤ greatest_cap }
     ensures { result ≡ settings_of cap }
 {
     Settings::new(CODE, ACCESS, REFRESH, FAMILY, cap).unwrap()

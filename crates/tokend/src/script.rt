@@ -1,6 +1,6 @@
 ghost use Rattle.std.specs.Prelude.{◌≡◌, ◌≤◌, ◌<◌, ◌^◌, ℕ, IfOk, IfErr, IfSome, length, slice_get, vec_len};
 ghost use Rattle.tokend.specs.Line.{HasWords, words_at};
-ghost use Rattle.tokend.specs.Script.{lines_of, AreEvents, IsFaultOf, IsInputFault};
+ghost use Rattle.tokend.specs.Script.{greatest_length, lines_of, AreEvents, IsFaultOf, IsInputFault};
 
 use crate::fault::{Fault, LineError};
 use crate::line::event;
@@ -14,7 +14,7 @@ pub const LIMIT: usize = 1_048_576;
 /// All that the input has, up to the limit. An input that fails or is interrupted can't be read, whatever it gave
 /// before; a longer one is too long.
 pub(crate) fn read_script<I: Read>(alloc: Global, input: &mut I) -> Result<Vec<u8>, Fault>
-    ensures short { IfOk result (λ script. vec_len script ≤ LIMIT) }
+    ensures short { IfOk result (λ script. vec_len script ≤ greatest_length) }
     ensures whole { IfOk result (λ script. IfSome (I.remaining input.old) (λ bytes. script.items ≡ bytes)) }
     ensures fault { IfErr result (IsInputFault (I.remaining input.old)) }
 {
@@ -33,7 +33,7 @@ pub(crate) fn read_script<I: Read>(alloc: Global, input: &mut I) -> Result<Vec<u
 /// The events of a script's lines, in order; the fault is the first bad line. Lines end with LF, the last may lack
 /// it. Empty lines, and lines that begin with `#`, are no events.
 pub(crate) fn read_events(alloc: Global, script: &[u8]) -> Result<Vec<Event>, Fault>
-    requires { length script.now ≤ LIMIT }
+    requires { length script.now ≤ greatest_length }
     ensures found { IfOk result (λ events. AreEvents (lines_of script.now) events.items) }
     ensures words { IfOk result (λ events. (k : ℕ) → IfSome (slice_get events.items k) (HasWords (words_at k))) }
     ensures fault { IfErr result (IsFaultOf script.now) }

@@ -3,6 +3,7 @@ mod command_line;
 mod devices;
 mod lines;
 mod order;
+mod replies;
 mod world;
 
 use crate::program::run_program;

@@ -1,4 +1,4 @@
-use Rattle.std.proofs.Common.{rules, map}
+use Rattle.std.proofs.Common.{rules, map, inr}
 use Rattle.clap.specs.Words.{app_of}
 use Rattle.tokend.proofs.Tasks.{fails_by, refused_by}
 use Rattle.tokend.proofs.options.options.Goals as goal
@@ -12,3 +12,8 @@ pub returns-in-Some-clause-task : goal.returns-in-Some-clause-task
 returns-in-Some-clause-task g c =
     let fails = fails_by (app_of c.in_ok-command.command) (map g.S.AsStr.text c.args.words.now) c.try_get_matches_from_mut.result (search rules) c.try_get_matches_from_mut.ensures.kinds in
     (search rules, search rules)
+
+pub returns-clause-refused : goal.returns-clause-refused
+returns-clause-refused g c =
+    let fails = fails_by (app_of c.in_ok-command.command) (map g.S.AsStr.text c.args.words.now) c.try_get_matches_from_mut.result (search rules) c.try_get_matches_from_mut.ensures.kinds in
+    inr (inr (search rules, search rules, search rules))
