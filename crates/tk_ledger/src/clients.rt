@@ -12,6 +12,7 @@ pub struct ClientView<'a> {
     pub sort: &'a Sort,
     /// What it may ask for at most.
     pub scope: &'a Scope,
+    /// Where its users may be sent back to (RFC 6749, 3.1.2).
     pub redirects: &'a Redirects,
     /// Whether no fact retires it.
     pub live: bool,

@@ -42,6 +42,7 @@ pub struct Standing<'a> {
     pub family_end: Moment,
     /// How many rotations lie between the code and the token, as the fact that minted it says; 0 to 65,535.
     pub generation: u16,
+    /// Whether it may be used at the moment asked about, and else why not.
     pub state: State,
 }
 
