@@ -6,7 +6,6 @@ use Rattle.std.specs.Ordering.{is_lt, nat_cmp}
 use Rattle.std.specs.Str.{bytes_eq}
 use Rattle.tk_scope.specs.declared.error.ScopeError.{ScopeError}
 use Rattle.tk_scope.specs.declared.error.ScopeError.TheVariants.{TooLong, Grammar, TooMany}
-use Rattle.tk_scope.specs.declared.scope.TheConstants.{MAX_BYTES, MAX_TOKENS}
 
 -- %x21 / %x23-5B / %x5D-7E (RFC 6749, 3.3)
 abbrev pub is_scope_byte : ℕ → Bool
@@ -20,12 +19,20 @@ is_token token = not (length token == 0) && list_all is_scope_byte token
 abbrev pub tokens_of : List ℕ → List (List ℕ)
 tokens_of text = slice_split (λ b. b == 0x20) text
 
--- the first rule that a text breaks: the length, the grammar (RFC 6749, 3.3), the number of tokens (the limits are own)
+-- the most bytes of a text (own)
+abbrev pub greatest_length : ℕ
+greatest_length = 1024
+
+-- the most tokens of a text, doubles counted (own)
+abbrev pub most_tokens : ℕ
+most_tokens = 32
+
+-- the first rule that a text breaks: the length, the grammar (RFC 6749, 3.3), the number of tokens
 abbrev pub scope_refusal : List ℕ → Option ScopeError
 scope_refusal text =
-    if nat_lt MAX_BYTES (length text) then Some TooLong
+    if nat_lt greatest_length (length text) then Some TooLong
     else if not (list_all is_token (tokens_of text)) then Some Grammar
-    else if nat_lt MAX_TOKENS (length (tokens_of text)) then Some TooMany
+    else if nat_lt most_tokens (length (tokens_of text)) then Some TooMany
     else None
 
 -- tokens that ascend in byte order, and one more among them, unless it is there

@@ -24,7 +24,7 @@ ghost use Rattle.std.specs.Prelude.{◌≡◌, ◌≤◌, ◌↔◌, ◌⊎◌, 
 ghost use Rattle.std.specs.Cmp.Lexicographic.{slice_cmp};
 ghost use Rattle.std.specs.List.Sorted.{IsStrictlySortedBy};
 ghost use Rattle.std.specs.Ordering.{nat_cmp};
-ghost use Rattle.tk_scope.specs.Scope.{scope_of, scope_refusal, HasSameTokens, IsWithin, is_within, tokens_of};
+ghost use Rattle.tk_scope.specs.Scope.{greatest_length, scope_of, scope_refusal, HasSameTokens, IsWithin, is_within, tokens_of};
 
 use crate::ScopeError;
 use crate::grammar::is_list_of_tokens;
@@ -80,7 +80,7 @@ impl Scope {
     pub fn text(&self) -> &str
         ensures value { result.now ≡ self.now }
         ensures in_order { IsStrictlySortedBy (slice_cmp nat_cmp) (tokens_of self.now) }
-        ensures short { length self.now ≤ MAX_BYTES }
+        ensures short { length self.now ≤ greatest_length }
 
         // Read again, it is the same scope.
         ensures again { scope_of self.now ≡ Some self.now }
