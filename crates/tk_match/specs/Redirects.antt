@@ -1,8 +1,8 @@
--- Which lists of redirection URIs a client may have (RFC 6749, 3.1.2; the limits are own).
+-- Which lists of redirection URIs a client may have (RFC 6749, 3.1.2; the limits and `is_absolute` are own).
 --   is_uri                 a text that may be kept
 --   redirects_refusal      the first rule that a list breaks
 --   redirects_of           the list, where it breaks none
---   Reads, Refuses         what the URL Standard says of a text, as the crate `url` defines it
+--   ReadsAsUrl, Refuses    what the URL Standard says of a text, as the crate `url` defines it
 --   registration_refusal   the first rule that a list breaks where its URIs are read too
 use Rattle.std.specs.Prelude.{◌≡◌, ℕ, Bool, ◌&&◌, ◌==◌, not, nat_lt, nat_le, is_none, is_some, is_ok, if◌then◌else◌, List, length, Option, None, Some, Ok, Err}
 use Rattle.std.specs.List.{list_all}
@@ -32,19 +32,19 @@ redirects_refusal uris =
 abbrev pub redirects_of : List (List ℕ) → Option (List (List ℕ))
 redirects_of uris = if is_none (redirects_refusal uris) then Some uris else None
 
--- the URL Standard reads the text as an absolute URL
-abbrev pub Reads : List ℕ → Type 0
-Reads text = (url : Parts) × (parse_url None text ≡ Ok url)
+-- the URL Standard reads the text without a base
+abbrev pub ReadsAsUrl : List ℕ → Type 0
+ReadsAsUrl text = (url : Parts) × (parse_url None text ≡ Ok url)
 
 -- it refuses the text, and not for want of room
 abbrev pub Refuses : List ℕ → Type 0
 Refuses text = (e : ParseError) × (parse_url None text ≡ Err e) × (IsOutOfRoom e → ⊥)
 
--- `Reads` as a test: an absolute URI (RFC 6749, 3.1.2)
+-- `ReadsAsUrl` as a test (own; in place of RFC 3986, 4.3, and mostly laxer: any scheme, `\` for `/`, bytes like `<`)
 abbrev pub is_absolute : List ℕ → Bool
 is_absolute uri = is_ok (parse_url None uri)
 
--- the first rule that a list breaks where each URI must be absolute too
+-- the first rule that a list breaks where each URI must be read as a URL too
 abbrev pub registration_refusal : List (List ℕ) → Option RedirectError
 registration_refusal uris =
     if is_some (redirects_refusal uris) then redirects_refusal uris

@@ -49,7 +49,7 @@ ghost use Rattle.std.specs.List.{list_all};
 ghost use Rattle.std.specs.Option.{option_copied};
 ghost use Rattle.std.specs.Str.{IsUtf8};
 ghost use Rattle.tk_match.specs.Pick.{picked, shown_pick, IfUri};
-ghost use Rattle.tk_match.specs.Redirects.{is_uri, redirects_refusal, redirects_of, registration_refusal, is_absolute, Reads, Refuses};
+ghost use Rattle.tk_match.specs.Redirects.{is_uri, redirects_refusal, redirects_of, registration_refusal, is_absolute, ReadsAsUrl, Refuses};
 
 use crate::pick::{Pick, only_uri, registered_uri};
 use std::alloc::{AllocError, Global};
@@ -63,7 +63,7 @@ impl Redirects {
     #[tactic(auto, using(crate::proofs::UriLists::all_read))]
     pub fn new(alloc: Global, uris: &[&[u8]]) -> Result<Redirects, RedirectError>
         ensures ok { IfOk result (λ r. redirects_of (map (λ x. x.now) uris.now) ≡ Some r) }
-        ensures absolute { OnOk result (All Reads (map (λ x. x.now) uris.now)) }
+        ensures absolute { OnOk result (All ReadsAsUrl (map (λ x. x.now) uris.now)) }
         ensures registered { OnOk result (registration_refusal (map (λ x. x.now) uris.now) ≡ None) }
         ensures empty { IsErrOf result RedirectError.Empty
             → registration_refusal (map (λ x. x.now) uris.now) ≡ Some RedirectError.Empty }

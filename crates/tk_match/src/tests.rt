@@ -19,6 +19,14 @@ const TILDE: &[u8] = b"https://app.example/~cb!";
 
 const DELETE: &[u8] = b"https://app.example/\x7f";
 
+const SCRIPT: &[u8] = b"javascript:x";
+
+const TURNED: &[u8] = b"https:\\\\app.example\\cb";
+
+const ANGLES: &[u8] = b"https://app.example/<x>";
+
+const PORT: &[u8] = b"https://app.example:65536/cb";
+
 // The values of RFC 7636, appendix B.
 const CHALLENGE: &[u8] = b"E9Melhoa2OwvFrEMTJguCHaoeK1t8URWbuGJSstw-cM";
 
@@ -32,7 +40,7 @@ fn a_list_is_refused_by_its_first_broken_rule(rt: HostRuntime) {
     let empty = Some(RedirectError::Empty);
     let too_many = Some(RedirectError::TooMany);
     let bad = Some(RedirectError::Bad);
-    let rows: [(&str, &[&[u8]], Option<RedirectError>, Option<RedirectError>); 13] = [
+    let rows: [(&str, &[&[u8]], Option<RedirectError>, Option<RedirectError>); 17] = [
         ("no URI", &[], empty, empty),
         ("one", &[APP], fine, fine),
         ("eight equal ones", &[APP; 8], fine, fine),
@@ -46,6 +54,10 @@ fn a_list_is_refused_by_its_first_broken_rule(rt: HostRuntime) {
         ("a space", &[SPACE], bad, bad),
         ("a tilde", &[TILDE], fine, fine),
         ("a byte above the tilde", &[DELETE], bad, bad),
+        ("any scheme", &[SCRIPT], fine, fine),
+        ("backslashes for slashes", &[TURNED], fine, fine),
+        ("angle brackets", &[ANGLES], fine, fine),
+        ("a port above 65,535", &[PORT], bad, fine),
     ];
     for (name, uris, registered, kept) in rows {
         let new = Redirects::new(rt.alloc(), uris).err();
@@ -73,7 +85,7 @@ fn a_uri_has_at_most_512_bytes(rt: HostRuntime) {
 
 #[test]
 fn a_pick_is_a_registered_uri(rt: HostRuntime) -> Result<(), Fail> {
-    let rows: [(&str, &[&[u8]], Option<&[u8]>, Pick); 9] = [
+    let rows: [(&str, &[&[u8]], Option<&[u8]>, Pick); 13] = [
         ("none, of one", &[APP], None, Pick::Uri(APP)),
         ("none, of two", &[APP, OTHER], None, Pick::Missing),
         ("none, of two equal ones", &[APP, APP], None, Pick::Missing),
@@ -82,6 +94,10 @@ fn a_pick_is_a_registered_uri(rt: HostRuntime) -> Result<(), Fail> {
         ("both of two", &[APP, APP], Some(APP), Pick::Uri(APP)),
         ("another", &[APP], Some(OTHER), Pick::Unknown),
         ("one with a slash more", &[APP], Some(SLASH), Pick::Unknown),
+        ("one with a slash less", &[SLASH], Some(APP), Pick::Unknown),
+        ("slashes turned", &[APP], Some(TURNED), Pick::Unknown),
+        ("slashes turned back", &[TURNED], Some(APP), Pick::Unknown),
+        ("itself, turned", &[TURNED], Some(TURNED), Pick::Uri(TURNED)),
         ("an empty one", &[APP], Some(EMPTY), Pick::Unknown),
     ];
     for (name, uris, sent, want) in rows {
