@@ -1,56 +1,39 @@
 use super::*;
-use std::alloc::{AllocError, Global};
 use std::test::Fail;
 
-/// That many pieces, with a space between each two.
-fn spaced(alloc: Global, piece: &str, count: u8) -> Result<String, AllocError> {
-    let mut text = String::new(alloc);
-    for i in 0..count {
-        if i > 0 {
-            text.push(' ')?;
-        }
-        text.push_str(piece)?;
-    }
-    Ok(text)
-}
+// Texts, and what is printed of each; the rules are those of RFC 6749, section 3.3.
+const TEXTS: [(&str, &str, Result<&str, ScopeError>); 14] = [
+    ("one token", "read", Ok("read")),
+    (
+        "out of order and doubled",
+        "write read read",
+        Ok("read write"),
+    ),
+    ("the shorter first", "readers read", Ok("read readers")),
+    ("case counts", "read READ", Ok("READ read")),
+    ("the ends of the alphabet", "~ ] [ # !", Ok("! # [ ] ~")),
+    ("two spaces", "read  write", Err(ScopeError::Grammar)),
+    ("the empty text", "", Err(ScopeError::Grammar)),
+    ("a space in front", " read", Err(ScopeError::Grammar)),
+    ("a space behind", "read ", Err(ScopeError::Grammar)),
+    ("a quotation mark", "re\"ad", Err(ScopeError::Grammar)),
+    ("a backslash", "re\\ad", Err(ScopeError::Grammar)),
+    ("a tab", "read\twrite", Err(ScopeError::Grammar)),
+    (
+        "a byte above the alphabet",
+        "read\u{7f}",
+        Err(ScopeError::Grammar),
+    ),
+    (
+        "a letter beyond ASCII",
+        "\u{e9}t\u{e9}",
+        Err(ScopeError::Grammar),
+    ),
+];
 
-/// The text with another after it.
-fn followed(mut text: String, other: &str) -> Result<String, AllocError> {
-    text.push_str(other)?;
-    Ok(text)
-}
-
-// The rules are those of RFC 6749, section 3.3, and the two limits.
 #[test]
 fn a_scope_is_read_and_printed(rt: HostRuntime) -> Result<(), Fail> {
-    for (name, text, want) in [
-        ("one token", "read", Ok("read")),
-        (
-            "out of order and doubled",
-            "write read read",
-            Ok("read write"),
-        ),
-        ("the shorter first", "readers read", Ok("read readers")),
-        ("case counts", "read READ", Ok("READ read")),
-        ("the ends of the alphabet", "~ ] [ # !", Ok("! # [ ] ~")),
-        ("two spaces", "read  write", Err(ScopeError::Grammar)),
-        ("the empty text", "", Err(ScopeError::Grammar)),
-        ("a space in front", " read", Err(ScopeError::Grammar)),
-        ("a space behind", "read ", Err(ScopeError::Grammar)),
-        ("a quotation mark", "re\"ad", Err(ScopeError::Grammar)),
-        ("a backslash", "re\\ad", Err(ScopeError::Grammar)),
-        ("a tab", "read\twrite", Err(ScopeError::Grammar)),
-        (
-            "a byte above the alphabet",
-            "read\u{7f}",
-            Err(ScopeError::Grammar),
-        ),
-        (
-            "a letter beyond ASCII",
-            "\u{e9}t\u{e9}",
-            Err(ScopeError::Grammar),
-        ),
-    ] {
+    for (name, text, want) in TEXTS {
         let got = Scope::read(rt.alloc(), text.as_bytes());
         match &got {
             Ok(scope) => {
@@ -65,45 +48,37 @@ fn a_scope_is_read_and_printed(rt: HostRuntime) -> Result<(), Fail> {
     Ok(())
 }
 
+// A piece, how many of it, and the end of the text; and why the text is refused, if it is.
+const LIMITS: [(&str, &str, usize, &str, Option<ScopeError>); 8] = [
+    ("32 tokens", "a ", 31, "a", None),
+    ("33 doubles", "a ", 32, "a", Some(ScopeError::TooMany)),
+    ("33 tokens", "a ", 32, "b", Some(ScopeError::TooMany)),
+    (
+        "33 tokens and a bad byte",
+        "a ",
+        32,
+        "a\\",
+        Some(ScopeError::Grammar),
+    ),
+    ("1,024 letters", "a", 1024, "", None),
+    ("1,025 letters", "a", 1025, "", Some(ScopeError::TooLong)),
+    ("1,025 spaces", " ", 1025, "", Some(ScopeError::TooLong)),
+    (
+        "1,025 bytes in 513 tokens",
+        "a ",
+        512,
+        "a",
+        Some(ScopeError::TooLong),
+    ),
+];
+
 #[test]
 fn the_limits_are_on_the_text_as_written(rt: HostRuntime) -> Result<(), Fail> {
-    let rows = [
-        ("32 tokens", spaced(rt.alloc(), "a", 32)?, None),
-        (
-            "33 doubles",
-            spaced(rt.alloc(), "a", 33)?,
-            Some(ScopeError::TooMany),
-        ),
-        (
-            "33 tokens",
-            followed(spaced(rt.alloc(), "a", 32)?, " b")?,
-            Some(ScopeError::TooMany),
-        ),
-        (
-            "33 tokens and a bad byte",
-            followed(spaced(rt.alloc(), "a", 33)?, "\\")?,
-            Some(ScopeError::Grammar),
-        ),
-        ("1,024 letters", "a".repeat(rt.alloc(), 1024)?, None),
-        (
-            "1,025 letters",
-            "a".repeat(rt.alloc(), 1025)?,
-            Some(ScopeError::TooLong),
-        ),
-        (
-            "1,025 spaces",
-            " ".repeat(rt.alloc(), 1025)?,
-            Some(ScopeError::TooLong),
-        ),
-        (
-            "1,025 bytes in 513 tokens",
-            followed("a ".repeat(rt.alloc(), 512)?, "a")?,
-            Some(ScopeError::TooLong),
-        ),
-    ];
-    for (name, text, want) in &rows {
+    for (name, piece, count, end, want) in LIMITS {
+        let mut text = piece.repeat(rt.alloc(), count)?;
+        text.push_str(end)?;
         let got = Scope::read(rt.alloc(), text.as_bytes()).err();
-        assert_eq!(rt; got, *want, "{name}");
+        assert_eq!(rt; got, want, "{name}");
     }
     let bytes = [0x72u8, 0xff];
     assert_eq!(rt;
