@@ -49,7 +49,10 @@ use sha2::{Digest, Sha256};
 use std::alloc::{AllocError, Global};
 
 impl Challenge {
-    /// The challenge of a method and a text.
+    /// The challenge of a method and a text as they were sent, refused for the first cause that holds, in the order of
+    /// [`ChallengeError`].
+    ///
+    /// An empty method is refused too: what a request without one means isn't said here.
     #[tactic(auto, using(crate::proofs::AsciiTexts::verifier_utf8))]
     pub fn read(alloc: Global, method: &[u8], text: &[u8]) -> Result<Challenge, ChallengeError>
         ensures ok { IfOk result (λ c. challenge_of method.now text.now ≡ Some c) }
@@ -107,6 +110,7 @@ impl Challenge {
         self.text.as_str()
     }
 
+    /// The same challenge, in memory of its own; an error where memory is refused.
     pub fn copy(&self, alloc: Global) -> Result<Challenge, AllocError>
         ensures { IfOk result (λ c. c ≡ self.now) }
     {

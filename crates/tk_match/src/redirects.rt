@@ -57,7 +57,8 @@ use std::alloc::{AllocError, Global};
 const MOST_URIS: usize = 8;
 
 impl Redirects {
-    /// A list that is registered here: each URI is an absolute URL too.
+    /// A list that is registered here: `url` reads each URI without a base too, whatever its scheme. It is refused for
+    /// the first cause that holds, in the order of [`RedirectError`].
     ///
     /// `Memory` is also the answer where a URL is too long for `url`, whose contract doesn't say when that is.
     #[tactic(auto, using(crate::proofs::UriLists::all_read))]
@@ -82,7 +83,8 @@ impl Redirects {
         Ok(redirects)
     }
 
-    /// A list that was registered elsewhere: whether its URIs are absolute URLs isn't asked.
+    /// A list that was registered elsewhere: whether its URIs are absolute URLs isn't asked. It is refused for the first
+    /// cause that holds, in the order of [`RedirectError`].
     pub fn kept(alloc: Global, uris: &[&[u8]]) -> Result<Redirects, RedirectError>
         ensures ok { IfOk result (λ r. redirects_of (map (λ x. x.now) uris.now) ≡ Some r) }
         ensures empty { IsErrOf result RedirectError.Empty
@@ -121,6 +123,7 @@ impl Redirects {
         let _ = &self.uris;
     }
 
+    /// The same URIs in the same order, in memory of their own; an error where memory is refused.
     pub fn copy(&self, alloc: Global) -> Result<Redirects, AllocError>
         ensures { IfOk result (λ r. r ≡ self.now) }
     {

@@ -6,7 +6,7 @@ use form_urlencoded::Serializer;
 use std::alloc::{AllocError, Global};
 
 /// The URI that a browser is sent back to: the URI, then `?`, or `&` where it holds a `?`, then the pairs in form
-/// encoding (RFC 6749, 4.1.2). So an empty query gives `?&`.
+/// encoding (RFC 6749, 4.1.2). So an empty query gives `?&`. An error where memory is refused.
 pub fn reply_uri(alloc: Global, uri: &str, pairs: &[(&str, &str)]) -> Result<String, AllocError>
     ensures { IfOk result (λ text. string_bytes text ≡ reply_of uri.now (map pair_text pairs.now)) }
 {

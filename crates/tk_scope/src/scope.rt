@@ -88,7 +88,7 @@ impl Scope {
         self.text.as_str()
     }
 
-    /// The same scope, in memory of its own.
+    /// The same scope, in memory of its own; an error where memory is refused.
     pub fn copy(&self, alloc: Global) -> Result<Scope, AllocError>
         ensures { IfOk result (λ scope. scope ≡ self.now) }
     {
