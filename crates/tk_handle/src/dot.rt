@@ -27,8 +27,8 @@ ghost use Rattle.tk_format.specs.Reading.{Reads};
 
 use crate::region::RegionNumber;
 use crate::serial::Serial;
-use std::alloc::{AllocError, Global};
-use tk_format::{FromBytes, ReadError, Reader, Writer};
+use std::alloc::AllocError;
+use tk_format::{Reader, Writer};
 
 impl Dot {
     ghost use Rattle.tk_handle.specs.Place.{place};
@@ -85,15 +85,5 @@ impl Dot {
     {
         writer.put_u16(self.region().number())?;
         writer.put_u64(self.serial())
-    }
-}
-
-impl FromBytes for Dot {
-    ghost use Rattle.tk_handle.specs.Place.{place};
-
-    ghost value_at = { place.read };
-
-    fn read_from(_alloc: Global, reader: &mut Reader<'_>) -> Result<Dot, ReadError> {
-        Dot::read(reader).ok_or(ReadError::Malformed)
     }
 }

@@ -3,7 +3,7 @@ use crate::{
     read_consent,
 };
 use std::test::Fail;
-use tk_format::{ReadError, Reader, Writer, read_many};
+use tk_format::{Reader, Writer};
 
 fn dot(region: u16, serial: u64) -> Option<Dot> {
     Dot::new(RegionNumber::new(region)?, serial)
@@ -159,20 +159,5 @@ fn a_token_and_a_moment_in_bytes(rt: HostRuntime) -> Result<(), Fail> {
     assert_eq!(rt; TokenId::read(&mut reader), Some(token));
     assert_eq!(rt; Moment::read(&mut reader), Some(moment));
     assert!(rt; reader.is_empty());
-    Ok(())
-}
-
-#[test]
-fn several_dots_are_read(rt: HostRuntime) -> Result<(), Fail> {
-    let bytes = b"\x00\x01\x00\x00\x00\x00\x00\x00\x00\x03\xff\xff\x00\x00\x00\x00\x00\x00\x00\x01";
-    let dots: Vec<Dot> = read_many(rt.alloc(), 2, &mut Reader::new(bytes))?;
-    assert!(rt;
-        dots.iter()
-            .copied()
-            .map(Some)
-            .eq([dot(1, 3), dot(65_535, 1)])
-    );
-    let more: Result<Vec<Dot>, ReadError> = read_many(rt.alloc(), 3, &mut Reader::new(bytes));
-    assert_eq!(rt; more.err(), Some(ReadError::Malformed));
     Ok(())
 }
