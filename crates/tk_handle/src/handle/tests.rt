@@ -7,50 +7,60 @@ fn handle(kind: Kind, region: u16, serial: u64, words: [u64; 3]) -> Result<Handl
     Ok(Handle::mint(TokenId { dot, kind }, words))
 }
 
-// The texts are those of Python's base64.urlsafe_b64encode over the 36 bytes.
+// A handle's kind, region, serial and words, and its text: that of Python's base64.urlsafe_b64encode over the 36 bytes.
+const TEXTS: [(Kind, u16, u64, [u64; 3], &str); 6] = [
+    (
+        Kind::Code,
+        1,
+        3,
+        [18, 19, 20],
+        "AQEAAQAAAAAAAAADAAAAAAAAABIAAAAAAAAAEwAAAAAAAAAU",
+    ),
+    (
+        Kind::Access,
+        1,
+        4,
+        [24, 25, 26],
+        "AQIAAQAAAAAAAAAEAAAAAAAAABgAAAAAAAAAGQAAAAAAAAAa",
+    ),
+    (
+        Kind::Refresh,
+        1,
+        4,
+        [27, 28, 29],
+        "AQMAAQAAAAAAAAAEAAAAAAAAABsAAAAAAAAAHAAAAAAAAAAd",
+    ),
+    (
+        Kind::Access,
+        2,
+        1,
+        [48, 49, 50],
+        "AQIAAgAAAAAAAAABAAAAAAAAADAAAAAAAAAAMQAAAAAAAAAy",
+    ),
+    (
+        Kind::Refresh,
+        65_535,
+        Serial::GREATEST,
+        [u64::MAX, 0, u64::MAX],
+        "AQP__3____________________8AAAAAAAAAAP__________",
+    ),
+    (
+        Kind::Code,
+        1,
+        3,
+        [
+            0xfbef_befb_efbe_fbef,
+            0xbefb_efbe_fbef_befb,
+            0xefbe_fbef_befb_efbe,
+        ],
+        "AQEAAQAAAAAAAAAD--------------------------------",
+    ),
+];
+
 #[test]
 fn a_handle_is_read_back(rt: HostRuntime) -> Result<(), Fail> {
-    let rows = [
-        (
-            handle(Kind::Code, 1, 3, [18, 19, 20])?,
-            "AQEAAQAAAAAAAAADAAAAAAAAABIAAAAAAAAAEwAAAAAAAAAU",
-        ),
-        (
-            handle(Kind::Access, 1, 4, [24, 25, 26])?,
-            "AQIAAQAAAAAAAAAEAAAAAAAAABgAAAAAAAAAGQAAAAAAAAAa",
-        ),
-        (
-            handle(Kind::Refresh, 1, 4, [27, 28, 29])?,
-            "AQMAAQAAAAAAAAAEAAAAAAAAABsAAAAAAAAAHAAAAAAAAAAd",
-        ),
-        (
-            handle(Kind::Access, 2, 1, [48, 49, 50])?,
-            "AQIAAgAAAAAAAAABAAAAAAAAADAAAAAAAAAAMQAAAAAAAAAy",
-        ),
-        (
-            handle(
-                Kind::Refresh,
-                65_535,
-                Serial::GREATEST,
-                [u64::MAX, 0, u64::MAX],
-            )?,
-            "AQP__3____________________8AAAAAAAAAAP__________",
-        ),
-        (
-            handle(
-                Kind::Code,
-                1,
-                3,
-                [
-                    0xfbef_befb_efbe_fbef,
-                    0xbefb_efbe_fbef_befb,
-                    0xefbe_fbef_befb_efbe,
-                ],
-            )?,
-            "AQEAAQAAAAAAAAAD--------------------------------",
-        ),
-    ];
-    for (made, text) in rows {
+    for (kind, region, serial, words, text) in TEXTS {
+        let made = handle(kind, region, serial, words)?;
         assert_eq!(rt; made.text().as_slice(), text.as_bytes(), "{text}");
         assert_eq!(rt; Handle::read(text.as_bytes()), Some(made), "{text}");
     }
