@@ -14,6 +14,9 @@ use base64::engine::general_purpose::URL_SAFE_NO_PAD;
 use sha2::{Digest, Sha256};
 use tk_format::Reader;
 
+// Clients hold handles of this version, so it never changes.
+const VERSION: u8 = 1;
+
 /// What a client holds of a token: its name, and three words that nobody can guess (own).
 ///
 /// In bytes, 36 of them, high byte first: the version 1; the kind's number; the region's number, in two bytes; the
@@ -78,11 +81,11 @@ impl Handle {
         let second = words[1].to_be_bytes();
         let third = words[2].to_be_bytes();
         [
-            1, kind, region[0], region[1], serial[0], serial[1], serial[2], serial[3], serial[4],
-            serial[5], serial[6], serial[7], first[0], first[1], first[2], first[3], first[4],
-            first[5], first[6], first[7], second[0], second[1], second[2], second[3], second[4],
-            second[5], second[6], second[7], third[0], third[1], third[2], third[3], third[4],
-            third[5], third[6], third[7],
+            VERSION, kind, region[0], region[1], serial[0], serial[1], serial[2], serial[3],
+            serial[4], serial[5], serial[6], serial[7], first[0], first[1], first[2], first[3],
+            first[4], first[5], first[6], first[7], second[0], second[1], second[2], second[3],
+            second[4], second[5], second[6], second[7], third[0], third[1], third[2], third[3],
+            third[4], third[5], third[6], third[7],
         ]
     }
 
@@ -116,7 +119,7 @@ impl Handle {
     fn read_front(reader: &mut Reader<'_>) -> Option<Handle>
         ensures { Reads (λ h. h) handle result reader.old reader.new }
     {
-        reader.take_magic(&[1])?;
+        reader.take_magic(&[VERSION])?;
         let kind = Kind::read(reader)?;
         let dot = Dot::read(reader)?;
         let words = Handle::read_words(reader)?;

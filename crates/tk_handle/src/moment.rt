@@ -27,6 +27,7 @@ use std::alloc::AllocError;
 use tk_format::{Reader, Writer};
 
 impl Moment {
+    /// The seconds of the greatest moment, 9999-12-31T23:59:59Z (own).
     pub const GREATEST: u64 = 253_402_300_799;
 
     /// The moment of that second, None past the greatest.

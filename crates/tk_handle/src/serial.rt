@@ -22,6 +22,7 @@ ghost use Rattle.std.specs.Prelude.{◌≡◌, ◌^◌, ◌<◌};
 ghost use Rattle.std.specs.Option.{SomeIff};
 
 impl Serial {
+    /// The greatest number of a serial (own).
     pub const GREATEST: u64 = 9_223_372_036_854_775_807;
 
     /// The serial of that number, None for 0 and above the greatest.
