@@ -51,7 +51,8 @@ impl VersionVector {
         }
     }
 
-    /// The region's entry becomes the greater of both numbers; unchanged where memory is refused.
+    /// The region's entry becomes the greater of itself and this number, a serial, 1 to 9,223,372,036,854,775,807. A 0,
+    /// which says that nothing is known, changes nothing. Where memory is refused, the vector stays as it was.
     pub fn raise(&mut self, region: RegionNumber, serial: u64) -> Result<(), AllocError>
         requires { serial < 2 ^ 63 }
         ensures ok { OnOk result (self.new ≡ raised self.old region serial) }
