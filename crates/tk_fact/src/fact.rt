@@ -20,7 +20,7 @@ impl Model for Fact {
     ghost inverse = { λ p. record { dot = p.0; body = p.1 } };
 }
 
-ghost use Rattle.std.specs.Prelude.{◌≡◌, ◌≢◌, ◌≤◌, ◌++◌, ◌↔◌, length, None, Some, IfOk, IfErr, IsErrOf, IsTrue, OnOk};
+ghost use Rattle.std.specs.Prelude.{◌≡◌, ◌≢◌, ◌≤◌, ◌++◌, ◌↔◌, length, None, Some, IfOk, IfErr, IsErrOf, IsTrue, OnErr, OnOk};
 ghost use Rattle.tk_format.specs.Reading.{Gets, GetsAll};
 
 use crate::check::{FactError, check_body};
@@ -102,10 +102,12 @@ impl Fact {
         Ok(writer.into_bytes())
     }
 
-    /// Writes the fact behind its length in two bytes.
+    /// Writes the length of the fact's spelling in two bytes, high byte first, and then the spelling. Where memory is
+    /// refused it writes nothing.
     pub fn write_framed(&self, alloc: Global, writer: &mut Writer) -> Result<(), AllocError>
         requires { refusal_of self.now.1 ≡ None }
-        ensures { OnOk result (writer.new ≡ writer.old ++ framed.spell self.now) }
+        ensures ok { OnOk result (writer.new ≡ writer.old ++ framed.spell self.now) }
+        ensures err { OnErr result (writer.new ≡ writer.old) }
     {
         let bytes = self.write(alloc)?;
         writer.put_text(&bytes)
