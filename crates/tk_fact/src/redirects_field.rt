@@ -1,14 +1,13 @@
 //! The field of a list of redirection URIs: their number in a byte, and each as a text.
 
-ghost use Rattle.std.specs.Prelude.{◌≡◌, ◌++◌, IfOk, OnOk, map};
+ghost use Rattle.std.specs.Prelude.{◌≡◌, ◌++◌, OnOk, map};
 ghost use Rattle.std.specs.List.{AllByRecursion, flat_map};
 ghost use Rattle.tk_fact.specs.Fields.{redirects_field};
-ghost use Rattle.tk_format.specs.Format.{text};
+ghost use Rattle.tk_format.specs.Format.{repeated, text};
 ghost use Rattle.tk_format.specs.Reading.{Gets};
 
-use crate::text::Text;
 use std::alloc::{AllocError, Global};
-use tk_format::{ReadError, Reader, Writer, read_many};
+use tk_format::{ReadError, Reader, Writer};
 use tk_match::{RedirectError, Redirects, Uri};
 
 #[tactic(auto, using(crate::specs::FieldLaws::redirects_fit))]
@@ -22,8 +21,7 @@ pub(crate) fn read_redirects(alloc: Global, reader: &mut Reader<'_>) -> Result<R
     ensures { Gets (λ r. r) redirects_field result reader.old reader.new }
 {
     let count = reader.take_u8().ok_or(ReadError::Malformed)?;
-    let texts: Vec<Text> = read_many(alloc, u16::from(count), reader)?;
-    let uris = slices(alloc, &texts)?;
+    let uris = read_texts(alloc, count, reader)?;
     match Redirects::kept(alloc, &uris) {
         Ok(redirects) => Ok(redirects),
         Err(RedirectError::Empty) => Err(ReadError::Malformed),
@@ -33,14 +31,20 @@ pub(crate) fn read_redirects(alloc: Global, reader: &mut Reader<'_>) -> Result<R
     }
 }
 
-fn slices<'a>(alloc: Global, texts: &'a [Text]) -> Result<Vec<&'a [u8]>, AllocError>
-    ensures { IfOk result (λ slices. map (λ x. x.now) slices.items ≡ texts.now) }
+// That many texts, lent from the bytes that are read.
+fn read_texts<'a>(
+    alloc: Global,
+    count: u8,
+    reader: &mut Reader<'a>,
+) -> Result<Vec<&'a [u8]>, ReadError>
+    ensures { Gets (λ texts. map (λ x. x.now) texts.items) (repeated count text) result reader.old reader.new }
 {
-    let mut slices = Vec::with_capacity(alloc, texts.len())?;
-    for text in texts {
-        slices.push(text.as_bytes())?;
+    let mut texts = Vec::new(alloc);
+    for _ in 0..count {
+        let text = reader.take_text().ok_or(ReadError::Malformed)?;
+        texts.push(text)?;
     }
-    Ok(slices)
+    Ok(texts)
 }
 
 pub(crate) fn write_redirects(redirects: &Redirects, writer: &mut Writer) -> Result<(), AllocError>

@@ -19,7 +19,7 @@ ghost use Rattle.tk_format.specs.Format.{text};
 ghost use Rattle.tk_format.specs.Reading.{Gets};
 
 use std::alloc::{AllocError, Global};
-use tk_format::{FromBytes, ReadError, Reader, Writer};
+use tk_format::{ReadError, Reader, Writer};
 
 impl Text {
     pub fn new(alloc: Global, bytes: &[u8]) -> Result<Text, AllocError>
@@ -61,13 +61,5 @@ impl Text {
         ensures { OnOk result (writer.new ≡ writer.old ++ text.spell self.now) }
     {
         writer.put_text(self.as_bytes())
-    }
-}
-
-impl FromBytes for Text {
-    ghost value_at = { text.read };
-
-    fn read_from(alloc: Global, reader: &mut Reader<'_>) -> Result<Text, ReadError> {
-        Text::read(alloc, reader)
     }
 }
