@@ -1,6 +1,6 @@
 //! The field of a challenge: a byte for its method, and its text, unless there is none.
 
-ghost use Rattle.std.specs.Prelude.{◌≡◌, ◌++◌, ◌↔◌, IfOk, IsTrue, OnOk, true, false};
+ghost use Rattle.std.specs.Prelude.{◌≡◌, ◌++◌, ◌↔◌, IfOk, IsTrue, OnOk};
 ghost use Rattle.tk_fact.specs.Fields.{challenge_field, challenge_with, challenge_text};
 ghost use Rattle.tk_format.specs.Format.{via};
 ghost use Rattle.tk_format.specs.Reading.{Gets, GetsBy};
@@ -29,31 +29,28 @@ pub(crate) fn read_challenge(
 {
     match reader.take_u8().ok_or(ReadError::Malformed)? {
         0 => Ok(None),
-        1 => read_plain(alloc, reader),
-        2 => read_s256(alloc, reader),
+        1 => read_with(alloc, false, reader),
+        2 => read_with(alloc, true, reader),
         _ => Err(ReadError::Malformed),
     }
 }
 
-#[tactic(auto, using(crate::specs::FieldLaws::plain_challenge))]
-fn read_plain(alloc: Global, reader: &mut Reader<'_>) -> Result<Option<Challenge>, ReadError>
-    ensures { GetsBy (via (challenge_with false) challenge_text) result reader.old reader.new }
+// The challenge with the text that comes next, and with the method S256, or else plain.
+#[tactic(auto, using(crate::specs::FieldLaws::plain_challenge, crate::specs::FieldLaws::s256_challenge))]
+fn read_with(
+    alloc: Global,
+    is_s256: bool,
+    reader: &mut Reader<'_>,
+) -> Result<Option<Challenge>, ReadError>
+    ensures { GetsBy (via (challenge_with is_s256) challenge_text) result reader.old reader.new }
 {
     let bytes = reader.take_text().ok_or(ReadError::Malformed)?;
-    match Challenge::read(alloc, b"plain", bytes) {
-        Ok(challenge) => Ok(Some(challenge)),
-        Err(ChallengeError::Method) => Err(ReadError::Malformed),
-        Err(ChallengeError::Grammar) => Err(ReadError::Malformed),
-        Err(ChallengeError::Memory) => Err(ReadError::Memory),
-    }
-}
-
-#[tactic(auto, using(crate::specs::FieldLaws::s256_challenge))]
-fn read_s256(alloc: Global, reader: &mut Reader<'_>) -> Result<Option<Challenge>, ReadError>
-    ensures { GetsBy (via (challenge_with true) challenge_text) result reader.old reader.new }
-{
-    let bytes = reader.take_text().ok_or(ReadError::Malformed)?;
-    match Challenge::read(alloc, b"S256", bytes) {
+    let method = if is_s256 {
+        b"S256".as_slice()
+    } else {
+        b"plain".as_slice()
+    };
+    match Challenge::read(alloc, method, bytes) {
         Ok(challenge) => Ok(Some(challenge)),
         Err(ChallengeError::Method) => Err(ReadError::Malformed),
         Err(ChallengeError::Grammar) => Err(ReadError::Malformed),
