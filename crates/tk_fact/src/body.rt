@@ -29,7 +29,7 @@ pub enum Body {
 
 impl Body {
     ghost use Rattle.tk_fact.specs.Check.{refusal_of};
-    ghost use Rattle.tk_fact.specs.FactBytes.{body, BodyFits};
+    ghost use Rattle.tk_fact.specs.FactBytes.{body, body_tag, BodyFits};
 
     pub(crate) fn copy(&self, alloc: Global) -> Result<Body, AllocError>
         ensures { IfOk result (λ copy. copy ≡ self.now) }
@@ -103,34 +103,19 @@ impl Body {
         ensures { Gets (λ b. b) body result reader.old reader.new }
     {
         match reader.take_u8().ok_or(ReadError::Malformed)? {
-            1 => {
-                let fields = ClientAdded::read(alloc, reader)?;
-                Ok(Body::ClientAdded(fields))
-            }
+            1 => Ok(Body::ClientAdded(ClientAdded::read(alloc, reader)?)),
             2 => {
                 let fields = ClientRetired::read(reader).ok_or(ReadError::Malformed)?;
                 Ok(Body::ClientRetired(fields))
             }
-            3 => {
-                let fields = ConsentGiven::read(alloc, reader)?;
-                Ok(Body::ConsentGiven(fields))
-            }
+            3 => Ok(Body::ConsentGiven(ConsentGiven::read(alloc, reader)?)),
             4 => {
                 let fields = ConsentWithdrawn::read(reader).ok_or(ReadError::Malformed)?;
                 Ok(Body::ConsentWithdrawn(fields))
             }
-            5 => {
-                let fields = CodeIssued::read(alloc, reader)?;
-                Ok(Body::CodeIssued(fields))
-            }
-            6 => {
-                let fields = CodeRedeemed::read(alloc, reader)?;
-                Ok(Body::CodeRedeemed(fields))
-            }
-            7 => {
-                let fields = RefreshRotated::read(alloc, reader)?;
-                Ok(Body::RefreshRotated(fields))
-            }
+            5 => Ok(Body::CodeIssued(CodeIssued::read(alloc, reader)?)),
+            6 => Ok(Body::CodeRedeemed(CodeRedeemed::read(alloc, reader)?)),
+            7 => Ok(Body::RefreshRotated(RefreshRotated::read(alloc, reader)?)),
             8 => {
                 let fields = TokenRevoked::read(reader).ok_or(ReadError::Malformed)?;
                 Ok(Body::TokenRevoked(fields))
@@ -147,43 +132,34 @@ impl Body {
         requires { BodyFits self.now }
         ensures { OnOk result (writer.new ≡ writer.old ++ body.spell self.now) }
     {
+        writer.put_u8(self.tag())?;
         match self {
-            Body::ClientAdded(fields) => {
-                writer.put_u8(1)?;
-                fields.write(writer)
-            }
-            Body::ClientRetired(fields) => {
-                writer.put_u8(2)?;
-                fields.write(writer)
-            }
-            Body::ConsentGiven(fields) => {
-                writer.put_u8(3)?;
-                fields.write(writer)
-            }
-            Body::ConsentWithdrawn(fields) => {
-                writer.put_u8(4)?;
-                fields.write(writer)
-            }
-            Body::CodeIssued(fields) => {
-                writer.put_u8(5)?;
-                fields.write(writer)
-            }
-            Body::CodeRedeemed(fields) => {
-                writer.put_u8(6)?;
-                fields.write(writer)
-            }
-            Body::RefreshRotated(fields) => {
-                writer.put_u8(7)?;
-                fields.write(writer)
-            }
-            Body::TokenRevoked(fields) => {
-                writer.put_u8(8)?;
-                fields.write(writer)
-            }
-            Body::ReuseSeen(fields) => {
-                writer.put_u8(9)?;
-                fields.write(writer)
-            }
+            Body::ClientAdded(fields) => fields.write(writer),
+            Body::ClientRetired(fields) => fields.write(writer),
+            Body::ConsentGiven(fields) => fields.write(writer),
+            Body::ConsentWithdrawn(fields) => fields.write(writer),
+            Body::CodeIssued(fields) => fields.write(writer),
+            Body::CodeRedeemed(fields) => fields.write(writer),
+            Body::RefreshRotated(fields) => fields.write(writer),
+            Body::TokenRevoked(fields) => fields.write(writer),
+            Body::ReuseSeen(fields) => fields.write(writer),
+        }
+    }
+
+    // The number of the kind.
+    fn tag(&self) -> u8
+        ensures { result ≡ body_tag self.now }
+    {
+        match self {
+            Body::ClientAdded(_) => 1,
+            Body::ClientRetired(_) => 2,
+            Body::ConsentGiven(_) => 3,
+            Body::ConsentWithdrawn(_) => 4,
+            Body::CodeIssued(_) => 5,
+            Body::CodeRedeemed(_) => 6,
+            Body::RefreshRotated(_) => 7,
+            Body::TokenRevoked(_) => 8,
+            Body::ReuseSeen(_) => 9,
         }
     }
 }
