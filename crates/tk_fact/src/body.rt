@@ -13,17 +13,27 @@ use crate::token_revoked::TokenRevoked;
 use std::alloc::{AllocError, Global};
 use tk_format::{ReadError, Reader, Writer};
 
-/// What a fact says.
+/// What a fact says: one of nine kinds (own). The ranges told of their fields are those of a fact that passes its
+/// check.
 #[derive(Debug, Drop)]
 pub enum Body {
+    /// A client was registered (RFC 6749, 2).
     ClientAdded(ClientAdded),
+    /// A client was retired (own).
     ClientRetired(ClientRetired),
+    /// A subject let a client have a scope (RFC 6749, 4.1).
     ConsentGiven(ConsentGiven),
+    /// A consent was withdrawn (own).
     ConsentWithdrawn(ConsentWithdrawn),
+    /// An authorization code was issued (RFC 6749, 4.1.2).
     CodeIssued(CodeIssued),
+    /// A code was redeemed for tokens (RFC 6749, 4.1.3 and 4.1.4).
     CodeRedeemed(CodeRedeemed),
+    /// A refresh token was used for new tokens (RFC 6749, 6).
     RefreshRotated(RefreshRotated),
+    /// A client revoked a token (RFC 7009, 2).
     TokenRevoked(TokenRevoked),
+    /// A code or a refresh token was used again (RFC 6749, 4.1.2 and 10.4).
     ReuseSeen(ReuseSeen),
 }
 

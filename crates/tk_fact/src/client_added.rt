@@ -10,11 +10,14 @@ use tk_format::{ReadError, Reader, Writer};
 use tk_match::Redirects;
 use tk_scope::Scope;
 
-/// A client was registered. Its id is the fact's own dot.
+/// A client was registered (RFC 6749, 2). Its id is the fact's own dot.
 #[derive(Debug, Drop)]
 pub struct ClientAdded {
+    /// What the client is, with the digest of its secret where it has one (RFC 6749, 2.1).
     pub sort: Sort,
+    /// What the client may ask for at most, 1 to 32 scope-tokens (RFC 6749, 3.3).
     pub scope: Scope,
+    /// Where a browser may be sent back to, 1 to 8 URIs (RFC 6749, 3.1.2.2).
     pub redirects: Redirects,
 }
 

@@ -6,9 +6,10 @@ use std::alloc::AllocError;
 use tk_format::{Reader, Writer};
 use tk_handle::Dot;
 
-/// The client that was added at this dot was retired.
+/// A client was retired (own).
 #[derive(Clone, Copy, Debug, PartialEq, Eq)]
 pub struct ClientRetired {
+    /// Where the client was added.
     pub client: Dot,
 }
 

@@ -19,21 +19,27 @@ use tk_scope::Scope;
 /// descend from it.
 #[derive(Debug, Drop)]
 pub struct CodeIssued {
+    /// Where the client was added that the code was issued to.
     pub client: Dot,
+    /// Where the consent was given that the code rests on.
     pub consent: Dot,
     /// SHA-256 of the code's handle.
     pub digest: [u8; 32],
+    /// When the code begins.
     pub start: Moment,
-    /// The code's end.
+    /// The code's end, from which on it is past; not before the start.
     pub expiry: Moment,
-    /// The end of the whole family.
+    /// The end of the whole family, from which on it is over; not before the start (own).
     pub family_end: Moment,
+    /// The resource owner who consented (RFC 6749, 1.1), 1 to 128 visible ASCII bytes.
     pub subject: Text,
+    /// What the code stands for, 1 to 32 scope-tokens (RFC 6749, 3.3).
     pub scope: Scope,
-    /// The redirection URI that was picked.
+    /// The redirection URI that was picked, 1 to 512 visible ASCII bytes without `#`.
     pub uri: Text,
     /// Whether the request named the URI, so that the token request must name it too (RFC 6749, 4.1.3).
     pub sent: bool,
+    /// What the verifier of the token request is matched against, where the request had one (RFC 7636, 4.3).
     pub challenge: Option<Challenge>,
 }
 

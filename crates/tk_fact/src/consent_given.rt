@@ -12,8 +12,11 @@ use tk_scope::Scope;
 /// A subject let a client have a scope (RFC 6749, 4.1). The consent's id is the fact's own dot.
 #[derive(Debug, Drop)]
 pub struct ConsentGiven {
+    /// Where the client was added that the consent was given to.
     pub client: Dot,
+    /// The resource owner who gave it (RFC 6749, 1.1), 1 to 128 visible ASCII bytes.
     pub subject: Text,
+    /// What the client may have, 1 to 32 scope-tokens (RFC 6749, 3.3).
     pub scope: Scope,
 }
 

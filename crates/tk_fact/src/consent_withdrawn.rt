@@ -6,9 +6,10 @@ use std::alloc::AllocError;
 use tk_format::{Reader, Writer};
 use tk_handle::Dot;
 
-/// The consent that was given at this dot was withdrawn.
+/// A consent was withdrawn (own).
 #[derive(Clone, Copy, Debug, PartialEq, Eq)]
 pub struct ConsentWithdrawn {
+    /// Where the consent was given.
     pub consent: Dot,
 }
 

@@ -2,10 +2,12 @@ use crate::body::Body;
 use std::marker::Model;
 use tk_handle::Dot;
 
-/// A body at its dot. Contracts see the pair of both.
+/// A body at its dot (own). Contracts see the pair of both.
 #[derive(Debug, Drop)]
 pub struct Fact {
+    /// Where the fact stands; a set has one fact at a dot.
     pub dot: Dot,
+    /// What the fact says.
     pub body: Body,
 }
 
@@ -44,6 +46,7 @@ impl Fact {
         check_body(&self.body)
     }
 
+    /// The same fact, in memory of its own.
     pub fn copy(&self, alloc: Global) -> Result<Fact, AllocError>
         ensures { IfOk result (λ fact. fact ≡ self.now) }
     {

@@ -9,12 +9,14 @@ use tk_format::{ReadError, Reader, Writer};
 use tk_handle::Moment;
 use tk_scope::Scope;
 
-/// What a fact says of an access or refresh token that it mints: the SHA-256 digest of its handle, its end, and
-/// what it gives access to.
+/// What a fact says of an access or refresh token that it mints (RFC 6749, 1.4 and 1.5). Its start stands in the fact.
 #[derive(Debug, Drop)]
 pub struct MintedToken {
+    /// SHA-256 of the token's handle.
     pub digest: [u8; 32],
+    /// The token's end, from which on it is past.
     pub end: Moment,
+    /// What the token gives access to, 1 to 32 scope-tokens (RFC 6749, 3.3).
     pub scope: Scope,
 }
 

@@ -10,12 +10,15 @@ use tk_handle::{Dot, Moment};
 /// A refresh token was used for a new access token and a new refresh token (RFC 6749, 6).
 #[derive(Debug, Drop)]
 pub struct RefreshRotated {
-    /// The fact that minted the refresh token that was used.
+    /// Where the fact stands that minted the refresh token that was used.
     pub parent: Dot,
-    /// How many rotations lie between the code and the new tokens, this one counted.
+    /// How many rotations lie between the code and the new tokens, this one counted; 1 to 10,000 (own).
     pub generation: u16,
+    /// When both new tokens begin.
     pub start: Moment,
+    /// The new access token (RFC 6749, 1.4); its end is not before the start.
     pub access: MintedToken,
+    /// The new refresh token (RFC 6749, 1.5); its end is not before the start.
     pub refresh: MintedToken,
 }
 

@@ -10,8 +10,11 @@ use tk_format::{Reader, Writer};
 /// the SHA-256 digest of its secret where it has one.
 #[derive(Clone, Copy, Debug, PartialEq, Eq)]
 pub enum Sort {
+    /// It can't keep a secret, and has none.
     Public,
+    /// It keeps a secret, of which this is the digest.
     Confidential([u8; 32]),
+    /// A resource server, which asks about tokens (RFC 7662, 2.1), with the digest of its secret.
     Resource([u8; 32]),
 }
 

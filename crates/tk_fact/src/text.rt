@@ -22,6 +22,8 @@ use std::alloc::{AllocError, Global};
 use tk_format::{ReadError, Reader, Writer};
 
 impl Text {
+    /// The text of these bytes, any bytes and any number of them. In a fact that passes its check a subject has 1 to 128
+    /// bytes, and a URI 1 to 512.
     pub fn new(alloc: Global, bytes: &[u8]) -> Result<Text, AllocError>
         ensures { IfOk result (λ t. t ≡ bytes.now) }
     {
@@ -30,6 +32,7 @@ impl Text {
         })
     }
 
+    /// The bytes of the text.
     pub fn as_bytes(&self) -> &[u8]
         ensures { result.now ≡ self.now }
     {

@@ -11,9 +11,11 @@ use tk_handle::{Dot, TokenId};
 /// revocation works where that one names the same digest, under a code of the same client.
 #[derive(Clone, Copy, Debug, PartialEq, Eq)]
 pub struct TokenRevoked {
+    /// The name of the token, whose kind isn't a code.
     pub token: TokenId,
+    /// SHA-256 of the token's handle.
     pub digest: [u8; 32],
-    /// The client that asked.
+    /// Where the client was added that asked.
     pub client: Dot,
 }
 

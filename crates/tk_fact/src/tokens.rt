@@ -8,13 +8,16 @@ use crate::minted_token::MintedToken;
 use tk_handle::{Kind, Moment, TokenId};
 use tk_scope::Scope;
 
-/// What a fact says of a token that it mints.
+/// What a fact says of a code or token that it mints (own).
 #[derive(Clone, Copy, Debug)]
 pub struct Minted<'a> {
     /// SHA-256 of the token's handle.
     pub digest: &'a [u8; 32],
+    /// When the token begins.
     pub start: Moment,
+    /// The token's end, from which on it is past.
     pub expiry: Moment,
+    /// What the token gives access to, 1 to 32 scope-tokens (RFC 6749, 3.3).
     pub scope: &'a Scope,
 }
 
