@@ -1,6 +1,6 @@
 -- The walk over the lengths of a bundle at the front of bytes (own): it gives the bytes behind the bundle.
 --   walk        what it gives, or why it ends
---   IsCut       the bytes end before the bundle does
+--   IsCut       the walk runs out of bytes
 --   IsFrontOf   a bundle was read with the length of its spelling
 use Rattle.std.specs.Prelude.{◌≡◌, ℕ, zero, suc, nat_lt, List, length, Option, Some, None, Result, Ok, Err, if◌then◌else◌}
 use Rattle.std.specs.Str.{bytes_eq}
@@ -35,7 +35,7 @@ abbrev pub walk : List ℕ → Result (List ℕ) FrontError
 walk bytes = or_cut ((bytes_of 4).read bytes) >>= λ m. or_cut ((number w16).read m.1) >>= λ n.
     if bytes_eq m.0 magic then (if nat_lt 128 n.0 then Err Malformed else skipped_many n.0 n.1) else Err Malformed
 
--- the bytes end before the bundle at their front does
+-- the walk runs out of bytes
 abbrev pub IsCut : List ℕ → Type 0
 IsCut bytes = walk bytes ≡ Err Cut
 

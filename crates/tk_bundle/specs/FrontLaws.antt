@@ -1,16 +1,16 @@
 -- The walk over lengths: a loop of it, and what it leaves.
-use Rattle.std.proofs.Common.{◌≡◌, ℕ, zero, suc, ◌+◌, ◌-◌, ◌<◌, ◌≤◌, Bool, true, false, cond, ltb, List, [], ◌∷◌, ◌++◌, length, take, Option, Some, None, Result, Ok, Err, refl, sym, ap, subst, ◌∙◌, append_assoc, arith}
+use Rattle.std.proofs.Common.{◌≡◌, ◌≢◌, ℕ, zero, suc, ◌+◌, ◌-◌, ◌<◌, ◌≤◌, Bool, true, false, cond, ltb, List, [], ◌∷◌, ◌++◌, length, take, drop, Option, Some, None, Result, Ok, Err, refl, sym, ap, subst, ◌∙◌, append_assoc, arith}
 use Rattle.std.specs.Str.{bytes_eq}
-use Rattle.std.specs.Int.{w16}
+use Rattle.std.specs.Int.{w16, from_be_bytes}
 use Rattle.std.specs.List.{flat_map, AllByRecursion}
-use Rattle.std.proofs.lemmas.List.{take_at, length-append}
-use Rattle.std.proofs.lemmas.Bool.{le-ltb}
-use Rattle.tk_format.specs.Format.{number, number_spelling, bytes_of, text_spelling}
+use Rattle.std.proofs.lemmas.List.{take_at, take-append-le, drop-append-le, length-append, append-nil}
+use Rattle.std.proofs.lemmas.Bool.{le-ltb, ltb-false}
+use Rattle.tk_format.specs.Format.{number, number_at, number_spelling, bytes_at, bytes_of, text_spelling}
 use Rattle.tk_format.specs.Laws.{u16_exact, bytes_exact}
-use Rattle.tk_format.specs.Exact.{IsBytes, Takes, Takes-then, prefix_free}
+use Rattle.tk_format.specs.Exact.{IsBytes, Takes, Takes-then, guard_some, prefix_free}
 use Rattle.tk_bundle.specs.BundleLaws.{bundle_exact}
 use Rattle.tk_bundle.specs.declared.error.FrontError.{FrontError}
-use Rattle.tk_bundle.specs.declared.error.FrontError.TheVariants.{Malformed}
+use Rattle.tk_bundle.specs.declared.error.FrontError.TheVariants.{Malformed, Memory, Cut}
 use Rattle.std.proofs.lemmas.List.Concat.{flat_map-cons}
 use borrow.Author.Tests.{leb-true}
 use Rattle.tk_handle.specs.declared.dot.Dot.{Dot}
@@ -123,6 +123,81 @@ walk_bundle fs rest fits =
     let small : ltb 128 (length fs) ≡ false = le-ltb 128 (length fs) (leb-true (length fs) 128 fits.0.0.1) in
     ap walk (append_assoc magic (count ++ facts) rest ∙ ap (λ (t : List ℕ). magic ++ t) (append_assoc count facts rest))
     ∙ rw ((bytes_exact 4).again magic (count ++ (facts ++ rest)) refl, u16_exact.again (length fs) (facts ++ rest) fits.0.0.0, small) (many_framed fs rest fits.0.1)
+
+-- ---- a walk over more bytes goes as far, and is cut where a bundle is torn
+
+-- what a walk answers once more bytes follow: the same, with these behind, unless it was cut
+abbrev GoesOn : List ℕ → Result (List ℕ) FrontError → Result (List ℕ) FrontError → Type 0
+GoesOn more (Ok rest) longer = longer ≡ Ok (rest ++ more)
+GoesOn more (Err Malformed) longer = longer ≡ Err Malformed
+GoesOn more (Err Cut) longer = Unit {0}
+GoesOn more (Err Memory) longer = ⊥
+
+read_on : {A : Type 0} (more : List ℕ) (o longer : Option (A × List ℕ)) (f : A × List ℕ → Result (List ℕ) FrontError) → ((x : A × List ℕ) → o ≡ Some x → longer ≡ Some (x.0, x.1 ++ more)) → ((x : A × List ℕ) → GoesOn more (f x) (f (x.0, x.1 ++ more))) → GoesOn more (or_cut o >>= f) (or_cut longer >>= f)
+read_on more None longer f reads next = tt
+read_on more (Some x) longer f reads next = rw (reads x refl) (next x)
+
+walk_on : (more : List ℕ) (r longer : Result (List ℕ) FrontError) (f : List ℕ → Result (List ℕ) FrontError) → GoesOn more r longer → ((rest : List ℕ) → GoesOn more (f rest) (f (rest ++ more))) → GoesOn more (r >>= f) (longer >>= f)
+walk_on more (Ok rest) longer f so_far next = rw so_far (next rest)
+walk_on more (Err Malformed) longer f so_far next = rw so_far refl
+walk_on more (Err Cut) longer f so_far next = tt
+walk_on more (Err Memory) longer f so_far next = absurd so_far
+
+unless : (more : List ℕ) (b : Bool) (r longer : Result (List ℕ) FrontError) → GoesOn more r longer → GoesOn more (cond b (Err Malformed) r) (cond b (Err Malformed) longer)
+unless more true r longer h = refl
+unless more false r longer h = h
+
+provided : (more : List ℕ) (b : Bool) (r longer : Result (List ℕ) FrontError) → GoesOn more r longer → GoesOn more (cond b r (Err Malformed)) (cond b longer (Err Malformed))
+provided more true r longer h = h
+provided more false r longer h = refl
+
+bytes_on : (n : ℕ) (bytes more : List ℕ) (x : List ℕ × List ℕ) → (bytes_of n).read bytes ≡ Some x → (bytes_of n).read (bytes ++ more) ≡ Some (x.0, x.1 ++ more)
+unfolding bytes_at
+bytes_on n bytes more x e =
+    let g = guard_some (ltb (length bytes) n) (take n bytes, drop n bytes) x e in
+    let within : n ≤ length bytes = ltb-false (length bytes) n g.0 in
+    let long : ltb (length (bytes ++ more)) n ≡ false = le-ltb _ _ (omega (arith, length-append bytes more)) in
+    rw (long, take-append-le n bytes more within, drop-append-le n bytes more within) (ap (λ (y : List ℕ × List ℕ). Some (y.0, y.1 ++ more)) g.1)
+
+number_on : (bytes more : List ℕ) (x : ℕ × List ℕ) → (number w16).read bytes ≡ Some x → (number w16).read (bytes ++ more) ≡ Some (x.0, x.1 ++ more)
+unfolding number_at
+number_on bytes more x e =
+    let g = guard_some (ltb (length bytes) 2) (from_be_bytes w16 (take 2 bytes), drop 2 bytes) x e in
+    let within : 2 ≤ length bytes = ltb-false (length bytes) 2 g.0 in
+    let long : ltb (length (bytes ++ more)) 2 ≡ false = le-ltb _ _ (omega (arith, length-append bytes more)) in
+    rw (long, take-append-le 2 bytes more within, drop-append-le 2 bytes more within) (ap (λ (y : ℕ × List ℕ). Some (y.0, y.1 ++ more)) g.1)
+
+skipped_on : (bytes more : List ℕ) → GoesOn more (skipped bytes) (skipped (bytes ++ more))
+skipped_on bytes more =
+    read_on more _ _ _ (number_on bytes more) (λ n. unless more (ltb 8192 n.0) _ _ (read_on more _ _ (λ b. Ok b.1) (bytes_on n.0 n.1 more) (λ b. refl)))
+
+many_on : (n : ℕ) (bytes more : List ℕ) → GoesOn more (skipped_many n bytes) (skipped_many n (bytes ++ more))
+unfolding skipped_many
+many_on zero bytes more = refl
+many_on (suc n) bytes more = walk_on more (skipped bytes) (skipped (bytes ++ more)) (λ rest. skipped_many n rest) (skipped_on bytes more) (λ rest. many_on n rest more)
+
+walk_goes_on : (bytes more : List ℕ) → GoesOn more (walk bytes) (walk (bytes ++ more))
+walk_goes_on bytes more =
+    read_on more _ _ _ (bytes_on 4 bytes more) (λ m. read_on more _ _ _ (number_on m.1 more) (λ n.
+    provided more (bytes_eq m.0 magic) _ _ (unless more (ltb 128 n.0) _ _ (many_on n.0 n.1 more))))
+
+-- a walk that goes on to the end is cut where the last of the bytes are taken away
+cut_before : (more : List ℕ) (r longer : Result (List ℕ) FrontError) → GoesOn more r longer → longer ≡ Ok [] → more ≢ [] → r ≡ Err Cut
+cut_before more (Ok rest) longer h whole some = absurd (some (append_is_nil rest (ok_is (rest ++ more) [] (sym h ∙ whole))))
+  where
+    append_is_nil : (a : List ℕ) → a ++ more ≡ [] → more ≡ []
+    append_is_nil [] e = e
+    append_is_nil (x ∷ a) e = absurd cc
+cut_before more (Err Malformed) longer h whole some = absurd cc
+cut_before more (Err Cut) longer h whole some = refl
+cut_before more (Err Memory) longer h whole some = absurd h
+
+pub walk_torn : (bytes : List ℕ) (fs : Facts) (rest : List ℕ) → bundle.Fits fs → bytes ++ rest ≡ bundle.spell fs → rest ≢ [] → walk bytes ≡ Err Cut
+walk_torn bytes fs rest fits e some =
+    cut_before rest (walk bytes) (walk (bytes ++ rest)) (walk_goes_on bytes rest) (ap walk (e ∙ sym (append-nil (bundle.spell fs))) ∙ walk_bundle fs [] fits) some
+
+pub torn_walked : (bytes left : List ℕ) (fs : Facts) (rest : List ℕ) → walk bytes ≡ Ok left → bundle.Fits fs → bytes ++ rest ≡ bundle.spell fs → rest ≢ [] → ⊥
+torn_walked bytes left fs rest ok fits e some = let t = walk_torn bytes fs rest fits e some in cc
 
 -- ---- the bytes before the rest
 

@@ -1,4 +1,4 @@
-ghost use Rattle.std.specs.Prelude.{◌≡◌, ◌≤◌, ◌++◌, List, ℕ, length, take, IfOk, IsErrOf, Err};
+ghost use Rattle.std.specs.Prelude.{◌≡◌, ◌≢◌, ◌≤◌, ◌++◌, [], List, ℕ, length, take, IfOk, IsErrOf, Err};
 ghost use Rattle.tk_store.specs.FactSet.{Facts};
 ghost use Rattle.tk_bundle.specs.Bundle.{bundle, bundle_bytes};
 ghost use Rattle.tk_bundle.specs.Front.{Walks, IsCut, skipped, skipped_many, walk, IsFrontOf};
@@ -18,6 +18,9 @@ pub fn read_front(alloc: Global, bytes: &[u8]) -> Result<(Bundle, usize), FrontE
 
     // A bundle that stands at the front is read, unless memory runs out.
     ensures only { (fs : Facts) (rest : List ℕ) → bundle.Fits fs → bytes.now ≡ bundle_bytes fs ++ rest → IsFrontOf result fs }
+
+    // The beginning of a bundle is cut, unless it is all of it.
+    ensures torn { (fs : Facts) (rest : List ℕ) → bundle.Fits fs → bytes.now ++ rest ≡ bundle_bytes fs → rest ≢ [] → result ≡ Err FrontError.Cut }
 {
     let mut reader = Reader::new(bytes);
     walk(&mut reader)?;
