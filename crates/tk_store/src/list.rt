@@ -67,7 +67,10 @@ pub(crate) fn dots_beyond(
 {
     let mut dots = Vec::new(alloc);
     for fact in facts {
-        if dots.len() < limit && !vector.covers(fact.dot) {
+        if dots.len() >= limit {
+            return Ok(dots);
+        }
+        if !vector.covers(fact.dot) {
             dots.push(fact.dot)?;
         }
     }
