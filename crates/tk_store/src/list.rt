@@ -1,6 +1,7 @@
 ghost use Rattle.std.specs.Prelude.{◌≡◌, ◌<◌, ◌≤◌, ◌^◌, T, IfOk, OnOk, OnErr, MatchResult, take, map, filter, length, vec_len, insert, slice_get};
 ghost use Rattle.std.specs.Option.{option_copied};
 ghost use Rattle.std.specs.FinMap as sets;
+ghost use Rattle.std.specs.List.Sorted.{IsPartitionPoint};
 ghost use Rattle.tk_handle.specs.Dot.{dot_cmp};
 ghost use Rattle.tk_handle.specs.SortedEntries.{IsAt, IsGap};
 ghost use Rattle.tk_store.specs.FactSet.{dot_of};
@@ -77,17 +78,30 @@ pub(crate) fn dots_beyond(
     Ok(dots)
 }
 
-// The greatest serial of the region among the facts, or 0.
+// How many facts are of the region or of a lower one. They stand before all others.
+fn count_up_to(facts: &[Fact], region: RegionNumber) -> usize
+    requires { T (sets.is_sorted dot_cmp facts.now) }
+    ensures bound { result ≤ length facts.now }
+    ensures parted { IsPartitionPoint (λ f. f.0.region ≤ region) (λ f. region < f.0.region) facts.now result }
+{
+    facts.partition_point(|fact| fact.dot.region() <= region)
+}
+
+// The greatest serial of the region among the facts, or 0. The last fact of the region has it.
+#[tactic(auto, using(crate::proofs::NextDotLaws::none_at_start, crate::proofs::NextDotLaws::greatest_at_end, crate::proofs::NextDotLaws::none_at_end))]
 pub(crate) fn greatest_serial(facts: &[Fact], region: RegionNumber) -> u64
+    requires { T (sets.is_sorted dot_cmp facts.now) }
     ensures value { result ≡ next.greatest_serial region facts.now }
     ensures high { result < 2 ^ 63 }
 {
-    let mut greatest = 0;
-    for fact in facts {
-        let dot = fact.dot;
-        if dot.region() == region && greatest < dot.serial() {
-            greatest = dot.serial();
-        }
+    let end = count_up_to(facts, region);
+    if end == 0 {
+        return 0;
     }
-    greatest
+    let last = &facts[end - 1];
+    if last.dot.region() == region {
+        last.dot.serial()
+    } else {
+        0
+    }
 }
