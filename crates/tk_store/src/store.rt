@@ -36,6 +36,7 @@ pub enum Added {
 pub enum AddError {
     /// Another body stands at the dot.
     Conflict,
+    /// The dot was free, but memory was refused.
     Memory,
 }
 
