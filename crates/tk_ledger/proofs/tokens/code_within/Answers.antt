@@ -1,4 +1,4 @@
-use Rattle.std.proofs.Common.{ap, sym, ◌∙◌, false}
+use Rattle.std.proofs.Common.{ap, sym, ◌∙◌}
 use Rattle.std.specs.FinMap as map
 use Rattle.tk_family.specs.Walks.{is_code_link, code_by}
 use Rattle.tk_ledger.specs.Tokens.{links_in}
