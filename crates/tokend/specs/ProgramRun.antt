@@ -1,6 +1,6 @@
 -- What a run of the program comes to.
---   IsDone       a run without a fault
---   IsFaultFor   one with a fault
+--   IsDone              a run without a fault
+--   IsFaultFor          one with a fault
 --   KeepsUnlessOutput   what a fault leaves of the output
 use Rattle.std.specs.Prelude.{◌⊎◌, ⊤, ℕ, List, Option}
 use Rattle.std.specs.Io.KnownBytes.{Keeps}

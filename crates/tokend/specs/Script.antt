@@ -1,8 +1,9 @@
 -- The events of a script.
---   lines_of     its lines; is_told, which of them should be events
---   AreEvents    the events of lines, in order
---   IsFirstBad   the number of the first line that should be an event and is none
---   IsInputFault, IsFaultOf    why an input gives no script, and a script no events
+--   lines_of       its lines; is_told, which of them should be events
+--   AreEvents      the events of lines, in order
+--   IsFirstBad     the number of the first line that should be an event and is none
+--   IsInputFault   why an input gives no script
+--   IsFaultOf      why a script gives no events
 use Rattle.std.specs.Prelude.{◌≡◌, ◌<◌, ℕ, ◌+◌, ◌==◌, ⊤, Bool, false, true, not, List, [], ◌∷◌, ◌++◌, length, filter, Option, IfSome}
 use Rattle.std.specs.List.{AllZip, slice_split}
 use Rattle.tk_world.specs.declared.event.Event.{Event}
