@@ -2,12 +2,15 @@
 --   Asks           a task
 --   AsksToShow     help, or the version
 --   IsRefusalOf    the kind of a fault in the words
-use Rattle.std.specs.Prelude.{◌≡◌, ◌≢◌, ◌⊎◌, List, [], Option, Some, codes}
-use Rattle.clap.specs.Words.{Row, Text, IsAmong, fault_of, subcommand_of}
+--   IsNoText       the fault of words that are no UTF-8
+use Rattle.std.specs.Prelude.{◌≡◌, ◌≢◌, ◌⊎◌, ⊤, List, [], Option, Some, codes}
+use Rattle.clap.specs.Words.{Row, Text, IsAmong, fault_of, kind_of, subcommand_of}
 use Rattle.clap.specs.declared.error.kind.ErrorKind.{ErrorKind}
-use Rattle.clap.specs.declared.error.kind.ErrorKind.TheVariants.{DisplayHelp, DisplayVersion, MissingSubcommand}
+use Rattle.clap.specs.declared.error.kind.ErrorKind.TheVariants.{DisplayHelp, DisplayVersion, InvalidValue, MissingSubcommand}
 use Rattle.tk_world.specs.SettingsFields.{greatest_cap}
 use Rattle.tokend.specs.CommandLine.{HasNumber, tokend_app}
+use Rattle.tokend.specs.declared.fault.Fault.{Fault}
+use Rattle.tokend.specs.declared.fault.Fault.TheVariants.{Memory, Words}
 use Rattle.tokend.specs.declared.options.Task.{Task}
 use Rattle.tokend.specs.declared.options.Task.TheVariants.{Script}
 
@@ -35,3 +38,9 @@ IsNoShow kind = (kind ≢ DisplayHelp) × (kind ≢ DisplayVersion)
 abbrev pub IsRefusalOf : List Text → ErrorKind → Type 0
 IsRefusalOf words kind = IsAmong kind (fault_of tokend_app words)
     ⊎ ((kind ≡ MissingSubcommand) × (fault_of tokend_app words ≡ []) × IsNoTask (subcommand_of tokend_app words))
+
+-- memory ran out, or clap says that a value is invalid; nothing else
+abbrev pub IsNoText : Fault → Type 0
+IsNoText Memory = ⊤
+IsNoText (Words error) = kind_of error ≡ InvalidValue
+IsNoText fault = ⊥

@@ -3,7 +3,7 @@ ghost use Rattle.clap.specs.Words.{app_of, kind_of, rows_of, found_of, subcomman
 ghost use Rattle.clap.specs.declared.error.kind.ErrorKind.TheVariants as kind;
 ghost use Rattle.clap.specs.declared.builder.command.Command.TheViews.{out-Command};
 ghost use Rattle.tokend.specs.CommandLine.{script_app, tokend_app, ReadsNumber, HasNumber};
-ghost use Rattle.tokend.specs.Task.{Asks, IsTask, IsNoTask, IsRefusalOf};
+ghost use Rattle.tokend.specs.Task.{Asks, IsTask, IsNoTask, IsNoText, IsRefusalOf};
 
 use crate::fault::Fault;
 use clap::builder::ValueParser;
@@ -40,7 +40,9 @@ pub fn options<'a, S: AsStr>(alloc: Global, words: &'a [S]) -> Result<Task, Erro
 }
 
 /// The words that the process was started with. Those that are no UTF-8 are a mistake in the words.
-pub(crate) fn words<R: Env + AllocGlobal>(rt: &R) -> Result<Vec<String>, Fault> {
+pub(crate) fn words<R: Env + AllocGlobal>(rt: &R) -> Result<Vec<String>, Fault>
+    ensures { IfErr result IsNoText }
+{
     match env::args(rt) {
         Ok(words) => Ok(words.collect(rt.alloc())?),
         Err(error) if error.kind() == io::ErrorKind::OutOfMemory => Err(Fault::Memory),
