@@ -1,5 +1,6 @@
 pub mod EntryLaws
 pub mod FactSetLaws
+pub mod JoiningLaws
 pub mod NextDotLaws
 pub mod PutLaws
 pub mod StoreLaws

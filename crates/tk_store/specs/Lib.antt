@@ -1,5 +1,6 @@
 -- The words of this crate:
 --   FactSet   sets of facts; Agree, with_facts, joined, IsFactSet
+--   Joining   JoinsFacts, what a set becomes once facts are joined to it; SameFacts
 --   Store     what contracts see of a store; facts_of, known_in
 --   Adding    Adds, what adding a fact may end with
 --   Walk      above, the facts above a dot, ascending
@@ -8,6 +9,7 @@
 pub mod Adding
 pub mod Beyond
 pub mod FactSet
+pub mod Joining
 pub mod NextDot
 pub mod Store
 pub mod Walk
