@@ -1,3 +1,4 @@
+pub mod Decimals
 pub mod Exact
 pub mod Format
 pub mod Laws

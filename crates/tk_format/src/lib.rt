@@ -11,18 +11,21 @@
 //! - [`Writer`], bytes written one after the other;
 //! - [`ReadError`], malformed or out of memory;
 //! - [`FromBytes`] and [`read_many`], several values of one type;
-//! - [`Spelled`] and [`read_all`], a value that takes all of the bytes.
+//! - [`Spelled`] and [`read_all`], a value that takes all of the bytes;
+//! - [`read_decimal`], a number that is written in decimal digits.
 //!
 //! `specs/Format.antt` defines formats, `specs/Reading.antt` says what a reader may return, and `specs/Exact.antt`
 //! and `specs/Laws.antt` have the laws.
 #![tactic(auto)]
 
+mod decimal;
 mod error;
 mod many;
 mod reader;
 mod spelled;
 mod writer;
 
+pub use decimal::read_decimal;
 pub use error::ReadError;
 pub use many::{FromBytes, read_many};
 pub use reader::Reader;
