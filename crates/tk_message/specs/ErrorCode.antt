@@ -1,0 +1,25 @@
+-- The codes of errors (RFC 6749, 4.1.2.1 and 5.2; `not_found` is own).
+--   error_row      the status and the name of each; error_status, error_name, the one and the other
+use Rattle.std.specs.Prelude.{ℕ, List, codes}
+use Rattle.tk_message.specs.declared.status.Status.{Status}
+use Rattle.tk_message.specs.declared.status.Status.TheVariants as status
+use Rattle.tk_message.specs.declared.error_code.ErrorCode.{ErrorCode}
+use Rattle.tk_message.specs.declared.error_code.ErrorCode.TheVariants.{InvalidRequest, InvalidClient, InvalidGrant, InvalidScope, UnsupportedGrantType, UnsupportedResponseType, AccessDenied, NotFound, TemporarilyUnavailable}
+
+-- an unknown client is 401, what RFC 6749 names else is 400 (RFC 6749, 5.2), but for a server that can't answer
+abbrev pub error_row : ErrorCode → Status × List ℕ
+error_row InvalidRequest = (status.BadRequest, codes "invalid_request")
+error_row InvalidClient = (status.Unauthorized, codes "invalid_client")
+error_row InvalidGrant = (status.BadRequest, codes "invalid_grant")
+error_row InvalidScope = (status.BadRequest, codes "invalid_scope")
+error_row UnsupportedGrantType = (status.BadRequest, codes "unsupported_grant_type")
+error_row UnsupportedResponseType = (status.BadRequest, codes "unsupported_response_type")
+error_row AccessDenied = (status.BadRequest, codes "access_denied")
+error_row NotFound = (status.NotFound, codes "not_found")
+error_row TemporarilyUnavailable = (status.ServiceUnavailable, codes "temporarily_unavailable")
+
+abbrev pub error_status : ErrorCode → Status
+error_status code = (error_row code).0
+
+abbrev pub error_name : ErrorCode → List ℕ
+error_name code = (error_row code).1

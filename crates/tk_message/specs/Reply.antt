@@ -1,0 +1,44 @@
+-- Replies (RFC 6749, 5.2 for errors; the others are own).
+--   json_reply     a status and a JSON body
+--   error_reply    an error, by its code
+--   client_reply   the id of a client
+--   shown_reply    what is known of a client
+use Rattle.std.specs.Prelude.{ℕ, Bool, true, false, List, None}
+use Rattle.serde_json.specs.Data.{Data}
+use Rattle.serde_json.specs.Written.{compact_text}
+use Rattle.tk_handle.specs.declared.dot.Dot.{Dot}
+use Rattle.tk_fact.specs.declared.sort.Sort.{Sort}
+use Rattle.tk_message.specs.declared.status.Status.{Status}
+use Rattle.tk_message.specs.declared.status.Status.TheVariants.{Ok, Created, Found, BadRequest, Unauthorized, NotFound, ServiceUnavailable}
+use Rattle.tk_message.specs.declared.error_code.ErrorCode.{ErrorCode}
+use Rattle.tk_message.specs.ErrorCode.{error_status, error_name}
+use Rattle.tk_message.specs.Bodies.{error_body, client_body, shown_body}
+use Rattle.tk_message.specs.ReplyFields.{ReplyFields, JsonText}
+
+-- credentials are asked for with every 401 (RFC 6749, 5.2)
+abbrev pub asks_credentials : Status → Bool
+asks_credentials Ok = false
+asks_credentials Created = false
+asks_credentials Found = false
+asks_credentials BadRequest = false
+asks_credentials Unauthorized = true
+asks_credentials NotFound = false
+asks_credentials ServiceUnavailable = false
+
+-- the body's text without spaces, and no place to be sent to
+abbrev pub json_reply : Status → Data → ReplyFields
+json_reply status body = record {
+  status = status;
+  location = None;
+  www = asks_credentials status;
+  content = JsonText (compact_text body);
+}
+
+abbrev pub error_reply : ErrorCode → ReplyFields
+error_reply code = json_reply (error_status code) (error_body (error_name code))
+
+abbrev pub client_reply : Status → Dot → ReplyFields
+client_reply status client = json_reply status (client_body client)
+
+abbrev pub shown_reply : Dot → Sort → Bool → List ℕ → ReplyFields
+shown_reply client sort live scope = json_reply Ok (shown_body client sort live scope)

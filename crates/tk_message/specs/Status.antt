@@ -1,0 +1,13 @@
+-- The numbers of statuses (RFC 9110, 15).
+use Rattle.std.specs.Prelude.{ℕ}
+use Rattle.tk_message.specs.declared.status.Status.{Status}
+use Rattle.tk_message.specs.declared.status.Status.TheVariants.{Ok, Created, Found, BadRequest, Unauthorized, NotFound, ServiceUnavailable}
+
+abbrev pub status_number : Status → ℕ
+status_number Ok = 200
+status_number Created = 201
+status_number Found = 302
+status_number BadRequest = 400
+status_number Unauthorized = 401
+status_number NotFound = 404
+status_number ServiceUnavailable = 503

@@ -1,0 +1,48 @@
+//! The JSON bodies of replies, as values.
+
+ghost use Rattle.std.specs.Prelude.{◌≡◌, IfOk, codes};
+ghost use Rattle.serde_json.specs.Data.{string, boolean, object, member, no_members};
+ghost use Rattle.serde_json.specs.View.{view};
+ghost use Rattle.tk_message.specs.Bodies as spec;
+
+use serde_json::{Value, json};
+use std::alloc::{AllocError, Global};
+use tk_fact::Sort;
+
+pub(crate) fn error_body(alloc: Global, name: &str) -> Result<Value, AllocError>
+    ensures { IfOk result (λ body. view body ≡ spec.error_body name.now) }
+{
+    json!(in alloc; {"error": name})
+}
+
+pub(crate) fn client_body(alloc: Global, id: &str) -> Result<Value, AllocError>
+    ensures { IfOk result (λ body. view body ≡ object (member (codes "client_id") (string id.now) no_members)) }
+{
+    json!(in alloc; {"client_id": id})
+}
+
+pub(crate) fn shown_body(
+    alloc: Global,
+    id: &str,
+    sort: &Sort,
+    live: bool,
+    scope: &str,
+) -> Result<Value, AllocError>
+    ensures { IfOk result (λ body. view body ≡ object (member (codes "client_id") (string id.now)
+        (member (codes "kind") (string (spec.kind_name sort.now))
+        (member (codes "live") (boolean live)
+        (member (codes "scope") (string scope.now) no_members))))) }
+{
+    let kind = kind_name(sort);
+    json!(in alloc; {"client_id": id, "kind": kind, "live": live, "scope": scope})
+}
+
+fn kind_name(sort: &Sort) -> &'static str
+    ensures { result.now ≡ spec.kind_name sort.now }
+{
+    match sort {
+        Sort::Public => "public",
+        Sort::Confidential(_) => "confidential",
+        Sort::Resource(_) => "resource",
+    }
+}

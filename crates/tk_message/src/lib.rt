@@ -1,0 +1,26 @@
+//! What requests are answered with: statuses, error codes, replies and decisions.
+//!
+//! A `Reply` is a `Status`, perhaps a place to be sent to, and a `Payload`. An `ErrorCode` says how an error is called and
+//! with which status it goes. Each JSON body is a value, stated once in specs/Bodies.antt and written by one function;
+//! no other crate makes JSON. A `Decision` is a reply and the fact that a request makes, if any; a `Place` is where it
+//! would stand, and how long what is issued lasts. What is decided, and in which order, is said above.
+//!
+//! In reading order: `Status`, `ErrorCode`, `Reply`, `Lives`, `Place`, `Decision`. The definitions are in specs/, one file
+//! for each of them.
+#![tactic(auto)]
+
+mod bodies;
+mod decision;
+mod error_code;
+mod place;
+mod reply;
+mod status;
+
+pub use decision::Decision;
+pub use error_code::ErrorCode;
+pub use place::{Lives, Place};
+pub use reply::{Payload, Reply, client_reply, error_reply, shown_reply};
+pub use status::Status;
+
+#[cfg(test)]
+mod tests;

@@ -1,0 +1,42 @@
+//! Where a request is decided: the region, where its next fact stands, and how long what it issues lasts.
+
+ghost use Rattle.std.specs.Prelude.{◌≡◌};
+ghost use Rattle.tk_message.specs.Place.{next_in};
+
+use tk_handle::{Dot, RegionNumber, Serial};
+
+/// How long what is issued lasts, in seconds (own).
+#[derive(Clone, Copy, Debug, PartialEq, Eq)]
+pub struct Lives {
+    /// A code (RFC 6749, 4.1.2 recommends ten minutes at most).
+    pub code: u64,
+    /// An access token.
+    pub access: u64,
+    /// A refresh token.
+    pub refresh: u64,
+    /// A family: a code, and all tokens that descend from it.
+    pub family: u64,
+}
+
+/// Where a request is decided (own).
+#[derive(Debug, Drop)]
+pub struct Place {
+    /// The region's number.
+    pub number: RegionNumber,
+    /// The serial of its next fact.
+    pub next: Serial,
+    /// How long what it issues lasts.
+    pub lives: Lives,
+}
+
+impl Place {
+    /// Where the next fact stands.
+    pub fn next_dot(&self) -> Dot
+        ensures { result ≡ next_in self.now }
+    {
+        match Dot::new(self.number, self.next.number()) {
+            Some(dot) => dot,
+            None => unreachable!(),
+        }
+    }
+}

@@ -1,0 +1,103 @@
+//! Replies: what they are made of, and the one function that writes their JSON.
+
+use crate::status::Status;
+use std::marker::Model;
+
+/// What a request is answered. Contracts see the bytes that its parts hold.
+#[derive(Debug, Drop)]
+pub struct Reply {
+    /// The status code (RFC 9110, 15).
+    pub status: Status,
+    /// Where the client is sent, in a redirect.
+    pub location: Option<String>,
+    /// Whether credentials are asked for (RFC 6749, 5.2).
+    pub www: bool,
+    /// What it carries.
+    pub body: Payload,
+}
+
+/// What a reply carries.
+#[derive(Debug, Drop)]
+pub enum Payload {
+    /// Nothing.
+    Empty,
+    /// A JSON text (RFC 8259).
+    Json(Vec<u8>),
+    /// Other bytes, as a bundle's.
+    Bytes(Vec<u8>),
+}
+
+impl Model for Reply {
+    ghost use Rattle.std.specs.Prelude.{string_bytes};
+    ghost use Rattle.std.specs.Option.{option_map};
+    ghost use Rattle.tk_message.specs.ReplyFields.{ReplyFields, content_of};
+
+    ghost Value = { ReplyFields };
+
+    ghost view = { λ r. record { status = r.status; location = option_map string_bytes r.location; www = r.www; content = content_of r.body } };
+}
+
+ghost use Rattle.std.specs.Prelude.{◌≡◌, IfOk};
+ghost use Rattle.serde_json.specs.View.{view};
+ghost use Rattle.tk_message.specs.Bodies.{IsWritable};
+ghost use Rattle.tk_message.specs.Reply as spec;
+
+use crate::bodies::{client_body, error_body, shown_body};
+use crate::error_code::ErrorCode;
+use serde_json::Value;
+use std::alloc::{AllocError, Global};
+use tk_fact::Sort;
+use tk_handle::{Dot, client_text};
+use tk_scope::Scope;
+
+/// An error, by its code; an error of its own where memory is refused.
+pub fn error_reply(alloc: Global, code: ErrorCode) -> Result<Reply, AllocError>
+    ensures { IfOk result (λ reply. reply ≡ spec.error_reply code) }
+{
+    let body = error_body(alloc, code.name())?;
+    json_reply(alloc, code.status(), &body)
+}
+
+/// The id of the client that was added at the dot (own).
+pub fn client_reply(alloc: Global, status: Status, client: Dot) -> Result<Reply, AllocError>
+    ensures { IfOk result (λ reply. reply ≡ spec.client_reply status client) }
+{
+    let id = client_text(alloc, client)?;
+    let body = client_body(alloc, id.as_str())?;
+    json_reply(alloc, status, &body)
+}
+
+/// What is known of the client that was added at the dot (own).
+pub fn shown_reply(
+    alloc: Global,
+    client: Dot,
+    sort: &Sort,
+    live: bool,
+    scope: &Scope,
+) -> Result<Reply, AllocError>
+    ensures { IfOk result (λ reply. reply ≡ spec.shown_reply client sort.now live scope.now) }
+{
+    let id = client_text(alloc, client)?;
+    let body = shown_body(alloc, id.as_str(), sort, live, scope.text())?;
+    json_reply(alloc, Status::Ok, &body)
+}
+
+// Writes the JSON of every reply.
+fn json_reply(alloc: Global, status: Status, body: &Value) -> Result<Reply, AllocError>
+    requires { IsWritable (view body.now) }
+    ensures { IfOk result (λ reply. reply ≡ spec.json_reply status (view body.now)) }
+{
+    let text = body.to_vec(alloc)?;
+    Ok(Reply {
+        status,
+        location: None,
+        www: asks_credentials(status),
+        body: Payload::Json(text),
+    })
+}
+
+fn asks_credentials(status: Status) -> bool
+    ensures { result ≡ spec.asks_credentials status }
+{
+    matches!(status, Status::Unauthorized)
+}
