@@ -30,6 +30,17 @@ pub struct Place {
 }
 
 impl Place {
+    /// The place whose next fact stands at the dot.
+    pub fn new(next: Dot, lives: Lives) -> Place
+        ensures { result ≡ record { number = next.region; next = next.serial; lives = lives } }
+    {
+        Place {
+            number: next.region(),
+            next: Serial::new(next.serial()).unwrap(),
+            lives,
+        }
+    }
+
     /// Where the next fact stands.
     pub fn next_dot(&self) -> Dot
         ensures { result ≡ next_in self.now }

@@ -2,10 +2,11 @@
 --   step_keeps          what a step leaves is consistent
 --   new_is_consistent   so is a world with nothing
 --   next_under          a region's next serial is at most one above the cap
-use Rattle.std.proofs.Common.{◌≡◌, ℕ, zero, suc, ◌+◌, ◌-◌, ◌^◌, ◌<◌, ◌≤◌, ◌==◌, true, false, cond, if◌then◌else◌, nat_lt, max, List, [], ◌∷◌, ◌++◌, length, take, slice_get, Option, Some, None, IfSome, codes, refl, sym, ap, subst, ◌∙◌, arith}
+use Rattle.std.proofs.Common.{◌≡◌, ℕ, Bool, zero, suc, ◌+◌, ◌-◌, ◌^◌, ◌<◌, ◌≤◌, ◌==◌, true, false, cond, if◌then◌else◌, nat_lt, max, List, [], ◌∷◌, ◌++◌, length, take, slice_get, Option, Some, None, is_some, ◌&&◌, refl, sym, ap, subst, ◌∙◌, arith}
 use Rattle.std.specs.Ordering.{nat_cmp, eq_by_cmp, is_eq}
 use Rattle.std.specs.Cmp.{nat_cmp_total}
 use Rattle.std.proofs.lemmas.Cmp.{tied_itself}
+use mathlib.Core.Bool.{false≢true}
 use Rattle.std.specs.FinMap as map
 use Rattle.std.proofs.lemmas.Bool.Decides.{nat_tests}
 use Rattle.std.proofs.lemmas.List.{length-take}
@@ -17,21 +18,26 @@ use Rattle.tk_vector.specs.VersionVector.{Vector}
 use Rattle.tk_store.specs.FactSet.{FactSet, Facts, AllIn, Within, with_facts}
 use Rattle.tk_store.specs.Beyond.{beyond, is_beyond}
 use Rattle.tk_store.specs.NextDot.{greatest_serial, next_serial, next_dot}
+use Rattle.tk_store.specs.Joining.{JoinsFacts}
 use Rattle.tk_store.proofs.EntryLaws.{AllIn-entries}
+use Rattle.tk_store.proofs.JoiningLaws.{joins_is_with_facts}
 use Rattle.tk_store.proofs.NextDotLaws.{next_is_free}
 use Rattle.tk_store.proofs.PutLaws.{by_dot, of_dot, get_here, some_injective, none_is_not_some, IsFactSet-empty, IsFactSet-insert}
 use Rattle.tk_store.proofs.WithinLaws.{within_itself, within_trans, within_with_facts, keeps_with_facts, AllIn-take, AllIn-filter, AllIn-within}
 use Rattle.tk_world.specs.SettingsFields.{SettingsFields}
 use Rattle.tk_world.specs.State.{State, new_state, with_region, with_bundle, Consists, IsConsistent}
-use Rattle.tk_world.specs.declared.administration.Decision.{Decision}
+use Rattle.tk_message.specs.declared.decision.Decision.{Decision}
+use Rattle.tk_message.specs.declared.error_code.ErrorCode.TheVariants.{TemporarilyUnavailable}
+use Rattle.tk_message.specs.declared.place.Place.{Place}
+use Rattle.tk_message.specs.Decision.{refused, Passes}
 use Rattle.tk_world.specs.declared.event.Event.{Event}
 use Rattle.tk_world.specs.declared.event.Event.TheVariants.{Open, Request, Pull, Deliver}
 use Rattle.tk_world.specs.declared.event.Outcome.{Outcome}
 use Rattle.tk_world.specs.declared.event.Outcome.TheVariants.{Opened, NumberTaken, NoRegion, NoBundle, Reply, Bundle, Took, Memory}
-use Rattle.tk_world.specs.Administration.{refused}
-use Rattle.tk_world.specs.Decision.{decision_of, capped_by, decided}
+use Rattle.tk_world.specs.AskedFields.{AskedFields}
+use Rattle.tk_world.specs.Decision.{decision_of, capped, decided, place_in}
 use Rattle.tk_bundle.specs.Page.{page_of}
-use Rattle.tk_world.specs.World.{Step, made_at}
+use Rattle.tk_world.specs.World.{Grows, Step, made_at}
 use Rattle.tk_world.proofs.DecisionLaws.{made_passes}
 
 -- ---- pages
@@ -141,53 +147,59 @@ consists_bundle s U fs k a short = record {
 -- ---- a step
 
 -- a fact that a decision makes is under the cap
-under_cap : (cap : ℕ) (next : Dot) (d : Decision) (o : Option Body) → d.made ≡ o → (b : Body) → (capped_by cap next d o).made ≡ Some b → next.serial ≤ cap
-under_cap cap next d None e b h = absurd (none_is_not_some b (sym e ∙ h))
-under_cap cap next d (Some c) e b h =
-    elim (nat_lt cap next.serial) as (λ t. nat_lt cap next.serial ≡ t → (cond t (refused 503 (codes "temporarily_unavailable")) d).made ≡ Some b → next.serial ≤ cap) [
+under_cap : (cap : ℕ) (place : Place) (d : Decision) (b : Body) → (capped cap place d).made ≡ Some b → place.next ≤ cap
+under_cap cap place d b h =
+    elim (is_some d.made && nat_lt cap place.next) as (λ t. is_some d.made && nat_lt cap place.next ≡ t → (cond t (refused TemporarilyUnavailable) d).made ≡ Some b → place.next ≤ cap) [
       | true ↦ λ _ k. absurd (none_is_not_some b k)
-      | false ↦ λ t _. not_above cap next.serial t
+      | false ↦ λ t k. not_above (is_some d.made) cap place.next (ap is_some k) t
     ] refl h
   where
-    not_above : (a b : ℕ) → nat_lt a b ≡ false → b ≤ a
-    not_above a b t = grind (arith, nat_tests)
+    not_above : (made : Bool) (m n : ℕ) → made ≡ true → made && nat_lt m n ≡ false → n ≤ m
+    not_above true m n h t = grind (arith, nat_tests)
+    not_above false m n h t = absurd (false≢true h)
 
-made_keeps : (s : State) (n : ℕ) (F : FactSet) → map.get s.regions n ≡ Some F → (o : Option Body) → ((b : Body) → o ≡ Some b → (next_dot F n).serial ≤ s.settings.cap) → IfSome o (λ b. refusal_of b ≡ None) → IsConsistent s → IsConsistent (with_region s n (with_facts F (made_at (next_dot F n) o)))
+made_keeps : (s : State) (n : ℕ) (F : FactSet) → map.get s.regions n ≡ Some F → (o : Option Body) → ((b : Body) → o ≡ Some b → (next_dot F n).serial ≤ s.settings.cap) → Passes o → IsConsistent s → IsConsistent (with_region s n (with_facts F (made_at (next_dot F n) o)))
 made_keeps s n F at None low passes k = (k.0, consists_set s k.0 n F F k.1 at (k.1.held n F at) (within_itself F))
 made_keeps s n F at (Some b) low passes k = (map.insert k.0 (next_dot F n) b, consists_made s k.0 n F (next_dot F n) b k.1 at refl (next_is_free F n) (low b refl) passes)
 
+-- a region that grows is set to its set with these facts
+grown_to : (old new : State) (n : ℕ) (F : FactSet) (seen fs : Facts) (g : Grows old n F seen new) → seen ≡ fs → new ≡ with_region old n (with_facts F fs)
+grown_to old new n F seen fs g same = g.changes ∙ ap (with_region old n) (joins_is_with_facts g.joins ∙ ap (with_facts F) same)
+
+-- facts of U may be joined
+joined_keeps : (old new : State) (n : ℕ) (F : FactSet) (seen : Facts) (g : Grows old n F seen new) → (k : IsConsistent old) → AllIn k.0 seen → IsConsistent new
+joined_keeps old new n F seen g k all =
+    let within = k.1.held n F g.is_open in
+    subst IsConsistent (sym (grown_to old new n F seen seen g refl))
+    (k.0, consists_set old k.0 n F _ k.1 g.is_open (within_with_facts F k.0 seen within all) (keeps_with_facts F k.0 seen within all))
+
 pub step_keeps : (old : State) (e : Event) (o : Outcome) (seen : Facts) (new : State) → Step old e o seen new → IsConsistent old → IsConsistent new
 step_keeps old (Open n) Opened seen new step k = subst IsConsistent (sym step.2) (k.0, consists_opened old k.0 n k.1 step.0)
-step_keeps old (Open n) NumberTaken seen new step k = subst IsConsistent (sym step.2) k
-step_keeps old (Open n) Memory seen new step k = subst IsConsistent (sym step.2) k
+step_keeps old (Open n) NumberTaken seen new step k = subst IsConsistent (sym step.1.1) k
+step_keeps old (Open n) Memory seen new step k = subst IsConsistent (sym step.1.1) k
 step_keeps old (Request n now words q) (Reply reply) seen new step k =
     let F = step.0 in
-    let d = decided old.settings.cap F n now words q in
-    subst IsConsistent (sym (step.4 ∙ ap (λ fs. with_region old n (with_facts F fs)) step.3))
-    (made_keeps old n F step.1 d.made (under_cap old.settings.cap (next_dot F n) (decision_of F (next_dot F n) now words q) _ refl) (made_passes old.settings.cap (next_dot F n) F now words q) k)
-step_keeps old (Request n now words q) NoRegion seen new step k = subst IsConsistent (sym step.2) k
-step_keeps old (Request n now words q) Memory seen new step k = subst IsConsistent (sym step.2) k
+    let asked : AskedFields = record { now = now; words = words; request = q } in
+    let place = place_in old.settings F n in
+    let d = decided old.settings F n asked in
+    subst IsConsistent (sym (grown_to old new n F seen (made_at (next_dot F n) d.made) step.1 step.2.1))
+    (made_keeps old n F step.1.is_open d.made (λ b h. under_cap old.settings.cap place (decision_of F place asked) b h) (made_passes old.settings F place asked) k)
+step_keeps old (Request n now words q) NoRegion seen new step k = subst IsConsistent (sym step.1.1) k
+step_keeps old (Request n now words q) Memory seen new step k = subst IsConsistent (sym step.1.1) k
 step_keeps old (Pull n v) (Bundle index count last more) seen new step k =
     let F = step.0 in
     let fs = (page_of F v).facts in
-    subst IsConsistent (sym step.7) (k.0, consists_bundle old k.0 fs k.1 (AllIn-within F k.0 fs (k.1.held n F step.1) (AllIn-page F v)) (short_page (beyond F v)))
+    subst IsConsistent (sym step.3.4) (k.0, consists_bundle old k.0 fs k.1 (AllIn-within F k.0 fs (k.1.held n F step.1) (AllIn-page F v)) (short_page (beyond F v)))
   where
     short_page : (fs : Facts) → length (take 128 fs) ≤ 128
     short_page fs = omega (arith, length-take 128 fs)
-step_keeps old (Pull n v) NoRegion seen new step k = subst IsConsistent (sym step.2) k
-step_keeps old (Pull n v) Memory seen new step k = subst IsConsistent (sym step.2) k
-step_keeps old (Deliver i n) (Took m) seen new step k =
-    let F = step.0 in
-    let a = (k.1.carried i seen step.2).0 in
-    let within = k.1.held n F step.1 in
-    subst IsConsistent (sym step.3) (k.0, consists_set old k.0 n F _ k.1 step.1 (within_with_facts F k.0 seen within a) (keeps_with_facts F k.0 seen within a))
+step_keeps old (Pull n v) NoRegion seen new step k = subst IsConsistent (sym step.1.1) k
+step_keeps old (Pull n v) Memory seen new step k = subst IsConsistent (sym step.1.1) k
+step_keeps old (Deliver i n) (Took m) seen new step k = joined_keeps old new n step.0 seen step.1 k (k.1.carried i seen step.2).0
 step_keeps old (Deliver i n) Memory seen new step k =
-    let F = step.0 in
-    let a = subst (AllIn k.0) (sym step.5) (AllIn-take k.0 step.4 step.2 (k.1.carried i step.2 step.3).0) in
-    let within = k.1.held n F step.1 in
-    subst IsConsistent (sym step.6) (k.0, consists_set old k.0 n F _ k.1 step.1 (within_with_facts F k.0 seen within a) (keeps_with_facts F k.0 seen within a))
-step_keeps old (Deliver i n) NoRegion seen new step k = subst IsConsistent (sym step.2) k
-step_keeps old (Deliver i n) NoBundle seen new step k = subst IsConsistent (sym step.3) k
+    joined_keeps old new n step.0 seen step.1 k (subst (AllIn k.0) (sym step.5) (AllIn-take k.0 step.4 step.2 (k.1.carried i step.2 step.3).0))
+step_keeps old (Deliver i n) NoRegion seen new step k = subst IsConsistent (sym step.1.1) k
+step_keeps old (Deliver i n) NoBundle seen new step k = subst IsConsistent (sym step.2.1) k
 step_keeps old e o seen new step k = absurd step
 
 -- a world with nothing
@@ -215,8 +227,8 @@ all_under : (s : State) (k : IsConsistent s) (r : ℕ) (es : Facts) → AllIn k.
 all_under s k r [] a = omega arith
 all_under s k r (e ∷ es) a = one_under e.0.region r e.0.serial (greatest_serial r es) s.settings.cap (k.1.capped e.0 e.1 a.0) (all_under s k r es a.1)
 
--- a region's next serial is at most one above the cap
-pub next_under : (s : State) → IsConsistent s → (r : ℕ) (F : FactSet) → map.get s.regions r ≡ Some F → next_serial F r ≤ s.settings.cap + 1
+-- a region's next serial is at most one above the cap, so it is one
+pub next_under : (s : State) → IsConsistent s → (r : ℕ) (F : FactSet) → map.get s.regions r ≡ Some F → next_serial F r < 2 ^ 63
 next_under s k r F at =
     let most = all_under s k r (map.entries F) (AllIn-within F k.0 (map.entries F) (k.1.held r F at) (AllIn-entries F)) in
-    omega arith
+    omega (arith, k.1.low)

@@ -1,7 +1,5 @@
 -- A fact that a decision makes passes the check.
-use Rattle.std.proofs.Common.{◌≡◌, ℕ, ◌||◌, ◌==◌, Bool, true, false, cond, nat_lt, List, length, codes, string_bytes, Option, Some, None, IfSome, is_none, is_some, refl, sym, ap, subst, ◌∙◌, ◌<◌, arith}
-use Rattle.std.proofs.lemmas.Bool.{true≢false}
-use Rattle.std.proofs.lemmas.Bool.Decides.{nat_tests}
+use Rattle.std.proofs.Common.{◌≡◌, ℕ, ◌||◌, ◌&&◌, ◌==◌, Bool, true, false, cond, nat_lt, List, length, string_bytes, Option, Some, None, is_none, is_some, refl, sym, ap, ◌∙◌}
 use Rattle.std.specs.List.{list_all, slice_split}
 use Rattle.tk_handle.specs.declared.dot.Dot.{Dot}
 use Rattle.tk_handle.specs.ClientId as client_id
@@ -15,16 +13,18 @@ use Rattle.tk_fact.specs.declared.check.FactError.{FactError}
 use Rattle.tk_match.specs.declared.redirects.RedirectError.{RedirectError}
 use Rattle.tk_fact.proofs.CheckLaws.{kept_uris}
 use Rattle.tk_store.specs.FactSet.{FactSet}
-use Rattle.tk_world.specs.declared.administration.Decision.{Decision}
+use Rattle.tk_message.specs.declared.decision.Decision.{Decision}
+use Rattle.tk_message.specs.declared.error_code.ErrorCode.TheVariants.{InvalidRequest, TemporarilyUnavailable}
+use Rattle.tk_message.specs.declared.place.Place.{Place}
+use Rattle.tk_message.specs.Decision.{refused, Passes}
+use Rattle.tk_message.specs.Place.{next_in}
 use Rattle.tk_world.specs.declared.request.Request as request
 use Rattle.tk_world.specs.declared.request.Request.TheVariants.{AddClient, ShowClient, Retire}
-use Rattle.tk_world.specs.Administration.{refused, is_space, registered, registration_with, registration_by, registration_of, showing_at, showing_by, retirement_at, retirement_by}
+use Rattle.tk_world.specs.Administration.{is_space, registered, registration_with, registration_by, registration_of, showing_at, showing_by, retirement_at, retirement_by}
 use Rattle.tk_ledger.specs.Clients.{client_at, is_retired}
-use Rattle.tk_world.specs.Decision.{decision_of, capped, capped_by, decided_at}
-
--- the fact made, if any, passes the check
-abbrev Passes : Option Body → Type 0
-Passes made = IfSome made (λ b. refusal_of b ≡ None)
+use Rattle.tk_world.specs.AskedFields.{AskedFields}
+use Rattle.tk_world.specs.SettingsFields.{SettingsFields}
+use Rattle.tk_world.specs.Decision.{decision_by, decision_of, capped, decided_at}
 
 -- a list that may be registered breaks none of the rules of any list
 registrable : (uris : List (List ℕ)) → registration_refusal uris ≡ None → redirects_refusal uris ≡ None
@@ -63,7 +63,7 @@ by_scope_passes next (Some scope) redirects = registration_passes next scope (sl
 
 added_passes : (next : Dot) (scope redirects : List ℕ) → Passes (registration_of next scope redirects).made
 added_passes next scope redirects =
-    elim ((length scope == 0) || (length redirects == 0)) as (λ t. Passes (cond t (refused 400 (codes "invalid_request")) (registration_by next (scope_of scope) redirects)).made) [
+    elim ((length scope == 0) || (length redirects == 0)) as (λ t. Passes (cond t (refused InvalidRequest) (registration_by next (scope_of scope) redirects)).made) [
       | true ↦ tt
       | false ↦ by_scope_passes next (scope_of scope) redirects
     ]
@@ -84,32 +84,21 @@ retired_passes : (F : FactSet) (o : Option Dot) → Passes (retirement_by F o).m
 retired_passes F None = tt
 retired_passes F (Some d) = client_retired_passes F d (client_at F d)
 
-decision_passes : (F : FactSet) (next : Dot) (now : ℕ) (words : List ℕ) (q : request.Request) → Passes (decision_of F next now words q).made
-decision_passes F next now words (AddClient scope redirects) = added_passes next (string_bytes scope) (string_bytes redirects)
-decision_passes F next now words (ShowClient id) =
-    elim (length (string_bytes id) == 0) as (λ t. Passes (cond t (refused 400 (codes "invalid_request")) (showing_by F (client_id.client_in (string_bytes id)))).made) [
+decision_passes : (F : FactSet) (place : Place) (q : request.Request) → Passes (decision_by F place q).made
+decision_passes F place (AddClient scope redirects) = added_passes (next_in place) (string_bytes scope) (string_bytes redirects)
+decision_passes F place (ShowClient id) =
+    elim (length (string_bytes id) == 0) as (λ t. Passes (cond t (refused InvalidRequest) (showing_by F (client_id.client_in (string_bytes id)))).made) [
       | true ↦ tt
       | false ↦ shown_passes F (client_id.client_in (string_bytes id))
     ]
-decision_passes F next now words (Retire id) =
-    elim (length (string_bytes id) == 0) as (λ t. Passes (cond t (refused 400 (codes "invalid_request")) (retirement_by F (client_id.client_in (string_bytes id)))).made) [
+decision_passes F place (Retire id) =
+    elim (length (string_bytes id) == 0) as (λ t. Passes (cond t (refused InvalidRequest) (retirement_by F (client_id.client_in (string_bytes id)))).made) [
       | true ↦ tt
       | false ↦ retired_passes F (client_id.client_in (string_bytes id))
     ]
 
-capped_passes : (cap : ℕ) (next : Dot) (d : Decision) (o : Option Body) → d.made ≡ o → Passes o → Passes (capped_by cap next d o).made
-capped_passes cap next d None e p = subst Passes (sym e) tt
-capped_passes cap next d (Some b) e p =
-    elim (nat_lt cap next.serial) as (λ t. Passes (cond t (refused 503 (codes "temporarily_unavailable")) d).made) [ true ↦ tt | false ↦ subst Passes (sym e) p ]
+capped_passes : (cap : ℕ) (place : Place) (d : Decision) → Passes d.made → Passes (capped cap place d).made
+capped_passes cap place d p = elim (is_some d.made && nat_lt cap place.next) as (λ t. Passes (cond t (refused TemporarilyUnavailable) d).made) [ true ↦ tt | false ↦ p ]
 
-pub made_passes : (cap : ℕ) (next : Dot) (F : FactSet) (now : ℕ) (words : List ℕ) (q : request.Request) → Passes (decided_at cap next F now words q).made
-made_passes cap next F now words q = let d = decision_of F next now words q in capped_passes cap next d d.made refl (decision_passes F next now words q)
-
--- a decision that makes a fact above the cap is refused
-pub capped_above : (cap : ℕ) (next : Dot) (d : Decision) (o : Option Body) → d.made ≡ o → is_some o ≡ true → cap < next.serial → refused 503 (codes "temporarily_unavailable") ≡ capped cap next d
-capped_above cap next d None e some above = absurd (true≢false (sym some))
-capped_above cap next d (Some b) e some above =
-    sym (ap (capped_by cap next d) e ∙ ap (λ t. cond t (refused 503 (codes "temporarily_unavailable")) d) (is_above cap next.serial above))
-  where
-    is_above : (m n : ℕ) → m < n → nat_lt m n ≡ true
-    is_above m n h = grind (arith, nat_tests)
+pub made_passes : (settings : SettingsFields) (F : FactSet) (place : Place) (asked : AskedFields) → Passes (decided_at settings F place asked).made
+made_passes settings F place asked = capped_passes settings.cap place (decision_of F place asked) (decision_passes F place asked.request)

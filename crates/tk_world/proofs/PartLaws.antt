@@ -1,8 +1,8 @@
 -- How a change of one part of a world's fields is a step of the world. Key results:
 --   open_step, request_step, pull_step, deliver_step   what each part ends with is a step
---   held_at, sorted_after, state_after                 what a write to one region does to the fields
+--   held_at, number_at, sorted_after, state_after      what stands at a place, and what a write there does to the fields
 --   ended, ended_keeps                                 the end of each method of the world
-use Rattle.std.proofs.Common.{◌≡◌, ℕ, T, List, [], take, slice_get, get_or, set, Option, Some, None, IsSome, is_some, cond, true, false, refl, sym, ap, subst, ◌∙◌}
+use Rattle.std.proofs.Common.{◌≡◌, ℕ, T, List, [], ◌∷◌, take, slice_get, get_or, set, Option, Some, None, IsSome, is_some, cond, true, false, refl, sym, ap, subst, ◌∙◌}
 use Rattle.std.specs.List.{insert}
 use Rattle.std.specs.Ordering.{nat_cmp, eq_by_cmp, is_eq}
 use Rattle.std.specs.declared.cmp.Ordering.{Ordering}
@@ -13,10 +13,17 @@ use Rattle.std.specs.FinMap as map
 use Rattle.tk_handle.specs.SortedEntries.{IsAt, IsGap}
 use Rattle.tk_handle.proofs.SortedEntriesLaws.{get_at_place, get_at_gap, sorted_at_place, sorted_at_gap, insert_at_place, insert_at_gap}
 use Rattle.tk_vector.specs.VersionVector.{Vector}
-use Rattle.tk_store.specs.FactSet.{FactSet, Facts}
+use Rattle.tk_handle.specs.declared.dot.Dot.{Dot}
+use Rattle.tk_fact.specs.declared.body.Body.{Body}
+use Rattle.tk_store.specs.FactSet.{FactSet, Facts, AllIn, Within, with_facts}
+use Rattle.tk_store.specs.Joining.{JoinsFacts}
 use Rattle.tk_store.specs.NextDot.{next_dot}
+use Rattle.tk_store.proofs.JoiningLaws.{joins_nothing, joins_with_facts}
+use Rattle.tk_store.proofs.NextDotLaws.{next_is_free}
+use Rattle.tk_store.proofs.PutLaws.{by_dot, get_here, none_is_not_some}
+use Rattle.tk_store.proofs.WithinLaws.{AllIn-take}
 use Rattle.tk_world.specs.SettingsFields.{SettingsFields}
-use Rattle.tk_world.specs.declared.request.Request as request
+use Rattle.tk_world.specs.AskedFields.{AskedFields}
 use Rattle.tk_world.specs.declared.event.Event.{Event}
 use Rattle.tk_world.specs.declared.event.Event.TheVariants.{Open, Request, Pull, Deliver}
 use Rattle.tk_world.specs.declared.event.Outcome.{Outcome}
@@ -24,8 +31,8 @@ use Rattle.tk_world.specs.declared.event.Outcome.TheVariants.{Opened, Reply, Bun
 use Rattle.tk_world.specs.Decision.{decided}
 use Rattle.tk_bundle.specs.Page.{page_of}
 use Rattle.tk_world.specs.State.{State, with_region, IsConsistent}
-use Rattle.tk_world.specs.World.{Step, made_at}
-use Rattle.tk_world.specs.Parts.{Commits, Opens, Pages, Takes}
+use Rattle.tk_world.specs.World.{Grows, Step, made_at}
+use Rattle.tk_world.specs.Parts.{Commits, Opens, Pages, TakesFacts}
 use Rattle.tk_world.proofs.ConsistencyLaws.{step_keeps}
 
 abbrev pub state : SettingsFields → List (ℕ × FactSet) → List Facts → State
@@ -53,21 +60,36 @@ some_is o x h = ap is_some h
 
 -- ---- steps of one region
 
-pub request_step : (s : State) (r : ℕ) (F G : FactSet) (now : ℕ) (words : List ℕ) (q : request.Request) (o : Outcome) → map.get s.regions r ≡ Some F → Commits (next_dot F r) (decided s.settings.cap F r now words q) F o G → (seen : Facts) × Step s (Request r now words q) o seen (with_region s r G)
-request_step s r F G now words q (Reply reply) at a =
-    let made = made_at (next_dot F r) (decided s.settings.cap F r now words q).made in
-    (made, (F, at, a.0, refl, ap (with_region s r) a.1))
-request_step s r F G now words q Memory at a = ([], (some_is _ F at, refl, ap (with_region s r) a ∙ same_region s r F at))
-request_step s r F G now words q o at a = absurd a
+-- a fact at a free dot, or none, joins the set
+joins_made : (F : FactSet) (d : Dot) → map.get F d ≡ None → (o : Option Body) → JoinsFacts F (made_at d o) (with_facts F (made_at d o))
+joins_made F d free None = joins_nothing F
+joins_made F d free (Some b) =
+    let more : Within F (map.insert F d b) = λ q c h. by_dot (λ o. o ≡ Some c) F d b q (λ same. absurd (none_is_not_some c (sym free ∙ ap (map.get F) (sym same) ∙ h))) h in
+    joins_with_facts (map.insert F d b) F ((d, b) ∷ []) more (get_here F d b, tt)
 
-pub deliver_step : (s : State) (i r : ℕ) (F G : FactSet) (fs : Facts) (o : Outcome) → map.get s.regions r ≡ Some F → slice_get s.bundles i ≡ Some fs → Takes F fs o G → (seen : Facts) × Step s (Deliver i r) o seen (with_region s r G)
-deliver_step s i r F G fs (Took n) at there t = (fs, (F, at, there, ap (with_region s r) t.0, t.1 ∙ ap map.len t.0))
-deliver_step s i r F G fs Memory at there t = (take t.0 fs, (F, at, fs, there, t.0, refl, ap (with_region s r) t.1))
-deliver_step s i r F G fs o at there t = absurd t
+-- the region with this set grows
+abbrev grows_to : (s : State) (r : ℕ) (F G : FactSet) (fs : Facts) → map.get s.regions r ≡ Some F → JoinsFacts F fs (with_facts F fs) → G ≡ with_facts F fs → Grows s r F fs (with_region s r G)
+grows_to s r F G fs at joins same = record { is_open = at; grown = G; joins = subst (JoinsFacts F fs) (sym same) joins; changes = refl }
+
+request_step_at : (s : State) (r : ℕ) (F G : FactSet) (asked : AskedFields) (o : Outcome) → map.get s.regions r ≡ Some F → Commits (next_dot F r) (decided s.settings F r asked) F o G → (seen : Facts) × Step s (Request r asked.now asked.words asked.request) o seen (with_region s r G)
+request_step_at s r F G asked (Reply reply) at a =
+    let made = (decided s.settings F r asked).made in
+    (made_at (next_dot F r) made, (F, grows_to s r F G (made_at (next_dot F r) made) at (joins_made F (next_dot F r) (next_is_free F r) made) a.1, (a.0, refl)))
+request_step_at s r F G asked Memory at a = ([], (some_is _ F at, (refl, ap (with_region s r) a ∙ same_region s r F at)))
+request_step_at s r F G asked o at a = absurd a
+
+pub request_step : (s : State) (r n : ℕ) (F G : FactSet) (asked : AskedFields) (o : Outcome) → n ≡ r → map.get s.regions r ≡ Some F → Commits (next_dot F n) (decided s.settings F n asked) F o G → (seen : Facts) × Step s (Request r asked.now asked.words asked.request) o seen (with_region s r G)
+request_step s r n F G asked o same at a = request_step_at s r F G asked o at (subst (λ (m : ℕ). Commits (next_dot F m) (decided s.settings F m asked) F o G) same a)
+
+pub deliver_step : (s : State) (i r : ℕ) (F G U : FactSet) (fs : Facts) (o : Outcome) → Within F U → AllIn U fs → map.get s.regions r ≡ Some F → slice_get s.bundles i ≡ Some fs → TakesFacts F fs o G → (seen : Facts) × Step s (Deliver i r) o seen (with_region s r G)
+deliver_step s i r F G U fs (Took n) within all at there t = (fs, (F, grows_to s r F G fs at (joins_with_facts U F fs within all) t.0, there, t.1))
+deliver_step s i r F G U fs Memory within all at there t =
+    (take t.0 fs, (F, grows_to s r F G (take t.0 fs) at (joins_with_facts U F (take t.0 fs) within (AllIn-take U t.0 fs all)) t.1, fs, there, t.0, refl))
+deliver_step s i r F G U fs o within all at there t = absurd t
 
 pub pull_step : (s : State) (r : ℕ) (F : FactSet) (v : Vector) (o : Outcome) (bs : List Facts) → map.get s.regions r ≡ Some F → Pages (page_of F v) s.bundles o bs → (seen : Facts) × Step s (Pull r v) o seen (record { settings = s.settings; regions = s.regions; bundles = bs })
-pull_step s r F v (Bundle index count last more) bs at p = ([], (F, at, p.0, p.1, p.2, p.3, refl, ap (λ xs. record { settings = s.settings; regions = s.regions; bundles = xs }) p.4))
-pull_step s r F v Memory bs at p = ([], (some_is _ F at, refl, ap (λ xs. record { settings = s.settings; regions = s.regions; bundles = xs }) p))
+pull_step s r F v (Bundle index count last more) bs at p = ([], (F, at, refl, (p.0, p.1, p.2, p.3, ap (λ xs. record { settings = s.settings; regions = s.regions; bundles = xs }) p.4)))
+pull_step s r F v Memory bs at p = ([], (some_is _ F at, (refl, ap (λ xs. record { settings = s.settings; regions = s.regions; bundles = xs }) p)))
 pull_step s r F v o bs at p = absurd p
 
 -- ---- the fields
@@ -84,7 +106,7 @@ module _ (settings : SettingsFields) (rs : List (ℕ × FactSet)) (bs : List Fac
 
   pub open_step : IsGap nat_cmp rs r i → (o : Outcome) (new : List (ℕ × FactSet)) → Opens rs i r o new → (seen : Facts) × Step (state settings rs bs) (Open r) o seen (state settings new bs)
   open_step gap Opened new h = ([], (absent_at gap, refl, ap (λ xs. state settings xs bs) h ∙ state_opened gap map.empty))
-  open_step gap Memory new h = ([], (absent_at gap, refl, ap (λ xs. state settings xs bs) h))
+  open_step gap Memory new h = ([], (absent_at gap, (refl, ap (λ xs. state settings xs bs) h)))
   open_step gap o new h = absurd h
 
   pub sorted_new : IsGap nat_cmp rs r i → (o : Outcome) (new : List (ℕ × FactSet)) → Opens rs i r o new → T (map.is_sorted nat_cmp new)
@@ -102,13 +124,19 @@ module _ (settings : SettingsFields) (rs : List (ℕ × FactSet)) (bs : List Fac
     pub held_at : map.get (map.from_sorted {R = nat_cmp} rs) r ≡ Some p.1
     held_at = get_at_place nat_cmp_total rs sorted r i at p ∙ ap (λ e. Some e.1) (sym is)
 
-    pub sorted_after : (G : FactSet) → T (map.is_sorted nat_cmp (set rs i (p.0, G)))
-    sorted_after G = subst (λ e. T (map.is_sorted nat_cmp (set rs i (e.0, G)))) (sym is) (sorted_at_place nat_cmp_total rs sorted r i at G p)
+    -- it has the number that was looked for
+    pub number_at : p.0 ≡ r
+    number_at = ap (λ (e : ℕ × FactSet). e.0) is ∙ map.nat_cmp-IsAntisymmetric _ _ (at.tied p)
 
-    pub state_after : (G : FactSet) → state settings (set rs i (p.0, G)) bs ≡ with_region (state settings rs bs) r G
-    state_after G =
-        ap (λ (e : ℕ × FactSet). state settings (set rs i (e.0, G)) bs) is
-        ∙ ap (λ m. record { settings = settings; regions = m; bundles = bs }) (insert_at_place nat_cmp_total rs sorted r i at G p)
+    pub sorted_after : (q : ℕ × FactSet) → q.0 ≡ p.0 → T (map.is_sorted nat_cmp (set rs i q))
+    sorted_after q same =
+        subst (λ (n : ℕ). T (map.is_sorted nat_cmp (set rs i (n, q.1)))) (sym (same ∙ ap (λ (e : ℕ × FactSet). e.0) is))
+        (sorted_at_place nat_cmp_total rs sorted r i at q.1 p)
+
+    pub state_after : (q : ℕ × FactSet) → q.0 ≡ p.0 → state settings (set rs i q) bs ≡ with_region (state settings rs bs) r q.1
+    state_after q same =
+        ap (λ (n : ℕ). state settings (set rs i (n, q.1)) bs) (same ∙ ap (λ (e : ℕ × FactSet). e.0) is)
+        ∙ ap (λ m. record { settings = settings; regions = m; bundles = bs }) (insert_at_place nat_cmp_total rs sorted r i at q.1 p)
 
 -- ---- the end of a call
 

@@ -1,20 +1,22 @@
 -- What a step and a run do to each region's set. Key results:
 --   run_more    a run goes on by one step
 --   run_joins   after a run each region's set is its old one joined with what it has seen
+--   run_alike   regions that began alike and have seen the same are alike
 --   run_counts  a run has one outcome for each event
-use Rattle.std.proofs.Common.{◌≡◌, ℕ, suc, ◌==◌, true, false, cond, if◌then◌else◌, List, [], ◌∷◌, ◌++◌, length, Some, unwrap_or, refl, sym, ap, subst, ◌∙◌, arith}
+use Rattle.std.proofs.Common.{◌≡◌, ℕ, suc, ◌==◌, true, false, cond, if◌then◌else◌, List, [], ◌∷◌, ◌++◌, length, Some, None, unwrap_or, refl, sym, ap, subst, ◌∙◌, arith}
 use Rattle.std.specs.Ordering.{nat_cmp, eq_by_cmp}
 use Rattle.std.specs.Cmp.{nat_cmp_total}
 use Rattle.std.specs.FinMap as map
 use Rattle.std.proofs.lemmas.Bool.Decides.{nat_tests}
-use Rattle.tk_store.specs.FactSet.{FactSet, Facts, with_facts, joined, set_of}
-use Rattle.tk_store.proofs.FactSetLaws.{with_facts-append, with_facts_is_joined}
+use Rattle.tk_store.specs.FactSet.{FactSet, Facts}
+use Rattle.tk_store.specs.Joining.{JoinsFacts, SameFacts}
+use Rattle.tk_store.proofs.JoiningLaws.{joins_nothing, joins_more, joins_same}
 use Rattle.tk_world.specs.declared.event.Event.{Event}
 use Rattle.tk_world.specs.declared.event.Event.TheVariants.{Open, Request, Pull, Deliver}
 use Rattle.tk_world.specs.declared.event.Outcome.{Outcome}
 use Rattle.tk_world.specs.declared.event.Outcome.TheVariants.{Opened, NumberTaken, NoRegion, NoBundle, Reply, Bundle, Took, Memory}
 use Rattle.tk_world.specs.State.{State, with_region, facts_in}
-use Rattle.tk_world.specs.World.{Step, Run, region_of, seen_by}
+use Rattle.tk_world.specs.World.{Grows, Step, Run, region_of, seen_by}
 
 -- a region's own facts, where the event is its
 abbrev pub shown : Event → Facts → ℕ → Facts
@@ -31,59 +33,62 @@ facts_in-with_region s n F r =
     ∙ elim (n == r) as (λ t. unwrap_or (cond t (Some F) (map.get s.regions r)) map.empty ≡ cond t F (facts_in s r)) [ true ↦ refl | false ↦ refl ]
 
 -- where a step leaves the world as it was
-still : (s : State) (e : Event) (r : ℕ) → facts_in s r ≡ with_facts (facts_in s r) (shown e [] r)
-still s e r = elim (region_of e == r) as (λ t. facts_in s r ≡ with_facts (facts_in s r) (cond t [] [])) [ true ↦ refl | false ↦ refl ]
-
-same_after : (s new : State) (e : Event) (seen : Facts) (r : ℕ) → seen ≡ [] → new ≡ s → facts_in new r ≡ with_facts (facts_in s r) (shown e seen r)
-same_after s new e seen r none same = ap (λ w. facts_in w r) same ∙ still s e r ∙ ap (λ fs. with_facts (facts_in s r) (shown e fs r)) (sym none)
+same_after : (s new : State) (e : Event) (seen : Facts) (r : ℕ) → seen ≡ [] → new ≡ s → JoinsFacts (facts_in s r) (shown e seen r) (facts_in new r)
+same_after s new e seen r none same =
+    subst (λ w. JoinsFacts (facts_in s r) (shown e seen r) (facts_in w r)) (sym same)
+    (subst (λ fs. JoinsFacts (facts_in s r) (shown e fs r) (facts_in s r)) (sym none)
+    (elim (region_of e == r) as (λ t. JoinsFacts (facts_in s r) (cond t [] []) (facts_in s r)) [ true ↦ joins_nothing (facts_in s r) | false ↦ joins_nothing (facts_in s r) ]))
 
 equal_from : (a b : ℕ) → a == b ≡ true → a ≡ b
 equal_from a b h = grind (arith, nat_tests)
 
 -- where it adds facts to one region
-grown : (s new : State) (n : ℕ) (F : FactSet) (seen : Facts) → map.get s.regions n ≡ Some F → new ≡ with_region s n (with_facts F seen) → (r : ℕ) → facts_in new r ≡ with_facts (facts_in s r) (if n == r then seen else [])
-grown s new n F seen is_open is r =
-    ap (λ w. facts_in w r) is ∙ facts_in-with_region s n (with_facts F seen) r
-    ∙ elim (n == r) as (λ t. n == r ≡ t → cond t (with_facts F seen) (facts_in s r) ≡ with_facts (facts_in s r) (cond t seen [])) [
-      | true ↦ λ same. ap (λ G. with_facts G seen) (ap (λ o. unwrap_or o map.empty) (sym is_open) ∙ ap (facts_in s) (equal_from n r same))
-      | false ↦ λ _. refl
-    ] refl
+grown : (s new : State) (n : ℕ) (F : FactSet) (seen : Facts) → Grows s n F seen new → (r : ℕ) → JoinsFacts (facts_in s r) (if n == r then seen else []) (facts_in new r)
+grown s new n F seen g r =
+    subst (λ G. JoinsFacts (facts_in s r) (if n == r then seen else []) G) (sym (ap (λ w. facts_in w r) g.changes ∙ facts_in-with_region s n g.grown r))
+    (elim (n == r) as (λ t. n == r ≡ t → JoinsFacts (facts_in s r) (cond t seen []) (cond t g.grown (facts_in s r))) [
+      | true ↦ λ same. subst (λ G. JoinsFacts G seen g.grown) (ap (λ o. unwrap_or o map.empty) (sym g.is_open) ∙ ap (facts_in s) (equal_from n r same)) g.joins
+      | false ↦ λ _. joins_nothing (facts_in s r)
+    ] refl)
+
+-- a region that opens has nothing, as it had
+opened : (s new : State) (n : ℕ) (seen : Facts) → map.get s.regions n ≡ None → seen ≡ [] → new ≡ with_region s n map.empty → (r : ℕ) → JoinsFacts (facts_in s r) (if n == r then seen else []) (facts_in new r)
+opened s new n seen none nothing is r =
+    subst (λ G. JoinsFacts (facts_in s r) (if n == r then seen else []) G) (sym (ap (λ w. facts_in w r) is ∙ facts_in-with_region s n map.empty r))
+    (subst (λ fs. JoinsFacts (facts_in s r) (if n == r then fs else []) (if n == r then map.empty else facts_in s r)) (sym nothing)
+    (elim (n == r) as (λ t. n == r ≡ t → JoinsFacts (facts_in s r) (cond t [] []) (cond t map.empty (facts_in s r))) [
+      | true ↦ λ same. subst (λ G. JoinsFacts G [] map.empty) (ap (λ o. unwrap_or o map.empty) (sym none) ∙ ap (facts_in s) (equal_from n r same)) (joins_nothing map.empty)
+      | false ↦ λ _. joins_nothing (facts_in s r)
+    ] refl))
 
 -- a step shows its region what joins its set, and no other region anything
-pub step_shows : (old : State) (e : Event) (o : Outcome) (seen : Facts) (new : State) → Step old e o seen new → (r : ℕ) → facts_in new r ≡ with_facts (facts_in old r) (shown e seen r)
-step_shows old (Open n) Opened seen new step r =
-    ap (λ w. facts_in w r) step.2 ∙ facts_in-with_region old n map.empty r
-    ∙ elim (n == r) as (λ t. n == r ≡ t → cond t map.empty (facts_in old r) ≡ with_facts (facts_in old r) (cond t seen [])) [
-      | true ↦ λ same. sym (ap (λ fs. with_facts (facts_in old r) fs) step.1 ∙ ap (λ o. unwrap_or o map.empty) (ap (map.get old.regions) (sym (equal_from n r same)) ∙ step.0))
-      | false ↦ λ _. refl
-    ] refl
-step_shows old (Open n) NumberTaken seen new step r = same_after old new (Open n) seen r step.1 step.2
-step_shows old (Open n) Memory seen new step r = same_after old new (Open n) seen r step.1 step.2
-step_shows old (Request n now words q) (Reply reply) seen new step r = grown old new n step.0 seen step.1 step.4 r
-step_shows old (Request n now words q) NoRegion seen new step r = same_after old new (Request n now words q) seen r step.1 step.2
-step_shows old (Request n now words q) Memory seen new step r = same_after old new (Request n now words q) seen r step.1 step.2
+pub step_shows : (old : State) (e : Event) (o : Outcome) (seen : Facts) (new : State) → Step old e o seen new → (r : ℕ) → JoinsFacts (facts_in old r) (shown e seen r) (facts_in new r)
+step_shows old (Open n) Opened seen new step r = opened old new n seen step.0 step.1 step.2 r
+step_shows old (Open n) NumberTaken seen new step r = same_after old new (Open n) seen r step.1.0 step.1.1
+step_shows old (Open n) Memory seen new step r = same_after old new (Open n) seen r step.1.0 step.1.1
+step_shows old (Request n now words q) (Reply reply) seen new step r = grown old new n step.0 seen step.1 r
+step_shows old (Request n now words q) NoRegion seen new step r = same_after old new (Request n now words q) seen r step.1.0 step.1.1
+step_shows old (Request n now words q) Memory seen new step r = same_after old new (Request n now words q) seen r step.1.0 step.1.1
 step_shows old (Pull n v) (Bundle index count last more) seen new step r =
-    ap (λ w. facts_in w r) step.7 ∙ still old (Pull n v) r ∙ ap (λ fs. with_facts (facts_in old r) (shown (Pull n v) fs r)) (sym step.6)
-step_shows old (Pull n v) NoRegion seen new step r = same_after old new (Pull n v) seen r step.1 step.2
-step_shows old (Pull n v) Memory seen new step r = same_after old new (Pull n v) seen r step.1 step.2
-step_shows old (Deliver i n) (Took k) seen new step r = grown old new n step.0 seen step.1 step.3 r
-step_shows old (Deliver i n) Memory seen new step r = grown old new n step.0 seen step.1 step.6 r
-step_shows old (Deliver i n) NoRegion seen new step r = same_after old new (Deliver i n) seen r step.1 step.2
-step_shows old (Deliver i n) NoBundle seen new step r = same_after old new (Deliver i n) seen r step.2 step.3
+    subst (λ w. JoinsFacts (facts_in old r) (shown (Pull n v) seen r) (facts_in w r)) (sym step.3.4) (same_after old old (Pull n v) seen r step.2 refl)
+step_shows old (Pull n v) NoRegion seen new step r = same_after old new (Pull n v) seen r step.1.0 step.1.1
+step_shows old (Pull n v) Memory seen new step r = same_after old new (Pull n v) seen r step.1.0 step.1.1
+step_shows old (Deliver i n) (Took k) seen new step r = grown old new n step.0 seen step.1 r
+step_shows old (Deliver i n) Memory seen new step r = grown old new n step.0 seen step.1 r
+step_shows old (Deliver i n) NoRegion seen new step r = same_after old new (Deliver i n) seen r step.1.0 step.1.1
+step_shows old (Deliver i n) NoBundle seen new step r = same_after old new (Deliver i n) seen r step.2.0 step.2.1
 step_shows old e o seen new step r = absurd step
 
--- after a run each region's set is its old one with what the region has seen
-pub run_shows : (old : State) (es : List Event) (os : List Outcome) (ss : List Facts) (new : State) → Run old es os ss new → (r : ℕ) → facts_in new r ≡ with_facts (facts_in old r) (seen_by r es ss)
-run_shows old [] [] [] new run r = ap (λ w. facts_in w r) run
-run_shows old (e ∷ es) (o ∷ os) (s ∷ ss) new run r =
-    run_shows run.0 es os ss new run.2 r
-    ∙ ap (λ F. with_facts F (seen_by r es ss)) (step_shows old e o s run.0 run.1 r)
-    ∙ sym (with_facts-append (facts_in old r) (shown e s r) (seen_by r es ss))
-run_shows old es os ss new run r = absurd run
+-- after a run each region's set is its old one joined with what the region has seen
+pub run_joins : (old : State) (es : List Event) (os : List Outcome) (ss : List Facts) (new : State) → Run old es os ss new → (r : ℕ) → JoinsFacts (facts_in old r) (seen_by r es ss) (facts_in new r)
+run_joins old [] [] [] new run r = subst (λ w. JoinsFacts (facts_in old r) [] (facts_in w r)) (sym run) (joins_nothing (facts_in old r))
+run_joins old (e ∷ es) (o ∷ os) (s ∷ ss) new run r = joins_more (step_shows old e o s run.0 run.1 r) (run_joins run.0 es os ss new run.2 r)
+run_joins old es os ss new run r = absurd run
 
--- that is, its old set joined with the set of what it has seen
-pub run_joins : (old : State) (es : List Event) (os : List Outcome) (ss : List Facts) (new : State) → Run old es os ss new → (r : ℕ) → facts_in new r ≡ joined (facts_in old r) (set_of (seen_by r es ss))
-run_joins old es os ss new run r = run_shows old es os ss new run r ∙ with_facts_is_joined (facts_in old r) (seen_by r es ss)
+-- regions that began alike, and have seen the same facts, are alike
+pub run_alike : (old : State) (es : List Event) (os : List Outcome) (ss : List Facts) (new : State) → Run old es os ss new → (q r : ℕ) → facts_in old q ≡ facts_in old r → SameFacts (seen_by q es ss) (seen_by r es ss) → facts_in new q ≡ facts_in new r
+run_alike old es os ss new run q r began same =
+    joins_same (subst (λ F. JoinsFacts F (seen_by q es ss) (facts_in new q)) began (run_joins old es os ss new run q)) (run_joins old es os ss new run r) same
 
 -- a run goes on by one step
 pub run_more : (old : State) (es : List Event) (os : List Outcome) (ss : List Facts) (mid : State) (e : Event) (o : Outcome) (s : Facts) (new : State) → Run old es os ss mid → Step mid e o s new → Run old (es ++ e ∷ []) (os ++ o ∷ []) (ss ++ s ∷ []) new

@@ -2,7 +2,8 @@
 --   registration_of   AddClient
 --   showing_of        ShowClient
 --   retirement_of     Retire
-use Rattle.std.specs.Prelude.{ℕ, Bool, ◌||◌, ◌==◌, if◌then◌else◌, List, codes, length, Option, Some, None, is_none}
+--   is_space          what parts redirection URIs
+use Rattle.std.specs.Prelude.{ℕ, Bool, ◌||◌, ◌==◌, if◌then◌else◌, List, length, Option, Some, None, is_none}
 use Rattle.std.specs.List.{slice_split}
 use Rattle.tk_handle.specs.declared.dot.Dot.{Dot}
 use Rattle.tk_handle.specs.ClientId.{client_in}
@@ -12,18 +13,12 @@ use Rattle.tk_fact.specs.declared.sort.Sort.TheVariants.{Public}
 use Rattle.tk_match.specs.Redirects.{registration_refusal}
 use Rattle.tk_scope.specs.Scope.{scope_of}
 use Rattle.tk_store.specs.FactSet.{FactSet}
-use Rattle.tk_world.specs.declared.administration.Decision.{Decision}
-use Rattle.tk_world.specs.ReplyFields.{ReplyFields}
-use Rattle.tk_world.specs.Reply.{error_reply, client_reply, shown_reply}
+use Rattle.tk_message.specs.declared.decision.Decision.{Decision}
+use Rattle.tk_message.specs.declared.error_code.ErrorCode.TheVariants.{InvalidRequest, InvalidScope, NotFound}
+use Rattle.tk_message.specs.declared.status.Status.TheVariants as status
+use Rattle.tk_message.specs.Decision.{answered, refused}
+use Rattle.tk_message.specs.Reply.{client_reply, shown_reply}
 use Rattle.tk_ledger.specs.Clients.{client_at, is_retired, is_live_client}
-
--- a reply, and no fact
-abbrev pub answered : ReplyFields → Decision
-answered reply = record { reply = reply; made = None }
-
--- an error, and no fact
-abbrev pub refused : ℕ → List ℕ → Decision
-refused status name = answered (error_reply status name)
 
 -- ---- AddClient
 
@@ -36,54 +31,54 @@ registered uris = if is_none (registration_refusal uris) then Some uris else Non
 
 -- a list that may not be registered: invalid_request; else a public client at the next dot
 abbrev pub registration_with : Dot → List ℕ → Option (List (List ℕ)) → Decision
-registration_with next scope None = refused 400 (codes "invalid_request")
+registration_with next scope None = refused InvalidRequest
 registration_with next scope (Some uris) = record {
-  reply = client_reply 201 next;
+  reply = client_reply status.Created next;
   made = Some (ClientAdded (record { sort = Public; scope = scope; redirects = uris }));
 }
 
 -- an unreadable scope: invalid_scope
 abbrev pub registration_by : Dot → Option (List ℕ) → List ℕ → Decision
-registration_by next None redirects = refused 400 (codes "invalid_scope")
+registration_by next None redirects = refused InvalidScope
 registration_by next (Some scope) redirects = registration_with next scope (registered (slice_split is_space redirects))
 
 -- a parameter absent: invalid_request
 abbrev pub registration_of : Dot → List ℕ → List ℕ → Decision
 registration_of next scope redirects =
-    if (length scope == 0) || (length redirects == 0) then refused 400 (codes "invalid_request")
+    if (length scope == 0) || (length redirects == 0) then refused InvalidRequest
     else registration_by next (scope_of scope) redirects
 
 -- ---- ShowClient
 
 -- no client there: not_found
 abbrev pub showing_at : FactSet → Dot → Option added.ClientAdded → Decision
-showing_at F d None = refused 404 (codes "not_found")
+showing_at F d None = refused NotFound
 showing_at F d (Some client) = answered (shown_reply d client.sort (is_live_client F d) client.scope)
 
 -- no client's id: not_found
 abbrev pub showing_by : FactSet → Option Dot → Decision
-showing_by F None = refused 404 (codes "not_found")
+showing_by F None = refused NotFound
 showing_by F (Some d) = showing_at F d (client_at F d)
 
 -- the parameter absent: invalid_request
 abbrev pub showing_of : FactSet → List ℕ → Decision
-showing_of F id = if length id == 0 then refused 400 (codes "invalid_request") else showing_by F (client_in id)
+showing_of F id = if length id == 0 then refused InvalidRequest else showing_by F (client_in id)
 
 -- ---- Retire
 
 -- no client there: not_found; retired already: no fact
 abbrev pub retirement_at : FactSet → Dot → Option added.ClientAdded → Decision
-retirement_at F d None = refused 404 (codes "not_found")
+retirement_at F d None = refused NotFound
 retirement_at F d (Some client) = record {
-  reply = client_reply 200 d;
+  reply = client_reply status.Ok d;
   made = if is_retired F d then None else Some (ClientRetired (record { client = d }));
 }
 
 -- no client's id: not_found
 abbrev pub retirement_by : FactSet → Option Dot → Decision
-retirement_by F None = refused 404 (codes "not_found")
+retirement_by F None = refused NotFound
 retirement_by F (Some d) = retirement_at F d (client_at F d)
 
 -- the parameter absent: invalid_request
 abbrev pub retirement_of : FactSet → List ℕ → Decision
-retirement_of F id = if length id == 0 then refused 400 (codes "invalid_request") else retirement_by F (client_in id)
+retirement_of F id = if length id == 0 then refused InvalidRequest else retirement_by F (client_in id)

@@ -1,34 +1,41 @@
 -- Decisions over all requests, and the serial cap (own).
---   decision_of   over the facts, with the next fact at a dot, at a moment, with six words
+--   decision_of   over the facts, at a place
 --   capped        a decision, unless it makes a fact above the cap
---   decided_at    both, at a dot; decided, at the region's next dot
-use Rattle.std.specs.Prelude.{ℕ, nat_lt, if◌then◌else◌, List, codes, string_bytes, Option, Some, None}
-use Rattle.tk_handle.specs.declared.dot.Dot.{Dot}
-use Rattle.tk_fact.specs.declared.body.Body.{Body}
+--   place_in      where a region's next fact stands
+--   decided_at    both at a place; decided, at the region's
+use Rattle.std.specs.Prelude.{ℕ, ◌&&◌, nat_lt, is_some, if◌then◌else◌, string_bytes}
+use Rattle.tk_message.specs.declared.decision.Decision.{Decision}
+use Rattle.tk_message.specs.declared.error_code.ErrorCode.TheVariants.{TemporarilyUnavailable}
+use Rattle.tk_message.specs.declared.place.Place.{Place}
+use Rattle.tk_message.specs.Decision.{refused}
+use Rattle.tk_message.specs.Place.{next_in}
 use Rattle.tk_store.specs.FactSet.{FactSet}
 use Rattle.tk_store.specs.Store.{Store, facts_of, known_in}
-use Rattle.tk_store.specs.NextDot.{next_dot}
-use Rattle.tk_world.specs.declared.administration.Decision.{Decision}
+use Rattle.tk_store.specs.NextDot.{next_serial}
 use Rattle.tk_world.specs.declared.request.Request.{Request}
 use Rattle.tk_world.specs.declared.request.Request.TheVariants.{AddClient, ShowClient, Retire}
-use Rattle.tk_world.specs.Administration.{refused, registration_of, showing_of, retirement_of}
+use Rattle.tk_world.specs.AskedFields.{AskedFields}
+use Rattle.tk_world.specs.SettingsFields.{SettingsFields, lives_of}
+use Rattle.tk_world.specs.Administration.{registration_of, showing_of, retirement_of}
 
-abbrev pub decision_of : FactSet → Dot → ℕ → List ℕ → Request → Decision
-decision_of F next now words (AddClient scope redirects) = registration_of next (string_bytes scope) (string_bytes redirects)
-decision_of F next now words (ShowClient id) = showing_of F (string_bytes id)
-decision_of F next now words (Retire id) = retirement_of F (string_bytes id)
+abbrev pub decision_by : FactSet → Place → Request → Decision
+decision_by F place (AddClient scope redirects) = registration_of (next_in place) (string_bytes scope) (string_bytes redirects)
+decision_by F place (ShowClient id) = showing_of F (string_bytes id)
+decision_by F place (Retire id) = retirement_of F (string_bytes id)
+
+abbrev pub decision_of : FactSet → Place → AskedFields → Decision
+decision_of F place asked = decision_by F place asked.request
 
 -- above the cap no fact is made: temporarily_unavailable
-abbrev pub capped_by : ℕ → Dot → Decision → Option Body → Decision
-capped_by cap next decision None = decision
-capped_by cap next decision (Some body) =
-    if nat_lt cap next.serial then refused 503 (codes "temporarily_unavailable") else decision
+abbrev pub capped : ℕ → Place → Decision → Decision
+capped cap place decision = if is_some decision.made && nat_lt cap place.next then refused TemporarilyUnavailable else decision
 
-abbrev pub capped : ℕ → Dot → Decision → Decision
-capped cap next decision = capped_by cap next decision decision.made
+abbrev pub decided_at : SettingsFields → FactSet → Place → AskedFields → Decision
+decided_at settings F place asked = capped settings.cap place (decision_of F place asked)
 
-abbrev pub decided_at : ℕ → Dot → Store → ℕ → List ℕ → Request → Decision
-decided_at cap next S now words request = capped cap next (decision_of (facts_of S) next now words request)
+-- the region's number, the serial of its next fact, and how long what it issues lasts
+abbrev pub place_in : SettingsFields → Store → ℕ → Place
+place_in settings S r = record { number = r; next = next_serial (known_in S) r; lives = lives_of settings }
 
-abbrev pub decided : ℕ → Store → ℕ → ℕ → List ℕ → Request → Decision
-decided cap S r now words request = decided_at cap (next_dot (known_in S) r) S now words request
+abbrev pub decided : SettingsFields → Store → ℕ → AskedFields → Decision
+decided settings S r asked = decided_at settings (facts_of S) (place_in settings S r) asked

@@ -3,7 +3,7 @@ use Rattle.std.specs.Prelude.{◌≡◌, ℕ, ◌+◌, List, [], ◌∷◌, ◌+
 use Rattle.std.specs.FinMap as map
 use Rattle.tk_handle.specs.declared.dot.Dot.{Dot}
 use Rattle.tk_store.specs.FactSet.{FactSet, Facts, with_facts}
-use Rattle.tk_world.specs.declared.administration.Decision.{Decision}
+use Rattle.tk_message.specs.declared.decision.Decision.{Decision}
 use Rattle.tk_world.specs.declared.event.Outcome.{Outcome}
 use Rattle.tk_world.specs.declared.event.Outcome.TheVariants.{Opened, Reply, Bundle, Took, Memory}
 use Rattle.tk_bundle.specs.Page.{PageFields}
@@ -29,7 +29,7 @@ Pages page old Memory new = new ≡ old
 Pages page old outcome new = ⊥
 
 -- all are in, and the set has grown by the number of those that it lacked; or the first of them are in
-abbrev pub Takes : FactSet → Facts → Outcome → FactSet → Type 0
-Takes F fs (Took n) G = (G ≡ with_facts F fs) × (map.len F + n ≡ map.len G)
-Takes F fs Memory G = (k : ℕ) × (G ≡ with_facts F (take k fs))
-Takes F fs outcome G = ⊥
+abbrev pub TakesFacts : FactSet → Facts → Outcome → FactSet → Type 0
+TakesFacts F fs (Took n) G = (G ≡ with_facts F fs) × (map.len F + n ≡ map.len G)
+TakesFacts F fs Memory G = (k : ℕ) × (G ≡ with_facts F (take k fs))
+TakesFacts F fs outcome G = ⊥

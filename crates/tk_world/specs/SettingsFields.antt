@@ -1,7 +1,9 @@
 -- What contracts see of settings: the lives of what is issued, in seconds, and the serial cap (own).
 --   SettingsFields   the five numbers
+--   lives_of         the four lives among them
 --   IsSettings       each is in its range
 use Rattle.std.specs.Prelude.{ℕ, ◌<◌, ◌≤◌}
+use Rattle.tk_message.specs.declared.place.Lives.{Lives}
 
 pub record SettingsFields : Type 0 where
   pub code : ℕ
@@ -9,6 +11,9 @@ pub record SettingsFields : Type 0 where
   pub refresh : ℕ
   pub family : ℕ
   pub cap : ℕ
+
+abbrev pub lives_of : SettingsFields → Lives
+lives_of s = record { code = s.code; access = s.access; refresh = s.refresh; family = s.family }
 
 -- 1 up to a greatest number
 abbrev pub IsUpTo : ℕ → ℕ → Type 0

@@ -1,56 +1,89 @@
 -- What an event may do to a world, and what a run of events is (own).
---   Step       one event: its outcome, what it showed its region, and the new state
---   Run        one step after another
---   seen_by    what a region has seen: the facts that it made and took in
+--   IsUnchanged   nothing was shown and nothing changed
+--   Grows         a region's set is joined with the facts that it was shown
+--   IsOpening, IsAnswer, IsPull, IsDelivery   what each event may do
+--   Step          one event: its outcome, what it showed its region, and the new state
+--   Run           one step after another
+--   seen_by       what a region has seen: the facts that it made and took in
 use Rattle.std.specs.Prelude.{◌≡◌, ℕ, ◌+◌, ◌==◌, if◌then◌else◌, List, [], ◌∷◌, ◌++◌, length, take, slice_get, Option, Some, None, IsSome}
 use Rattle.std.specs.FinMap as map
 use Rattle.tk_handle.specs.declared.dot.Dot.{Dot}
 use Rattle.tk_fact.specs.declared.body.Body.{Body}
-use Rattle.tk_store.specs.FactSet.{FactSet, with_facts}
+use Rattle.tk_vector.specs.VersionVector.{Vector}
+use Rattle.tk_store.specs.FactSet.{FactSet}
 pub use Rattle.tk_store.specs.FactSet.{Facts}
+use Rattle.tk_store.specs.Joining.{JoinsFacts}
 use Rattle.tk_store.specs.NextDot.{next_dot}
+use Rattle.tk_bundle.specs.Page.{page_of}
 use Rattle.tk_world.specs.declared.event.Event.{Event}
 use Rattle.tk_world.specs.declared.event.Event.TheVariants.{Open, Request, Pull, Deliver}
 use Rattle.tk_world.specs.declared.event.Outcome.{Outcome}
 use Rattle.tk_world.specs.declared.event.Outcome.TheVariants.{Opened, NumberTaken, NoRegion, NoBundle, Reply, Bundle, Took, Memory}
+use Rattle.tk_world.specs.AskedFields.{AskedFields}
 use Rattle.tk_world.specs.Decision.{decided}
-use Rattle.tk_bundle.specs.Page.{page_of}
 use Rattle.tk_world.specs.State.{State, with_region, with_bundle}
+
+-- nothing was shown to a region, and nothing changed
+abbrev pub IsUnchanged : State → Facts → State → Type 0
+IsUnchanged old seen new = (seen ≡ []) × (new ≡ old)
+
+-- the region's set F becomes its join with the facts, which agree with it; all else is as it was
+pub record Grows (old : State) (r : ℕ) (F : FactSet) (seen : Facts) (new : State) : Type 0 where
+  pub is_open : map.get old.regions r ≡ Some F
+  pub grown : FactSet
+  pub joins : JoinsFacts F seen grown
+  pub changes : new ≡ with_region old r grown
+
+-- ---- what each event may do; no outcome but those that are named comes
+
+abbrev pub IsOpening : State → ℕ → Outcome → Facts → State → Type 0
+IsOpening old n Opened seen new = (map.get old.regions n ≡ None) × (seen ≡ []) × (new ≡ with_region old n map.empty)
+IsOpening old n NumberTaken seen new = IsSome (map.get old.regions n) × IsUnchanged old seen new
+IsOpening old n Memory seen new = (map.get old.regions n ≡ None) × IsUnchanged old seen new
+IsOpening old n outcome seen new = ⊥
 
 -- the fact at the dot, if one is made
 abbrev pub made_at : Dot → Option Body → Facts
 made_at d None = []
 made_at d (Some b) = (d, b) ∷ []
 
+-- the reply is that of the decision, and the fact made, if any, joins the set
+abbrev pub IsAnswer : State → ℕ → AskedFields → Outcome → Facts → State → Type 0
+IsAnswer old r asked (Reply reply) seen new =
+    (F : FactSet) × Grows old r F seen new
+    × (let decision = decided old.settings F r asked in (reply ≡ decision.reply) × (seen ≡ made_at (next_dot F r) decision.made))
+IsAnswer old r asked NoRegion seen new = (map.get old.regions r ≡ None) × IsUnchanged old seen new
+IsAnswer old r asked Memory seen new = IsSome (map.get old.regions r) × IsUnchanged old seen new
+IsAnswer old r asked outcome seen new = ⊥
+
+-- the page joins the list of bundles
+abbrev pub IsPull : State → ℕ → Vector → Outcome → Facts → State → Type 0
+IsPull old r v (Bundle index count last more) seen new =
+    (F : FactSet) × (map.get old.regions r ≡ Some F) × (seen ≡ [])
+    × (let page = page_of F v in
+    (index ≡ length old.bundles) × (count ≡ length page.facts) × (last ≡ page.last) × (more ≡ page.more) × (new ≡ with_bundle old page.facts))
+IsPull old r v NoRegion seen new = (map.get old.regions r ≡ None) × IsUnchanged old seen new
+IsPull old r v Memory seen new = IsSome (map.get old.regions r) × IsUnchanged old seen new
+IsPull old r v outcome seen new = ⊥
+
+-- the set joins all facts of the bundle, and grows by the number of those that it lacked; for want of memory, the first of them
+abbrev pub IsDelivery : State → ℕ → ℕ → Outcome → Facts → State → Type 0
+IsDelivery old i r (Took n) seen new =
+    (F : FactSet) × (grows : Grows old r F seen new) × (slice_get old.bundles i ≡ Some seen) × (map.len F + n ≡ map.len grows.grown)
+IsDelivery old i r Memory seen new =
+    (F : FactSet) × Grows old r F seen new × (fs : Facts) × (slice_get old.bundles i ≡ Some fs) × (k : ℕ) × (seen ≡ take k fs)
+IsDelivery old i r NoRegion seen new = (map.get old.regions r ≡ None) × IsUnchanged old seen new
+IsDelivery old i r NoBundle seen new = IsSome (map.get old.regions r) × (slice_get old.bundles i ≡ None) × IsUnchanged old seen new
+IsDelivery old i r outcome seen new = ⊥
+
+-- ---- steps and runs
+
 -- From old, the event may have this outcome, show its region these facts, and go on to new.
 abbrev pub Step : State → Event → Outcome → Facts → State → Type 0
-Step old (Open n) Opened seen new = (map.get old.regions n ≡ None) × (seen ≡ []) × (new ≡ with_region old n map.empty)
-Step old (Open n) NumberTaken seen new = IsSome (map.get old.regions n) × (seen ≡ []) × (new ≡ old)
-Step old (Open n) Memory seen new = (map.get old.regions n ≡ None) × (seen ≡ []) × (new ≡ old)
--- the reply is that of the decision, and the fact made, if any, joins the set
-Step old (Request r now words request) (Reply reply) seen new =
-    (F : FactSet) × (map.get old.regions r ≡ Some F) × (reply ≡ (decided old.settings.cap F r now words request).reply)
-    × (seen ≡ made_at (next_dot F r) (decided old.settings.cap F r now words request).made) × (new ≡ with_region old r (with_facts F seen))
-Step old (Request r now words request) NoRegion seen new = (map.get old.regions r ≡ None) × (seen ≡ []) × (new ≡ old)
-Step old (Request r now words request) Memory seen new = IsSome (map.get old.regions r) × (seen ≡ []) × (new ≡ old)
--- the page joins the list of bundles
-Step old (Pull r v) (Bundle index count last more) seen new =
-    (F : FactSet) × (map.get old.regions r ≡ Some F) × (index ≡ length old.bundles) × (count ≡ length (page_of F v).facts)
-    × (last ≡ (page_of F v).last) × (more ≡ (page_of F v).more) × (seen ≡ []) × (new ≡ with_bundle old (page_of F v).facts)
-Step old (Pull r v) NoRegion seen new = (map.get old.regions r ≡ None) × (seen ≡ []) × (new ≡ old)
-Step old (Pull r v) Memory seen new = IsSome (map.get old.regions r) × (seen ≡ []) × (new ≡ old)
--- the set joins all facts of the bundle, and grows by the number of those that it lacked
-Step old (Deliver i r) (Took n) seen new =
-    (F : FactSet) × (map.get old.regions r ≡ Some F) × (slice_get old.bundles i ≡ Some seen)
-    × (new ≡ with_region old r (with_facts F seen)) × (map.len F + n ≡ map.len (with_facts F seen))
--- or it joins the first of them
-Step old (Deliver i r) Memory seen new =
-    (F : FactSet) × (map.get old.regions r ≡ Some F) × (fs : Facts) × (slice_get old.bundles i ≡ Some fs)
-    × (k : ℕ) × (seen ≡ take k fs) × (new ≡ with_region old r (with_facts F seen))
-Step old (Deliver i r) NoRegion seen new = (map.get old.regions r ≡ None) × (seen ≡ []) × (new ≡ old)
-Step old (Deliver i r) NoBundle seen new = IsSome (map.get old.regions r) × (slice_get old.bundles i ≡ None) × (seen ≡ []) × (new ≡ old)
--- no other outcome comes
-Step old event outcome seen new = ⊥
+Step old (Open n) outcome seen new = IsOpening old n outcome seen new
+Step old (Request r now words request) outcome seen new = IsAnswer old r (record { now = now; words = words; request = request }) outcome seen new
+Step old (Pull r v) outcome seen new = IsPull old r v outcome seen new
+Step old (Deliver i r) outcome seen new = IsDelivery old i r outcome seen new
 
 -- one step after another, with what each showed its region
 abbrev pub Run : State → List Event → List Outcome → List Facts → State → Type 0

@@ -1,54 +1,40 @@
-use crate::reply::Reply;
-use tk_fact::Body;
-
-/// What a request is answered, and the fact that it makes.
-#[derive(Debug, Drop)]
-pub struct Decision {
-    pub reply: Reply,
-    pub made: Option<Body>,
-}
+//! The requests of an administrator: each goes through its cases in order, and gives a reply and at most one fact.
 
 ghost use Rattle.std.specs.Prelude.{◌≡◌, IfOk, Some, map, string_bytes};
 ghost use Rattle.tk_store.specs.Store.{facts_of};
 ghost use Rattle.tk_world.specs.Administration as spec;
 ghost use Rattle.tk_world.specs.Decision.{decision_of};
 
-use crate::reply::{client_reply, error_reply, shown_reply};
+use crate::asked::Asked;
 use crate::request::Request;
 use crate::texts::split_spaces;
 use std::alloc::{AllocError, Global};
-use tk_fact::{ClientAdded, ClientRetired, Sort};
-use tk_handle::{Dot, Moment, read_client};
+use tk_fact::{Body, ClientAdded, ClientRetired, Sort};
+use tk_handle::{Dot, read_client};
 use tk_ledger::Ledger;
 use tk_match::{RedirectError, Redirects};
+use tk_message::{Decision, ErrorCode, Place, Status, client_reply, shown_reply};
 use tk_scope::{Scope, ScopeError};
 
-// Decides a request over the facts, where the next fact would stand at the dot.
+// Decides a request over the facts, at the place.
 pub(crate) fn decide(
     alloc: Global,
-    facts: &Ledger,
-    next: Dot,
-    _now: Moment,
-    _words: &[u64; 6],
-    request: &Request,
+    ledger: &Ledger,
+    place: &Place,
+    asked: &Asked<'_>,
 ) -> Result<Decision, AllocError>
-    ensures { IfOk result (λ decision. decision ≡ decision_of (facts_of facts.now) next _now _words.now request.now) }
+    ensures { IfOk result (λ decision. decision ≡ decision_of (facts_of ledger.now) place.now asked.entry.now) }
 {
-    match request {
-        Request::AddClient { scope, redirects } => {
-            register(alloc, next, scope.as_bytes(), redirects.as_bytes())
-        }
-        Request::ShowClient { client_id } => show(alloc, facts, client_id.as_bytes()),
-        Request::Retire { client_id } => retire(alloc, facts, client_id.as_bytes()),
+    match asked.request {
+        Request::AddClient { scope, redirects } => register(
+            alloc,
+            place.next_dot(),
+            scope.as_bytes(),
+            redirects.as_bytes(),
+        ),
+        Request::ShowClient { client_id } => show(alloc, ledger, client_id.as_bytes()),
+        Request::Retire { client_id } => retire(alloc, ledger, client_id.as_bytes()),
     }
-}
-
-// An error, and no fact.
-pub(crate) fn refuse(alloc: Global, status: u16, name: &str) -> Result<Decision, AllocError>
-    ensures { IfOk result (λ decision. decision ≡ spec.refused status name.now) }
-{
-    let reply = error_reply(alloc, status, name)?;
-    Ok(Decision { reply, made: None })
 }
 
 fn register(
@@ -60,12 +46,12 @@ fn register(
     ensures { IfOk result (λ decision. decision ≡ spec.registration_of next scope.now redirects.now) }
 {
     if scope.is_empty() || redirects.is_empty() {
-        return refuse(alloc, 400, "invalid_request");
+        return Decision::refuse(alloc, ErrorCode::InvalidRequest);
     }
     match Scope::read(alloc, scope) {
         Ok(scope) => register_with(alloc, next, scope, redirects),
         Err(ScopeError::Memory) => Err(AllocError),
-        Err(_) => refuse(alloc, 400, "invalid_scope"),
+        Err(_) => Decision::refuse(alloc, ErrorCode::InvalidScope),
     }
 }
 
@@ -80,7 +66,7 @@ fn register_with(
     let uris = split_spaces(alloc, redirects)?;
     match read_redirects(alloc, uris.as_slice())? {
         Some(redirects) => {
-            let reply = client_reply(alloc, 201, next)?;
+            let reply = client_reply(alloc, Status::Created, next)?;
             let client = ClientAdded {
                 sort: Sort::Public,
                 scope,
@@ -91,7 +77,7 @@ fn register_with(
                 made: Some(Body::ClientAdded(client)),
             })
         }
-        None => refuse(alloc, 400, "invalid_request"),
+        None => Decision::refuse(alloc, ErrorCode::InvalidRequest),
     }
 }
 
@@ -107,55 +93,55 @@ fn read_redirects(alloc: Global, uris: &[&[u8]]) -> Result<Option<Redirects>, Al
     }
 }
 
-fn show(alloc: Global, facts: &Ledger, id: &[u8]) -> Result<Decision, AllocError>
-    ensures { IfOk result (λ decision. decision ≡ spec.showing_of (facts_of facts.now) id.now) }
+fn show(alloc: Global, ledger: &Ledger, id: &[u8]) -> Result<Decision, AllocError>
+    ensures { IfOk result (λ decision. decision ≡ spec.showing_of (facts_of ledger.now) id.now) }
 {
     if id.is_empty() {
-        return refuse(alloc, 400, "invalid_request");
+        return Decision::refuse(alloc, ErrorCode::InvalidRequest);
     }
     match read_client(id) {
-        Some(at) => show_at(alloc, facts, at),
-        None => refuse(alloc, 404, "not_found"),
+        Some(at) => show_at(alloc, ledger, at),
+        None => Decision::refuse(alloc, ErrorCode::NotFound),
     }
 }
 
-fn show_at(alloc: Global, facts: &Ledger, at: Dot) -> Result<Decision, AllocError>
-    ensures { IfOk result (λ decision. decision ≡ spec.showing_by (facts_of facts.now) (Some at)) }
+fn show_at(alloc: Global, ledger: &Ledger, at: Dot) -> Result<Decision, AllocError>
+    ensures { IfOk result (λ decision. decision ≡ spec.showing_by (facts_of ledger.now) (Some at)) }
 {
-    match facts.client(at) {
+    match ledger.client(at) {
         Some(client) => {
             let reply = shown_reply(alloc, at, client.sort, client.live, client.scope)?;
-            Ok(Decision { reply, made: None })
+            Ok(Decision::answer(reply))
         }
-        None => refuse(alloc, 404, "not_found"),
+        None => Decision::refuse(alloc, ErrorCode::NotFound),
     }
 }
 
-fn retire(alloc: Global, facts: &Ledger, id: &[u8]) -> Result<Decision, AllocError>
-    ensures { IfOk result (λ decision. decision ≡ spec.retirement_of (facts_of facts.now) id.now) }
+fn retire(alloc: Global, ledger: &Ledger, id: &[u8]) -> Result<Decision, AllocError>
+    ensures { IfOk result (λ decision. decision ≡ spec.retirement_of (facts_of ledger.now) id.now) }
 {
     if id.is_empty() {
-        return refuse(alloc, 400, "invalid_request");
+        return Decision::refuse(alloc, ErrorCode::InvalidRequest);
     }
     match read_client(id) {
-        Some(at) => retire_at(alloc, facts, at),
-        None => refuse(alloc, 404, "not_found"),
+        Some(at) => retire_at(alloc, ledger, at),
+        None => Decision::refuse(alloc, ErrorCode::NotFound),
     }
 }
 
-fn retire_at(alloc: Global, facts: &Ledger, at: Dot) -> Result<Decision, AllocError>
-    ensures { IfOk result (λ decision. decision ≡ spec.retirement_by (facts_of facts.now) (Some at)) }
+fn retire_at(alloc: Global, ledger: &Ledger, at: Dot) -> Result<Decision, AllocError>
+    ensures { IfOk result (λ decision. decision ≡ spec.retirement_by (facts_of ledger.now) (Some at)) }
 {
-    match facts.client(at) {
+    match ledger.client(at) {
         Some(client) => {
             let made = if client.live {
                 Some(Body::ClientRetired(ClientRetired { client: at }))
             } else {
                 None
             };
-            let reply = client_reply(alloc, 200, at)?;
+            let reply = client_reply(alloc, Status::Ok, at)?;
             Ok(Decision { reply, made })
         }
-        None => refuse(alloc, 404, "not_found"),
+        None => Decision::refuse(alloc, ErrorCode::NotFound),
     }
 }

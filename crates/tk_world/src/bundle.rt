@@ -1,3 +1,5 @@
+//! A bundle that was made, kept as bytes and seen as its facts.
+
 use std::marker::Model;
 
 /// A bundle that a region made, in bytes. Contracts see its facts.

@@ -1,6 +1,8 @@
-use crate::reply::Reply;
+//! What may happen to a world, and how it ends.
+
 use crate::request::Request;
 use tk_handle::{Dot, Moment, RegionNumber};
+use tk_message::Reply;
 use tk_vector::VersionVector;
 
 /// What may happen to a world.

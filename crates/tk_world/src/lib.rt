@@ -4,16 +4,16 @@
 //! the outcomes and the new state are a run of the world, and each region's set of facts is its old one joined with
 //! what it has seen. Bundles may be lost, repeated, late or out of order.
 //!
-//! In reading order: `Settings`, `Request`, `Event`, `Outcome`, `Reply`, `World`. The definitions are in specs/:
-//! `Administration` says what a request is answered, over the clients of tk_ledger, `State` and `World` what a step
-//! and a run are. The crate reads no clock and draws no words: they come with each event.
+//! In reading order: `Settings`, `Request`, `Event`, `Outcome`, `World`; inside, `region` is what one region does. The
+//! definitions are in specs/: `Administration` says what a request is answered, over the clients of tk_ledger, `State`
+//! and `World` what a step and a run are. The crate reads no clock and draws no words: they come with each event.
 #![tactic(auto)]
 
 mod administration;
+mod asked;
 mod bundle;
 mod event;
 mod region;
-mod reply;
 mod request;
 mod settings;
 mod take;
@@ -21,7 +21,6 @@ mod texts;
 mod world;
 
 pub use event::{Event, Outcome};
-pub use reply::{Payload, Reply};
 pub use request::Request;
 pub use settings::Settings;
 pub use world::World;

@@ -1,89 +1,154 @@
-ghost use Rattle.std.specs.Prelude.{◌≡◌, ◌≤◌, ◌+◌, IfOk, IfSome, None};
+//! One region: its number and its facts, and what it answers a request, a pull and a delivery.
+
+use std::marker::Model;
+use tk_handle::RegionNumber;
+use tk_ledger::Ledger;
+
+/// A region. Contracts see the pair of its number and its set of facts.
+#[derive(Debug, Drop)]
+pub(crate) struct Region {
+    number: RegionNumber,
+    ledger: Ledger,
+}
+
+impl Model for Region {
+    ghost use Rattle.std.specs.Prelude.{ℕ};
+    ghost use Rattle.std.specs.Coded.{coded×, coded_ℕ};
+    ghost use Rattle.tk_store.specs.FactSet.{coded_facts};
+    ghost use Rattle.tk_store.specs.Store.{Store};
+
+    ghost Value = { ℕ × Store };
+
+    ghost coded = { coded× coded_ℕ coded_facts };
+
+    ghost view = { λ r. (r.number, r.ledger) };
+}
+
+ghost use Rattle.std.specs.Prelude.{◌≡◌, ◌≤◌, ◌<◌, ◌^◌, length, IfOk, OnOk, None};
 ghost use Rattle.std.specs.FinMap as map;
-ghost use Rattle.tk_fact.specs.Check.{refusal_of};
-ghost use Rattle.tk_store.specs.NextDot.{next_dot, next_serial};
-ghost use Rattle.tk_store.specs.Store.{known_in};
-ghost use Rattle.tk_world.specs.Decision as spec;
 ghost use Rattle.tk_bundle.specs.Bundle.{bundle};
 ghost use Rattle.tk_bundle.specs.Page as pages;
-ghost use Rattle.tk_world.specs.Parts.{Commits, Pages};
+ghost use Rattle.tk_message.specs.Decision.{Passes};
+ghost use Rattle.tk_store.specs.FactSet.{FactSet, IsFactSet, AllIn, Within};
+ghost use Rattle.tk_store.specs.NextDot.{next_dot, next_serial};
+ghost use Rattle.tk_store.specs.Store.{facts_of, known_in};
+ghost use Rattle.tk_world.specs.Decision as spec;
+ghost use Rattle.tk_world.specs.Parts.{Commits, TakesFacts};
 
-use crate::administration::{Decision, decide, refuse};
+use crate::administration::decide;
+use crate::asked::Asked;
 use crate::bundle::MadeBundle;
 use crate::event::Outcome;
-use crate::request::Request;
 use crate::settings::Settings;
+use crate::take::take_facts;
 use std::alloc::{AllocError, Global};
 use tk_bundle::{Page, make};
 use tk_fact::Fact;
-use tk_handle::{Dot, Moment, RegionNumber};
-use tk_ledger::Ledger;
+use tk_handle::Dot;
+use tk_message::{Decision, ErrorCode, Place};
 use tk_store::{AddError, Added};
 use tk_vector::VersionVector;
 
-// Answers the request over the region's facts, and adds the fact made.
-pub(crate) fn answer(
-    alloc: Global,
-    settings: &Settings,
-    region: RegionNumber,
-    ledger: &mut Ledger,
-    now: Moment,
-    words: &[u64; 6],
-    request: &Request,
-) -> Outcome
-    requires { next_serial (known_in ledger.old) region ≤ settings.now.cap + 1 }
-    ensures { Commits (next_dot (known_in ledger.old) region) (spec.decided settings.now.cap ledger.old region now words.now request.now) ledger.old result ledger.new }
-{
-    let serial = ledger.store().next_serial(region);
-    // The proof reads the cap's range from this call.
-    let _cap = settings.cap();
-    match Dot::new(region, serial) {
-        Some(next) => answer_at(alloc, settings, next, ledger, now, words, request),
-        None => unreachable!(),
+impl Region {
+    // A region with no fact.
+    pub(crate) fn new(alloc: Global, number: RegionNumber) -> Region
+        ensures { result ≡ (number, map.empty) }
+    {
+        Region {
+            number,
+            ledger: Ledger::new(alloc),
+        }
+    }
+
+    pub(crate) fn number(&self) -> RegionNumber
+        ensures { result ≡ self.now.0 }
+    {
+        self.number
+    }
+
+    // Answers the request over the region's facts, and adds the fact made.
+    pub(crate) fn answer(
+        &mut self,
+        alloc: Global,
+        settings: &Settings,
+        asked: &Asked<'_>,
+    ) -> Outcome
+        requires { next_serial (known_in self.old.1) self.old.0 < 2 ^ 63 }
+        ensures number { self.new.0 ≡ self.old.0 }
+        ensures commits { Commits (next_dot (known_in self.old.1) self.old.0) (spec.decided settings.now self.old.1 self.old.0 asked.entry.now) self.old.1 result self.new.1 }
+    {
+        answer_at(alloc, settings, &mut self.ledger, self.number, asked)
+    }
+
+    // The page of what the vector doesn't cover.
+    pub(crate) fn pull(&self, alloc: Global, vector: &VersionVector) -> Result<Page, AllocError>
+        ensures page { IfOk result (λ page. pages.IsPageOf page (pages.page_of (known_in self.now.1) vector.now)) }
+        ensures fits { OnOk result (bundle.Fits (pages.page_of (known_in self.now.1) vector.now).facts) }
+    {
+        make(alloc, self.ledger.store(), vector)
+    }
+
+    // Reads the bundle, and adds its facts.
+    pub(crate) fn deliver(&mut self, alloc: Global, bundle: &MadeBundle) -> Outcome
+        requires agree { (U : FactSet) × IsFactSet U × Within self.old.1 U × AllIn U bundle.now }
+        requires few { length bundle.now ≤ 128 }
+        ensures number { self.new.0 ≡ self.old.0 }
+        ensures takes { TakesFacts self.old.1 bundle.now result self.new.1 }
+    {
+        match bundle.read(alloc) {
+            Ok(bundle) => take_facts(alloc, &mut self.ledger, bundle.facts()),
+            Err(_) => Outcome::Memory,
+        }
     }
 }
 
 fn answer_at(
     alloc: Global,
     settings: &Settings,
-    next: Dot,
     ledger: &mut Ledger,
-    now: Moment,
-    words: &[u64; 6],
-    request: &Request,
+    number: RegionNumber,
+    asked: &Asked<'_>,
 ) -> Outcome
-    requires { map.get (known_in ledger.old) next ≡ None }
-    ensures { Commits next (spec.decided_at settings.now.cap next ledger.old now words.now request.now) ledger.old result ledger.new }
+    requires { next_serial (known_in ledger.old) number < 2 ^ 63 }
+    ensures { Commits (next_dot (known_in ledger.old) number) (spec.decided settings.now ledger.old number asked.entry.now) ledger.old result ledger.new }
 {
-    match decided(alloc, settings, next, ledger, now, words, request) {
-        Ok(decision) => commit(next, ledger, decision),
+    let place = place_in(settings, ledger, number);
+    match decided(alloc, settings, ledger, &place, asked) {
+        Ok(decision) => commit(ledger, place.next_dot(), decision),
         Err(_) => Outcome::Memory,
     }
+}
+
+// Where the region's next fact stands.
+fn place_in(settings: &Settings, ledger: &Ledger, number: RegionNumber) -> Place
+    requires { next_serial (known_in ledger.now) number < 2 ^ 63 }
+    ensures { result ≡ spec.place_in settings.now ledger.now number }
+{
+    let next = Dot::new(number, ledger.store().next_serial(number)).unwrap();
+    Place::new(next, settings.lives())
 }
 
 // The decision, unless it makes a fact above the cap.
 fn decided(
     alloc: Global,
     settings: &Settings,
-    next: Dot,
     ledger: &Ledger,
-    now: Moment,
-    words: &[u64; 6],
-    request: &Request,
+    place: &Place,
+    asked: &Asked<'_>,
 ) -> Result<Decision, AllocError>
-    ensures { IfOk result (λ decision. decision ≡ spec.decided_at settings.now.cap next ledger.now now words.now request.now) }
+    ensures { IfOk result (λ decision. decision ≡ spec.decided_at settings.now (facts_of ledger.now) place.now asked.entry.now) }
 {
-    let decision = decide(alloc, ledger, next, now, words, request)?;
-    if decision.made.is_some() && settings.cap() < next.serial() {
-        return refuse(alloc, 503, "temporarily_unavailable");
+    let decision = decide(alloc, ledger, place, asked)?;
+    if decision.made.is_some() && settings.cap() < place.next.number() {
+        return Decision::refuse(alloc, ErrorCode::TemporarilyUnavailable);
     }
     Ok(decision)
 }
 
 // Adds the fact made, and only then answers.
-fn commit(next: Dot, ledger: &mut Ledger, decision: Decision) -> Outcome
+fn commit(ledger: &mut Ledger, next: Dot, decision: Decision) -> Outcome
     requires free { map.get (known_in ledger.old) next ≡ None }
-    requires passes { IfSome decision.made (λ body. refusal_of body ≡ None) }
+    requires passes { Passes decision.made }
     ensures { Commits next decision ledger.old result ledger.new }
 {
     let Decision { reply, made } = decision;
@@ -95,37 +160,5 @@ fn commit(next: Dot, ledger: &mut Ledger, decision: Decision) -> Outcome
             Err(AddError::Memory) => Outcome::Memory,
             Err(AddError::Conflict) => unreachable!(),
         },
-    }
-}
-
-// Makes the page, and puts its bundle behind the others.
-pub(crate) fn pull_page(
-    alloc: Global,
-    ledger: &Ledger,
-    bundles: &mut Vec<MadeBundle>,
-    vector: &VersionVector,
-) -> Outcome
-    ensures { Pages (pages.page_of (known_in ledger.now) vector.now) bundles.old.items result bundles.new.items }
-{
-    match make(alloc, ledger.store(), vector) {
-        Ok(page) => keep_page(bundles, page),
-        Err(_) => Outcome::Memory,
-    }
-}
-
-fn keep_page(bundles: &mut Vec<MadeBundle>, page: Page) -> Outcome
-    requires { (fields : pages.PageFields) × pages.IsPageOf page fields × bundle.Fits fields.facts }
-    ensures { (fields : pages.PageFields) → pages.IsPageOf page fields → bundle.Fits fields.facts
-        → Pages fields bundles.old.items result bundles.new.items }
-{
-    let made = Outcome::Bundle {
-        index: bundles.len() as u64,
-        count: page.count,
-        last: page.last,
-        more: page.more,
-    };
-    match bundles.push(MadeBundle::new(page.bytes)) {
-        Ok(()) => made,
-        Err(_) => Outcome::Memory,
     }
 }

@@ -1,3 +1,5 @@
+//! What a region may be asked.
+
 /// What a region may be asked. An empty field counts as absent (RFC 6749, 3.1 and 3.2).
 #[derive(Debug, Drop)]
 pub enum Request {

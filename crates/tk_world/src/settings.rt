@@ -1,3 +1,5 @@
+//! The settings of a world: lives and the serial cap, each in its range.
+
 use std::marker::Model;
 
 /// The lives of what is issued, in seconds, and the serial cap, up to which a region makes facts (own).
@@ -24,7 +26,21 @@ impl Model for Settings {
 
 ghost use Rattle.std.specs.Prelude.{◌≡◌, ◌<◌, ◌-◌, ◌^◌};
 ghost use Rattle.std.specs.Option.{SomeIff};
-ghost use Rattle.tk_world.specs.SettingsFields.{IsSettings};
+ghost use Rattle.tk_world.specs.SettingsFields.{IsSettings, lives_of};
+
+use tk_message::Lives;
+
+// The greatest numbers of the settings, in the order of `Settings::new`.
+
+const MOST_CODE: u64 = 600;
+
+const MOST_ACCESS: u64 = 86_400;
+
+const MOST_REFRESH: u64 = 31_536_000;
+
+const MOST_FAMILY: u64 = 315_360_000;
+
+const MOST_CAP: u64 = 9_223_372_036_854_775_806;
 
 impl Settings {
     /// None exactly where a number is out of its range: a code lives 1 to 600 seconds, an access token to 86,400,
@@ -33,11 +49,11 @@ impl Settings {
         ensures { SomeIff result (IsSettings (record { code = code; access = access; refresh = refresh; family = family; cap = cap }))
             (record { code = code; access = access; refresh = refresh; family = family; cap = cap }) }
     {
-        let in_range = is_up_to(600, code)
-            && is_up_to(86_400, access)
-            && is_up_to(31_536_000, refresh)
-            && is_up_to(315_360_000, family)
-            && is_up_to(9_223_372_036_854_775_806, cap);
+        let in_range = is_up_to(MOST_CODE, code)
+            && is_up_to(MOST_ACCESS, access)
+            && is_up_to(MOST_REFRESH, refresh)
+            && is_up_to(MOST_FAMILY, family)
+            && is_up_to(MOST_CAP, cap);
         if !in_range {
             return None;
         }
@@ -48,6 +64,18 @@ impl Settings {
             family,
             cap,
         })
+    }
+
+    /// How long what is issued lasts.
+    pub fn lives(&self) -> Lives
+        ensures { result ≡ lives_of self.now }
+    {
+        Lives {
+            code: self.code,
+            access: self.access,
+            refresh: self.refresh,
+            family: self.family,
+        }
     }
 
     /// The greatest serial at which a region makes a fact.

@@ -1,34 +1,23 @@
+//! The facts of a bundle that was read, added one after another.
+
 ghost use Rattle.std.specs.Prelude.{◌≡◌, ◌≤◌, ◌+◌, length, IfOk, OnErr, Some, None};
 ghost use Rattle.std.specs.FinMap as sets;
 ghost use Rattle.tk_fact.specs.Check.{refusal_of};
 ghost use Rattle.tk_store.specs.FactSet.{FactSet, IsFactSet, AllIn, Within};
-ghost use Rattle.tk_world.specs.Parts.{Takes};
+ghost use Rattle.tk_world.specs.Parts.{TakesFacts};
 ghost use Rattle.tk_fact.specs.declared.body.Body.{Body};
 
-use crate::bundle::MadeBundle;
 use crate::event::Outcome;
 use std::alloc::{AllocError, Global};
 use tk_fact::Fact;
 use tk_ledger::Ledger;
 use tk_store::{AddError, Added};
 
-// Reads the bundle, and adds its facts.
-pub(crate) fn take_bundle(alloc: Global, ledger: &mut Ledger, bundle: &MadeBundle) -> Outcome
-    requires agree { (U : FactSet) × IsFactSet U × Within ledger.old U × AllIn U bundle.now }
-    requires few { length bundle.now ≤ 128 }
-    ensures { Takes ledger.old bundle.now result ledger.new }
-{
-    match bundle.read(alloc) {
-        Ok(bundle) => take_facts(alloc, ledger, bundle.facts()),
-        Err(_) => Outcome::Memory,
-    }
-}
-
 // Adds copies of the facts, one after another, and counts those that are new.
-fn take_facts(alloc: Global, ledger: &mut Ledger, facts: &[Fact]) -> Outcome
+pub(crate) fn take_facts(alloc: Global, ledger: &mut Ledger, facts: &[Fact]) -> Outcome
     requires agree { (U : FactSet) × IsFactSet U × Within ledger.old U × AllIn U facts.now }
     requires few { length facts.now ≤ 128 }
-    ensures { Takes ledger.old facts.now result ledger.new }
+    ensures { TakesFacts ledger.old facts.now result ledger.new }
 {
     let mut taken = 0u16;
     for fact in facts {

@@ -1,3 +1,5 @@
+//! Runs of a world, told by their outcomes.
+
 use crate::{Event, Outcome, Payload, Request, Settings, World};
 use std::alloc::{AllocError, Global};
 use std::test::Fail;

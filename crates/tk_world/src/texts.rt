@@ -1,3 +1,5 @@
+//! Texts that stand for lists.
+
 ghost use Rattle.std.specs.Prelude.{◌≡◌, IfOk, map};
 ghost use Rattle.std.specs.List.{slice_split};
 ghost use Rattle.tk_world.specs.Administration.{is_space};

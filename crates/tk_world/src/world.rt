@@ -1,9 +1,10 @@
+//! Regions and the bundles between them, and the run of a list of events.
+
 use crate::bundle::MadeBundle;
+use crate::region::Region;
 use crate::settings::Settings;
 use std::alloc::Global;
 use std::marker::Model;
-use tk_handle::RegionNumber;
-use tk_ledger::Ledger;
 
 /// Regions under their numbers, and the bundles that they made, which any of them may be handed in any order.
 #[derive(Debug, Drop)]
@@ -11,7 +12,7 @@ pub struct World {
     alloc: Global,
     settings: Settings,
     // Ascending by number.
-    regions: Vec<(RegionNumber, Ledger)>,
+    regions: Vec<Region>,
     // In the order of making. All facts that regions hold or bundles carry are one set.
     bundles: Vec<MadeBundle>,
 }
@@ -34,21 +35,23 @@ impl Model for World {
 
 ghost use Rattle.std.specs.Prelude.{◌≡◌, ◌≤◌, ◌<◌, ◌+◌, T, ℕ, List, IfOk, OnOk, OnErr, MatchResult, length, insert, [], slice_get, vec_len, vec_capacity, ◌++◌, ◌∷◌};
 ghost use Rattle.std.specs.Option.{option_copied, option_map};
-ghost use Rattle.tk_bundle.specs.Bundle.{bundle_bytes};
 ghost use Rattle.std.specs.Ordering.{nat_cmp};
 ghost use Rattle.std.specs.FinMap as map;
 ghost use Rattle.tk_handle.specs.SortedEntries.{IsAt, IsGap};
-ghost use Rattle.tk_store.specs.FactSet.{Facts, joined, set_of};
-ghost use Rattle.tk_world.specs.State.{facts_in, new_state};
+ghost use Rattle.tk_store.specs.FactSet.{Facts};
+ghost use Rattle.tk_store.specs.Joining.{JoinsFacts, SameFacts};
+ghost use Rattle.tk_store.specs.Store.{known_in};
+ghost use Rattle.tk_bundle.specs.Bundle.{bundle, bundle_bytes};
+ghost use Rattle.tk_bundle.specs.Page as pages;
+ghost use Rattle.tk_world.specs.State.{facts_in, new_state, IsConsistent};
 ghost use Rattle.tk_world.specs.World.{Step, Run, seen_by};
-ghost use Rattle.tk_world.specs.Parts.{Opens};
+ghost use Rattle.tk_world.specs.Parts.{Opens, Pages};
 
+use crate::asked::Asked;
 use crate::event::{Event, Outcome};
-use crate::region::{answer, pull_page};
-use crate::request::Request;
-use crate::take::take_bundle;
 use std::alloc::AllocError;
-use tk_handle::Moment;
+use tk_bundle::Page;
+use tk_handle::RegionNumber;
 use tk_vector::VersionVector;
 
 impl World {
@@ -66,15 +69,25 @@ impl World {
         }
     }
 
+    /// All facts that regions hold and bundles carry are one set: told to callers, nothing is done.
+    pub fn known(&self)
+        ensures { IsConsistent self.now }
+    {
+        let _regions = &self.regions;
+    }
+
     /// Runs the events in order. Room for the outcomes is taken first: where it is refused, no event is run.
     pub fn run(&mut self, events: &[Event]) -> Result<Vec<Outcome>, AllocError>
         // One outcome for each event.
         ensures count { IfOk result (λ outcomes. length outcomes.items ≡ length events.now) }
 
-        // The old world, the events, the outcomes and the new world are a run, and each region's set of facts is
-        // its old one joined with what it has seen.
+        // The old world, the events, the outcomes and the new world are a run. Each region's set of facts is its old one
+        // joined with what it has seen, which agrees with it. Two regions that began alike, and that have seen the same
+        // facts, in whatever order and however often, are alike.
         ensures run { IfOk result (λ outcomes. (shown : List Facts) × Run self.old events.now outcomes.items shown self.new
-            × ((r : ℕ) → facts_in self.new r ≡ joined (facts_in self.old r) (set_of (seen_by r events.now shown)))) }
+            × ((r : ℕ) → JoinsFacts (facts_in self.old r) (seen_by r events.now shown) (facts_in self.new r))
+            × ((q r : ℕ) → facts_in self.old q ≡ facts_in self.old r → SameFacts (seen_by q events.now shown) (seen_by r events.now shown)
+            → facts_in self.new q ≡ facts_in self.new r)) }
 
         ensures err { OnErr result (self.new ≡ self.old) }
     {
@@ -106,7 +119,15 @@ impl World {
                 now,
                 words,
                 request,
-            } => self.request(*region, *now, words, request),
+            } => {
+                let now = *now;
+                let asked = Asked {
+                    now,
+                    words,
+                    request,
+                };
+                self.request(*region, &asked)
+            }
             Event::Pull { region, vector } => self.pull(*region, vector),
             Event::Deliver { bundle, region } => self.deliver(*bundle, *region),
         }
@@ -115,31 +136,17 @@ impl World {
     fn open(&mut self, number: RegionNumber) -> Outcome
         ensures { (seen : Facts) × Step self.old (Event.Open number) result seen self.new }
     {
-        match place(&self.regions, number) {
+        match find_region(&self.regions, number) {
             Ok(_) => Outcome::NumberTaken,
             Err(at) => open_region(self.alloc, &mut self.regions, at, number),
         }
     }
 
-    fn request(
-        &mut self,
-        region: RegionNumber,
-        now: Moment,
-        words: &[u64; 6],
-        request: &Request,
-    ) -> Outcome
-        ensures { (seen : Facts) × Step self.old (Event.Request region now words.now request.now) result seen self.new }
+    fn request(&mut self, region: RegionNumber, asked: &Asked<'_>) -> Outcome
+        ensures { (seen : Facts) × Step self.old (Event.Request region asked.entry.now.now asked.entry.now.words asked.entry.now.request) result seen self.new }
     {
-        match place(&self.regions, region) {
-            Ok(at) => answer(
-                self.alloc,
-                &self.settings,
-                region,
-                &mut self.regions[at].1,
-                now,
-                words,
-                request,
-            ),
+        match find_region(&self.regions, region) {
+            Ok(at) => self.regions[at].answer(self.alloc, &self.settings, asked),
             Err(_) => Outcome::NoRegion,
         }
     }
@@ -147,8 +154,8 @@ impl World {
     fn pull(&mut self, region: RegionNumber, vector: &VersionVector) -> Outcome
         ensures { (seen : Facts) × Step self.old (Event.Pull region vector.now) result seen self.new }
     {
-        match place(&self.regions, region) {
-            Ok(at) => pull_page(self.alloc, &self.regions[at].1, &mut self.bundles, vector),
+        match find_region(&self.regions, region) {
+            Ok(at) => pull_page(self.alloc, &self.regions[at], &mut self.bundles, vector),
             Err(_) => Outcome::NoRegion,
         }
     }
@@ -156,9 +163,9 @@ impl World {
     fn deliver(&mut self, bundle: u64, region: RegionNumber) -> Outcome
         ensures { (seen : Facts) × Step self.old (Event.Deliver bundle region) result seen self.new }
     {
-        match place(&self.regions, region) {
+        match find_region(&self.regions, region) {
             Ok(at) => match bundle_at(&self.bundles, bundle) {
-                Some(bundle) => take_bundle(self.alloc, &mut self.regions[at].1, bundle),
+                Some(bundle) => self.regions[at].deliver(self.alloc, bundle),
                 None => Outcome::NoBundle,
             },
             Err(_) => Outcome::NoRegion,
@@ -185,39 +192,61 @@ fn bundle_at(bundles: &[MadeBundle], index: u64) -> Option<&MadeBundle>
     bundles.get(index as usize)
 }
 
-// Where the region stands, or where it would go.
-fn place(regions: &[(RegionNumber, Ledger)], region: RegionNumber) -> Result<usize, usize>
+// Where the region of the number stands, or where it would go.
+fn find_region(regions: &[Region], number: RegionNumber) -> Result<usize, usize>
     requires { T (map.is_sorted nat_cmp regions.now) }
-    ensures { MatchResult result (IsAt nat_cmp regions.now region) (IsGap nat_cmp regions.now region) }
+    ensures { MatchResult result (IsAt nat_cmp regions.now number) (IsGap nat_cmp regions.now number) }
 {
-    regions.binary_search_by_key(&region, |pair| pair.0)
+    regions.binary_search_by_key(&number, |region| region.number())
 }
 
-fn open_region(
-    alloc: Global,
-    regions: &mut Vec<(RegionNumber, Ledger)>,
-    at: usize,
-    number: RegionNumber,
-) -> Outcome
+fn open_region(alloc: Global, regions: &mut Vec<Region>, at: usize, number: RegionNumber) -> Outcome
     requires { at ≤ length regions.old.items }
     ensures { Opens regions.old.items at number result regions.new.items }
 {
-    match insert_region(regions, at, number, Ledger::new(alloc)) {
+    match insert_region(regions, at, Region::new(alloc, number)) {
         Ok(()) => Outcome::Opened,
         Err(_) => Outcome::Memory,
     }
 }
 
-fn insert_region(
-    regions: &mut Vec<(RegionNumber, Ledger)>,
-    at: usize,
-    number: RegionNumber,
-    ledger: Ledger,
-) -> Result<(), AllocError>
+fn insert_region(regions: &mut Vec<Region>, at: usize, region: Region) -> Result<(), AllocError>
     requires { at ≤ length regions.old.items }
-    ensures ok { OnOk result (regions.new.items ≡ insert regions.old.items at (number, ledger)) }
+    ensures ok { OnOk result (regions.new.items ≡ insert regions.old.items at region) }
     ensures err { OnErr result (regions.new.items ≡ regions.old.items) }
 {
-    regions.insert(at, (number, ledger))?;
+    regions.insert(at, region)?;
     Ok(())
+}
+
+// Puts the bundle of the region's page behind the others.
+fn pull_page(
+    alloc: Global,
+    region: &Region,
+    bundles: &mut Vec<MadeBundle>,
+    vector: &VersionVector,
+) -> Outcome
+    ensures { Pages (pages.page_of (known_in region.now.1) vector.now) bundles.old.items result bundles.new.items }
+{
+    match region.pull(alloc, vector) {
+        Ok(page) => keep_page(bundles, page),
+        Err(_) => Outcome::Memory,
+    }
+}
+
+fn keep_page(bundles: &mut Vec<MadeBundle>, page: Page) -> Outcome
+    requires { (fields : pages.PageFields) × pages.IsPageOf page fields × bundle.Fits fields.facts }
+    ensures { (fields : pages.PageFields) → pages.IsPageOf page fields → bundle.Fits fields.facts
+        → Pages fields bundles.old.items result bundles.new.items }
+{
+    let made = Outcome::Bundle {
+        index: bundles.len() as u64,
+        count: page.count,
+        last: page.last,
+        more: page.more,
+    };
+    match bundles.push(MadeBundle::new(page.bytes)) {
+        Ok(()) => made,
+        Err(_) => Outcome::Memory,
+    }
 }

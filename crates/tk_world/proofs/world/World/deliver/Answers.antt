@@ -11,25 +11,23 @@ returns-in-Err c =
       (
         ap (λ s. map.get s.regions c.args.region) (sym c.self.view_is)
             ∙ absent_at w.settings w.regions.items w.bundles.items c.self.invariant.0 c.args.region c.in-Err.field-0 (rw c.deref.ensures.value at c.in-Err.ensures),
-        refl,
-        refl,
+        (refl, refl),
       ),
     )
 
-pub take_bundle-requires-clause-agree : goal.take_bundle-requires-clause-agree
-take_bundle-requires-clause-agree c =
+pub deliver-requires-clause-agree : goal.deliver-requires-clause-agree
+deliver-requires-clause-agree c =
     let w = c.self.inside in
     let at = rw c.deref.ensures.value at c.in-Ok.ensures in
     let p = c.index_mut.result.now in
     let is = c.index_mut.ensures.value in
-    let s = state w.settings w.regions.items w.bundles.items in
     let held = held_at w.settings w.regions.items w.bundles.items c.self.invariant.0 c.args.region c.in-Ok.at at p is in
     let there = rw c.deref-in-Ok.ensures.value at c.in-Some.ensures in
     let k = c.self.invariant.1 in
     (k.0, k.1.sound, k.1.held c.args.region p.1 held, (k.1.carried c.args.bundle c.in-Some.bundle.now (sym there)).0)
 
-pub take_bundle-requires-clause-few : goal.take_bundle-requires-clause-few
-take_bundle-requires-clause-few c =
+pub deliver-requires-clause-few : goal.deliver-requires-clause-few
+deliver-requires-clause-few c =
     let there = rw c.deref-in-Ok.ensures.value at c.in-Some.ensures in
     (c.self.invariant.1.1.carried c.args.bundle c.in-Some.bundle.now (sym there)).1
 
@@ -42,10 +40,13 @@ invariant_of-self c =
     let s = state w.settings w.regions.items w.bundles.items in
     let held = held_at w.settings w.regions.items w.bundles.items c.self.invariant.0 c.args.region c.in-Ok.at at p is in
     let there = rw c.deref-in-Ok.ensures.value at c.in-Some.ensures in
-    let step = deliver_step s c.args.bundle c.args.region p.1 c.take_bundle.new.ledger c.in-Some.bundle.now c.take_bundle.result held (sym there) c.take_bundle.ensures in (
-      sorted_after w.settings w.regions.items w.bundles.items c.self.invariant.0 c.args.region c.in-Ok.at at p is c.take_bundle.new.ledger,
-      ended_keeps s (Deliver c.args.bundle c.args.region) c.take_bundle.result _ step _
-          (state_after w.settings w.regions.items w.bundles.items c.self.invariant.0 c.args.region c.in-Ok.at at p is c.take_bundle.new.ledger) c.self.invariant.1,
+    let q = c.deliver.new.self in
+    let k = c.self.invariant.1 in
+    let step = deliver_step s c.args.bundle c.args.region p.1 q.1 k.0 c.in-Some.bundle.now c.deliver.result (k.1.held c.args.region p.1 held)
+    (k.1.carried c.args.bundle c.in-Some.bundle.now (sym there)).0 held (sym there) c.deliver.ensures.takes in (
+      sorted_after w.settings w.regions.items w.bundles.items c.self.invariant.0 c.args.region c.in-Ok.at at p is q c.deliver.ensures.number,
+      ended_keeps s (Deliver c.args.bundle c.args.region) c.deliver.result _ step _
+          (state_after w.settings w.regions.items w.bundles.items c.self.invariant.0 c.args.region c.in-Ok.at at p is q c.deliver.ensures.number) k,
     )
 
 pub returns-in-Some : goal.returns-in-Some
@@ -57,9 +58,12 @@ returns-in-Some c =
     let s = state w.settings w.regions.items w.bundles.items in
     let held = held_at w.settings w.regions.items w.bundles.items c.self.invariant.0 c.args.region c.in-Ok.at at p is in
     let there = rw c.deref-in-Ok.ensures.value at c.in-Some.ensures in
-    let step = deliver_step s c.args.bundle c.args.region p.1 c.take_bundle.new.ledger c.in-Some.bundle.now c.take_bundle.result held (sym there) c.take_bundle.ensures in
-    ended s (Deliver c.args.bundle c.args.region) c.take_bundle.result _ step _
-    (state_after w.settings w.regions.items w.bundles.items c.self.invariant.0 c.args.region c.in-Ok.at at p is c.take_bundle.new.ledger) _ c.self.view_is
+    let q = c.deliver.new.self in
+    let k = c.self.invariant.1 in
+    let step = deliver_step s c.args.bundle c.args.region p.1 q.1 k.0 c.in-Some.bundle.now c.deliver.result (k.1.held c.args.region p.1 held)
+    (k.1.carried c.args.bundle c.in-Some.bundle.now (sym there)).0 held (sym there) c.deliver.ensures.takes in
+    ended s (Deliver c.args.bundle c.args.region) c.deliver.result _ step _
+    (state_after w.settings w.regions.items w.bundles.items c.self.invariant.0 c.args.region c.in-Ok.at at p is q c.deliver.ensures.number) _ c.self.view_is
 
 pub returns-in-None : goal.returns-in-None
 returns-in-None c =
@@ -71,7 +75,6 @@ returns-in-None c =
         ap (λ s. is_some (map.get s.regions c.args.region)) (sym c.self.view_is)
             ∙ found_at w.settings w.regions.items w.bundles.items c.self.invariant.0 c.args.region c.in-Ok.at at,
         ap (λ s. slice_get s.bundles c.args.bundle) (sym c.self.view_is) ∙ sym none,
-        refl,
-        refl,
+        (refl, refl),
       ),
     )

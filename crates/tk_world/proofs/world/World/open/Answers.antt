@@ -12,8 +12,7 @@ returns-in-Ok c =
       (
         ap (λ s. is_some (map.get s.regions c.args.number)) (sym c.self.view_is)
             ∙ found_at w.settings w.regions.items w.bundles.items c.self.invariant.0 c.args.number c.in-Ok.field-0 at,
-        refl,
-        refl,
+        (refl, refl),
       ),
     )
 

@@ -11,8 +11,7 @@ returns-in-Err c =
       (
         ap (λ s. map.get s.regions c.args.region) (sym c.self.view_is)
             ∙ absent_at w.settings w.regions.items w.bundles.items c.self.invariant.0 c.args.region c.in-Err.field-0 (rw c.deref.ensures.value at c.in-Err.ensures),
-        refl,
-        refl,
+        (refl, refl),
       ),
     )
 

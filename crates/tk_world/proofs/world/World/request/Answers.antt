@@ -1,8 +1,9 @@
-use Rattle.std.proofs.Common.{[], ap, sym, ◌∙◌, refl}
+use Rattle.std.proofs.Common.{[], ℕ, ◌<◌, ◌^◌, ap, sym, subst, ◌∙◌, refl}
 use Rattle.std.specs.FinMap as map
+use Rattle.tk_store.specs.NextDot.{next_serial}
 use Rattle.tk_world.specs.declared.event.Event.TheVariants.{Request}
 use Rattle.tk_world.proofs.ConsistencyLaws.{next_under}
-use Rattle.tk_world.proofs.PartLaws.{state, absent_at, held_at, sorted_after, state_after, request_step, ended, ended_keeps}
+use Rattle.tk_world.proofs.PartLaws.{state, absent_at, held_at, number_at, sorted_after, state_after, request_step, ended, ended_keeps}
 use Rattle.tk_world.proofs.world.World.request.Goals as goal
 
 pub returns-in-Err : goal.returns-in-Err
@@ -12,8 +13,7 @@ returns-in-Err c =
       (
         ap (λ s. map.get s.regions c.args.region) (sym c.self.view_is)
             ∙ absent_at w.settings w.regions.items w.bundles.items c.self.invariant.0 c.args.region c.in-Err.field-0 (rw c.deref.ensures.value at c.in-Err.ensures),
-        refl,
-        refl,
+        (refl, refl),
       ),
     )
 
@@ -25,7 +25,8 @@ answer-requires c =
     let is = c.index_mut.ensures.value in
     let s = state w.settings w.regions.items w.bundles.items in
     let held = held_at w.settings w.regions.items w.bundles.items c.self.invariant.0 c.args.region c.in-Ok.at at p is in
-    next_under s c.self.invariant.1 c.args.region p.1 held
+    let number = number_at w.settings w.regions.items w.bundles.items c.self.invariant.0 c.args.region c.in-Ok.at at p is in
+    subst (λ (n : ℕ). next_serial p.1 n < 2 ^ 63) (sym number) (next_under s c.self.invariant.1 c.args.region p.1 held)
 
 pub invariant_of-self : goal.invariant_of-self
 invariant_of-self c =
@@ -35,10 +36,13 @@ invariant_of-self c =
     let is = c.index_mut.ensures.value in
     let s = state w.settings w.regions.items w.bundles.items in
     let held = held_at w.settings w.regions.items w.bundles.items c.self.invariant.0 c.args.region c.in-Ok.at at p is in
-    let step = request_step s c.args.region p.1 c.answer.new.ledger c.args.now c.args.words.now c.args.request.now c.answer.result held c.answer.ensures in (
-      sorted_after w.settings w.regions.items w.bundles.items c.self.invariant.0 c.args.region c.in-Ok.at at p is c.answer.new.ledger,
-      ended_keeps s (Request c.args.region c.args.now c.args.words.now c.args.request.now) c.answer.result _ step _
-          (state_after w.settings w.regions.items w.bundles.items c.self.invariant.0 c.args.region c.in-Ok.at at p is c.answer.new.ledger) c.self.invariant.1,
+    let number = number_at w.settings w.regions.items w.bundles.items c.self.invariant.0 c.args.region c.in-Ok.at at p is in
+    let q = c.answer.new.self in
+    let asked = c.args.asked.now in
+    let step = request_step s c.args.region p.0 p.1 q.1 asked c.answer.result number held c.answer.ensures.commits in (
+      sorted_after w.settings w.regions.items w.bundles.items c.self.invariant.0 c.args.region c.in-Ok.at at p is q c.answer.ensures.number,
+      ended_keeps s (Request c.args.region asked.now asked.words asked.request) c.answer.result _ step _
+          (state_after w.settings w.regions.items w.bundles.items c.self.invariant.0 c.args.region c.in-Ok.at at p is q c.answer.ensures.number) c.self.invariant.1,
     )
 
 pub returns-in-Ok : goal.returns-in-Ok
@@ -49,6 +53,9 @@ returns-in-Ok c =
     let is = c.index_mut.ensures.value in
     let s = state w.settings w.regions.items w.bundles.items in
     let held = held_at w.settings w.regions.items w.bundles.items c.self.invariant.0 c.args.region c.in-Ok.at at p is in
-    let step = request_step s c.args.region p.1 c.answer.new.ledger c.args.now c.args.words.now c.args.request.now c.answer.result held c.answer.ensures in
-    ended s (Request c.args.region c.args.now c.args.words.now c.args.request.now) c.answer.result _ step _
-    (state_after w.settings w.regions.items w.bundles.items c.self.invariant.0 c.args.region c.in-Ok.at at p is c.answer.new.ledger) _ c.self.view_is
+    let number = number_at w.settings w.regions.items w.bundles.items c.self.invariant.0 c.args.region c.in-Ok.at at p is in
+    let q = c.answer.new.self in
+    let asked = c.args.asked.now in
+    let step = request_step s c.args.region p.0 p.1 q.1 asked c.answer.result number held c.answer.ensures.commits in
+    ended s (Request c.args.region asked.now asked.words asked.request) c.answer.result _ step _
+    (state_after w.settings w.regions.items w.bundles.items c.self.invariant.0 c.args.region c.in-Ok.at at p is q c.answer.ensures.number) _ c.self.view_is

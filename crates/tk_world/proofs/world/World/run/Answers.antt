@@ -1,7 +1,7 @@
 use Rattle.std.proofs.Common.{◌≡◌, ◌+◌, [], ◌∷◌, ◌++◌, take, ap, sym, ◌∙◌, arith}
 use Rattle.std.proofs.lemmas.Grind.{take_at_read}
 use Rattle.std.proofs.lemmas.List.{take_all}
-use Rattle.tk_world.proofs.RunLaws.{run_more, run_joins, run_counts}
+use Rattle.tk_world.proofs.RunLaws.{run_more, run_joins, run_alike, run_counts}
 use Rattle.tk_world.proofs.world.World.run.Goals as goal
 
 pub loop-event-preserved : goal.loop-event-preserved
@@ -20,8 +20,12 @@ loop-event-preserved c =
 pub returns-clause-run : goal.returns-clause-run
 returns-clause-run c =
     let i = c.loop-event.invariant in
-    let run = rw (take_all c.loop-event.event-index c.args.events.now c.loop-event-test.false) at i.run.1 in
-    (i.run.0, run, run_joins c.args.self.now c.args.events.now c.loop-event.outcomes.items i.run.0 c.loop-event.self run)
+    let run = rw (take_all c.loop-event.event-index c.args.events.now c.loop-event-test.false) at i.run.1 in (
+      i.run.0,
+      run,
+      run_joins c.args.self.now c.args.events.now c.loop-event.outcomes.items i.run.0 c.loop-event.self run,
+      run_alike c.args.self.now c.args.events.now c.loop-event.outcomes.items i.run.0 c.loop-event.self run,
+    )
 
 pub returns-clause-count : goal.returns-clause-count
 returns-clause-count c =

@@ -1,0 +1,21 @@
+//! What a region is asked: all that an answer depends on beside the facts and the place.
+
+use crate::request::Request;
+use std::marker::Model;
+use tk_handle::Moment;
+
+/// A request, and what comes with it: the moment, and six random words.
+#[derive(Debug, Drop)]
+pub(crate) struct Asked<'a> {
+    pub(crate) now: Moment,
+    pub(crate) words: &'a [u64; 6],
+    pub(crate) request: &'a Request,
+}
+
+impl<'a> Model for Asked<'a> {
+    ghost use Rattle.tk_world.specs.AskedFields.{AskedFields};
+
+    ghost Value = { AskedFields };
+
+    ghost view = { λ a. record { now = a.now; words = a.words.now; request = a.request.now } };
+}
