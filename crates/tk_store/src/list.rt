@@ -1,3 +1,5 @@
+//! Facts in a list that rises by dot.
+
 ghost use Rattle.std.specs.Prelude.{◌≡◌, ◌<◌, ◌≤◌, ◌^◌, T, IfOk, OnOk, OnErr, MatchResult, take, map, filter, length, vec_len, insert, slice_get};
 ghost use Rattle.std.specs.Option.{option_copied};
 ghost use Rattle.std.specs.FinMap as sets;

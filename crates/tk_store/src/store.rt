@@ -1,3 +1,5 @@
+//! A store of facts.
+
 use std::marker::Model;
 use tk_fact::Fact;
 

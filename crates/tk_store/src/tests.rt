@@ -1,3 +1,5 @@
+//! What a store holds, walks over and leaves out.
+
 ghost use Rattle.std.specs.Prelude.{◌≡◌, None};
 ghost use Rattle.tk_fact.specs.Check.{refusal_of};
 

@@ -1,3 +1,5 @@
+//! A version vector, and what it covers.
+
 use std::marker::Model;
 use tk_handle::{Dot, RegionNumber, Serial};
 
