@@ -34,10 +34,9 @@ pub(crate) fn answer(
     requires { next_serial (known_in ledger.old) region ≤ settings.now.cap + 1 }
     ensures { Commits (next_dot (known_in ledger.old) region) (spec.decided settings.now.cap ledger.old region now words.now request.now) ledger.old result ledger.new }
 {
-    let serial = ledger.store().next_serial(region);
     // The proof reads the cap's range from this call.
     let _cap = settings.cap();
-    match Dot::new(region, serial) {
+    match ledger.store().next_dot(region) {
         Some(next) => answer_at(alloc, settings, next, ledger, now, words, request),
         None => unreachable!(),
     }

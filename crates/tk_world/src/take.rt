@@ -1,7 +1,7 @@
 ghost use Rattle.std.specs.Prelude.{◌≡◌, ◌≤◌, ◌+◌, length, IfOk, OnErr, Some, None};
 ghost use Rattle.std.specs.FinMap as sets;
 ghost use Rattle.tk_fact.specs.Check.{refusal_of};
-ghost use Rattle.tk_store.specs.FactSet.{FactSet, IsFactSet, AllIn, Within};
+ghost use Rattle.tk_store.specs.FactSet.{FactSet, IsFactSet, AllIn, IsSubset};
 ghost use Rattle.tk_world.specs.Parts.{Takes};
 ghost use Rattle.tk_fact.specs.declared.body.Body.{Body};
 
@@ -14,7 +14,7 @@ use tk_store::{AddError, Added};
 
 // Reads the bundle, and adds its facts.
 pub(crate) fn take_bundle(alloc: Global, ledger: &mut Ledger, bundle: &MadeBundle) -> Outcome
-    requires agree { (U : FactSet) × IsFactSet U × Within ledger.old U × AllIn U bundle.now }
+    requires agree { (U : FactSet) × IsFactSet U × IsSubset ledger.old U × AllIn U bundle.now }
     requires few { length bundle.now ≤ 128 }
     ensures { Takes ledger.old bundle.now result ledger.new }
 {
@@ -26,7 +26,7 @@ pub(crate) fn take_bundle(alloc: Global, ledger: &mut Ledger, bundle: &MadeBundl
 
 // Adds copies of the facts, one after another, and counts those that are new.
 fn take_facts(alloc: Global, ledger: &mut Ledger, facts: &[Fact]) -> Outcome
-    requires agree { (U : FactSet) × IsFactSet U × Within ledger.old U × AllIn U facts.now }
+    requires agree { (U : FactSet) × IsFactSet U × IsSubset ledger.old U × AllIn U facts.now }
     requires few { length facts.now ≤ 128 }
     ensures { Takes ledger.old facts.now result ledger.new }
 {
