@@ -21,7 +21,7 @@ use Rattle.tk_vector.specs.VersionVector.{Vector}
 use Rattle.tk_store.specs.FactSet.{FactSet, Facts, AllIn, dot_of}
 use Rattle.tk_store.specs.Beyond.{beyond, is_beyond}
 use Rattle.tk_store.proofs.EntryLaws.{AllIn-entries}
-use Rattle.tk_store.proofs.WithinLaws.{AllIn-take, AllIn-filter}
+use Rattle.tk_store.proofs.SubsetLaws.{AllIn-take, AllIn-filter}
 use Rattle.tk_bundle.specs.declared.page.Page.{Page}
 use Rattle.tk_bundle.specs.Bundle.{ascends, bundle}
 use Rattle.tk_bundle.specs.Page.{fact_at, facts_at, last_of, page_within, IsPageAt, IsPageOf}

@@ -6,7 +6,7 @@
 use Rattle.std.specs.Prelude.{ℕ, Bool, ◌==◌, is_none, List, Option, None, if◌then◌else◌}
 use Rattle.tk_format.specs.Format.{Format, ◌⊗◌, only, choice, via, sized}
 use Rattle.tk_handle.specs.declared.dot.Dot.{Dot}
-use Rattle.tk_handle.specs.Place.{place}
+use Rattle.tk_handle.specs.DotBytes.{dot_field}
 use Rattle.tk_fact.specs.declared.body.Body.{Body}
 use Rattle.tk_fact.specs.declared.body.Body.TheVariants as bodies
 use Rattle.tk_fact.specs.Check.{refusal_of}
@@ -69,7 +69,7 @@ passes f = is_none (refusal_of f.1)
 
 -- the dot and the body, where the fact passes its check
 abbrev pub fact : Format (Dot × Body)
-fact = only passes (place ⊗ body)
+fact = only passes (dot_field ⊗ body)
 
 abbrev pub fact_bytes : Dot × Body → List ℕ
 fact_bytes f = fact.spell f

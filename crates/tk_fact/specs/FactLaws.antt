@@ -2,7 +2,7 @@
 use Rattle.std.proofs.Common.{◌≡◌, ℕ, List, ◌++◌, Some, refl}
 use Rattle.tk_format.specs.Exact.{IsBytes, IsExact}
 use Rattle.tk_format.specs.Laws.{Follows, u16_exact, text_exact, both_exact, only_exact, shaped_exact, choice_exact, via_again, sized_exact}
-use Rattle.tk_handle.proofs.FormatLaws.{place_exact, moment_exact, token_exact}
+use Rattle.tk_handle.proofs.FormatLaws.{dot_field_exact, moment_exact, token_exact}
 use Rattle.tk_fact.specs.declared.body.Body.{Body}
 use Rattle.tk_fact.specs.declared.body.Body.TheVariants as bodies
 use Rattle.tk_fact.specs.Kinds.{client_added, client_retired, consent_given, consent_withdrawn, code_issued, code_redeemed, refresh_rotated, token_revoked, reuse_seen}
@@ -13,27 +13,27 @@ client_added_exact : IsExact client_added
 client_added_exact = shaped_exact _ _ _ (both_exact _ _ sort_exact (both_exact _ _ scope_exact redirects_exact)) (λ _. refl) (λ _. refl)
 
 client_retired_exact : IsExact client_retired
-client_retired_exact = shaped_exact _ _ _ place_exact (λ _. refl) (λ _. refl)
+client_retired_exact = shaped_exact _ _ _ dot_field_exact (λ _. refl) (λ _. refl)
 
 consent_given_exact : IsExact consent_given
-consent_given_exact = shaped_exact _ _ _ (both_exact _ _ place_exact (both_exact _ _ text_exact scope_exact)) (λ _. refl) (λ _. refl)
+consent_given_exact = shaped_exact _ _ _ (both_exact _ _ dot_field_exact (both_exact _ _ text_exact scope_exact)) (λ _. refl) (λ _. refl)
 
 consent_withdrawn_exact : IsExact consent_withdrawn
-consent_withdrawn_exact = shaped_exact _ _ _ place_exact (λ _. refl) (λ _. refl)
+consent_withdrawn_exact = shaped_exact _ _ _ dot_field_exact (λ _. refl) (λ _. refl)
 
 code_issued_exact : IsExact code_issued
 code_issued_exact = shaped_exact _ _ _
-    (both_exact _ _ place_exact (both_exact _ _ place_exact (both_exact _ _ digest_exact (both_exact _ _ moment_exact (both_exact _ _ moment_exact (both_exact _ _ moment_exact
+    (both_exact _ _ dot_field_exact (both_exact _ _ dot_field_exact (both_exact _ _ digest_exact (both_exact _ _ moment_exact (both_exact _ _ moment_exact (both_exact _ _ moment_exact
     (both_exact _ _ text_exact (both_exact _ _ scope_exact (both_exact _ _ text_exact (both_exact _ _ flag_exact challenge_exact)))))))))) (λ _. refl) (λ _. refl)
 
 code_redeemed_exact : IsExact code_redeemed
-code_redeemed_exact = shaped_exact _ _ _ (both_exact _ _ place_exact (both_exact _ _ moment_exact (both_exact _ _ minted_exact minted_exact))) (λ _. refl) (λ _. refl)
+code_redeemed_exact = shaped_exact _ _ _ (both_exact _ _ dot_field_exact (both_exact _ _ moment_exact (both_exact _ _ minted_exact minted_exact))) (λ _. refl) (λ _. refl)
 
 refresh_rotated_exact : IsExact refresh_rotated
-refresh_rotated_exact = shaped_exact _ _ _ (both_exact _ _ place_exact (both_exact _ _ u16_exact (both_exact _ _ moment_exact (both_exact _ _ minted_exact minted_exact)))) (λ _. refl) (λ _. refl)
+refresh_rotated_exact = shaped_exact _ _ _ (both_exact _ _ dot_field_exact (both_exact _ _ u16_exact (both_exact _ _ moment_exact (both_exact _ _ minted_exact minted_exact)))) (λ _. refl) (λ _. refl)
 
 token_revoked_exact : IsExact token_revoked
-token_revoked_exact = shaped_exact _ _ _ (both_exact _ _ token_exact (both_exact _ _ digest_exact place_exact)) (λ _. refl) (λ _. refl)
+token_revoked_exact = shaped_exact _ _ _ (both_exact _ _ token_exact (both_exact _ _ digest_exact dot_field_exact)) (λ _. refl) (λ _. refl)
 
 reuse_seen_exact : IsExact reuse_seen
 reuse_seen_exact = shaped_exact _ _ _ token_exact (λ _. refl) (λ _. refl)
@@ -66,7 +66,7 @@ body_exact : IsExact body
 body_exact = choice_exact body_tag body_fields BodyFits body_cases (record { takes = body_takes; again = body_again })
 
 pub fact_exact : IsExact fact
-fact_exact = only_exact passes _ (both_exact _ _ place_exact body_exact)
+fact_exact = only_exact passes _ (both_exact _ _ dot_field_exact body_exact)
 
 pub framed_exact : IsExact framed
 framed_exact = sized_exact most_bytes fact fact_exact

@@ -2,7 +2,7 @@
 use Rattle.std.specs.Int.{w16}
 use Rattle.tk_format.specs.Format.{Format, ◌⊗◌, number, text, shaped}
 use Rattle.tk_handle.specs.Moment.{moment}
-use Rattle.tk_handle.specs.Place.{place}
+use Rattle.tk_handle.specs.DotBytes.{dot_field}
 use Rattle.tk_handle.specs.TokenId.{token}
 use Rattle.tk_fact.specs.Fields.{digest_field, sort_field, scope_field, redirects_field, flag_field, challenge_field, minted_field}
 use Rattle.tk_fact.specs.declared.client_added.ClientAdded.{ClientAdded}
@@ -22,16 +22,16 @@ client_added = shaped
     (sort_field ⊗ (scope_field ⊗ redirects_field))
 
 abbrev pub client_retired : Format ClientRetired
-client_retired = shaped (λ d. record { client = d }) (λ f. f.client) place
+client_retired = shaped (λ d. record { client = d }) (λ f. f.client) dot_field
 
 abbrev pub consent_given : Format ConsentGiven
 consent_given = shaped
     (λ p. record { client = p.0; subject = p.1.0; scope = p.1.1 })
     (λ f. (f.client, (f.subject, f.scope)))
-    (place ⊗ (text ⊗ scope_field))
+    (dot_field ⊗ (text ⊗ scope_field))
 
 abbrev pub consent_withdrawn : Format ConsentWithdrawn
-consent_withdrawn = shaped (λ d. record { consent = d }) (λ f. f.consent) place
+consent_withdrawn = shaped (λ d. record { consent = d }) (λ f. f.consent) dot_field
 
 abbrev pub code_issued : Format CodeIssued
 code_issued = shaped
@@ -49,25 +49,25 @@ code_issued = shaped
       challenge = p.1.1.1.1.1.1.1.1.1.1;
     })
     (λ f. (f.client, (f.consent, (f.digest, (f.start, (f.expiry, (f.family_end, (f.subject, (f.scope, (f.uri, (f.sent, f.challenge)))))))))))
-    (place ⊗ (place ⊗ (digest_field ⊗ (moment ⊗ (moment ⊗ (moment ⊗ (text ⊗ (scope_field ⊗ (text ⊗ (flag_field ⊗ challenge_field))))))))))
+    (dot_field ⊗ (dot_field ⊗ (digest_field ⊗ (moment ⊗ (moment ⊗ (moment ⊗ (text ⊗ (scope_field ⊗ (text ⊗ (flag_field ⊗ challenge_field))))))))))
 
 abbrev pub code_redeemed : Format CodeRedeemed
 code_redeemed = shaped
     (λ p. record { code = p.0; start = p.1.0; access = p.1.1.0; refresh = p.1.1.1 })
     (λ f. (f.code, (f.start, (f.access, f.refresh))))
-    (place ⊗ (moment ⊗ (minted_field ⊗ minted_field)))
+    (dot_field ⊗ (moment ⊗ (minted_field ⊗ minted_field)))
 
 abbrev pub refresh_rotated : Format RefreshRotated
 refresh_rotated = shaped
     (λ p. record { parent = p.0; generation = p.1.0; start = p.1.1.0; access = p.1.1.1.0; refresh = p.1.1.1.1 })
     (λ f. (f.parent, (f.generation, (f.start, (f.access, f.refresh)))))
-    (place ⊗ (number w16 ⊗ (moment ⊗ (minted_field ⊗ minted_field))))
+    (dot_field ⊗ (number w16 ⊗ (moment ⊗ (minted_field ⊗ minted_field))))
 
 abbrev pub token_revoked : Format TokenRevoked
 token_revoked = shaped
     (λ p. record { token = p.0; digest = p.1.0; client = p.1.1 })
     (λ f. (f.token, (f.digest, f.client)))
-    (token ⊗ (digest_field ⊗ place))
+    (token ⊗ (digest_field ⊗ dot_field))
 
 abbrev pub reuse_seen : Format ReuseSeen
 reuse_seen = shaped (λ t. record { token = t }) (λ f. f.token) token

@@ -16,7 +16,7 @@ use Rattle.tk_scope.specs.declared.error.ScopeError.{ScopeError}
 use Rattle.tk_match.specs.Redirects.{is_uri}
 use Rattle.tk_match.specs.Challenge.{ChallengeFields}
 use Rattle.tk_handle.specs.declared.dot.Dot.{Dot}
-use Rattle.tk_handle.specs.Place.{place}
+use Rattle.tk_handle.specs.DotBytes.{dot_field}
 use Rattle.tk_handle.specs.Moment.{moment}
 use Rattle.tk_fact.specs.declared.sort.Sort.{Sort}
 use Rattle.tk_fact.specs.declared.sort.Sort.TheVariants.{Public, Confidential, Resource}
@@ -61,8 +61,8 @@ code_fits f h =
 -- ---- lengths of the fields
 
 -- a dot has 10 bytes at most
-place_short : (d : Dot) → length (place.spell d) ≤ 10
-place_short d = both_short (number_spelling w16 d.region) (number_spelling w64 d.serial) 2 8 (omega (arith, number_length w16 d.region)) (omega (arith, number_length w64 d.serial))
+dot_short : (d : Dot) → length (dot_field.spell d) ≤ 10
+dot_short d = both_short (number_spelling w16 d.region) (number_spelling w64 d.serial) 2 8 (omega (arith, number_length w16 d.region)) (omega (arith, number_length w64 d.serial))
 
 -- a moment 8
 moment_short : (n : ℕ) → length (moment.spell n) ≤ 8
@@ -110,20 +110,20 @@ sort_short (Resource d) fits = omega (arith, fits)
 body_short : (b : Body) → BodyFits b → keeps_limits b ≡ true → length (body.spell b) ≤ 8000
 body_short (bodies.ClientAdded f) fits h =
     simp length-append (omega (arith, sort_short f.sort fits.0, scope_short f.scope fits.1.0, simp length-append at (redirects_short f.redirects fits.1.1)))
-body_short (bodies.ClientRetired f) fits h = simp length-append (omega (arith, simp length-append at (place_short f.client)))
+body_short (bodies.ClientRetired f) fits h = simp length-append (omega (arith, simp length-append at (dot_short f.client)))
 body_short (bodies.ConsentGiven f) fits h =
-    simp length-append (omega (arith, simp length-append at (place_short f.client), text_short f.subject 128 (subject_short f.subject h), scope_short f.scope fits.1.1))
-body_short (bodies.ConsentWithdrawn f) fits h = simp length-append (omega (arith, simp length-append at (place_short f.consent)))
+    simp length-append (omega (arith, simp length-append at (dot_short f.client), text_short f.subject 128 (subject_short f.subject h), scope_short f.scope fits.1.1))
+body_short (bodies.ConsentWithdrawn f) fits h = simp length-append (omega (arith, simp length-append at (dot_short f.consent)))
 body_short (bodies.CodeIssued f) fits h =
     let outer = both_true (is_subject f.subject && is_uri f.uri) (is_challenge f.challenge) h in
     let inner = both_true (is_subject f.subject) (is_uri f.uri) outer.0 in
-    simp length-append (omega (arith, simp length-append at (place_short f.client), simp length-append at (place_short f.consent), fits.1.1.0, moment_short f.start, moment_short f.expiry, moment_short f.family_end, text_short f.subject 128 (subject_short f.subject inner.0), scope_short f.scope fits.1.1.1.1.1.1.1.0, text_short f.uri 512 (uri_short f.uri inner.1), challenge_short f.challenge fits.1.1.1.1.1.1.1.1.1.1))
+    simp length-append (omega (arith, simp length-append at (dot_short f.client), simp length-append at (dot_short f.consent), fits.1.1.0, moment_short f.start, moment_short f.expiry, moment_short f.family_end, text_short f.subject 128 (subject_short f.subject inner.0), scope_short f.scope fits.1.1.1.1.1.1.1.0, text_short f.uri 512 (uri_short f.uri inner.1), challenge_short f.challenge fits.1.1.1.1.1.1.1.1.1.1))
 body_short (bodies.CodeRedeemed f) fits h =
-    simp length-append (omega (arith, simp length-append at (place_short f.code), moment_short f.start, simp length-append at (minted_short f.access fits.1.1.0), simp length-append at (minted_short f.refresh fits.1.1.1)))
+    simp length-append (omega (arith, simp length-append at (dot_short f.code), moment_short f.start, simp length-append at (minted_short f.access fits.1.1.0), simp length-append at (minted_short f.refresh fits.1.1.1)))
 body_short (bodies.RefreshRotated f) fits h =
-    simp length-append (omega (arith, simp length-append at (place_short f.parent), number_length w16 f.generation, moment_short f.start, simp length-append at (minted_short f.access fits.1.1.1.0), simp length-append at (minted_short f.refresh fits.1.1.1.1)))
-body_short (bodies.TokenRevoked f) fits h = simp length-append (omega (arith, simp length-append at (place_short f.token.dot), fits.1.0, simp length-append at (place_short f.client)))
-body_short (bodies.ReuseSeen f) fits h = simp length-append (omega (arith, simp length-append at (place_short f.token.dot)))
+    simp length-append (omega (arith, simp length-append at (dot_short f.parent), number_length w16 f.generation, moment_short f.start, simp length-append at (minted_short f.access fits.1.1.1.0), simp length-append at (minted_short f.refresh fits.1.1.1.1)))
+body_short (bodies.TokenRevoked f) fits h = simp length-append (omega (arith, simp length-append at (dot_short f.token.dot), fits.1.0, simp length-append at (dot_short f.client)))
+body_short (bodies.ReuseSeen f) fits h = simp length-append (omega (arith, simp length-append at (dot_short f.token.dot)))
 
 passed : (o : Option FactError) → is_none o ≡ true → o ≡ None
 passed None h = refl
@@ -131,7 +131,7 @@ passed (Some e) h = absurd cc
 
 -- a fact has 8,192 bytes at most
 pub fact_short : (f : Dot × Body) → fact.Fits f → length (fact.spell f) ≤ 8192
-fact_short f fits = omega (arith, length-append (place.spell f.0) (body.spell f.1), place_short f.0, body_short f.1 fits.0.1 (limits_kept f.1 (passed (refusal_of f.1) fits.1)))
+fact_short f fits = omega (arith, length-append (dot_field.spell f.0) (body.spell f.1), dot_short f.0, body_short f.1 fits.0.1 (limits_kept f.1 (passed (refusal_of f.1) fits.1)))
 
 -- so it has a spelling behind its length
 pub framed_fits : (f : Dot × Body) → fact.Fits f → framed.Fits f

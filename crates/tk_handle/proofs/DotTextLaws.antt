@@ -1,26 +1,25 @@
--- The text of an id is read back, and nothing else is read (`reads`), whatever its first letter is.
-use Rattle.std.proofs.Common.{◌≡◌, ℕ, ◌+◌, ◌<◌, ◌≤◌, ◌^◌, true, false, ◌&&◌, ◌==◌, nat_lt, nat_le, cond, List, [], ◌∷◌, ◌++◌, length, get_or, take, drop, Option, Some, None, suc, refl, sym, ap, subst, ◌∙◌, arith, decimal}
-use Rattle.std.specs.List.{position, position_or_len}
-use Rattle.std.specs.Str.Parse.{AllDigits, digits_value}
-use Rattle.std.proofs.lemmas.Str.Parse.{IsNumeralModel, numerals_by_value, tells_digits, digit_at}
-use Rattle.std.proofs.lemmas.Fmt.{digits_decimal, decimal_nonempty}
-use Rattle.std.proofs.lemmas.List.Sums.{position_or_len_is}
-use Rattle.std.proofs.lemmas.List.Quantifiers.{position-Some}
+-- The texts of dots and ids are read back, and nothing else is read. Key results:
+--   parted_back, parted_found   the test finds the dot of a text, and only there
+--   reads_parted                so it finds exactly the dots of texts
+--   reads_id                    and exactly the dots of ids, whatever the letter is
+--   parted_injective            two dots of one text are one
+use Rattle.std.proofs.Common.{◌≡◌, ◌≢◌, ℕ, ◌+◌, ◌<◌, ◌≤◌, ◌^◌, Bool, true, false, ◌&&◌, ◌==◌, cond, List, [], ◌∷◌, ◌++◌, length, get_or, take, drop, Option, Some, None, IfSome, IfNone, MatchOption, suc, refl, sym, ap, subst, ◌∙◌, arith, decimal, inl, inr}
+use Rattle.std.specs.Int.{IsInRange}
+use Rattle.std.specs.List.{position_or_len, before_first, after_first}
+use Rattle.std.specs.Str.Parse.{AllDigits}
+use Rattle.std.proofs.lemmas.Bool.{cases_lt}
 use Rattle.std.proofs.lemmas.Bool.Decides.{nat_tests}
+use Rattle.std.proofs.lemmas.Fmt.{digits_decimal, decimal_nonempty, decimal_injective}
 use Rattle.std.proofs.lemmas.Grind.{common_steps}
+use Rattle.std.proofs.lemmas.List.{length-drop}
+use Rattle.std.proofs.lemmas.List.Sums.{position_or_len_is, split_at_first, passes_at_first}
+use Rattle.std.proofs.lemmas.Str.Parse.{not_in_digits}
+use Rattle.tk_format.specs.Decimals.{decimal_in}
+use Rattle.tk_format.proofs.DecimalLaws.{own, decimal_back, decimal_found}
 use Rattle.tk_handle.specs.declared.dot.Dot.{Dot}
 use Rattle.tk_handle.specs.Dot.{IsDot}
-use Rattle.tk_handle.specs.DotText.{dot_text, number_in, dot_in, is_dash, before, after, spelled_in, ReadsDot}
-use Rattle.tk_handle.proofs.NumberTexts.{IsDecimalOf, Numbers, numbers_in, is_number_in}
-
-own : IsNumeralModel (AllDigits 10) (digits_value 10)
-own = numerals_by_value (AllDigits 10) tells_digits
-
-not_dash : (b : ℕ) → 48 ≤ b → is_dash b ≡ false
-not_dash b h = grind (arith, nat_tests)
-
-dash_is : (b : ℕ) → is_dash b ≡ true → b ≡ 45
-dash_is b h = grind (arith, nat_tests)
+use Rattle.tk_handle.specs.Ranges.{is_region, is_serial, IsRegion, IsSerial}
+use Rattle.tk_handle.specs.DotText.{colon, dash, parted_text, id_text, IsPartedText, IsDotText, IsNoDotText, IsIdText, IsNoIdText, ReadsId, dot_at, parted_in, id_in}
 
 -- ---- lists
 
@@ -44,98 +43,156 @@ drop_right xs ys c = subst (λ n. drop n (xs ++ c ∷ ys) ≡ ys) {x = suc (leng
 longer : (xs ys : List ℕ) (c : ℕ) → length xs < length (xs ++ c ∷ ys)
 longer xs ys c = grind (arith, common_steps)
 
-test_from_lt : (a b : ℕ) → a < b → nat_lt a b ≡ true
-test_from_lt a b h = grind (arith, nat_tests)
+-- ---- numbers
 
--- ---- there
+other_than : (b c : ℕ) → b ≢ c → (b == c) ≡ false
+other_than b c h = grind (arith, nat_tests)
 
-dash_after : (ds ys : List ℕ) → AllDigits 10 ds → position is_dash (ds ++ 45 ∷ ys) ≡ Some (length ds)
-dash_after ds ys all =
-    let at : position_or_len is_dash (ds ++ 45 ∷ ys) ≡ length ds =
-    position_or_len_is is_dash (ds ++ 45 ∷ ys) (length ds) 0 (let l = longer ds ys 45 in omega arith)
-    (λ k lt. ap is_dash (get_or_left ds (45 ∷ ys) k lt) ∙ not_dash _ (digit_at ds k all lt).0)
-    (λ _. ap is_dash (get_or_seam ds ys 45)) in
-    ap (λ n. cond (nat_lt n (length (ds ++ 45 ∷ ys))) (Some n) None) at
-    ∙ ap (λ t. cond t (Some (length ds)) None) (test_from_lt _ _ (longer ds ys 45))
+itself : (c : ℕ) → (c == c) ≡ true
+itself c = grind (arith, nat_tests)
 
-in_range : (r s : ℕ) → 0 < r → r < 2 ^ 16 → 0 < s → s < 2 ^ 63 → dot_in (Some r) (Some s) ≡ Some (record { region = r; serial = s })
-in_range r s a b c d = grind (arith, nat_tests)
-
-same_letter : (letter : ℕ) → letter == letter ≡ true
-same_letter letter = grind (arith, nat_tests)
-
-number_back : (n : ℕ) → 0 < n → n < 2 ^ 64 → number_in (decimal n) ≡ Some n
-number_back n low high = sym (is_number_in (decimal n) (Some n) (record { low = low; high = high; same = refl }))
-
-pub read_back : (letter : ℕ) (d : Dot) → IsDot d → spelled_in letter (dot_text letter d) ≡ Some d
-read_back letter d h =
-    let dr = decimal d.region in
-    let ds = decimal d.serial in
-    let at = dash_after dr ds (digits_decimal own d.region (let p = h.1 in omega arith)) in
-    ap (λ t. cond t (dot_in (number_in (before (position is_dash (dr ++ 45 ∷ ds)) (dr ++ 45 ∷ ds))) (number_in (after (position is_dash (dr ++ 45 ∷ ds)) (dr ++ 45 ∷ ds)))) None) (same_letter letter)
-    ∙ ap (λ o. dot_in (number_in (before o (dr ++ 45 ∷ ds))) (number_in (after o (dr ++ 45 ∷ ds)))) at
-    ∙ ap (λ t. dot_in (number_in t) (number_in (drop (length dr + 1) (dr ++ 45 ∷ ds)))) (take_left dr (45 ∷ ds))
-    ∙ ap (λ t. dot_in (number_in dr) (number_in t)) (drop_right dr ds 45)
-    ∙ ap (λ o. dot_in o (number_in ds)) (number_back d.region h.0 (let p = h.1 in omega arith))
-    ∙ ap (dot_in (Some d.region)) (number_back d.serial h.2 (let p = h.3 in omega arith))
-    ∙ in_range d.region d.serial h.0 h.1 h.2 h.3
-
--- ---- and back
+same_number : (b c : ℕ) → (b == c) ≡ true → b ≡ c
+same_number b c h = grind (arith, nat_tests)
 
 none_is_not_some : {A : Type 0} (x : A) → ¬ (None ≡ Some x)
 none_is_not_some x h = cc
 
-parts_of : (x y : Option ℕ) (d : Dot) → dot_in x y ≡ Some d → (x ≡ Some d.region) × (y ≡ Some d.serial) × IsDot d
-parts_of None y d h = absurd (none_is_not_some d h)
-parts_of (Some r) None d h = absurd (none_is_not_some d h)
-parts_of (Some r) (Some s) d h =
-    elim ((nat_lt 0 r && nat_le r 65535) && (nat_lt 0 s && nat_lt s (2 ^ 63))) as (λ t. ((nat_lt 0 r && nat_le r 65535) && (nat_lt 0 s && nat_lt s (2 ^ 63))) ≡ t → cond t (Some (record { region = r; serial = s })) None ≡ Some d → (Some r ≡ Some d.region) × (Some s ≡ Some d.serial) × IsDot d) [
+-- the numbers of a dot fit 64 bits
+region_fits : (d : Dot) → IsDot d → d.region < 2 ^ 64
+region_fits d h = omega arith
+
+serial_fits : (d : Dot) → IsDot d → d.serial < 2 ^ 64
+serial_fits d h = omega arith
+
+in_range : (r s : ℕ) → IsRegion r → IsSerial s → dot_at (Some r) (Some s) ≡ Some (record { region = r; serial = s })
+in_range r s a b = grind (arith, nat_tests)
+
+-- the numbers of a dot that was found, and their ranges
+numbers_of : (x y : Option ℕ) (d : Dot) → dot_at x y ≡ Some d → (x ≡ Some d.region) × (y ≡ Some d.serial) × IsDot d
+numbers_of None y d h = absurd (none_is_not_some d h)
+numbers_of (Some r) None d h = absurd (none_is_not_some d h)
+numbers_of (Some r) (Some s) d h =
+    elim (is_region r && is_serial s) as (λ t. (is_region r && is_serial s) ≡ t → cond t (Some (record { region = r; serial = s })) None ≡ Some d → (Some r ≡ Some d.region) × (Some s ≡ Some d.serial) × IsDot d) [
       | true ↦ λ t k.
           let same : record { region = r; serial = s } ≡ d = some_injective k in
           let region : r ≡ d.region = ap (λ (x : Dot). x.region) same in
           let serial : s ≡ d.serial = ap (λ (x : Dot). x.serial) same in
           let a = ranges r s t in
-          (ap Some region, ap Some serial, (omega (arith, a.0, region), omega (arith, a.1, region), omega (arith, a.2, serial), omega (arith, a.3, serial)))
+          (ap Some region, ap Some serial, (subst IsRegion region a.0, subst IsSerial serial a.1))
       | false ↦ λ _ k. absurd (none_is_not_some d k)
     ] refl h
   where
     some_injective : {x y : Dot} → Some x ≡ Some y → x ≡ y
     some_injective h = cc
 
-    ranges : (r s : ℕ) → ((nat_lt 0 r && nat_le r 65535) && (nat_lt 0 s && nat_lt s (2 ^ 63))) ≡ true → (0 < r) × (r < 2 ^ 16) × (0 < s) × (s < 2 ^ 63)
-    ranges r s t = grind (arith, nat_tests)
+    ranges : (r s : ℕ) → (is_region r && is_serial s) ≡ true → IsRegion r × IsSerial s
+    ranges r s t = let a : IsRegion r = grind (arith, nat_tests) in let b : IsSerial s = grind (arith, nat_tests) in (a, b)
 
-split_at : (xs : List ℕ) (i : ℕ) → i < length xs → take i xs ++ get_or xs i 0 ∷ drop (i + 1) xs ≡ xs
-split_at xs i lt = grind (arith, common_steps)
+-- ---- with any byte that is no digit between the numbers
 
-pub read_only : (letter : ℕ) (text : List ℕ) (d : Dot) → spelled_in letter text ≡ Some d → IsDot d × (text ≡ dot_text letter d)
-read_only letter [] d h = absurd (none_is_not_some d h)
-read_only letter (b ∷ rest) d h =
-    elim (b == letter) as (λ t. b == letter ≡ t → cond t (dot_in (number_in (before (position is_dash rest) rest)) (number_in (after (position is_dash rest) rest))) None ≡ Some d → IsDot d × (b ∷ rest ≡ dot_text letter d)) [
+module _ (mark : ℕ) (parts : ¬ (IsInRange 48 57 mark)) where
+  -- a number's decimal has no such byte
+  no_mark : (n : ℕ) → n < 2 ^ 64 → (i : ℕ) → i < length (decimal n) → get_or (decimal n) i 0 ≢ mark
+  no_mark n high = not_in_digits own (decimal n) mark (digits_decimal own n high) parts
+
+  -- so the first is right after the first number
+  mark_at : (d : Dot) → IsDot d → position_or_len (λ b. b == mark) (parted_text mark d) ≡ length (decimal d.region)
+  mark_at d h =
+      let dr = decimal d.region in
+      let ds = decimal d.serial in
+      let l = longer dr ds mark in
+      position_or_len_is (λ b. b == mark) (dr ++ mark ∷ ds) (length dr) 0 (omega arith)
+      (λ k lt. ap (λ b. b == mark) (get_or_left dr (mark ∷ ds) k lt) ∙ other_than _ mark (no_mark d.region (region_fits d h) k lt))
+      (λ _. ap (λ b. b == mark) (get_or_seam dr ds mark) ∙ itself mark)
+
+  -- and the two numbers are what stands before and after it
+  pub before_mark : (d : Dot) → IsDot d → before_first (λ b. b == mark) (parted_text mark d) ≡ decimal d.region
+  before_mark d h = ap (λ n. take n (parted_text mark d)) (mark_at d h) ∙ take_left (decimal d.region) (mark ∷ decimal d.serial)
+
+  pub after_mark : (d : Dot) → IsDot d → after_first (λ b. b == mark) (parted_text mark d) ≡ decimal d.serial
+  after_mark d h = ap (λ n. drop (n + 1) (parted_text mark d)) (mark_at d h) ∙ drop_right (decimal d.region) (decimal d.serial) mark
+
+  pub parted_back : (d : Dot) → IsDot d → parted_in mark (parted_text mark d) ≡ Some d
+  parted_back d h =
+      ap (λ t. dot_at (decimal_in t) (decimal_in (after_first (λ b. b == mark) (parted_text mark d)))) (before_mark d h)
+      ∙ ap (λ t. dot_at (decimal_in (decimal d.region)) (decimal_in t)) (after_mark d h)
+      ∙ ap (λ o. dot_at o (decimal_in (decimal d.serial))) (decimal_back d.region (region_fits d h))
+      ∙ ap (dot_at (Some d.region)) (decimal_back d.serial (serial_fits d h))
+      ∙ in_range d.region d.serial h.0 h.1
+
+  -- two dots of one text are one
+  pub parted_injective : (a b : Dot) → IsDot a → IsDot b → parted_text mark a ≡ parted_text mark b → a ≡ b
+  parted_injective a b one other same = some_injective (sym (parted_back a one) ∙ ap (parted_in mark) same ∙ parted_back b other)
+    where
+      some_injective : {x y : Dot} → Some x ≡ Some y → x ≡ y
+      some_injective h = cc
+
+-- no second number stands behind a text without the byte
+nothing_behind : (mark : ℕ) (text : List ℕ) (n : ℕ) → length text ≤ position_or_len (λ b. b == mark) text → decimal_in (after_first (λ b. b == mark) text) ≢ Some n
+nothing_behind mark text n none e =
+    let h = decimal_found (after_first (λ b. b == mark) text) n e in
+    let long = decimal_nonempty n h.fits in
+    let same = ap length h.spelled in
+    let short = length-drop (position_or_len (λ b. b == mark) text + 1) text in
+    omega (arith, long, same, short)
+
+pub parted_found : (mark : ℕ) (text : List ℕ) (d : Dot) → parted_in mark text ≡ Some d → IsPartedText mark text d
+parted_found mark text d h =
+    let n = numbers_of _ _ d h in
+    elim (cases_lt (position_or_len (λ b. b == mark) text) (length text)) [
+      | inl there ↦ record {
+        range = n.2;
+        spelled =
+            split_at_first (λ b. b == mark) text 0 there
+            ∙ ap (λ (c : ℕ). before_first (λ b. b == mark) text ++ c ∷ after_first (λ b. b == mark) text) (same_number _ mark (passes_at_first (λ b. b == mark) text 0 there))
+            ∙ ap (λ l. l ++ mark ∷ after_first (λ b. b == mark) text) (decimal_found (before_first (λ b. b == mark) text) d.region n.0).spelled
+            ∙ ap (λ l. decimal d.region ++ mark ∷ l) (decimal_found (after_first (λ b. b == mark) text) d.serial n.1).spelled;
+      }
+      | inr absent ↦ absurd (nothing_behind mark text d.serial absent n.1)
+    ]
+
+pub reads_parted : (mark : ℕ) → ¬ (IsInRange 48 57 mark) → (text : List ℕ) → MatchOption (parted_in mark text) ((d : Dot) → ¬ (IsPartedText mark text d)) (IsPartedText mark text)
+reads_parted mark parts text = go (parted_in mark text) refl
+  where
+    go : (o : Option Dot) → parted_in mark text ≡ o → MatchOption o ((d : Dot) → ¬ (IsPartedText mark text d)) (IsPartedText mark text)
+    go (Some d) e = parted_found mark text d e
+    go None e = λ d h. none_is_not_some d (sym e ∙ ap (parted_in mark) h.spelled ∙ parted_back mark parts d h.range)
+
+-- ---- dots
+
+pub colon_parts : ¬ (IsInRange 48 57 colon)
+colon_parts h = absurd (omega (arith, h.1))
+
+dash_parts : ¬ (IsInRange 48 57 dash)
+dash_parts h = absurd (omega (arith, h.0))
+
+-- a reader that gives what the test finds reads exactly the texts of dots
+pub dot_found : (text : List ℕ) (r : Option Dot) → r ≡ parted_in colon text → IfSome r (IsDotText text)
+dot_found text None e = tt
+dot_found text (Some d) e = parted_found colon text d (sym e)
+
+pub dot_none : (text : List ℕ) (r : Option Dot) → r ≡ parted_in colon text → IfNone r (IsNoDotText text)
+dot_none text None e = λ d h. none_is_not_some d (e ∙ ap (parted_in colon) h.spelled ∙ parted_back colon colon_parts d h.range)
+dot_none text (Some d) e = tt
+
+-- ---- ids
+
+pub id_back : (letter : ℕ) (d : Dot) → IsDot d → id_in letter (id_text letter d) ≡ Some d
+id_back letter d h = ap (λ t. cond t (parted_in dash (parted_text dash d)) None) (itself letter) ∙ parted_back dash dash_parts d h
+
+pub id_found : (letter : ℕ) (text : List ℕ) (d : Dot) → id_in letter text ≡ Some d → IsIdText letter text d
+id_found letter [] d h = absurd (none_is_not_some d h)
+id_found letter (b ∷ rest) d h =
+    elim (b == letter) as (λ t. (b == letter) ≡ t → cond t (parted_in dash rest) None ≡ Some d → IsIdText letter (b ∷ rest) d) [
       | true ↦ λ t k.
-          let p = parts_of _ _ d k in
-          (p.2, ap (λ l. b ∷ l) (rest_is (position is_dash rest) refl p.0 p.1) ∙ ap (λ (x : ℕ). x ∷ (decimal d.region ++ 45 ∷ decimal d.serial)) (letter_is b t))
+          let p = parted_found dash rest d k in
+          record { range = p.range; spelled = ap (λ (x : ℕ). x ∷ rest) (same_number b letter t) ∙ ap (λ l. letter ∷ l) p.spelled }
       | false ↦ λ _ k. absurd (none_is_not_some d k)
     ] refl h
+
+pub reads_id : (letter : ℕ) (text : List ℕ) → ReadsId letter text (id_in letter text)
+reads_id letter text = go (id_in letter text) refl
   where
-    letter_is : (b : ℕ) → b == letter ≡ true → b ≡ letter
-    letter_is b h = grind (arith, nat_tests)
-
-    decimal_of : (t : List ℕ) (n : ℕ) → number_in t ≡ Some n → IsDecimalOf t n
-    decimal_of t n e = subst (Numbers t) e (numbers_in t)
-
-    rest_is : (o : Option ℕ) → position is_dash rest ≡ o → number_in (before o rest) ≡ Some d.region → number_in (after o rest) ≡ Some d.serial → rest ≡ decimal d.region ++ 45 ∷ decimal d.serial
-    rest_is None e x y = let h = decimal_of [] d.serial y in let l = decimal_nonempty d.serial h.high in let z = ap length h.same in absurd (omega (arith, l, z))
-    rest_is (Some i) e x y =
-        let q = position-Some is_dash rest i 0 e in
-        sym (split_at rest i q.0)
-        ∙ ap (λ (c : ℕ). take i rest ++ c ∷ drop (i + 1) rest) (dash_is _ q.1)
-        ∙ ap (λ l. l ++ 45 ∷ drop (i + 1) rest) (sym (decimal_of (take i rest) d.region x).same)
-        ∙ ap (λ l. decimal d.region ++ 45 ∷ l) (sym (decimal_of (drop (i + 1) rest) d.serial y).same)
-
-pub reads : (letter : ℕ) (text : List ℕ) → ReadsDot letter text (spelled_in letter text)
-reads letter text = go (spelled_in letter text) refl
-  where
-    go : (o : Option Dot) → spelled_in letter text ≡ o → ReadsDot letter text o
-    go (Some d) e = read_only letter text d e
-    go None e = λ d is same. none_is_not_some d (sym e ∙ ap (spelled_in letter) same ∙ read_back letter d is)
+    go : (o : Option Dot) → id_in letter text ≡ o → ReadsId letter text o
+    go (Some d) e = id_found letter text d e
+    go None e = λ d h. none_is_not_some d (sym e ∙ ap (id_in letter) h.spelled ∙ id_back letter d h.range)

@@ -7,29 +7,30 @@ use Rattle.tk_handle.specs.declared.kind.Kind.{Kind}
 use Rattle.tk_handle.specs.declared.kind.Kind.TheVariants.{Code, Access, Refresh}
 use Rattle.tk_handle.specs.declared.dot.Dot.{Dot}
 use Rattle.tk_handle.specs.Dot.{IsDot}
-use Rattle.tk_handle.specs.Place.{is_serial, place}
-use Rattle.tk_handle.specs.Moment.{is_moment, moment}
+use Rattle.tk_handle.specs.DotBytes.{dot_field}
+use Rattle.tk_handle.specs.Ranges.{IsRegion, IsSerial, is_region, is_serial, is_moment}
+use Rattle.tk_handle.specs.Moment.{moment}
 use Rattle.tk_handle.specs.Kind.{kind_number, kind_of, kind}
 use Rattle.tk_handle.specs.TokenId.{token}
 use Rattle.tk_handle.specs.Handle.{version, handle}
 
 -- dots
-pub place_exact : IsExact place
-place_exact = shaped_exact _ _ _ (both_exact _ _ (only_exact (λ n. ltb 0 n) _ u16_exact) (only_exact is_serial _ u64_exact)) (λ _. refl) (λ _. refl)
+pub dot_field_exact : IsExact dot_field
+dot_field_exact = shaped_exact _ _ _ (both_exact _ _ (only_exact is_region _ u16_exact) (only_exact is_serial _ u64_exact)) (λ _. refl) (λ _. refl)
 
 -- a dot that a program can hold has a spelling
-pub place_fits : (d : Dot) → IsDot d → place.Fits d
-place_fits d h =
-    let low_region : ltb 0 d.region ≡ true = grind (arith, nat_tests) in
-    let in_range : is_serial d.serial ≡ true = grind (arith, nat_tests) in
-    ((omega arith, low_region), (omega arith, in_range))
+pub dot_field_fits : (d : Dot) → IsDot d → dot_field.Fits d
+dot_field_fits d h =
+    let region : is_region d.region ≡ true = grind (arith, nat_tests) in
+    let serial : is_serial d.serial ≡ true = grind (arith, nat_tests) in
+    ((omega arith, region), (omega arith, serial))
 
 -- and no other dot has one
-pub place_in_range : (d : Dot) → place.Fits d → IsDot d
-place_in_range d fits =
-    let region_in_range : (0 < d.region) × (d.region < 2 ^ 16) = grind (arith, nat_tests) in
-    let serial_in_range : (0 < d.serial) × (d.serial < 2 ^ 63) = grind (arith, nat_tests) in
-    (region_in_range.0, region_in_range.1, serial_in_range.0, serial_in_range.1)
+pub dot_field_in_range : (d : Dot) → dot_field.Fits d → IsDot d
+dot_field_in_range d fits =
+    let region : IsRegion d.region = grind (arith, nat_tests) in
+    let serial : IsSerial d.serial = grind (arith, nat_tests) in
+    (region, serial)
 
 -- moments
 pub moment_exact : IsExact moment
@@ -54,8 +55,8 @@ kind_exact = coded_exact kind_number kind_of (record { back = number_back; forth
 
 -- names of tokens
 pub token_exact : IsExact token
-token_exact = shaped_exact _ _ _ (both_exact _ _ place_exact kind_exact) (λ _. refl) (λ _. refl)
+token_exact = shaped_exact _ _ _ (both_exact _ _ dot_field_exact kind_exact) (λ _. refl) (λ _. refl)
 
 -- handles
 pub handle_exact : IsExact handle
-handle_exact = after_exact (version ∷ []) _ (shaped_exact _ _ _ (both_exact _ _ kind_exact (both_exact _ _ place_exact (repeated_exact 3 _ u64_exact))) (λ _. refl) (λ _. refl))
+handle_exact = after_exact (version ∷ []) _ (shaped_exact _ _ _ (both_exact _ _ kind_exact (both_exact _ _ dot_field_exact (repeated_exact 3 _ u64_exact))) (λ _. refl) (λ _. refl))

@@ -1,5 +1,4 @@
 pub mod DotTextLaws
 pub mod FormatLaws
 pub mod HandleLaws
-pub mod NumberTexts
 pub mod SortedEntriesLaws

@@ -1,7 +1,7 @@
 -- The order of dots, their code, and their range.
 --   IsDot     a dot that a program can hold
 --   dot_cmp   by region, then by serial
-use Rattle.std.specs.Prelude.{ℕ, ◌<◌, ◌^◌, refl}
+use Rattle.std.specs.Prelude.{ℕ, refl}
 use Rattle.std.proofs.Common.{ap}
 use Rattle.std.specs.Ordering.{nat_cmp, ordering_then}
 use Rattle.std.specs.declared.cmp.Ordering.{Ordering}
@@ -11,10 +11,11 @@ use Rattle.std.specs.FinMap.{IsAntisymmetric}
 use Rattle.std.proofs.lemmas.Cmp.{on_total, then_total}
 use Rattle.std.proofs.lemmas.Map.Lookups.{exact_pairs, exact_unsigned}
 use Rattle.tk_handle.specs.declared.dot.Dot.{Dot}
+use Rattle.tk_handle.specs.Ranges.{IsRegion, IsSerial}
 
 -- a dot that a program can hold
 abbrev pub IsDot : Dot → Type 0
-IsDot d = (0 < d.region) × (d.region < 2 ^ 16) × (0 < d.serial) × (d.serial < 2 ^ 63)
+IsDot d = IsRegion d.region × IsSerial d.serial
 
 -- by region, then by serial
 abbrev pub dot_cmp : Dot → Dot → Ordering

@@ -1,51 +1,76 @@
--- The text of an id that names a dot, as those of clients and of consents do: a first letter, and then the dot.
---   dot_text     the spelling of a dot behind a letter
---   spelled_in   the dot whose spelling a text is
---   ReadsDot     a reading gives the dot of a spelling, and nothing for any other text
-use Rattle.std.specs.Prelude.{◌≡◌, ◌≢◌, ℕ, ◌^◌, Bool, ◌&&◌, ◌==◌, nat_lt, nat_le, if◌then◌else◌, List, [], ◌∷◌, ◌++◌, codes, decimal, Option, Some, None, position, take, drop, ◌+◌}
-use Rattle.std.specs.Str.{bytes_eq}
-use Rattle.std.specs.Str.Parse.{digits_value}
+-- The text of a dot: its region and its serial in decimals, parted by one byte. Scripts and vectors write a dot so, and
+-- behind a letter it is an id, as those of clients and of consents are (own).
+--   dot_text      R:S, the text of a dot
+--   IsDotText     the text is a dot's; IsNoDotText, it is none's
+--   id_text       the id of a dot: a letter, and R-S
+--   IsIdText      the text is a dot's id behind that letter; IsNoIdText, it is none's
+--   ReadsId       a reading gives the dot of an id, and nothing for any other text
+--   id_in         the dot whose id a text is
+use Rattle.std.specs.Prelude.{◌≡◌, ℕ, Bool, ◌&&◌, ◌==◌, if◌then◌else◌, List, [], ◌∷◌, ◌++◌, decimal, Option, Some, None}
+use Rattle.std.specs.List.{before_first, after_first}
+use Rattle.tk_format.specs.Decimals.{decimal_in}
 use Rattle.tk_handle.specs.declared.dot.Dot.{Dot}
 use Rattle.tk_handle.specs.Dot.{IsDot}
+use Rattle.tk_handle.specs.Ranges.{is_region, is_serial}
 
--- the letter, the region, a dash, the serial, in decimals without leading zeros
-abbrev pub dot_text : ℕ → Dot → List ℕ
-dot_text letter d = letter ∷ (decimal d.region ++ (codes "-" ++ decimal d.serial))
+abbrev pub colon : ℕ
+colon = 58
 
--- the number, from 1 on, whose decimal the text is
-abbrev pub number_in : List ℕ → Option ℕ
-number_in text =
-    let n = digits_value 10 text in
-    if nat_lt 0 n && (nat_lt n (2 ^ 64) && bytes_eq (decimal n) text) then Some n else None
+abbrev pub dash : ℕ
+dash = 45
 
--- the dot of two numbers in range
-abbrev pub dot_in : Option ℕ → Option ℕ → Option Dot
-dot_in None serial = None
-dot_in (Some r) None = None
-dot_in (Some r) (Some s) =
-    if (nat_lt 0 r && nat_le r 65535) && (nat_lt 0 s && nat_lt s (2 ^ 63)) then Some (record { region = r; serial = s })
-    else None
+-- the region, the byte that parts them, and the serial, in decimals without leading zeros
+abbrev pub parted_text : ℕ → Dot → List ℕ
+parted_text mark d = decimal d.region ++ (mark ∷ decimal d.serial)
 
-abbrev pub is_dash : ℕ → Bool
-is_dash b = b == 45
+-- R:S
+abbrev pub dot_text : Dot → List ℕ
+dot_text d = parted_text colon d
 
--- what stands before a place, and after it
-abbrev pub before : Option ℕ → List ℕ → List ℕ
-before None text = text
-before (Some at) text = take at text
+-- the letter, and R-S
+abbrev pub id_text : ℕ → Dot → List ℕ
+id_text letter d = letter ∷ parted_text dash d
 
-abbrev pub after : Option ℕ → List ℕ → List ℕ
-after None text = []
-after (Some at) text = drop (at + 1) text
+-- the text is the dot's with that byte between its numbers, and the dot is in its range
+pub record IsPartedText (mark : ℕ) (text : List ℕ) (d : Dot) : Type 0 where
+  pub range : IsDot d
+  pub spelled : text ≡ parted_text mark d
 
--- the dot that the text spells behind the letter
-abbrev pub spelled_in : ℕ → List ℕ → Option Dot
-spelled_in letter [] = None
-spelled_in letter (b ∷ rest) =
-    let dash = position is_dash rest in
-    if b == letter then dot_in (number_in (before dash rest)) (number_in (after dash rest)) else None
+-- the text is the dot's
+abbrev pub IsDotText : List ℕ → Dot → Type 0
+IsDotText text d = IsPartedText colon text d
 
--- the reading gives the dot of a spelling, and nothing for another text
-abbrev pub ReadsDot : ℕ → List ℕ → Option Dot → Type 0
-ReadsDot letter text (Some d) = IsDot d × (text ≡ dot_text letter d)
-ReadsDot letter text None = (d : Dot) → IsDot d → text ≢ dot_text letter d
+-- it is no dot's
+abbrev pub IsNoDotText : List ℕ → Type 0
+IsNoDotText text = (d : Dot) → ¬ (IsDotText text d)
+
+-- the text is the dot's id behind the letter, and the dot is in its range
+pub record IsIdText (letter : ℕ) (text : List ℕ) (d : Dot) : Type 0 where
+  pub range : IsDot d
+  pub spelled : text ≡ id_text letter d
+
+-- it is no dot's
+abbrev pub IsNoIdText : ℕ → List ℕ → Type 0
+IsNoIdText letter text = (d : Dot) → ¬ (IsIdText letter text d)
+
+-- the reading gives the dot of an id, and nothing for another text
+abbrev pub ReadsId : ℕ → List ℕ → Option Dot → Type 0
+ReadsId letter text (Some d) = IsIdText letter text d
+ReadsId letter text None = IsNoIdText letter text
+
+-- ---- the tests of these
+
+-- the dot of two numbers, where both are there and in range
+abbrev pub dot_at : Option ℕ → Option ℕ → Option Dot
+dot_at None serial = None
+dot_at (Some r) None = None
+dot_at (Some r) (Some s) = if is_region r && is_serial s then Some (record { region = r; serial = s }) else None
+
+-- the dot of the numbers before and after the first such byte
+abbrev pub parted_in : ℕ → List ℕ → Option Dot
+parted_in mark text = dot_at (decimal_in (before_first (λ b. b == mark) text)) (decimal_in (after_first (λ b. b == mark) text))
+
+-- the dot whose id behind the letter the text is
+abbrev pub id_in : ℕ → List ℕ → Option Dot
+id_in letter [] = None
+id_in letter (b ∷ rest) = if b == letter then parted_in dash rest else None

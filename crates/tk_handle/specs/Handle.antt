@@ -11,7 +11,7 @@ use Rattle.base64.specs.Engines.{url_safe_no_pad}
 use Rattle.tk_format.specs.Format.{◌>>=◌, Format, number, ◌⊗◌, shaped, repeated, after, whole}
 use Rattle.tk_handle.specs.declared.handle.Handle.{Handle}
 use Rattle.tk_handle.specs.Kind.{kind}
-use Rattle.tk_handle.specs.Place.{place}
+use Rattle.tk_handle.specs.DotBytes.{dot_field}
 
 -- Clients hold handles of this version, so it never changes.
 abbrev pub version : ℕ
@@ -22,7 +22,7 @@ abbrev pub handle : Format Handle
 handle = after (version ∷ []) (shaped
     (λ p. record { id = record { dot = p.1.0; kind = p.0 }; words = p.1.1 })
     (λ h. (h.id.kind, (h.id.dot, h.words)))
-    (kind ⊗ (place ⊗ repeated 3 (number w64))))
+    (kind ⊗ (dot_field ⊗ repeated 3 (number w64))))
 
 -- the 36 bytes
 abbrev pub handle_bytes : Handle → List ℕ

@@ -1,8 +1,10 @@
+//! The ids of clients.
+
 ghost use Rattle.std.specs.Prelude.{◌≡◌, IfOk, string_bytes};
-ghost use Rattle.tk_handle.specs.ClientId.{client_text, client_in, Reads};
+ghost use Rattle.tk_handle.specs.ClientId.{client_text, client_in, ReadsClientId};
 
 use crate::dot::Dot;
-use crate::dot_text;
+use crate::id_text;
 use std::alloc::{AllocError, Global};
 
 /// The id of the client that was added at the dot: `c<region>-<serial>`, in decimals without leading zeros
@@ -10,13 +12,13 @@ use std::alloc::{AllocError, Global};
 pub fn client_text(alloc: Global, dot: Dot) -> Result<String, AllocError>
     ensures { IfOk result (λ text. string_bytes text ≡ client_text dot) }
 {
-    dot_text::text_of(alloc, b'c', dot)
+    id_text::text_of(alloc, b'c', dot)
 }
 
 /// The dot of a client's id, None for every other text.
 pub fn read_client(text: &[u8]) -> Option<Dot>
     ensures value { result ≡ client_in text.now }
-    ensures exact { Reads text.now result }
+    ensures exact { ReadsClientId text.now result }
 {
-    dot_text::read(b'c', text)
+    id_text::read(b'c', text)
 }

@@ -1,21 +1,23 @@
+//! The ids of consents.
+
 ghost use Rattle.std.specs.Prelude.{◌≡◌, IfOk, string_bytes};
-ghost use Rattle.tk_handle.specs.ConsentId.{consent_text, consent_in, Reads};
+ghost use Rattle.tk_handle.specs.ConsentId.{consent_text, consent_in, ReadsConsentId};
 
 use crate::dot::Dot;
-use crate::dot_text;
+use crate::id_text;
 use std::alloc::{AllocError, Global};
 
 /// The id of the consent that was given at the dot: `g<region>-<serial>`, in decimals without leading zeros (own).
 pub fn consent_text(alloc: Global, dot: Dot) -> Result<String, AllocError>
     ensures { IfOk result (λ text. string_bytes text ≡ consent_text dot) }
 {
-    dot_text::text_of(alloc, b'g', dot)
+    id_text::text_of(alloc, b'g', dot)
 }
 
 /// The dot of a consent's id, None for every other text.
 pub fn read_consent(text: &[u8]) -> Option<Dot>
     ensures value { result ≡ consent_in text.now }
-    ensures exact { Reads text.now result }
+    ensures exact { ReadsConsentId text.now result }
 {
-    dot_text::read(b'g', text)
+    id_text::read(b'g', text)
 }

@@ -1,3 +1,5 @@
+//! Dots: where facts stand.
+
 use std::marker::Model;
 
 /// Where a fact stands: the region that made it, and its serial there, 1 to 9,223,372,036,854,775,807 (own).
@@ -9,21 +11,22 @@ pub struct Dot {
 }
 
 impl Model for Dot {
-    ghost use Rattle.std.specs.Prelude.{◌<◌, ◌^◌};
     ghost use Rattle.tk_handle.specs.DotFields.{DotFields};
+    ghost use Rattle.tk_handle.specs.Ranges.{IsRegion, IsSerial};
 
     ghost Value = { DotFields };
 
     ghost view = { λ d. record { region = d.region; serial = d.serial } };
 
-    ghost invariant = { λ d. (0 < d.region) × (0 < d.serial) × (d.serial < 2 ^ 63) };
+    ghost invariant = { λ d. IsRegion d.region × IsSerial d.serial };
 
     ghost inverse = { λ d. record { region = d.region; serial = d.serial } };
 }
 
-ghost use Rattle.std.specs.Prelude.{◌≡◌, ◌^◌, ◌<◌, ◌++◌, OnOk};
+ghost use Rattle.std.specs.Prelude.{◌≡◌, ◌++◌, OnOk};
 ghost use Rattle.std.specs.Option.{SomeIff};
 ghost use Rattle.tk_format.specs.Reading.{Reads};
+ghost use Rattle.tk_handle.specs.Ranges.{IsRegion, IsSerial};
 
 use crate::region::RegionNumber;
 use crate::serial::Serial;
@@ -31,11 +34,11 @@ use std::alloc::AllocError;
 use tk_format::{Reader, Writer};
 
 impl Dot {
-    ghost use Rattle.tk_handle.specs.Place.{place};
+    ghost use Rattle.tk_handle.specs.DotBytes.{dot_field};
 
     /// None where the serial is 0 or above the greatest.
     pub fn new(region: RegionNumber, serial: u64) -> Option<Dot>
-        ensures { SomeIff result ((0 < serial) × (serial < 2 ^ 63)) (record { region = region; serial = serial }) }
+        ensures { SomeIff result (IsSerial serial) (record { region = region; serial = serial }) }
     {
         if serial == 0 || serial > Serial::GREATEST {
             return None;
@@ -49,8 +52,7 @@ impl Dot {
     /// The region that made the fact.
     pub fn region(self) -> RegionNumber
         ensures value { result ≡ self.region }
-        ensures low { 0 < self.region }
-        ensures high { self.region < 2 ^ 16 }
+        ensures range { IsRegion self.region }
     {
         RegionNumber::of(self.region)
     }
@@ -58,20 +60,19 @@ impl Dot {
     /// The fact's place among those of its region, 1 to the greatest.
     pub fn serial(self) -> u64
         ensures value { result ≡ self.serial }
-        ensures low { 0 < self.serial }
-        ensures high { self.serial < 2 ^ 63 }
+        ensures range { IsSerial self.serial }
     {
         self.serial
     }
 
     /// The two numbers are in their ranges, so that the dot can be spelled.
     pub fn known(self)
-        ensures { place.Fits self }
+        ensures { dot_field.Fits self }
     {}
 
     /// Takes a dot from the front, None where none stands there. What the reader has left then is not said.
     pub fn read(reader: &mut Reader<'_>) -> Option<Dot>
-        ensures { Reads (λ d. d) place result reader.old reader.new }
+        ensures { Reads (λ d. d) dot_field result reader.old reader.new }
     {
         let region = RegionNumber::new(reader.take_u16()?)?;
         let serial = reader.take_u64()?;
@@ -81,7 +82,7 @@ impl Dot {
     /// Writes the region's number in two bytes, and the serial in eight. What the writer holds after an error is not
     /// said.
     pub fn write(self, writer: &mut Writer) -> Result<(), AllocError>
-        ensures { OnOk result (writer.new ≡ writer.old ++ place.spell self) }
+        ensures { OnOk result (writer.new ≡ writer.old ++ dot_field.spell self) }
     {
         writer.put_u16(self.region().number())?;
         writer.put_u64(self.serial())

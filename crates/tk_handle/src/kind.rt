@@ -1,3 +1,5 @@
+//! The kinds of tokens.
+
 ghost use Rattle.std.specs.Prelude.{◌≡◌};
 ghost use Rattle.tk_format.specs.Reading.{Reads};
 ghost use Rattle.tk_handle.specs.Kind.{kind, kind_number};

@@ -1,3 +1,5 @@
+//! Moments, in whole seconds.
+
 use std::marker::Model;
 
 /// Whole seconds since 1970-01-01T00:00:00Z, 0 to 253,402,300,799, the last second of the year 9999 (own).
@@ -7,21 +9,23 @@ pub struct Moment {
 }
 
 impl Model for Moment {
-    ghost use Rattle.std.specs.Prelude.{ℕ, ◌≤◌};
+    ghost use Rattle.std.specs.Prelude.{ℕ};
+    ghost use Rattle.tk_handle.specs.Ranges.{IsMoment};
 
     ghost Value = { ℕ };
 
     ghost view = { λ m. m.seconds };
 
-    ghost invariant = { λ m. m.seconds ≤ 253402300799 };
+    ghost invariant = { λ m. IsMoment m.seconds };
 
     ghost inverse = { λ n. record { seconds = n } };
 }
 
-ghost use Rattle.std.specs.Prelude.{◌≡◌, ◌≤◌, ◌++◌, OnOk};
+ghost use Rattle.std.specs.Prelude.{◌≡◌, ◌++◌, OnOk};
 ghost use Rattle.std.specs.Option.{SomeIff};
 ghost use Rattle.tk_format.specs.Reading.{Reads};
 ghost use Rattle.tk_handle.specs.Moment.{moment, moment_plus};
+ghost use Rattle.tk_handle.specs.Ranges.{IsMoment};
 
 use std::alloc::AllocError;
 use tk_format::{Reader, Writer};
@@ -32,7 +36,7 @@ impl Moment {
 
     /// The moment of that second, None past the greatest.
     pub fn new(seconds: u64) -> Option<Moment>
-        ensures { SomeIff result (seconds ≤ 253402300799) seconds }
+        ensures { SomeIff result (IsMoment seconds) seconds }
     {
         if seconds > Self::GREATEST {
             return None;
@@ -43,7 +47,7 @@ impl Moment {
     /// The seconds themselves.
     pub fn seconds(self) -> u64
         ensures value { result ≡ self }
-        ensures high { self ≤ 253402300799 }
+        ensures range { IsMoment self }
     {
         self.seconds
     }

@@ -1,3 +1,5 @@
+//! The numbers of regions.
+
 use std::marker::Model;
 
 /// The number of a region, 1 to 65,535 (own).
@@ -7,24 +9,26 @@ pub struct RegionNumber {
 }
 
 impl Model for RegionNumber {
-    ghost use Rattle.std.specs.Prelude.{ℕ, ◌<◌};
+    ghost use Rattle.std.specs.Prelude.{ℕ};
+    ghost use Rattle.tk_handle.specs.Ranges.{IsRegion};
 
     ghost Value = { ℕ };
 
     ghost view = { λ r. r.number };
 
-    ghost invariant = { λ r. 0 < r.number };
+    ghost invariant = { λ r. IsRegion r.number };
 
     ghost inverse = { λ n. record { number = n } };
 }
 
-ghost use Rattle.std.specs.Prelude.{◌≡◌, ◌^◌, ◌<◌};
+ghost use Rattle.std.specs.Prelude.{◌≡◌};
 ghost use Rattle.std.specs.Option.{SomeIff};
+ghost use Rattle.tk_handle.specs.Ranges.{IsRegion};
 
 impl RegionNumber {
     /// The region of that number, None for 0.
     pub fn new(number: u16) -> Option<RegionNumber>
-        ensures { SomeIff result (0 < number) number }
+        ensures { SomeIff result (IsRegion number) number }
     {
         if number == 0 {
             return None;
@@ -33,7 +37,7 @@ impl RegionNumber {
     }
 
     pub(crate) fn of(number: u16) -> RegionNumber
-        requires { 0 < number }
+        requires { IsRegion number }
         ensures { result ≡ number }
     {
         RegionNumber { number }
@@ -42,8 +46,7 @@ impl RegionNumber {
     /// The number itself, 1 to 65,535.
     pub fn number(self) -> u16
         ensures value { result ≡ self }
-        ensures low { 0 < self }
-        ensures high { self < 2 ^ 16 }
+        ensures range { IsRegion self }
     {
         self.number
     }

@@ -1,3 +1,5 @@
+//! Serials: the places of facts among those of their region.
+
 use std::marker::Model;
 
 /// The place of a fact among those of its region, 1 to 9,223,372,036,854,775,807 (own).
@@ -7,19 +9,21 @@ pub struct Serial {
 }
 
 impl Model for Serial {
-    ghost use Rattle.std.specs.Prelude.{ℕ, ◌<◌, ◌^◌};
+    ghost use Rattle.std.specs.Prelude.{ℕ};
+    ghost use Rattle.tk_handle.specs.Ranges.{IsSerial};
 
     ghost Value = { ℕ };
 
     ghost view = { λ s. s.number };
 
-    ghost invariant = { λ s. (0 < s.number) × (s.number < 2 ^ 63) };
+    ghost invariant = { λ s. IsSerial s.number };
 
     ghost inverse = { λ n. record { number = n } };
 }
 
-ghost use Rattle.std.specs.Prelude.{◌≡◌, ◌^◌, ◌<◌};
+ghost use Rattle.std.specs.Prelude.{◌≡◌};
 ghost use Rattle.std.specs.Option.{SomeIff};
+ghost use Rattle.tk_handle.specs.Ranges.{IsSerial};
 
 impl Serial {
     /// The greatest number of a serial (own).
@@ -27,7 +31,7 @@ impl Serial {
 
     /// The serial of that number, None for 0 and above the greatest.
     pub fn new(number: u64) -> Option<Serial>
-        ensures { SomeIff result ((0 < number) × (number < 2 ^ 63)) number }
+        ensures { SomeIff result (IsSerial number) number }
     {
         if number == 0 || number > Self::GREATEST {
             return None;
@@ -38,8 +42,7 @@ impl Serial {
     /// The number itself, 1 to the greatest.
     pub fn number(self) -> u64
         ensures value { result ≡ self }
-        ensures low { 0 < self }
-        ensures high { self < 2 ^ 63 }
+        ensures range { IsSerial self }
     {
         self.number
     }

@@ -1,3 +1,5 @@
+//! Where ranges end, and which texts and bytes are read.
+
 use crate::{
     Dot, Kind, Moment, RegionNumber, Serial, TokenId, client_text, consent_text, read_client,
     read_consent,
@@ -26,6 +28,50 @@ fn numbers_end_where_their_ranges_do(rt: HostRuntime) {
     assert_eq!(rt; Moment::new(Moment::GREATEST + 1), None);
     assert_eq!(rt; dot(1, 0), None);
     assert!(rt; dot(2, 1) > dot(1, Serial::GREATEST), "by region first");
+}
+
+#[test]
+fn a_dot_is_read_back_from_its_text(rt: HostRuntime) -> Result<(), Fail> {
+    let rows = [
+        (1, 1, "1:1"),
+        (65_535, Serial::GREATEST, "65535:9223372036854775807"),
+        (20, 300, "20:300"),
+    ];
+    for (region, serial, want) in rows {
+        let at = dot(region, serial).ok_or("a dot")?;
+        let text = format!(in rt.alloc(); "{at}")?;
+        assert_eq!(rt; text.as_str(), want);
+        assert_eq!(rt; Dot::read_text(want.as_bytes()), Some(at), "{want}");
+    }
+    Ok(())
+}
+
+#[test]
+fn other_texts_are_no_dots(rt: HostRuntime) {
+    let rows = [
+        "",
+        ":",
+        "1",
+        "1:",
+        ":1",
+        "0:1",
+        "1:0",
+        "01:1",
+        "1:01",
+        "65536:1",
+        "1:9223372036854775808",
+        "1:18446744073709551616",
+        "+1:1",
+        "1:+1",
+        "1-1",
+        "1::1",
+        "1:1:1",
+        "1:1 ",
+        " 1:1",
+    ];
+    for text in rows {
+        assert_eq!(rt; Dot::read_text(text.as_bytes()), None, "{text}");
+    }
 }
 
 #[test]

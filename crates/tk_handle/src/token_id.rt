@@ -1,3 +1,5 @@
+//! The names of tokens.
+
 ghost use Rattle.std.specs.Prelude.{◌≡◌, ◌++◌, OnOk};
 ghost use Rattle.tk_format.specs.Reading.{Reads};
 ghost use Rattle.tk_handle.specs.TokenId.{token};

@@ -15,7 +15,7 @@ use Rattle.tk_fact.specs.declared.client_retired.ClientRetired as retired
 use Rattle.tk_fact.specs.declared.consent_given.ConsentGiven as given
 use Rattle.tk_fact.specs.declared.consent_withdrawn.ConsentWithdrawn as withdrawn
 use Rattle.tk_fact.specs.declared.code_issued.CodeIssued as issued
-use Rattle.tk_store.specs.FactSet.{FactSet, Within}
+use Rattle.tk_store.specs.FactSet.{FactSet, IsSubset}
 use Rattle.tk_store.proofs.EntryLaws.{Passing, any_fact-held, any_fact-of}
 use Rattle.tk_ledger.specs.Clients.{client_in, client_at, is_same_dot, retires, is_retired, is_live_client, IsLiveClient, consent_in, consent_at, withdraws, is_withdrawn, gives, is_live_consent, IsLiveConsent}
 use Rattle.tk_ledger.proofs.SameLaws.{same_dot-true, same_dot-itself}
@@ -47,7 +47,7 @@ unretired_of F d none q r at same =
     true≢false (sym (any_fact-of (retires d) F q (ClientRetired r) at (ap (λ e. is_same_dot e d) same ∙ same_dot-itself d)) ∙ none)
 
 -- a retirement that is held, and then in every greater set, keeps the client from being live
-pub retired_stays : (F G : FactSet) → Within F G → (d : Dot) → is_retired F d ≡ true → ¬ IsLiveClient (map.get G) d
+pub retired_stays : (F G : FactSet) → IsSubset F G → (d : Dot) → is_retired F d ≡ true → ¬ IsLiveClient (map.get G) d
 retired_stays F G within d held live =
     let f : Passing (retires d) F = any_fact-held (retires d) F held in
     let r : (r : retired.ClientRetired) × (f.body ≡ ClientRetired r) × (r.client ≡ d) = retirement_in d f.body f.dot f.passes in
@@ -99,7 +99,7 @@ not_withdrawn F d none = false_from_ne_true (is_withdrawn F d) (λ held.
     none f.dot w.0 (f.held ∙ ap Some w.1) w.2)
 
 -- a withdrawal that is held, and then in every greater set, keeps the consent from being live
-pub withdrawn_stays : (F G : FactSet) → Within F G → (code : issued.CodeIssued) → is_withdrawn F code.consent ≡ true → ¬ IsLiveConsent (map.get G) code
+pub withdrawn_stays : (F G : FactSet) → IsSubset F G → (code : issued.CodeIssued) → is_withdrawn F code.consent ≡ true → ¬ IsLiveConsent (map.get G) code
 withdrawn_stays F G within code held live =
     let f : Passing (withdraws code.consent) F = any_fact-held (withdraws code.consent) F held in
     let w : (w : withdrawn.ConsentWithdrawn) × (f.body ≡ ConsentWithdrawn w) × (w.consent ≡ code.consent) = withdrawal_in code.consent f.body f.dot f.passes in

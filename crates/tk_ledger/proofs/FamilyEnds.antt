@@ -15,7 +15,7 @@ use Rattle.tk_family.proofs.FamilyLaws.{IsUnder-one, IsUnder-within, IsTwice-wit
 use Rattle.tk_fact.specs.declared.body.Body.{Body}
 use Rattle.tk_fact.specs.declared.body.Body.TheVariants.{ClientAdded, ClientRetired, ConsentGiven, ConsentWithdrawn, CodeIssued, CodeRedeemed, RefreshRotated, TokenRevoked, ReuseSeen}
 use Rattle.tk_fact.specs.Tokens.{MintedFields, minted_of}
-use Rattle.tk_store.specs.FactSet.{FactSet, Within}
+use Rattle.tk_store.specs.FactSet.{FactSet, IsSubset}
 use Rattle.tk_ledger.specs.Tokens.{link_of, links_in, marks_in, minted_in, IsEnded}
 use Rattle.tk_ledger.specs.Status.{IsActive}
 use Rattle.tk_ledger.specs.Ends.{IsSpent, IsSpentUnder}
@@ -87,11 +87,11 @@ revoked_ends F now h e a = elim (no_code_is h.id.kind a.no_code) [
 
 -- ---- in every greater set
 
-IsSpent-below : (F G : FactSet) → Within F G → (g : TokenId) → IsSpent (map.get F) g → IsSpent (map.get G) g
+IsSpent-below : (F G : FactSet) → IsSubset F G → (g : TokenId) → IsSpent (map.get F) g → IsSpent (map.get G) g
 IsSpent-below F G w g (inl t) = inl (IsTwice-within (links_in (map.get F)) (links_in (map.get G)) (links-below F G w) g t)
 IsSpent-below F G w g (inr m) = inr (IsMarked-below F G w g m)
 
-IsSpentUnder-below : (F G : FactSet) → Within F G → (g : TokenId) (c : Dot) → IsSpentUnder (map.get F) g c → IsSpentUnder (map.get G) g c
+IsSpentUnder-below : (F G : FactSet) → IsSubset F G → (g : TokenId) (c : Dot) → IsSpentUnder (map.get F) g c → IsSpentUnder (map.get G) g c
 IsSpentUnder-below F G w g c s = record {
   minted = s.minted;
   grant = s.grant;
@@ -100,8 +100,8 @@ IsSpentUnder-below F G w g c s = record {
   under = IsUnder-within (links_in (map.get F)) (links_in (map.get G)) (links-below F G w) g.dot c s.under;
 }
 
-pub spent_inactive : (F G : FactSet) → Within F G → (now : ℕ) (h : Handle) (g : TokenId) (c : Dot) → IsSpentUnder (map.get F) g c → IsUnder (links_in (map.get G)) h.id.dot c → ¬ IsActive G now h
+pub spent_inactive : (F G : FactSet) → IsSubset F G → (now : ℕ) (h : Handle) (g : TokenId) (c : Dot) → IsSpentUnder (map.get F) g c → IsUnder (links_in (map.get G)) h.id.dot c → ¬ IsActive G now h
 spent_inactive F G w now h g c s member = family_ends G now h g c (IsSpentUnder-below F G w g c s) member
 
-pub revoked_inactive : (F G : FactSet) → Within F G → (now : ℕ) (h : Handle) → IsEnded (map.get F) h.id → ¬ IsActive G now h
+pub revoked_inactive : (F G : FactSet) → IsSubset F G → (now : ℕ) (h : Handle) → IsEnded (map.get F) h.id → ¬ IsActive G now h
 revoked_inactive F G w now h e = revoked_ends G now h (IsEnded-below F G w h.id e)

@@ -21,7 +21,7 @@ use Rattle.tk_fact.specs.declared.code_issued.CodeIssued as issued
 use Rattle.tk_fact.specs.declared.token_revoked.TokenRevoked as revoked
 use Rattle.tk_fact.specs.declared.reuse_seen.ReuseSeen as seen
 use Rattle.tk_fact.specs.Tokens.{MintedFields, minted_of, uses_of}
-use Rattle.tk_store.specs.FactSet.{FactSet, Within, any_fact}
+use Rattle.tk_store.specs.FactSet.{FactSet, IsSubset, any_fact}
 use Rattle.tk_store.proofs.EntryLaws.{Passing, any_fact-held, any_fact-of}
 use Rattle.tk_ledger.specs.Clients.{is_same_dot}
 use Rattle.tk_ledger.specs.Tokens.{link_of, links_in, code_in, issued_at, issued_in, minted_in, is_same_token, uses, is_used, uses_elsewhere, uses_first, is_twice, IsRevoked, revoked_by, revokes, is_revoked, IsEnded, is_ended_by, is_ended, reuse_of, sees_reuse, is_refresh, IsMarked, marks_in, is_bad_grant, kills, is_dead}
@@ -200,19 +200,19 @@ is_dead-complete F c x =
 
 -- ---- more facts
 
-below-and_then : {B : Type 0} (f : Body → Option B) (F G : FactSet) → Within F G → (d : Dot) (y : B) → option_and_then f (map.get F d) ≡ Some y → option_and_then f (map.get G d) ≡ Some y
+below-and_then : {B : Type 0} (f : Body → Option B) (F G : FactSet) → IsSubset F G → (d : Dot) (y : B) → option_and_then f (map.get F d) ≡ Some y → option_and_then f (map.get G d) ≡ Some y
 below-and_then f F G w d y h =
     let x : (b : Body) × (map.get F d ≡ Some b) × (f b ≡ Some y) = from_some f (map.get F d) y h in
     ap (option_and_then f) (w d x.0 x.1) ∙ x.2
 
-pub links-below : (F G : FactSet) → Within F G → families.Within (links_in (map.get F)) (links_in (map.get G))
+pub links-below : (F G : FactSet) → IsSubset F G → families.Within (links_in (map.get F)) (links_in (map.get G))
 links-below F G w d l h = below-and_then link_of F G w d l h
 
-pub minted-below : (F G : FactSet) → Within F G → (k : TokenId) (m : MintedFields) → minted_in (map.get F) k ≡ Some m → minted_in (map.get G) k ≡ Some m
+pub minted-below : (F G : FactSet) → IsSubset F G → (k : TokenId) (m : MintedFields) → minted_in (map.get F) k ≡ Some m → minted_in (map.get G) k ≡ Some m
 minted-below F G w k m h = below-and_then (λ b. minted_of b k.kind) F G w k.dot m h
 
 -- an ended token stays ended
-pub IsEnded-below : (F G : FactSet) → Within F G → (k : TokenId) → IsEnded (map.get F) k → IsEnded (map.get G) k
+pub IsEnded-below : (F G : FactSet) → IsSubset F G → (k : TokenId) → IsEnded (map.get F) k → IsEnded (map.get G) k
 IsEnded-below F G w k e = record {
   minted = e.minted;
   code = e.code;
@@ -230,13 +230,13 @@ IsEnded-below F G w k e = record {
   };
 }
 
-pub IsMarked-below : (F G : FactSet) → Within F G → (k : TokenId) → IsMarked (map.get F) k → IsMarked (map.get G) k
+pub IsMarked-below : (F G : FactSet) → IsSubset F G → (k : TokenId) → IsMarked (map.get F) k → IsMarked (map.get G) k
 IsMarked-below F G w k (inl r) = inl (record { place = r.place; reuse = r.reuse; held = w r.place (ReuseSeen r.reuse) r.held; token = r.token })
 IsMarked-below F G w k (inr e) = inr (e.0, IsEnded-below F G w k e.1)
 
-pub marks-below : (F G : FactSet) → Within F G → MarksWithin (marks_in F) (marks_in G)
+pub marks-below : (F G : FactSet) → IsSubset F G → MarksWithin (marks_in F) (marks_in G)
 marks-below F G w k h = marks-complete G k (IsMarked-below F G w k (marks-sound F k h))
 
 -- a dead family stays dead
-pub IsDead-below : (F G : FactSet) → Within F G → (c : Dot) → IsDead (links_in (map.get F)) (marks_in F) c → IsDead (links_in (map.get G)) (marks_in G) c
+pub IsDead-below : (F G : FactSet) → IsSubset F G → (c : Dot) → IsDead (links_in (map.get F)) (marks_in F) c → IsDead (links_in (map.get G)) (marks_in G) c
 IsDead-below F G w c x = IsDead-within (links_in (map.get F)) (links_in (map.get G)) (marks_in F) (marks_in G) (links-below F G w) (marks-below F G w) c x

@@ -1,3 +1,5 @@
+//! Which texts are scopes, and how they are printed.
+
 use super::*;
 use std::test::Fail;
 

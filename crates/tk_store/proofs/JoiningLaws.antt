@@ -10,14 +10,14 @@ use Rattle.std.specs.FinMap as map
 use Rattle.tk_handle.specs.declared.dot.Dot.{Dot}
 use Rattle.tk_handle.specs.Dot.{dot_cmp}
 use Rattle.tk_fact.specs.declared.body.Body.{Body}
-use Rattle.tk_store.specs.FactSet.{FactSet, Facts, Agree, AllIn, Within, with_facts, set_of}
+use Rattle.tk_store.specs.FactSet.{FactSet, Facts, Agree, AllIn, IsSubset, with_facts, set_of}
 use Rattle.tk_store.specs.Joining.{JoinsFacts, SameFacts}
 use Rattle.tk_store.proofs.FactSetLaws.{same_set, with_facts-append, with_facts_is_joined}
 use Rattle.tk_store.proofs.PutLaws.{of_dot, get_here, some_injective, none_is_not_some}
-use Rattle.tk_store.proofs.WithinLaws.{within_itself, within_trans, within_insert, within_with_facts, keeps_with_facts, AllIn-at, AllIn-within}
+use Rattle.tk_store.proofs.SubsetLaws.{subset_itself, subset_trans, subset_insert, subset_with_facts, keeps_with_facts, AllIn-at, AllIn-subset}
 
 -- sets within each other are one
-pub subset_antisym : (F G : FactSet) → Within F G → Within G F → F ≡ G
+pub subset_antisym : (F G : FactSet) → IsSubset F G → IsSubset G F → F ≡ G
 subset_antisym F G f g = same_set F G (λ q. alike q (map.get F q) (map.get G q) refl refl)
   where
     alike : (q : Dot) (a b : Option Body) → map.get F q ≡ a → map.get G q ≡ b → map.get F q ≡ map.get G q
@@ -33,14 +33,14 @@ AllIn-append U (f ∷ fs) gs a b = (a.0, AllIn-append U fs gs a.1 b)
 pub AllIn-contains : (U : FactSet) (fs : Facts) (f : Dot × Body) → AllIn U fs → Contains fs f → map.get U f.0 ≡ Some f.1
 AllIn-contains U fs f all c = subst (λ (g : Dot × Body). map.get U g.0 ≡ Some g.1) c.2 (AllIn-at U fs c.0 f all c.1)
 
-empty_within : (U : FactSet) → Within map.empty U
-empty_within U d b h = absurd (none_is_not_some b (sym (map.get-empty dot_cmp d) ∙ h))
+empty_subset : (U : FactSet) → IsSubset map.empty U
+empty_subset U d b h = absurd (none_is_not_some b (sym (map.get-empty dot_cmp d) ∙ h))
 
 -- facts of U are held once they are put into a set within U
-held_with_facts : (F U : FactSet) (fs : Facts) → Within F U → AllIn U fs → AllIn (with_facts F fs) fs
+held_with_facts : (F U : FactSet) (fs : Facts) → IsSubset F U → AllIn U fs → AllIn (with_facts F fs) fs
 held_with_facts F U [] f a = tt
 held_with_facts F U (x ∷ fs) f a =
-    let more = within_insert F U x.0 x.1 f a.0 in
+    let more = subset_insert F U x.0 x.1 f a.0 in
     (keeps_with_facts (map.insert F x.0 x.1) U fs more a.1 x.0 x.1 (get_here F x.0 x.1), held_with_facts (map.insert F x.0 x.1) U fs more a.1)
 
 -- what a set with more facts holds was in it, or is one of them
@@ -54,17 +54,17 @@ only_with_facts F (x ∷ fs) d b h = elim (only_with_facts (map.insert F x.0 x.1
     first : (f : Dot × Body) → x.0 ≡ f.0 → x.1 ≡ f.1 → x ≡ f
     first f i j = ap (λ (d : Dot). (d, x.1)) i ∙ ap (λ (b : Body). (f.0, b)) j
 
-pub joins_with_facts : (U F : FactSet) (fs : Facts) → Within F U → AllIn U fs → JoinsFacts F fs (with_facts F fs)
+pub joins_with_facts : (U F : FactSet) (fs : Facts) → IsSubset F U → AllIn U fs → JoinsFacts F fs (with_facts F fs)
 joins_with_facts U F fs within all = record {
   kept = keeps_with_facts F U fs within all;
   held = held_with_facts F U fs within all;
   only = only_with_facts F fs;
-  agree = λ d b c at there. some_injective b c (sym (within d b at) ∙ within_with_facts map.empty U fs (empty_within U) all d c there);
+  agree = λ d b c at there. some_injective b c (sym (within d b at) ∙ subset_with_facts map.empty U fs (empty_subset U) all d c there);
   joins = with_facts_is_joined F fs;
 }
 
 pub joins_nothing : (F : FactSet) → JoinsFacts F [] F
-joins_nothing F = joins_with_facts F F [] (within_itself F) tt
+joins_nothing F = joins_with_facts F F [] (subset_itself F) tt
 
 pub joins_is_with_facts : {F G : FactSet} {fs : Facts} → JoinsFacts F fs G → G ≡ with_facts F fs
 joins_is_with_facts {F} {G} {fs} k = k.joins ∙ sym (with_facts_is_joined F fs)
@@ -72,18 +72,18 @@ joins_is_with_facts {F} {G} {fs} k = k.joins ∙ sym (with_facts_is_joined F fs)
 pub joins_more : {F G H : FactSet} {fs gs : Facts} → JoinsFacts F fs G → JoinsFacts G gs H → JoinsFacts F (fs ++ gs) H
 joins_more {F} {G} {H} {fs} {gs} k h =
     subst (JoinsFacts F (fs ++ gs)) (sym both)
-    (joins_with_facts H F (fs ++ gs) (within_trans F G H k.kept h.kept) (AllIn-append H fs gs (AllIn-within G H fs h.kept k.held) h.held))
+    (joins_with_facts H F (fs ++ gs) (subset_trans F G H k.kept h.kept) (AllIn-append H fs gs (AllIn-subset G H fs h.kept k.held) h.held))
   where
     both : H ≡ with_facts F (fs ++ gs)
     both = joins_is_with_facts h ∙ ap (λ K. with_facts K gs) (joins_is_with_facts k) ∙ sym (with_facts-append F fs gs)
 
 -- what is joined once is within what the same facts make of the set
-same_within : (F G H : FactSet) (fs gs : Facts) → JoinsFacts F fs G → JoinsFacts F gs H → ((f : Dot × Body) → Contains fs f → Contains gs f) → Within G H
-same_within F G H fs gs k h into d b at = elim (k.only d b at) [
+same_subset : (F G H : FactSet) (fs gs : Facts) → JoinsFacts F fs G → JoinsFacts F gs H → ((f : Dot × Body) → Contains fs f → Contains gs f) → IsSubset G H
+same_subset F G H fs gs k h into d b at = elim (k.only d b at) [
   | inl before ↦ h.kept d b before
   | inr new ↦ AllIn-contains H gs (d, b) h.held (into (d, b) new)
 ]
 
 pub joins_same : {F G H : FactSet} {fs gs : Facts} → JoinsFacts F fs G → JoinsFacts F gs H → SameFacts fs gs → G ≡ H
 joins_same {F} {G} {H} {fs} {gs} k h same =
-    subset_antisym G H (same_within F G H fs gs k h (λ f. (same f).0)) (same_within F H G gs fs h k (λ f. (same f).1))
+    subset_antisym G H (same_subset F G H fs gs k h (λ f. (same f).0)) (same_subset F H G gs fs h k (λ f. (same f).1))

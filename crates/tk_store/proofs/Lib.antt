@@ -4,5 +4,5 @@ pub mod JoiningLaws
 pub mod NextDotLaws
 pub mod PutLaws
 pub mod StoreLaws
+pub mod SubsetLaws
 pub mod WalkLaws
-pub mod WithinLaws

@@ -8,28 +8,18 @@ use Rattle.std.specs.declared.cmp.Ordering.{Ordering}
 use Rattle.std.specs.declared.cmp.Ordering.TheVariants.{Less, Equal, Greater}
 use Rattle.std.proofs.lemmas.Cmp.{tied_itself}
 use Rattle.std.specs.FinMap as map
-use mathlib.Core.Bool.{false≢true}
 use Rattle.tk_handle.specs.declared.dot.Dot.{Dot}
 use Rattle.tk_handle.specs.Dot.{dot_cmp, dot_cmp_total, dot_cmp-IsAntisymmetric}
 use Rattle.tk_fact.specs.Check.{refusal_of}
 use Rattle.tk_fact.specs.declared.body.Body.{Body}
 use Rattle.tk_store.specs.FactSet.{FactSet, IsFactSet}
-use Rattle.tk_store.proofs.FactSetLaws.{same_set}
+use Rattle.tk_store.proofs.FactSetLaws.{same_set, tied}
 
 pub some_injective : {A : Type 0} (x y : A) → Some x ≡ Some y → x ≡ y
 some_injective x y h = cc
 
 pub none_is_not_some : {A : Type 0} (x : A) → ¬ (None ≡ Some x)
 none_is_not_some x h = cc
-
--- dots that compare alike are one
-pub tied : (q d : Dot) → eq_by_cmp dot_cmp q d ≡ true → q ≡ d
-tied q d h = dot_cmp-IsAntisymmetric q d (equal_of (dot_cmp q d) h)
-  where
-    equal_of : (o : Ordering) → is_eq o ≡ true → o ≡ Equal
-    equal_of Less e = absurd (false≢true e)
-    equal_of Equal e = refl
-    equal_of Greater e = absurd (false≢true e)
 
 -- what stands at a dot once a fact is in, in a goal
 pub by_dot : (P : Option Body → Type 0) (F : FactSet) (d : Dot) (b : Body) (q : Dot) → (q ≡ d → P (Some b)) → P (map.get F q) → P (map.get (map.insert F d b) q)

@@ -5,7 +5,7 @@ use Rattle.std.specs.Prelude.{◌≡◌, ◌↔◌, ◌⊎◌, Contains, Some}
 use Rattle.std.specs.FinMap as map
 use Rattle.tk_handle.specs.declared.dot.Dot.{Dot}
 use Rattle.tk_fact.specs.declared.body.Body.{Body}
-use Rattle.tk_store.specs.FactSet.{FactSet, Facts, Agree, AllIn, Within, set_of, joined}
+use Rattle.tk_store.specs.FactSet.{FactSet, Facts, Agree, AllIn, IsSubset, set_of, joined}
 
 -- a fact is in the one list exactly where it is in the other
 abbrev pub SameFacts : Facts → Facts → Type 0
@@ -14,7 +14,7 @@ SameFacts fs gs = (f : Dot × Body) → Contains fs f ↔ Contains gs f
 -- the new set is the old one and these facts, and they agree
 pub record JoinsFacts (old : FactSet) (fs : Facts) (new : FactSet) : Type 0 where
   -- what was held stays
-  pub kept : Within old new
+  pub kept : IsSubset old new
   -- the facts are in
   pub held : AllIn new fs
   -- nothing else is

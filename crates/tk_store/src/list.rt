@@ -1,8 +1,11 @@
-ghost use Rattle.std.specs.Prelude.{◌≡◌, ◌<◌, ◌≤◌, ◌^◌, T, IfOk, OnOk, OnErr, MatchResult, take, map, filter, length, vec_len, insert, slice_get};
+//! Facts in a list that rises by dot.
+
+ghost use Rattle.std.specs.Prelude.{◌≡◌, ◌<◌, ◌≤◌, T, IfOk, OnOk, OnErr, MatchResult, take, map, filter, length, vec_len, insert, slice_get};
 ghost use Rattle.std.specs.Option.{option_copied};
 ghost use Rattle.std.specs.FinMap as sets;
 ghost use Rattle.std.specs.List.Sorted.{IsPartitionPoint};
 ghost use Rattle.tk_handle.specs.Dot.{dot_cmp};
+ghost use Rattle.tk_handle.specs.Ranges.{greatest_serial};
 ghost use Rattle.tk_handle.specs.SortedEntries.{IsAt, IsGap};
 ghost use Rattle.tk_store.specs.FactSet.{dot_of};
 ghost use Rattle.tk_store.specs.Beyond.{is_beyond};
@@ -89,10 +92,10 @@ fn count_up_to(facts: &[Fact], region: RegionNumber) -> usize
 
 // The greatest serial of the region among the facts, or 0. The last fact of the region has it.
 #[tactic(auto, using(crate::proofs::NextDotLaws::none_at_start, crate::proofs::NextDotLaws::greatest_at_end, crate::proofs::NextDotLaws::none_at_end))]
-pub(crate) fn greatest_serial(facts: &[Fact], region: RegionNumber) -> u64
+pub(crate) fn last_serial(facts: &[Fact], region: RegionNumber) -> u64
     requires { T (sets.is_sorted dot_cmp facts.now) }
-    ensures value { result ≡ next.greatest_serial region facts.now }
-    ensures high { result < 2 ^ 63 }
+    ensures value { result ≡ next.last_serial region facts.now }
+    ensures high { result ≤ greatest_serial }
 {
     let end = count_up_to(facts, region);
     if end == 0 {

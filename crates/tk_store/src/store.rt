@@ -1,3 +1,5 @@
+//! A store of facts.
+
 use std::marker::Model;
 use tk_fact::Fact;
 
@@ -40,18 +42,19 @@ pub enum AddError {
     Memory,
 }
 
-ghost use Rattle.std.specs.Prelude.{◌≡◌, ◌≤◌, ◌^◌, IfOk, None, take, map, slice_get};
-ghost use Rattle.std.specs.Option.{option_map, option_copied};
+ghost use Rattle.std.specs.Prelude.{◌≡◌, ◌≤◌, IfOk, None, take, map, slice_get};
+ghost use Rattle.std.specs.Option.{SomeIff, option_map, option_copied};
 ghost use Rattle.std.specs.FinMap as sets;
 ghost use Rattle.tk_fact.specs.Check.{refusal_of};
+ghost use Rattle.tk_handle.specs.Ranges.{greatest_serial};
 ghost use Rattle.tk_store.specs.FactSet.{IsFactSet, dot_of};
 ghost use Rattle.tk_store.specs.Store.{facts_of, known_in};
 ghost use Rattle.tk_store.specs.Adding.{Adds};
 ghost use Rattle.tk_store.specs.Beyond.{beyond};
 ghost use Rattle.tk_store.specs.Walk.{above};
-ghost use Rattle.tk_store.specs.NextDot.{next_serial};
+ghost use Rattle.tk_store.specs.NextDot.{next_dot, next_serial};
 
-use crate::list::{count, dots_beyond, first_above, greatest_serial, insert_at, place};
+use crate::list::{count, dots_beyond, first_above, last_serial, insert_at, place};
 use crate::walk::Facts;
 use std::alloc::{AllocError, Global};
 use tk_handle::{Dot, RegionNumber};
@@ -141,11 +144,10 @@ impl FactStore {
         dots_beyond(alloc, &self.facts, vector, limit)
     }
 
-    /// The serial of the region's next fact: 1 more than its greatest, 1 to 9,223,372,036,854,775,808.
-    pub fn next_serial(&self, region: RegionNumber) -> u64
-        ensures value { result ≡ next_serial (known_in self.now) region }
-        ensures high { result ≤ 2 ^ 63 }
+    /// Where the region's next fact stands: 1 past its greatest serial. None where that is the greatest of all.
+    pub fn next_dot(&self, region: RegionNumber) -> Option<Dot>
+        ensures { SomeIff result (next_serial (known_in self.now) region ≤ greatest_serial) (next_dot (known_in self.now) region) }
     {
-        greatest_serial(&self.facts, region) + 1
+        Dot::new(region, last_serial(&self.facts, region) + 1)
     }
 }

@@ -1,3 +1,5 @@
+//! What a store holds, walks over and leaves out.
+
 ghost use Rattle.std.specs.Prelude.{◌≡◌, None};
 ghost use Rattle.tk_fact.specs.Check.{refusal_of};
 
@@ -66,14 +68,14 @@ fn a_walk_goes_up_by_dot(rt: HostRuntime) -> Result<(), Fail> {
     let all = [dot(1, 1)?, dot(1, 3)?, dot(2, 1)?, dot(3, 2)?];
     assert_eq!(rt; walked(alloc, &store)?.as_slice(), all.as_slice());
     let rows = [
-        (None, Some(dot(1, 1)?)),
-        (Some(dot(1, 1)?), Some(dot(1, 3)?)),
-        (Some(dot(1, 2)?), Some(dot(1, 3)?)),
-        (Some(dot(2, 9)?), Some(dot(3, 2)?)),
-        (Some(dot(3, 2)?), None),
+        ("the first of all", None, Some(dot(1, 1)?)),
+        ("after one", Some(dot(1, 1)?), Some(dot(1, 3)?)),
+        ("after a gap", Some(dot(1, 2)?), Some(dot(1, 3)?)),
+        ("in a later region", Some(dot(2, 9)?), Some(dot(3, 2)?)),
+        ("after the last", Some(dot(3, 2)?), None),
     ];
-    for (after, want) in rows {
-        assert!(rt; store.next_after(after).map(|fact| fact.dot) == want);
+    for (name, after, want) in rows {
+        assert!(rt; store.next_after(after).map(|fact| fact.dot) == want, "{name}");
     }
     Ok(())
 }
@@ -90,9 +92,30 @@ fn a_vector_leaves_out_what_it_covers(rt: HostRuntime) -> Result<(), Fail> {
         store.since(alloc, &vector, 9)?.as_slice(),
         beyond.as_slice()
     );
-    assert_eq!(rt; store.since(alloc, &vector, 2)?.len(), 2);
-    assert_eq!(rt; store.next_serial(one), 4);
-    let four = RegionNumber::new(4).ok_or("a region")?;
-    assert_eq!(rt; store.next_serial(four), 1);
+    for (limit, want) in [(0, 0), (2, 2), (3, 3), (4, 3)] {
+        let dots = store.since(alloc, &vector, limit)?;
+        assert_eq!(rt; dots.len(), want, "at most {limit}");
+    }
+    Ok(())
+}
+
+#[test]
+fn a_region_goes_on_after_its_greatest_serial(rt: HostRuntime) -> Result<(), Fail> {
+    let alloc = rt.alloc();
+    let mut store = four(alloc)?;
+    let client = dot(1, 1)?;
+    let last = retirement(dot(5, 9_223_372_036_854_775_807)?, client);
+    assert_eq!(rt; store.add(last), Ok(Added::New));
+    let rows = [
+        (1, Some(dot(1, 4)?)),
+        (2, Some(dot(2, 2)?)),
+        (3, Some(dot(3, 3)?)),
+        (4, Some(dot(4, 1)?)),
+        (5, None),
+    ];
+    for (region, want) in rows {
+        let number = RegionNumber::new(region).ok_or("a region")?;
+        assert!(rt; store.next_dot(number) == want, "region {region}");
+    }
     Ok(())
 }

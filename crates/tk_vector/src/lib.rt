@@ -4,9 +4,10 @@
 //! whose serial is at most their region's entry. A region without an entry counts as 0.
 //!
 //! One type, `VersionVector`, seen by contracts as a finite map from region numbers to serials. What `entry`,
-//! `raised` and `Covers` mean stands in specs/VersionVector.
+//! `raised` and `Covers` mean stands in specs/VersionVector, and which texts `read_text` reads in specs/VectorText.
 #![tactic(auto)]
 
+mod text;
 mod vector;
 
 pub use vector::VersionVector;

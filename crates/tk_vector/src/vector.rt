@@ -1,3 +1,5 @@
+//! A version vector, and what it covers.
+
 use std::marker::Model;
 use tk_handle::{Dot, RegionNumber, Serial};
 
@@ -23,9 +25,10 @@ impl Model for VersionVector {
     ghost invariant = { λ v. T (map.is_sorted nat_cmp v.entries.items) };
 }
 
-ghost use Rattle.std.specs.Prelude.{◌≡◌, ◌<◌, ◌^◌, ◌↔◌, T, IsTrue, OnOk, OnErr, MatchResult};
+ghost use Rattle.std.specs.Prelude.{◌≡◌, ◌≤◌, ◌↔◌, T, IsTrue, OnOk, OnErr, MatchResult};
 ghost use Rattle.std.specs.Ordering.{nat_cmp};
 ghost use Rattle.std.specs.FinMap as map;
+ghost use Rattle.tk_handle.specs.Ranges.{greatest_serial};
 ghost use Rattle.tk_handle.specs.SortedEntries.{IsAt, IsGap};
 ghost use Rattle.tk_vector.specs.VersionVector.{entry, raised, Covers};
 
@@ -54,7 +57,7 @@ impl VersionVector {
     /// The region's entry becomes the greater of itself and this number, a serial, 1 to 9,223,372,036,854,775,807. A 0,
     /// which says that nothing is known, changes nothing. Where memory is refused, the vector stays as it was.
     pub fn raise(&mut self, region: RegionNumber, serial: u64) -> Result<(), AllocError>
-        requires { serial < 2 ^ 63 }
+        requires { serial ≤ greatest_serial }
         ensures ok { OnOk result (self.new ≡ raised self.old region serial) }
         ensures err { OnErr result (self.new ≡ self.old) }
     {

@@ -15,7 +15,7 @@ use Rattle.tk_handle.specs.Dot.{dot_cmp}
 use Rattle.tk_fact.specs.Check.{refusal_of}
 use Rattle.tk_fact.specs.declared.body.Body.{Body}
 use Rattle.tk_vector.specs.VersionVector.{Vector}
-use Rattle.tk_store.specs.FactSet.{FactSet, Facts, AllIn, Within, with_facts}
+use Rattle.tk_store.specs.FactSet.{FactSet, Facts, AllIn, IsSubset, with_facts}
 use Rattle.tk_store.specs.Beyond.{beyond, is_beyond}
 use Rattle.tk_store.specs.NextDot.{greatest_serial, next_serial, next_dot}
 use Rattle.tk_store.specs.Joining.{JoinsFacts}
@@ -23,7 +23,7 @@ use Rattle.tk_store.proofs.EntryLaws.{AllIn-entries}
 use Rattle.tk_store.proofs.JoiningLaws.{joins_is_with_facts}
 use Rattle.tk_store.proofs.NextDotLaws.{next_is_free}
 use Rattle.tk_store.proofs.PutLaws.{by_dot, of_dot, get_here, some_injective, none_is_not_some, IsFactSet-empty, IsFactSet-insert}
-use Rattle.tk_store.proofs.WithinLaws.{within_itself, within_trans, within_with_facts, keeps_with_facts, AllIn-take, AllIn-filter, AllIn-within}
+use Rattle.tk_store.proofs.SubsetLaws.{subset_itself, subset_trans, subset_with_facts, keeps_with_facts, AllIn-take, AllIn-filter, AllIn-subset}
 use Rattle.tk_world.specs.SettingsFields.{SettingsFields}
 use Rattle.tk_world.specs.State.{State, new_state, with_region, with_bundle, Consists, IsConsistent}
 use Rattle.tk_message.specs.declared.decision.Decision.{Decision}
@@ -63,10 +63,10 @@ region_here : (s : State) (n : ℕ) (G : FactSet) (r : ℕ) → r ≡ n → map.
 region_here s n G r same = map.get-insert nat_cmp_total s.regions n G r ∙ ap (λ o. cond (is_eq o) (Some G) (map.get s.regions r)) (ap (nat_cmp r) (sym same) ∙ tied_itself nat_cmp_total r)
 
 -- a region's set grows within U
-pub consists_set : (s : State) (U : FactSet) (n : ℕ) (F G : FactSet) → Consists s U → map.get s.regions n ≡ Some F → Within G U → Within F G → Consists (with_region s n G) U
+pub consists_set : (s : State) (U : FactSet) (n : ℕ) (F G : FactSet) → Consists s U → map.get s.regions n ≡ Some F → IsSubset G U → IsSubset F G → Consists (with_region s n G) U
 consists_set s U n F G k at within grows = record {
   sound = k.sound;
-  held = λ r F' h. of_region s n G r F' (Within F' U) (λ _ same. subst (λ H. Within H U) same within) (k.held r F') h;
+  held = λ r F' h. of_region s n G r F' (IsSubset F' U) (λ _ same. subst (λ H. IsSubset H U) same within) (k.held r F') h;
   home = λ d b h.
       let old = k.home d b h in
       region_of_get s n G d.region (λ o. (H : FactSet) × (o ≡ Some H) × (map.get H d ≡ Some b))
@@ -81,7 +81,7 @@ consists_set s U n F G k at within grows = record {
 pub consists_opened : (s : State) (U : FactSet) (n : ℕ) → Consists s U → map.get s.regions n ≡ None → Consists (with_region s n map.empty) U
 consists_opened s U n k none = record {
   sound = k.sound;
-  held = λ r F' h. of_region s n map.empty r F' (Within F' U) (λ _ same d b at. absurd (none_is_not_some b (sym (map.get-empty dot_cmp d) ∙ ap (λ H. map.get H d) same ∙ at))) (k.held r F') h;
+  held = λ r F' h. of_region s n map.empty r F' (IsSubset F' U) (λ _ same d b at. absurd (none_is_not_some b (sym (map.get-empty dot_cmp d) ∙ ap (λ H. map.get H d) same ∙ at))) (k.held r F') h;
   home = λ d b h.
       let old = k.home d b h in
       region_of_get s n map.empty d.region (λ o. (H : FactSet) × (o ≡ Some H) × (map.get H d ≡ Some b))
@@ -102,13 +102,13 @@ consists_made s U n F d b k at own free under passes =
           let old = k.home d c h in
           absurd (none_is_not_some c (sym free ∙ ap (λ H. map.get H d) (some_injective F old.0 (sym at ∙ ap (map.get s.regions) (sym own) ∙ old.1)) ∙ old.2))
     ] refl in
-    let grows : Within U (map.insert U d b) = λ q c h. by_dot (λ o. o ≡ Some c) U d b q (λ same. absurd (none_is_not_some c (sym new ∙ ap (map.get U) (sym same) ∙ h))) h in
+    let grows : IsSubset U (map.insert U d b) = λ q c h. by_dot (λ o. o ≡ Some c) U d b q (λ same. absurd (none_is_not_some c (sym new ∙ ap (map.get U) (sym same) ∙ h))) h in
     record {
       sound = IsFactSet-insert U d b k.sound passes;
-      held = λ r F' h. of_region s n (map.insert F d b) r F' (Within F' (map.insert U d b))
-          (λ _ same. subst (λ H. Within H (map.insert U d b)) same (λ q c j.
+      held = λ r F' h. of_region s n (map.insert F d b) r F' (IsSubset F' (map.insert U d b))
+          (λ _ same. subst (λ H. IsSubset H (map.insert U d b)) same (λ q c j.
           of_dot F d b q c (map.get (map.insert U d b) q ≡ Some c) (λ e bc. ap (map.get (map.insert U d b)) e ∙ get_here U d b ∙ ap Some bc) (λ i. grows q c (k.held n F at q c i)) j))
-          (λ i. within_trans F' U _ (k.held r F' i) grows) h;
+          (λ i. subset_trans F' U _ (k.held r F' i) grows) h;
       home = λ q c h.
           of_dot U d b q c ((H : FactSet) × (map.get (map.insert s.regions n (map.insert F d b)) q.region ≡ Some H) × (map.get H q ≡ Some c))
           (λ e bc. (map.insert F d b, region_here s n (map.insert F d b) q.region (ap (λ x. x.region) e ∙ own), ap (map.get (map.insert F d b)) e ∙ get_here F d b ∙ ap Some bc))
@@ -122,7 +122,7 @@ consists_made s U n F d b k at own free under passes =
                 (ap (λ H. map.get H q) (some_injective F old.0 (sym at ∙ ap (map.get s.regions) (sym same) ∙ old.1)) ∙ old.2),
           ))
           old) h;
-      carried = λ i fs h. let c = k.carried i fs h in (AllIn-within U (map.insert U d b) fs grows c.0, c.1);
+      carried = λ i fs h. let c = k.carried i fs h in (AllIn-subset U (map.insert U d b) fs grows c.0, c.1);
       capped = λ q c h. of_dot U d b q c (q.serial ≤ s.settings.cap) (λ e bc. subst (λ x. x.serial ≤ s.settings.cap) (sym e) under) (k.capped q c) h;
       low = k.low;
     }
@@ -159,7 +159,7 @@ under_cap cap place d b h =
     not_above false m n h t = absurd (false≢true h)
 
 made_keeps : (s : State) (n : ℕ) (F : FactSet) → map.get s.regions n ≡ Some F → (o : Option Body) → ((b : Body) → o ≡ Some b → (next_dot F n).serial ≤ s.settings.cap) → Passes o → IsConsistent s → IsConsistent (with_region s n (with_facts F (made_at (next_dot F n) o)))
-made_keeps s n F at None low passes k = (k.0, consists_set s k.0 n F F k.1 at (k.1.held n F at) (within_itself F))
+made_keeps s n F at None low passes k = (k.0, consists_set s k.0 n F F k.1 at (k.1.held n F at) (subset_itself F))
 made_keeps s n F at (Some b) low passes k = (map.insert k.0 (next_dot F n) b, consists_made s k.0 n F (next_dot F n) b k.1 at refl (next_is_free F n) (low b refl) passes)
 
 -- a region that grows is set to its set with these facts
@@ -171,7 +171,7 @@ joined_keeps : (old new : State) (n : ℕ) (F : FactSet) (seen : Facts) (g : Gro
 joined_keeps old new n F seen g k all =
     let within = k.1.held n F g.is_open in
     subst IsConsistent (sym (grown_to old new n F seen seen g refl))
-    (k.0, consists_set old k.0 n F _ k.1 g.is_open (within_with_facts F k.0 seen within all) (keeps_with_facts F k.0 seen within all))
+    (k.0, consists_set old k.0 n F _ k.1 g.is_open (subset_with_facts F k.0 seen within all) (keeps_with_facts F k.0 seen within all))
 
 pub step_keeps : (old : State) (e : Event) (o : Outcome) (seen : Facts) (new : State) → Step old e o seen new → IsConsistent old → IsConsistent new
 step_keeps old (Open n) Opened seen new step k = subst IsConsistent (sym step.2) (k.0, consists_opened old k.0 n k.1 step.0)
@@ -189,7 +189,7 @@ step_keeps old (Request n now words q) Memory seen new step k = subst IsConsiste
 step_keeps old (Pull n v) (Bundle index count last more) seen new step k =
     let F = step.0 in
     let fs = (page_of F v).facts in
-    subst IsConsistent (sym step.3.4) (k.0, consists_bundle old k.0 fs k.1 (AllIn-within F k.0 fs (k.1.held n F step.1) (AllIn-page F v)) (short_page (beyond F v)))
+    subst IsConsistent (sym step.3.4) (k.0, consists_bundle old k.0 fs k.1 (AllIn-subset F k.0 fs (k.1.held n F step.1) (AllIn-page F v)) (short_page (beyond F v)))
   where
     short_page : (fs : Facts) → length (take 128 fs) ≤ 128
     short_page fs = omega (arith, length-take 128 fs)
@@ -230,5 +230,5 @@ all_under s k r (e ∷ es) a = one_under e.0.region r e.0.serial (greatest_seria
 -- a region's next serial is at most one above the cap, so it is one
 pub next_under : (s : State) → IsConsistent s → (r : ℕ) (F : FactSet) → map.get s.regions r ≡ Some F → next_serial F r < 2 ^ 63
 next_under s k r F at =
-    let most = all_under s k r (map.entries F) (AllIn-within F k.0 (map.entries F) (k.1.held r F at) (AllIn-entries F)) in
+    let most = all_under s k r (map.entries F) (AllIn-subset F k.0 (map.entries F) (k.1.held r F at) (AllIn-entries F)) in
     omega (arith, k.1.low)

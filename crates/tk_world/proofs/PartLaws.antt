@@ -15,13 +15,13 @@ use Rattle.tk_handle.proofs.SortedEntriesLaws.{get_at_place, get_at_gap, sorted_
 use Rattle.tk_vector.specs.VersionVector.{Vector}
 use Rattle.tk_handle.specs.declared.dot.Dot.{Dot}
 use Rattle.tk_fact.specs.declared.body.Body.{Body}
-use Rattle.tk_store.specs.FactSet.{FactSet, Facts, AllIn, Within, with_facts}
+use Rattle.tk_store.specs.FactSet.{FactSet, Facts, AllIn, IsSubset, with_facts}
 use Rattle.tk_store.specs.Joining.{JoinsFacts}
 use Rattle.tk_store.specs.NextDot.{next_dot}
 use Rattle.tk_store.proofs.JoiningLaws.{joins_nothing, joins_with_facts}
 use Rattle.tk_store.proofs.NextDotLaws.{next_is_free}
 use Rattle.tk_store.proofs.PutLaws.{by_dot, get_here, none_is_not_some}
-use Rattle.tk_store.proofs.WithinLaws.{AllIn-take}
+use Rattle.tk_store.proofs.SubsetLaws.{AllIn-take}
 use Rattle.tk_world.specs.SettingsFields.{SettingsFields}
 use Rattle.tk_world.specs.AskedFields.{AskedFields}
 use Rattle.tk_world.specs.declared.event.Event.{Event}
@@ -64,7 +64,7 @@ some_is o x h = ap is_some h
 joins_made : (F : FactSet) (d : Dot) → map.get F d ≡ None → (o : Option Body) → JoinsFacts F (made_at d o) (with_facts F (made_at d o))
 joins_made F d free None = joins_nothing F
 joins_made F d free (Some b) =
-    let more : Within F (map.insert F d b) = λ q c h. by_dot (λ o. o ≡ Some c) F d b q (λ same. absurd (none_is_not_some c (sym free ∙ ap (map.get F) (sym same) ∙ h))) h in
+    let more : IsSubset F (map.insert F d b) = λ q c h. by_dot (λ o. o ≡ Some c) F d b q (λ same. absurd (none_is_not_some c (sym free ∙ ap (map.get F) (sym same) ∙ h))) h in
     joins_with_facts (map.insert F d b) F ((d, b) ∷ []) more (get_here F d b, tt)
 
 -- the region with this set grows
@@ -81,7 +81,7 @@ request_step_at s r F G asked o at a = absurd a
 pub request_step : (s : State) (r n : ℕ) (F G : FactSet) (asked : AskedFields) (o : Outcome) → n ≡ r → map.get s.regions r ≡ Some F → Commits (next_dot F n) (decided s.settings F n asked) F o G → (seen : Facts) × Step s (Request r asked.now asked.words asked.request) o seen (with_region s r G)
 request_step s r n F G asked o same at a = request_step_at s r F G asked o at (subst (λ (m : ℕ). Commits (next_dot F m) (decided s.settings F m asked) F o G) same a)
 
-pub deliver_step : (s : State) (i r : ℕ) (F G U : FactSet) (fs : Facts) (o : Outcome) → Within F U → AllIn U fs → map.get s.regions r ≡ Some F → slice_get s.bundles i ≡ Some fs → TakesFacts F fs o G → (seen : Facts) × Step s (Deliver i r) o seen (with_region s r G)
+pub deliver_step : (s : State) (i r : ℕ) (F G U : FactSet) (fs : Facts) (o : Outcome) → IsSubset F U → AllIn U fs → map.get s.regions r ≡ Some F → slice_get s.bundles i ≡ Some fs → TakesFacts F fs o G → (seen : Facts) × Step s (Deliver i r) o seen (with_region s r G)
 deliver_step s i r F G U fs (Took n) within all at there t = (fs, (F, grows_to s r F G fs at (joins_with_facts U F fs within all) t.0, there, t.1))
 deliver_step s i r F G U fs Memory within all at there t =
     (take t.0 fs, (F, grows_to s r F G (take t.0 fs) at (joins_with_facts U F (take t.0 fs) within (AllIn-take U t.0 fs all)) t.1, fs, there, t.0, refl))

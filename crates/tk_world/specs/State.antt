@@ -10,7 +10,7 @@ use Rattle.tk_handle.specs.declared.dot.Dot.{Dot}
 use Rattle.tk_handle.specs.Dot.{coded_dot}
 use Rattle.tk_fact.specs.declared.body.Body.{Body}
 use Rattle.tk_fact.specs.contracts.body.Body.{the_row}
-use Rattle.tk_store.specs.FactSet.{FactSet, Facts, AllIn, IsFactSet, Within, coded_facts}
+use Rattle.tk_store.specs.FactSet.{FactSet, Facts, AllIn, IsFactSet, IsSubset, coded_facts}
 use Rattle.tk_world.specs.SettingsFields.{SettingsFields}
 
 pub record State : Type 0 where
@@ -50,7 +50,7 @@ facts_in s r = unwrap_or (map.get s.regions r) map.empty
 -- U is the set of all facts made: each stands in the region of its number, under the cap
 pub record Consists (s : State) (U : FactSet) : Type 0 where
   pub sound : IsFactSet U
-  pub held : (r : ℕ) (F : FactSet) → map.get s.regions r ≡ Some F → Within F U
+  pub held : (r : ℕ) (F : FactSet) → map.get s.regions r ≡ Some F → IsSubset F U
   pub home : (d : Dot) (b : Body) → map.get U d ≡ Some b → (F : FactSet) × (map.get s.regions d.region ≡ Some F) × (map.get F d ≡ Some b)
   pub carried : (i : ℕ) (fs : Facts) → slice_get s.bundles i ≡ Some fs → AllIn U fs × (length fs ≤ 128)
   pub capped : (d : Dot) (b : Body) → map.get U d ≡ Some b → d.serial ≤ s.settings.cap

@@ -29,7 +29,7 @@ ghost use Rattle.std.specs.FinMap as map;
 ghost use Rattle.tk_bundle.specs.Bundle.{bundle};
 ghost use Rattle.tk_bundle.specs.Page as pages;
 ghost use Rattle.tk_message.specs.Decision.{Passes};
-ghost use Rattle.tk_store.specs.FactSet.{FactSet, IsFactSet, AllIn, Within};
+ghost use Rattle.tk_store.specs.FactSet.{FactSet, IsFactSet, AllIn, IsSubset};
 ghost use Rattle.tk_store.specs.NextDot.{next_dot, next_serial};
 ghost use Rattle.tk_store.specs.Store.{facts_of, known_in};
 ghost use Rattle.tk_world.specs.Decision as spec;
@@ -90,7 +90,7 @@ impl Region {
 
     // Reads the bundle, and adds its facts.
     pub(crate) fn deliver(&mut self, alloc: Global, bundle: &MadeBundle) -> Outcome
-        requires agree { (U : FactSet) × IsFactSet U × Within self.old.1 U × AllIn U bundle.now }
+        requires agree { (U : FactSet) × IsFactSet U × IsSubset self.old.1 U × AllIn U bundle.now }
         requires few { length bundle.now ≤ 128 }
         ensures number { self.new.0 ≡ self.old.0 }
         ensures takes { TakesFacts self.old.1 bundle.now result self.new.1 }

@@ -3,7 +3,7 @@
 ghost use Rattle.std.specs.Prelude.{◌≡◌, ◌≤◌, ◌+◌, length, IfOk, OnErr, Some, None};
 ghost use Rattle.std.specs.FinMap as sets;
 ghost use Rattle.tk_fact.specs.Check.{refusal_of};
-ghost use Rattle.tk_store.specs.FactSet.{FactSet, IsFactSet, AllIn, Within};
+ghost use Rattle.tk_store.specs.FactSet.{FactSet, IsFactSet, AllIn, IsSubset};
 ghost use Rattle.tk_world.specs.Parts.{TakesFacts};
 ghost use Rattle.tk_fact.specs.declared.body.Body.{Body};
 
@@ -15,7 +15,7 @@ use tk_store::{AddError, Added};
 
 // Adds copies of the facts, one after another, and counts those that are new.
 pub(crate) fn take_facts(alloc: Global, ledger: &mut Ledger, facts: &[Fact]) -> Outcome
-    requires agree { (U : FactSet) × IsFactSet U × Within ledger.old U × AllIn U facts.now }
+    requires agree { (U : FactSet) × IsFactSet U × IsSubset ledger.old U × AllIn U facts.now }
     requires few { length facts.now ≤ 128 }
     ensures { TakesFacts ledger.old facts.now result ledger.new }
 {

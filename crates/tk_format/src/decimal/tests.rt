@@ -1,3 +1,5 @@
+//! Which texts are decimals.
+
 use super::read_decimal;
 
 #[test]

@@ -1,3 +1,5 @@
+//! Handles and their texts, which another program wrote.
+
 use crate::{Dot, Handle, Kind, RegionNumber, Serial, TokenId};
 use std::test::Fail;
 

@@ -1,0 +1,39 @@
+-- The ranges of regions, serials and moments (own).
+--   IsRegion, is_region, greatest_region    the number of a region
+--   IsSerial, is_serial, greatest_serial    the place of a fact among those of its region
+--   IsMoment, is_moment, greatest_moment    whole seconds since 1970-01-01T00:00:00Z
+use Rattle.std.specs.Prelude.{ℕ, ◌<◌, ◌≤◌, Bool, ◌&&◌, nat_lt, nat_le}
+
+-- the greatest number of two bytes
+abbrev pub greatest_region : ℕ
+greatest_region = 65535
+
+-- the greatest number of 63 bits
+abbrev pub greatest_serial : ℕ
+greatest_serial = 9223372036854775807
+
+-- the last second of the year 9999
+abbrev pub greatest_moment : ℕ
+greatest_moment = 253402300799
+
+-- the number of a region
+abbrev pub IsRegion : ℕ → Type 0
+IsRegion n = (0 < n) × (n ≤ greatest_region)
+
+-- a serial
+abbrev pub IsSerial : ℕ → Type 0
+IsSerial n = (0 < n) × (n ≤ greatest_serial)
+
+-- the seconds of a moment
+abbrev pub IsMoment : ℕ → Type 0
+IsMoment n = n ≤ greatest_moment
+
+-- the same as tests
+abbrev pub is_region : ℕ → Bool
+is_region n = nat_lt 0 n && nat_le n greatest_region
+
+abbrev pub is_serial : ℕ → Bool
+is_serial n = nat_lt 0 n && nat_le n greatest_serial
+
+abbrev pub is_moment : ℕ → Bool
+is_moment n = nat_le n greatest_moment
