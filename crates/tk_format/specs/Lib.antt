@@ -1,5 +1,6 @@
 pub mod Exact
 pub mod Format
+pub mod KindLaws
 pub mod Laws
 pub mod Reading
 pub mod Spellings
