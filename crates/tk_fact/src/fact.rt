@@ -1,3 +1,5 @@
+//! A fact: what is said at a dot, and its bytes.
+
 use crate::body::Body;
 use std::marker::Model;
 use tk_handle::Dot;
@@ -34,7 +36,7 @@ const MOST_BYTES: usize = 8_192;
 
 impl Fact {
     ghost use Rattle.tk_fact.specs.Check.{refusal_of};
-    ghost use Rattle.tk_fact.specs.FactBytes.{fact, fact_bytes, framed};
+    ghost use Rattle.tk_fact.specs.FactBytes.{fact, fact_bytes, framed, most_bytes};
     ghost use Rattle.tk_handle.specs.declared.dot.Dot.{Dot as AnyDot};
     ghost use Rattle.tk_fact.specs.declared.body.Body.{Body as AnyBody};
 
@@ -96,7 +98,7 @@ impl Fact {
     pub fn write(&self, alloc: Global) -> Result<Vec<u8>, AllocError>
         requires { refusal_of self.now.1 ≡ None }
         ensures spelled { IfOk result (λ bytes. bytes.items ≡ fact_bytes self.now) }
-        ensures short { IfOk result (λ bytes. length bytes.items ≤ 8192) }
+        ensures short { IfOk result (λ bytes. length bytes.items ≤ most_bytes) }
     {
         self.known();
         let mut writer = Writer::new(alloc);
