@@ -1,5 +1,5 @@
 -- A fact that has a spelling has a short one (`fact_short`), also behind its length (`framed_fits`).
-use Rattle.std.proofs.Common.{◌≡◌, ℕ, ◌*◌, ◌<◌, ◌≤◌, Bool, true, false, cond, not, ◌&&◌, nat_le, nat_lt, List, [], ◌∷◌, ◌++◌, length, Option, Some, None, is_none, refl, ap, arith}
+use Rattle.std.proofs.Common.{◌≡◌, ℕ, ◌*◌, ◌≤◌, Bool, true, false, cond, not, nat_lt, List, [], ◌∷◌, ◌++◌, length, Option, Some, None, refl, ap, arith}
 use Rattle.std.specs.Prelude.{is_some}
 use Rattle.std.specs.Int.{w16, w64}
 use Rattle.std.specs.List.{list_all, flat_map}
@@ -7,13 +7,13 @@ use Rattle.std.specs.Str.{bytes_eq}
 use Rattle.std.proofs.lemmas.Bool.{ltb-false}
 use Rattle.std.proofs.lemmas.List.{length-append}
 use Rattle.std.proofs.lemmas.List.Concat.{flat_map-cons}
-use borrow.Author.Tests.{leb-true, le-leb}
+use borrow.Author.Tests.{le-leb}
 use Rattle.tk_format.specs.Format.{text, number_spelling}
 use Rattle.tk_format.specs.Exact.{bind_some}
 use Rattle.tk_format.specs.Spellings.{number_length, both_short, text_short}
 use Rattle.tk_scope.specs.Scope.{is_token, scope_of, scope_text, tokens_of}
 use Rattle.tk_scope.specs.declared.error.ScopeError.{ScopeError}
-use Rattle.tk_match.specs.Redirects.{most_uri_bytes, is_uri, most_uris}
+use Rattle.tk_match.specs.Redirects.{most_uri_bytes, is_uri}
 use Rattle.tk_match.specs.Challenge.{ChallengeFields, most_verifier_bytes}
 use Rattle.tk_handle.specs.declared.dot.Dot.{Dot}
 use Rattle.tk_handle.specs.Place.{place}
