@@ -23,7 +23,7 @@ use Rattle.tk_store.specs.Beyond.{beyond, is_beyond}
 use Rattle.tk_store.proofs.EntryLaws.{AllIn-entries}
 use Rattle.tk_store.proofs.SubsetLaws.{AllIn-take, AllIn-filter}
 use Rattle.tk_bundle.specs.declared.page.Page.{Page}
-use Rattle.tk_bundle.specs.Bundle.{ascends, bundle}
+use Rattle.tk_bundle.specs.Bundle.{ascends, most_facts, bundle}
 use Rattle.tk_bundle.specs.Page.{fact_at, facts_at, last_of, page_within, IsPageAt, IsPageOf}
 
 -- ---- what a set holds at some dots
@@ -72,7 +72,7 @@ page_more fs limit = ap (nat_lt limit) (length-take (limit + 1) (map dot_of fs) 
     same : (m n : ℕ) → nat_lt m (min (m + 1) n) ≡ nat_lt m n
     same m n = grind (arith, nat_tests)
 
-pub short_dots : (dots : List Dot) (limit : ℕ) → limit ≤ 128 → length (take limit dots) ≤ 128
+pub short_dots : (dots : List Dot) (limit : ℕ) → limit ≤ most_facts → length (take limit dots) ≤ most_facts
 short_dots dots limit low = omega (arith, length-take limit dots)
 
 -- ---- the page in bytes
@@ -137,15 +137,15 @@ ascends_sorted [] sorted = refl
 ascends_sorted (e ∷ es) sorted = let s = both _ _ sorted in ascends_above e.0 es s.0 s.1
 
 -- so a page has a spelling
-pub page_fits : (F : FactSet) (v : Vector) (limit : ℕ) (dots : List Dot) → limit ≤ 128 → dots ≡ map dot_of (take limit (beyond F v)) → AllByRecursion framed.Fits (facts_at F dots) → bundle.Fits (take limit (beyond F v))
+pub page_fits : (F : FactSet) (v : Vector) (limit : ℕ) (dots : List Dot) → limit ≤ most_facts → dots ≡ map dot_of (take limit (beyond F v)) → AllByRecursion framed.Fits (facts_at F dots) → bundle.Fits (take limit (beyond F v))
 page_fits F v limit dots low same fits =
     let fs = take limit (beyond F v) in
     let facts : facts_at F dots ≡ fs = ap (facts_at F) same ∙ page_facts F v limit in
-    let short : length fs ≤ 128 = omega (arith, length-take limit (beyond F v)) in
+    let short : length fs ≤ most_facts = omega (arith, length-take limit (beyond F v)) in
     (((small (length fs) short, few (length fs) short), subst (AllByRecursion framed.Fits) facts fits), ascends_sorted fs (sorted-take limit (beyond F v) (sorted-filter (is_beyond v) (sets.entries F) (sets.entries_sorted F))))
   where
-    small : (n : ℕ) → n ≤ 128 → n < 2 ^ 16
+    small : (n : ℕ) → n ≤ most_facts → n < 2 ^ 16
     small n h = omega arith
 
-    few : (n : ℕ) → n ≤ 128 → nat_le n 128 ≡ true
+    few : (n : ℕ) → n ≤ most_facts → nat_le n most_facts ≡ true
     few n h = grind (arith, nat_tests)

@@ -1,4 +1,6 @@
--- A bundle's bytes (own): OTB1, a count, and the facts behind their lengths, strictly ascending by dot.
+-- A bundle's bytes (own): the magic, a count, and the facts behind their lengths, strictly ascending by dot.
+--   magic          what a bundle begins with
+--   most_facts     the most facts of a bundle
 --   ascends        the dots of a list rise
 --   bundle         how a bundle is spelled
 --   bundle_bytes   the bytes of a bundle
@@ -21,9 +23,13 @@ ascends (Some d) (f ∷ fs) = is_lt (dot_cmp d f.0) && ascends (Some f.0) fs
 abbrev pub magic : List ℕ
 magic = 79 ∷ 84 ∷ 66 ∷ 49 ∷ []
 
--- the magic, a count of at most 128, and that many facts
+-- the most facts of a bundle
+abbrev pub most_facts : ℕ
+most_facts = 128
+
+-- the magic, a count of at most so many, and that many facts
 abbrev pub listed : Format Facts
-listed = after magic (counted (only (λ n. nat_le n 128) (number w16)) framed)
+listed = after magic (counted (only (λ n. nat_le n most_facts) (number w16)) framed)
 
 abbrev pub bundle : Format Facts
 bundle = only (ascends None) listed

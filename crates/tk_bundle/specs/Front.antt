@@ -2,11 +2,12 @@
 --   walk        what it gives, or why it ends
 --   IsCut       the walk runs out of bytes
 --   IsFrontOf   a bundle was read with the length of its spelling
-use Rattle.std.specs.Prelude.{◌≡◌, ℕ, zero, suc, nat_lt, List, length, Option, Some, None, Result, Ok, Err, if◌then◌else◌}
+use Rattle.std.specs.Prelude.{◌≡◌, ℕ, zero, suc, Bool, not, nat_lt, List, length, Option, Some, None, Result, Ok, Err, if◌then◌else◌}
 use Rattle.std.specs.Str.{bytes_eq}
 use Rattle.std.specs.Int.{w16}
-use Rattle.tk_format.specs.Format.{number, bytes_of}
-use Rattle.tk_bundle.specs.Bundle.{magic, bundle}
+use Rattle.tk_format.specs.Format.{Format, ◌⊗◌, number, bytes_of}
+use Rattle.tk_fact.specs.FactBytes.{most_bytes}
+use Rattle.tk_bundle.specs.Bundle.{magic, most_facts, bundle}
 use Rattle.tk_store.specs.FactSet.{Facts}
 use Rattle.tk_bundle.specs.declared.error.FrontError.{FrontError}
 use Rattle.tk_bundle.specs.declared.error.FrontError.TheVariants.{Malformed, Memory, Cut}
@@ -20,20 +21,40 @@ abbrev pub or_cut : {A : Type 0} → Option A → Result A FrontError
 or_cut None = Err Cut
 or_cut (Some x) = Ok x
 
--- one fact behind its length
-abbrev pub skipped : List ℕ → Result (List ℕ) FrontError
-skipped bytes = or_cut ((number w16).read bytes) >>= λ n.
-    if nat_lt 8192 n.0 then Err Malformed else (or_cut ((bytes_of n.0).read n.1) >>= λ b. Ok b.1)
+-- Malformed where the test holds
+abbrev pub malformed_if : {A : Type 0} → Bool → Result A FrontError → Result A FrontError
+malformed_if test others = if test then Err Malformed else others
 
--- that many facts
+-- what a bundle begins with: the bytes of the magic, and a count
+abbrev pub header : Format (List ℕ × ℕ)
+header = bytes_of (length magic) ⊗ number w16
+
+-- the bytes behind one fact
+abbrev pub skipped : List ℕ → Result (List ℕ) FrontError
+skipped bytes =
+    -- no whole length is left: Cut
+    or_cut ((number w16).read bytes) >>= λ size.
+    -- a length above the most of a fact: Malformed
+    malformed_if (nat_lt most_bytes size.0)
+    -- fewer bytes than the length: Cut
+    (or_cut ((bytes_of size.0).read size.1) >>= λ skip. Ok skip.1)
+
+-- the bytes behind that many facts
 unfoldable pub skipped_many : ℕ → List ℕ → Result (List ℕ) FrontError
 skipped_many zero bytes = Ok bytes
 skipped_many (suc n) bytes = skipped bytes >>= λ rest. skipped_many n rest
 
--- the whole walk: six bytes, the first four of them the magic, and the facts that the others count
+-- the whole walk: the header, and the facts that it counts
 abbrev pub walk : List ℕ → Result (List ℕ) FrontError
-walk bytes = or_cut ((bytes_of 4).read bytes) >>= λ m. or_cut ((number w16).read m.1) >>= λ n.
-    if bytes_eq m.0 magic then (if nat_lt 128 n.0 then Err Malformed else skipped_many n.0 n.1) else Err Malformed
+walk bytes =
+    -- fewer than six bytes: Cut
+    or_cut (header.read bytes) >>= λ front.
+    -- another magic: Malformed
+    malformed_if (not (bytes_eq front.0.0 magic))
+    -- a count above the most of a bundle: Malformed
+    (malformed_if (nat_lt most_facts front.0.1)
+    -- then fact by fact
+    (skipped_many front.0.1 front.1))
 
 -- the walk runs out of bytes
 abbrev pub IsCut : List ℕ → Type 0

@@ -1,13 +1,13 @@
 -- The walk over lengths: a loop of it, what it leaves, and that it is cut where a bundle is torn.
-use Rattle.std.proofs.Common.{◌≡◌, ◌≢◌, ℕ, zero, suc, ◌+◌, ◌-◌, ◌<◌, ◌≤◌, Bool, true, false, cond, ltb, List, [], ◌∷◌, ◌++◌, length, take, drop, Option, Some, None, Result, Ok, Err, refl, sym, ap, subst, ◌∙◌, append_assoc, arith}
+use Rattle.std.proofs.Common.{◌≡◌, ◌≢◌, ℕ, zero, suc, ◌+◌, ◌-◌, ◌<◌, ◌≤◌, Bool, true, false, cond, not, ltb, List, [], ◌∷◌, ◌++◌, length, take, drop, Option, Some, None, Result, Ok, Err, refl, sym, ap, subst, ◌∙◌, append_assoc, arith}
 use Rattle.std.specs.Str.{bytes_eq}
 use Rattle.std.specs.Int.{w16, from_be_bytes}
 use Rattle.std.specs.List.{flat_map, AllByRecursion}
 use Rattle.std.proofs.lemmas.List.{take_at, take-append-le, drop-append-le, length-append, append-nil}
 use Rattle.std.proofs.lemmas.Bool.{le-ltb, ltb-false}
 use Rattle.tk_format.specs.Format.{number, number_at, number_spelling, bytes_at, bytes_of, text_spelling}
-use Rattle.tk_format.specs.Laws.{u16_exact, bytes_exact}
-use Rattle.tk_format.specs.Exact.{IsBytes, Takes, Takes-then, guard_some, prefix_free}
+use Rattle.tk_format.specs.Laws.{u16_exact, bytes_exact, both_exact}
+use Rattle.tk_format.specs.Exact.{IsBytes, IsExact, Takes, Takes-then, bind_some, guard_some, some_is, prefix_free}
 use Rattle.tk_bundle.specs.BundleLaws.{bundle_exact}
 use Rattle.tk_bundle.specs.declared.error.FrontError.{FrontError}
 use Rattle.tk_bundle.specs.declared.error.FrontError.TheVariants.{Malformed, Memory, Cut}
@@ -16,9 +16,9 @@ use borrow.Author.Tests.{leb-true}
 use Rattle.tk_handle.specs.declared.dot.Dot.{Dot}
 use Rattle.tk_fact.specs.declared.body.Body.{Body}
 use Rattle.tk_store.specs.FactSet.{Facts}
-use Rattle.tk_fact.specs.FactBytes.{fact, framed}
-use Rattle.tk_bundle.specs.Bundle.{magic, bundle}
-use Rattle.tk_bundle.specs.Front.{◌>>=◌, or_cut, skipped, skipped_many, walk}
+use Rattle.tk_fact.specs.FactBytes.{fact, most_bytes, framed}
+use Rattle.tk_bundle.specs.Bundle.{magic, most_facts, bundle}
+use Rattle.tk_bundle.specs.Front.{◌>>=◌, or_cut, malformed_if, header, skipped, skipped_many, walk}
 
 pub walk_more : (count i : ℕ) (now next : List ℕ) (total : Result (List ℕ) FrontError) → i < count → skipped now ≡ Ok next → skipped_many (count - i) now ≡ total → skipped_many (count - (i + 1)) next ≡ total
 unfolding skipped_many
@@ -61,10 +61,6 @@ test_ok : {A : Type 0} (b : Bool) (e : FrontError) (r : Result A FrontError) (y 
 test_ok true e r y h = absurd cc
 test_ok false e r y h = (refl, h)
 
-pass_ok : {A : Type 0} (b : Bool) (e : FrontError) (r : Result A FrontError) (y : A) → cond b r (Err e) ≡ Ok y → (b ≡ true) × (r ≡ Ok y)
-pass_ok true e r y h = (refl, h)
-pass_ok false e r y h = absurd cc
-
 abbrev Ends : List ℕ → List ℕ → Type 0
 Ends bytes rest = (front : List ℕ) × Takes bytes front rest
 
@@ -73,9 +69,9 @@ Ends-then a x b c p q = (x ++ q.0, Takes-then a x b q.0 c p q.1)
 
 skipped_ends : (bytes rest : List ℕ) → IsBytes bytes → skipped bytes ≡ Ok rest → Ends bytes rest
 skipped_ends bytes rest fits e =
-    let a = bind_ok (or_cut ((number w16).read bytes)) (λ n. cond (ltb 8192 n.0) (Err Malformed) (or_cut ((bytes_of n.0).read n.1) >>= λ b. Ok b.1)) rest e in
+    let a = bind_ok (or_cut ((number w16).read bytes)) (λ n. cond (ltb most_bytes n.0) (Err Malformed) (or_cut ((bytes_of n.0).read n.1) >>= λ b. Ok b.1)) rest e in
     let first = u16_exact.takes bytes a.0 fits (cut_ok _ a.0 a.1) in
-    let t = test_ok (ltb 8192 a.0.0) Malformed (or_cut ((bytes_of a.0.0).read a.0.1) >>= λ b. Ok b.1) rest a.2 in
+    let t = test_ok (ltb most_bytes a.0.0) Malformed (or_cut ((bytes_of a.0.0).read a.0.1) >>= λ b. Ok b.1) rest a.2 in
     let b = bind_ok (or_cut ((bytes_of a.0.0).read a.0.1)) (λ b. Ok b.1) rest t.1 in
     let second = (bytes_exact a.0.0).takes a.0.1 b.0 first.0.rest_fits (cut_ok _ b.0 b.1) in
     let both = Takes-then bytes (number_spelling w16 a.0.0) a.0.1 b.0.0 b.0.1 first.0 second.0 in
@@ -89,15 +85,16 @@ many_end (suc n) bytes rest fits e =
     let first = skipped_ends bytes a.0 fits a.1 in
     Ends-then bytes first.0 a.0 rest first.1 (many_end n a.0 rest first.1.rest_fits a.2)
 
+header_exact : IsExact header
+header_exact = both_exact _ _ (bytes_exact (length magic)) u16_exact
+
 pub walk_ends : (bytes rest : List ℕ) → IsBytes bytes → walk bytes ≡ Ok rest → Ends bytes rest
 walk_ends bytes rest fits e =
-    let m = bind_ok (or_cut ((bytes_of 4).read bytes)) (λ m. or_cut ((number w16).read m.1) >>= λ n. cond (bytes_eq m.0 magic) (cond (ltb 128 n.0) (Err Malformed) (skipped_many n.0 n.1)) (Err Malformed)) rest e in
-    let n = bind_ok (or_cut ((number w16).read m.0.1)) (λ n. cond (bytes_eq m.0.0 magic) (cond (ltb 128 n.0) (Err Malformed) (skipped_many n.0 n.1)) (Err Malformed)) rest m.2 in
-    let first = (bytes_exact 4).takes bytes m.0 fits (cut_ok _ m.0 m.1) in
-    let second = u16_exact.takes m.0.1 n.0 first.0.rest_fits (cut_ok _ n.0 n.1) in
-    let p = pass_ok (bytes_eq m.0.0 magic) Malformed (cond (ltb 128 n.0.0) (Err Malformed) (skipped_many n.0.0 n.0.1)) rest n.2 in
-    let t = test_ok (ltb 128 n.0.0) Malformed (skipped_many n.0.0 n.0.1) rest p.1 in
-    Ends-then bytes m.0.0 m.0.1 rest first.0 (Ends-then m.0.1 (number_spelling w16 n.0.0) n.0.1 rest second.0 (many_end n.0.0 n.0.1 rest second.0.rest_fits t.1))
+    let h = bind_ok (or_cut (header.read bytes)) (λ h. malformed_if (not (bytes_eq h.0.0 magic)) (malformed_if (ltb most_facts h.0.1) (skipped_many h.0.1 h.1))) rest e in
+    let first = header_exact.takes bytes h.0 fits (cut_ok _ h.0 h.1) in
+    let p = test_ok (not (bytes_eq h.0.0.0 magic)) Malformed (malformed_if (ltb most_facts h.0.0.1) (skipped_many h.0.0.1 h.0.1)) rest h.2 in
+    let t = test_ok (ltb most_facts h.0.0.1) Malformed (skipped_many h.0.0.1 h.0.1) rest p.1 in
+    Ends-then bytes (header.spell h.0.0) h.0.1 rest first.0 (many_end h.0.0.1 h.0.1 rest first.0.rest_fits t.1)
 
 -- ---- a bundle at the front is walked over
 
@@ -105,7 +102,7 @@ skipped_framed : (f : Dot × Body) (rest : List ℕ) → framed.Fits f → skipp
 unfolding text_spelling
 skipped_framed f rest fits =
     let s = fact.spell f in
-    let small : ltb 8192 (length s) ≡ false = le-ltb 8192 (length s) (leb-true (length s) 8192 fits.1.1) in
+    let small : ltb most_bytes (length s) ≡ false = le-ltb most_bytes (length s) (leb-true (length s) most_bytes fits.1.1) in
     ap skipped (append_assoc (number_spelling w16 (length s)) s rest)
     ∙ rw (u16_exact.again (length s) (s ++ rest) fits.1.0, small, (bytes_exact (length s)).again s rest refl) refl
 
@@ -120,7 +117,7 @@ pub walk_bundle : (fs : Facts) (rest : List ℕ) → bundle.Fits fs → walk (bu
 walk_bundle fs rest fits =
     let count = number_spelling w16 (length fs) in
     let facts = flat_map framed.spell fs in
-    let small : ltb 128 (length fs) ≡ false = le-ltb 128 (length fs) (leb-true (length fs) 128 fits.0.0.1) in
+    let small : ltb most_facts (length fs) ≡ false = le-ltb most_facts (length fs) (leb-true (length fs) most_facts fits.0.0.1) in
     ap walk (append_assoc magic (count ++ facts) rest ∙ ap (λ (t : List ℕ). magic ++ t) (append_assoc count facts rest))
     ∙ rw ((bytes_exact 4).again magic (count ++ (facts ++ rest)) refl, u16_exact.again (length fs) (facts ++ rest) fits.0.0.0, small) (many_framed fs rest fits.0.1)
 
@@ -147,10 +144,6 @@ unless : (more : List ℕ) (b : Bool) (r longer : Result (List ℕ) FrontError) 
 unless more true r longer h = refl
 unless more false r longer h = h
 
-provided : (more : List ℕ) (b : Bool) (r longer : Result (List ℕ) FrontError) → GoesOn more r longer → GoesOn more (cond b r (Err Malformed)) (cond b longer (Err Malformed))
-provided more true r longer h = h
-provided more false r longer h = refl
-
 bytes_on : (n : ℕ) (bytes more : List ℕ) (x : List ℕ × List ℕ) → (bytes_of n).read bytes ≡ Some x → (bytes_of n).read (bytes ++ more) ≡ Some (x.0, x.1 ++ more)
 unfolding bytes_at
 bytes_on n bytes more x e =
@@ -169,17 +162,23 @@ number_on bytes more x e =
 
 skipped_on : (bytes more : List ℕ) → GoesOn more (skipped bytes) (skipped (bytes ++ more))
 skipped_on bytes more =
-    read_on more _ _ _ (number_on bytes more) (λ n. unless more (ltb 8192 n.0) _ _ (read_on more _ _ (λ b. Ok b.1) (bytes_on n.0 n.1 more) (λ b. refl)))
+    read_on more _ _ _ (number_on bytes more) (λ n. unless more (ltb most_bytes n.0) _ _ (read_on more _ _ (λ b. Ok b.1) (bytes_on n.0 n.1 more) (λ b. refl)))
 
 many_on : (n : ℕ) (bytes more : List ℕ) → GoesOn more (skipped_many n bytes) (skipped_many n (bytes ++ more))
 unfolding skipped_many
 many_on zero bytes more = refl
 many_on (suc n) bytes more = walk_on more (skipped bytes) (skipped (bytes ++ more)) (λ rest. skipped_many n rest) (skipped_on bytes more) (λ rest. many_on n rest more)
 
+header_on : (bytes more : List ℕ) (x : (List ℕ × ℕ) × List ℕ) → header.read bytes ≡ Some x → header.read (bytes ++ more) ≡ Some (x.0, x.1 ++ more)
+header_on bytes more x e =
+    let m = bind_some ((bytes_of 4).read bytes) _ x e in
+    let n = bind_some ((number w16).read m.0.1) _ x m.2 in
+    rw (bytes_on 4 bytes more m.0 m.1, number_on m.0.1 more n.0 n.1) (ap (λ (y : (List ℕ × ℕ) × List ℕ). Some (y.0, y.1 ++ more)) (some_is _ x n.2))
+
 walk_goes_on : (bytes more : List ℕ) → GoesOn more (walk bytes) (walk (bytes ++ more))
 walk_goes_on bytes more =
-    read_on more _ _ _ (bytes_on 4 bytes more) (λ m. read_on more _ _ _ (number_on m.1 more) (λ n.
-    provided more (bytes_eq m.0 magic) _ _ (unless more (ltb 128 n.0) _ _ (many_on n.0 n.1 more))))
+    read_on more _ _ _ (header_on bytes more) (λ h.
+    unless more (not (bytes_eq h.0.0 magic)) _ _ (unless more (ltb most_facts h.0.1) _ _ (many_on h.0.1 h.1 more)))
 
 -- a walk that goes on to the end is cut where the last of the bytes are taken away
 cut_before : (more : List ℕ) (r longer : Result (List ℕ) FrontError) → GoesOn more r longer → longer ≡ Ok [] → more ≢ [] → r ≡ Err Cut

@@ -14,7 +14,7 @@ use Rattle.tk_fact.specs.declared.body.Body.{Body}
 use Rattle.tk_vector.specs.VersionVector.{Vector}
 use Rattle.tk_store.specs.FactSet.{FactSet, Facts, dot_of}
 use Rattle.tk_store.specs.Beyond.{beyond}
-use Rattle.tk_bundle.specs.Bundle.{magic, bundle_bytes}
+use Rattle.tk_bundle.specs.Bundle.{magic, most_facts, bundle_bytes}
 use Rattle.tk_bundle.specs.declared.page.Page.{Page}
 
 pub record PageFields : Type 0 where
@@ -30,9 +30,9 @@ last_of dots = slice_get dots (length dots - 1)
 abbrev pub page_within : ℕ → Facts → PageFields
 page_within limit fs = record { facts = take limit fs; last = last_of (map dot_of (take limit fs)); more = nat_lt limit (length fs) }
 
--- a page has at most 128 facts
+-- a page is a bundle, and has as many facts at most
 abbrev pub page_of : FactSet → Vector → PageFields
-page_of F v = page_within 128 (beyond F v)
+page_of F v = page_within most_facts (beyond F v)
 
 -- the page has these facts in bytes, their number, the dot of the last, and tells whether more follow
 pub record IsPageOf (page : Page) (fields : PageFields) : Type 0 where

@@ -1,7 +1,12 @@
+//! A bundle: facts, ascending by dot, and how they are read.
+
 use std::marker::Model;
 use tk_fact::Fact;
 
-/// The greatest number of facts in a bundle (own).
+/// What a bundle begins with (own).
+pub(crate) const MAGIC: &[u8] = b"OTB1";
+
+/// The most facts of a bundle (own).
 pub(crate) const MOST_FACTS: u16 = 128;
 
 /// Facts, strictly ascending by dot, at most 128 of them.
@@ -52,7 +57,7 @@ impl Bundle {
 fn read_listed(alloc: Global, reader: &mut Reader<'_>) -> Result<Vec<Fact>, ReadError>
     ensures { Gets (λ v. v.items) listed result reader.old reader.new }
 {
-    reader.take_magic(b"OTB1").ok_or(ReadError::Malformed)?;
+    reader.take_magic(MAGIC).ok_or(ReadError::Malformed)?;
     let count = reader.take_u16().ok_or(ReadError::Malformed)?;
     if count > MOST_FACTS {
         return Err(ReadError::Malformed);

@@ -1,12 +1,15 @@
+//! The first bundle of many bytes.
+
 ghost use Rattle.std.specs.Prelude.{◌≡◌, ◌≢◌, ◌≤◌, ◌++◌, [], List, ℕ, length, take, IfOk, IsErrOf, Err};
 ghost use Rattle.tk_store.specs.FactSet.{Facts};
 ghost use Rattle.tk_bundle.specs.Bundle.{bundle, bundle_bytes};
 ghost use Rattle.tk_bundle.specs.Front.{Walks, IsCut, skipped, skipped_many, walk, IsFrontOf};
 ghost use Rattle.tk_bundle.specs.declared.error.FrontError.{FrontError as AnyError};
 
-use crate::bundle::{Bundle, MOST_FACTS};
+use crate::bundle::{Bundle, MAGIC, MOST_FACTS};
 use crate::error::FrontError;
 use std::alloc::Global;
+use tk_fact::Fact;
 use tk_format::{ReadError, Reader};
 
 /// The bundle at the front of the bytes, and how many bytes it takes. The lengths are walked over first.
@@ -36,9 +39,9 @@ pub fn read_front(alloc: Global, bytes: &[u8]) -> Result<(Bundle, usize), FrontE
 fn walk(reader: &mut Reader<'_>) -> Result<(), FrontError>
     ensures { Walks result (walk reader.old) reader.new }
 {
-    let front = reader.take_bytes(4).ok_or(FrontError::Cut)?;
+    let front = reader.take_bytes(MAGIC.len()).ok_or(FrontError::Cut)?;
     let count = reader.take_u16().ok_or(FrontError::Cut)?;
-    if front != b"OTB1".as_slice() {
+    if front != MAGIC {
         return Err(FrontError::Malformed);
     }
     if count > MOST_FACTS {
@@ -61,7 +64,7 @@ fn skip(reader: &mut Reader<'_>) -> Result<(), FrontError>
     ensures { Walks result (skipped reader.old) reader.new }
 {
     let count = reader.take_u16().ok_or(FrontError::Cut)?;
-    if count > 8192 {
+    if count as usize > Fact::MOST_BYTES {
         return Err(FrontError::Malformed);
     }
     reader.take_bytes(count as usize).ok_or(FrontError::Cut)?;

@@ -1,3 +1,5 @@
+//! Whether facts rise by dot.
+
 ghost use Rattle.std.specs.Prelude.{◌≡◌, None};
 ghost use Rattle.std.specs.Ordering.{is_lt};
 ghost use Rattle.tk_handle.specs.Dot.{dot_cmp};

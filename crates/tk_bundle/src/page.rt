@@ -1,3 +1,5 @@
+//! What a store has beyond a vector, as a bundle.
+
 use tk_handle::Dot;
 
 /// What a pull gives: a bundle, and what it says of the facts to come.
@@ -21,10 +23,10 @@ ghost use Rattle.tk_fact.specs.Check.{refusal_of};
 ghost use Rattle.tk_fact.specs.FactBytes.{framed};
 ghost use Rattle.tk_store.specs.Store.{facts_of, known_in};
 ghost use Rattle.tk_store.specs.Beyond.{beyond};
-ghost use Rattle.tk_bundle.specs.Bundle.{magic, bundle, bundle_bytes};
+ghost use Rattle.tk_bundle.specs.Bundle.{magic, most_facts, bundle, bundle_bytes};
 ghost use Rattle.tk_bundle.specs.Page as spec;
 
-use crate::bundle::MOST_FACTS;
+use crate::bundle::{MAGIC, MOST_FACTS};
 use std::alloc::{AllocError, Global};
 use tk_fact::Fact;
 use tk_format::Writer;
@@ -48,7 +50,7 @@ fn page_within(
     vector: &VersionVector,
     limit: usize,
 ) -> Result<Page, AllocError>
-    requires { limit ≤ 128 }
+    requires { limit ≤ most_facts }
     ensures page { IfOk result (λ page. spec.IsPageOf page (spec.page_within limit (beyond (known_in store.now) vector.now))) }
     ensures fits { OnOk result (bundle.Fits (take limit (beyond (known_in store.now) vector.now))) }
 {
@@ -60,12 +62,12 @@ fn page_within(
 
 // The page of the facts at these dots.
 fn page_at(alloc: Global, store: &FactStore, dots: &[Dot], more: bool) -> Result<Page, AllocError>
-    requires { length dots.now ≤ 128 }
+    requires { length dots.now ≤ most_facts }
     ensures page { IfOk result (λ page. spec.IsPageAt page (facts_of store.now) dots.now more) }
     ensures fits { OnOk result (AllByRecursion framed.Fits (spec.facts_at (facts_of store.now) dots.now)) }
 {
     let mut writer = Writer::new(alloc);
-    writer.put_bytes(b"OTB1")?;
+    writer.put_bytes(MAGIC)?;
     let count = dots.len() as u16;
     writer.put_u16(count)?;
     write_facts(alloc, store, dots, &mut writer)?;
@@ -132,7 +134,7 @@ pub fn single(alloc: Global, fact: &Fact) -> Result<Vec<u8>, AllocError>
 {
     fact.known();
     let mut writer = Writer::new(alloc);
-    writer.put_bytes(b"OTB1")?;
+    writer.put_bytes(MAGIC)?;
     writer.put_u16(1)?;
     fact.write_framed(alloc, &mut writer)?;
     Ok(writer.into_bytes())

@@ -1,3 +1,5 @@
+//! Bundles as bytes: read, torn and made.
+
 use crate::{Bundle, FrontError, make, read_front, single};
 use std::alloc::{AllocError, Global};
 use std::test::Fail;
@@ -36,8 +38,10 @@ fn is_spelled_again(alloc: Global, bytes: &[u8]) -> Result<bool, Fail> {
 
 #[test]
 fn one_fact_has_one_spelling(rt: HostRuntime) -> Result<(), Fail> {
-    assert!(rt; is_spelled_again(rt.alloc(), &ADDED)?);
-    assert!(rt; is_spelled_again(rt.alloc(), &RETIRED)?);
+    let rows: [(&str, &[u8]); 2] = [("a client", &ADDED), ("its retirement", &RETIRED)];
+    for (name, bytes) in rows {
+        assert!(rt; is_spelled_again(rt.alloc(), bytes)?, "{name}");
+    }
     Ok(())
 }
 
@@ -58,7 +62,8 @@ fn a_bundle_that_ends_early_is_cut(rt: HostRuntime) {
         );
         assert!(rt; is_cut(rt.alloc(), &ADDED[..length]), "{length} bytes");
     }
-    assert!(rt; matches!(read_front(rt.alloc(), &ADDED), Ok((_, 51))));
+    let whole = read_front(rt.alloc(), &ADDED);
+    assert!(rt; matches!(whole, Ok((_, 51))), "all bytes");
 }
 
 // Both facts in one bundle, in this order.
@@ -91,8 +96,12 @@ fn the_front_is_told_from_the_rest(rt: HostRuntime) -> Result<(), Fail> {
     let alloc = rt.alloc();
     let mut followed = Vec::from_slice(alloc, &ADDED)?;
     followed.extend_from_slice(b"OTB")?;
-    assert!(rt; matches!(read_front(alloc, followed.as_slice()), Ok((_, 51))));
-    assert!(rt; is_malformed(alloc, followed.as_slice()));
+    let front = read_front(alloc, followed.as_slice());
+    assert!(rt; matches!(front, Ok((_, 51))), "a bundle and three letters");
+    assert!(rt;
+        is_malformed(alloc, followed.as_slice()),
+        "not all of the bytes"
+    );
     let rows: [(&str, &[u8], bool); 7] = [
         ("nothing", b"", true),
         ("three letters", b"OTB", true),

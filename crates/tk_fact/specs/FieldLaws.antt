@@ -5,18 +5,19 @@ use Rattle.std.specs.Str.{bytes_eq}
 use Rattle.std.proofs.lemmas.Slice.Eq.{bytes_eq-Decides}
 use borrow.Author.Tests.{leb-true}
 use Rattle.std.proofs.lemmas.Bool.{ltb-false}
-use Rattle.tk_format.specs.Format.{Format, via, text}
+use Rattle.tk_format.specs.Format.{Format, via, text, ◌and_then◌}
 use Rattle.tk_format.specs.Exact.{IsBytes, Takes, IsExact, bind_some, chosen_some, some_is}
-use Rattle.tk_format.specs.Laws.{Follows, byte_exact, bytes_exact, text_exact, both_exact, only_exact, shaped_exact, partly_exact, counted_exact, coded_exact, choice_exact, via_takes, via_again, case_takes}
+use Rattle.tk_format.specs.Laws.{Follows, byte_exact, bytes_exact, text_exact, both_exact, only_exact, shaped_exact, partly_exact, counted_exact, coded_exact, choice_exact, via_takes, via_again, case_takes, nothing_exact}
+use Rattle.tk_format.specs.KindLaws.{kind_exact, no_kind_exact, its, not_its}
 use Rattle.tk_handle.proofs.FormatLaws.{moment_exact}
 use Rattle.tk_scope.specs.Scope.{scope_of}
-use Rattle.tk_match.specs.Redirects.{is_uri, is_uri_byte, redirects_of, redirects_refusal}
+use Rattle.tk_match.specs.Redirects.{most_uri_bytes, is_uri, is_uri_byte, most_uris, redirects_of, redirects_refusal}
 use Rattle.tk_match.specs.declared.redirects.RedirectError.{RedirectError}
 use Rattle.tk_match.specs.declared.challenge.ChallengeError.{ChallengeError}
-use Rattle.tk_match.specs.Challenge.{ChallengeFields, challenge_of, is_verifier, is_unreserved}
-use Rattle.tk_fact.specs.declared.sort.Sort.{Sort}
+use Rattle.tk_match.specs.Challenge.{ChallengeFields, challenge_of, fewest_verifier_bytes, most_verifier_bytes, is_verifier, is_unreserved}
 use Rattle.tk_fact.specs.declared.sort.Sort.TheVariants.{Public, Confidential, Resource}
-use Rattle.tk_fact.specs.Fields.{digest_field, sort_tag, sort_rest, SortFits, sort_cases, sort_field, printed_scope_of, scope_field, redirects_field, flag_code, flag_of, flag_field, challenge_tag, challenge_text, challenge_rest, ChallengeFits, challenge_with, challenge_cases, challenge_field, minted_field}
+use Rattle.tk_fact.specs.Subject.{is_visible, most_subject_bytes, is_subject}
+use Rattle.tk_fact.specs.Fields.{digest_field, sorts, sort_field, printed_scope_of, scope_field, subject_field, uri_field, redirects_field, flag_code, flag_of, flag_field, challenge_tag, challenge_bytes, challenge_rest, ChallengeFits, challenge_with, challenge_cases, challenge_field, minted_field}
 
 -- both of two tests that hold together
 pub both_true : (a b : Bool) → (a && b) ≡ true → (a ≡ true) × (b ≡ true)
@@ -48,19 +49,13 @@ digest_exact = bytes_exact 32
 
 -- ---- what a client is
 
-sort_takes : (t : ℕ) (bytes : List ℕ) (x : Sort × List ℕ) → IsBytes bytes → sort_cases t bytes ≡ Some x → Follows sort_tag sort_rest SortFits t bytes x
-sort_takes t bytes x fits e =
-    bare_case sort_tag sort_rest SortFits t 0 Public _ bytes x fits refl refl tt
-    (one_case sort_tag sort_rest SortFits t 1 Confidential digest_field _ bytes x digest_exact fits (λ a. (refl, refl)) (λ a h. h)
-    (one_case sort_tag sort_rest SortFits t 2 Resource digest_field _ bytes x digest_exact fits (λ a. (refl, refl)) (λ a h. h) (λ h. absurd cc))) e
-
-sort_again : (s : Sort) (rest : List ℕ) → SortFits s → sort_cases (sort_tag s) (sort_rest s ++ rest) ≡ Some (s, rest)
-sort_again Public rest fits = refl
-sort_again (Confidential d) rest fits = via_again Confidential digest_field digest_exact d rest fits
-sort_again (Resource d) rest fits = via_again Resource digest_field digest_exact d rest fits
-
 pub sort_exact : IsExact sort_field
-sort_exact = choice_exact sort_tag sort_rest SortFits sort_cases (record { takes = sort_takes; again = sort_again })
+unfolding sorts
+sort_exact =
+    kind_exact {into = λ _. Public} _ _ nothing_exact (elim [ Public ↦ its _ tt | b ↦ not_its _ b ]) (λ a. refl) (λ a h. h) (λ bytes. refl)
+    and_then kind_exact _ _ digest_exact (elim [ Confidential digest ↦ its _ digest | b ↦ not_its _ b ]) (λ a. refl) (λ a h. h) (λ bytes. refl)
+    and_then kind_exact _ _ digest_exact (elim [ Resource digest ↦ its _ digest | b ↦ not_its _ b ]) (λ a. refl) (λ a h. h) (λ bytes. refl)
+    and_then no_kind_exact
 
 -- ---- scopes
 
@@ -74,11 +69,25 @@ printed_back t s h =
 pub scope_exact : IsExact scope_field
 scope_exact = partly_exact printed_scope_of (λ s. s) text text_exact printed_back
 
+-- ---- subjects
+
+pub subject_exact : IsExact subject_field
+subject_exact = only_exact is_subject text text_exact
+
+pub subject_short : (t : List ℕ) → is_subject t ≡ true → length t ≤ most_subject_bytes
+subject_short t h =
+    let outer = both_true (nat_le 1 (length t) && nat_le (length t) most_subject_bytes) (list_all is_visible t) h in
+    let inner = both_true (nat_le 1 (length t)) (nat_le (length t) most_subject_bytes) outer.0 in
+    leb-true (length t) most_subject_bytes inner.1
+
+pub subject_fits : (t : List ℕ) → is_subject t ≡ true → subject_field.Fits t
+subject_fits t h = (omega (arith, subject_short t h), h)
+
 -- ---- redirection URIs
 
--- a list that breaks no rule has 8 URIs at most, and nothing but URIs
-pub kept_list : (uris : List (List ℕ)) → redirects_refusal uris ≡ None → (nat_lt 8 (length uris) ≡ false) × (list_all is_uri uris ≡ true)
-kept_list uris h = by_rules (length uris == 0) (nat_lt 8 (length uris)) (list_all is_uri uris) h
+-- a list that breaks no rule has not too many URIs, and nothing but URIs
+pub kept_list : (uris : List (List ℕ)) → redirects_refusal uris ≡ None → (nat_lt most_uris (length uris) ≡ false) × (list_all is_uri uris ≡ true)
+kept_list uris h = by_rules (length uris == 0) (nat_lt most_uris (length uris)) (list_all is_uri uris) h
   where
     by_rules : (empty many all : Bool) → cond empty (Some RedirectError.Empty) (cond many (Some RedirectError.TooMany) (cond all None (Some RedirectError.Bad))) ≡ None → (many ≡ false) × (all ≡ true)
     by_rules true many all h = absurd cc
@@ -97,18 +106,24 @@ none_is (Some x) h = absurd cc
 pub redirects_keep : (uris : List (List ℕ)) → redirects_of uris ≡ Some uris → redirects_refusal uris ≡ None
 redirects_keep uris h = none_is (redirects_refusal uris) (chosen_some (is_none (redirects_refusal uris)) (Some uris) uris h).0
 
-pub uri_short : (u : List ℕ) → is_uri u ≡ true → length u ≤ 512
+pub uri_short : (u : List ℕ) → is_uri u ≡ true → length u ≤ most_uri_bytes
 uri_short u h =
-    let outer = both_true (nat_le 1 (length u) && nat_le (length u) 512) (list_all is_uri_byte u) h in
-    let inner = both_true (nat_le 1 (length u)) (nat_le (length u) 512) outer.0 in
-    leb-true (length u) 512 inner.1
+    let outer = both_true (nat_le 1 (length u) && nat_le (length u) most_uri_bytes) (list_all is_uri_byte u) h in
+    let inner = both_true (nat_le 1 (length u)) (nat_le (length u) most_uri_bytes) outer.0 in
+    leb-true (length u) most_uri_bytes inner.1
+
+pub uri_exact : IsExact uri_field
+uri_exact = only_exact is_uri text text_exact
+
+pub uri_fits : (u : List ℕ) → is_uri u ≡ true → uri_field.Fits u
+uri_fits u h = (omega (arith, uri_short u h), h)
 
 uris_fit : (us : List (List ℕ)) → list_all is_uri us ≡ true → AllByRecursion text.Fits us
 uris_fit [] h = tt
 uris_fit (u ∷ us) h = let b = both_true (is_uri u) (list_all is_uri us) h in (omega (arith, uri_short u b.0), uris_fit us b.1)
 
-pub few : (n : ℕ) → nat_lt 8 n ≡ false → n ≤ 8
-few n h = ltb-false 8 n h
+pub few : (n : ℕ) → nat_lt most_uris n ≡ false → n ≤ most_uris
+few n h = ltb-false most_uris n h
 
 pub redirects_fit : (uris : List (List ℕ)) → redirects_refusal uris ≡ None → redirects_field.Fits uris
 redirects_fit uris h =
@@ -134,18 +149,18 @@ flag_exact = coded_exact flag_code flag_of (record { back = flag_back; forth = f
 
 -- ---- challenges
 
-challenge_text_exact : IsExact challenge_text
-challenge_text_exact = only_exact is_verifier text text_exact
+challenge_bytes_exact : IsExact challenge_bytes
+challenge_bytes_exact = only_exact is_verifier text text_exact
 
 challenge_takes : (t : ℕ) (bytes : List ℕ) (x : Option ChallengeFields × List ℕ) → IsBytes bytes → challenge_cases t bytes ≡ Some x → Follows challenge_tag challenge_rest ChallengeFits t bytes x
 challenge_takes t bytes x fits e =
     bare_case challenge_tag challenge_rest ChallengeFits t 0 None _ bytes x fits refl refl tt
-    (one_case challenge_tag challenge_rest ChallengeFits t 1 (challenge_with false) challenge_text _ bytes x challenge_text_exact fits (λ a. (refl, refl)) (λ a h. h)
-    (one_case challenge_tag challenge_rest ChallengeFits t 2 (challenge_with true) challenge_text _ bytes x challenge_text_exact fits (λ a. (refl, refl)) (λ a h. h) (λ h. absurd cc))) e
+    (one_case challenge_tag challenge_rest ChallengeFits t 1 (challenge_with false) challenge_bytes _ bytes x challenge_bytes_exact fits (λ a. (refl, refl)) (λ a h. h)
+    (one_case challenge_tag challenge_rest ChallengeFits t 2 (challenge_with true) challenge_bytes _ bytes x challenge_bytes_exact fits (λ a. (refl, refl)) (λ a h. h) (λ h. absurd cc))) e
 
-challenge_again_with : (is_s256 : Bool) (t rest : List ℕ) → challenge_text.Fits t → challenge_cases (challenge_tag (challenge_with is_s256 t)) (challenge_text.spell t ++ rest) ≡ Some (challenge_with is_s256 t, rest)
-challenge_again_with false t rest fits = via_again (challenge_with false) challenge_text challenge_text_exact t rest fits
-challenge_again_with true t rest fits = via_again (challenge_with true) challenge_text challenge_text_exact t rest fits
+challenge_again_with : (is_s256 : Bool) (t rest : List ℕ) → challenge_bytes.Fits t → challenge_cases (challenge_tag (challenge_with is_s256 t)) (challenge_bytes.spell t ++ rest) ≡ Some (challenge_with is_s256 t, rest)
+challenge_again_with false t rest fits = via_again (challenge_with false) challenge_bytes challenge_bytes_exact t rest fits
+challenge_again_with true t rest fits = via_again (challenge_with true) challenge_bytes challenge_bytes_exact t rest fits
 
 challenge_again : (c : Option ChallengeFields) (rest : List ℕ) → ChallengeFits c → challenge_cases (challenge_tag c) (challenge_rest c ++ rest) ≡ Some (c, rest)
 challenge_again None rest fits = refl
@@ -154,13 +169,13 @@ challenge_again (Some c) rest fits = challenge_again_with c.is_s256 c.text rest 
 pub challenge_exact : IsExact challenge_field
 challenge_exact = choice_exact challenge_tag challenge_rest ChallengeFits challenge_cases (record { takes = challenge_takes; again = challenge_again })
 
-pub verifier_short : (t : List ℕ) → is_verifier t ≡ true → length t ≤ 128
+pub verifier_short : (t : List ℕ) → is_verifier t ≡ true → length t ≤ most_verifier_bytes
 verifier_short t h =
-    let outer = both_true (nat_le 43 (length t) && nat_le (length t) 128) (list_all is_unreserved t) h in
-    let inner = both_true (nat_le 43 (length t)) (nat_le (length t) 128) outer.0 in
-    leb-true (length t) 128 inner.1
+    let outer = both_true (nat_le fewest_verifier_bytes (length t) && nat_le (length t) most_verifier_bytes) (list_all is_unreserved t) h in
+    let inner = both_true (nat_le fewest_verifier_bytes (length t)) (nat_le (length t) most_verifier_bytes) outer.0 in
+    leb-true (length t) most_verifier_bytes inner.1
 
-pub challenge_fits : (c : ChallengeFields) → is_verifier c.text ≡ true → challenge_text.Fits c.text
+pub challenge_fits : (c : ChallengeFields) → is_verifier c.text ≡ true → challenge_bytes.Fits c.text
 challenge_fits c h = (omega (arith, verifier_short c.text h), h)
 
 -- what is read with the method `plain`, and with `S256`

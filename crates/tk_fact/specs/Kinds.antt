@@ -1,10 +1,13 @@
 -- The fields of each kind of fact, in the order of its spelling (own). Facts that were written keep this order, so it never changes.
+use Rattle.std.specs.Prelude.{ℕ, Bool, List, Option}
 use Rattle.std.specs.Int.{w16}
-use Rattle.tk_format.specs.Format.{Format, ◌⊗◌, number, text, shaped}
+use Rattle.tk_format.specs.Format.{Format, ◌⊗◌, number, shaped}
+use Rattle.tk_handle.specs.declared.dot.Dot.{Dot}
 use Rattle.tk_handle.specs.Moment.{moment}
 use Rattle.tk_handle.specs.DotBytes.{dot_field}
 use Rattle.tk_handle.specs.TokenId.{token}
-use Rattle.tk_fact.specs.Fields.{digest_field, sort_field, scope_field, redirects_field, flag_field, challenge_field, minted_field}
+use Rattle.tk_match.specs.Challenge.{ChallengeFields}
+use Rattle.tk_fact.specs.Fields.{digest_field, sort_field, scope_field, subject_field, uri_field, redirects_field, flag_field, challenge_field, minted_field}
 use Rattle.tk_fact.specs.declared.client_added.ClientAdded.{ClientAdded}
 use Rattle.tk_fact.specs.declared.client_retired.ClientRetired.{ClientRetired}
 use Rattle.tk_fact.specs.declared.consent_given.ConsentGiven.{ConsentGiven}
@@ -28,28 +31,44 @@ abbrev pub consent_given : Format ConsentGiven
 consent_given = shaped
     (λ p. record { client = p.0; subject = p.1.0; scope = p.1.1 })
     (λ f. (f.client, (f.subject, f.scope)))
-    (dot_field ⊗ (text ⊗ scope_field))
+    (dot_field ⊗ (subject_field ⊗ scope_field))
 
 abbrev pub consent_withdrawn : Format ConsentWithdrawn
 consent_withdrawn = shaped (λ d. record { consent = d }) (λ f. f.consent) dot_field
 
+-- whom a code is for: its client, and the consent that it rests on
+abbrev pub code_parties : Format (Dot × Dot)
+code_parties = dot_field ⊗ dot_field
+
+-- the digest of its handle; its start, its expiry and the end of its family
+abbrev pub code_times : Format (List ℕ × (ℕ × (ℕ × ℕ)))
+code_times = digest_field ⊗ (moment ⊗ (moment ⊗ moment))
+
+-- what it stands for: a scope of a subject
+abbrev pub code_rights : Format (List ℕ × List ℕ)
+code_rights = subject_field ⊗ scope_field
+
+-- what the token request must match: the URI, whether it was sent, and the challenge
+abbrev pub code_bindings : Format (List ℕ × (Bool × Option ChallengeFields))
+code_bindings = uri_field ⊗ (flag_field ⊗ challenge_field)
+
 abbrev pub code_issued : Format CodeIssued
 code_issued = shaped
-    (λ p. record {
-      client = p.0;
-      consent = p.1.0;
-      digest = p.1.1.0;
-      start = p.1.1.1.0;
-      expiry = p.1.1.1.1.0;
-      family_end = p.1.1.1.1.1.0;
-      subject = p.1.1.1.1.1.1.0;
-      scope = p.1.1.1.1.1.1.1.0;
-      uri = p.1.1.1.1.1.1.1.1.0;
-      sent = p.1.1.1.1.1.1.1.1.1.0;
-      challenge = p.1.1.1.1.1.1.1.1.1.1;
+    (λ ((client, consent), ((digest, (start, (expiry, family_end))), ((subject, scope), (uri, (sent, challenge))))). record {
+      client = client;
+      consent = consent;
+      digest = digest;
+      start = start;
+      expiry = expiry;
+      family_end = family_end;
+      subject = subject;
+      scope = scope;
+      uri = uri;
+      sent = sent;
+      challenge = challenge;
     })
-    (λ f. (f.client, (f.consent, (f.digest, (f.start, (f.expiry, (f.family_end, (f.subject, (f.scope, (f.uri, (f.sent, f.challenge)))))))))))
-    (dot_field ⊗ (dot_field ⊗ (digest_field ⊗ (moment ⊗ (moment ⊗ (moment ⊗ (text ⊗ (scope_field ⊗ (text ⊗ (flag_field ⊗ challenge_field))))))))))
+    (λ f. ((f.client, f.consent), ((f.digest, (f.start, (f.expiry, f.family_end))), ((f.subject, f.scope), (f.uri, (f.sent, f.challenge))))))
+    (code_parties ⊗ (code_times ⊗ (code_rights ⊗ code_bindings)))
 
 abbrev pub code_redeemed : Format CodeRedeemed
 code_redeemed = shaped

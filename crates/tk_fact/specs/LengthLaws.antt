@@ -1,5 +1,5 @@
--- A fact that passes its check has a spelling (`subject_fits`, `code_fits`), which is short (`fact_short`), also behind its length (`framed_fits`).
-use Rattle.std.proofs.Common.{◌≡◌, ℕ, ◌*◌, ◌<◌, ◌≤◌, Bool, true, false, cond, not, ◌&&◌, nat_le, nat_lt, List, [], ◌∷◌, ◌++◌, length, Option, Some, None, is_none, refl, ap, arith}
+-- A fact that has a spelling has a short one (`fact_short`), also behind its length (`framed_fits`).
+use Rattle.std.proofs.Common.{◌≡◌, ℕ, ◌*◌, ◌≤◌, Bool, true, false, cond, not, nat_lt, List, [], ◌∷◌, ◌++◌, length, Option, Some, None, refl, ap, arith}
 use Rattle.std.specs.Prelude.{is_some}
 use Rattle.std.specs.Int.{w16, w64}
 use Rattle.std.specs.List.{list_all, flat_map}
@@ -7,56 +7,26 @@ use Rattle.std.specs.Str.{bytes_eq}
 use Rattle.std.proofs.lemmas.Bool.{ltb-false}
 use Rattle.std.proofs.lemmas.List.{length-append}
 use Rattle.std.proofs.lemmas.List.Concat.{flat_map-cons}
-use borrow.Author.Tests.{leb-true, le-leb}
+use borrow.Author.Tests.{le-leb}
 use Rattle.tk_format.specs.Format.{text, number_spelling}
 use Rattle.tk_format.specs.Exact.{bind_some}
 use Rattle.tk_format.specs.Spellings.{number_length, both_short, text_short}
 use Rattle.tk_scope.specs.Scope.{is_token, scope_of, scope_text, tokens_of}
 use Rattle.tk_scope.specs.declared.error.ScopeError.{ScopeError}
-use Rattle.tk_match.specs.Redirects.{is_uri}
-use Rattle.tk_match.specs.Challenge.{ChallengeFields}
+use Rattle.tk_match.specs.Redirects.{most_uri_bytes, is_uri}
+use Rattle.tk_match.specs.Challenge.{ChallengeFields, most_verifier_bytes}
 use Rattle.tk_handle.specs.declared.dot.Dot.{Dot}
 use Rattle.tk_handle.specs.DotBytes.{dot_field}
 use Rattle.tk_handle.specs.Moment.{moment}
 use Rattle.tk_fact.specs.declared.sort.Sort.{Sort}
 use Rattle.tk_fact.specs.declared.sort.Sort.TheVariants.{Public, Confidential, Resource}
 use Rattle.tk_fact.specs.declared.minted_token.MintedToken.{MintedToken}
-use Rattle.tk_fact.specs.declared.consent_given.ConsentGiven.{ConsentGiven}
-use Rattle.tk_fact.specs.declared.code_issued.CodeIssued.{CodeIssued}
-use Rattle.tk_fact.specs.declared.check.FactError.{FactError}
 use Rattle.tk_fact.specs.declared.body.Body.{Body}
 use Rattle.tk_fact.specs.declared.body.Body.TheVariants as bodies
-use Rattle.tk_fact.specs.Check.{refusal_of, keeps_limits, keeps_ranges, is_subject, is_visible, is_challenge}
-use Rattle.tk_fact.specs.Fields.{SortFits, sort_field, scope_field, redirects_field, ChallengeFits, challenge_field, minted_field}
-use Rattle.tk_fact.specs.FactBytes.{BodyFits, body, fact, framed}
-use Rattle.tk_fact.specs.FieldLaws.{both_true, kept_list, few, uri_short, redirects_keep, verifier_short}
-
--- ---- the check
-
--- a fact that breaks no rule keeps the limits
-limits_by : (limits ranges : Bool) → cond limits (cond ranges None (Some FactError.Range)) (Some FactError.Limit) ≡ None → limits ≡ true
-limits_by true ranges h = refl
-limits_by false ranges h = absurd cc
-
-pub limits_kept : (b : Body) → refusal_of b ≡ None → keeps_limits b ≡ true
-limits_kept b h = limits_by (keeps_limits b) (keeps_ranges b) h
-
-subject_short : (t : List ℕ) → is_subject t ≡ true → length t ≤ 128
-subject_short t h =
-    let outer = both_true (nat_le 1 (length t) && nat_le (length t) 128) (list_all is_visible t) h in
-    let inner = both_true (nat_le 1 (length t)) (nat_le (length t) 128) outer.0 in
-    leb-true (length t) 128 inner.1
-
--- a consent's subject fits a text
-pub subject_fits : (f : ConsentGiven) → refusal_of (bodies.ConsentGiven f) ≡ None → length f.subject < 65536
-subject_fits f h = omega (arith, subject_short f.subject (limits_kept (bodies.ConsentGiven f) h))
-
--- and so do the subject and the URI of a code
-pub code_fits : (f : CodeIssued) → refusal_of (bodies.CodeIssued f) ≡ None → (length f.subject < 65536) × (length f.uri < 65536)
-code_fits f h =
-    let outer = both_true (is_subject f.subject && is_uri f.uri) (is_challenge f.challenge) (limits_kept (bodies.CodeIssued f) h) in
-    let inner = both_true (is_subject f.subject) (is_uri f.uri) outer.0 in
-    (omega (arith, subject_short f.subject inner.0), omega (arith, uri_short f.uri inner.1))
+use Rattle.tk_fact.specs.Subject.{most_subject_bytes}
+use Rattle.tk_fact.specs.Fields.{sorts, sort_field, scope_field, redirects_field, ChallengeFits, challenge_field, minted_field}
+use Rattle.tk_fact.specs.FactBytes.{kinds, body, fact, most_bytes, framed}
+use Rattle.tk_fact.specs.FieldLaws.{both_true, kept_list, few, subject_short, uri_short, redirects_keep, verifier_short}
 
 -- ---- lengths of the fields
 
@@ -86,7 +56,7 @@ uris_short : (us : List (List ℕ)) → list_all is_uri us ≡ true → length (
 uris_short [] h = omega arith
 uris_short (u ∷ us) h =
     let b = both_true (is_uri u) (list_all is_uri us) h in
-    omega (arith, length-append (text.spell u) (flat_map text.spell us), ap length (flat_map-cons text.spell u us), text_short u 512 (uri_short u b.0), uris_short us b.1)
+    omega (arith, length-append (text.spell u) (flat_map text.spell us), ap length (flat_map-cons text.spell u us), text_short u most_uri_bytes (uri_short u b.0), uris_short us b.1)
 
 redirects_short : (us : List (List ℕ)) → redirects_field.Fits us → length (redirects_field.spell us) ≤ 4113
 redirects_short us fits =
@@ -98,43 +68,39 @@ minted_short m fits = both_short m.digest (moment.spell m.end ++ text.spell m.sc
 
 challenge_short : (c : Option ChallengeFields) → ChallengeFits c → length (challenge_field.spell c) ≤ 131
 challenge_short None fits = omega arith
-challenge_short (Some c) fits = omega (arith, text_short c.text 128 (verifier_short c.text fits.1))
+challenge_short (Some c) fits = omega (arith, text_short c.text most_verifier_bytes (verifier_short c.text fits.1))
 
-sort_short : (s : Sort) → SortFits s → length (sort_field.spell s) ≤ 33
+sort_short : (s : Sort) → sort_field.Fits s → length (sort_field.spell s) ≤ 33
+unfolding sorts
 sort_short Public fits = omega arith
 sort_short (Confidential d) fits = omega (arith, fits)
 sort_short (Resource d) fits = omega (arith, fits)
 
 -- ---- lengths of bodies and facts
 
-body_short : (b : Body) → BodyFits b → keeps_limits b ≡ true → length (body.spell b) ≤ 8000
-body_short (bodies.ClientAdded f) fits h =
+body_short : (b : Body) → body.Fits b → length (body.spell b) ≤ 8000
+unfolding kinds
+body_short (bodies.ClientAdded f) fits =
     simp length-append (omega (arith, sort_short f.sort fits.0, scope_short f.scope fits.1.0, simp length-append at (redirects_short f.redirects fits.1.1)))
-body_short (bodies.ClientRetired f) fits h = simp length-append (omega (arith, simp length-append at (dot_short f.client)))
-body_short (bodies.ConsentGiven f) fits h =
-    simp length-append (omega (arith, simp length-append at (dot_short f.client), text_short f.subject 128 (subject_short f.subject h), scope_short f.scope fits.1.1))
-body_short (bodies.ConsentWithdrawn f) fits h = simp length-append (omega (arith, simp length-append at (dot_short f.consent)))
-body_short (bodies.CodeIssued f) fits h =
-    let outer = both_true (is_subject f.subject && is_uri f.uri) (is_challenge f.challenge) h in
-    let inner = both_true (is_subject f.subject) (is_uri f.uri) outer.0 in
-    simp length-append (omega (arith, simp length-append at (dot_short f.client), simp length-append at (dot_short f.consent), fits.1.1.0, moment_short f.start, moment_short f.expiry, moment_short f.family_end, text_short f.subject 128 (subject_short f.subject inner.0), scope_short f.scope fits.1.1.1.1.1.1.1.0, text_short f.uri 512 (uri_short f.uri inner.1), challenge_short f.challenge fits.1.1.1.1.1.1.1.1.1.1))
-body_short (bodies.CodeRedeemed f) fits h =
+body_short (bodies.ClientRetired f) fits = simp length-append (omega (arith, simp length-append at (dot_short f.client)))
+body_short (bodies.ConsentGiven f) fits =
+    simp length-append (omega (arith, simp length-append at (dot_short f.client), text_short f.subject most_subject_bytes (subject_short f.subject fits.1.0.1), scope_short f.scope fits.1.1))
+body_short (bodies.ConsentWithdrawn f) fits = simp length-append (omega (arith, simp length-append at (dot_short f.consent)))
+body_short (bodies.CodeIssued f) fits =
+    simp length-append (omega (arith, simp length-append at (dot_short f.client), simp length-append at (dot_short f.consent), fits.1.0.0, moment_short f.start, moment_short f.expiry, moment_short f.family_end, text_short f.subject most_subject_bytes (subject_short f.subject fits.1.1.0.0.1), scope_short f.scope fits.1.1.0.1, text_short f.uri most_uri_bytes (uri_short f.uri fits.1.1.1.0.1), challenge_short f.challenge fits.1.1.1.1.1))
+body_short (bodies.CodeRedeemed f) fits =
     simp length-append (omega (arith, simp length-append at (dot_short f.code), moment_short f.start, simp length-append at (minted_short f.access fits.1.1.0), simp length-append at (minted_short f.refresh fits.1.1.1)))
-body_short (bodies.RefreshRotated f) fits h =
+body_short (bodies.RefreshRotated f) fits =
     simp length-append (omega (arith, simp length-append at (dot_short f.parent), number_length w16 f.generation, moment_short f.start, simp length-append at (minted_short f.access fits.1.1.1.0), simp length-append at (minted_short f.refresh fits.1.1.1.1)))
-body_short (bodies.TokenRevoked f) fits h = simp length-append (omega (arith, simp length-append at (dot_short f.token.dot), fits.1.0, simp length-append at (dot_short f.client)))
-body_short (bodies.ReuseSeen f) fits h = simp length-append (omega (arith, simp length-append at (dot_short f.token.dot)))
+body_short (bodies.TokenRevoked f) fits = simp length-append (omega (arith, simp length-append at (dot_short f.token.dot), fits.1.0, simp length-append at (dot_short f.client)))
+body_short (bodies.ReuseSeen f) fits = simp length-append (omega (arith, simp length-append at (dot_short f.token.dot)))
 
-passed : (o : Option FactError) → is_none o ≡ true → o ≡ None
-passed None h = refl
-passed (Some e) h = absurd cc
-
--- a fact has 8,192 bytes at most
-pub fact_short : (f : Dot × Body) → fact.Fits f → length (fact.spell f) ≤ 8192
-fact_short f fits = omega (arith, length-append (dot_field.spell f.0) (body.spell f.1), dot_short f.0, body_short f.1 fits.0.1 (limits_kept f.1 (passed (refusal_of f.1) fits.1)))
+-- a fact has so few bytes
+pub fact_short : (f : Dot × Body) → fact.Fits f → length (fact.spell f) ≤ most_bytes
+fact_short f fits = omega (arith, length-append (dot_field.spell f.0) (body.spell f.1), dot_short f.0, body_short f.1 fits.0.1)
 
 -- so it has a spelling behind its length
 pub framed_fits : (f : Dot × Body) → fact.Fits f → framed.Fits f
 framed_fits f fits =
     let short = fact_short f fits in
-    (fits, (omega (arith, short), le-leb (length (fact.spell f)) 8192 short))
+    (fits, (omega (arith, short), le-leb (length (fact.spell f)) most_bytes short))

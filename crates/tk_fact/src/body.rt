@@ -1,4 +1,30 @@
-ghost use Rattle.std.specs.Prelude.{◌≡◌, ◌++◌, ◌↔◌, None, IfOk, IsTrue, OnOk};
+//! What a fact says: one of nine kinds.
+//!
+//! To add a kind:
+//!
+//! 1. `src/KIND.rt`: its struct, with derives where all of the fields are plain, or else with `copy` and `same`; `known`,
+//!    `read`, `write`. Two lines of `src/lib.rt` declare and export it.
+//! 2. This file: the import, the variant, and a row each in `copy`, `same`, `known`, `read` and `write`, the last two with
+//!    a number that no kind ever had. Only `same` compiles without its row.
+//! 3. `specs/Kinds.antt`: the format of its fields. `specs/FactBytes.antt`: its row in `kinds`, with the number.
+//! 4. `specs/FactLaws.antt`: the law of its fields, and its row in `body_exact`. `specs/LengthLaws.antt`: its row in
+//!    `body_short`; a fact has 8,192 bytes at most.
+//! 5. `specs/Check.antt`, `src/check.rt`: the rules that it keeps.
+//! 6. `specs/Tokens.antt`, `src/tokens.rt`: whether it mints tokens or uses one. Nothing asks for this row.
+//! 7. Tests: its bytes in `src/tests.rt`, where the refused kind 10 becomes 11, a builder in `src/tests/bodies.rt`, and a
+//!    row each in `src/tests/built.rt` and `src/tests/limits.rt`. An edit in `must-fail/` for what it means.
+//! 8. tk_bundle: whether the magic changes, `magic` of `specs/Bundle.antt` and `MAGIC` of `src/bundle.rt`. A build that
+//!    doesn't know the kind finds each bundle with such a fact malformed.
+//! 9. tk_ledger: a row in `grant_of` of `proofs/FamilyEnds.antt` for codes and one for refresh tokens. Where it is a link
+//!    of a family or says of one that it ends: `link_of`, `revoked_by` or `reuse_of` of `specs/Tokens.antt` with
+//!    `src/tokens.rt` and `src/families.rt`, and `generation_of` of `specs/Status.antt` with `src/status.rt`. Where it
+//!    makes or ends a client or a consent: `specs/Clients.antt` with `src/clients.rt` and `src/consents.rt`. All but
+//!    `grant_of` end in a row for the other kinds, so nothing asks for these rows.
+//! 10. tk_world: the request that makes such facts, and its decision.
+//! 11. Words: "nine" here, in `src/lib.rt`, in README.md and in docs/ARCHITECTURE.md, the kinds 1 to 9 and their table in
+//!     docs/FORMATS.md, the row "fact" of docs/DEFINITIONS.md.
+
+ghost use Rattle.std.specs.Prelude.{◌≡◌, ◌++◌, ◌↔◌, IfOk, IsTrue, OnOk};
 ghost use Rattle.tk_format.specs.Reading.{Gets};
 
 use crate::client_added::ClientAdded;
@@ -38,8 +64,7 @@ pub enum Body {
 }
 
 impl Body {
-    ghost use Rattle.tk_fact.specs.Check.{refusal_of};
-    ghost use Rattle.tk_fact.specs.FactBytes.{body, body_tag, BodyFits};
+    ghost use Rattle.tk_fact.specs.FactBytes.{body};
 
     pub(crate) fn copy(&self, alloc: Global) -> Result<Body, AllocError>
         ensures { IfOk result (λ copy. copy ≡ self.now) }
@@ -90,11 +115,10 @@ impl Body {
         }
     }
 
-    // Where the fact passes its check, what it says has a spelling.
-    #[tactic(auto, using(crate::specs::LengthLaws::subject_fits, crate::specs::LengthLaws::code_fits))]
+    // What a fact says has a spelling.
+    #[tactic(auto, unfolding(crate::specs::FactBytes::kinds))]
     pub(crate) fn known(&self)
-        requires { refusal_of self.now ≡ None }
-        ensures { BodyFits self.now }
+        ensures { body.Fits self.now }
     {
         match self {
             Body::ClientAdded(fields) => fields.known(),
@@ -109,6 +133,7 @@ impl Body {
         }
     }
 
+    #[tactic(auto, unfolding(crate::specs::FactBytes::kinds))]
     pub(crate) fn read(alloc: Global, reader: &mut Reader<'_>) -> Result<Body, ReadError>
         ensures { Gets (λ b. b) body result reader.old reader.new }
     {
@@ -138,38 +163,48 @@ impl Body {
         }
     }
 
+    #[tactic(auto, unfolding(crate::specs::FactBytes::kinds))]
     pub(crate) fn write(&self, writer: &mut Writer) -> Result<(), AllocError>
-        requires { BodyFits self.now }
+        requires { body.Fits self.now }
         ensures { OnOk result (writer.new ≡ writer.old ++ body.spell self.now) }
     {
-        writer.put_u8(self.tag())?;
         match self {
-            Body::ClientAdded(fields) => fields.write(writer),
-            Body::ClientRetired(fields) => fields.write(writer),
-            Body::ConsentGiven(fields) => fields.write(writer),
-            Body::ConsentWithdrawn(fields) => fields.write(writer),
-            Body::CodeIssued(fields) => fields.write(writer),
-            Body::CodeRedeemed(fields) => fields.write(writer),
-            Body::RefreshRotated(fields) => fields.write(writer),
-            Body::TokenRevoked(fields) => fields.write(writer),
-            Body::ReuseSeen(fields) => fields.write(writer),
-        }
-    }
-
-    // The number of the kind.
-    fn tag(&self) -> u8
-        ensures { result ≡ body_tag self.now }
-    {
-        match self {
-            Body::ClientAdded(_) => 1,
-            Body::ClientRetired(_) => 2,
-            Body::ConsentGiven(_) => 3,
-            Body::ConsentWithdrawn(_) => 4,
-            Body::CodeIssued(_) => 5,
-            Body::CodeRedeemed(_) => 6,
-            Body::RefreshRotated(_) => 7,
-            Body::TokenRevoked(_) => 8,
-            Body::ReuseSeen(_) => 9,
+            Body::ClientAdded(fields) => {
+                writer.put_u8(1)?;
+                fields.write(writer)
+            }
+            Body::ClientRetired(fields) => {
+                writer.put_u8(2)?;
+                fields.write(writer)
+            }
+            Body::ConsentGiven(fields) => {
+                writer.put_u8(3)?;
+                fields.write(writer)
+            }
+            Body::ConsentWithdrawn(fields) => {
+                writer.put_u8(4)?;
+                fields.write(writer)
+            }
+            Body::CodeIssued(fields) => {
+                writer.put_u8(5)?;
+                fields.write(writer)
+            }
+            Body::CodeRedeemed(fields) => {
+                writer.put_u8(6)?;
+                fields.write(writer)
+            }
+            Body::RefreshRotated(fields) => {
+                writer.put_u8(7)?;
+                fields.write(writer)
+            }
+            Body::TokenRevoked(fields) => {
+                writer.put_u8(8)?;
+                fields.write(writer)
+            }
+            Body::ReuseSeen(fields) => {
+                writer.put_u8(9)?;
+                fields.write(writer)
+            }
         }
     }
 }

@@ -1,7 +1,7 @@
 //! The field of a challenge: a byte for its method, and its text, unless there is none.
 
 ghost use Rattle.std.specs.Prelude.{◌≡◌, ◌++◌, ◌↔◌, IfOk, IsTrue, OnOk};
-ghost use Rattle.tk_fact.specs.Fields.{challenge_field, challenge_with, challenge_text};
+ghost use Rattle.tk_fact.specs.Fields.{challenge_field, challenge_with, challenge_bytes};
 ghost use Rattle.tk_format.specs.Format.{via};
 ghost use Rattle.tk_format.specs.Reading.{Gets, GetsBy};
 
@@ -42,7 +42,7 @@ fn read_with(
     is_s256: bool,
     reader: &mut Reader<'_>,
 ) -> Result<Option<Challenge>, ReadError>
-    ensures { GetsBy (via (challenge_with is_s256) challenge_text) result reader.old reader.new }
+    ensures { GetsBy (via (challenge_with is_s256) challenge_bytes) result reader.old reader.new }
 {
     let bytes = reader.take_text().ok_or(ReadError::Malformed)?;
     let method = if is_s256 {

@@ -1,3 +1,5 @@
+//! The fact that a client was registered.
+
 ghost use Rattle.std.specs.Prelude.{◌≡◌, ◌++◌, ◌↔◌, IfOk, IsTrue, OnOk};
 ghost use Rattle.tk_fact.specs.Kinds.{client_added};
 ghost use Rattle.tk_format.specs.Reading.{Gets};

@@ -1,3 +1,5 @@
+//! The fact that a client was retired.
+
 ghost use Rattle.std.specs.Prelude.{◌≡◌, ◌++◌, OnOk};
 ghost use Rattle.tk_fact.specs.Kinds.{client_retired};
 ghost use Rattle.tk_format.specs.Reading.{Reads};

@@ -1,4 +1,6 @@
-ghost use Rattle.std.specs.Prelude.{◌≡◌, ◌<◌, ◌^◌, ◌++◌, ◌↔◌, length, IfOk, IsTrue, OnOk};
+//! The fact that an authorization code was issued.
+
+ghost use Rattle.std.specs.Prelude.{◌≡◌, ◌++◌, ◌↔◌, IfOk, IsTrue, OnOk};
 ghost use Rattle.tk_fact.specs.Kinds.{code_issued};
 ghost use Rattle.tk_format.specs.Reading.{Gets};
 
@@ -8,11 +10,12 @@ use crate::challenge_field::{
 use crate::digest::read_digest;
 use crate::flag::{read_flag, write_flag};
 use crate::scope_field::{known_scope, read_scope, write_scope};
-use crate::text::Text;
+use crate::subject::Subject;
+use crate::uri_field::{known_uri, read_uri, write_uri};
 use std::alloc::{AllocError, Global};
 use tk_format::{ReadError, Reader, Writer};
 use tk_handle::{Dot, Moment};
-use tk_match::Challenge;
+use tk_match::{Challenge, Uri};
 use tk_scope::Scope;
 
 /// An authorization code was issued (RFC 6749, 4.1.2), and with it a family begins: the code, and the tokens that
@@ -31,12 +34,12 @@ pub struct CodeIssued {
     pub expiry: Moment,
     /// The end of the whole family, from which on it is over; not before the start (own).
     pub family_end: Moment,
-    /// The resource owner who consented (RFC 6749, 1.1), 1 to 128 visible ASCII bytes.
-    pub subject: Text,
+    /// The resource owner who consented (RFC 6749, 1.1).
+    pub subject: Subject,
     /// What the code stands for, 1 to 32 scope-tokens (RFC 6749, 3.3).
     pub scope: Scope,
-    /// The redirection URI that was picked, 1 to 512 visible ASCII bytes without `#`.
-    pub uri: Text,
+    /// The redirection URI that was picked (RFC 6749, 3.1.2.3).
+    pub uri: Uri,
     /// Whether the request named the URI, so that the token request must name it too (RFC 6749, 4.1.3).
     pub sent: bool,
     /// What the verifier of the token request is matched against, where the request had one (RFC 7636, 4.3).
@@ -79,8 +82,6 @@ impl CodeIssued {
     }
 
     pub(crate) fn known(&self)
-        requires subject { length self.now.subject < 2 ^ 16 }
-        requires uri { length self.now.uri < 2 ^ 16 }
         ensures { code_issued.Fits self.now }
     {
         self.client.known();
@@ -89,7 +90,9 @@ impl CodeIssued {
         self.start.known();
         self.expiry.known();
         self.family_end.known();
+        self.subject.known();
         known_scope(&self.scope);
+        known_uri(&self.uri);
         known_challenge(&self.challenge);
     }
 
@@ -102,9 +105,9 @@ impl CodeIssued {
         let start = Moment::read(reader).ok_or(ReadError::Malformed)?;
         let expiry = Moment::read(reader).ok_or(ReadError::Malformed)?;
         let family_end = Moment::read(reader).ok_or(ReadError::Malformed)?;
-        let subject = Text::read(alloc, reader)?;
+        let subject = Subject::read_from(alloc, reader)?;
         let scope = read_scope(alloc, reader)?;
-        let uri = Text::read(alloc, reader)?;
+        let uri = read_uri(alloc, reader)?;
         let sent = read_flag(reader).ok_or(ReadError::Malformed)?;
         let challenge = read_challenge(alloc, reader)?;
         Ok(CodeIssued {
@@ -134,7 +137,7 @@ impl CodeIssued {
         self.family_end.write(writer)?;
         self.subject.write(writer)?;
         write_scope(&self.scope, writer)?;
-        self.uri.write(writer)?;
+        write_uri(&self.uri, writer)?;
         write_flag(self.sent, writer)?;
         write_challenge(&self.challenge, writer)?;
         Ok(())

@@ -1,3 +1,5 @@
+//! The fact that a code was redeemed for tokens.
+
 ghost use Rattle.std.specs.Prelude.{◌≡◌, ◌++◌, ◌↔◌, IfOk, IsTrue, OnOk};
 ghost use Rattle.tk_fact.specs.Kinds.{code_redeemed};
 ghost use Rattle.tk_format.specs.Reading.{Gets};

@@ -1,9 +1,11 @@
-ghost use Rattle.std.specs.Prelude.{◌≡◌, ◌<◌, ◌^◌, ◌++◌, ◌↔◌, length, IfOk, IsTrue, OnOk};
+//! The fact that a subject let a client have a scope.
+
+ghost use Rattle.std.specs.Prelude.{◌≡◌, ◌++◌, ◌↔◌, IfOk, IsTrue, OnOk};
 ghost use Rattle.tk_fact.specs.Kinds.{consent_given};
 ghost use Rattle.tk_format.specs.Reading.{Gets};
 
 use crate::scope_field::{known_scope, read_scope, write_scope};
-use crate::text::Text;
+use crate::subject::Subject;
 use std::alloc::{AllocError, Global};
 use tk_format::{ReadError, Reader, Writer};
 use tk_handle::Dot;
@@ -14,8 +16,8 @@ use tk_scope::Scope;
 pub struct ConsentGiven {
     /// Where the client was added that the consent was given to.
     pub client: Dot,
-    /// The resource owner who gave it (RFC 6749, 1.1), 1 to 128 visible ASCII bytes.
-    pub subject: Text,
+    /// The resource owner who gave it (RFC 6749, 1.1).
+    pub subject: Subject,
     /// What the client may have, 1 to 32 scope-tokens (RFC 6749, 3.3).
     pub scope: Scope,
 }
@@ -40,10 +42,10 @@ impl ConsentGiven {
     }
 
     pub(crate) fn known(&self)
-        requires { length self.now.subject < 2 ^ 16 }
         ensures { consent_given.Fits self.now }
     {
         self.client.known();
+        self.subject.known();
         known_scope(&self.scope);
     }
 
@@ -51,7 +53,7 @@ impl ConsentGiven {
         ensures { Gets (λ f. f) consent_given result reader.old reader.new }
     {
         let client = Dot::read(reader).ok_or(ReadError::Malformed)?;
-        let subject = Text::read(alloc, reader)?;
+        let subject = Subject::read_from(alloc, reader)?;
         let scope = read_scope(alloc, reader)?;
         Ok(ConsentGiven {
             client,

@@ -1,3 +1,5 @@
+//! The fact that a consent was withdrawn.
+
 ghost use Rattle.std.specs.Prelude.{◌≡◌, ◌++◌, OnOk};
 ghost use Rattle.tk_fact.specs.Kinds.{consent_withdrawn};
 ghost use Rattle.tk_format.specs.Reading.{Reads};

@@ -1,3 +1,5 @@
+//! A fact: what is said at a dot, and its bytes.
+
 use crate::body::Body;
 use std::marker::Model;
 use tk_handle::Dot;
@@ -29,14 +31,14 @@ use crate::check::{FactError, check_body};
 use std::alloc::{AllocError, Global};
 use tk_format::{FromBytes, ReadError, Reader, Spelled, Writer, read_all};
 
-/// The most bytes of a fact (own).
-const MOST_BYTES: usize = 8_192;
-
 impl Fact {
     ghost use Rattle.tk_fact.specs.Check.{refusal_of};
-    ghost use Rattle.tk_fact.specs.FactBytes.{fact, fact_bytes, framed};
+    ghost use Rattle.tk_fact.specs.FactBytes.{fact, fact_bytes, framed, most_bytes};
     ghost use Rattle.tk_handle.specs.declared.dot.Dot.{Dot as AnyDot};
     ghost use Rattle.tk_fact.specs.declared.body.Body.{Body as AnyBody};
+
+    /// The most bytes of a fact (own).
+    pub const MOST_BYTES: usize = 8_192;
 
     /// Which rule the fact breaks, if any: `Limit` before `Range`. Takes no memory.
     pub fn check(&self) -> Result<(), FactError>
@@ -96,7 +98,7 @@ impl Fact {
     pub fn write(&self, alloc: Global) -> Result<Vec<u8>, AllocError>
         requires { refusal_of self.now.1 ≡ None }
         ensures spelled { IfOk result (λ bytes. bytes.items ≡ fact_bytes self.now) }
-        ensures short { IfOk result (λ bytes. length bytes.items ≤ 8192) }
+        ensures short { IfOk result (λ bytes. length bytes.items ≤ most_bytes) }
     {
         self.known();
         let mut writer = Writer::new(alloc);
@@ -144,7 +146,7 @@ impl FromBytes for Fact {
 
     fn read_from(alloc: Global, reader: &mut Reader<'_>) -> Result<Fact, ReadError> {
         let bytes = reader.take_text().ok_or(ReadError::Malformed)?;
-        if bytes.len() > MOST_BYTES {
+        if bytes.len() > Fact::MOST_BYTES {
             return Err(ReadError::Malformed);
         }
         Fact::read(alloc, bytes)

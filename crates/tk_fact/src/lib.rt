@@ -8,8 +8,8 @@
 //! `copy` and `same` are written for every level, and a contract sees each of these types as the plain value that it
 //! stands for. What a scope, a redirect list and a challenge are is said below, in tk_scope and tk_match.
 //!
-//! In reading order: `Text`, `Sort`, `MintedToken`, the nine kinds from `ClientAdded` to `ReuseSeen`, `Body`, `Fact`,
-//! `Minted`. The definitions are in specs/: `Check` for the rules, `Fields`, `Kinds` and `FactBytes` for the bytes,
+//! In reading order: `Subject`, `Sort`, `MintedToken`, the nine kinds from `ClientAdded` to `ReuseSeen`, `Body`, `Fact`,
+//! `Minted`. The definitions are in specs/: `Subject` for the name of a subject, `Check` for the rules, `Fields`, `Kinds` and `FactBytes` for the bytes,
 //! `Tokens` for the tokens.
 #![tactic(auto)]
 
@@ -31,9 +31,10 @@ mod refresh_rotated;
 mod reuse_seen;
 mod scope_field;
 mod sort;
-mod text;
+mod subject;
 mod token_revoked;
 mod tokens;
+mod uri_field;
 
 pub use body::Body;
 pub use check::FactError;
@@ -48,7 +49,7 @@ pub use minted_token::MintedToken;
 pub use refresh_rotated::RefreshRotated;
 pub use reuse_seen::ReuseSeen;
 pub use sort::Sort;
-pub use text::Text;
+pub use subject::{Subject, SubjectError};
 pub use token_revoked::TokenRevoked;
 pub use tokens::Minted;
 

@@ -1,3 +1,5 @@
+//! An access or refresh token that a fact mints, and its field.
+
 ghost use Rattle.std.specs.Prelude.{◌≡◌, ◌++◌, ◌↔◌, IfOk, IsTrue, OnOk};
 ghost use Rattle.tk_fact.specs.Fields.{minted_field};
 ghost use Rattle.tk_format.specs.Reading.{Gets};

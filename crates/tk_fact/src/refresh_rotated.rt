@@ -1,3 +1,5 @@
+//! The fact that a refresh token was used for new tokens.
+
 ghost use Rattle.std.specs.Prelude.{◌≡◌, ◌++◌, ◌↔◌, IfOk, IsTrue, OnOk};
 ghost use Rattle.tk_fact.specs.Kinds.{refresh_rotated};
 ghost use Rattle.tk_format.specs.Reading.{Gets};

@@ -1,3 +1,5 @@
+//! The fact that a code or a refresh token was used again.
+
 ghost use Rattle.std.specs.Prelude.{◌≡◌, ◌++◌, OnOk};
 ghost use Rattle.tk_fact.specs.Kinds.{reuse_seen};
 ghost use Rattle.tk_format.specs.Reading.{Reads};

@@ -1,3 +1,5 @@
+//! What a client is, and its field.
+
 ghost use Rattle.std.specs.Prelude.{◌≡◌, ◌++◌, OnOk};
 ghost use Rattle.tk_fact.specs.Fields.{sort_field};
 ghost use Rattle.tk_format.specs.Reading.{Reads};
@@ -19,6 +21,7 @@ pub enum Sort {
 }
 
 impl Sort {
+    #[tactic(auto, unfolding(crate::specs::Fields::sorts))]
     pub(crate) fn known(&self)
         ensures { sort_field.Fits self.now }
     {
@@ -29,6 +32,7 @@ impl Sort {
         }
     }
 
+    #[tactic(auto, unfolding(crate::specs::Fields::sorts))]
     pub(crate) fn read(reader: &mut Reader<'_>) -> Option<Sort>
         ensures { Reads (λ s. s) sort_field result reader.old reader.new }
     {
@@ -46,6 +50,7 @@ impl Sort {
         }
     }
 
+    #[tactic(auto, unfolding(crate::specs::Fields::sorts))]
     pub(crate) fn write(&self, writer: &mut Writer) -> Result<(), AllocError>
         ensures { OnOk result (writer.new ≡ writer.old ++ sort_field.spell self.now) }
     {

@@ -1,8 +1,10 @@
+//! The bytes of facts and the tokens that they mint, by tables.
+
 mod bodies;
 mod built;
 mod limits;
 
-use crate::{Body, Fact};
+use crate::{Body, Fact, Subject, SubjectError};
 use bodies::{Place, dot};
 use std::alloc::{AllocError, Global};
 use std::test::Fail;
@@ -77,28 +79,56 @@ fn is_kept(alloc: Global, bytes: &[u8]) -> Result<bool, Fail> {
     Ok(is_copied(alloc, &fact, bytes)?)
 }
 
+const FACTS: [(&str, &[u8]); 13] = [
+    ("a public client", PUBLIC_CLIENT),
+    ("a resource server", RESOURCE_SERVER),
+    ("a retired client", RETIRED_CLIENT),
+    ("a given consent", GIVEN_CONSENT),
+    ("a withdrawn consent", WITHDRAWN_CONSENT),
+    ("a code", CODE),
+    ("a code with a plain challenge", PLAIN_CODE),
+    ("a code with none", OPEN_CODE),
+    ("a redeemed code", REDEEMED_CODE),
+    ("the first rotation", FIRST_ROTATION),
+    ("the last rotation", LAST_ROTATION),
+    ("a revoked token", REVOKED_TOKEN),
+    ("a reused code", REUSED_CODE),
+];
+
 #[test]
-fn clients_and_consents_have_these_bytes(rt: HostRuntime) -> Result<(), Fail> {
-    let alloc = rt.alloc();
-    assert!(rt; is_kept(alloc, PUBLIC_CLIENT)?);
-    assert!(rt; is_kept(alloc, RESOURCE_SERVER)?);
-    assert!(rt; is_kept(alloc, RETIRED_CLIENT)?);
-    assert!(rt; is_kept(alloc, GIVEN_CONSENT)?);
-    assert!(rt; is_kept(alloc, WITHDRAWN_CONSENT)?);
+fn facts_have_these_bytes(rt: HostRuntime) -> Result<(), Fail> {
+    for (name, bytes) in FACTS {
+        assert!(rt; is_kept(rt.alloc(), bytes)?, "{name}");
+    }
     Ok(())
 }
 
 #[test]
-fn codes_and_tokens_have_these_bytes(rt: HostRuntime) -> Result<(), Fail> {
-    let alloc = rt.alloc();
-    assert!(rt; is_kept(alloc, CODE)?);
-    assert!(rt; is_kept(alloc, PLAIN_CODE)?);
-    assert!(rt; is_kept(alloc, OPEN_CODE)?);
-    assert!(rt; is_kept(alloc, REDEEMED_CODE)?);
-    assert!(rt; is_kept(alloc, FIRST_ROTATION)?);
-    assert!(rt; is_kept(alloc, LAST_ROTATION)?);
-    assert!(rt; is_kept(alloc, REVOKED_TOKEN)?);
-    assert!(rt; is_kept(alloc, REUSED_CODE)?);
+fn a_subject_has_1_to_128_visible_bytes(rt: HostRuntime) {
+    let long = [b'~'; 129];
+    let malformed = Some(SubjectError::Malformed);
+    let rows: [(&str, &[u8], Option<SubjectError>); 6] = [
+        ("a byte", b"!", None),
+        ("no byte", b"", malformed),
+        ("a space", b"a b", malformed),
+        ("a control", b"\x7f", malformed),
+        ("128 bytes", &long[..128], None),
+        ("129 bytes", &long, malformed),
+    ];
+    for (name, text, want) in rows {
+        let refusal = Subject::read(rt.alloc(), text).err();
+        assert_eq!(rt; refusal, want, "{name}");
+    }
+}
+
+#[test]
+fn subjects_are_copied_and_compared(rt: HostRuntime) -> Result<(), Fail> {
+    let alice = Subject::read(rt.alloc(), b"alice")?;
+    let copy = alice.copy(rt.alloc())?;
+    assert!(rt; copy.same(&alice), "a copy");
+    assert_eq!(rt; copy.as_str(), "alice");
+    let other = Subject::read(rt.alloc(), b"alicf")?;
+    assert!(rt; !other.same(&alice), "another name");
     Ok(())
 }
 
@@ -213,19 +243,26 @@ fn end_of(alloc: Global, bytes: &[u8], kind: Kind) -> Result<Option<u64>, Fail> 
 }
 
 #[test]
-fn a_fact_mints_and_uses_tokens(rt: HostRuntime) -> Result<(), Fail> {
-    let alloc = rt.alloc();
-    let code = RegionNumber::new(1)
-        .and_then(|region| Dot::new(region, 4))
-        .map(|dot| TokenId {
-            dot,
-            kind: Kind::Code,
-        });
-    assert!(rt; used(alloc, REDEEMED_CODE)? == code);
-    assert!(rt; used(alloc, REUSED_CODE)?.is_none());
-    assert!(rt; end_of(alloc, CODE, Kind::Code)? == Some(1060));
-    assert!(rt; end_of(alloc, CODE, Kind::Access)?.is_none());
-    assert!(rt; end_of(alloc, REDEEMED_CODE, Kind::Access)? == Some(1310));
-    assert!(rt; end_of(alloc, LAST_ROTATION, Kind::Refresh)? == Some(9000));
+fn a_fact_uses_a_token(rt: HostRuntime) -> Result<(), Fail> {
+    let region = RegionNumber::new(1).ok_or("a region")?;
+    let dot = Dot::new(region, 4).ok_or("a dot")?;
+    let kind = Kind::Code;
+    let code = Some(TokenId { dot, kind });
+    assert!(rt; used(rt.alloc(), REDEEMED_CODE)? == code, "a redeemed code");
+    assert!(rt; used(rt.alloc(), REUSED_CODE)?.is_none(), "a reused code");
+    Ok(())
+}
+
+#[test]
+fn a_fact_mints_tokens(rt: HostRuntime) -> Result<(), Fail> {
+    let rows: [(&str, &[u8], Kind, Option<u64>); 4] = [
+        ("a code", CODE, Kind::Code, Some(1_060)),
+        ("no access token by a code", CODE, Kind::Access, None),
+        ("an access token", REDEEMED_CODE, Kind::Access, Some(1_310)),
+        ("a refresh token", LAST_ROTATION, Kind::Refresh, Some(9_000)),
+    ];
+    for (name, bytes, kind, want) in rows {
+        assert_eq!(rt; end_of(rt.alloc(), bytes, kind)?, want, "{name}");
+    }
     Ok(())
 }

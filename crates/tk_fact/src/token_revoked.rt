@@ -1,3 +1,5 @@
+//! The fact that a client revoked a token.
+
 ghost use Rattle.std.specs.Prelude.{◌≡◌, ◌++◌, OnOk};
 ghost use Rattle.tk_fact.specs.Kinds.{token_revoked};
 ghost use Rattle.tk_format.specs.Reading.{Reads};

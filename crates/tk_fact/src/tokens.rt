@@ -1,3 +1,5 @@
+//! Which tokens a fact mints, and which it uses.
+
 ghost use Rattle.std.specs.Prelude.{◌≡◌};
 ghost use Rattle.std.specs.Option.{option_map};
 ghost use Rattle.tk_fact.specs.Tokens.{shown_minted, minted_at, minted_of, uses_of};

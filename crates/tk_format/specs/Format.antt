@@ -1,5 +1,5 @@
 -- Formats (own): which values have a spelling, which one, and what is read from the front of bytes.
--- First the formats of numbers and bytes, then the ways to put formats together: `⊗`, `only`, `shaped`, `partly`, `counted`, `repeated`, `after`, `sized`, `coded` and `choice`.
+-- First the formats of numbers and bytes, then the ways to put formats together: `⊗`, `only`, `shaped`, `partly`, `counted`, `repeated`, `after`, `sized`, `coded`, `choice`, and `one_of` with a list of kinds.
 use Rattle.std.specs.Prelude.{◌≡◌, ℕ, zero, suc, ◌<◌, ◌^◌, Bool, true, List, [], ◌∷◌, ◌++◌, length, take, drop, Option, Some, None, nat_lt, nat_le, ◌==◌, if◌then◌else◌}
 use Rattle.std.specs.Int.{Width, w16, byte_len, from_be_bytes, to_be_bytes}
 use Rattle.std.specs.List.{AllByRecursion, flat_map}
@@ -62,6 +62,10 @@ text_at bytes = (number w16).read bytes >>= λ n. (bytes_of n.0).read n.1
 -- a length in two bytes, and that many bytes
 abbrev pub text : Format (List ℕ)
 text = record { spell = text_spelling; Fits = λ bs. length bs < 2 ^ 16; read = text_at }
+
+-- no bytes
+abbrev pub nothing : Format (Unit {0})
+nothing = record { spell = λ u. []; Fits = λ u. Unit {0}; read = λ bytes. Some (tt, bytes) }
 
 -- ---- formats put together
 
@@ -158,3 +162,42 @@ choice tag fields Fits cases = record {
 -- one case of a choice: what a format reads, put into the value
 abbrev pub via : {A B : Type 0} → (A → B) → Format A → List ℕ → Option (B × List ℕ)
 via into f bytes = f.read bytes >>= λ a. Some (into a.0, a.1)
+
+-- ---- values of several kinds
+
+-- values of several kinds: the spelling of each, which begins with the byte of its kind, and what is read behind that byte
+pub record Kinds (B : Type 0) : Type 1 where
+  pub spell : B → List ℕ
+  pub Fits : B → Type 0
+  pub read : ℕ → List ℕ → Option (B × List ℕ)
+
+-- no values
+abbrev pub no_kind : {B : Type 0} → Kinds B
+no_kind = record { spell = λ b. []; Fits = λ b. ⊥; read = λ t bytes. None }
+
+-- the number of the kind and the fields, if there are such fields
+abbrev pub spelled_by : {A : Type 0} → ℕ → Format A → Option A → List ℕ → List ℕ
+spelled_by k f None others = others
+spelled_by k f (Some a) others = k ∷ f.spell a
+
+-- the fields have a spelling, if there are such fields
+abbrev pub FitsBy : {A : Type 0} → Format A → Option A → Type 0 → Type 0
+FitsBy f None Others = Others
+FitsBy f (Some a) Others = f.Fits a
+
+-- one kind more: its number, the constructor, the fields of a value that it made, and how they are spelled
+abbrev pub kind : {A B : Type 0} → ℕ → (A → B) → (B → Option A) → Format A → Kinds B → Kinds B
+kind k into of f others = record {
+  spell = λ b. spelled_by k f (of b) (others.spell b);
+  Fits = λ b. FitsBy f (of b) (others.Fits b);
+  read = λ t bytes. if t == k then via into f bytes else others.read t bytes;
+}
+
+-- `kind .. and_then kind .. and_then no_kind`: a list of kinds, and so of their laws
+infixr 3 ◌and_then◌
+abbrev pub ◌and_then◌ {ℓ κ} : {A : Type ℓ} {B : Type κ} → (A → B) → A → B
+one and_then others = one others
+
+-- a value of one of these kinds: a byte for the kind, and its fields
+abbrev pub one_of : {B : Type 0} → Kinds B → Format B
+one_of kinds = record { spell = kinds.spell; Fits = kinds.Fits; read = λ bytes. byte.read bytes >>= λ t. kinds.read t.0 t.1 }

@@ -9,7 +9,7 @@ use Rattle.std.proofs.lemmas.List.Concat.{flat_map-cons}
 use Rattle.std.proofs.lemmas.Nat.{be_bytes_2, be_bytes_8, from_be_bytes-to_be_bytes_2, from_be_bytes-to_be_bytes_8}
 use Rattle.std.proofs.lemmas.Option.{cond_some}
 use Rattle.std.proofs.lemmas.Slice.Eq.{bytes_eq-Decides}
-use Rattle.tk_format.specs.Format.{◌>>=◌, Format, number_spelling, number_at, bytes_at, text_spelling, text_at, number, byte, byte_at_front, bytes_of, ◌⊗◌, text, only, shaped, read_many, counted, whole, sized, repeated, after, coded, choice, via, partly}
+use Rattle.tk_format.specs.Format.{◌>>=◌, Format, number_spelling, number_at, bytes_at, text_spelling, text_at, number, byte, byte_at_front, bytes_of, nothing, ◌⊗◌, text, only, shaped, read_many, counted, whole, sized, repeated, after, coded, choice, via, partly}
 use Rattle.tk_format.specs.Exact.{IsBytes, IsBytes-drop, IsBytes-take, IsExact, Takes, Takes-then, bind_some, chosen_some, guard_some, some_is, whole_again, whole_takes}
 
 -- ---- numbers
@@ -71,7 +71,7 @@ u64_exact = number_exact w64 wide64
 -- ---- bytes
 
 -- bytes but the first are bytes
-IsBytes-rest : (b : ℕ) (bytes : List ℕ) → IsBytes (b ∷ bytes) → IsBytes bytes
+pub IsBytes-rest : (b : ℕ) (bytes : List ℕ) → IsBytes (b ∷ bytes) → IsBytes bytes
 IsBytes-rest b bytes h i = h (suc i)
 
 -- what is read as a byte is spelled so
@@ -102,6 +102,13 @@ bytes_exact n = record {
   again = λ bs rest len.
       let long : ltb (length (bs ++ rest)) n ≡ false = le-ltb _ _ (omega (arith, length-append bs rest)) in
       rw (long, take_at bs rest n len, drop_at bs rest n len) refl;
+}
+
+-- the law of `nothing`
+pub nothing_exact : IsExact nothing
+nothing_exact = record {
+  takes = λ bytes x fits e. subst (λ (y : Unit {0} × List ℕ). Takes bytes [] y.1 × Unit {0}) (some_is (tt, bytes) x e) (record { parts = refl; rest_fits = fits }, tt);
+  again = λ u rest fits. refl;
 }
 
 -- ---- one after the other

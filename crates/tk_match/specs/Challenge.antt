@@ -1,5 +1,6 @@
 -- Challenges and verifiers (RFC 7636, 4.1 to 4.6).
 --   ChallengeFields     what contracts see of a challenge
+--   is_verifier         a text that is a verifier, within its limits
 --   challenge_refusal   the first rule that a method and a text break
 --   challenge_of        the challenge, where they break none
 --   Meets               a verifier meets a challenge; is_met, the same as a test
@@ -21,9 +22,18 @@ pub record ChallengeFields : Type 0 where
 abbrev pub is_unreserved : ℕ → Bool
 is_unreserved b = is_ascii_alphanumeric b || b == 45 || b == 46 || b == 95 || b == 126
 
--- 43 to 128 such bytes: a verifier (RFC 7636, 4.1), and a challenge too (4.2)
+-- the fewest bytes of a verifier, and of a challenge (RFC 7636, 4.1 and 4.2)
+abbrev pub fewest_verifier_bytes : ℕ
+fewest_verifier_bytes = 43
+
+-- and the most
+abbrev pub most_verifier_bytes : ℕ
+most_verifier_bytes = 128
+
+-- so many such bytes: a verifier (RFC 7636, 4.1), and a challenge too (4.2)
 abbrev pub is_verifier : List ℕ → Bool
-is_verifier text = nat_le 43 (length text) && nat_le (length text) 128 && list_all is_unreserved text
+is_verifier text =
+    nat_le fewest_verifier_bytes (length text) && nat_le (length text) most_verifier_bytes && list_all is_unreserved text
 
 -- a method's name, byte for byte (RFC 7636, 4.3)
 abbrev pub is_method : List ℕ → Bool

@@ -1,6 +1,6 @@
 -- Which lists of redirection URIs a client may have (RFC 6749, 3.1.2; the limits and `is_absolute` are own).
---   is_uri                 a text that may be kept
---   redirects_refusal      the first rule that a list breaks
+--   is_uri                 a text that may be kept, of `most_uri_bytes` at most
+--   redirects_refusal      the first rule that a list breaks, of `most_uris` at most
 --   redirects_of           the list, where it breaks none
 --   ReadsAsUrl, Refuses    what the URL Standard says of a text, as the crate `url` defines it
 --   registration_refusal   the first rule that a list breaks where its URIs are read too
@@ -16,15 +16,23 @@ use Rattle.tk_match.specs.declared.redirects.RedirectError.TheVariants.{Empty, T
 abbrev pub is_uri_byte : ℕ → Bool
 is_uri_byte b = nat_le 33 b && nat_le b 126 && not (b == 35)
 
--- 1 to 512 such bytes (own)
-abbrev pub is_uri : List ℕ → Bool
-is_uri uri = nat_le 1 (length uri) && nat_le (length uri) 512 && list_all is_uri_byte uri
+-- the most bytes of a URI (own)
+abbrev pub most_uri_bytes : ℕ
+most_uri_bytes = 512
 
--- the first rule that a list breaks: 1 to 8 texts, equal ones counted, each of which may be kept (own)
+-- 1 to that many such bytes (own)
+abbrev pub is_uri : List ℕ → Bool
+is_uri uri = nat_le 1 (length uri) && nat_le (length uri) most_uri_bytes && list_all is_uri_byte uri
+
+-- the most URIs of a client, equal ones counted (own)
+abbrev pub most_uris : ℕ
+most_uris = 8
+
+-- the first rule that a list breaks: 1 to `most_uris` texts, each of which may be kept (own)
 abbrev pub redirects_refusal : List (List ℕ) → Option RedirectError
 redirects_refusal uris =
     if length uris == 0 then Some Empty
-    else if nat_lt 8 (length uris) then Some TooMany
+    else if nat_lt most_uris (length uris) then Some TooMany
     else if list_all is_uri uris then None
     else Some Bad
 

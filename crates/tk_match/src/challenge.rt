@@ -1,3 +1,5 @@
+//! What a client proves to know the verifier of (RFC 7636).
+
 use std::marker::Model;
 
 /// What a client sends ahead, and must later prove to know the verifier of (RFC 7636, 4.2 and 4.3).
@@ -47,6 +49,12 @@ ghost use Rattle.tk_match.specs.Challenge.{is_unreserved, is_verifier, challenge
 use base64::engine::general_purpose::URL_SAFE_NO_PAD;
 use sha2::{Digest, Sha256};
 use std::alloc::{AllocError, Global};
+
+/// The fewest bytes of a verifier, and of a challenge (RFC 7636, 4.1 and 4.2).
+const FEWEST_BYTES: usize = 43;
+
+/// And the most.
+const MOST_BYTES: usize = 128;
 
 impl Challenge {
     /// The challenge of a method and a text as they were sent, refused for the first cause that holds, in the order of
@@ -141,7 +149,7 @@ fn s256(verifier: &[u8]) -> [u8; 43]
 fn is_verifier(text: &[u8]) -> bool
     ensures { result ≡ is_verifier text.now }
 {
-    (43..=128).contains(&text.len()) && has_unreserved_bytes(text)
+    (FEWEST_BYTES..=MOST_BYTES).contains(&text.len()) && has_unreserved_bytes(text)
 }
 
 fn has_unreserved_bytes(text: &[u8]) -> bool

@@ -1,3 +1,5 @@
+//! Which registered URI a request means (RFC 6749, 3.1.2.3).
+
 ghost use Rattle.std.specs.Prelude.{◌≡◌, IsTrue, Some, None, bytes_eq, find};
 ghost use Rattle.std.specs.Option.{option_copied};
 ghost use Rattle.std.specs.Str.{IsUtf8};

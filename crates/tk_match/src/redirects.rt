@@ -1,3 +1,5 @@
+//! The redirection URIs of a client (RFC 6749, 3.1.2).
+
 use crate::uri::Uri;
 use std::marker::Model;
 
@@ -54,6 +56,7 @@ ghost use Rattle.tk_match.specs.Redirects.{is_uri, redirects_refusal, redirects_
 use crate::pick::{Pick, only_uri, registered_uri};
 use std::alloc::{AllocError, Global};
 
+/// The most URIs of a client, equal ones counted (own).
 const MOST_URIS: usize = 8;
 
 impl Redirects {

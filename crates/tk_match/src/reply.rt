@@ -1,3 +1,5 @@
+//! The URI that a browser is sent back to (RFC 6749, 4.1.2).
+
 ghost use Rattle.std.specs.Prelude.{◌≡◌, ◌∷◌, [], ◌++◌, IfOk, map, string_bytes};
 ghost use Rattle.form_urlencoded.specs.Form.{pair_text};
 ghost use Rattle.tk_match.specs.ReplyUri.{joint, reply_of};

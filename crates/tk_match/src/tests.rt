@@ -1,4 +1,6 @@
-use crate::{Challenge, ChallengeError, Pick, RedirectError, Redirects, reply_uri};
+//! Lists of URIs, picks, reply URIs and challenges, by tables.
+
+use crate::{Challenge, ChallengeError, Pick, RedirectError, Redirects, Uri, reply_uri};
 use std::test::Fail;
 
 const APP: &[u8] = b"https://app.example/cb";
@@ -81,6 +83,36 @@ fn a_uri_has_at_most_512_bytes(rt: HostRuntime) {
         let old = Redirects::kept(rt.alloc(), &[&url[..bytes]]).err();
         assert_eq!(rt; old, want, "{name}, kept");
     }
+}
+
+#[test]
+fn a_uri_is_read_by_itself(rt: HostRuntime) {
+    let long = [b'u'; 513];
+    let bad = Some(RedirectError::Bad);
+    let rows: [(&str, &[u8], Option<RedirectError>); 7] = [
+        ("a byte", b"u", None),
+        ("no byte", EMPTY, bad),
+        ("a fragment", b"u#", bad),
+        ("a space", SPACE, bad),
+        ("a byte above the tilde", DELETE, bad),
+        ("512 bytes", &long[..512], None),
+        ("513 bytes", &long, bad),
+    ];
+    for (name, text, want) in rows {
+        let refusal = Uri::read(rt.alloc(), text).err();
+        assert_eq!(rt; refusal, want, "{name}");
+    }
+}
+
+#[test]
+fn uris_are_copied_and_compared(rt: HostRuntime) -> Result<(), Fail> {
+    let uri = Uri::read(rt.alloc(), APP)?;
+    let copy = uri.copy(rt.alloc())?;
+    assert!(rt; copy.same(&uri), "a copy");
+    assert_eq!(rt; copy.as_str(), "https://app.example/cb");
+    let other = Uri::read(rt.alloc(), SLASH)?;
+    assert!(rt; !other.same(&uri), "a slash more");
+    Ok(())
 }
 
 #[test]

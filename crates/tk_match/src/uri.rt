@@ -1,6 +1,8 @@
+//! A redirection URI, byte for byte.
+
 use std::marker::Model;
 
-/// A redirection URI that a list may keep: 1 to 512 visible ASCII bytes, none of them `#`.
+/// A redirection URI that may be kept: 1 to 512 visible ASCII bytes, none of them `#`. Contracts see its bytes.
 #[derive(Debug, Drop)]
 pub struct Uri {
     text: String,
@@ -26,6 +28,7 @@ use crate::redirects::RedirectError;
 use std::alloc::{AllocError, Global};
 use url::{ParseError, Url};
 
+/// The most bytes of a URI (own).
 const MOST_BYTES: usize = 512;
 
 impl Uri {
@@ -45,9 +48,10 @@ impl Uri {
         self.text.as_bytes()
     }
 
-    // `Bad` for every text that a list doesn't keep.
+    /// The URI of these bytes: `Bad` where they aren't one that may be kept, and `Memory` where memory is refused. No
+    /// other error comes. Whether it is an absolute URL isn't asked.
     #[tactic(auto, using(crate::proofs::AsciiTexts::uri_utf8))]
-    pub(crate) fn read(alloc: Global, text: &[u8]) -> Result<Uri, RedirectError>
+    pub fn read(alloc: Global, text: &[u8]) -> Result<Uri, RedirectError>
         ensures ok { IfOk result (λ uri. (uri ≡ text.now) × IsTrue (is_uri text.now)) }
         ensures err { IfErr result (λ e. (e ≡ RedirectError.Bad) ⊎ (e ≡ RedirectError.Memory)) }
         ensures bad { IsErrOf result RedirectError.Bad → is_uri text.now ≡ false }
@@ -62,14 +66,16 @@ impl Uri {
         Ok(Uri { text })
     }
 
-    pub(crate) fn copy(&self, alloc: Global) -> Result<Uri, AllocError>
+    /// The same URI, in memory of its own; an error where memory is refused.
+    pub fn copy(&self, alloc: Global) -> Result<Uri, AllocError>
         ensures { IfOk result (λ uri. uri ≡ self.now) }
     {
         let text = String::from_str(alloc, self.as_str())?;
         Ok(Uri { text })
     }
 
-    pub(crate) fn same(&self, other: &Uri) -> bool
+    /// Whether both have the same bytes (RFC 6749, 3.1.2.3).
+    pub fn same(&self, other: &Uri) -> bool
         ensures { IsTrue result ↔ (self.now ≡ other.now) }
     {
         self.as_str() == other.as_str()

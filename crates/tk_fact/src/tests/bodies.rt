@@ -2,12 +2,12 @@
 
 use crate::{
     Body, ClientAdded, ClientRetired, CodeIssued, CodeRedeemed, ConsentGiven, ConsentWithdrawn,
-    MintedToken, RefreshRotated, ReuseSeen, Sort, Text, TokenRevoked,
+    MintedToken, RefreshRotated, ReuseSeen, Sort, Subject, TokenRevoked,
 };
 use std::alloc::Global;
 use std::test::Fail;
 use tk_handle::{Dot, Kind, Moment, RegionNumber, TokenId};
-use tk_match::{Challenge, Redirects};
+use tk_match::{Challenge, Redirects, Uri};
 use tk_scope::Scope;
 
 pub(super) const DIGEST: [u8; 32] = *b"0123456789abcdef0123456789abcdef";
@@ -52,7 +52,7 @@ pub(super) fn consent(
     scope: &[u8],
 ) -> Result<Body, Fail> {
     let client = dot(client)?;
-    let subject = Text::new(alloc, subject)?;
+    let subject = Subject::read(alloc, subject)?;
     Ok(Body::ConsentGiven(ConsentGiven {
         client,
         subject,
@@ -83,9 +83,9 @@ pub(super) fn code(alloc: Global, fields: CodeFields<'_>) -> Result<Body, Fail> 
     let (client, consent) = (dot(fields.client)?, dot(fields.consent)?);
     let (start, expiry) = (moment(fields.start)?, moment(fields.expiry)?);
     let family_end = moment(fields.family_end)?;
-    let subject = Text::new(alloc, fields.subject)?;
+    let subject = Subject::read(alloc, fields.subject)?;
     let scope = Scope::read(alloc, fields.scope)?;
-    let uri = Text::new(alloc, fields.uri)?;
+    let uri = Uri::read(alloc, fields.uri)?;
     Ok(Body::CodeIssued(CodeIssued {
         client,
         consent,

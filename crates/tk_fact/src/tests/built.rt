@@ -47,10 +47,20 @@ const ROTATED: TokenFields<'static> = TokenFields {
 fn built_clients_have_these_bytes(rt: HostRuntime) -> Result<(), Fail> {
     let alloc = rt.alloc();
     let public = client(alloc, Sort::Public, b"read", &[URI])?;
-    assert!(rt; has_bytes(alloc, (1, 1), public, PUBLIC_CLIENT)?);
+    assert!(rt;
+        has_bytes(alloc, (1, 1), public, PUBLIC_CLIENT)?,
+        "a public client"
+    );
     let server = client(alloc, Sort::Resource(DIGEST), b"write read", &[URI, b"/cb"])?;
-    assert!(rt; has_bytes(alloc, (1, 2), server, RESOURCE_SERVER)?);
-    assert!(rt; has_bytes(alloc, (2, 1), retirement((1, 1))?, RETIRED_CLIENT)?);
+    assert!(rt;
+        has_bytes(alloc, (1, 2), server, RESOURCE_SERVER)?,
+        "a resource server"
+    );
+    let retired = retirement((1, 1))?;
+    assert!(rt;
+        has_bytes(alloc, (2, 1), retired, RETIRED_CLIENT)?,
+        "a retired client"
+    );
     Ok(())
 }
 
@@ -58,18 +68,36 @@ fn built_clients_have_these_bytes(rt: HostRuntime) -> Result<(), Fail> {
 fn built_consents_have_these_bytes(rt: HostRuntime) -> Result<(), Fail> {
     let alloc = rt.alloc();
     let given = consent(alloc, (1, 1), b"alice", b"read")?;
-    assert!(rt; has_bytes(alloc, (1, 3), given, GIVEN_CONSENT)?);
+    assert!(rt;
+        has_bytes(alloc, (1, 3), given, GIVEN_CONSENT)?,
+        "a given consent"
+    );
     let last = (65_535, 9_223_372_036_854_775_807);
-    assert!(rt; has_bytes(alloc, last, withdrawal((1, 3))?, WITHDRAWN_CONSENT)?);
+    let withdrawn = withdrawal((1, 3))?;
+    assert!(rt;
+        has_bytes(alloc, last, withdrawn, WITHDRAWN_CONSENT)?,
+        "a withdrawn consent"
+    );
     Ok(())
 }
 
 #[test]
 fn built_tokens_have_these_bytes(rt: HostRuntime) -> Result<(), Fail> {
     let alloc = rt.alloc();
-    assert!(rt; has_bytes(alloc, (1, 4), code(alloc, ISSUED)?, CODE)?);
-    assert!(rt; has_bytes(alloc, (1, 5), redemption(alloc, REDEEMED)?, REDEEMED_CODE)?);
-    assert!(rt; has_bytes(alloc, (1, 6), rotation(alloc, 1, ROTATED)?, FIRST_ROTATION)?);
+    assert!(rt;
+        has_bytes(alloc, (1, 4), code(alloc, ISSUED)?, CODE)?,
+        "a code"
+    );
+    let redeemed = redemption(alloc, REDEEMED)?;
+    assert!(rt;
+        has_bytes(alloc, (1, 5), redeemed, REDEEMED_CODE)?,
+        "a redeemed code"
+    );
+    let rotated = rotation(alloc, 1, ROTATED)?;
+    assert!(rt;
+        has_bytes(alloc, (1, 6), rotated, FIRST_ROTATION)?,
+        "a rotation"
+    );
     Ok(())
 }
 
@@ -77,8 +105,15 @@ fn built_tokens_have_these_bytes(rt: HostRuntime) -> Result<(), Fail> {
 fn built_revocations_have_these_bytes(rt: HostRuntime) -> Result<(), Fail> {
     let alloc = rt.alloc();
     let revoked = revocation((1, 5), Kind::Refresh, (1, 1))?;
-    assert!(rt; has_bytes(alloc, (1, 7), revoked, REVOKED_TOKEN)?);
-    assert!(rt; has_bytes(alloc, (1, 5), reuse((1, 3), Kind::Code)?, REUSED_CODE)?);
+    assert!(rt;
+        has_bytes(alloc, (1, 7), revoked, REVOKED_TOKEN)?,
+        "a revoked token"
+    );
+    let reused = reuse((1, 3), Kind::Code)?;
+    assert!(rt;
+        has_bytes(alloc, (1, 5), reused, REUSED_CODE)?,
+        "a reused code"
+    );
     Ok(())
 }
 
@@ -91,56 +126,53 @@ fn broken(body: Body) -> Result<Option<FactError>, Fail> {
     Ok(fact.check().err())
 }
 
-// Which rule a consent of this subject breaks, if any.
-fn broken_by(alloc: Global, subject: &[u8]) -> Result<Option<FactError>, Fail> {
-    broken(consent(alloc, (1, 1), subject, b"read")?)
+// Which rule a code breaks, if any, that is issued from 1,000 on with an expiry and a family's end.
+fn broken_code(alloc: Global, ends: (u64, u64)) -> Result<Option<FactError>, Fail> {
+    let (expiry, family_end) = ends;
+    let fields = CodeFields {
+        expiry,
+        family_end,
+        ..ISSUED
+    };
+    broken(code(alloc, fields)?)
 }
 
 #[test]
-fn limits_are_told(rt: HostRuntime) -> Result<(), Fail> {
-    let alloc = rt.alloc();
-    let limit = Some(FactError::Limit);
-    assert!(rt; broken_by(alloc, b"!")?.is_none());
-    assert!(rt; broken_by(alloc, b"")? == limit, "no subject");
-    assert!(rt; broken_by(alloc, b"a b")? == limit, "a space");
-    assert!(rt; broken_by(alloc, b"\x7f")? == limit, "a control");
-    let longest = vec![in alloc; b'~'; 128]?;
-    assert!(rt; broken_by(alloc, longest.as_slice())?.is_none());
-    let longer = vec![in alloc; b'~'; 129]?;
-    assert!(rt; broken_by(alloc, longer.as_slice())? == limit);
+fn ranges_of_codes_are_told(rt: HostRuntime) -> Result<(), Fail> {
+    let range = Some(FactError::Range);
+    let rows = [
+        ("ends at the start", (1_000, 1_000), None),
+        ("an expiry before the start", (999, 1_000), range),
+        ("a family's end before the start", (1_000, 999), range),
+    ];
+    for (name, ends, want) in rows {
+        assert_eq!(rt; broken_code(rt.alloc(), ends)?, want, "{name}");
+    }
     Ok(())
 }
 
-// Which rule a code breaks, if any, that is issued from 1,000 on with an expiry and a family's end.
-fn broken_code<'a>(
-    alloc: Global,
-    subject: &'a [u8],
-    uri: &'a [u8],
-    ends: (u64, u64),
-) -> Result<Option<FactError>, Fail> {
-    let (expiry, family_end) = ends;
-    broken(code(
-        alloc,
-        CodeFields {
-            expiry,
-            family_end,
-            subject,
-            uri,
-            ..ISSUED
-        },
-    )?)
+// Which rule a redemption breaks, if any, whose tokens begin at 1,010.
+fn broken_redemption(alloc: Global, ends: (u64, u64)) -> Result<Option<FactError>, Fail> {
+    let (access_end, refresh_end) = ends;
+    let fields = TokenFields {
+        access_end,
+        refresh_end,
+        ..REDEEMED
+    };
+    broken(redemption(alloc, fields)?)
 }
 
 #[test]
-fn limits_of_codes_are_told_before_ranges(rt: HostRuntime) -> Result<(), Fail> {
-    let alloc = rt.alloc();
-    let limit = Some(FactError::Limit);
-    assert!(rt; broken_code(alloc, b"s", b"u", (1_000, 1_000))?.is_none());
-    assert!(rt; broken_code(alloc, b"", b"u", (999, 1_000))? == limit);
-    assert!(rt; broken_code(alloc, b"s", b"", (999, 1_000))? == limit);
-    assert!(rt; broken_code(alloc, b"s", b"u#", (1_000, 1_000))? == limit);
-    let longer = vec![in alloc; b'u'; 513]?;
-    assert!(rt; broken_code(alloc, b"s", longer.as_slice(), (1_000, 1_000))? == limit);
+fn ranges_of_redemptions_are_told(rt: HostRuntime) -> Result<(), Fail> {
+    let range = Some(FactError::Range);
+    let rows = [
+        ("ends at the start", (1_010, 1_010), None),
+        ("an access token's end before it", (1_009, 1_010), range),
+        ("a refresh token's end before it", (1_010, 1_009), range),
+    ];
+    for (name, ends, want) in rows {
+        assert_eq!(rt; broken_redemption(rt.alloc(), ends)?, want, "{name}");
+    }
     Ok(())
 }
 
@@ -159,41 +191,35 @@ fn broken_rotation(
     broken(rotation(alloc, generation, fields)?)
 }
 
-// Which rule a redemption breaks, if any, whose tokens begin at 1,010.
-fn broken_redemption(alloc: Global, ends: (u64, u64)) -> Result<Option<FactError>, Fail> {
-    let (access_end, refresh_end) = ends;
-    let fields = TokenFields {
-        access_end,
-        refresh_end,
-        ..REDEEMED
-    };
-    broken(redemption(alloc, fields)?)
-}
-
 #[test]
-fn ranges_are_told(rt: HostRuntime) -> Result<(), Fail> {
-    let alloc = rt.alloc();
+fn ranges_of_rotations_are_told(rt: HostRuntime) -> Result<(), Fail> {
     let range = Some(FactError::Range);
-    assert!(rt; broken_code(alloc, b"s", b"u", (999, 1_000))? == range);
-    assert!(rt; broken_code(alloc, b"s", b"u", (1_000, 999))? == range);
-    assert!(rt; broken_redemption(alloc, (1_010, 1_010))?.is_none());
-    assert!(rt; broken_redemption(alloc, (1_009, 1_010))? == range);
-    assert!(rt; broken_redemption(alloc, (1_010, 1_009))? == range);
-    assert!(rt; broken_rotation(alloc, 10_000, (1_700, 1_700))?.is_none());
-    assert!(rt; broken_rotation(alloc, 10_001, (1_700, 1_700))? == range);
-    assert!(rt; broken_rotation(alloc, 0, (1_700, 1_700))? == range);
-    assert!(rt; broken_rotation(alloc, 1, (1_700, 1_699))? == range);
+    let rows = [
+        ("the generation 10,000", 10_000, (1_700, 1_700), None),
+        ("the generation 10,001", 10_001, (1_700, 1_700), range),
+        ("the generation 0", 0, (1_700, 1_700), range),
+        ("an end before the start", 1, (1_700, 1_699), range),
+    ];
+    for (name, generation, ends, want) in rows {
+        let told = broken_rotation(rt.alloc(), generation, ends)?;
+        assert_eq!(rt; told, want, "{name}");
+    }
     Ok(())
 }
 
 #[test]
 fn tokens_that_cannot_be_revoked_or_used_again_are_told(rt: HostRuntime) -> Result<(), Fail> {
     let range = Some(FactError::Range);
-    assert!(rt; broken(revocation((1, 5), Kind::Code, (1, 1))?)? == range);
-    assert!(rt; broken(revocation((1, 5), Kind::Access, (1, 1))?)?.is_none());
-    assert!(rt; broken(revocation((1, 5), Kind::Refresh, (1, 1))?)?.is_none());
-    assert!(rt; broken(reuse((1, 3), Kind::Code)?)?.is_none());
-    assert!(rt; broken(reuse((1, 3), Kind::Access)?)? == range);
-    assert!(rt; broken(reuse((1, 3), Kind::Refresh)?)?.is_none());
+    let rows = [
+        ("a code", Kind::Code, range, None),
+        ("an access token", Kind::Access, None, range),
+        ("a refresh token", Kind::Refresh, None, None),
+    ];
+    for (name, kind, revoked, reused) in rows {
+        let told = broken(revocation((1, 5), kind, (1, 1))?)?;
+        assert_eq!(rt; told, revoked, "{name}, revoked");
+        let told = broken(reuse((1, 3), kind)?)?;
+        assert_eq!(rt; told, reused, "{name}, used again");
+    }
     Ok(())
 }

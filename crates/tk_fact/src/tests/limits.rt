@@ -69,21 +69,38 @@ const LAST_REUSE: Part = (
 #[test]
 fn dots_go_to_the_last(rt: HostRuntime) -> Result<(), Fail> {
     let alloc = rt.alloc();
-    assert!(rt; keeps(alloc, retirement(LAST)?, 21, &[LAST_RETIREMENT])?);
-    assert!(rt; keeps(alloc, withdrawal(LAST)?, 21, &[LAST_WITHDRAWAL])?);
+    let retired = retirement(LAST)?;
+    assert!(rt;
+        keeps(alloc, retired, 21, &[LAST_RETIREMENT])?,
+        "a retirement"
+    );
+    let withdrawn = withdrawal(LAST)?;
+    assert!(rt;
+        keeps(alloc, withdrawn, 21, &[LAST_WITHDRAWAL])?,
+        "a withdrawal"
+    );
     let revoked = revocation(LAST, Kind::Refresh, LAST)?;
-    assert!(rt; keeps(alloc, revoked, 64, &[LAST_REVOCATION])?);
-    assert!(rt; keeps(alloc, reuse(LAST, Kind::Refresh)?, 22, &[LAST_REUSE])?);
+    assert!(rt;
+        keeps(alloc, revoked, 64, &[LAST_REVOCATION])?,
+        "a revocation"
+    );
+    let reused = reuse(LAST, Kind::Refresh)?;
+    assert!(rt; keeps(alloc, reused, 22, &[LAST_REUSE])?, "a reuse");
     Ok(())
 }
 
 // A consent for the client at the last dot, up to its subject.
-const CONSENT: &[u8] =
-    b"\xff\xff\x7f\xff\xff\xff\xff\xff\xff\xff\x03\xff\xff\x7f\xff\xff\xff\xff\xff\xff\xff";
+const CONSENT: Part = (
+    b"\xff\xff\x7f\xff\xff\xff\xff\xff\xff\xff\x03\xff\xff\x7f\xff\xff\xff\xff\xff\xff\xff",
+    0,
+    0,
+);
 
 const SUBJECT: Part = (b"\x00\x80", b'!', 128);
 
 const LONG_SUBJECT: Part = (b"\x00\x81", b'!', 129);
+
+const NO_SUBJECT: Part = (b"\x00\x00", 0, 0);
 
 const SCOPE: Part = (b"\x04\x00", b'~', 1_024);
 
@@ -98,10 +115,18 @@ fn long_consent(alloc: Global) -> Result<Body, Fail> {
 #[test]
 fn a_subject_has_128_bytes_and_a_scope_1024(rt: HostRuntime) -> Result<(), Fail> {
     let alloc = rt.alloc();
-    let front = (CONSENT, 0, 0);
-    assert!(rt; keeps(alloc, long_consent(alloc)?, 1_177, &[front, SUBJECT, SCOPE])?);
-    assert!(rt; refuses(alloc, &[front, LONG_SUBJECT, SCOPE])?);
-    assert!(rt; refuses(alloc, &[front, SUBJECT, LONG_SCOPE])?);
+    let longest = [CONSENT, SUBJECT, SCOPE];
+    assert!(rt;
+        keeps(alloc, long_consent(alloc)?, 1_177, &longest)?,
+        "the longest"
+    );
+    let rows = [
+        ("a subject of 129 bytes", [CONSENT, LONG_SUBJECT, SCOPE]),
+        ("a scope of 1,025", [CONSENT, SUBJECT, LONG_SCOPE]),
+    ];
+    for (name, parts) in rows {
+        assert!(rt; refuses(alloc, &parts)?, "{name}");
+    }
     Ok(())
 }
 
@@ -115,6 +140,10 @@ const CLIENT: Part = (
 const URI: Part = (b"\x02\x00", b'!', 512);
 
 const LONG_URI: Part = (b"\x02\x01", b'!', 513);
+
+const NO_URI: Part = (b"\x00\x00", 0, 0);
+
+const FRAGMENT: Part = (b"\x00\x02u#", 0, 0);
 
 const EIGHT: Part = (b"\x08", 0, 0);
 
@@ -137,15 +166,18 @@ fn long_client(alloc: Global) -> Result<Body, Fail> {
 fn a_client_has_eight_uris_of_512_bytes(rt: HostRuntime) -> Result<(), Fail> {
     let alloc = rt.alloc();
     let eight = [CLIENT, SCOPE, EIGHT, URI, URI, URI, URI, URI, URI, URI, URI];
-    assert!(rt; keeps(alloc, long_client(alloc)?, 5_183, &eight)?);
+    assert!(rt;
+        keeps(alloc, long_client(alloc)?, 5_183, &eight)?,
+        "the longest"
+    );
     let nine = [
         CLIENT, SCOPE, NINE, URI, URI, URI, URI, URI, URI, URI, URI, URI,
     ];
-    assert!(rt; refuses(alloc, &nine)?);
+    assert!(rt; refuses(alloc, &nine)?, "nine URIs");
     let longer = [
         CLIENT, SCOPE, EIGHT, URI, URI, URI, URI, URI, URI, URI, LONG_URI,
     ];
-    assert!(rt; refuses(alloc, &longer)?);
+    assert!(rt; refuses(alloc, &longer)?, "a URI of 513 bytes");
     Ok(())
 }
 
@@ -184,13 +216,33 @@ fn long_code(alloc: Global) -> Result<Body, Fail> {
 }
 
 #[test]
-fn a_challenge_has_43_to_128_bytes(rt: HostRuntime) -> Result<(), Fail> {
+fn the_texts_of_a_code_have_their_limits(rt: HostRuntime) -> Result<(), Fail> {
     let alloc = rt.alloc();
-    let whole = [CODE, SUBJECT, SCOPE, URI, CHALLENGE];
-    assert!(rt; keeps(alloc, long_code(alloc)?, 1_889, &whole)?);
-    assert!(rt; refuses(alloc, &[CODE, SUBJECT, SCOPE, URI, LONG_CHALLENGE])?);
-    assert!(rt; refuses(alloc, &[CODE, SUBJECT, SCOPE, URI, SHORT_CHALLENGE])?);
-    assert!(rt; refuses(alloc, &[CODE, SUBJECT, SCOPE, LONG_URI, CHALLENGE])?);
+    let longest = [CODE, SUBJECT, SCOPE, URI, CHALLENGE];
+    assert!(rt;
+        keeps(alloc, long_code(alloc)?, 1_889, &longest)?,
+        "the longest"
+    );
+    let rows = [
+        ("no subject", [CODE, NO_SUBJECT, SCOPE, URI, CHALLENGE]),
+        ("no URI", [CODE, SUBJECT, SCOPE, NO_URI, CHALLENGE]),
+        ("a fragment", [CODE, SUBJECT, SCOPE, FRAGMENT, CHALLENGE]),
+        (
+            "a URI of 513 bytes",
+            [CODE, SUBJECT, SCOPE, LONG_URI, CHALLENGE],
+        ),
+        (
+            "a challenge of 129",
+            [CODE, SUBJECT, SCOPE, URI, LONG_CHALLENGE],
+        ),
+        (
+            "a challenge of 42",
+            [CODE, SUBJECT, SCOPE, URI, SHORT_CHALLENGE],
+        ),
+    ];
+    for (name, parts) in rows {
+        assert!(rt; refuses(alloc, &parts)?, "{name}");
+    }
     Ok(())
 }
 
@@ -237,10 +289,17 @@ fn long_rotation(alloc: Global) -> Result<Body, Fail> {
 fn both_tokens_have_scopes_of_1024_bytes(rt: HostRuntime) -> Result<(), Fail> {
     let alloc = rt.alloc();
     let redeemed = [REDEMPTION, SCOPE, REFRESH, SCOPE];
-    assert!(rt; keeps(alloc, long_redemption(alloc)?, 2_161, &redeemed)?);
+    assert!(rt;
+        keeps(alloc, long_redemption(alloc)?, 2_161, &redeemed)?,
+        "a redemption"
+    );
     let rotated = [LAST_ROTATION, SCOPE, REFRESH, SCOPE];
-    assert!(rt; keeps(alloc, long_rotation(alloc)?, 2_163, &rotated)?);
-    assert!(rt; refuses(alloc, &[LAST_ROTATION, SCOPE, REFRESH, LONG_SCOPE])?);
+    assert!(rt;
+        keeps(alloc, long_rotation(alloc)?, 2_163, &rotated)?,
+        "a rotation"
+    );
+    let longer = [LAST_ROTATION, SCOPE, REFRESH, LONG_SCOPE];
+    assert!(rt; refuses(alloc, &longer)?, "a scope of 1,025 bytes");
     Ok(())
 }
 

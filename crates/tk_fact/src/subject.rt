@@ -1,0 +1,141 @@
+//! The resource owner whom a consent and a code are for, by its name.
+
+use std::marker::Model;
+
+/// The name of a resource owner (RFC 6749, 1.1): 1 to 128 visible ASCII bytes (own). Contracts see its bytes.
+#[derive(Debug, Drop)]
+pub struct Subject {
+    text: String,
+}
+
+impl Model for Subject {
+    ghost use Rattle.std.specs.Prelude.{ℕ, List, IsTrue, string_bytes};
+
+    ghost Value = { List ℕ };
+
+    ghost use Rattle.tk_fact.specs.Subject.{is_subject};
+
+    ghost view = { λ s. string_bytes s.text };
+
+    ghost invariant = { λ s. IsTrue (is_subject (string_bytes s.text)) };
+}
+
+/// Why bytes are no subject.
+#[derive(Clone, Copy, Debug, PartialEq, Eq)]
+pub enum SubjectError {
+    /// They aren't 1 to 128 visible ASCII bytes.
+    Malformed,
+    /// A growth of memory was refused.
+    Memory,
+}
+
+impl From<AllocError> for SubjectError {
+    ghost use Rattle.std.specs.Prelude.{◌≡◌};
+    ghost use Rattle.tk_fact.specs.declared.subject.SubjectError.TheVariants.{Memory};
+
+    ghost from_gives = { λ _ e. e ≡ Memory };
+
+    fn from(_: AllocError) -> SubjectError {
+        SubjectError::Memory
+    }
+}
+
+ghost use Rattle.std.specs.Prelude.{◌≡◌, ◌++◌, ◌↔◌, false, IfOk, IsErrOf, IsTrue, OnOk};
+ghost use Rattle.std.specs.List.{list_all};
+ghost use Rattle.tk_fact.specs.Fields.{subject_field};
+ghost use Rattle.tk_fact.specs.Subject.{is_visible, is_subject};
+ghost use Rattle.tk_format.specs.Reading.{Gets};
+
+use std::alloc::{AllocError, Global};
+use tk_format::{ReadError, Reader, Writer};
+
+/// The most bytes of a subject (own).
+const MOST_BYTES: usize = 128;
+
+impl Subject {
+    /// The subject with this name: `Malformed` where the bytes are no name of a subject, and `Memory` where memory is
+    /// refused.
+    #[tactic(auto, using(crate::proofs::SubjectLaws::subject_utf8))]
+    pub fn read(alloc: Global, text: &[u8]) -> Result<Subject, SubjectError>
+        ensures ok { IfOk result (λ subject. (subject ≡ text.now) × IsTrue (is_subject text.now)) }
+        ensures malformed { IsErrOf result SubjectError.Malformed → is_subject text.now ≡ false }
+    {
+        if !is_subject(text) {
+            return Err(SubjectError::Malformed);
+        }
+        let Ok(text) = str::from_utf8(text) else {
+            unreachable!("visible ASCII");
+        };
+        let text = String::from_str(alloc, text)?;
+        Ok(Subject { text })
+    }
+
+    /// The name.
+    pub fn as_str(&self) -> &str
+        ensures value { result.now ≡ self.now }
+        ensures known { IsTrue (is_subject self.now) }
+    {
+        self.text.as_str()
+    }
+
+    /// The bytes of the name.
+    pub fn as_bytes(&self) -> &[u8]
+        ensures value { result.now ≡ self.now }
+        ensures known { IsTrue (is_subject self.now) }
+    {
+        self.text.as_bytes()
+    }
+
+    /// The same subject, in memory of its own; an error where memory is refused.
+    pub fn copy(&self, alloc: Global) -> Result<Subject, AllocError>
+        ensures { IfOk result (λ subject. subject ≡ self.now) }
+    {
+        let text = String::from_str(alloc, self.as_str())?;
+        Ok(Subject { text })
+    }
+
+    /// Whether both have the same name.
+    pub fn same(&self, other: &Subject) -> bool
+        ensures { IsTrue result ↔ (self.now ≡ other.now) }
+    {
+        self.as_str() == other.as_str()
+    }
+
+    // A subject has a spelling.
+    #[tactic(auto, using(crate::specs::FieldLaws::subject_fits))]
+    pub(crate) fn known(&self)
+        ensures { subject_field.Fits self.now }
+    {
+        let _text = self.as_str();
+    }
+
+    pub(crate) fn read_from(alloc: Global, reader: &mut Reader<'_>) -> Result<Subject, ReadError>
+        ensures { Gets (λ subject. subject) subject_field result reader.old reader.new }
+    {
+        let bytes = reader.take_text().ok_or(ReadError::Malformed)?;
+        match Subject::read(alloc, bytes) {
+            Ok(subject) => Ok(subject),
+            Err(SubjectError::Malformed) => Err(ReadError::Malformed),
+            Err(SubjectError::Memory) => Err(ReadError::Memory),
+        }
+    }
+
+    pub(crate) fn write(&self, writer: &mut Writer) -> Result<(), AllocError>
+        requires { subject_field.Fits self.now }
+        ensures { OnOk result (writer.new ≡ writer.old ++ subject_field.spell self.now) }
+    {
+        writer.put_text(self.as_bytes())
+    }
+}
+
+fn is_subject(text: &[u8]) -> bool
+    ensures { result ≡ is_subject text.now }
+{
+    (1..=MOST_BYTES).contains(&text.len()) && is_all_visible(text)
+}
+
+fn is_all_visible(text: &[u8]) -> bool
+    ensures { result ≡ list_all is_visible text.now }
+{
+    text.iter().all(|b| (0x21..=0x7e).contains(b))
+}
