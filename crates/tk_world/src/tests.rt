@@ -1,9 +1,10 @@
 //! Runs of a world, told by their outcomes.
 
-use crate::{Event, Outcome, Payload, Request, Settings, World};
+use crate::{Event, Outcome, Request, Settings, World};
 use std::alloc::{AllocError, Global};
 use std::test::Fail;
 use tk_handle::{Moment, RegionNumber};
+use tk_message::Payload;
 use tk_vector::VersionVector;
 
 #[test]
@@ -67,7 +68,9 @@ fn registration(alloc: Global, scope: &str, redirects: &str) -> Result<Request, 
 fn is_reply(outcome: Option<&Outcome>, status: u16, body: &str) -> bool {
     match outcome {
         Some(Outcome::Reply(reply)) => match &reply.body {
-            Payload::Json(bytes) => reply.status == status && bytes.as_slice() == body.as_bytes(),
+            Payload::Json(bytes) => {
+                reply.status.number() == status && bytes.as_slice() == body.as_bytes()
+            }
             _ => false,
         },
         _ => false,
