@@ -13,8 +13,8 @@
 //! - [`FromBytes`] and [`read_many`], several values of one type;
 //! - [`Spelled`] and [`read_all`], a value that takes all of the bytes.
 //!
-//! `specs/Format.antt` defines formats, `specs/Reading.antt` says what a reader may return, and `specs/Exact.antt`
-//! and `specs/Laws.antt` have the laws.
+//! `specs/Format.antt` defines formats, `specs/Reading.antt` says what a reader may return, and `specs/Exact.antt`,
+//! `specs/Laws.antt` and `specs/KindLaws.antt` have the laws.
 #![tactic(auto)]
 
 mod error;
