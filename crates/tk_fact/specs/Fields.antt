@@ -111,6 +111,6 @@ challenge_field = choice challenge_tag challenge_rest ChallengeFits challenge_ca
 -- the digest, the end, the scope
 abbrev pub minted_field : Format MintedToken
 minted_field = shaped
-    (λ p. record { digest = p.0; end = p.1.0; scope = p.1.1 })
+    (λ (digest, (end, scope)). record { digest = digest; end = end; scope = scope })
     (λ m. (m.digest, (m.end, m.scope)))
     (digest_field ⊗ (moment ⊗ scope_field))

@@ -20,7 +20,7 @@ use Rattle.tk_fact.specs.declared.reuse_seen.ReuseSeen.{ReuseSeen}
 
 abbrev pub client_added : Format ClientAdded
 client_added = shaped
-    (λ p. record { sort = p.0; scope = p.1.0; redirects = p.1.1 })
+    (λ (sort, (scope, redirects)). record { sort = sort; scope = scope; redirects = redirects })
     (λ f. (f.sort, (f.scope, f.redirects)))
     (sort_field ⊗ (scope_field ⊗ redirects_field))
 
@@ -29,7 +29,7 @@ client_retired = shaped (λ d. record { client = d }) (λ f. f.client) dot_field
 
 abbrev pub consent_given : Format ConsentGiven
 consent_given = shaped
-    (λ p. record { client = p.0; subject = p.1.0; scope = p.1.1 })
+    (λ (client, (subject, scope)). record { client = client; subject = subject; scope = scope })
     (λ f. (f.client, (f.subject, f.scope)))
     (dot_field ⊗ (subject_field ⊗ scope_field))
 
@@ -72,19 +72,25 @@ code_issued = shaped
 
 abbrev pub code_redeemed : Format CodeRedeemed
 code_redeemed = shaped
-    (λ p. record { code = p.0; start = p.1.0; access = p.1.1.0; refresh = p.1.1.1 })
+    (λ (code, (start, (access, refresh))). record { code = code; start = start; access = access; refresh = refresh })
     (λ f. (f.code, (f.start, (f.access, f.refresh))))
     (dot_field ⊗ (moment ⊗ (minted_field ⊗ minted_field)))
 
 abbrev pub refresh_rotated : Format RefreshRotated
 refresh_rotated = shaped
-    (λ p. record { parent = p.0; generation = p.1.0; start = p.1.1.0; access = p.1.1.1.0; refresh = p.1.1.1.1 })
+    (λ (parent, (generation, (start, (access, refresh)))). record {
+      parent = parent;
+      generation = generation;
+      start = start;
+      access = access;
+      refresh = refresh;
+    })
     (λ f. (f.parent, (f.generation, (f.start, (f.access, f.refresh)))))
     (dot_field ⊗ (number w16 ⊗ (moment ⊗ (minted_field ⊗ minted_field))))
 
 abbrev pub token_revoked : Format TokenRevoked
 token_revoked = shaped
-    (λ p. record { token = p.0; digest = p.1.0; client = p.1.1 })
+    (λ (token, (digest, client)). record { token = token; digest = digest; client = client })
     (λ f. (f.token, (f.digest, f.client)))
     (token ⊗ (digest_field ⊗ dot_field))
 

@@ -5,12 +5,13 @@
 //! in the order in which the kind's struct has them. `Fact::minted` and `Fact::uses` tell which tokens a fact mints,
 //! and which it uses up. What follows from several facts together is said above.
 //!
-//! `copy` and `same` are written for every level, and a contract sees each of these types as the plain value that it
-//! stands for. What a scope, a redirect list and a challenge are is said below, in tk_scope and tk_match.
+//! Each type is copied and compared, by `copy` and `same` or by derives where it is plain, and a contract sees it as the
+//! plain value that it stands for. What a scope, a redirect list, a URI and a challenge are is said below, in tk_scope
+//! and tk_match.
 //!
 //! In reading order: `Subject`, `Sort`, `MintedToken`, the nine kinds from `ClientAdded` to `ReuseSeen`, `Body`, `Fact`,
-//! `Minted`. The definitions are in specs/: `Subject` for the name of a subject, `Check` for the rules, `Fields`, `Kinds` and `FactBytes` for the bytes,
-//! `Tokens` for the tokens.
+//! `Minted`. The definitions are in specs/: `Subject` for the name of a subject, `Check` for the rules, `Fields`, `Kinds`
+//! and `FactBytes` for the bytes, `Tokens` for the tokens.
 #![tactic(auto)]
 
 mod body;

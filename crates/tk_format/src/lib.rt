@@ -14,8 +14,8 @@
 //! - [`Spelled`] and [`read_all`], a value that takes all of the bytes;
 //! - [`read_decimal`], a number that is written in decimal digits.
 //!
-//! `specs/Format.antt` defines formats, `specs/Reading.antt` says what a reader may return, and `specs/Exact.antt`
-//! and `specs/Laws.antt` have the laws.
+//! `specs/Format.antt` defines formats, `specs/Reading.antt` says what a reader may return, and `specs/Exact.antt`,
+//! `specs/Laws.antt` and `specs/KindLaws.antt` have the laws.
 #![tactic(auto)]
 
 mod decimal;

@@ -1,3 +1,5 @@
+//! Readers and writers of numbers, bytes and texts.
+
 ghost use Rattle.std.specs.Int.{w16};
 ghost use Rattle.tk_format.specs.Format.{number, number_at};
 ghost use Rattle.tk_format.specs.Laws.{u16_exact};
