@@ -4,7 +4,7 @@ use Rattle.tk_handle.specs.declared.dot.Dot.{Dot}
 use Rattle.tk_handle.specs.declared.token_id.TokenId.{TokenId}
 use Rattle.tk_family.specs.declared.link.Link.{Link}
 use Rattle.tk_family.specs.declared.link.Link.TheVariants.{Code, Redeems, Rotates}
-use Rattle.tk_family.specs.Families.{Links, Marks, named_by, grant_at, fits, rank, rank_of, IsParent, IsPath, IsUnder, IsTrail, use_of, IsTwice, IsBad, IsDead, Within, MarksWithin}
+use Rattle.tk_family.specs.Families.{Links, Marks, named_by, grant_at, fits, rank, rank_of, IsParent, IsPath, IsUnder, IsTrail, use_of, IsTwice, IsBad, IsDead, LinksWithin, MarksWithin}
 
 -- a dot has at most one parent
 pub IsParent-one : (f : Links) (e p q : Dot) → IsParent f e p → IsParent f e q → p ≡ q
@@ -26,11 +26,11 @@ IsParent-code f e p code a =
 -- a dot is under at most one code
 pub IsPath-one : (f : Links) (d : Dot) (ps qs : List Dot) (b c : Dot) → IsPath f d ps b → IsPath f d qs c → b ≡ c
 IsPath-one f d [] [] b c m n = sym m.0 ∙ n.0
-IsPath-one f d [] (q ∷ qs) b c m n = absurd (IsParent-code f d q m.1 n.0)
-IsPath-one f d (p ∷ ps) [] b c m n = absurd (IsParent-code f d p n.1 m.0)
+IsPath-one f d [] (q ∷ qs) b c m n = absurd (IsParent-code f d q (ap f m.0 ∙ m.1) n.0.0)
+IsPath-one f d (p ∷ ps) [] b c m n = absurd (IsParent-code f d p (ap f n.0 ∙ n.1) m.0.0)
 IsPath-one f d (p ∷ ps) (q ∷ qs) b c m n =
-    let same : p ≡ q = IsParent-one f d p q m.0 n.0 in
-    IsPath-one f p ps qs b c m.1 (rw same n.1)
+    let same : p ≡ q = IsParent-one f d p q m.0.0 n.0.0 in
+    IsPath-one f p ps qs b c (m.0.1, m.1) (rw same n.0.1, n.1)
 
 pub IsUnder-one : (f : Links) (d b c : Dot) → IsUnder f d b → IsUnder f d c → b ≡ c
 IsUnder-one f d b c m n = IsPath-one f d m.path n.path b c m.leads n.leads
@@ -47,7 +47,7 @@ fits-rank (Rotates p g) (Rotates d j) h = grind (arith)
 
 -- ---- what is so in some links is so in more
 
-pub IsParent-within : (f g : Links) → Within f g → (e p : Dot) → IsParent f e p → IsParent g e p
+pub IsParent-within : (f g : Links) → LinksWithin f g → (e p : Dot) → IsParent f e p → IsParent g e p
 IsParent-within f g w e p a = record {
   link = a.link;
   above = a.above;
@@ -57,18 +57,18 @@ IsParent-within f g w e p a = record {
   fitting = a.fitting;
 }
 
-pub IsPath-within : (f g : Links) → Within f g → (d : Dot) (ps : List Dot) (c : Dot) → IsPath f d ps c → IsPath g d ps c
-IsPath-within f g w d [] c m = (m.0, w d Code m.1)
-IsPath-within f g w d (p ∷ ps) c m = (IsParent-within f g w d p m.0, IsPath-within f g w p ps c m.1)
+pub IsTrail-within : (f g : Links) → LinksWithin f g → (d : Dot) (ps : List Dot) (e : Dot) → IsTrail f d ps e → IsTrail g d ps e
+IsTrail-within f g w d [] e m = m
+IsTrail-within f g w d (p ∷ ps) e m = (IsParent-within f g w d p m.0, IsTrail-within f g w p ps e m.1)
 
-pub IsUnder-within : (f g : Links) → Within f g → (d c : Dot) → IsUnder f d c → IsUnder g d c
-IsUnder-within f g w d c m = record { path = m.path; leads = IsPath-within f g w d m.path c m.leads }
+pub IsUnder-within : (f g : Links) → LinksWithin f g → (d c : Dot) → IsUnder f d c → IsUnder g d c
+IsUnder-within f g w d c m = record { path = m.path; leads = (IsTrail-within f g w d m.path c m.leads.0, w c Code m.leads.1) }
 
-pub use_of-within : (f g : Links) → Within f g → (e : Dot) (o : Option Link) (k : TokenId) → f e ≡ o → use_of o ≡ Some k → use_of (g e) ≡ Some k
+pub use_of-within : (f g : Links) → LinksWithin f g → (e : Dot) (o : Option Link) (k : TokenId) → f e ≡ o → use_of o ≡ Some k → use_of (g e) ≡ Some k
 use_of-within f g w e None k at h = absurd (cc)
 use_of-within f g w e (Some l) k at h = ap use_of (w e l at) ∙ h
 
-pub IsTwice-within : (f g : Links) → Within f g → (k : TokenId) → IsTwice f k → IsTwice g k
+pub IsTwice-within : (f g : Links) → LinksWithin f g → (k : TokenId) → IsTwice f k → IsTwice g k
 IsTwice-within f g w k t = record {
   one = t.one;
   two = t.two;
@@ -77,7 +77,7 @@ IsTwice-within f g w k t = record {
   by_two = use_of-within f g w t.two (f t.two) k refl t.by_two;
 }
 
-pub IsBad-within : (f g : Links) (m n : Marks) → Within f g → MarksWithin m n → (d : Dot) → IsBad f m d → IsBad g n d
+pub IsBad-within : (f g : Links) (m n : Marks) → LinksWithin f g → MarksWithin m n → (d : Dot) → IsBad f m d → IsBad g n d
 IsBad-within f g m n w v d b = record {
   link = b.link;
   here = w d b.link b.here;
@@ -85,7 +85,7 @@ IsBad-within f g m n w v d b = record {
 }
 
 -- a dead family stays dead
-pub IsDead-within : (f g : Links) (m n : Marks) → Within f g → MarksWithin m n → (c : Dot) → IsDead f m c → IsDead g n c
+pub IsDead-within : (f g : Links) (m n : Marks) → LinksWithin f g → MarksWithin m n → (c : Dot) → IsDead f m c → IsDead g n c
 IsDead-within f g m n w v c x = record {
   member = x.member;
   under = IsUnder-within f g w x.member c x.under;
@@ -111,8 +111,7 @@ IsTrail-no_ring f d p ps m = let whole : length (p ∷ ps) + rank_of (f d) ≡ r
 
 -- a chain to a code has as many parents as the rank
 pub IsPath-length : (f : Links) (d c : Dot) (ps : List Dot) → IsPath f d ps c → length ps ≡ rank_of (f d)
-IsPath-length f d c [] m = sym (ap rank_of m.1)
-IsPath-length f d c (p ∷ ps) m =
-    let falls : rank_of (f d) ≡ rank_of (f p) + 1 = IsParent-rank f d p m.0 in
-    let rest : length ps ≡ rank_of (f p) = IsPath-length f p c ps m.1 in
-    omega (arith, falls, rest)
+IsPath-length f d c ps m =
+    let whole : length ps + rank_of (f c) ≡ rank_of (f d) = IsTrail-length f d c ps m.0 in
+    let none : rank_of (f c) ≡ 0 = ap rank_of m.1 in
+    omega (arith, whole, none)

@@ -40,11 +40,11 @@ is_code-sound (Some (Redeems d)) h = absurd (true≢false (sym h))
 is_code-sound (Some (Rotates d g)) h = absurd (true≢false (sym h))
 
 here-sound : (f : Links) (d c : Dot) → is_code_link (f d) ≡ true → Some d ≡ Some c → IsUnder f d c
-here-sound f d c is h = let same : d ≡ c = cc in record { path = []; leads = (same, is_code-sound (f d) is) }
+here-sound f d c is h = let same : d ≡ c = cc in record { path = []; leads = (same, ap f (sym same) ∙ is_code-sound (f d) is) }
 
 step-sound : (f : Links) (n : ℕ) (d c : Dot) (o : Option Dot) → ((q : Dot) → code_by f n q ≡ Some c → IsUnder f q c) → parent_of f d ≡ o → option_and_then (code_by f n) o ≡ Some c → IsUnder f d c
 step-sound f n d c None rest at h = absurd (cc)
-step-sound f n d c (Some p) rest at h = let u : IsUnder f p c = rest p h in record { path = p ∷ u.path; leads = (parent_of-sound f d p at, u.leads) }
+step-sound f n d c (Some p) rest at h = let u : IsUnder f p c = rest p h in record { path = p ∷ u.path; leads = ((parent_of-sound f d p at, u.leads.0), u.leads.1) }
 
 pub code_by-sound : (f : Links) (n : ℕ) (d c : Dot) → code_by f n d ≡ Some c → IsUnder f d c
 code_by-sound f zero d c h = elim (cases_Bool (is_code_link (f d))) [
@@ -71,10 +71,10 @@ code_more f (suc m) d p c a low rest =
     cond-false _ _ _ none ∙ (ap (option_and_then (code_by f m)) (parent_of-complete f d p a) ∙ rest m (omega arith))
 
 pub code_by-complete : (f : Links) (n : ℕ) (d : Dot) (ps : List Dot) (c : Dot) → IsPath f d ps c → rank_of (f d) ≤ n → code_by f n d ≡ Some c
-code_by-complete f n d [] c m low = code_here f n d (ap is_code_link m.1) ∙ ap (λ (x : Dot). Some x) m.0
+code_by-complete f n d [] c m low = code_here f n d (ap is_code_link (ap f m.0 ∙ m.1)) ∙ ap (λ (x : Dot). Some x) m.0
 code_by-complete f n d (p ∷ ps) c m low =
-    let r : rank_of (f d) ≡ rank_of (f p) + 1 = IsParent-rank f d p m.0 in
-    code_more f n d p c m.0 (omega arith) (λ k e. code_by-complete f k p ps c m.1 (omega arith))
+    let r : rank_of (f d) ≡ rank_of (f p) + 1 = IsParent-rank f d p m.0.0 in
+    code_more f n d p c m.0.0 (omega arith) (λ k e. code_by-complete f k p ps c (m.0.1, m.1) (omega arith))
 
 -- ---- the code that a dot is under, both ways
 

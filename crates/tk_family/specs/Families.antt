@@ -1,16 +1,17 @@
 -- Families over links and marks. Links are given by their look-up, for each dot what the fact there does in a family, and
--- marks by their test. A token stands at the dot of the fact that minted it, so families speak of dots.
---   Links, Marks          what the definitions below speak of
---   used_by, use_of       the token that a link uses
---   named_by              the dot that a link names
---   grant_at              the code or refresh token that a link mints
---   fits, IsParent        the parent of a dot
---   IsPath, IsUnder       the code that a dot is under; its family is all that is under it
---   IsTrail               parents, whether or not they lead to a code
---   rank, rank_of         how many parents a whole chain has
---   IsUsed, IsTwice       the uses of a code or refresh token
---   IsBad, IsDead         bad grants, and the dead families that they make
---   Within, MarksWithin   links and marks that are part of more
+-- marks by their relation. A token stands at the dot of the fact that minted it, so families speak of dots.
+--   Links, Marks               what the definitions below speak of
+--   used_by, use_of            the token that a link uses
+--   named_by                   the dot that a link names
+--   grant_at                   the code or refresh token that a link mints
+--   fits, IsParent             the parent of a dot
+--   IsTrail                    parents, whether or not they lead to a code
+--   IsPath, IsUnder            the code that a dot is under; its family is all that is under it
+--   IsInFamily                 a dot is under some code
+--   rank, rank_of              how many parents a whole chain has
+--   IsUsed, IsTwice            the uses of a code or refresh token
+--   IsBad, IsDead              bad grants, and the dead families that they make
+--   LinksWithin, MarksWithin   links and marks that are part of more
 use Rattle.std.specs.Prelude.{◌≡◌, ◌≢◌, ◌⊎◌, ◌==◌, ℕ, ◌+◌, Bool, true, false, Option, None, Some, List, [], ◌∷◌}
 use Rattle.tk_handle.specs.declared.dot.Dot.{Dot}
 use Rattle.tk_handle.specs.declared.kind.Kind.TheVariants as kind
@@ -22,9 +23,9 @@ use Rattle.tk_family.specs.declared.link.Link.TheVariants.{Code, Redeems, Rotate
 abbrev pub Links : Type 0
 Links = Dot → Option Link
 
--- the tokens that are marked, as their reuse was seen or their client revoked them (RFC 6749, 10.4 and 10.5; RFC 7009, 2.1)
-abbrev pub Marks : Type 0
-Marks = TokenId → Bool
+-- which tokens are marked, as their reuse was seen or their client revoked them (RFC 6749, 10.4 and 10.5; RFC 7009, 2.1)
+abbrev pub Marks : Type 1
+Marks = TokenId → Type 0
 
 -- the token that a link uses: the code that it redeems or the refresh token that it rotates, as it names it
 -- (RFC 6749, 4.1.2 and 6)
@@ -67,20 +68,24 @@ pub record IsParent (f : Links) (e p : Dot) : Type 0 where
   pub there : f p ≡ Some above
   pub fitting : fits link above ≡ true
 
--- the dots of the list lead, each the parent of the one before, from d to the code c (own)
+-- the dots of the list lead, each the parent of the one before, from d to e, whatever e is (own)
+abbrev pub IsTrail : Links → Dot → List Dot → Dot → Type 0
+IsTrail f d [] e = d ≡ e
+IsTrail f d (p ∷ ps) e = IsParent f d p × IsTrail f p ps e
+
+-- they lead to c, and c is a code (own)
 abbrev pub IsPath : Links → Dot → List Dot → Dot → Type 0
-IsPath f d [] c = (d ≡ c) × (f d ≡ Some Code)
-IsPath f d (p ∷ ps) c = IsParent f d p × IsPath f p ps c
+IsPath f d ps c = IsTrail f d ps c × (f c ≡ Some Code)
 
 -- d is under the code c: some list leads from d to it. A code is under itself (own)
 pub record IsUnder (f : Links) (d c : Dot) : Type 0 where
   pub path : List Dot
   pub leads : IsPath f d path c
 
--- the dots of the list lead, each the parent of the one before, from q to d, whatever d is (own)
-abbrev pub IsTrail : Links → Dot → List Dot → Dot → Type 0
-IsTrail f q [] d = q ≡ d
-IsTrail f q (p ∷ ps) d = IsParent f q p × IsTrail f p ps d
+-- d is in a family: it is under some code (own)
+pub record IsInFamily (f : Links) (d : Dot) : Type 0 where
+  pub code : Dot
+  pub under : IsUnder f d code
 
 -- how many parents a whole chain from the link has (own)
 abbrev pub rank : Link → ℕ
@@ -119,7 +124,7 @@ pub record IsTwice (f : Links) (k : TokenId) : Type 0 where
 pub record IsBad (f : Links) (m : Marks) (d : Dot) : Type 0 where
   pub link : Link
   pub here : f d ≡ Some link
-  pub why : (m (grant_at d link) ≡ true) ⊎ IsTwice f (grant_at d link)
+  pub why : m (grant_at d link) ⊎ IsTwice f (grant_at d link)
 
 -- the family of c is dead: a code or refresh token under c is bad (RFC 6749, 4.1.2, 10.4 and 10.5)
 pub record IsDead (f : Links) (m : Marks) (c : Dot) : Type 0 where
@@ -130,9 +135,9 @@ pub record IsDead (f : Links) (m : Marks) (c : Dot) : Type 0 where
 -- ---- more links and more marks
 
 -- what holds in f holds in g (own)
-abbrev pub Within : Links → Links → Type 0
-Within f g = (d : Dot) (l : Link) → f d ≡ Some l → g d ≡ Some l
+abbrev pub LinksWithin : Links → Links → Type 0
+LinksWithin f g = (d : Dot) (l : Link) → f d ≡ Some l → g d ≡ Some l
 
 -- what is marked by m is marked by n (own)
 abbrev pub MarksWithin : Marks → Marks → Type 0
-MarksWithin m n = (k : TokenId) → m k ≡ true → n k ≡ true
+MarksWithin m n = (k : TokenId) → m k → n k

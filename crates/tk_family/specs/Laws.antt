@@ -1,9 +1,9 @@
 -- The laws of families, each the contract of the function of its name in `laws` (own). They hold of all links and marks,
 -- rings and rotations that don't fit among them.
-use Rattle.std.specs.Prelude.{◌≡◌, ◌↔◌, ◌+◌, Some, List, ◌∷◌, length}
+use Rattle.std.specs.Prelude.{◌≡◌, ◌↔◌, ◌+◌, Bool, IsTrue, Some, List, ◌∷◌, length}
 use Rattle.tk_handle.specs.declared.dot.Dot.{Dot}
 use Rattle.tk_handle.specs.declared.token_id.TokenId.{TokenId}
-use Rattle.tk_family.specs.Families.{Links, Marks, IsParent, IsPath, IsUnder, IsTrail, rank_of, IsTwice, IsDead, Within, MarksWithin}
+use Rattle.tk_family.specs.Families.{Links, Marks, IsParent, IsPath, IsUnder, IsTrail, rank_of, IsTwice, IsDead, LinksWithin, MarksWithin}
 use Rattle.tk_family.specs.Walks.{code_of}
 
 -- a dot is under at most one code
@@ -32,12 +32,16 @@ WalkFinds = (f : Links) (d c : Dot) → (code_of f d ≡ Some c) ↔ IsUnder f d
 
 -- what is under a code stays under it when links are added
 abbrev pub UnderStays : Type 0
-UnderStays = (f g : Links) → Within f g → (d c : Dot) → IsUnder f d c → IsUnder g d c
+UnderStays = (f g : Links) → LinksWithin f g → (d c : Dot) → IsUnder f d c → IsUnder g d c
 
 -- what is used twice stays so when links are added
 abbrev pub TwiceStays : Type 0
-TwiceStays = (f g : Links) → Within f g → (k : TokenId) → IsTwice f k → IsTwice g k
+TwiceStays = (f g : Links) → LinksWithin f g → (k : TokenId) → IsTwice f k → IsTwice g k
 
--- a dead family stays dead when links and marks are added
+-- the tokens that pass a test
+abbrev pub passing : (TokenId → Bool) → Marks
+passing m k = IsTrue (m k)
+
+-- a dead family stays dead when links and marks are added; marks are given by tests here, as a law can't range over relations
 abbrev pub DeathStays : Type 0
-DeathStays = (f g : Links) (m n : Marks) → Within f g → MarksWithin m n → (c : Dot) → IsDead f m c → IsDead g n c
+DeathStays = (f g : Links) (m n : TokenId → Bool) → LinksWithin f g → MarksWithin (passing m) (passing n) → (c : Dot) → IsDead f (passing m) c → IsDead g (passing n) c

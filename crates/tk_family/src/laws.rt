@@ -1,3 +1,5 @@
+//! Laws of families: functions with empty bodies, whose contracts hold of all links and marks.
+
 ghost use Rattle.tk_family.specs.Laws.{OneCode, RankFalls, ChainLength, WalkEnds, NoRing, WalkFinds, UnderStays, TwiceStays, DeathStays};
 
 /// A law: a dot is under at most one code (own).
@@ -38,7 +40,7 @@ pub fn twice_stays()
     ensures { TwiceStays }
 {}
 
-/// A law: a dead family stays dead when links and marks are added (own).
+/// A law: a dead family stays dead when links and marks are added (own), of marks that tests give.
 pub fn death_stays()
     ensures { DeathStays }
 {}

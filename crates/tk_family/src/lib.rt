@@ -4,8 +4,8 @@
 //! defined over the links and marks of a set, given by their look-ups, so that one text serves every way to keep them.
 //! Links may come from anyone, in any order: what a link names may be missing, or not fit, and rotations may form a ring.
 //!
-//! `named`, `fits` and `rank` are functions of links, for the walk from a token to its code. The other functions are laws,
-//! with empty bodies. In reading order: `Link`, then specs/Families.antt, the definitions, specs/Walks.antt, the walk,
+//! `named`, `fits` and `rank` are functions of links, for the walk from a token to its code; `used` and `grant` tell which
+//! tokens a link uses and mints. The other functions are laws, with empty bodies. In reading order: `Link`, then specs/Families.antt, the definitions, specs/Walks.antt, the walk,
 //! and `laws`, each stated in specs/Laws.antt and proved in proofs/.
 #![tactic(auto)]
 
@@ -16,7 +16,7 @@ pub use laws::{
     chain_length, death_stays, one_code, rank_falls, twice_stays, under_stays, walk_ends,
     walk_finds,
 };
-pub use link::{Link, fits, named, rank};
+pub use link::{Link, fits, grant, named, rank, used};
 
 #[cfg(test)]
 mod tests;

@@ -1,7 +1,9 @@
-ghost use Rattle.std.specs.Prelude.{◌≡◌};
-ghost use Rattle.tk_family.specs.Families.{named_by, fits as is_fit, rank as rank_in};
+//! What a fact does in a family, and what follows from that alone: the dot it names, the tokens it uses and mints, its parents.
 
-use tk_handle::Dot;
+ghost use Rattle.std.specs.Prelude.{◌≡◌};
+ghost use Rattle.tk_family.specs.Families.{named_by, used_by, grant_at, fits as is_fit, rank as rank_in};
+
+use tk_handle::{Dot, Kind, TokenId};
 
 /// What a fact does in a family (own). Any dot and any generation may stand in it.
 #[derive(Clone, Copy, Debug, PartialEq, Eq)]
@@ -25,6 +27,35 @@ pub fn named(link: &Link) -> Option<Dot>
         Link::Redeems(code) => Some(*code),
         Link::Rotates { parent, .. } => Some(*parent),
     }
+}
+
+/// The token that a link uses (RFC 6749, 4.1.2 and 6): the code that it redeems, or the refresh token that it rotates. None
+/// for a code, which uses nothing.
+pub fn used(link: &Link) -> Option<TokenId>
+    ensures { result ≡ used_by link.now }
+{
+    match link {
+        Link::Code => None,
+        Link::Redeems(code) => Some(token(*code, Kind::Code)),
+        Link::Rotates { parent, .. } => Some(token(*parent, Kind::Refresh)),
+    }
+}
+
+/// The code or refresh token that the link at the dot mints (RFC 6749, 4.1.2, 4.1.4 and 6).
+pub fn grant(dot: Dot, link: &Link) -> TokenId
+    ensures { result ≡ grant_at dot link.now }
+{
+    match link {
+        Link::Code => token(dot, Kind::Code),
+        Link::Redeems(_) => token(dot, Kind::Refresh),
+        Link::Rotates { .. } => token(dot, Kind::Refresh),
+    }
+}
+
+fn token(dot: Dot, kind: Kind) -> TokenId
+    ensures { result ≡ record { dot = dot; kind = kind } }
+{
+    TokenId { dot, kind }
 }
 
 /// Whether a link fits the link at the dot that it names, so that this is its parent (RFC 6749, 4.1 and 6): a redemption

@@ -1,6 +1,8 @@
-use crate::{Link, fits, named, rank};
+//! Tables of links: what each names, uses and mints, its parents and its rank.
+
+use crate::{Link, fits, grant, named, rank, used};
 use std::test::Fail;
-use tk_handle::{Dot, RegionNumber};
+use tk_handle::{Dot, Kind, RegionNumber};
 
 fn dot(region: u16, serial: u64) -> Result<Dot, &'static str> {
     let region = RegionNumber::new(region).ok_or("a region")?;
@@ -56,6 +58,32 @@ fn a_link_names_its_dot(rt: HostRuntime) -> Result<(), Fail> {
     for generation in [0, 1, 2, 65_535] {
         let link = rotation(at, generation);
         assert_eq!(rt; named(&link), Some(at), "{link:?}");
+    }
+    Ok(())
+}
+
+// The kinds of the tokens that each link uses, where it uses one, and mints.
+#[test]
+fn a_link_uses_and_mints_its_tokens(rt: HostRuntime) -> Result<(), Fail> {
+    let used_kinds = [
+        None,
+        Some(Kind::Code),
+        Some(Kind::Refresh),
+        Some(Kind::Refresh),
+        Some(Kind::Refresh),
+        Some(Kind::Refresh),
+    ];
+    let (named, own) = (dot(2, 7)?, dot(3, 9)?);
+    for (link, want) in links(named).iter().zip(used_kinds.iter()) {
+        let kind = used(link).map(|token| token.kind);
+        assert_eq!(rt; kind, *want, "{link:?}");
+        if let Some(token) = used(link) {
+            assert_eq!(rt; token.dot, named, "{link:?}");
+        }
+        let minted = grant(own, link);
+        assert_eq!(rt; minted.dot, own, "{link:?}");
+        assert_eq!(rt; minted.kind == Kind::Code, *link == Link::Code, "{link:?}");
+        assert!(rt; minted.kind != Kind::Access, "{link:?}");
     }
     Ok(())
 }

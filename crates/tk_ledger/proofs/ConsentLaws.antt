@@ -1,8 +1,7 @@
 -- The consent that is found for a scope is the live one with the least dot. Key result: `least_consent`.
 use Rattle.std.proofs.Common.{◌≡◌, ◌≢◌, ◌&&◌, Bool, true, false, T, not, ℕ, List, [], ◌∷◌, Option, Some, None, refl, sym, ap, subst, ◌∙◌, inl, inr}
-use Rattle.std.proofs.lemmas.Bool.{true≢false, cases_Bool, cond-true, cond-false, and_parts, and_from, not-true, not_from_false}
+use Rattle.std.proofs.lemmas.Bool.{true≢false, cases_Bool, cond-true, cond-false, and_parts, and_from}
 use Rattle.std.proofs.lemmas.Cmp.{tied_itself}
-use Rattle.std.proofs.lemmas.Slice.Eq.{bytes_eq-Decides}
 use Rattle.std.specs.FinMap as map
 use Rattle.std.specs.FinMap.Entries.{below_all}
 use Rattle.std.specs.List as list
@@ -19,9 +18,8 @@ use Rattle.tk_fact.specs.declared.body.Body.TheVariants.{ConsentGiven}
 use Rattle.tk_store.specs.FactSet.{FactSet, Facts, AllIn, dot_of}
 use Rattle.tk_store.proofs.EntryLaws.{AllIn-entries}
 use Rattle.tk_store.proofs.PutLaws.{tied, none_is_not_some, some_injective}
-use Rattle.tk_ledger.specs.Clients.{is_same_dot, is_withdrawn, gives, grants, consents, consent_for, IsConsentFor, IsLeastConsent}
-use Rattle.tk_ledger.proofs.ClientLaws.{unwithdrawn_of, not_withdrawn}
-use Rattle.tk_ledger.proofs.SameLaws.{same_dot-true, same_dot-itself}
+use Rattle.tk_ledger.specs.Clients.{is_withdrawn, gives, grants, consents, consent_for, IsConsentFor, IsLeastConsent}
+use Rattle.tk_ledger.proofs.ClientLaws.{gives_parts, gives_from, unwithdrawn_of, not_withdrawn}
 
 -- ---- one fact
 
@@ -30,24 +28,20 @@ consents_sound : (F : FactSet) (client : Dot) (subject scope : List ℕ) (d : Do
 consents_sound F client subject scope d (ConsentGiven c) held h =
     let p = and_parts (grants client subject scope (Some c)) (not (is_withdrawn F d)) h in
     let q = and_parts (gives client subject (Some c)) (is_within scope c.scope) p.0 in
-    let r = and_parts _ _ q.0 in
+    let r = gives_parts client subject c q.0 in
     record {
-      consent = c;
-      given = held;
-      client_is = same_dot-true c.client client r.0;
-      subject_is = (bytes_eq-Decides c.subject subject).0 r.1;
+      live = record { consent = c; given = held; client_is = r.0; subject_is = r.1; unwithdrawn = unwithdrawn_of F d p.1 };
       includes = (within_decides (tokens_of scope) (tokens_of c.scope)).0 q.1;
-      unwithdrawn = unwithdrawn_of F d (not-true (is_withdrawn F d) p.1);
     }
 consents_sound F client subject scope d body held h = absurd (true≢false (sym h))
 
 -- a consent for the scope passes the test
-consents_complete : (F : FactSet) (client : Dot) (subject scope : List ℕ) (d : Dot) (x : IsConsentFor (map.get F) client subject scope d) → consents F client subject scope (d, ConsentGiven x.consent) ≡ true
+consents_complete : (F : FactSet) (client : Dot) (subject scope : List ℕ) (d : Dot) (x : IsConsentFor (map.get F) client subject scope d) → consents F client subject scope (d, ConsentGiven x.live.consent) ≡ true
 consents_complete F client subject scope d x = and_from _ _
     (and_from _ _
-    (and_from _ _ (ap (λ e. is_same_dot e client) x.client_is ∙ same_dot-itself client) ((bytes_eq-Decides x.consent.subject subject).1 x.subject_is))
-    ((within_decides (tokens_of scope) (tokens_of x.consent.scope)).1 x.includes))
-    (not_from_false (is_withdrawn F d) (not_withdrawn F d x.unwithdrawn))
+    (gives_from client subject x.live.consent x.live.client_is x.live.subject_is)
+    ((within_decides (tokens_of scope) (tokens_of x.live.consent.scope)).1 x.includes))
+    (not_withdrawn F d x.live.unwithdrawn)
 
 -- ---- the first in a list
 
@@ -118,11 +112,11 @@ none_passes p (e ∷ es) h q b at passes = elim (cases_Bool (p e)) [
 
 least_of : (F : FactSet) (client : Dot) (subject scope : List ℕ) (o : Option (Dot × Body)) → list.find (consents F client subject scope) (map.entries F) ≡ o → IsLeastConsent (map.get F) client subject scope (option_map dot_of o)
 least_of F client subject scope None h = λ d x.
-    none_passes (consents F client subject scope) (map.entries F) h d (ConsentGiven x.consent) (sym (map.get-entries F d) ∙ x.given) (consents_complete F client subject scope d x)
+    none_passes (consents F client subject scope) (map.entries F) h d (ConsentGiven x.live.consent) (sym (map.get-entries F d) ∙ x.live.given) (consents_complete F client subject scope d x)
 least_of F client subject scope (Some f) h =
     let found = found_in (consents F client subject scope) F (map.entries F) f (AllIn-entries F) h in (
       consents_sound F client subject scope f.0 f.1 found.0 found.1,
-      λ q x. first_least (consents F client subject scope) (map.entries F) f (map.entries_sorted F) h q (ConsentGiven x.consent) (sym (map.get-entries F q) ∙ x.given) (consents_complete F client subject scope q x),
+      λ q x. first_least (consents F client subject scope) (map.entries F) f (map.entries_sorted F) h q (ConsentGiven x.live.consent) (sym (map.get-entries F q) ∙ x.live.given) (consents_complete F client subject scope q x),
     )
 
 pub least_consent : (F : FactSet) (client : Dot) (subject scope : List ℕ) → IsLeastConsent (map.get F) client subject scope (consent_for F client subject scope)

@@ -1,7 +1,8 @@
--- Revoked tokens and tokens of families with a spent grant aren't active, at any moment, where those facts are held. Key results:
---   family_ends, revoked_ends          in the set itself
---   spent_inactive, revoked_inactive   in every greater one
-use Rattle.std.proofs.Common.{◌≡◌, ◌≢◌, ◌⊎◌, inl, inr, ℕ, true, Some, refl, sym, subst, ◌∙◌}
+-- Revoked tokens and tokens of families with a bad grant aren't active, at any moment, where those facts are held. Key results:
+--   bad_grants                          a minted grant is bad exactly where it is marked or used twice
+--   family_ends, revoked_ends           in the set itself
+--   family_inactive, revoked_inactive   in every greater one
+use Rattle.std.proofs.Common.{◌≡◌, ◌≢◌, ◌⊎◌, inl, inr, ℕ, Some, refl, sym, ap, subst, ◌∙◌, option_and_then}
 use Rattle.std.specs.FinMap as map
 use Rattle.tk_handle.specs.declared.dot.Dot.{Dot}
 use Rattle.tk_handle.specs.declared.kind.Kind.{Kind}
@@ -11,18 +12,19 @@ use Rattle.tk_handle.specs.declared.handle.Handle.{Handle}
 use Rattle.tk_family.specs.declared.link.Link.{Link}
 use Rattle.tk_family.specs.declared.link.Link.TheVariants.{Code, Redeems, Rotates}
 use Rattle.tk_family.specs.Families.{IsUnder, IsDead, IsBad, IsTwice, grant_at}
-use Rattle.tk_family.proofs.FamilyLaws.{IsUnder-one, IsUnder-within, IsTwice-within}
+use Rattle.tk_family.proofs.FamilyLaws.{IsUnder-one}
 use Rattle.tk_fact.specs.declared.body.Body.{Body}
 use Rattle.tk_fact.specs.declared.body.Body.TheVariants.{ClientAdded, ClientRetired, ConsentGiven, ConsentWithdrawn, CodeIssued, CodeRedeemed, RefreshRotated, TokenRevoked, ReuseSeen}
 use Rattle.tk_fact.specs.Tokens.{MintedFields, minted_of}
 use Rattle.tk_store.specs.FactSet.{FactSet, IsSubset}
-use Rattle.tk_ledger.specs.Tokens.{link_of, links_in, marks_in, minted_in, IsEnded}
+use Rattle.tk_ledger.specs.Bodies.{Bodies}
+use Rattle.tk_ledger.specs.Tokens.{link_of, links_in, minted_in, IsEnded, IsMarked}
 use Rattle.tk_ledger.specs.Status.{IsActive}
-use Rattle.tk_ledger.specs.Ends.{IsSpent, IsSpentUnder}
-use Rattle.tk_ledger.proofs.TokenLaws.{from_some, links_at, links-below, minted-below, marks-complete, IsEnded-below, IsMarked-below}
+use Rattle.tk_ledger.specs.Ends.{FamilyEnds}
+use Rattle.tk_ledger.proofs.TokenLaws.{from_some, IsBad-below, IsEnded-below}
 use Rattle.tk_ledger.proofs.StatusLaws.{no_code_is}
 
--- ---- a spent grant is bad
+-- ---- bad grants
 
 -- a token minted at a dot, that isn't an access token, is the grant of the link there
 grant_of : (k : Kind) (d : Dot) (b : Body) (m : MintedFields) → k ≢ kind.Access → minted_of b k ≡ Some m → (l : Link) × (link_of b ≡ Some l) × (grant_at d l ≡ record { dot = d; kind = k })
@@ -46,40 +48,38 @@ grant_of kind.Refresh d (CodeIssued b) m na h = absurd (cc)
 grant_of kind.Refresh d (TokenRevoked b) m na h = absurd (cc)
 grant_of kind.Refresh d (ReuseSeen b) m na h = absurd (cc)
 
-spent_bad : (F : FactSet) (g : TokenId) (m : MintedFields) → g.kind ≢ kind.Access → minted_in (map.get F) g ≡ Some m → IsSpent (map.get F) g → IsBad (links_in (map.get F)) (marks_in F) g.dot
-spent_bad F g m na mints why =
-    let x : (b : Body) × (map.get F g.dot ≡ Some b) × (minted_of b g.kind ≡ Some m) = from_some (λ b. minted_of b g.kind) (map.get F g.dot) m mints in
-    let l : (l : Link) × (link_of x.0 ≡ Some l) × (grant_at g.dot l ≡ g) = grant_of g.kind g.dot x.0 m na x.2 in
-    record {
-      link = l.0;
-      here = links_at F g.dot x.0 x.1 ∙ l.1;
-      why = subst (λ (t : TokenId). (marks_in F t ≡ true) ⊎ IsTwice (links_in (map.get F)) t) (sym l.2) (reasons why);
-    }
-  where
-    reasons : IsSpent (map.get F) g → (marks_in F g ≡ true) ⊎ IsTwice (links_in (map.get F)) g
-    reasons (inl t) = inr t
-    reasons (inr marked) = inl (marks-complete F g marked)
+-- so it is of what stands at the token's dot
+grant_there : (body_at : Bodies) (k : TokenId) (m : MintedFields) → k.kind ≢ kind.Access → minted_in body_at k ≡ Some m → (l : Link) × (links_in body_at k.dot ≡ Some l) × (grant_at k.dot l ≡ k)
+grant_there body_at k m na mints =
+    let x : (b : Body) × (body_at k.dot ≡ Some b) × (minted_of b k.kind ≡ Some m) = from_some (λ b. minted_of b k.kind) (body_at k.dot) m mints in
+    let l : (l : Link) × (link_of x.0 ≡ Some l) × (grant_at k.dot l ≡ k) = grant_of k.kind k.dot x.0 m na x.2 in
+    (l.0, ap (option_and_then link_of) x.1 ∙ l.1, l.2)
 
-spent_dead : (F : FactSet) (g : TokenId) (c : Dot) → IsSpentUnder (map.get F) g c → IsDead (links_in (map.get F)) (marks_in F) c
-spent_dead F g c s = record { member = g.dot; under = s.under; bad = spent_bad F g s.minted s.grant s.mints s.spent }
+same_link : (l j : Link) → Some l ≡ Some j → l ≡ j
+same_link l j h = cc
 
--- no token of a family with a spent grant is active
-pub family_ends : (F : FactSet) (now : ℕ) (h : Handle) (g : TokenId) (c : Dot) → IsSpentUnder (map.get F) g c → IsUnder (links_in (map.get F)) h.id.dot c → ¬ IsActive F now h
-family_ends F now h g c s member a =
-    let one : c ≡ a.code = IsUnder-one (links_in (map.get F)) h.id.dot c a.code member a.under in
-    a.alive (subst (λ (x : Dot). IsDead (links_in (map.get F)) (marks_in F) x) one (spent_dead F g c s))
+pub bad_grants : (body_at : Bodies) (k : TokenId) (m : MintedFields) → k.kind ≢ kind.Access → minted_in body_at k ≡ Some m → (IsBad (links_in body_at) (IsMarked body_at) k.dot → IsMarked body_at k ⊎ IsTwice (links_in body_at) k) × (IsMarked body_at k ⊎ IsTwice (links_in body_at) k → IsBad (links_in body_at) (IsMarked body_at) k.dot)
+bad_grants body_at k m na mints =
+    let l : (l : Link) × (links_in body_at k.dot ≡ Some l) × (grant_at k.dot l ≡ k) = grant_there body_at k m na mints in (
+      λ bad. subst (λ (t : TokenId). IsMarked body_at t ⊎ IsTwice (links_in body_at) t) (ap (grant_at k.dot) (same_link bad.link l.0 (sym bad.here ∙ l.1)) ∙ l.2) bad.why,
+      λ why. record { link = l.0; here = l.1; why = subst (λ (t : TokenId). IsMarked body_at t ⊎ IsTwice (links_in body_at) t) (sym l.2) why },
+    )
+
+-- ---- in the set itself
+
+-- no token of a family with a bad grant is active
+pub family_ends : (body_at : Bodies) (now : ℕ) (h : Handle) → FamilyEnds body_at now h
+family_ends body_at now h d c bad under member a =
+    let one : c ≡ a.code = IsUnder-one (links_in body_at) h.id.dot c a.code member a.under in
+    a.alive (subst (λ (x : Dot). IsDead (links_in body_at) (IsMarked body_at) x) one (record { member = d; under = under; bad = bad }))
 
 -- no token that its client revoked is active
-pub revoked_ends : (F : FactSet) (now : ℕ) (h : Handle) → IsEnded (map.get F) h.id → ¬ IsActive F now h
-revoked_ends F now h e a = elim (no_code_is h.id.kind a.no_code) [
+pub revoked_ends : (body_at : Bodies) (now : ℕ) (h : Handle) → IsEnded body_at h.id → ¬ IsActive body_at now h
+revoked_ends body_at now h e a = elim (no_code_is h.id.kind a.no_code) [
   | inl access ↦ a.access access e
-  | inr refresh ↦ family_ends F now h h.id e.code (record {
-    minted = e.minted;
-    grant = λ same. clash (sym refresh ∙ same);
-    mints = e.mints;
-    spent = inr (inr (refresh, e));
-    under = e.under;
-  }) e.under a
+  | inr refresh ↦
+      let bad = (bad_grants body_at h.id e.minted (λ same. clash (sym refresh ∙ same)) e.mints).1 (inl (inr (refresh, e))) in
+      family_ends body_at now h h.id.dot e.code bad e.under e.under a
 ]
   where
     clash : ¬ (kind.Refresh ≡ kind.Access)
@@ -87,21 +87,8 @@ revoked_ends F now h e a = elim (no_code_is h.id.kind a.no_code) [
 
 -- ---- in every greater set
 
-IsSpent-below : (F G : FactSet) → IsSubset F G → (g : TokenId) → IsSpent (map.get F) g → IsSpent (map.get G) g
-IsSpent-below F G w g (inl t) = inl (IsTwice-within (links_in (map.get F)) (links_in (map.get G)) (links-below F G w) g t)
-IsSpent-below F G w g (inr m) = inr (IsMarked-below F G w g m)
+pub family_inactive : (F G : FactSet) → IsSubset F G → (now : ℕ) (h : Handle) (d c : Dot) → IsBad (links_in (map.get F)) (IsMarked (map.get F)) d → IsUnder (links_in (map.get G)) d c → IsUnder (links_in (map.get G)) h.id.dot c → ¬ IsActive (map.get G) now h
+family_inactive F G w now h d c bad under member = family_ends (map.get G) now h d c (IsBad-below F G w d bad) under member
 
-IsSpentUnder-below : (F G : FactSet) → IsSubset F G → (g : TokenId) (c : Dot) → IsSpentUnder (map.get F) g c → IsSpentUnder (map.get G) g c
-IsSpentUnder-below F G w g c s = record {
-  minted = s.minted;
-  grant = s.grant;
-  mints = minted-below F G w g s.minted s.mints;
-  spent = IsSpent-below F G w g s.spent;
-  under = IsUnder-within (links_in (map.get F)) (links_in (map.get G)) (links-below F G w) g.dot c s.under;
-}
-
-pub spent_inactive : (F G : FactSet) → IsSubset F G → (now : ℕ) (h : Handle) (g : TokenId) (c : Dot) → IsSpentUnder (map.get F) g c → IsUnder (links_in (map.get G)) h.id.dot c → ¬ IsActive G now h
-spent_inactive F G w now h g c s member = family_ends G now h g c (IsSpentUnder-below F G w g c s) member
-
-pub revoked_inactive : (F G : FactSet) → IsSubset F G → (now : ℕ) (h : Handle) → IsEnded (map.get F) h.id → ¬ IsActive G now h
-revoked_inactive F G w now h e = revoked_ends G now h (IsEnded-below F G w h.id e)
+pub revoked_inactive : (F G : FactSet) → IsSubset F G → (now : ℕ) (h : Handle) → IsEnded (map.get F) h.id → ¬ IsActive (map.get G) now h
+revoked_inactive F G w now h e = revoked_ends (map.get G) now h (IsEnded-below F G w h.id e)

@@ -7,8 +7,7 @@ use Rattle.tk_handle.specs.declared.kind.Kind.{Kind}
 use Rattle.tk_handle.specs.declared.kind.Kind.TheVariants.{Code, Access, Refresh}
 use Rattle.tk_handle.specs.declared.token_id.TokenId.{TokenId}
 use Rattle.tk_handle.specs.Kind.{kind_number}
-use Rattle.tk_ledger.specs.Clients.{is_same_dot}
-use Rattle.tk_ledger.specs.Tokens.{is_same_token, is_token, is_dot}
+use Rattle.tk_ledger.specs.Bodies.{is_same_dot, is_same_token, names_token, names_dot}
 
 pub same_dot-true : (a b : Dot) → is_same_dot a b ≡ true → a ≡ b
 same_dot-true a b h =
@@ -58,16 +57,16 @@ same_token-itself a = and_from _ _ (same_dot-itself a.dot) (kind_itself a.kind)
 
 -- ---- options
 
-pub is_token-true : (o : Option TokenId) (k : TokenId) → is_token o k ≡ true → o ≡ Some k
-is_token-true None k h = absurd (true≢false (sym h))
-is_token-true (Some j) k h = ap (λ (x : TokenId). Some x) (same_token-true j k h)
+pub names_token-true : (o : Option TokenId) (k : TokenId) → names_token o k ≡ true → o ≡ Some k
+names_token-true None k h = absurd (true≢false (sym h))
+names_token-true (Some j) k h = ap (λ (x : TokenId). Some x) (same_token-true j k h)
 
-pub is_token-of : (o : Option TokenId) (k : TokenId) → o ≡ Some k → is_token o k ≡ true
-is_token-of o k h = ap (λ (x : Option TokenId). is_token x k) h ∙ same_token-itself k
+pub names_token-of : (o : Option TokenId) (k : TokenId) → o ≡ Some k → names_token o k ≡ true
+names_token-of o k h = ap (λ (x : Option TokenId). names_token x k) h ∙ same_token-itself k
 
-pub is_dot-true : (o : Option Dot) (c : Dot) → is_dot o c ≡ true → o ≡ Some c
-is_dot-true None c h = absurd (true≢false (sym h))
-is_dot-true (Some d) c h = ap (λ (x : Dot). Some x) (same_dot-true d c h)
+pub names_dot-true : (o : Option Dot) (c : Dot) → names_dot o c ≡ true → o ≡ Some c
+names_dot-true None c h = absurd (true≢false (sym h))
+names_dot-true (Some d) c h = ap (λ (x : Dot). Some x) (same_dot-true d c h)
 
-pub is_dot-of : (o : Option Dot) (c : Dot) → o ≡ Some c → is_dot o c ≡ true
-is_dot-of o c h = ap (λ (x : Option Dot). is_dot x c) h ∙ same_dot-itself c
+pub names_dot-of : (o : Option Dot) (c : Dot) → o ≡ Some c → names_dot o c ≡ true
+names_dot-of o c h = ap (λ (x : Option Dot). names_dot x c) h ∙ same_dot-itself c

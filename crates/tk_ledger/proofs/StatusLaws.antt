@@ -1,22 +1,13 @@
 -- A status says Live of exactly the active tokens. Key results:
---   status_known, known_status   what is behind a standing, and back
---   live_exactly                 Live and active are the same
-use Rattle.std.proofs.Common.{◌≡◌, ◌≢◌, ◌⊎◌, inl, inr, ℕ, ◌<◌, nat_le, Bool, true, false, ◌&&◌, not, if◌then◌else◌, List, Option, Some, None, refl, sym, ap, subst, ◌∙◌, arith}
-use Rattle.std.proofs.lemmas.Bool.{true≢false, cases_Bool, cond-true, cond-false, false_from_ne_true}
+--   chain_live     a token that is live is dead, withdrawn, over, used, past and ended by none of the tests
+--   live_exactly   Live and active are the same
+use Rattle.std.proofs.Common.{◌≡◌, ◌≢◌, ◌⊎◌, inl, inr, ℕ, ◌<◌, nat_le, Bool, true, false, ◌&&◌, not, if◌then◌else◌, refl, sym, ap, subst, ◌∙◌, arith}
+use Rattle.std.proofs.lemmas.Bool.{true≢false, false_from_ne_true}
 use Rattle.std.proofs.lemmas.Bool.Decides.{nat_tests}
-use Rattle.std.proofs.lemmas.Slice.Eq.{bytes_eq-Decides}
-use Rattle.std.specs.Option.{option_and_then}
-use Rattle.std.specs.Str.{bytes_eq}
 use Rattle.std.specs.FinMap as map
-use Rattle.tk_handle.specs.declared.dot.Dot.{Dot}
 use Rattle.tk_handle.specs.declared.kind.Kind.{Kind}
 use Rattle.tk_handle.specs.declared.kind.Kind.TheVariants as kind
-use Rattle.tk_handle.specs.declared.token_id.TokenId.{TokenId}
 use Rattle.tk_handle.specs.declared.handle.Handle.{Handle}
-use Rattle.tk_family.proofs.WalkLaws.{code_of-sound, code_of-complete}
-use Rattle.tk_fact.specs.declared.body.Body.{Body}
-use Rattle.tk_fact.specs.declared.code_issued.CodeIssued as issued
-use Rattle.tk_fact.specs.Tokens.{MintedFields, minted_of}
 use Rattle.tk_store.specs.FactSet.{FactSet}
 use Rattle.tk_ledger.specs.declared.status.State.{State}
 use Rattle.tk_ledger.specs.declared.status.State.TheVariants as state
@@ -24,14 +15,15 @@ use Rattle.tk_ledger.specs.declared.status.Status.{Status}
 use Rattle.tk_ledger.specs.declared.status.Status.TheVariants.{Unseen, Wrong, Broken, Known}
 use Rattle.tk_ledger.specs.StandingFields.{StandingFields}
 use Rattle.tk_ledger.specs.Clients.{is_live_client, is_live_consent}
-use Rattle.tk_ledger.specs.Tokens.{minted_in, links_in, code_in, issued_at, is_dead, is_used, is_ended}
-use Rattle.tk_ledger.specs.Status.{is_access, state_in, generation_of, by_issued, by_code, by_minted, by_body, status_of, digest_of, status_in, IsActive, IsLive}
+use Rattle.tk_ledger.specs.Tokens.{Root, is_dead, is_used, is_ended}
+use Rattle.tk_ledger.specs.Status.{is_access, state_in, status_in, IsActive, IsLive}
 use Rattle.tk_ledger.proofs.ClientLaws.{live_sound, live_complete, consent_sound, consent_complete}
-use Rattle.tk_ledger.proofs.TokenLaws.{from_some, is_dead-sound, is_dead-complete, is_ended-sound, is_ended-complete, is_used-sound, is_used-complete}
+use Rattle.tk_ledger.proofs.StatusCases.{Knows, known_parts, known_status}
+use Rattle.tk_ledger.proofs.TokenLaws.{is_dead-sound, is_dead-complete, is_ended-sound, is_ended-complete, is_used-sound, is_used-complete}
 
 -- ---- the first state that holds
 
-abbrev chain : Bool → Bool → Bool → Bool → Bool → Bool → State
+abbrev pub chain : Bool → Bool → Bool → Bool → Bool → Bool → State
 chain a b c d e f = if a then state.Dead else if b then state.Withdrawn else if c then state.Over else if d then state.Used else if e then state.Past else if f then state.Ended else state.Live
 
 abbrev is_live_state : State → Bool
@@ -43,7 +35,7 @@ is_live_state state.Past = false
 is_live_state state.Ended = false
 is_live_state state.Live = true
 
-record AllFalse (a b c d e f : Bool) : Type 0 where
+pub record AllFalse (a b c d e f : Bool) : Type 0 where
   pub dead : a ≡ false
   pub withdrawn : b ≡ false
   pub over : c ≡ false
@@ -54,7 +46,7 @@ record AllFalse (a b c d e f : Bool) : Type 0 where
 not_live : (s : State) → is_live_state s ≡ false → s ≡ state.Live → ⊥
 not_live s h same = true≢false (sym (ap is_live_state same) ∙ h)
 
-chain_live : (a b c d e f : Bool) → chain a b c d e f ≡ state.Live → AllFalse a b c d e f
+pub chain_live : (a b c d e f : Bool) → chain a b c d e f ≡ state.Live → AllFalse a b c d e f
 chain_live true b c d e f h = absurd (not_live state.Dead refl h)
 chain_live false true c d e f h = absurd (not_live state.Withdrawn refl h)
 chain_live false false true d e f h = absurd (not_live state.Over refl h)
@@ -66,92 +58,9 @@ chain_live false false false false false false h = record { dead = refl; withdra
 live_chain : (a b c d e f : Bool) → AllFalse a b c d e f → chain a b c d e f ≡ state.Live
 live_chain a b c d e f h = rw (h.dead, h.withdrawn, h.over, h.used, h.past, h.ended) refl
 
--- ---- what a status tells
-
--- what is behind a standing
-pub record Knows (F : FactSet) (now : ℕ) (k : TokenId) (digest : List ℕ) (s : StandingFields) : Type 0 where
-  pub minted : MintedFields
-  pub code : Dot
-  pub issued : issued.CodeIssued
-  pub mints : minted_in (map.get F) k ≡ Some minted
-  pub digest_is : minted.digest ≡ digest
-  pub under : code_in (map.get F) k.dot ≡ Some code
-  pub issues : issued_at (map.get F) code ≡ Some issued
-  pub state : s.state ≡ state_in F now k minted code issued
-
-abbrev is_known : Status → Bool
-is_known Unseen = false
-is_known Wrong = false
-is_known (Broken t) = false
-is_known (Known s) = true
-
-other : (x : Status) (s : StandingFields) → is_known x ≡ false → x ≡ Known s → ⊥
-other x s h same = true≢false (sym (ap is_known same) ∙ h)
-
-known_by_issued : (F : FactSet) (now : ℕ) (k : TokenId) (digest : List ℕ) (g : ℕ) (m : MintedFields) (c : Dot) (o : Option issued.CodeIssued) (s : StandingFields) → minted_in (map.get F) k ≡ Some m → m.digest ≡ digest → code_in (map.get F) k.dot ≡ Some c → issued_at (map.get F) c ≡ o → by_issued F now k g m c o ≡ Known s → Knows F now k digest s
-known_by_issued F now k digest g m c None s i d j n e = absurd (other (Broken m.expiry) s refl e)
-known_by_issued F now k digest g m c (Some code) s i d j n e = record {
-  minted = m;
-  code = c;
-  issued = code;
-  mints = i;
-  digest_is = d;
-  under = j;
-  issues = n;
-  state = states e;
-}
-  where
-    standing : Status → State
-    standing Unseen = state.Dead
-    standing Wrong = state.Dead
-    standing (Broken t) = state.Dead
-    standing (Known s) = s.state
-
-    states : by_issued F now k g m c (Some code) ≡ Known s → s.state ≡ state_in F now k m c code
-    states e = sym (ap standing e)
-
-known_by_code : (F : FactSet) (now : ℕ) (k : TokenId) (digest : List ℕ) (g : ℕ) (m : MintedFields) (o : Option Dot) (s : StandingFields) → minted_in (map.get F) k ≡ Some m → m.digest ≡ digest → code_in (map.get F) k.dot ≡ o → by_code F now k g m o ≡ Known s → Knows F now k digest s
-known_by_code F now k digest g m None s i d j e = absurd (other (Broken m.expiry) s refl e)
-known_by_code F now k digest g m (Some c) s i d j e = known_by_issued F now k digest g m c (issued_at (map.get F) c) s i d j refl e
-
-known_by_minted : (F : FactSet) (now : ℕ) (k : TokenId) (digest : List ℕ) (g : ℕ) (o : Option MintedFields) (s : StandingFields) → minted_in (map.get F) k ≡ o → by_minted F now k digest g o ≡ Known s → Knows F now k digest s
-known_by_minted F now k digest g None s i e = absurd (other Wrong s refl e)
-known_by_minted F now k digest g (Some m) s i e = elim (cases_Bool (bytes_eq m.digest digest)) [
-  | inl same ↦ known_by_code F now k digest g m (code_in (map.get F) k.dot) s i ((bytes_eq-Decides m.digest digest).0 same) refl (sym (cond-true (bytes_eq m.digest digest) (by_code F now k g m (code_in (map.get F) k.dot)) Wrong same) ∙ e)
-  | inr apart ↦ absurd (other Wrong s refl (sym (cond-false (bytes_eq m.digest digest) (by_code F now k g m (code_in (map.get F) k.dot)) Wrong apart) ∙ e))
-]
-
-known_by_body : (F : FactSet) (now : ℕ) (k : TokenId) (digest : List ℕ) (o : Option Body) (s : StandingFields) → map.get F k.dot ≡ o → by_body F now k digest o ≡ Known s → Knows F now k digest s
-known_by_body F now k digest None s i e = absurd (other Unseen s refl e)
-known_by_body F now k digest (Some body) s i e = known_by_minted F now k digest (generation_of body) (minted_of body k.kind) s (ap (option_and_then (λ b. minted_of b k.kind)) i) e
-
-pub status_known : (F : FactSet) (now : ℕ) (k : TokenId) (digest : List ℕ) (s : StandingFields) → status_of F now k digest ≡ Known s → Knows F now k digest s
-status_known F now k digest s e = known_by_body F now k digest (map.get F k.dot) s refl e
-
--- and back
-pub known_status : (F : FactSet) (now : ℕ) (k : TokenId) (digest : List ℕ) (m : MintedFields) (c : Dot) (code : issued.CodeIssued) → minted_in (map.get F) k ≡ Some m → m.digest ≡ digest → code_in (map.get F) k.dot ≡ Some c → issued_at (map.get F) c ≡ Some code → (s : StandingFields) × (status_of F now k digest ≡ Known s) × (s.state ≡ state_in F now k m c code)
-known_status F now k digest m c code i d j n =
-    let x : (b : Body) × (map.get F k.dot ≡ Some b) × (minted_of b k.kind ≡ Some m) = from_some (λ b. minted_of b k.kind) (map.get F k.dot) m i in (
-      record {
-        client = code.client;
-        subject = code.subject;
-        code = c;
-        scope = m.scope;
-        start = m.start;
-        expiry = m.expiry;
-        family_end = code.family_end;
-        generation = generation_of x.0;
-        state = state_in F now k m c code;
-      },
-      ap (by_body F now k digest) x.1 ∙ ap (by_minted F now k digest (generation_of x.0)) x.2
-          ∙ cond-true (bytes_eq m.digest digest) (by_code F now k (generation_of x.0) m (code_in (map.get F) k.dot)) Wrong ((bytes_eq-Decides m.digest digest).1 d)
-          ∙ ap (by_code F now k (generation_of x.0) m) j ∙ ap (by_issued F now k (generation_of x.0) m c) n,
-      refl,
-    )
-
 -- ---- live is active
 
-above : (n t : ℕ) → nat_le n t ≡ false → t < n
+pub above : (n t : ℕ) → nat_le n t ≡ false → t < n
 above n t h = grind (arith, nat_tests)
 
 not_below : (n t : ℕ) → t < n → nat_le n t ≡ false
@@ -174,25 +83,25 @@ no_code_is kind.Code h = absurd (h refl)
 no_code_is kind.Access h = inl refl
 no_code_is kind.Refresh h = inr refl
 
-pub live_is_active : (F : FactSet) (now : ℕ) (h : Handle) (s : StandingFields) → h.id.kind ≢ kind.Code → status_of F now h.id (digest_of h) ≡ Known s → s.state ≡ state.Live → IsActive F now h
+pub live_is_active : (F : FactSet) (now : ℕ) (h : Handle) (s : StandingFields) → h.id.kind ≢ kind.Code → status_in F now h ≡ Known s → s.state ≡ state.Live → IsActive (map.get F) now h
 live_is_active F now h s nc e live =
-    let x : Knows F now h.id (digest_of h) s = status_known F now h.id (digest_of h) s e in
-    let a = chain_live _ _ _ _ _ _ (sym x.state ∙ live) in
-    let l = both_live (is_live_client F x.issued.client) (is_live_consent F x.issued) a.withdrawn in
+    let x : Knows F now h s = known_parts F now h s e in
+    let a = chain_live _ _ _ _ _ _ (ap (λ (y : StandingFields). y.state) x.standing ∙ live) in
+    let l = both_live (is_live_client F x.root.issued.client) (is_live_consent F x.root.issued) a.withdrawn in
     record {
       minted = x.minted;
-      code = x.code;
-      issued = x.issued;
+      code = x.root.code;
+      issued = x.root.issued;
       no_code = nc;
       mints = x.mints;
       digest = x.digest_is;
       early = above x.minted.expiry now a.past;
-      under = code_of-sound (links_in (map.get F)) h.id.dot x.code x.under;
+      under = x.under;
       issues = x.issues;
-      client = live_sound F x.issued.client l.0;
-      consent = consent_sound F x.issued l.1;
-      family = above x.issued.family_end now a.over;
-      alive = λ d. true≢false (sym (is_dead-complete F x.code d) ∙ a.dead);
+      client = live_sound F x.root.issued.client l.0;
+      consent = consent_sound F x.root.issued l.1;
+      family = above x.root.issued.family_end now a.over;
+      alive = λ d. true≢false (sym (is_dead-complete F x.root.code d) ∙ a.dead);
       access = λ is en. true≢false (sym (is_ended-complete F h.id en) ∙ right_false (is_access h.id.kind) (is_ended F h.id) a.ended (ap is_access is));
       refresh = λ is u. true≢false (sym (is_used-complete F h.id u) ∙ right_false (not (is_access h.id.kind)) (is_used F h.id) a.used (ap (λ (k : Kind). not (is_access k)) is));
     }
@@ -211,10 +120,11 @@ refresh_is kind.Code nc h = absurd (nc refl)
 refresh_is kind.Access nc h = absurd (true≢false (sym h))
 refresh_is kind.Refresh nc h = refl
 
-pub active_is_live : (F : FactSet) (now : ℕ) (h : Handle) → IsActive F now h → (s : StandingFields) × (status_of F now h.id (digest_of h) ≡ Known s) × (s.state ≡ state.Live)
+pub active_is_live : (F : FactSet) (now : ℕ) (h : Handle) → IsActive (map.get F) now h → (s : StandingFields) × (status_in F now h ≡ Known s) × (s.state ≡ state.Live)
 active_is_live F now h a =
-    let k : (s : StandingFields) × (status_of F now h.id (digest_of h) ≡ Known s) × (s.state ≡ state_in F now h.id a.minted a.code a.issued) =
-    known_status F now h.id (digest_of h) a.minted a.code a.issued a.mints a.digest (code_of-complete (links_in (map.get F)) h.id.dot a.code a.under) a.issues in (
+    let o : Root = record { code = a.code; issued = a.issued } in
+    let k : (s : StandingFields) × (status_in F now h ≡ Known s) × (s.state ≡ state_in F now h.id a.minted o) =
+    known_status F now h a.minted o a.mints a.digest a.under a.issues in (
       k.0,
       k.1,
       k.2 ∙ live_chain _ _ _ _ _ _ (record {
@@ -227,15 +137,15 @@ active_is_live F now h a =
       }),
     )
 
-live_of : (F : FactSet) (now : ℕ) (h : Handle) (x : Status) → status_of F now h.id (digest_of h) ≡ x → h.id.kind ≢ kind.Code → IsLive x → IsActive F now h
+live_of : (F : FactSet) (now : ℕ) (h : Handle) (x : Status) → status_in F now h ≡ x → h.id.kind ≢ kind.Code → IsLive x → IsActive (map.get F) now h
 live_of F now h Unseen e nc l = absurd l
 live_of F now h Wrong e nc l = absurd l
 live_of F now h (Broken t) e nc l = absurd l
 live_of F now h (Known s) e nc l = live_is_active F now h s nc e l
 
 -- the clause of a status
-pub live_exactly : (F : FactSet) (now : ℕ) (h : Handle) → h.id.kind ≢ kind.Code → (IsLive (status_in F now h) → IsActive F now h) × (IsActive F now h → IsLive (status_in F now h))
+pub live_exactly : (F : FactSet) (now : ℕ) (h : Handle) → h.id.kind ≢ kind.Code → (IsLive (status_in F now h) → IsActive (map.get F) now h) × (IsActive (map.get F) now h → IsLive (status_in F now h))
 live_exactly F now h nc = (
-  live_of F now h (status_of F now h.id (digest_of h)) refl nc,
-  λ a. let k : (s : StandingFields) × (status_of F now h.id (digest_of h) ≡ Known s) × (s.state ≡ state.Live) = active_is_live F now h a in subst IsLive (sym k.1) k.2,
+  live_of F now h (status_in F now h) refl nc,
+  λ a. let k : (s : StandingFields) × (status_in F now h ≡ Known s) × (s.state ≡ state.Live) = active_is_live F now h a in subst IsLive (sym k.1) k.2,
 )

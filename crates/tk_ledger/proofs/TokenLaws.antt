@@ -1,31 +1,31 @@
 -- The tests of a fact set mean the relations over what stands at each dot, and what is so stays so when facts are added. Key results:
 --   is_used-sound .. is_dead-complete      the tests and the relations, both ways
---   IsEnded-below, marks-below, IsDead-below      a greater set keeps them
-use Rattle.std.proofs.Common.{◌≡◌, inl, inr, ℕ, true, ◌&&◌, List, Option, Some, None, refl, sym, ap, ◌∙◌}
+--   root-sound, root-complete                   the root of a family
+--   IsEnded-below, IsBad-below, IsDead-below      a greater set keeps them
+use Rattle.std.proofs.Common.{◌≡◌, inl, inr, ℕ, true, ◌&&◌, List, Option, Some, None, refl, sym, ap, subst, ◌∙◌}
 use Rattle.std.proofs.lemmas.Bool.{true≢false, or_cases, or_left, or_right, and_parts, and_from, not-true, not_from_false}
 use Rattle.std.proofs.lemmas.Slice.Eq.{bytes_eq-Decides}
-use Rattle.std.specs.Option.{option_and_then}
+use Rattle.std.specs.Option.{option_and_then, option_map}
 use Rattle.std.specs.FinMap as map
 use Rattle.tk_handle.specs.declared.dot.Dot.{Dot}
 use Rattle.tk_handle.specs.declared.kind.Kind.{Kind}
 use Rattle.tk_handle.specs.declared.kind.Kind.TheVariants as kind
 use Rattle.tk_handle.specs.declared.token_id.TokenId.{TokenId}
 use Rattle.tk_family.specs.declared.link.Link.{Link}
-use Rattle.tk_family.specs.Families.{IsUnder, IsUsed, IsTwice, IsBad, IsDead, MarksWithin, use_of, grant_at}
-use Rattle.tk_family.specs.Families as families
-use Rattle.tk_family.proofs.FamilyLaws.{IsUnder-within, IsDead-within}
+use Rattle.tk_family.specs.Families.{IsUnder, IsUsed, IsTwice, IsBad, IsDead, LinksWithin, MarksWithin, use_of, grant_at}
+use Rattle.tk_family.proofs.FamilyLaws.{IsUnder-within, IsBad-within, IsDead-within}
 use Rattle.tk_family.proofs.WalkLaws.{code_of-sound, code_of-complete}
 use Rattle.tk_fact.specs.declared.body.Body.{Body}
-use Rattle.tk_fact.specs.declared.body.Body.TheVariants.{CodeIssued, CodeRedeemed, RefreshRotated, TokenRevoked, ReuseSeen}
+use Rattle.tk_fact.specs.declared.body.Body.TheVariants.{TokenRevoked, ReuseSeen}
 use Rattle.tk_fact.specs.declared.code_issued.CodeIssued as issued
 use Rattle.tk_fact.specs.declared.token_revoked.TokenRevoked as revoked
 use Rattle.tk_fact.specs.declared.reuse_seen.ReuseSeen as seen
-use Rattle.tk_fact.specs.Tokens.{MintedFields, minted_of, uses_of}
-use Rattle.tk_store.specs.FactSet.{FactSet, IsSubset, any_fact}
+use Rattle.tk_fact.specs.Tokens.{MintedFields, minted_of}
+use Rattle.tk_store.specs.FactSet.{FactSet, IsSubset}
 use Rattle.tk_store.proofs.EntryLaws.{Passing, any_fact-held, any_fact-of}
-use Rattle.tk_ledger.specs.Clients.{is_same_dot}
-use Rattle.tk_ledger.specs.Tokens.{link_of, links_in, code_in, issued_at, issued_in, minted_in, is_same_token, uses, is_used, uses_elsewhere, uses_first, is_twice, IsRevoked, revoked_by, revokes, is_revoked, IsEnded, is_ended_by, is_ended, reuse_of, sees_reuse, is_refresh, IsMarked, marks_in, is_bad_grant, kills, is_dead}
-use Rattle.tk_ledger.proofs.SameLaws.{same_dot-true, same_dot-false, same_dot-apart, same_dot-itself, same_token-true, same_token-itself, is_token-true, is_token-of, is_dot-true, is_dot-of}
+use Rattle.tk_ledger.specs.Bodies.{is_same_dot, is_same_token}
+use Rattle.tk_ledger.specs.Tokens.{link_of, links_in, code_in, issued_at, issued_in, Root, root_of, root_in, minted_in, uses, is_used, uses_elsewhere, uses_first, is_twice, IsRevoked, revoked_by, revokes, is_revoked, IsEnded, is_ended_by, is_ended, reuse_of, sees_reuse, is_reused, is_refresh, IsMarked, is_marked, is_bad_grant, kills, is_dead}
+use Rattle.tk_ledger.proofs.SameLaws.{same_dot-true, same_dot-false, same_dot-apart, same_dot-itself, same_token-true, same_token-itself, names_token-true, names_token-of, names_dot-true, names_dot-of}
 
 -- what an option's function gives comes from a value there
 pub from_some : {A B : Type 0} (f : A → Option B) (o : Option A) (y : B) → option_and_then f o ≡ Some y → (x : A) × (o ≡ Some x) × (f x ≡ Some y)
@@ -40,32 +40,25 @@ from_some f (Some x) y h = (x, refl, h)
 pub links_at : (F : FactSet) (d : Dot) (b : Body) → map.get F d ≡ Some b → links_in (map.get F) d ≡ link_of b
 links_at F d b h = ap (option_and_then link_of) h
 
--- the token that a fact uses is the one that its link uses
-uses_link : (b : Body) → uses_of b ≡ use_of (link_of b)
-uses_link (CodeIssued f) = refl
-uses_link (CodeRedeemed f) = refl
-uses_link (RefreshRotated f) = refl
-uses_link body = refl
+use_at : (F : FactSet) (d : Dot) (b : Body) (k : TokenId) → map.get F d ≡ Some b → use_of (link_of b) ≡ Some k → use_of (links_in (map.get F) d) ≡ Some k
+use_at F d b k held h = ap use_of (links_at F d b held) ∙ h
 
-use_at : (F : FactSet) (d : Dot) (b : Body) (k : TokenId) → map.get F d ≡ Some b → uses_of b ≡ Some k → use_of (links_in (map.get F) d) ≡ Some k
-use_at F d b k held h = ap use_of (links_at F d b held) ∙ sym (uses_link b) ∙ h
-
-use_from : (o : Option Body) (k : TokenId) → use_of (option_and_then link_of o) ≡ Some k → (b : Body) × (o ≡ Some b) × (uses_of b ≡ Some k)
+use_from : (o : Option Body) (k : TokenId) → use_of (option_and_then link_of o) ≡ Some k → (b : Body) × (o ≡ Some b) × (use_of (link_of b) ≡ Some k)
 use_from None k h = absurd (nothing h)
   where
     nothing : ¬ (None ≡ Some k)
     nothing h = cc
-use_from (Some b) k h = (b, refl, uses_link b ∙ h)
+use_from (Some b) k h = (b, refl, h)
 
 pub is_used-sound : (F : FactSet) (k : TokenId) → is_used F k ≡ true → IsUsed (links_in (map.get F)) k
 is_used-sound F k h =
     let x : Passing (uses k) F = any_fact-held (uses k) F h in
-    record { user = x.dot; by = use_at F x.dot x.body k x.held (is_token-true (uses_of x.body) k x.passes) }
+    record { user = x.dot; by = use_at F x.dot x.body k x.held (names_token-true (use_of (link_of x.body)) k x.passes) }
 
 pub is_used-complete : (F : FactSet) (k : TokenId) → IsUsed (links_in (map.get F)) k → is_used F k ≡ true
 is_used-complete F k u =
-    let x : (b : Body) × (map.get F u.user ≡ Some b) × (uses_of b ≡ Some k) = use_from (map.get F u.user) k u.by in
-    any_fact-of (uses k) F u.user x.0 x.1 (is_token-of (uses_of x.0) k x.2)
+    let x : (b : Body) × (map.get F u.user ≡ Some b) × (use_of (link_of b) ≡ Some k) = use_from (map.get F u.user) k u.by in
+    any_fact-of (uses k) F u.user x.0 x.1 (names_token-of (use_of (link_of x.0)) k x.2)
 
 pub is_twice-sound : (F : FactSet) (k : TokenId) → is_twice F k ≡ true → IsTwice (links_in (map.get F)) k
 is_twice-sound F k h =
@@ -77,16 +70,16 @@ is_twice-sound F k h =
       one = x.dot;
       two = y.dot;
       apart = same_dot-false x.dot y.dot (not-true (is_same_dot x.dot y.dot) q.0);
-      by_one = use_at F x.dot x.body k x.held (is_token-true (uses_of x.body) k p.0);
-      by_two = use_at F y.dot y.body k y.held (is_token-true (uses_of y.body) k q.1);
+      by_one = use_at F x.dot x.body k x.held (names_token-true (use_of (link_of x.body)) k p.0);
+      by_two = use_at F y.dot y.body k y.held (names_token-true (use_of (link_of y.body)) k q.1);
     }
 
 pub is_twice-complete : (F : FactSet) (k : TokenId) → IsTwice (links_in (map.get F)) k → is_twice F k ≡ true
 is_twice-complete F k t =
-    let x : (b : Body) × (map.get F t.one ≡ Some b) × (uses_of b ≡ Some k) = use_from (map.get F t.one) k t.by_one in
-    let y : (b : Body) × (map.get F t.two ≡ Some b) × (uses_of b ≡ Some k) = use_from (map.get F t.two) k t.by_two in
-    any_fact-of (uses_first F k) F t.one x.0 x.1 (and_from _ _ (is_token-of (uses_of x.0) k x.2)
-    (any_fact-of (uses_elsewhere k t.one) F t.two y.0 y.1 (and_from _ _ (not_from_false (is_same_dot t.one t.two) (same_dot-apart t.one t.two t.apart)) (is_token-of (uses_of y.0) k y.2))))
+    let x : (b : Body) × (map.get F t.one ≡ Some b) × (use_of (link_of b) ≡ Some k) = use_from (map.get F t.one) k t.by_one in
+    let y : (b : Body) × (map.get F t.two ≡ Some b) × (use_of (link_of b) ≡ Some k) = use_from (map.get F t.two) k t.by_two in
+    any_fact-of (uses_first F k) F t.one x.0 x.1 (and_from _ _ (names_token-of (use_of (link_of x.0)) k x.2)
+    (any_fact-of (uses_elsewhere k t.one) F t.two y.0 y.1 (and_from _ _ (not_from_false (is_same_dot t.one t.two) (same_dot-apart t.one t.two t.apart)) (names_token-of (use_of (link_of y.0)) k y.2))))
 
 -- ---- revocations
 
@@ -117,28 +110,53 @@ is_revoked-complete F k digest client r =
     (and_from _ _ (ap (λ (t : TokenId). is_same_token t k) r.token ∙ same_token-itself k)
     (and_from _ _ ((bytes_eq-Decides r.revocation.digest digest).1 r.digest_is) (ap (λ (d : Dot). is_same_dot d client) r.client_is ∙ same_dot-itself client)))
 
-ended_by-sound : (F : FactSet) (k : TokenId) (m : Option MintedFields) (o : Option issued.CodeIssued) → minted_in (map.get F) k ≡ m → option_and_then (issued_at (map.get F)) (code_in (map.get F) k.dot) ≡ o → is_ended_by F k m o ≡ true → IsEnded (map.get F) k
+pub root_at : (F : FactSet) (c : Dot) (o : Root) → root_of (map.get F) c ≡ Some o → (c ≡ o.code) × (issued_at (map.get F) o.code ≡ Some o.issued)
+root_at F c o h = parts (issued_at (map.get F) c) refl h
+  where
+    parts : (i : Option issued.CodeIssued) → issued_at (map.get F) c ≡ i → option_map (λ f. record { code = c; issued = f }) i ≡ Some o → (c ≡ o.code) × (issued_at (map.get F) o.code ≡ Some o.issued)
+    parts None at h = absurd (nothing h)
+      where
+        nothing : ¬ (None ≡ Some o)
+        nothing h = cc
+    parts (Some f) at h = subst (λ (x : Root). (c ≡ x.code) × (issued_at (map.get F) x.code ≡ Some x.issued)) (same h) (refl, at)
+      where
+        same : Some (record { code = c; issued = f }) ≡ Some o → record { code = c; issued = f } ≡ o
+        same h = cc
+
+-- the root that is found is the code that the dot is under, and the fact that issued it
+pub root-sound : (F : FactSet) (d : Dot) (o : Root) → root_in (map.get F) d ≡ Some o → IsUnder (links_in (map.get F)) d o.code × (issued_at (map.get F) o.code ≡ Some o.issued)
+root-sound F d o h =
+    let c : (c : Dot) × (code_in (map.get F) d ≡ Some c) × (root_of (map.get F) c ≡ Some o) = from_some (root_of (map.get F)) (code_in (map.get F) d) o h in
+    let p = root_at F c.0 o c.2 in
+    (subst (λ (x : Dot). IsUnder (links_in (map.get F)) d x) p.0 (code_of-sound (links_in (map.get F)) d c.0 c.1), p.1)
+
+pub root-complete : (F : FactSet) (d c : Dot) (code : issued.CodeIssued) → IsUnder (links_in (map.get F)) d c → issued_at (map.get F) c ≡ Some code → root_in (map.get F) d ≡ Some (record { code = c; issued = code })
+root-complete F d c code under issues =
+    ap (option_and_then (root_of (map.get F))) (code_of-complete (links_in (map.get F)) d c under)
+    ∙ ap (option_map (λ (f : issued.CodeIssued). record { code = c; issued = f })) issues
+
+ended_by-sound : (F : FactSet) (k : TokenId) (m : Option MintedFields) (o : Option Root) → minted_in (map.get F) k ≡ m → root_in (map.get F) k.dot ≡ o → is_ended_by F k m o ≡ true → IsEnded (map.get F) k
 ended_by-sound F k None o i j h = absurd (true≢false (sym h))
 ended_by-sound F k (Some m) None i j h = absurd (true≢false (sym h))
-ended_by-sound F k (Some m) (Some code) i j h =
-    let c : (c : Dot) × (code_in (map.get F) k.dot ≡ Some c) × (issued_at (map.get F) c ≡ Some code) = from_some (issued_at (map.get F)) (code_in (map.get F) k.dot) code j in
+ended_by-sound F k (Some m) (Some o) i j h =
+    let p = root-sound F k.dot o j in
     record {
       minted = m;
-      code = c.0;
-      issued = code;
+      code = o.code;
+      issued = o.issued;
       mints = i;
-      under = code_of-sound (links_in (map.get F)) k.dot c.0 c.1;
-      issues = c.2;
-      by_client = is_revoked-sound F k m.digest code.client h;
+      under = p.0;
+      issues = p.1;
+      by_client = is_revoked-sound F k m.digest o.issued.client h;
     }
 
 pub is_ended-sound : (F : FactSet) (k : TokenId) → is_ended F k ≡ true → IsEnded (map.get F) k
-is_ended-sound F k h = ended_by-sound F k (minted_in (map.get F) k) (option_and_then (issued_at (map.get F)) (code_in (map.get F) k.dot)) refl refl h
+is_ended-sound F k h = ended_by-sound F k (minted_in (map.get F) k) (root_in (map.get F) k.dot) refl refl h
 
 pub is_ended-complete : (F : FactSet) (k : TokenId) → IsEnded (map.get F) k → is_ended F k ≡ true
 is_ended-complete F k e =
-    ap (λ (m : Option MintedFields). is_ended_by F k m (option_and_then (issued_at (map.get F)) (code_in (map.get F) k.dot))) e.mints
-    ∙ ap (is_ended_by F k (Some e.minted)) (ap (option_and_then (issued_at (map.get F))) (code_of-complete (links_in (map.get F)) k.dot e.code e.under) ∙ e.issues)
+    ap (λ (m : Option MintedFields). is_ended_by F k m (root_in (map.get F) k.dot)) e.mints
+    ∙ ap (is_ended_by F k (Some e.minted)) (root-complete F k.dot e.code e.issued e.under e.issues)
     ∙ is_revoked-complete F k e.minted.digest e.issued.client e.by_client
 
 -- ---- marks
@@ -152,8 +170,8 @@ refresh_is kind.Code h = absurd (true≢false (sym h))
 refresh_is kind.Access h = absurd (true≢false (sym h))
 refresh_is kind.Refresh h = refl
 
-pub marks-sound : (F : FactSet) (k : TokenId) → marks_in F k ≡ true → IsMarked (map.get F) k
-marks-sound F k h = elim (or_cases (any_fact (sees_reuse k) F) (is_refresh k.kind && is_ended F k) h) [
+pub is_marked-sound : (F : FactSet) (k : TokenId) → is_marked F k ≡ true → IsMarked (map.get F) k
+is_marked-sound F k h = elim (or_cases (is_reused F k) (is_refresh k.kind && is_ended F k) h) [
   | inl reused ↦
       let x : Passing (sees_reuse k) F = any_fact-held (sees_reuse k) F reused in
       let r : (r : seen.ReuseSeen) × (x.body ≡ ReuseSeen r) × (r.token ≡ k) = reusing k x.body x.passes in
@@ -161,41 +179,44 @@ marks-sound F k h = elim (or_cases (any_fact (sees_reuse k) F) (is_refresh k.kin
   | inr over ↦ let p = and_parts _ _ over in inr (refresh_is k.kind p.0, is_ended-sound F k p.1)
 ]
 
-pub marks-complete : (F : FactSet) (k : TokenId) → IsMarked (map.get F) k → marks_in F k ≡ true
-marks-complete F k (inl r) = or_left (any_fact (sees_reuse k) F) (is_refresh k.kind && is_ended F k) (any_fact-of (sees_reuse k) F r.place (ReuseSeen r.reuse) r.held (ap (λ (t : TokenId). is_same_token t k) r.token ∙ same_token-itself k))
-marks-complete F k (inr e) = or_right (any_fact (sees_reuse k) F) (is_refresh k.kind && is_ended F k) (and_from _ _ (ap is_refresh e.0) (is_ended-complete F k e.1))
+pub is_marked-complete : (F : FactSet) (k : TokenId) → IsMarked (map.get F) k → is_marked F k ≡ true
+is_marked-complete F k (inl r) = or_left (is_reused F k) (is_refresh k.kind && is_ended F k) (any_fact-of (sees_reuse k) F r.place (ReuseSeen r.reuse) r.held (ap (λ (t : TokenId). is_same_token t k) r.token ∙ same_token-itself k))
+is_marked-complete F k (inr e) = or_right (is_reused F k) (is_refresh k.kind && is_ended F k) (and_from _ _ (ap is_refresh e.0) (is_ended-complete F k e.1))
 
 -- ---- bad grants and dead families
 
-bad-sound : (F : FactSet) (d : Dot) (o : Option Link) → links_in (map.get F) d ≡ o → is_bad_grant F d o ≡ true → IsBad (links_in (map.get F)) (marks_in F) d
+bad-sound : (F : FactSet) (d : Dot) (o : Option Link) → links_in (map.get F) d ≡ o → is_bad_grant F d o ≡ true → IsBad (links_in (map.get F)) (IsMarked (map.get F)) d
 bad-sound F d None at h = absurd (true≢false (sym h))
 bad-sound F d (Some l) at h = record {
   link = l;
   here = at;
-  why = elim (or_cases (marks_in F (grant_at d l)) (is_twice F (grant_at d l)) h) [ inl marked ↦ inl marked | inr twice ↦ inr (is_twice-sound F (grant_at d l) twice) ];
+  why = elim (or_cases (is_marked F (grant_at d l)) (is_twice F (grant_at d l)) h) [
+    | inl marked ↦ inl (is_marked-sound F (grant_at d l) marked)
+    | inr twice ↦ inr (is_twice-sound F (grant_at d l) twice)
+  ];
 }
 
-bad-complete : (F : FactSet) (d : Dot) → IsBad (links_in (map.get F)) (marks_in F) d → is_bad_grant F d (links_in (map.get F) d) ≡ true
+bad-complete : (F : FactSet) (d : Dot) → IsBad (links_in (map.get F)) (IsMarked (map.get F)) d → is_bad_grant F d (links_in (map.get F) d) ≡ true
 bad-complete F d b = ap (is_bad_grant F d) b.here ∙ (elim b.why [
-  | inl marked ↦ or_left (marks_in F (grant_at d b.link)) (is_twice F (grant_at d b.link)) marked
-  | inr twice ↦ or_right (marks_in F (grant_at d b.link)) (is_twice F (grant_at d b.link)) (is_twice-complete F (grant_at d b.link) twice)
+  | inl marked ↦ or_left (is_marked F (grant_at d b.link)) (is_twice F (grant_at d b.link)) (is_marked-complete F (grant_at d b.link) marked)
+  | inr twice ↦ or_right (is_marked F (grant_at d b.link)) (is_twice F (grant_at d b.link)) (is_twice-complete F (grant_at d b.link) twice)
 ])
 
-pub is_dead-sound : (F : FactSet) (c : Dot) → is_dead F c ≡ true → IsDead (links_in (map.get F)) (marks_in F) c
+pub is_dead-sound : (F : FactSet) (c : Dot) → is_dead F c ≡ true → IsDead (links_in (map.get F)) (IsMarked (map.get F)) c
 is_dead-sound F c h =
     let x : Passing (kills F c) F = any_fact-held (kills F c) F h in
     let p = and_parts _ _ x.passes in
     record {
       member = x.dot;
-      under = code_of-sound (links_in (map.get F)) x.dot c (is_dot-true (code_in (map.get F) x.dot) c p.0);
+      under = code_of-sound (links_in (map.get F)) x.dot c (names_dot-true (code_in (map.get F) x.dot) c p.0);
       bad = bad-sound F x.dot (link_of x.body) (links_at F x.dot x.body x.held) p.1;
     }
 
-pub is_dead-complete : (F : FactSet) (c : Dot) → IsDead (links_in (map.get F)) (marks_in F) c → is_dead F c ≡ true
+pub is_dead-complete : (F : FactSet) (c : Dot) → IsDead (links_in (map.get F)) (IsMarked (map.get F)) c → is_dead F c ≡ true
 is_dead-complete F c x =
     let y : (b : Body) × (map.get F x.member ≡ Some b) × (link_of b ≡ Some x.bad.link) = from_some link_of (map.get F x.member) x.bad.link x.bad.here in
     any_fact-of (kills F c) F x.member y.0 y.1 (and_from _ _
-    (is_dot-of (code_in (map.get F) x.member) c (code_of-complete (links_in (map.get F)) x.member c x.under))
+    (names_dot-of (code_in (map.get F) x.member) c (code_of-complete (links_in (map.get F)) x.member c x.under))
     (ap (is_bad_grant F x.member) (sym (links_at F x.member y.0 y.1)) ∙ bad-complete F x.member x.bad))
 
 -- ---- more facts
@@ -205,7 +226,7 @@ below-and_then f F G w d y h =
     let x : (b : Body) × (map.get F d ≡ Some b) × (f b ≡ Some y) = from_some f (map.get F d) y h in
     ap (option_and_then f) (w d x.0 x.1) ∙ x.2
 
-pub links-below : (F G : FactSet) → IsSubset F G → families.Within (links_in (map.get F)) (links_in (map.get G))
+pub links-below : (F G : FactSet) → IsSubset F G → LinksWithin (links_in (map.get F)) (links_in (map.get G))
 links-below F G w d l h = below-and_then link_of F G w d l h
 
 pub minted-below : (F G : FactSet) → IsSubset F G → (k : TokenId) (m : MintedFields) → minted_in (map.get F) k ≡ Some m → minted_in (map.get G) k ≡ Some m
@@ -234,9 +255,12 @@ pub IsMarked-below : (F G : FactSet) → IsSubset F G → (k : TokenId) → IsMa
 IsMarked-below F G w k (inl r) = inl (record { place = r.place; reuse = r.reuse; held = w r.place (ReuseSeen r.reuse) r.held; token = r.token })
 IsMarked-below F G w k (inr e) = inr (e.0, IsEnded-below F G w k e.1)
 
-pub marks-below : (F G : FactSet) → IsSubset F G → MarksWithin (marks_in F) (marks_in G)
-marks-below F G w k h = marks-complete G k (IsMarked-below F G w k (marks-sound F k h))
+pub marks-below : (F G : FactSet) → IsSubset F G → MarksWithin (IsMarked (map.get F)) (IsMarked (map.get G))
+marks-below F G w k h = IsMarked-below F G w k h
 
--- a dead family stays dead
-pub IsDead-below : (F G : FactSet) → IsSubset F G → (c : Dot) → IsDead (links_in (map.get F)) (marks_in F) c → IsDead (links_in (map.get G)) (marks_in G) c
-IsDead-below F G w c x = IsDead-within (links_in (map.get F)) (links_in (map.get G)) (marks_in F) (marks_in G) (links-below F G w) (marks-below F G w) c x
+-- a bad grant stays bad, and a dead family dead
+pub IsBad-below : (F G : FactSet) → IsSubset F G → (d : Dot) → IsBad (links_in (map.get F)) (IsMarked (map.get F)) d → IsBad (links_in (map.get G)) (IsMarked (map.get G)) d
+IsBad-below F G w d b = IsBad-within (links_in (map.get F)) (links_in (map.get G)) (IsMarked (map.get F)) (IsMarked (map.get G)) (links-below F G w) (marks-below F G w) d b
+
+pub IsDead-below : (F G : FactSet) → IsSubset F G → (c : Dot) → IsDead (links_in (map.get F)) (IsMarked (map.get F)) c → IsDead (links_in (map.get G)) (IsMarked (map.get G)) c
+IsDead-below F G w c x = IsDead-within (links_in (map.get F)) (links_in (map.get G)) (IsMarked (map.get F)) (IsMarked (map.get G)) (links-below F G w) (marks-below F G w) c x

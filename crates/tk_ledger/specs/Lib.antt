@@ -1,14 +1,18 @@
 -- The words of this crate:
+--   Bodies           what stands at each dot, and the tests that dots and tokens are the same
 --   Clients          clients and consents of a fact set
 --   Views            what the ledger shows of them; ViewFields, what contracts see
 --   Tokens           what is minted, used and revoked, and which families are dead
 --   Status           the status of a handle at a moment; StandingFields, what contracts see
+--   Standings        what holds of every standing
 --   Ends             what ends a whole family
 --   Laws             what holds of all sets of facts
+pub mod Bodies
 pub mod Clients
 pub mod Ends
 pub mod Laws
 pub mod StandingFields
+pub mod Standings
 pub mod Status
 pub mod Tokens
 pub mod ViewFields

@@ -1,8 +1,12 @@
 -- The status of a handle at a moment (RFC 7662, 2.2, and own).
---   state_in     the state of a token under a code: the first that holds
---   status_in    the status of a handle: a function of the set, the moment and the handle
---   IsActive     the token of an access or refresh handle serves
---   IsLive       a status is known, and its state is Live
+--   state_in          the state of a token under a code: the first that holds
+--   standing_in       what is known of such a token
+--   status_in         the status of a handle: a function of the set, the moment and the handle
+--   IsMintedToken     the fact at the token's dot minted it, with the handle's digest
+--   IsKnownToken      it is minted so, and under some code
+--   Says              what each status says of a handle
+--   IsActive          the token of an access or refresh handle serves
+--   IsKnown, IsLive   a status is known, and its state is Live
 use Rattle.std.specs.Prelude.{◌≡◌, ◌≢◌, ◌<◌, ℕ, Bool, true, false, ◌&&◌, not, nat_le, List, Option, Some, None, if◌then◌else◌}
 use Rattle.std.specs.Str.{bytes_eq}
 use Rattle.std.specs.FinMap as map
@@ -13,14 +17,16 @@ use Rattle.tk_handle.specs.declared.kind.Kind.TheVariants as kind
 use Rattle.tk_handle.specs.declared.token_id.TokenId.{TokenId}
 use Rattle.tk_handle.specs.declared.handle.Handle.{Handle}
 use Rattle.tk_handle.specs.Handle.{handle_bytes}
-use Rattle.tk_family.specs.Families.{IsUnder, IsUsed, IsDead}
+use Rattle.tk_family.specs.Families.{IsUnder, IsInFamily, IsUsed, IsDead}
 use Rattle.tk_fact.specs.declared.body.Body.{Body}
 use Rattle.tk_fact.specs.declared.body.Body.TheVariants.{RefreshRotated}
 use Rattle.tk_fact.specs.declared.code_issued.CodeIssued as issued
-use Rattle.tk_fact.specs.Tokens.{MintedFields, minted_of}
+use Rattle.tk_fact.specs.Tokens.{MintedFields}
 use Rattle.tk_store.specs.FactSet.{FactSet}
+use Rattle.tk_ledger.specs.Bodies.{Bodies}
 use Rattle.tk_ledger.specs.Clients.{IsLiveClient, IsLiveConsent, is_live_client, is_live_consent}
-use Rattle.tk_ledger.specs.Tokens.{minted_in, links_in, marks_in, code_in, issued_at, is_dead, is_used, is_ended, IsEnded}
+use Rattle.tk_ledger.specs.StandingFields.{StandingFields}
+use Rattle.tk_ledger.specs.Tokens.{Root, root_in, minted_in, links_in, issued_at, is_dead, is_used, is_ended, IsEnded, IsMarked}
 use Rattle.tk_ledger.specs.declared.status.State.{State}
 use Rattle.tk_ledger.specs.declared.status.State.TheVariants as state
 use Rattle.tk_ledger.specs.declared.status.Status.{Status}
@@ -33,11 +39,11 @@ is_access kind.Refresh = false
 
 -- the first that holds (own): the family is dead; its client or consent isn't live; the family is over; a fact uses the code
 -- or refresh token; the token is over; its client revoked the access token; or none of these
-abbrev pub state_in : FactSet → ℕ → TokenId → MintedFields → Dot → issued.CodeIssued → State
-state_in F now k minted c code =
-    if is_dead F c then state.Dead
-    else if not (is_live_client F code.client && is_live_consent F code) then state.Withdrawn
-    else if nat_le code.family_end now then state.Over
+abbrev pub state_in : FactSet → ℕ → TokenId → MintedFields → Root → State
+state_in F now k minted root =
+    if is_dead F root.code then state.Dead
+    else if not (is_live_client F root.issued.client && is_live_consent F root.issued) then state.Withdrawn
+    else if nat_le root.issued.family_end now then state.Over
     else if not (is_access k.kind) && is_used F k then state.Used
     else if nat_le minted.expiry now then state.Past
     else if is_access k.kind && is_ended F k then state.Ended
@@ -49,65 +55,96 @@ generation_of (RefreshRotated f) = f.generation
 generation_of body = 0
 
 -- client, subject and the family's end are the code's; scope, start, end and generation those of the minting fact
-abbrev pub by_issued : FactSet → ℕ → TokenId → ℕ → MintedFields → Dot → Option issued.CodeIssued → Status
-by_issued F now k generation minted c None = Broken minted.expiry
-by_issued F now k generation minted c (Some code) = Known (record {
-  client = code.client;
-  subject = code.subject;
-  code = c;
+abbrev pub standing_in : FactSet → ℕ → TokenId → Body → MintedFields → Root → StandingFields
+standing_in F now k body minted root = record {
+  client = root.issued.client;
+  subject = root.issued.subject;
+  code = root.code;
   scope = minted.scope;
   start = minted.start;
   expiry = minted.expiry;
-  family_end = code.family_end;
-  generation = generation;
-  state = state_in F now k minted c code;
-})
-
--- no chain of parents leads to a code: Broken
-abbrev pub by_code : FactSet → ℕ → TokenId → ℕ → MintedFields → Option Dot → Status
-by_code F now k generation minted None = Broken minted.expiry
-by_code F now k generation minted (Some c) = by_issued F now k generation minted c (issued_at (map.get F) c)
-
--- the fact mints no such kind, or another digest: Wrong
-abbrev pub by_minted : FactSet → ℕ → TokenId → List ℕ → ℕ → Option MintedFields → Status
-by_minted F now k digest generation None = Wrong
-by_minted F now k digest generation (Some minted) =
-    if bytes_eq minted.digest digest then by_code F now k generation minted (code_in (map.get F) k.dot) else Wrong
-
--- no fact stands at the dot: Unseen
-abbrev pub by_body : FactSet → ℕ → TokenId → List ℕ → Option Body → Status
-by_body F now k digest None = Unseen
-by_body F now k digest (Some body) = by_minted F now k digest (generation_of body) (minted_of body k.kind)
-
-abbrev pub status_of : FactSet → ℕ → TokenId → List ℕ → Status
-status_of F now k digest = by_body F now k digest (map.get F k.dot)
+  family_end = root.issued.family_end;
+  generation = generation_of body;
+  state = state_in F now k minted root;
+}
 
 -- what facts keep of a handle
 abbrev pub digest_of : Handle → List ℕ
 digest_of h = sha256 (handle_bytes h)
 
--- the status of a handle, by its token's name and its digest
+abbrev pub with_digest : List ℕ → Option MintedFields → Option MintedFields
+with_digest digest None = None
+with_digest digest (Some minted) = if bytes_eq minted.digest digest then Some minted else None
+
+-- what the fact at the handle's dot says of its token, where it minted one of that kind and digest
+abbrev pub minted_as : Bodies → Handle → Option MintedFields
+minted_as body_at h = with_digest (digest_of h) (minted_in body_at h.id)
+
+-- the first that holds, of the fact at the token's dot, what it minted, and the root of this
+abbrev pub status_by : FactSet → ℕ → TokenId → Option Body → Option MintedFields → Option Root → Status
+-- no fact stands there
+status_by F now k None minted root = Unseen
+-- it minted no token of that kind and digest
+status_by F now k (Some body) None root = Wrong
+-- no chain of parents leads from it to a code
+status_by F now k (Some body) (Some minted) None = Broken minted.expiry
+-- all is there
+status_by F now k (Some body) (Some minted) (Some root) = Known (standing_in F now k body minted root)
+
+-- the status of a handle
 abbrev pub status_in : FactSet → ℕ → Handle → Status
-status_in F now h = status_of F now h.id (digest_of h)
+status_in F now h = status_by F now h.id (map.get F h.id.dot) (minted_as (map.get F) h) (root_in (map.get F) h.id.dot)
+
+-- ---- what a status says
+
+-- the token of the handle was minted: the fact at its dot mints its kind, with the handle's digest (own)
+pub record IsMintedToken (body_at : Bodies) (h : Handle) : Type 0 where
+  pub minted : MintedFields
+  pub mints : minted_in body_at h.id ≡ Some minted
+  pub digest : minted.digest ≡ digest_of h
+
+-- it was minted, and is under some code (own)
+abbrev pub IsKnownToken : Bodies → Handle → Type 0
+IsKnownToken body_at h = IsMintedToken body_at h × IsInFamily (links_in body_at) h.id.dot
+
+-- what each status says of a handle; no two of these hold together (own)
+abbrev pub Says : Bodies → Handle → Status → Type 0
+-- no fact stands at the token's dot
+Says body_at h Unseen = body_at h.id.dot ≡ None
+-- one does, and it didn't mint the token
+Says body_at h Wrong = (body_at h.id.dot ≢ None) × ¬ IsMintedToken body_at h
+-- the token was minted, with this end, and is under no code
+Says body_at h (Broken expiry) = ((t : IsMintedToken body_at h) × (expiry ≡ t.minted.expiry)) × ¬ IsInFamily (links_in body_at) h.id.dot
+-- it was minted, and is under a code
+Says body_at h (Known standing) = IsKnownToken body_at h
+
+-- the status is known
+abbrev pub IsKnown : Status → Type 0
+IsKnown Unseen = ⊥
+IsKnown Wrong = ⊥
+IsKnown (Broken expiry) = ⊥
+IsKnown (Known standing) = Unit {0}
+
+-- ---- active tokens
 
 -- the token of an access or refresh handle serves at the moment (RFC 7662, 2.2): it was minted with the handle's digest; it isn't over,
 -- nor its family; its client and consent are live; the family isn't dead; an access token isn't revoked, a refresh token isn't used
-pub record IsActive (F : FactSet) (now : ℕ) (h : Handle) : Type 0 where
+pub record IsActive (body_at : Bodies) (now : ℕ) (h : Handle) : Type 0 where
   pub minted : MintedFields
   pub code : Dot
   pub issued : issued.CodeIssued
   pub no_code : h.id.kind ≢ kind.Code
-  pub mints : minted_in (map.get F) h.id ≡ Some minted
+  pub mints : minted_in body_at h.id ≡ Some minted
   pub digest : minted.digest ≡ digest_of h
   pub early : now < minted.expiry
-  pub under : IsUnder (links_in (map.get F)) h.id.dot code
-  pub issues : issued_at (map.get F) code ≡ Some issued
-  pub client : IsLiveClient (map.get F) issued.client
-  pub consent : IsLiveConsent (map.get F) issued
+  pub under : IsUnder (links_in body_at) h.id.dot code
+  pub issues : issued_at body_at code ≡ Some issued
+  pub client : IsLiveClient body_at issued.client
+  pub consent : IsLiveConsent body_at issued
   pub family : now < issued.family_end
-  pub alive : ¬ IsDead (links_in (map.get F)) (marks_in F) code
-  pub access : h.id.kind ≡ kind.Access → ¬ IsEnded (map.get F) h.id
-  pub refresh : h.id.kind ≡ kind.Refresh → ¬ IsUsed (links_in (map.get F)) h.id
+  pub alive : ¬ IsDead (links_in body_at) (IsMarked body_at) code
+  pub access : h.id.kind ≡ kind.Access → ¬ IsEnded body_at h.id
+  pub refresh : h.id.kind ≡ kind.Refresh → ¬ IsUsed (links_in body_at) h.id
 
 -- the status is known, and its state is Live
 abbrev pub IsLive : Status → Type 0

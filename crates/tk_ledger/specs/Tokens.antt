@@ -1,40 +1,36 @@
 -- Tokens of a fact set: what is minted, used and revoked, and which families are dead.
 -- Relations speak of what stands at each dot. Tests are functions of the set, each cited by the function that computes it.
---   Bodies                  what stands at each dot
 --   link_of, links_in       what a fact does in a family
 --   code_in, issued_at      the code that a token is under, and the fact that issued it
+--   Root, root_in           both of them
 --   minted_in               what the fact at a token's dot says of it
 --   is_used, is_twice       one fact, or two, use a code or refresh token
 --   IsRevoked, is_revoked   a client revoked the token of a digest
 --   IsEnded, is_ended       the client of its code revoked a token
---   IsReused                a reuse of a token was seen
---   IsMarked, marks_in      the tokens that a reuse or a revocation marks
+--   IsReused, is_reused     a reuse of a token was seen
+--   IsMarked, is_marked     the tokens that a reuse or a revocation marks
 --   is_bad, is_dead         bad grants, and the dead families that they make
-use Rattle.std.specs.Prelude.{◌≡◌, ◌⊎◌, ℕ, Bool, true, false, ◌&&◌, ◌||◌, ◌==◌, not, List, Option, Some, None}
-use Rattle.std.specs.Option.{option_and_then}
+-- What is used, used twice, bad and dead is said in tk_family, of the links and marks of the set: `links_in`, `IsMarked`.
+use Rattle.std.specs.Prelude.{◌≡◌, ◌⊎◌, ℕ, Bool, true, false, ◌&&◌, ◌||◌, not, List, Option, Some, None}
+use Rattle.std.specs.Option.{option_and_then, option_map}
 use Rattle.std.specs.Str.{bytes_eq}
 use Rattle.std.specs.FinMap as map
 use Rattle.tk_handle.specs.declared.dot.Dot.{Dot}
 use Rattle.tk_handle.specs.declared.kind.Kind.{Kind}
 use Rattle.tk_handle.specs.declared.kind.Kind.TheVariants as kind
 use Rattle.tk_handle.specs.declared.token_id.TokenId.{TokenId}
-use Rattle.tk_handle.specs.Kind.{kind_number}
 use Rattle.tk_family.specs.declared.link.Link.{Link}
 use Rattle.tk_family.specs.declared.link.Link.TheVariants.{Code, Redeems, Rotates}
-use Rattle.tk_family.specs.Families.{Links, Marks, IsUnder, grant_at}
+use Rattle.tk_family.specs.Families.{Links, IsUnder, use_of, grant_at}
 use Rattle.tk_family.specs.Walks.{code_of}
 use Rattle.tk_fact.specs.declared.body.Body.{Body}
 use Rattle.tk_fact.specs.declared.body.Body.TheVariants.{CodeIssued, CodeRedeemed, RefreshRotated, TokenRevoked, ReuseSeen}
 use Rattle.tk_fact.specs.declared.code_issued.CodeIssued as issued
 use Rattle.tk_fact.specs.declared.token_revoked.TokenRevoked as revoked
 use Rattle.tk_fact.specs.declared.reuse_seen.ReuseSeen as seen
-use Rattle.tk_fact.specs.Tokens.{MintedFields, minted_of, uses_of}
+use Rattle.tk_fact.specs.Tokens.{MintedFields, minted_of}
 use Rattle.tk_store.specs.FactSet.{FactSet, any_fact}
-use Rattle.tk_ledger.specs.Clients.{is_same_dot}
-
--- what stands at each dot, if a fact does (own)
-abbrev pub Bodies : Type 0
-Bodies = Dot → Option Body
+use Rattle.tk_ledger.specs.Bodies.{Bodies, is_same_dot, is_same_token, names_dot, names_token}
 
 -- ---- links, and the code that a token is under
 
@@ -61,6 +57,19 @@ issued_in body = None
 abbrev pub issued_at : Bodies → Dot → Option issued.CodeIssued
 issued_at body_at c = option_and_then issued_in (body_at c)
 
+-- the root of a family: its code, and the fact that issued it (own)
+pub record Root : Type 0 where
+  pub code : Dot
+  pub issued : issued.CodeIssued
+
+-- the root that is this code
+abbrev pub root_of : Bodies → Dot → Option Root
+root_of body_at c = option_map (λ f. record { code = c; issued = f }) (issued_at body_at c)
+
+-- the root of the family of what is minted at a dot (own)
+abbrev pub root_in : Bodies → Dot → Option Root
+root_in body_at d = option_and_then (root_of body_at) (code_in body_at d)
+
 -- ---- what is minted
 
 -- what the fact at the token's dot says of it, where it mints the token's kind (RFC 6749, 4.1.2, 4.1.4 and 6)
@@ -69,16 +78,9 @@ minted_in body_at k = option_and_then (λ b. minted_of b k.kind) (body_at k.dot)
 
 -- ---- uses
 
-abbrev pub is_same_token : TokenId → TokenId → Bool
-is_same_token j k = is_same_dot j.dot k.dot && (kind_number j.kind == kind_number k.kind)
-
-abbrev pub is_token : Option TokenId → TokenId → Bool
-is_token None k = false
-is_token (Some j) k = is_same_token j k
-
 -- the fact redeems or rotates the token, as it names it (RFC 6749, 4.1.2 and 6)
 abbrev pub uses : TokenId → Dot × Body → Bool
-uses k f = is_token (uses_of f.1) k
+uses k f = names_token (use_of (link_of f.1)) k
 
 -- some fact uses the token, whatever its generation
 abbrev pub is_used : FactSet → TokenId → Bool
@@ -125,13 +127,13 @@ pub record IsEnded (body_at : Bodies) (k : TokenId) : Type 0 where
   pub issues : issued_at body_at code ≡ Some issued
   pub by_client : IsRevoked body_at k minted.digest issued.client
 
-abbrev pub is_ended_by : FactSet → TokenId → Option MintedFields → Option issued.CodeIssued → Bool
-is_ended_by F k None code = false
+abbrev pub is_ended_by : FactSet → TokenId → Option MintedFields → Option Root → Bool
+is_ended_by F k None root = false
 is_ended_by F k (Some minted) None = false
-is_ended_by F k (Some minted) (Some code) = is_revoked F k minted.digest code.client
+is_ended_by F k (Some minted) (Some root) = is_revoked F k minted.digest root.issued.client
 
 abbrev pub is_ended : FactSet → TokenId → Bool
-is_ended F k = is_ended_by F k (minted_in (map.get F) k) (option_and_then (issued_at (map.get F)) (code_in (map.get F) k.dot))
+is_ended F k = is_ended_by F k (minted_in (map.get F) k) (root_in (map.get F) k.dot)
 
 -- ---- marks, bad grants and dead families
 
@@ -149,6 +151,9 @@ reuse_of k body = false
 abbrev pub sees_reuse : TokenId → Dot × Body → Bool
 sees_reuse k f = reuse_of k f.1
 
+abbrev pub is_reused : FactSet → TokenId → Bool
+is_reused F k = any_fact (sees_reuse k) F
+
 abbrev pub is_refresh : Kind → Bool
 is_refresh kind.Code = false
 is_refresh kind.Access = false
@@ -158,23 +163,19 @@ is_refresh kind.Refresh = true
 abbrev pub IsMarked : Bodies → TokenId → Type 0
 IsMarked body_at k = IsReused body_at k ⊎ ((k.kind ≡ kind.Refresh) × IsEnded body_at k)
 
-abbrev pub marks_in : FactSet → Marks
-marks_in F k = any_fact (sees_reuse k) F || (is_refresh k.kind && is_ended F k)
+abbrev pub is_marked : FactSet → TokenId → Bool
+is_marked F k = is_reused F k || (is_refresh k.kind && is_ended F k)
 
 abbrev pub is_bad_grant : FactSet → Dot → Option Link → Bool
 is_bad_grant F d None = false
-is_bad_grant F d (Some link) = marks_in F (grant_at d link) || is_twice F (grant_at d link)
+is_bad_grant F d (Some link) = is_marked F (grant_at d link) || is_twice F (grant_at d link)
 
 -- the code or refresh token that the fact mints is marked, or used twice (RFC 6749, 4.1.2, 10.4 and 10.5)
 abbrev pub is_bad : FactSet → Dot × Body → Bool
 is_bad F f = is_bad_grant F f.0 (link_of f.1)
 
-abbrev pub is_dot : Option Dot → Dot → Bool
-is_dot None c = false
-is_dot (Some d) c = is_same_dot d c
-
 abbrev pub kills : FactSet → Dot → Dot × Body → Bool
-kills F c f = is_dot (code_in (map.get F) f.0) c && is_bad F f
+kills F c f = names_dot (code_in (map.get F) f.0) c && is_bad F f
 
 -- a code or refresh token under the code is bad (RFC 6749, 4.1.2, 10.4 and 10.5)
 abbrev pub is_dead : FactSet → Dot → Bool

@@ -1,3 +1,5 @@
+//! The ledger: its facts, and what they are asked.
+
 use std::marker::Model;
 use tk_store::FactStore;
 
@@ -26,16 +28,19 @@ ghost use Rattle.tk_store.specs.Adding.{Adds};
 ghost use Rattle.tk_store.specs.Store.{facts_of};
 ghost use Rattle.tk_ledger.specs.Clients as clients_of;
 ghost use Rattle.tk_ledger.specs.Ends.{FamilyEnds};
-ghost use Rattle.tk_ledger.specs.Status.{status_in, IsActive, IsLive};
+ghost use Rattle.tk_ledger.specs.Standings.{IsSound};
+ghost use Rattle.tk_ledger.specs.Status.{status_in, IsActive, IsKnown, IsKnownToken, IsLive, Says};
 ghost use Rattle.tk_ledger.specs.Tokens.{is_revoked, IsEnded, IsRevoked};
 ghost use Rattle.tk_ledger.specs.Views.{client_view, consent_view};
 
-use crate::clients::{ClientView, view_client};
-use crate::consents::{ConsentView, find_consent, view_consent};
-use crate::families;
-use crate::status::{Status, of_handle};
+use crate::client_view::ClientView;
+use crate::consent_view::ConsentView;
+use crate::plain::{
+    find_consent, is_revoked as is_revoked_by, of_handle, view_client, view_consent,
+};
+use crate::status::Status;
 use std::alloc::Global;
-use tk_fact::{Fact, Text};
+use tk_fact::{Fact, Subject};
 use tk_handle::{Dot, Handle, Moment, TokenId};
 use tk_scope::Scope;
 use tk_store::{AddError, Added};
@@ -80,7 +85,7 @@ impl Ledger {
     }
 
     /// The least dot of a live consent of the client and subject whose scope includes the scope, if any.
-    pub fn consent_for(&self, client: Dot, subject: &Text, scope: &Scope) -> Option<Dot>
+    pub fn consent_for(&self, client: Dot, subject: &Subject, scope: &Scope) -> Option<Dot>
         ensures value { result ≡ clients_of.consent_for (facts_of self.now) client subject.now scope.now }
         ensures least { clients_of.IsLeastConsent (map.get (facts_of self.now)) client subject.now scope.now result }
     {
@@ -93,24 +98,33 @@ impl Ledger {
         ensures value { result ≡ is_revoked (facts_of self.now) token.now digest.now client }
         ensures meaning { IsTrue result ↔ IsRevoked (map.get (facts_of self.now)) token.now digest.now client }
     {
-        families::is_revoked(&self.store, token, digest, client)
+        is_revoked_by(&self.store, token, digest, client)
     }
 
     /// Where the token of a handle stands at the moment. From its end on a token is past, and a family over.
     pub fn status(&self, now: Moment, handle: &Handle) -> Status<'_>
         ensures value { result ≡ status_in (facts_of self.now) now handle.now }
 
+        // What each of the four says. Known is said of exactly the tokens that are minted, with the handle's digest, and
+        // under some code.
+        ensures says { Says (map.get (facts_of self.now)) handle.now result }
+        ensures known { IsKnown result ↔ IsKnownToken (map.get (facts_of self.now)) handle.now }
+
         // Live is said of exactly the active access and refresh tokens (RFC 7662, 2.2).
-        ensures live { handle.now.id.kind ≢ kind.Code → (IsLive result ↔ IsActive (facts_of self.now) now handle.now) }
+        ensures live { handle.now.id.kind ≢ kind.Code → (IsLive result ↔ IsActive (map.get (facts_of self.now)) now handle.now) }
 
         // A code is never active.
-        ensures code { handle.now.id.kind ≡ kind.Code → ¬ IsActive (facts_of self.now) now handle.now }
+        ensures code { handle.now.id.kind ≡ kind.Code → ¬ IsActive (map.get (facts_of self.now)) now handle.now }
 
-        // Nor is a token that its client revoked (RFC 7009, 2.1), or one of a family with a spent grant (RFC 6749, 4.1.2,
+        // Nor is a token that its client revoked (RFC 7009, 2.1), or one of a family with a bad grant (RFC 6749, 4.1.2,
         // 10.4 and 10.5).
-        ensures revoked { IsEnded (map.get (facts_of self.now)) handle.now.id → ¬ IsActive (facts_of self.now) now handle.now }
-        ensures family { FamilyEnds (facts_of self.now) now handle.now }
+        ensures revoked { IsEnded (map.get (facts_of self.now)) handle.now.id → ¬ IsActive (map.get (facts_of self.now)) now handle.now }
+        ensures family { FamilyEnds (map.get (facts_of self.now)) now handle.now }
+
+        // The subject of a standing is one, and the family of a live token ends after the moment.
+        ensures sound { IsSound now result }
     {
+        self.store.known();
         of_handle(&self.store, now, handle)
     }
 }

@@ -7,24 +7,22 @@
 //! every set.
 //!
 //! Contracts see a ledger as its set of facts alone. In reading order: `Ledger`, `ClientView`, `ConsentView`, `Status`,
-//! `Standing`, `State`. The definitions are in specs/: `Clients`, `Tokens`, `Status`, `Ends`. The functions of `laws` have
-//! empty bodies: they are laws of these definitions, stated in specs/Laws.antt.
+//! `Standing`, `State`. The definitions are in specs/: `Clients`, `Tokens`, `Status`, `Standings`, `Ends`; `plain` computes
+//! them. The functions of `laws` have empty bodies: they are laws of these definitions, stated in specs/Laws.antt.
 #![tactic(auto)]
 
-mod clients;
-mod compare;
-mod consents;
-mod families;
+mod client_view;
+mod consent_view;
 mod laws;
 mod ledger;
+mod plain;
 mod status;
-mod tokens;
 
-pub use clients::ClientView;
-pub use consents::ConsentView;
+pub use client_view::ClientView;
+pub use consent_view::ConsentView;
 pub use laws::{
-    death_stays, ended_stays, retired_stays, revoked_inactive, spent_inactive, tests_decide,
-    withdrawn_stays,
+    bad_grants, death_stays, ended_stays, family_inactive, retired_stays, revoked_inactive,
+    status_says, tests_decide, withdrawn_stays,
 };
 pub use ledger::Ledger;
 pub use status::{Standing, State, Status};

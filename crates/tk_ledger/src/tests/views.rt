@@ -7,7 +7,7 @@ use super::{CLIENT, CONSENT, add, after, before_grants, in_order, revoked_in_adv
 use crate::{ClientView, ConsentView, Ledger};
 use std::alloc::Global;
 use std::test::Fail;
-use tk_fact::{Fact, Sort, Text};
+use tk_fact::{Fact, Sort, Subject};
 use tk_handle::{Dot, Kind};
 use tk_scope::Scope;
 use tk_store::{AddError, Added};
@@ -62,7 +62,7 @@ fn found(
     subject: &[u8],
     scope: &[u8],
 ) -> Result<Option<Dot>, Fail> {
-    let subject = Text::new(alloc, subject)?;
+    let subject = Subject::read(alloc, subject)?;
     let scope = Scope::read(alloc, scope)?;
     Ok(ledger.consent_for(client, &subject, &scope))
 }

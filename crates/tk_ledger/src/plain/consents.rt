@@ -1,29 +1,4 @@
-use std::marker::Model;
-use tk_fact::{Body, CodeIssued, ConsentGiven, Fact, Text};
-use tk_handle::Dot;
-use tk_scope::Scope;
-use tk_store::FactStore;
-
-/// A consent as it was given (RFC 6749, 4.1).
-#[derive(Drop)]
-pub struct ConsentView<'a> {
-    /// The client that it was given to.
-    pub client: Dot,
-    /// Who gave it.
-    pub subject: &'a Text,
-    /// What the client may have.
-    pub scope: &'a Scope,
-    /// Whether no fact withdraws it.
-    pub live: bool,
-}
-
-impl<'a> Model for ConsentView<'a> {
-    ghost use Rattle.tk_ledger.specs.ViewFields.{ConsentFields};
-
-    ghost Value = { ConsentFields };
-
-    ghost view = { λ v. record { client = v.client; subject = v.subject.now; scope = v.scope.now; live = v.live } };
-}
+//! Consents: what was given at a dot, whether it was withdrawn, and the first for a scope.
 
 ghost use Rattle.std.specs.Prelude.{◌≡◌};
 ghost use Rattle.std.specs.List.{find};
@@ -33,7 +8,12 @@ ghost use Rattle.tk_store.specs.Store.{facts_of};
 ghost use Rattle.tk_ledger.specs.Clients as spec;
 ghost use Rattle.tk_ledger.specs.Views.{consent_view};
 
-use crate::compare::{same_bytes, same_dots};
+use super::compare::{same_bytes, same_dots};
+use crate::consent_view::ConsentView;
+use tk_fact::{Body, CodeIssued, ConsentGiven, Fact, Subject};
+use tk_handle::Dot;
+use tk_scope::Scope;
+use tk_store::FactStore;
 
 pub(crate) fn view_consent(facts: &FactStore, dot: Dot) -> Option<ConsentView<'_>>
     ensures { result ≡ consent_view (facts_of facts.now) dot }
@@ -53,13 +33,13 @@ fn consent_at(facts: &FactStore, at: Dot) -> Option<&ConsentGiven>
     ensures { option_copied result ≡ spec.consent_at (facts_of facts.now) at }
 {
     match facts.get(at) {
-        Some(fact) => consent_in(&fact.body),
+        Some(fact) => given_in(&fact.body),
         None => None,
     }
 }
 
-fn consent_in(body: &Body) -> Option<&ConsentGiven>
-    ensures { option_copied result ≡ spec.consent_in body.now }
+fn given_in(body: &Body) -> Option<&ConsentGiven>
+    ensures { option_copied result ≡ spec.given_in body.now }
 {
     match body {
         Body::ConsentGiven(consent) => Some(consent),
@@ -84,7 +64,7 @@ fn withdraws(fact: &Fact, consent: Dot) -> bool
 }
 
 // Whether the subject gave the consent to the client.
-fn gives(consent: Option<&ConsentGiven>, client: Dot, subject: &Text) -> bool
+fn gives(consent: Option<&ConsentGiven>, client: Dot, subject: &Subject) -> bool
     ensures { result ≡ spec.gives client subject.now (option_copied consent.entry) }
 {
     match consent {
@@ -96,15 +76,21 @@ fn gives(consent: Option<&ConsentGiven>, client: Dot, subject: &Text) -> bool
     }
 }
 
+// Whether the subject gave the client a consent at the dot, and no withdrawal of it is held.
+fn is_consent_of(facts: &FactStore, client: Dot, subject: &Subject, consent: Dot) -> bool
+    ensures { result ≡ spec.is_consent_of (facts_of facts.now) client subject.now consent }
+{
+    gives(consent_at(facts, consent), client, subject) && !is_withdrawn(facts, consent)
+}
+
 // Whether the consent of a code is live.
 pub(crate) fn is_live_consent(facts: &FactStore, code: &CodeIssued) -> bool
     ensures { result ≡ spec.is_live_consent (facts_of facts.now) code.now }
 {
-    gives(consent_at(facts, code.consent), code.client, &code.subject)
-        && !is_withdrawn(facts, code.consent)
+    is_consent_of(facts, code.client, &code.subject, code.consent)
 }
 
-fn grants(consent: Option<&ConsentGiven>, client: Dot, subject: &Text, scope: &Scope) -> bool
+fn grants(consent: Option<&ConsentGiven>, client: Dot, subject: &Subject, scope: &Scope) -> bool
     ensures { result ≡ spec.grants client subject.now scope.now (option_copied consent.entry) }
 {
     match consent {
@@ -114,16 +100,16 @@ fn grants(consent: Option<&ConsentGiven>, client: Dot, subject: &Text, scope: &S
 }
 
 // Whether the fact is a live consent of the client and subject for the scope.
-fn consents(facts: &FactStore, client: Dot, subject: &Text, scope: &Scope, fact: &Fact) -> bool
+fn consents(facts: &FactStore, client: Dot, subject: &Subject, scope: &Scope, fact: &Fact) -> bool
     ensures { result ≡ spec.consents (facts_of facts.now) client subject.now scope.now fact.now }
 {
-    grants(consent_in(&fact.body), client, subject, scope) && !is_withdrawn(facts, fact.dot)
+    grants(given_in(&fact.body), client, subject, scope) && !is_withdrawn(facts, fact.dot)
 }
 
 fn first_consent<'a>(
     facts: &'a FactStore,
     client: Dot,
-    subject: &Text,
+    subject: &Subject,
     scope: &Scope,
 ) -> Option<&'a Fact>
     ensures { option_copied result ≡ find (spec.consents (facts_of facts.now) client subject.now scope.now) (map.entries (facts_of facts.now)) }
@@ -137,7 +123,7 @@ fn first_consent<'a>(
 pub(crate) fn find_consent(
     facts: &FactStore,
     client: Dot,
-    subject: &Text,
+    subject: &Subject,
     scope: &Scope,
 ) -> Option<Dot>
     ensures { result ≡ spec.consent_for (facts_of facts.now) client subject.now scope.now }

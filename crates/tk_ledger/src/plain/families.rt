@@ -1,18 +1,16 @@
 //! Revocations, marks, bad grants, and the families that they kill.
 
 ghost use Rattle.std.specs.Prelude.{◌≡◌};
-ghost use Rattle.std.specs.Option.{option_copied, option_map};
-ghost use Rattle.std.specs.FinMap as map;
-ghost use Rattle.tk_family.specs.Families.{grant_at};
+ghost use Rattle.std.specs.Option.{option_map};
 ghost use Rattle.tk_fact.specs.Tokens.{shown_minted};
 ghost use Rattle.tk_store.specs.Store.{facts_of};
-ghost use Rattle.tk_store.specs.FactSet.{any_fact};
 ghost use Rattle.tk_ledger.specs.Tokens as spec;
 
-use crate::compare::{found_dot, same_digests, same_dots, same_tokens};
-use crate::tokens::{code_above, is_twice, issued_above, link_of, minted_at};
-use tk_fact::{Body, CodeIssued, Fact, Minted};
-use tk_family::Link;
+use super::compare::{names_dot, same_digests, same_dots, same_tokens};
+use super::root::Root;
+use super::tokens::{code_above, is_twice, link_of, minted_at, root_above};
+use tk_fact::{Body, Fact, Minted};
+use tk_family::{Link, grant};
 use tk_handle::{Dot, Kind, TokenId};
 use tk_store::FactStore;
 
@@ -44,12 +42,14 @@ fn is_ended_by(
     facts: &FactStore,
     token: &TokenId,
     minted: &Option<Minted<'_>>,
-    code: Option<&CodeIssued>,
+    root: &Option<Root<'_>>,
 ) -> bool
-    ensures { result ≡ spec.is_ended_by (facts_of facts.now) token.now (option_map shown_minted minted.now) (option_copied code.entry) }
+    ensures { result ≡ spec.is_ended_by (facts_of facts.now) token.now (option_map shown_minted minted.now) root.now }
 {
-    match (minted, code) {
-        (Some(minted), Some(code)) => is_revoked(facts, token, minted.digest, code.client),
+    match (minted, root) {
+        (Some(minted), Some(root)) => {
+            is_revoked(facts, token, minted.digest, root.issued.client)
+        }
         (Some(_), None) => false,
         (None, _) => false,
     }
@@ -63,7 +63,7 @@ pub(crate) fn is_ended(facts: &FactStore, token: &TokenId) -> bool
         facts,
         token,
         &minted_at(facts, token),
-        issued_above(facts, token.dot),
+        &root_above(facts, token.dot),
     )
 }
 
@@ -79,7 +79,7 @@ fn sees_reuse(fact: &Fact, token: &TokenId) -> bool
 }
 
 fn is_reused(facts: &FactStore, token: &TokenId) -> bool
-    ensures { result ≡ any_fact (spec.sees_reuse token.now) (facts_of facts.now) }
+    ensures { result ≡ spec.is_reused (facts_of facts.now) token.now }
 {
     facts.facts().any(|fact| sees_reuse(fact, token))
 }
@@ -91,28 +91,9 @@ fn is_refresh(kind: Kind) -> bool
 }
 
 fn is_marked(facts: &FactStore, token: &TokenId) -> bool
-    ensures { result ≡ spec.marks_in (facts_of facts.now) token.now }
+    ensures { result ≡ spec.is_marked (facts_of facts.now) token.now }
 {
     is_reused(facts, token) || (is_refresh(token.kind) && is_ended(facts, token))
-}
-
-fn grant(dot: Dot, link: &Link) -> TokenId
-    ensures { result ≡ grant_at dot link.now }
-{
-    match link {
-        Link::Code => TokenId {
-            dot,
-            kind: Kind::Code,
-        },
-        Link::Redeems(_) => TokenId {
-            dot,
-            kind: Kind::Refresh,
-        },
-        Link::Rotates { .. } => TokenId {
-            dot,
-            kind: Kind::Refresh,
-        },
-    }
 }
 
 fn is_bad_grant(facts: &FactStore, dot: Dot, link: &Option<Link>) -> bool
@@ -136,7 +117,7 @@ fn is_bad(facts: &FactStore, fact: &Fact) -> bool
 fn kills(facts: &FactStore, code: Dot, fact: &Fact) -> bool
     ensures { result ≡ spec.kills (facts_of facts.now) code fact.now }
 {
-    found_dot(code_above(facts, fact.dot), code) && is_bad(facts, fact)
+    names_dot(code_above(facts, fact.dot), code) && is_bad(facts, fact)
 }
 
 // Whether the family of the code is dead.

@@ -1,7 +1,7 @@
 //! Links, the code that a token is under, what is minted, and what is used.
 
 ghost use Rattle.std.specs.Prelude.{◌≡◌};
-ghost use Rattle.std.specs.Option.{option_and_then, option_copied, option_map};
+ghost use Rattle.std.specs.Option.{option_copied, option_map};
 ghost use Rattle.std.specs.FinMap as map;
 ghost use Rattle.tk_family.specs.Families.{rank_of};
 ghost use Rattle.tk_family.specs.Walks.{is_code_link, parent_of, code_by};
@@ -10,9 +10,10 @@ ghost use Rattle.tk_store.specs.Store.{facts_of};
 ghost use Rattle.tk_store.specs.FactSet.{any_fact};
 ghost use Rattle.tk_ledger.specs.Tokens as spec;
 
-use crate::compare::{found_token, same_dots};
+use super::compare::{names_token, same_dots};
+use super::root::Root;
 use tk_fact::{Body, CodeIssued, Fact, Minted};
-use tk_family::{Link, fits, named, rank};
+use tk_family::{Link, fits, named, rank, used};
 use tk_handle::{Dot, TokenId};
 use tk_store::FactStore;
 
@@ -109,7 +110,7 @@ fn issued_in(body: &Body) -> Option<&CodeIssued>
 }
 
 // The fact that issued the code.
-pub(crate) fn issued_at(facts: &FactStore, code: Dot) -> Option<&CodeIssued>
+fn issued_at(facts: &FactStore, code: Dot) -> Option<&CodeIssued>
     ensures { option_copied result ≡ spec.issued_at (map.get (facts_of facts.now)) code }
 {
     match facts.get(code) {
@@ -118,12 +119,22 @@ pub(crate) fn issued_at(facts: &FactStore, code: Dot) -> Option<&CodeIssued>
     }
 }
 
-// The fact that issued the code that the tokens of the fact at the dot are under.
-pub(crate) fn issued_above(facts: &FactStore, dot: Dot) -> Option<&CodeIssued>
-    ensures { option_copied result ≡ option_and_then (spec.issued_at (map.get (facts_of facts.now))) (spec.code_in (map.get (facts_of facts.now)) dot) }
+// The root that is this code.
+fn root_of(facts: &FactStore, code: Dot) -> Option<Root<'_>>
+    ensures { result ≡ spec.root_of (map.get (facts_of facts.now)) code }
+{
+    match issued_at(facts, code) {
+        Some(issued) => Some(Root { code, issued }),
+        None => None,
+    }
+}
+
+// The root of the family of the tokens of the fact at the dot.
+pub(crate) fn root_above(facts: &FactStore, dot: Dot) -> Option<Root<'_>>
+    ensures { result ≡ spec.root_in (map.get (facts_of facts.now)) dot }
 {
     match code_above(facts, dot) {
-        Some(code) => issued_at(facts, code),
+        Some(code) => root_of(facts, code),
         None => None,
     }
 }
@@ -144,7 +155,10 @@ pub(crate) fn minted_at<'a>(facts: &'a FactStore, token: &TokenId) -> Option<Min
 fn uses(fact: &Fact, token: &TokenId) -> bool
     ensures { result ≡ spec.uses token.now fact.now }
 {
-    found_token(&fact.uses(), token)
+    match link_of(&fact.body) {
+        Some(link) => names_token(&used(&link), token),
+        None => false,
+    }
 }
 
 // Whether a fact uses the token.

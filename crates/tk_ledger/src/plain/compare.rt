@@ -2,19 +2,18 @@
 
 ghost use Rattle.std.specs.Prelude.{◌≡◌};
 ghost use Rattle.std.specs.Str.{bytes_eq};
-ghost use Rattle.tk_ledger.specs.Clients.{is_same_dot};
-ghost use Rattle.tk_ledger.specs.Tokens.{is_dot, is_same_token, is_token};
+ghost use Rattle.tk_ledger.specs.Bodies as spec;
 
 use tk_handle::{Dot, TokenId};
 
 pub(crate) fn same_dots(left: Dot, right: Dot) -> bool
-    ensures { result ≡ is_same_dot left right }
+    ensures { result ≡ spec.is_same_dot left right }
 {
     left == right
 }
 
 pub(crate) fn same_tokens(left: &TokenId, right: &TokenId) -> bool
-    ensures { result ≡ is_same_token left.now right.now }
+    ensures { result ≡ spec.is_same_token left.now right.now }
 {
     same_dots(left.dot, right.dot) && left.kind.number() == right.kind.number()
 }
@@ -31,9 +30,9 @@ pub(crate) fn same_digests(left: &[u8; 32], right: &[u8; 32]) -> bool
     same_bytes(left, right)
 }
 
-// Whether a dot is found, and is this one.
-pub(crate) fn found_dot(found: Option<Dot>, dot: Dot) -> bool
-    ensures { result ≡ is_dot found dot }
+// Whether there is a dot, and it is this one.
+pub(crate) fn names_dot(found: Option<Dot>, dot: Dot) -> bool
+    ensures { result ≡ spec.names_dot found dot }
 {
     match found {
         Some(found) => same_dots(found, dot),
@@ -41,9 +40,9 @@ pub(crate) fn found_dot(found: Option<Dot>, dot: Dot) -> bool
     }
 }
 
-// Whether a token is found, and is this one.
-pub(crate) fn found_token(found: &Option<TokenId>, token: &TokenId) -> bool
-    ensures { result ≡ is_token found.now token.now }
+// Whether there is a token, and it is this one.
+pub(crate) fn names_token(found: &Option<TokenId>, token: &TokenId) -> bool
+    ensures { result ≡ spec.names_token found.now token.now }
 {
     match found {
         Some(found) => same_tokens(found, token),

@@ -1,30 +1,4 @@
-use std::marker::Model;
-use tk_fact::{Body, ClientAdded, Fact, Sort};
-use tk_handle::Dot;
-use tk_match::Redirects;
-use tk_scope::Scope;
-use tk_store::FactStore;
-
-/// A client as it was added (RFC 6749, 2).
-#[derive(Drop)]
-pub struct ClientView<'a> {
-    /// What the client is, with the digest of its secret where it has one.
-    pub sort: &'a Sort,
-    /// What it may ask for at most.
-    pub scope: &'a Scope,
-    /// Where its users may be sent back to (RFC 6749, 3.1.2).
-    pub redirects: &'a Redirects,
-    /// Whether no fact retires it.
-    pub live: bool,
-}
-
-impl<'a> Model for ClientView<'a> {
-    ghost use Rattle.tk_ledger.specs.ViewFields.{ClientFields};
-
-    ghost Value = { ClientFields };
-
-    ghost view = { λ v. record { sort = v.sort.now; scope = v.scope.now; redirects = v.redirects.now; live = v.live } };
-}
+//! Clients: what was added at a dot, and whether it was retired.
 
 ghost use Rattle.std.specs.Prelude.{◌≡◌};
 ghost use Rattle.std.specs.Option.{option_copied};
@@ -32,7 +6,11 @@ ghost use Rattle.tk_store.specs.Store.{facts_of};
 ghost use Rattle.tk_ledger.specs.Clients as spec;
 ghost use Rattle.tk_ledger.specs.Views.{client_view};
 
-use crate::compare::same_dots;
+use super::compare::same_dots;
+use crate::client_view::ClientView;
+use tk_fact::{Body, ClientAdded, Fact};
+use tk_handle::Dot;
+use tk_store::FactStore;
 
 pub(crate) fn view_client(facts: &FactStore, dot: Dot) -> Option<ClientView<'_>>
     ensures { result ≡ client_view (facts_of facts.now) dot }
@@ -52,13 +30,13 @@ fn client_at(facts: &FactStore, at: Dot) -> Option<&ClientAdded>
     ensures { option_copied result ≡ spec.client_at (facts_of facts.now) at }
 {
     match facts.get(at) {
-        Some(fact) => client_in(&fact.body),
+        Some(fact) => added_in(&fact.body),
         None => None,
     }
 }
 
-fn client_in(body: &Body) -> Option<&ClientAdded>
-    ensures { option_copied result ≡ spec.client_in body.now }
+fn added_in(body: &Body) -> Option<&ClientAdded>
+    ensures { option_copied result ≡ spec.added_in body.now }
 {
     match body {
         Body::ClientAdded(client) => Some(client),

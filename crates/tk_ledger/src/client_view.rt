@@ -1,0 +1,27 @@
+//! What the ledger shows of a client.
+
+use std::marker::Model;
+use tk_fact::Sort;
+use tk_match::Redirects;
+use tk_scope::Scope;
+
+/// A client as it was added (RFC 6749, 2).
+#[derive(Drop)]
+pub struct ClientView<'a> {
+    /// What the client is, with the digest of its secret where it has one.
+    pub sort: &'a Sort,
+    /// What it may ask for at most.
+    pub scope: &'a Scope,
+    /// Where its users may be sent back to (RFC 6749, 3.1.2).
+    pub redirects: &'a Redirects,
+    /// Whether no fact retires it.
+    pub live: bool,
+}
+
+impl<'a> Model for ClientView<'a> {
+    ghost use Rattle.tk_ledger.specs.ViewFields.{ClientFields};
+
+    ghost Value = { ClientFields };
+
+    ghost view = { λ v. record { sort = v.sort.now; scope = v.scope.now; redirects = v.redirects.now; live = v.live } };
+}
