@@ -7,3 +7,4 @@ pub mod ScriptEvents
 pub mod Printing
 pub mod Tasks
 pub mod Runs
+pub mod OneSet

@@ -4,7 +4,8 @@
 use Rattle.std.specs.Prelude.{ℕ, if◌then◌else◌, List, [], ◌∷◌, ◌++◌, codes, decimal, Option, Some, None}
 use Rattle.std.specs.List.{flat_map, zip}
 use Rattle.tk_handle.specs.declared.dot.Dot.{Dot}
-use Rattle.tk_world.specs.ReplyFields.{ReplyFields, Content, Nothing, JsonText, OtherBytes}
+use Rattle.tk_message.specs.Status.{status_number}
+use Rattle.tk_message.specs.ReplyFields.{ReplyFields, Content, Nothing, JsonText, OtherBytes}
 use Rattle.tk_world.specs.declared.event.Event.{Event}
 use Rattle.tk_world.specs.World.{region_of}
 use Rattle.tk_world.specs.declared.event.Outcome.{Outcome}
@@ -32,7 +33,7 @@ content_text (OtherBytes bytes) = part_text bytes
 
 -- status, location and content, as far as there are any
 abbrev pub reply_text : ReplyFields → List ℕ
-reply_text reply = codes "reply " ++ decimal reply.status ++ location_text reply.location ++ content_text reply.content
+reply_text reply = codes "reply " ++ decimal (status_number reply.status) ++ location_text reply.location ++ content_text reply.content
 
 abbrev pub outcome_text : ℕ → Outcome → List ℕ
 outcome_text region Opened = codes "opened " ++ decimal region

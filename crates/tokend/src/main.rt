@@ -17,6 +17,7 @@ mod line;
 mod options;
 mod print;
 mod program;
+pub mod promises;
 mod script;
 #[cfg(test)]
 mod tests;

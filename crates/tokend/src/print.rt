@@ -5,7 +5,8 @@ ghost use Rattle.tokend.specs.Printed as spec;
 
 use std::io::{self, Write};
 use tk_handle::{Dot, RegionNumber};
-use tk_world::{Event, Outcome, Payload, Reply};
+use tk_message::{Payload, Reply};
+use tk_world::{Event, Outcome};
 
 /// Writes one line for each event, and takes no memory for it.
 pub(crate) fn print_outcomes<O: Write>(
@@ -75,7 +76,7 @@ fn print_last<O: Write>(output: &mut O, last: Option<Dot>) -> io::Result<()>
 fn print_reply<O: Write>(output: &mut O, reply: &Reply) -> io::Result<()>
     ensures { OnOk result (Appends (O.contents output.old) (O.contents output.new) (spec.reply_text reply.now)) }
 {
-    write!(output, "reply {}", reply.status)?;
+    write!(output, "reply {}", reply.status.number())?;
     if let Some(location) = &reply.location {
         write!(output, " {location}")?;
     }
