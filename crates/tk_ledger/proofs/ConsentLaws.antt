@@ -17,7 +17,8 @@ use Rattle.tk_fact.specs.declared.body.Body.{Body}
 use Rattle.tk_fact.specs.declared.body.Body.TheVariants.{ConsentGiven}
 use Rattle.tk_store.specs.FactSet.{FactSet, Facts, AllIn, dot_of}
 use Rattle.tk_store.proofs.EntryLaws.{AllIn-entries}
-use Rattle.tk_store.proofs.PutLaws.{tied, none_is_not_some, some_injective}
+use Rattle.tk_store.proofs.FactSetLaws.{tied}
+use Rattle.tk_store.proofs.PutLaws.{none_is_not_some, some_injective}
 use Rattle.tk_ledger.specs.Clients.{is_withdrawn, gives, grants, consents, consent_for, IsConsentFor, IsLeastConsent}
 use Rattle.tk_ledger.proofs.ClientLaws.{gives_parts, gives_from, unwithdrawn_of, not_withdrawn}
 

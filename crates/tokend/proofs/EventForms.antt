@@ -3,15 +3,19 @@ use Rattle.std.proofs.Common.{◌≡◌, ◌≢◌, ℕ, ◌<◌, ◌≤◌, ◌
 use Rattle.std.specs.List.{All, AllWithin, HoldsAt, slice_split}
 use Rattle.std.proofs.lemmas.List.{get_or-map, length-map}
 use Rattle.std.proofs.lemmas.List.Elements.{All-map, All-from_all_within}
+use Rattle.tk_format.specs.Decimals.{decimal_in}
+use Rattle.tk_format.proofs.DecimalLaws.{decimal_found, no_decimal}
+use Rattle.tk_handle.specs.Ranges.{IsRegion, IsMoment}
 use Rattle.tk_vector.specs.VersionVector.{Vector}
+use Rattle.tk_vector.specs.VectorText.{IsVectorText, IsNoVectorText}
 use Rattle.tk_world.specs.declared.event.Event.{Event}
 use Rattle.tk_world.specs.declared.event.Event.TheVariants.{Open, Request, Pull, Deliver}
 use Rattle.tk_world.specs.declared.request.Request as asked
 use Rattle.tk_world.specs.declared.request.Request.TheVariants.{AddClient, ShowClient, Retire}
 use Rattle.tk_world.specs.Administration.{is_space}
-use Rattle.tokend.specs.Fields.{number_in, number_between, IsRegion, IsMoment, IsFormText}
-use Rattle.tokend.specs.Line.{texts, IsVectorText, IsNoVector, IsRequestForm, IsNoRequest, IsPrintable, IsEventForm, IsNoEventForm, IsEventLine, IsNoEventLine}
-use Rattle.tokend.proofs.NumberTexts.{no_number, no_number_between, spelled, spelled_between, ends, fits}
+use Rattle.tokend.specs.Fields.{region_in, moment_in, IsFormText}
+use Rattle.tokend.specs.Line.{texts, IsRequestForm, IsNoRequest, IsPrintable, IsEventForm, IsNoEventForm, IsEventLine, IsNoEventLine}
+use Rattle.tokend.proofs.NumberTexts.{region_found, moment_found, no_region, no_moment}
 
 -- the text at an index, empty past the end; a slice pattern reads its texts with this default
 abbrev pub text_at : List (Bor (List ℕ)) → ℕ → List ℕ
@@ -61,38 +65,37 @@ request_names name form (Retire id) h = (λ e. absurd (omega (arith, first_lette
 -- ---- fields of an event
 
 module _ (fs : List (Bor (List ℕ))) where
-  pub open_there : (region : ℕ) → length fs ≡ 2 → text_at fs 0 ≡ codes "open" → number_between 1 65535 (text_at fs 1) ≡ Some region → IsEventForm (texts fs) (Open region)
+  pub open_there : (region : ℕ) → length fs ≡ 2 → text_at fs 0 ≡ codes "open" → region_in (text_at fs 1) ≡ Some region → IsEventForm (texts fs) (Open region)
   open_there region long name at =
-      let s = sym (spelled_between 1 65535 (text_at fs 1) region at) in
-      (rw (two fs long, name, s) refl, ends 1 65535 (text_at fs 1) region at)
+      let at_region = region_found (text_at fs 1) region at in
+      (rw (two fs long, name, at_region.1) refl, at_region.0)
 
-  pub deliver_there : (bundle region : ℕ) → length fs ≡ 3 → text_at fs 0 ≡ codes "deliver" → number_in (text_at fs 1) ≡ Some bundle → number_between 1 65535 (text_at fs 2) ≡ Some region → IsEventForm (texts fs) (Deliver bundle region)
+  pub deliver_there : (bundle region : ℕ) → length fs ≡ 3 → text_at fs 0 ≡ codes "deliver" → decimal_in (text_at fs 1) ≡ Some bundle → region_in (text_at fs 2) ≡ Some region → IsEventForm (texts fs) (Deliver bundle region)
   deliver_there bundle region long name number at =
-      let n = sym (spelled (text_at fs 1) bundle number) in
-      let s = sym (spelled_between 1 65535 (text_at fs 2) region at) in
-      (rw (three fs long, name, n, s) refl, fits (text_at fs 1) bundle number, ends 1 65535 (text_at fs 2) region at)
+      let given = decimal_found (text_at fs 1) bundle number in
+      let at_region = region_found (text_at fs 2) region at in
+      (rw (three fs long, name, given.spelled, at_region.1) refl, given.fits, at_region.0)
 
-  pub pull_there : (region : ℕ) (vector : Vector) → length fs ≡ 4 → text_at fs 0 ≡ codes "pull" → text_at fs 3 ≡ codes "-" → number_between 1 65535 (text_at fs 1) ≡ Some region → IsVectorText (text_at fs 2) vector → IsEventForm (texts fs) (Pull region vector)
+  pub pull_there : (region : ℕ) (vector : Vector) → length fs ≡ 4 → text_at fs 0 ≡ codes "pull" → text_at fs 3 ≡ codes "-" → region_in (text_at fs 1) ≡ Some region → IsVectorText (text_at fs 2) vector → IsEventForm (texts fs) (Pull region vector)
   pull_there region vector long name last at is =
-      let s = sym (spelled_between 1 65535 (text_at fs 1) region at) in
-      (text_at fs 2, rw (four fs long, name, last, s) refl, ends 1 65535 (text_at fs 1) region at, is)
+      let at_region = region_found (text_at fs 1) region at in
+      (text_at fs 2, rw (four fs long, name, last, at_region.1) refl, at_region.0, is)
 
-  pub request_there : (region now : ℕ) (words : List ℕ) (request : asked.Request) → 3 ≤ length fs → number_between 1 65535 (text_at fs 1) ≡ Some region → number_between 0 253402300799 (text_at fs 2) ≡ Some now → IsRequestForm (text_at fs 0) (texts (drop 3 fs)) request → IsEventForm (texts fs) (Request region now words request)
+  pub request_there : (region now : ℕ) (words : List ℕ) (request : asked.Request) → 3 ≤ length fs → region_in (text_at fs 1) ≡ Some region → moment_in (text_at fs 2) ≡ Some now → IsRequestForm (text_at fs 0) (texts (drop 3 fs)) request → IsEventForm (texts fs) (Request region now words request)
   request_there region now words request long at then is =
-      let s = sym (spelled_between 1 65535 (text_at fs 1) region at) in
-      let n = sym (spelled_between 0 253402300799 (text_at fs 2) now then) in
-      (text_at fs 0, texts (drop 3 fs), rw (three_up fs long, s, n) refl, ends 1 65535 (text_at fs 1) region at, (ends 0 253402300799 (text_at fs 2) now then).1, is)
+      let at_region = region_found (text_at fs 1) region at in
+      let at_moment = moment_found (text_at fs 2) now then in
+      (text_at fs 0, texts (drop 3 fs), rw (three_up fs long, at_region.1, at_moment.1) refl, at_region.0, at_moment.0, is)
 
 -- ---- fields of no event
 
 module _ (fs : List (Bor (List ℕ))) where
   -- `open` alone has two fields
-  pub open_bad : length fs ≡ 2 → number_between 1 65535 (text_at fs 1) ≡ None → IsNoEventForm (texts fs)
+  pub open_bad : length fs ≡ 2 → region_in (text_at fs 1) ≡ None → IsNoEventForm (texts fs)
   open_bad long none (Open region) h =
       let parts = sym (two fs long) ∙ h.0 in
       let same : text_at fs 1 ≡ decimal region = cc in
-      let r = h.1 in
-      no_number_between 1 65535 (text_at fs 1) region none r.0 r.1 (omega arith) same
+      no_region (text_at fs 1) region none h.1 same
   open_bad long none (Request region now words request) h = absurd (omega (arith, count fs _ h.2))
   open_bad long none (Pull region vector) h = absurd (omega (arith, count fs _ h.1))
   open_bad long none (Deliver bundle region) h = absurd (omega (arith, count fs _ h.0))
@@ -109,11 +112,11 @@ module _ (fs : List (Bor (List ℕ))) where
       let parts = sym (three fs long) ∙ h.0 in
       none bundle region (cc) h.1 (cc) h.2
 
-  pub deliver_bad_bundle : length fs ≡ 3 → text_at fs 0 ≡ codes "deliver" → number_in (text_at fs 1) ≡ None → IsNoEventForm (texts fs)
-  deliver_bad_bundle long name none = deliver_only long name (λ bundle region same high at is. no_number (text_at fs 1) bundle none high same)
+  pub deliver_bad_bundle : length fs ≡ 3 → text_at fs 0 ≡ codes "deliver" → decimal_in (text_at fs 1) ≡ None → IsNoEventForm (texts fs)
+  deliver_bad_bundle long name none = deliver_only long name (λ bundle region same high at is. no_decimal (text_at fs 1) bundle none high same)
 
-  pub deliver_bad_region : length fs ≡ 3 → text_at fs 0 ≡ codes "deliver" → number_between 1 65535 (text_at fs 2) ≡ None → IsNoEventForm (texts fs)
-  deliver_bad_region long name none = deliver_only long name (λ bundle region same high at is. no_number_between 1 65535 (text_at fs 2) region none is.0 is.1 (omega arith) at)
+  pub deliver_bad_region : length fs ≡ 3 → text_at fs 0 ≡ codes "deliver" → region_in (text_at fs 2) ≡ None → IsNoEventForm (texts fs)
+  deliver_bad_region long name none = deliver_only long name (λ bundle region same high at is. no_region (text_at fs 2) region none is at)
 
   -- nor are four that begin with `pull`
   pull_only : length fs ≡ 4 → text_at fs 0 ≡ codes "pull" → ((region : ℕ) (vector : Vector) → text_at fs 1 ≡ decimal region → IsRegion region → IsVectorText (text_at fs 2) vector → ⊥) → IsNoEventForm (texts fs)
@@ -128,10 +131,10 @@ module _ (fs : List (Bor (List ℕ))) where
       none region vector (cc) h.2 (subst (λ t. IsVectorText t vector) entries h.3)
   pull_only long name none (Deliver bundle region) h = absurd (omega (arith, count fs _ h.0))
 
-  pub pull_bad_region : length fs ≡ 4 → text_at fs 0 ≡ codes "pull" → number_between 1 65535 (text_at fs 1) ≡ None → IsNoEventForm (texts fs)
-  pull_bad_region long name none = pull_only long name (λ region vector at is entries. no_number_between 1 65535 (text_at fs 1) region none is.0 is.1 (omega arith) at)
+  pub pull_bad_region : length fs ≡ 4 → text_at fs 0 ≡ codes "pull" → region_in (text_at fs 1) ≡ None → IsNoEventForm (texts fs)
+  pull_bad_region long name none = pull_only long name (λ region vector at is entries. no_region (text_at fs 1) region none is at)
 
-  pub pull_bad_vector : length fs ≡ 4 → text_at fs 0 ≡ codes "pull" → IsNoVector (text_at fs 2) → IsNoEventForm (texts fs)
+  pub pull_bad_vector : length fs ≡ 4 → text_at fs 0 ≡ codes "pull" → IsNoVectorText (text_at fs 2) → IsNoEventForm (texts fs)
   pull_bad_vector long name none = pull_only long name (λ region vector at is entries. none vector entries)
 
   -- other fields, of which there are three or more, are a request's if they are an event's
@@ -156,11 +159,11 @@ module _ (fs : List (Bor (List ℕ))) where
       let parts = sym (three fs long) ∙ h.0 in
       other.deliver long (cc)
 
-  pub request_bad_region : IsOther → number_between 1 65535 (text_at fs 1) ≡ None → IsNoEventForm (texts fs)
-  request_bad_region other none = request_only other (λ region now request at is then late form. no_number_between 1 65535 (text_at fs 1) region none is.0 is.1 (omega arith) at)
+  pub request_bad_region : IsOther → region_in (text_at fs 1) ≡ None → IsNoEventForm (texts fs)
+  request_bad_region other none = request_only other (λ region now request at is then late form. no_region (text_at fs 1) region none is at)
 
-  pub request_bad_moment : IsOther → number_between 0 253402300799 (text_at fs 2) ≡ None → IsNoEventForm (texts fs)
-  request_bad_moment other none = request_only other (λ region now request at is then late form. no_number_between 0 253402300799 (text_at fs 2) now none (omega arith) late (omega arith) then)
+  pub request_bad_moment : IsOther → moment_in (text_at fs 2) ≡ None → IsNoEventForm (texts fs)
+  request_bad_moment other none = request_only other (λ region now request at is then late form. no_moment (text_at fs 2) now none late then)
 
 -- ---- fields of no request
 

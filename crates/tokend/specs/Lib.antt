@@ -1,7 +1,7 @@
 -- The words of this crate:
 --   CommandLine   the command line, as clap's contracts see it
 --   Task          what the words ask for
---   Fields        the numbers, dots and texts that a line's fields stand for
+--   Fields        the numbers and texts that a line's fields stand for
 --   Line          the lines that are events, and the words that these draw
 --   Script        the events of a script, and its first bad line
 --   Printed       what is printed of an event

@@ -1,38 +1,23 @@
 -- The lines of a script that are events, and the words that their events draw.
---   IsVectorText    the vector that a field stands for
 --   IsRequestForm   the request of a line's first field and of those after the moment
 --   IsEventForm     the event of a line's fields
 --   IsEventLine     the event of a line
 --   HasWords        the words of a request; words_at, those of an event by its place
-use Rattle.std.specs.Prelude.{◌≡◌, ◌⊎◌, ◌≤◌, ◌<◌, ◌+◌, ◌*◌, ◌^◌, ⊤, ℕ, List, [], ◌∷◌, map, length, codes, decimal, string_bytes}
+use Rattle.std.specs.Prelude.{◌≡◌, ◌≤◌, ◌<◌, ◌+◌, ◌*◌, ◌^◌, ⊤, ℕ, List, [], ◌∷◌, map, length, codes, decimal, string_bytes}
 use Rattle.std.specs.Borrow.{Bor}
-use Rattle.std.specs.FinMap as fin
-use Rattle.std.specs.List.{All, fold, slice_split}
-use Rattle.tk_handle.specs.declared.dot.Dot.{Dot}
-use Rattle.tk_vector.specs.VersionVector.{Vector, raised}
+use Rattle.std.specs.List.{All, slice_split}
+use Rattle.tk_handle.specs.Ranges.{IsRegion, IsMoment}
+use Rattle.tk_vector.specs.VectorText.{IsVectorText}
 use Rattle.tk_world.specs.declared.event.Event.{Event}
 use Rattle.tk_world.specs.declared.event.Event.TheVariants.{Open, Request, Pull, Deliver}
 use Rattle.tk_world.specs.declared.request.Request as asked
 use Rattle.tk_world.specs.declared.request.Request.TheVariants.{AddClient, ShowClient, Retire}
 use Rattle.tk_world.specs.Administration.{is_space}
-use Rattle.tokend.specs.Fields.{IsRegion, IsMoment, IsDotsText, IsFormText}
+use Rattle.tokend.specs.Fields.{IsFormText}
 
 -- the bytes are spaces and visible ASCII
 abbrev pub IsPrintable : List ℕ → Type 0
 IsPrintable line = All (λ b. (32 ≤ b) × (b ≤ 126)) line
-
--- each dot's serial at its region
-abbrev pub vector_of : List Dot → Vector
-vector_of dots = fold (λ vector dot. raised vector dot.region dot.serial) fin.empty dots
-
--- `-` is the empty vector, and else there is an entry for each dot, and their regions rise
-abbrev pub IsVectorText : List ℕ → Vector → Type 0
-IsVectorText text vector = ((text ≡ codes "-") × (vector ≡ fin.empty))
-    ⊎ ((dots : List Dot) × IsDotsText text dots × (vector ≡ vector_of dots))
-
--- the text is no vector's
-abbrev pub IsNoVector : List ℕ → Type 0
-IsNoVector text = (vector : Vector) → ¬ (IsVectorText text vector)
 
 -- a `&[&str]` as texts
 abbrev pub texts : List (Bor (List ℕ)) → List (List ℕ)

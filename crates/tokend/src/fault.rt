@@ -2,10 +2,11 @@ ghost use Rattle.std.specs.Prelude.{◌≡◌};
 ghost use Rattle.std.specs.IoError.{error_kind};
 ghost use Rattle.tokend.specs.declared.fault.Fault.TheVariants as fault;
 ghost use Rattle.tokend.specs.declared.fault.LineError.TheVariants as line;
-ghost use Rattle.tokend.specs.Status.{fault_text, input_fault, status_of};
+ghost use Rattle.tokend.specs.Status.{fault_text, input_fault, line_fault, status_of};
 
 use std::alloc::{AllocError, AllocFailed};
 use std::{fmt, io};
+use tk_format::ReadError;
 
 /// What ends the program before its end.
 #[derive(Debug, Drop)]
@@ -101,5 +102,16 @@ impl<T: Drop> From<AllocFailed<T>> for LineError {
 
     fn from(_error: AllocFailed<T>) -> LineError {
         LineError::Memory
+    }
+}
+
+impl From<ReadError> for LineError {
+    ghost from_gives = { λ error e. e ≡ line_fault error };
+
+    fn from(error: ReadError) -> LineError {
+        match error {
+            ReadError::Malformed => LineError::Bad,
+            ReadError::Memory => LineError::Memory,
+        }
     }
 }

@@ -1,9 +1,10 @@
 ghost use Rattle.std.specs.Prelude.{◌≡◌, ◌↔◌, IfOk, IfSome, IsErrOf, IsSome};
-ghost use Rattle.tokend.specs.Line.{IsPrintable, texts, IsVectorText, IsNoVector, IsRequestForm, IsNoRequest, IsEventForm, IsNoEventForm, IsEventLine, IsNoEventLine, HasWords};
+ghost use Rattle.tokend.specs.Line.{IsPrintable, texts, IsRequestForm, IsNoRequest, IsEventForm, IsNoEventForm, IsEventLine, IsNoEventLine, HasWords};
 
 use crate::fault::LineError;
-use crate::fields::{dots, fields, is_form_text, moment, number, region};
+use crate::fields::{fields, is_form_text, moment, region};
 use std::alloc::Global;
+use tk_format::read_decimal;
 use tk_vector::VersionVector;
 use tk_world::{Event, Request};
 
@@ -41,10 +42,10 @@ fn event_of(alloc: Global, fields: &[&str], words: [u64; 6]) -> Result<Event, Li
         ["open", at] => Ok(Event::Open(region(at).ok_or(LineError::Bad)?)),
         ["pull", at, entries, "-"] => Ok(Event::Pull {
             region: region(at).ok_or(LineError::Bad)?,
-            vector: vector(alloc, entries)?,
+            vector: VersionVector::read_text(alloc, entries.as_bytes())?,
         }),
         ["deliver", bundle, to] => Ok(Event::Deliver {
-            bundle: number(bundle).ok_or(LineError::Bad)?,
+            bundle: read_decimal(bundle.as_bytes()).ok_or(LineError::Bad)?,
             region: region(to).ok_or(LineError::Bad)?,
         }),
         [name, at, now, form @ ..] => Ok(Event::Request {
@@ -88,19 +89,4 @@ fn request(alloc: Global, name: &str, form: &[&str]) -> Result<Request, LineErro
         }),
         _ => Err(LineError::Bad),
     }
-}
-
-// The vector of a field.
-fn vector(alloc: Global, entries: &str) -> Result<VersionVector, LineError>
-    ensures found { IfOk result (IsVectorText entries.now) }
-    ensures bad { IsErrOf result LineError.Bad → IsNoVector entries.now }
-{
-    let mut vector = VersionVector::new(alloc);
-    if entries == "-" {
-        return Ok(vector);
-    }
-    for dot in &dots(alloc, entries)? {
-        vector.raise(dot.region(), dot.serial())?;
-    }
-    Ok(vector)
 }

@@ -68,7 +68,7 @@ fn print_last<O: Write>(output: &mut O, last: Option<Dot>) -> io::Result<()>
     ensures { OnOk result (Appends (O.contents output.old) (O.contents output.new) (spec.last_text last)) }
 {
     match last {
-        Some(dot) => write!(output, "{}:{}", dot.region().number(), dot.serial()),
+        Some(dot) => write!(output, "{dot}"),
         None => write!(output, "-"),
     }
 }

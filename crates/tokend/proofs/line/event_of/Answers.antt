@@ -1,7 +1,9 @@
-use Rattle.std.proofs.Common.{◌≡◌, ◌-◌, length, take, drop, sym, subst, ◌∙◌, Some, None, arith, rules}
+use Rattle.std.proofs.Common.{◌≡◌, ◌-◌, length, take, drop, sym, ap, subst, ◌∙◌, Some, None, arith, rules}
 use borrow.Author.Tests.{tests}
 use Rattle.std.proofs.lemmas.Grind.{common_steps}
 use Rattle.std.proofs.lemmas.List.{take_rest}
+use Rattle.tk_format.specs.Decimals.{decimal_in}
+use Rattle.tk_vector.specs.VectorText.{IsNoVectorText}
 use Rattle.tokend.specs.Line.{texts, IsRequestForm}
 use Rattle.tokend.proofs.EventForms.{text_at, open_there, deliver_there, pull_there, request_there, open_bad, deliver_bad_bundle, deliver_bad_region, pull_bad_region, pull_bad_vector, IsOther, request_bad_region, request_bad_moment}
 use Rattle.tokend.proofs.line.event_of.Goals as goal
@@ -13,8 +15,8 @@ returns-in_err-ok_or-in-open-clause-bad c _ =
 
 pub returns-in_err-ok_or-in-deliver-clause-bad : goal.returns-in_err-ok_or-in-deliver-clause-bad
 returns-in_err-ok_or-in-deliver-clause-bad c _ =
-    let none : c.number.result ≡ None = grind arith in
-    deliver_bad_bundle c.args.fields.now (omega arith) (search (rules, tests)) (sym c.number.ensures ∙ none)
+    let none : c.read_decimal.result ≡ None = grind arith in
+    deliver_bad_bundle c.args.fields.now (omega arith) (search (rules, tests)) (sym (ap decimal_in c.as_bytes.ensures.value) ∙ sym c.read_decimal.ensures.value ∙ none)
 
 pub returns-in_err-ok_or-in-deliver-2-clause-bad : goal.returns-in_err-ok_or-in-deliver-2-clause-bad
 returns-in_err-ok_or-in-deliver-2-clause-bad c _ =
@@ -26,8 +28,8 @@ returns-in_err-ok_or-in-pull-clause-bad c _ =
     let none : c.region-in-pull.result ≡ None = grind arith in
     pull_bad_region c.args.fields.now (omega arith) (search (rules, tests)) (sym c.region-in-pull.ensures ∙ none)
 
-pub returns-in_err-vector-in-pull-clause-bad : goal.returns-in_err-vector-in-pull-clause-bad
-returns-in_err-vector-in-pull-clause-bad c e = pull_bad_vector c.args.fields.now (omega arith) (search (rules, tests)) (c.vector.ensures.bad (grind arith))
+pub returns-in_err-read_text-in-pull-clause-bad : goal.returns-in_err-read_text-in-pull-clause-bad
+returns-in_err-read_text-in-pull-clause-bad c e = pull_bad_vector c.args.fields.now (omega arith) (search (rules, tests)) (subst IsNoVectorText c.as_bytes-in-pull.ensures.value (c.read_text.ensures.malformed (grind arith)))
 
 pub returns-in_err-ok_or-in-len3-up-clause-bad : goal.returns-in_err-ok_or-in-len3-up-clause-bad
 returns-in_err-ok_or-in-len3-up-clause-bad c _ =
@@ -48,12 +50,12 @@ returns-in_ok-ok_or-in-open-clause-found c =
 
 pub returns-in_ok-ok_or-in-deliver-2-clause-found : goal.returns-in_ok-ok_or-in-deliver-2-clause-found
 returns-in_ok-ok_or-in-deliver-2-clause-found c =
-    let bundle : c.number.result ≡ Some c.in_ok-ok_or-in-deliver.field-0 = grind arith in
+    let bundle : c.read_decimal.result ≡ Some c.in_ok-ok_or-in-deliver.field-0 = grind arith in
     let region : c.region-in-deliver.result ≡ Some c.in_ok-ok_or-in-deliver-2.field-0 = grind arith in
-    deliver_there c.args.fields.now _ _ (omega arith) (search (rules, tests)) (sym c.number.ensures ∙ bundle) (sym c.region-in-deliver.ensures ∙ region)
+    deliver_there c.args.fields.now _ _ (omega arith) (search (rules, tests)) (sym (ap decimal_in c.as_bytes.ensures.value) ∙ sym c.read_decimal.ensures.value ∙ bundle) (sym c.region-in-deliver.ensures ∙ region)
 
-pub returns-in_ok-vector-in-pull-clause-found : goal.returns-in_ok-vector-in-pull-clause-found
-returns-in_ok-vector-in-pull-clause-found c =
+pub returns-in_ok-read_text-in-pull-clause-found : goal.returns-in_ok-read_text-in-pull-clause-found
+returns-in_ok-read_text-in-pull-clause-found c =
     let region : c.region-in-pull.result ≡ Some c.in_ok-ok_or-in-pull.field-0 = grind arith in
     pull_there c.args.fields.now _ _ (omega arith) (search (rules, tests)) (search (rules, tests)) (sym c.region-in-pull.ensures ∙ region) (search rules)
 
