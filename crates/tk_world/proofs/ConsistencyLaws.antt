@@ -12,12 +12,13 @@ use Rattle.std.proofs.lemmas.Bool.Decides.{nat_tests}
 use Rattle.std.proofs.lemmas.List.{length-take}
 use Rattle.tk_handle.specs.declared.dot.Dot.{Dot}
 use Rattle.tk_handle.specs.Dot.{dot_cmp}
+use Rattle.tk_handle.specs.Ranges.{greatest_serial}
 use Rattle.tk_fact.specs.Check.{refusal_of}
 use Rattle.tk_fact.specs.declared.body.Body.{Body}
 use Rattle.tk_vector.specs.VersionVector.{Vector}
 use Rattle.tk_store.specs.FactSet.{FactSet, Facts, AllIn, IsSubset, with_facts}
 use Rattle.tk_store.specs.Beyond.{beyond, is_beyond}
-use Rattle.tk_store.specs.NextDot.{greatest_serial, next_serial, next_dot}
+use Rattle.tk_store.specs.NextDot.{last_serial, next_serial, next_dot}
 use Rattle.tk_store.specs.Joining.{JoinsFacts}
 use Rattle.tk_store.proofs.EntryLaws.{AllIn-entries}
 use Rattle.tk_store.proofs.JoiningLaws.{joins_is_with_facts}
@@ -223,12 +224,12 @@ new_is_consistent settings low = (
 one_under : (region r serial rest cap : ℕ) → serial ≤ cap → rest ≤ cap → max (if region == r then serial else 0) rest ≤ cap
 one_under region r serial rest cap p q = grind (arith, nat_tests)
 
-all_under : (s : State) (k : IsConsistent s) (r : ℕ) (es : Facts) → AllIn k.0 es → greatest_serial r es ≤ s.settings.cap
+all_under : (s : State) (k : IsConsistent s) (r : ℕ) (es : Facts) → AllIn k.0 es → last_serial r es ≤ s.settings.cap
 all_under s k r [] a = omega arith
-all_under s k r (e ∷ es) a = one_under e.0.region r e.0.serial (greatest_serial r es) s.settings.cap (k.1.capped e.0 e.1 a.0) (all_under s k r es a.1)
+all_under s k r (e ∷ es) a = one_under e.0.region r e.0.serial (last_serial r es) s.settings.cap (k.1.capped e.0 e.1 a.0) (all_under s k r es a.1)
 
 -- a region's next serial is at most one above the cap, so it is one
-pub next_under : (s : State) → IsConsistent s → (r : ℕ) (F : FactSet) → map.get s.regions r ≡ Some F → next_serial F r < 2 ^ 63
+pub next_under : (s : State) → IsConsistent s → (r : ℕ) (F : FactSet) → map.get s.regions r ≡ Some F → next_serial F r ≤ greatest_serial
 next_under s k r F at =
     let most = all_under s k r (map.entries F) (AllIn-subset F k.0 (map.entries F) (k.1.held r F at) (AllIn-entries F)) in
     omega (arith, k.1.low)

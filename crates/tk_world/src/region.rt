@@ -24,10 +24,11 @@ impl Model for Region {
     ghost view = { λ r. (r.number, r.ledger) };
 }
 
-ghost use Rattle.std.specs.Prelude.{◌≡◌, ◌≤◌, ◌<◌, ◌^◌, length, IfOk, OnOk, None};
+ghost use Rattle.std.specs.Prelude.{◌≡◌, ◌≤◌, length, IfOk, OnOk, None};
 ghost use Rattle.std.specs.FinMap as map;
 ghost use Rattle.tk_bundle.specs.Bundle.{bundle};
 ghost use Rattle.tk_bundle.specs.Page as pages;
+ghost use Rattle.tk_handle.specs.Ranges.{greatest_serial};
 ghost use Rattle.tk_message.specs.Decision.{Passes};
 ghost use Rattle.tk_store.specs.FactSet.{FactSet, IsFactSet, AllIn, IsSubset};
 ghost use Rattle.tk_store.specs.NextDot.{next_dot, next_serial};
@@ -73,7 +74,7 @@ impl Region {
         settings: &Settings,
         asked: &Asked<'_>,
     ) -> Outcome
-        requires { next_serial (known_in self.old.1) self.old.0 < 2 ^ 63 }
+        requires { next_serial (known_in self.old.1) self.old.0 ≤ greatest_serial }
         ensures number { self.new.0 ≡ self.old.0 }
         ensures commits { Commits (next_dot (known_in self.old.1) self.old.0) (spec.decided settings.now self.old.1 self.old.0 asked.entry.now) self.old.1 result self.new.1 }
     {
@@ -109,7 +110,7 @@ fn answer_at(
     number: RegionNumber,
     asked: &Asked<'_>,
 ) -> Outcome
-    requires { next_serial (known_in ledger.old) number < 2 ^ 63 }
+    requires { next_serial (known_in ledger.old) number ≤ greatest_serial }
     ensures { Commits (next_dot (known_in ledger.old) number) (spec.decided settings.now ledger.old number asked.entry.now) ledger.old result ledger.new }
 {
     let place = place_in(settings, ledger, number);
@@ -121,10 +122,10 @@ fn answer_at(
 
 // Where the region's next fact stands.
 fn place_in(settings: &Settings, ledger: &Ledger, number: RegionNumber) -> Place
-    requires { next_serial (known_in ledger.now) number < 2 ^ 63 }
+    requires { next_serial (known_in ledger.now) number ≤ greatest_serial }
     ensures { result ≡ spec.place_in settings.now ledger.now number }
 {
-    let next = Dot::new(number, ledger.store().next_serial(number)).unwrap();
+    let next = ledger.store().next_dot(number).unwrap();
     Place::new(next, settings.lives())
 }
 

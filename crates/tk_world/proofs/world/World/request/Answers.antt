@@ -1,5 +1,6 @@
-use Rattle.std.proofs.Common.{[], ℕ, ◌<◌, ◌^◌, ap, sym, subst, ◌∙◌, refl}
+use Rattle.std.proofs.Common.{[], ℕ, ◌≤◌, ap, sym, subst, ◌∙◌, refl}
 use Rattle.std.specs.FinMap as map
+use Rattle.tk_handle.specs.Ranges.{greatest_serial}
 use Rattle.tk_store.specs.NextDot.{next_serial}
 use Rattle.tk_world.specs.declared.event.Event.TheVariants.{Request}
 use Rattle.tk_world.proofs.ConsistencyLaws.{next_under}
@@ -26,7 +27,7 @@ answer-requires c =
     let s = state w.settings w.regions.items w.bundles.items in
     let held = held_at w.settings w.regions.items w.bundles.items c.self.invariant.0 c.args.region c.in-Ok.at at p is in
     let number = number_at w.settings w.regions.items w.bundles.items c.self.invariant.0 c.args.region c.in-Ok.at at p is in
-    subst (λ (n : ℕ). next_serial p.1 n < 2 ^ 63) (sym number) (next_under s c.self.invariant.1 c.args.region p.1 held)
+    subst (λ (n : ℕ). next_serial p.1 n ≤ greatest_serial) (sym number) (next_under s c.self.invariant.1 c.args.region p.1 held)
 
 pub invariant_of-self : goal.invariant_of-self
 invariant_of-self c =
