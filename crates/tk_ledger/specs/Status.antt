@@ -107,7 +107,7 @@ pub record IsMintedToken (body_at : Bodies) (h : Handle) : Type 0 where
 abbrev pub IsKnownToken : Bodies → Handle → Type 0
 IsKnownToken body_at h = IsMintedToken body_at h × IsInFamily (links_in body_at) h.id.dot
 
--- what each status says of a handle; no two of these hold together (own)
+-- what each of the four says of a handle; no two of the four hold together (own)
 abbrev pub Says : Bodies → Handle → Status → Type 0
 -- no fact stands at the token's dot
 Says body_at h Unseen = body_at h.id.dot ≡ None

@@ -3,7 +3,8 @@
 use super::facts::{
     client_added, client_retired, consent_given, consent_withdrawn, dot, handle, read_consent_given,
 };
-use super::{CLIENT, CONSENT, add, after, before_grants, in_order, revoked_in_advance};
+use super::orders::{add, in_order};
+use super::{CLIENT, CONSENT, after, before_grants, revoked_in_advance};
 use crate::{ClientView, ConsentView, Ledger};
 use std::alloc::Global;
 use std::test::Fail;
@@ -39,8 +40,10 @@ fn a_client_and_a_consent_are_shown(rt: HostRuntime) -> Result<(), Fail> {
         Some(shown) => is_consent_of_ann(&shown, client),
         None => false,
     };
-    assert!(rt; is_client_shown && is_consent_shown);
-    assert!(rt; ledger.client(consent).is_none() && ledger.consent(client).is_none());
+    assert!(rt; is_client_shown, "the client");
+    assert!(rt; is_consent_shown, "the consent");
+    assert!(rt; ledger.client(consent).is_none(), "a consent is no client");
+    assert!(rt; ledger.consent(client).is_none(), "a client is no consent");
     Ok(())
 }
 
@@ -72,11 +75,18 @@ fn the_least_consent_that_includes_the_scope_is_found(rt: HostRuntime) -> Result
     let alloc = rt.alloc();
     let (client, first, last) = (dot(CLIENT)?, dot((1, 2))?, dot((1, 5))?);
     let ledger = consents(alloc)?;
-    assert!(rt; found(alloc, &ledger, client, b"ann", b"read")? == Some(first));
-    assert!(rt; found(alloc, &ledger, client, b"ann", b"write read")? == Some(last));
-    assert!(rt; found(alloc, &ledger, client, b"ann", b"admin read")?.is_none());
-    assert!(rt; found(alloc, &ledger, client, b"bob", b"read")?.is_none());
-    assert!(rt; found(alloc, &ledger, first, b"ann", b"read")?.is_none());
+    let ann = b"ann".as_slice();
+    for (row, client, subject, scope, want) in [
+        ("the least", client, ann, b"read".as_slice(), Some(first)),
+        // That at 1:3 includes the scope and is less, but was withdrawn.
+        ("the only", client, ann, b"write read", Some(last)),
+        ("a wider scope", client, ann, b"admin read", None),
+        ("another subject", client, b"bob", b"read", None),
+        ("another client", first, ann, b"read", None),
+    ] {
+        let found = found(alloc, &ledger, client, subject, scope)?;
+        assert!(rt; found == want, "{row}: {found:?}");
+    }
     Ok(())
 }
 
@@ -88,11 +98,15 @@ fn a_revocation_is_told_by_token_digest_and_client(rt: HostRuntime) -> Result<()
     let (client, another) = (dot(CLIENT)?, dot((1, 4))?);
     let facts = revoked_in_advance(alloc, &token, CLIENT)?;
     let ledger = in_order(alloc, &facts, 0)?;
-    assert!(rt; ledger.revoked(&token.id, &token.digest(), client));
-    assert!(rt; !ledger.revoked(&token.id, &token.digest(), another));
-    assert!(rt; !ledger.revoked(&token.id, &other.digest(), client));
     let refresh = handle((1, 5), Kind::Refresh, 48)?;
-    assert!(rt; !ledger.revoked(&refresh.id, &token.digest(), client));
+    for (row, id, digest, client, want) in [
+        ("as it was revoked", token.id, token.digest(), client, true),
+        ("another client", token.id, token.digest(), another, false),
+        ("another digest", token.id, other.digest(), client, false),
+        ("another kind", refresh.id, token.digest(), client, false),
+    ] {
+        assert!(rt; ledger.revoked(&id, &digest, client) == want, "{row}");
+    }
     Ok(())
 }
 
