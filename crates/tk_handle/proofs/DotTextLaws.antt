@@ -3,13 +3,12 @@
 --   reads_parted                so it finds exactly the dots of texts
 --   reads_id                    and exactly the dots of ids, whatever the letter is
 --   parted_injective            two dots of one text are one
-use Rattle.std.proofs.Common.{◌≡◌, ◌≢◌, ℕ, ◌+◌, ◌<◌, ◌≤◌, ◌^◌, Bool, true, false, ◌&&◌, ◌==◌, cond, List, [], ◌∷◌, ◌++◌, length, get_or, take, drop, Option, Some, None, IfSome, IfNone, MatchOption, suc, refl, sym, ap, subst, ◌∙◌, arith, decimal, inl, inr}
+use Rattle.std.proofs.Common.{◌≡◌, ◌≢◌, ℕ, ◌+◌, ◌<◌, ◌≤◌, ◌^◌, true, false, ◌&&◌, ◌==◌, cond, List, [], ◌∷◌, ◌++◌, length, get_or, take, drop, Option, Some, None, IfSome, IfNone, MatchOption, suc, refl, sym, ap, subst, ◌∙◌, arith, decimal, inl, inr}
 use Rattle.std.specs.Int.{IsInRange}
 use Rattle.std.specs.List.{position_or_len, before_first, after_first}
-use Rattle.std.specs.Str.Parse.{AllDigits}
 use Rattle.std.proofs.lemmas.Bool.{cases_lt}
 use Rattle.std.proofs.lemmas.Bool.Decides.{nat_tests}
-use Rattle.std.proofs.lemmas.Fmt.{digits_decimal, decimal_nonempty, decimal_injective}
+use Rattle.std.proofs.lemmas.Fmt.{digits_decimal, decimal_nonempty}
 use Rattle.std.proofs.lemmas.Grind.{common_steps}
 use Rattle.std.proofs.lemmas.List.{length-drop}
 use Rattle.std.proofs.lemmas.List.Sums.{position_or_len_is, split_at_first, passes_at_first}
@@ -19,7 +18,7 @@ use Rattle.tk_format.proofs.DecimalLaws.{own, decimal_back, decimal_found}
 use Rattle.tk_handle.specs.declared.dot.Dot.{Dot}
 use Rattle.tk_handle.specs.Dot.{IsDot}
 use Rattle.tk_handle.specs.Ranges.{is_region, is_serial, IsRegion, IsSerial}
-use Rattle.tk_handle.specs.DotText.{colon, dash, parted_text, id_text, IsPartedText, IsDotText, IsNoDotText, IsIdText, IsNoIdText, ReadsId, dot_at, parted_in, id_in}
+use Rattle.tk_handle.specs.DotText.{colon, dash, parted_text, id_text, IsPartedText, IsDotText, IsNoDotText, IsIdText, ReadsId, dot_at, parted_in, id_in}
 
 -- ---- lists
 

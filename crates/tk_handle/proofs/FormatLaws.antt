@@ -1,5 +1,5 @@
 -- The law of each format of this crate: what is read is spelled so, and what is spelled so is read.
-use Rattle.std.proofs.Common.{◌≡◌, ℕ, ◌<◌, ◌^◌, true, ltb, eqb, cond, [], ◌∷◌, Some, None, refl, sym, arith}
+use Rattle.std.proofs.Common.{◌≡◌, ℕ, true, eqb, cond, [], ◌∷◌, Some, None, refl, sym, arith}
 use Rattle.std.proofs.lemmas.Bool.Decides.{nat_tests}
 use Rattle.tk_format.specs.Exact.{IsExact, some_is}
 use Rattle.tk_format.specs.Laws.{u16_exact, u64_exact, both_exact, only_exact, shaped_exact, repeated_exact, after_exact, coded_exact, case_takes}

@@ -6,7 +6,7 @@
 --   IsIdText      the text is a dot's id behind that letter; IsNoIdText, it is none's
 --   ReadsId       a reading gives the dot of an id, and nothing for any other text
 --   id_in         the dot whose id a text is
-use Rattle.std.specs.Prelude.{◌≡◌, ℕ, Bool, ◌&&◌, ◌==◌, if◌then◌else◌, List, [], ◌∷◌, ◌++◌, decimal, Option, Some, None}
+use Rattle.std.specs.Prelude.{◌≡◌, ℕ, ◌&&◌, ◌==◌, if◌then◌else◌, List, [], ◌∷◌, ◌++◌, decimal, Option, Some, None}
 use Rattle.std.specs.List.{before_first, after_first}
 use Rattle.tk_format.specs.Decimals.{decimal_in}
 use Rattle.tk_handle.specs.declared.dot.Dot.{Dot}

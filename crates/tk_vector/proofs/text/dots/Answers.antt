@@ -1,4 +1,4 @@
-use Rattle.std.proofs.Common.{◌≡◌, ◌==◌, rules, nat_lt, sym, subst, ◌∙◌, None, arith}
+use Rattle.std.proofs.Common.{◌≡◌, rules, nat_lt, sym, subst, ◌∙◌, None, arith}
 use borrow.Author.Tests.{tests}
 use Rattle.std.proofs.lemmas.Iterator.Splits.{YieldsList-from_slice_split}
 use Rattle.std.proofs.lemmas.Iterator.Consumers.{YieldsList-turn, YieldsList-end}
