@@ -3,7 +3,7 @@ pub mod NumberTexts
 pub mod EventWords
 pub mod EventForms
 pub mod ScriptEvents
-pub mod Printing
+pub mod Putting
 pub mod Tasks
 pub mod Runs
 pub mod OneSet

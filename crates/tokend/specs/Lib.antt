@@ -14,6 +14,7 @@ pub mod Fields
 pub mod Line
 pub mod Script
 pub mod Printed
+pub mod Put
 pub mod Status
 pub mod ScriptRun
 pub mod ProgramRun

@@ -1,7 +1,8 @@
 -- What is printed of an event.
---   outcome_text   an outcome, for an event of a region
+--   outcome_line   the line of an outcome, for an event of a region
+--   line_text      the line of an event and its outcome
 --   lines_text     a line for each event, as far as there are outcomes
-use Rattle.std.specs.Prelude.{ℕ, if◌then◌else◌, List, [], ◌∷◌, ◌++◌, codes, decimal, Option, Some, None}
+use Rattle.std.specs.Prelude.{ℕ, Bool, if◌then◌else◌, List, [], ◌∷◌, ◌++◌, codes, decimal, Option, Some, None}
 use Rattle.std.specs.List.{flat_map, zip}
 use Rattle.tk_handle.specs.declared.dot.Dot.{Dot}
 use Rattle.tk_handle.specs.DotText.{dot_text}
@@ -11,6 +12,10 @@ use Rattle.tk_world.specs.declared.event.Event.{Event}
 use Rattle.tk_world.specs.World.{region_of}
 use Rattle.tk_world.specs.declared.event.Outcome.{Outcome}
 use Rattle.tk_world.specs.declared.event.Outcome.TheVariants.{Opened, NumberTaken, NoRegion, NoBundle, Reply, Bundle, Took, Memory}
+
+-- LF, the end of a line
+abbrev pub newline : List ℕ
+newline = 10 ∷ []
 
 -- the dot of a bundle's last fact, `-` where it has none
 abbrev pub last_text : Option Dot → List ℕ
@@ -26,29 +31,40 @@ abbrev pub location_text : Option (List ℕ) → List ℕ
 location_text None = []
 location_text (Some uri) = codes " " ++ uri
 
-abbrev pub content_text : Content → List ℕ
-content_text Nothing = []
-content_text (JsonText bytes) = part_text bytes
-content_text (OtherBytes bytes) = part_text bytes
+-- the bytes of a content, as far as there are any
+abbrev pub bytes_of : Content → List ℕ
+bytes_of Nothing = []
+bytes_of (JsonText bytes) = bytes
+bytes_of (OtherBytes bytes) = bytes
 
 -- status, location and content, as far as there are any
-abbrev pub reply_text : ReplyFields → List ℕ
-reply_text reply = codes "reply " ++ decimal (status_number reply.status) ++ location_text reply.location ++ content_text reply.content
+abbrev pub reply_line : ℕ → Option (List ℕ) → List ℕ → List ℕ
+reply_line status location bytes = codes "reply " ++ (decimal status ++ (location_text location ++ (part_text bytes ++ newline)))
 
-abbrev pub outcome_text : ℕ → Outcome → List ℕ
-outcome_text region Opened = codes "opened " ++ decimal region
-outcome_text region NumberTaken = codes "number taken"
-outcome_text region NoRegion = codes "no region"
-outcome_text region NoBundle = codes "no bundle"
-outcome_text region (Reply reply) = reply_text reply
-outcome_text region (Bundle index count last more) =
-    codes "bundle " ++ decimal index ++ codes " " ++ decimal count ++ codes " " ++ last_text last ++ (if more then codes " more" else codes " end")
-outcome_text region (Took count) = codes "took " ++ decimal count
-outcome_text region Memory = codes "memory"
+abbrev pub number_of : ReplyFields → ℕ
+number_of reply = status_number reply.status
 
--- an outcome on a line of its own
+-- a word and a number
+abbrev pub numbered_line : List ℕ → ℕ → List ℕ
+numbered_line word n = word ++ (decimal n ++ newline)
+
+-- its number, how many facts it has, the greatest dot of these, and whether more follow
+abbrev pub bundle_line : ℕ → ℕ → Option Dot → Bool → List ℕ
+bundle_line index count last more =
+    codes "bundle " ++ (decimal index ++ (codes " " ++ (decimal count ++ (codes " " ++ (last_text last ++ ((if more then codes " more" else codes " end") ++ newline))))))
+
+abbrev pub outcome_line : ℕ → Outcome → List ℕ
+outcome_line region Opened = numbered_line (codes "opened ") region
+outcome_line region NumberTaken = codes "number taken" ++ newline
+outcome_line region NoRegion = codes "no region" ++ newline
+outcome_line region NoBundle = codes "no bundle" ++ newline
+outcome_line region (Reply reply) = reply_line (number_of reply) reply.location (bytes_of reply.content)
+outcome_line region (Bundle index count last more) = bundle_line index count last more
+outcome_line region (Took count) = numbered_line (codes "took ") count
+outcome_line region Memory = codes "memory" ++ newline
+
 abbrev pub line_text : Event × Outcome → List ℕ
-line_text line = outcome_text (region_of line.0) line.1 ++ (10 ∷ [])
+line_text line = outcome_line (region_of line.0) line.1
 
 -- a line for each event, in order, as far as there are outcomes
 abbrev pub lines_text : List Event → List Outcome → List ℕ

@@ -1,12 +1,15 @@
 -- What a run of the program comes to.
 --   IsDone              a run without a fault
 --   IsFaultFor          one with a fault
---   KeepsUnlessOutput   what a fault leaves of the output
-use Rattle.std.specs.Prelude.{◌⊎◌, ⊤, ℕ, List, Option}
+--   Leaves              what a fault leaves of the output
+--   Tells               what is told of it
+use Rattle.std.specs.Prelude.{◌⊎◌, ⊤, ℕ, List, Option, IfSome}
 use Rattle.std.specs.Io.KnownBytes.{Keeps}
 use Rattle.clap.specs.Words.{Text, kind_of}
 use Rattle.tokend.specs.Task.{Asks, AsksToShow, IsNoShow, IsRefusalOf}
-use Rattle.tokend.specs.ScriptRun.{PrintsScript, IsScriptFault}
+use Rattle.tokend.specs.Put.{AppendsFront}
+use Rattle.tokend.specs.ScriptRun.{PrintsScript, BeginsScript, IsScriptFault}
+use Rattle.tokend.specs.Status.{fault_text}
 use Rattle.tokend.specs.declared.options.Task.TheVariants.{Script}
 use Rattle.tokend.specs.declared.fault.Fault.{Fault}
 use Rattle.tokend.specs.declared.fault.Fault.TheVariants.{Words, Memory, Output}
@@ -22,7 +25,11 @@ IsFaultFor words input Memory = ⊤
 IsFaultFor words input Output = ⊤
 IsFaultFor words input fault = ((cap : ℕ) × Asks words (Script cap)) × IsScriptFault input fault
 
--- nothing was written, where it is not the output that failed
-abbrev pub KeepsUnlessOutput : Fault → Option (List ℕ) → Option (List ℕ) → Type 0
-KeepsUnlessOutput Output old new = ⊤
-KeepsUnlessOutput fault old new = Keeps old new
+-- nothing was written; or the output failed, and what was written is the beginning of what would have been printed
+abbrev pub Leaves : List Text → Option (List ℕ) → Fault → Option (List ℕ) → Option (List ℕ) → Type 0
+Leaves words input Output old new = ((cap : ℕ) × Asks words (Script cap) × BeginsScript cap input old new) ⊎ AsksToShow words
+Leaves words input fault old new = Keeps old new
+
+-- the beginning of the fault's line was written, all of it where the writer took it; what is told of words is clap's
+abbrev pub Tells : Fault → Option (List ℕ) → Option (List ℕ) → Type 0
+Tells fault old new = IfSome (fault_text fault) (AppendsFront old new)

@@ -1,9 +1,11 @@
 -- What a script comes to when the program runs it.
 --   IsScriptRun      its lines, by a run of its events in a new world
 --   PrintsScript     these are what was written
+--   BeginsScript     the beginning of these is what was written
 --   IsScriptFault    why it is not run
+--   LeavesScript     what a fault leaves of the output
 use Rattle.std.specs.Prelude.{◌≡◌, ◌≤◌, ⊤, ℕ, List, Option, IfSome, length, slice_get}
-use Rattle.std.specs.Io.KnownBytes.{Appends}
+use Rattle.std.specs.Io.KnownBytes.{Appends, Keeps}
 use Rattle.tk_world.specs.SettingsFields.{SettingsFields}
 use Rattle.tk_world.specs.State.{State, new_state}
 use Rattle.tk_world.specs.World.{Facts, Run}
@@ -12,6 +14,7 @@ use Rattle.tk_world.specs.declared.event.Outcome.{Outcome}
 use Rattle.tokend.specs.Line.{HasWords, words_at}
 use Rattle.tokend.specs.Script.{greatest_length, lines_of, AreEvents, IsFirstBad, IsInputFault}
 use Rattle.tokend.specs.Printed.{lines_text}
+use Rattle.tokend.specs.Put.{AppendsFront}
 use Rattle.tokend.specs.declared.fault.Fault.{Fault}
 use Rattle.tokend.specs.declared.fault.Fault.TheVariants.{BadLine, Output}
 
@@ -35,8 +38,18 @@ abbrev pub PrintsScript : ℕ → Option (List ℕ) → Option (List ℕ) → Op
 PrintsScript cap input old new =
     (lines : List ℕ) × IfSome input (λ script. IsScriptRun cap script lines) × Appends old new lines
 
+-- the beginning of the lines that the input's script comes to was written behind what the output had
+abbrev pub BeginsScript : ℕ → Option (List ℕ) → Option (List ℕ) → Option (List ℕ) → Type 0
+BeginsScript cap input old new =
+    (lines : List ℕ) × IfSome input (λ script. IsScriptRun cap script lines) × AppendsFront old new lines
+
 -- the input gives no script, or its script no events; or memory or the output fails
 abbrev pub IsScriptFault : Option (List ℕ) → Fault → Type 0
 IsScriptFault input Output = ⊤
 IsScriptFault input (BadLine number) = IfSome input (λ script. (length script ≤ greatest_length) × IsFirstBad script number)
 IsScriptFault input fault = IsInputFault input fault
+
+-- where the output failed, the beginning of the lines; else all as it was
+abbrev pub LeavesScript : ℕ → Option (List ℕ) → Fault → Option (List ℕ) → Option (List ℕ) → Type 0
+LeavesScript cap input Output old new = BeginsScript cap input old new
+LeavesScript cap input fault old new = Keeps old new

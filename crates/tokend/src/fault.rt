@@ -1,11 +1,14 @@
-ghost use Rattle.std.specs.Prelude.{◌≡◌};
+ghost use Rattle.std.specs.Prelude.{◌≡◌, IfSome};
 ghost use Rattle.std.specs.IoError.{error_kind};
 ghost use Rattle.tokend.specs.declared.fault.Fault.TheVariants as fault;
 ghost use Rattle.tokend.specs.declared.fault.LineError.TheVariants as line;
+ghost use Rattle.tokend.specs.Put.{Prints};
 ghost use Rattle.tokend.specs.Status.{fault_text, input_fault, line_fault, status_of};
 
+use crate::put::put_all;
+use itoa::Buffer;
 use std::alloc::{AllocError, AllocFailed};
-use std::{fmt, io};
+use std::io::{self, Write};
 use tk_format::ReadError;
 
 /// What ends the program before its end.
@@ -37,19 +40,22 @@ impl Fault {
     }
 }
 
-/// The whole lines for the standard error. An output that failed is told by the status alone.
-impl fmt::Display for Fault {
-    ghost output = { fault_text };
-
-    fn fmt<W: fmt::Write>(&self, f: &mut fmt::Formatter<W>) -> fmt::Result {
-        match self {
-            Fault::Words(error) => write!(f, "{error}"),
-            Fault::CannotRead => f.write_str("tokend: cannot read -\n"),
-            Fault::ScriptTooLong => f.write_str("tokend: script too long\n"),
-            Fault::BadLine(number) => writeln!(f, "tokend: bad line {number}"),
-            Fault::Memory => f.write_str("tokend: memory\n"),
-            Fault::Output => Ok(()),
+/// Tells a fault on `faults`, in a line of its own: a fault of the words as clap does, and an output that failed by the
+/// status alone. Where the writer fails, it has the beginning of the line.
+pub fn tell<E: Write>(faults: &mut E, fault: &Fault) -> io::Result<()>
+    ensures { IfSome (fault_text fault.now) (Prints result (E.contents faults.old) (E.contents faults.new)) }
+{
+    match fault {
+        Fault::Words(error) => write!(faults, "{error}"),
+        Fault::CannotRead => put_all(faults, &[b"tokend: cannot read -\n"]),
+        Fault::ScriptTooLong => put_all(faults, &[b"tokend: script too long\n"]),
+        Fault::BadLine(number) => {
+            let mut digits = Buffer::new();
+            let number = digits.format(*number).as_bytes();
+            put_all(faults, &[b"tokend: bad line ", number, b"\n"])
         }
+        Fault::Memory => put_all(faults, &[b"tokend: memory\n"]),
+        Fault::Output => put_all(faults, &[]),
     }
 }
 

@@ -18,6 +18,7 @@ mod options;
 mod print;
 mod program;
 pub mod promises;
+mod put;
 mod script;
 #[cfg(test)]
 mod tests;

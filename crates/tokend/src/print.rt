@@ -1,26 +1,36 @@
-ghost use Rattle.std.specs.Prelude.{◌≡◌, OnOk};
-ghost use Rattle.std.specs.Io.KnownBytes.{Appends};
+//! Outcomes as lines. Printing takes no memory, and where the output fails, what was written is the beginning of the lines.
+
+ghost use Rattle.std.specs.Prelude.{◌≡◌, ℕ, decimal};
+ghost use Rattle.std.specs.Option.{option_copied, option_map};
 ghost use Rattle.tk_world.specs.World.{region_of as event_region};
 ghost use Rattle.tokend.specs.Printed as spec;
+ghost use Rattle.tokend.specs.Put.{Prints};
 
+use crate::put::put_all;
+use itoa::Buffer;
 use std::io::{self, Write};
 use tk_handle::{Dot, RegionNumber};
 use tk_message::{Payload, Reply};
 use tk_world::{Event, Outcome};
 
-/// Writes one line for each event, and takes no memory for it.
+/// Writes one line for each event, as far as there are outcomes.
 pub(crate) fn print_outcomes<O: Write>(
     output: &mut O,
     events: &[Event],
     outcomes: &[Outcome],
 ) -> io::Result<()>
-    ensures { OnOk result (Appends (O.contents output.old) (O.contents output.new) (spec.lines_text events.now outcomes.now)) }
+    ensures { Prints result (O.contents output.old) (O.contents output.new) (spec.lines_text events.now outcomes.now) }
 {
-    for (event, outcome) in events.iter().zip(outcomes) {
-        print_outcome(output, region_of(event), outcome)?;
-        output.write_all(b"\n")?;
+    for at in 0..events.len().min(outcomes.len()) {
+        print_line(output, &events[at], &outcomes[at])?;
     }
     Ok(())
+}
+
+fn print_line<O: Write>(output: &mut O, event: &Event, outcome: &Outcome) -> io::Result<()>
+    ensures { Prints result (O.contents output.old) (O.contents output.new) (spec.line_text (event.now, outcome.now)) }
+{
+    print_outcome(output, region_of(event), outcome)
 }
 
 // The region that an event is for.
@@ -40,58 +50,91 @@ fn print_outcome<O: Write>(
     region: RegionNumber,
     outcome: &Outcome,
 ) -> io::Result<()>
-    ensures { OnOk result (Appends (O.contents output.old) (O.contents output.new) (spec.outcome_text region outcome.now)) }
+    ensures { Prints result (O.contents output.old) (O.contents output.new) (spec.outcome_line region outcome.now) }
 {
     match outcome {
-        Outcome::Opened => write!(output, "opened {}", region.number()),
-        Outcome::NumberTaken => write!(output, "number taken"),
-        Outcome::NoRegion => write!(output, "no region"),
-        Outcome::NoBundle => write!(output, "no bundle"),
+        Outcome::Opened => print_number(output, b"opened ", u64::from(region.number())),
+        Outcome::NumberTaken => put_all(output, &[b"number taken\n"]),
+        Outcome::NoRegion => put_all(output, &[b"no region\n"]),
+        Outcome::NoBundle => put_all(output, &[b"no bundle\n"]),
         Outcome::Reply(reply) => print_reply(output, reply),
         Outcome::Bundle {
             index,
             count,
             last,
             more,
-        } => {
-            write!(output, "bundle {index} {count} ")?;
-            print_last(output, *last)?;
-            output.write_all(if *more { b" more" } else { b" end" })
-        }
-        Outcome::Took(count) => write!(output, "took {count}"),
-        Outcome::Memory => write!(output, "memory"),
+        } => print_bundle(output, *index, *count, *last, *more),
+        Outcome::Took(count) => print_number(output, b"took ", u64::from(*count)),
+        Outcome::Memory => put_all(output, &[b"memory\n"]),
     }
 }
 
-// The greatest dot of a bundle.
-fn print_last<O: Write>(output: &mut O, last: Option<Dot>) -> io::Result<()>
-    ensures { OnOk result (Appends (O.contents output.old) (O.contents output.new) (spec.last_text last)) }
+// A line of a word and a number.
+fn print_number<O: Write>(output: &mut O, word: &[u8], number: u64) -> io::Result<()>
+    ensures { Prints result (O.contents output.old) (O.contents output.new) (spec.numbered_line word.now number) }
 {
+    let mut digits = Buffer::new();
+    put_all(output, &[word, digits.format(number).as_bytes(), b"\n"])
+}
+
+// A bundle's number, how many facts it has, the greatest dot of these, and whether more follow.
+fn print_bundle<O: Write>(
+    output: &mut O,
+    index: u64,
+    count: u16,
+    last: Option<Dot>,
+    more: bool,
+) -> io::Result<()>
+    ensures { Prints result (O.contents output.old) (O.contents output.new) (spec.bundle_line index count last more) }
+{
+    let (mut index_digits, mut count_digits) = (Buffer::new(), Buffer::new());
+    let index = index_digits.format(index).as_bytes();
+    let count = count_digits.format(count).as_bytes();
+    let end: &[u8] = if more { b" more\n" } else { b" end\n" };
     match last {
-        Some(dot) => write!(output, "{dot}"),
-        None => write!(output, "-"),
+        Some(dot) => {
+            let (mut region_digits, mut serial_digits) = (Buffer::new(), Buffer::new());
+            let region = region_digits.format(dot.region().number()).as_bytes();
+            let serial = serial_digits.format(dot.serial()).as_bytes();
+            put_all(
+                output,
+                &[b"bundle ", index, b" ", count, b" ", region, b":", serial, end],
+            )
+        }
+        None => put_all(output, &[b"bundle ", index, b" ", count, b" -", end]),
     }
 }
 
 fn print_reply<O: Write>(output: &mut O, reply: &Reply) -> io::Result<()>
-    ensures { OnOk result (Appends (O.contents output.old) (O.contents output.new) (spec.reply_text reply.now)) }
+    ensures { Prints result (O.contents output.old) (O.contents output.new) (spec.reply_line (spec.number_of reply.now) reply.now.location (spec.bytes_of reply.now.content)) }
 {
-    write!(output, "reply {}", reply.status.number())?;
-    if let Some(location) = &reply.location {
-        write!(output, " {location}")?;
-    }
-    match &reply.body {
-        Payload::Empty => Ok(()),
-        Payload::Json(bytes) | Payload::Bytes(bytes) => print_body(output, bytes),
-    }
+    let location = match &reply.location {
+        Some(location) => Some(location.as_str()),
+        None => None,
+    };
+    let body: &[u8] = match &reply.body {
+        Payload::Empty => &[],
+        Payload::Json(bytes) | Payload::Bytes(bytes) => bytes,
+    };
+    print_parts(output, reply.status.number(), location, body)
 }
 
-fn print_body<O: Write>(output: &mut O, bytes: &[u8]) -> io::Result<()>
-    ensures { OnOk result (Appends (O.contents output.old) (O.contents output.new) (spec.part_text bytes.now)) }
+fn print_parts<O: Write>(
+    output: &mut O,
+    status: u16,
+    location: Option<&str>,
+    body: &[u8],
+) -> io::Result<()>
+    ensures { Prints result (O.contents output.old) (O.contents output.new) (spec.reply_line status (option_copied location.entry) body.now) }
 {
-    if bytes.is_empty() {
-        return Ok(());
+    let mut digits = Buffer::new();
+    let status = digits.format(status).as_bytes();
+    let gap: &[u8] = if body.is_empty() { b"" } else { b" " };
+    match location {
+        Some(uri) => put_all(
+            output,
+            &[b"reply ", status, b" ", uri.as_bytes(), gap, body, b"\n"],
+        ),
+        None => put_all(output, &[b"reply ", status, gap, body, b"\n"]),
     }
-    output.write_all(b" ")?;
-    output.write_all(bytes)
 }

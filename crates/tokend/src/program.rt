@@ -1,16 +1,20 @@
-ghost use Rattle.std.specs.Prelude.{◌≡◌, ◌≤◌, OnOk, IfErr, IfSome, MatchResult, map};
-ghost use Rattle.std.specs.Io.KnownBytes.{Appends, Keeps};
+//! All of the program in order, over any reader and writers.
+
+ghost use Rattle.std.specs.Prelude.{◌≡◌, ◌≤◌, OnOk, IfErr, MatchResult, map};
+ghost use Rattle.std.specs.Io.KnownBytes.{Keeps};
 ghost use Rattle.tokend.specs.Printed.{lines_text};
-ghost use Rattle.tokend.specs.ProgramRun.{IsDone, IsFaultFor, KeepsUnlessOutput};
-ghost use Rattle.tokend.specs.ScriptRun.{settings_of, PrintsScript, IsScriptFault};
+ghost use Rattle.tokend.specs.ProgramRun.{IsDone, IsFaultFor, Leaves, Tells};
+ghost use Rattle.tokend.specs.Put.{Prints};
+ghost use Rattle.tokend.specs.ScriptRun.{settings_of, PrintsScript, IsScriptFault, LeavesScript};
 ghost use Rattle.tk_world.specs.SettingsFields.{greatest_cap};
-ghost use Rattle.tokend.specs.Status.{fault_text, status_of};
+ghost use Rattle.tokend.specs.Status.{status_of};
 ghost use Rattle.tokend.specs.declared.fault.Fault.{Fault as FaultValue};
 
-use crate::fault::Fault;
+use crate::fault::{Fault, tell};
 use crate::options::{Task, options};
 use crate::print::print_outcomes;
 use crate::script::{read_events, read_script};
+use clap::Error;
 use clap::error::ErrorKind;
 use std::alloc::Global;
 use std::convert::AsStr;
@@ -38,17 +42,25 @@ pub fn run_program<R: AllocGlobal, S: AsStr, I: Read, O: Write, E: Write>(
 ) -> u8
     ensures status { result ≤ 2 }
     ensures done { result ≡ 0 → IsDone (map S.text words.now) (I.remaining input.old) (O.contents output.old) (O.contents output.new) }
+    ensures quiet { result ≡ 0 → Keeps (E.contents faults.old) (E.contents faults.new) }
+
+    // Memory or a device may cause the fault, and what was written is the beginning of what would have been.
+    ensures broken { result ≡ 1 → (fault : FaultValue) × (status_of fault ≡ 1) × IsFaultFor (map S.text words.now) (I.remaining input.old) fault
+        × Leaves (map S.text words.now) (I.remaining input.old) fault (O.contents output.old) (O.contents output.new)
+        × Tells fault (E.contents faults.old) (E.contents faults.new) }
 
     // A refusal writes nothing.
     ensures refused { result ≡ 2 → (fault : FaultValue) × (status_of fault ≡ 2)
-        × IsFaultFor (map S.text words.now) (I.remaining input.old) fault × Keeps (O.contents output.old) (O.contents output.new) }
+        × IsFaultFor (map S.text words.now) (I.remaining input.old) fault × Keeps (O.contents output.old) (O.contents output.new)
+        × Tells fault (E.contents faults.old) (E.contents faults.new) }
 {
     finish(run(rt.alloc(), words, input, output), faults)
 }
 
 /// The exit status of a run, whose fault is told on `faults`.
 pub(crate) fn finish<E: Write>(ran: Result<(), Fault>, faults: &mut E) -> u8
-    ensures { MatchResult ran (λ _. result ≡ 0) (λ fault. result ≡ status_of fault) }
+    ensures { MatchResult ran (λ _. (result ≡ 0) × Keeps (E.contents faults.old) (E.contents faults.new))
+        (λ fault. (result ≡ status_of fault) × Tells fault (E.contents faults.old) (E.contents faults.new)) }
 {
     match ran {
         Ok(()) => 0,
@@ -59,12 +71,6 @@ pub(crate) fn finish<E: Write>(ran: Result<(), Fault>, faults: &mut E) -> u8
     }
 }
 
-fn tell<E: Write>(faults: &mut E, fault: &Fault) -> io::Result<()>
-    ensures { OnOk result (IfSome (fault_text fault.now) (Appends (E.contents faults.old) (E.contents faults.new))) }
-{
-    write!(faults, "{fault}")
-}
-
 fn run<S: AsStr, I: Read, O: Write>(
     alloc: Global,
     words: &[S],
@@ -73,19 +79,25 @@ fn run<S: AsStr, I: Read, O: Write>(
 ) -> Result<(), Fault>
     ensures done { OnOk result (IsDone (map S.text words.now) (I.remaining input.old) (O.contents output.old) (O.contents output.new)) }
     ensures fault { IfErr result (IsFaultFor (map S.text words.now) (I.remaining input.old)) }
-    ensures kept { IfErr result (λ fault. KeepsUnlessOutput fault (O.contents output.old) (O.contents output.new)) }
+    ensures left { IfErr result (λ fault. Leaves (map S.text words.now) (I.remaining input.old) fault (O.contents output.old) (O.contents output.new)) }
 {
     match options(alloc, words) {
         Ok(Task::Script { cap }) => run_script(alloc, cap, input, output),
         Err(error) => match error.kind() {
-            ErrorKind::DisplayHelp | ErrorKind::DisplayVersion => {
-                write!(output, "{error}").map_err(|_| Fault::Output)?;
-                output.flush().map_err(|_| Fault::Output)
-            }
+            ErrorKind::DisplayHelp | ErrorKind::DisplayVersion => match show(output, &error) {
+                Ok(()) => Ok(()),
+                Err(_) => Err(Fault::Output),
+            },
             ErrorKind::OutOfMemory => Err(Fault::Memory),
             _ => Err(Fault::Words(error)),
         },
     }
+}
+
+// The text that clap has for help and for the version.
+fn show<O: Write>(output: &mut O, text: &Error) -> io::Result<()> {
+    write!(output, "{text}")?;
+    output.flush()
 }
 
 // All that may fail for memory or input comes before the first event.
@@ -99,18 +111,21 @@ fn run_script<I: Read, O: Write>(
     requires high { cap ≤ greatest_cap }
     ensures done { OnOk result (PrintsScript cap (I.remaining input.old) (O.contents output.old) (O.contents output.new)) }
     ensures fault { IfErr result (IsScriptFault (I.remaining input.old)) }
-    ensures kept { IfErr result (λ fault. KeepsUnlessOutput fault (O.contents output.old) (O.contents output.new)) }
+    ensures left { IfErr result (λ fault. LeavesScript cap (I.remaining input.old) fault (O.contents output.old) (O.contents output.new)) }
 {
     let script = read_script(alloc, input)?;
     let events = read_events(alloc, script.as_slice())?;
     let mut world = World::new(alloc, settings(cap));
     let outcomes = world.run(events.as_slice())?;
-    print_all(output, events.as_slice(), outcomes.as_slice()).map_err(|_| Fault::Output)
+    match print_all(output, events.as_slice(), outcomes.as_slice()) {
+        Ok(()) => Ok(()),
+        Err(_) => Err(Fault::Output),
+    }
 }
 
 // A line for each event, and none is left in a buffer.
 fn print_all<O: Write>(output: &mut O, events: &[Event], outcomes: &[Outcome]) -> io::Result<()>
-    ensures { OnOk result (Appends (O.contents output.old) (O.contents output.new) (lines_text events.now outcomes.now)) }
+    ensures { Prints result (O.contents output.old) (O.contents output.new) (lines_text events.now outcomes.now) }
 {
     print_outcomes(output, events, outcomes)?;
     output.flush()

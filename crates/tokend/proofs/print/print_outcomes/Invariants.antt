@@ -1,10 +1,8 @@
-use Rattle.std.proofs.Common.{map}
+use Rattle.std.proofs.Common.{take}
 use Rattle.std.specs.Io.KnownBytes.{Appends}
-use Rattle.std.specs.List.{flat_map}
-use Rattle.tokend.specs.Printed.{line_text}
+use Rattle.tokend.specs.Printed.{lines_text}
 use Rattle.tokend.proofs.print.print_outcomes.Given as goal
 
--- a line was written for each pair so far
-abbrev pub invariant-loop-event : goal.invariant-loop-event
-invariant-loop-event g l =
-    Appends (g.O.Write.contents l.fn.output) (g.O.Write.contents l.output) (flat_map line_text (map (λ p. (p.0.now, p.1.now)) l.yielded))
+-- a line is written for each event so far
+abbrev pub invariant-loop-at : goal.invariant-loop-at
+invariant-loop-at g l = Appends (g.O.Write.contents l.fn.output) (g.O.Write.contents l.output) (lines_text (take l.at l.events) (take l.at l.outcomes))

@@ -1,0 +1,38 @@
+//! Writing that tells what a failure leaves: the beginning of what was to be written.
+
+ghost use Rattle.tokend.specs.Put.{Prints, joined_text};
+
+use std::io::{self, ErrorKind, Write};
+
+/// Writes the pieces one behind the other, without memory.
+pub(crate) fn put_all<O: Write>(output: &mut O, pieces: &[&[u8]]) -> io::Result<()>
+    ensures { Prints result (O.contents output.old) (O.contents output.new) (joined_text pieces.now) }
+{
+    for piece in pieces {
+        put(output, piece)?;
+    }
+    Ok(())
+}
+
+// Writes the bytes, in as many calls as the output wants. An interrupted call is made again.
+fn put<O: Write>(output: &mut O, bytes: &[u8]) -> io::Result<()>
+    ensures { Prints result (O.contents output.old) (O.contents output.new) bytes.now }
+{
+    let mut written = 0;
+    for _ in 0..u64::MAX {
+        let rest = &bytes[written..];
+        if rest.is_empty() {
+            return Ok(());
+        }
+        match output.write(rest) {
+            Ok(0) => return Err(io::Error::from(ErrorKind::WriteZero)),
+            Ok(count) => written += count,
+            Err(error) => {
+                if error.kind() != ErrorKind::Interrupted {
+                    return Err(error);
+                }
+            }
+        }
+    }
+    Err(io::Error::from(ErrorKind::Other))
+}
