@@ -11,7 +11,7 @@ use borrow.Author.Tests.{le-leb}
 use Rattle.tk_format.specs.Format.{text, number_spelling}
 use Rattle.tk_format.specs.Exact.{bind_some}
 use Rattle.tk_format.specs.Spellings.{number_length, both_short, text_short}
-use Rattle.tk_scope.specs.Scope.{is_token, scope_of, scope_text, tokens_of}
+use Rattle.tk_scope.specs.Scope.{greatest_length, is_token, most_tokens, scope_of, scope_text, tokens_of}
 use Rattle.tk_scope.specs.declared.error.ScopeError.{ScopeError}
 use Rattle.tk_match.specs.Redirects.{most_uri_bytes, is_uri}
 use Rattle.tk_match.specs.Challenge.{ChallengeFields, most_verifier_bytes}
@@ -38,18 +38,18 @@ dot_short d = both_short (number_spelling w16 d.region) (number_spelling w64 d.s
 moment_short : (n : ℕ) → length (moment.spell n) ≤ 8
 moment_short n = omega (arith, number_length w64 n)
 
--- a text that is a scope has 1,024 bytes at most
+-- a text that is a scope has no more bytes than it may
 scope_by : (long grammar many : Bool) (s t : List ℕ) → cond (is_some (cond long (Some ScopeError.TooLong) (cond grammar (Some ScopeError.Grammar) (cond many (Some ScopeError.TooMany) None)))) None (Some s) ≡ Some t → long ≡ false
 scope_by true grammar many s t h = absurd cc
 scope_by false grammar many s t h = refl
 
-scope_within : (t s : List ℕ) → scope_of t ≡ Some s → length t ≤ 1024
-scope_within t s h = ltb-false 1024 (length t) (scope_by (nat_lt 1024 (length t)) (not (list_all is_token (tokens_of t))) (nat_lt 32 (length (tokens_of t))) (scope_text (tokens_of t)) s h)
+scope_within : (t s : List ℕ) → scope_of t ≡ Some s → length t ≤ greatest_length
+scope_within t s h = ltb-false greatest_length (length t) (scope_by (nat_lt greatest_length (length t)) (not (list_all is_token (tokens_of t))) (nat_lt most_tokens (length (tokens_of t))) (scope_text (tokens_of t)) s h)
 
 scope_short : (t : List ℕ) → scope_field.Fits t → length (text.spell t) ≤ 1026
 scope_short t fits =
     let found = bind_some (scope_of t) (λ s. cond (bytes_eq s t) (Some s) None) t fits.1 in
-    text_short t 1024 (scope_within t found.0 found.1)
+    text_short t greatest_length (scope_within t found.0 found.1)
 
 -- 514 bytes a redirection URI
 uris_short : (us : List (List ℕ)) → list_all is_uri us ≡ true → length (flat_map text.spell us) ≤ 514 * length us
