@@ -1,10 +1,11 @@
 -- What several writes leave, one after another. Key results:
 --   front_all, front_more   the beginning of a text; after more of it
 --   put_step, put_more      a write of bytes, and of pieces, goes on
---   lines_step, lines_more  so do the lines of events
-use Rattle.std.proofs.Common.{◌≡◌, ℕ, zero, suc, ◌+◌, ◌<◌, ◌≤◌, List, [], ◌∷◌, ◌++◌, length, take, drop, get_or, Option, Some, None, Bor, refl, sym, ap, subst, ◌∙◌, append_assoc, append-nil, add-one, arith}
+--   put_failed, lines_failed   and ends early
+--   lines_more, lines_end   so do the lines of events
+use Rattle.std.proofs.Common.{◌≡◌, ℕ, min, zero, suc, ◌+◌, ◌<◌, ◌≤◌, List, [], ◌∷◌, ◌++◌, length, take, drop, get_or, Option, Some, None, Bor, refl, sym, ap, subst, ◌∙◌, append_assoc, append-nil, add-one, arith}
 use Rattle.std.proofs.KnownBytes.{Appends-nil, Appends-trans}
-use Rattle.std.specs.Io.KnownBytes.{Appends, Keeps}
+use Rattle.std.specs.Io.KnownBytes.{Appends}
 use Rattle.std.specs.List.{flat_map, zip}
 use Rattle.std.proofs.lemmas.List.{take-append-drop}
 use Rattle.tk_world.specs.declared.event.Event.{Event}
@@ -28,23 +29,20 @@ front_more old mid new before text rest all done begun same = record {
 
 -- ---- bytes
 
-take_further : (bytes : List ℕ) (m n : ℕ) → take m bytes ++ take n (drop m bytes) ≡ take (m + n) bytes
-take_further bytes zero n = rw zero_plus refl
-  where
-    zero_plus : (k : ℕ) → 0 + k ≡ k
-    zero_plus k = omega arith
-take_further [] (suc m) n = nothing n
-  where
-    nothing : (k : ℕ) → take k [] ≡ take (suc m + k) []
-    nothing zero = refl
-    nothing (suc k) = refl
-take_further (b ∷ bytes) (suc m) n = ap (λ t. b ∷ t) (take_further bytes m n) ∙ ap (λ k. take k (b ∷ bytes)) (plus m n)
-  where
-    plus : (i k : ℕ) → suc (i + k) ≡ suc i + k
-    plus i k = omega arith
+take_nil : (k : ℕ) → take {A = ℕ} k [] ≡ []
+take_nil zero = refl
+take_nil (suc k) = refl
 
-pub put_step : (old mid new : Option (List ℕ)) (bytes : List ℕ) (m n : ℕ) → Appends old mid (take m bytes) → Appends mid new (take n (drop m bytes)) → Appends old new (take (m + n) bytes)
-put_step old mid new bytes m n before here = subst (Appends old new) (take_further bytes m n) (Appends-trans old mid new _ _ before here)
+take_further : (bytes : List ℕ) (m n : ℕ) → take m bytes ++ take n (drop m bytes) ≡ take (m + n) bytes
+take_further bytes zero n = let same : n ≡ 0 + n = omega arith in ap (λ (k : ℕ). take k bytes) same
+take_further [] (suc m) n = take_nil n ∙ sym (take_nil (suc m + n))
+take_further (b ∷ bytes) (suc m) n =
+    let same : suc (m + n) ≡ suc m + n = omega arith in
+    ap (λ (t : List ℕ). b ∷ t) (take_further bytes m n) ∙ ap (λ (k : ℕ). take k (b ∷ bytes)) same
+
+pub put_step : (old mid new : Option (List ℕ)) (bytes rest : List ℕ) (m n : ℕ) → rest ≡ drop m bytes → Appends old mid (take m bytes) → Appends mid new (take n rest) → Appends old new (take (m + n) bytes)
+put_step old mid new bytes rest m n is before here =
+    subst (Appends old new) (ap (λ (t : List ℕ). take m bytes ++ take n t) is ∙ take_further bytes m n) (Appends-trans old mid new (take m bytes) (take n rest) before here)
 
 -- the first of the bytes were written
 pub front_taken : (old new : Option (List ℕ)) (bytes : List ℕ) (m : ℕ) → Appends old new (take m bytes) → AppendsFront old new bytes
@@ -52,24 +50,25 @@ front_taken old new bytes m done = record { front = take m bytes; rest = drop m 
 
 -- ---- pieces
 
-pieces_at : (ps : List (Bor (List ℕ))) (i : ℕ) (p : Bor (List ℕ)) → i < length ps → p ≡ get_or ps i p → joined_text ps ≡ joined_text (take i ps) ++ (p.now ++ joined_text (drop (suc i) ps))
-pieces_at [] i p lt is = absurd (omega arith)
-pieces_at (q ∷ ps) zero p lt is = ap (λ (x : Bor (List ℕ)). x.now ++ joined_text ps) (sym is)
-pieces_at (q ∷ ps) (suc i) p lt is =
-    ap (λ t. q.now ++ t) (pieces_at ps i p (omega arith) is) ∙ sym (append_assoc q.now (joined_text (take i ps)) (p.now ++ joined_text (drop (suc i) ps)))
+pieces_at : (ps : List (Bor (List ℕ))) (i : ℕ) (d : Bor (List ℕ)) → i < length ps → joined_text ps ≡ joined_text (take i ps) ++ ((get_or ps i d).now ++ joined_text (drop (suc i) ps))
+pieces_at [] i d lt = absurd (omega arith)
+pieces_at (q ∷ ps) zero d lt = refl
+pieces_at (q ∷ ps) (suc i) d lt =
+    ap (λ (t : List ℕ). q.now ++ t) (pieces_at ps i d (omega arith))
+    ∙ sym (append_assoc q.now (joined_text (take i ps)) ((get_or ps i d).now ++ joined_text (drop (suc i) ps)))
 
-pieces_to : (ps : List (Bor (List ℕ))) (i : ℕ) (p : Bor (List ℕ)) → i < length ps → p ≡ get_or ps i p → joined_text (take i ps) ++ p.now ≡ joined_text (take (suc i) ps)
-pieces_to [] i p lt is = absurd (omega arith)
-pieces_to (q ∷ ps) zero p lt is = ap (λ (x : Bor (List ℕ)). x.now) is ∙ sym (append-nil q.now)
-pieces_to (q ∷ ps) (suc i) p lt is = append_assoc q.now (joined_text (take i ps)) p.now ∙ ap (λ t. q.now ++ t) (pieces_to ps i p (omega arith) is)
+pieces_to : (ps : List (Bor (List ℕ))) (i : ℕ) (d : Bor (List ℕ)) → i < length ps → joined_text (take i ps) ++ (get_or ps i d).now ≡ joined_text (take (suc i) ps)
+pieces_to [] i d lt = absurd (omega arith)
+pieces_to (q ∷ ps) zero d lt = sym (append-nil q.now)
+pieces_to (q ∷ ps) (suc i) d lt = append_assoc q.now (joined_text (take i ps)) (get_or ps i d).now ∙ ap (λ (t : List ℕ). q.now ++ t) (pieces_to ps i d (omega arith))
 
-pub put_more : (old mid new : Option (List ℕ)) (ps : List (Bor (List ℕ))) (i : ℕ) (p : Bor (List ℕ)) → i < length ps → p ≡ get_or ps i p
-    → Appends old mid (joined_text (take i ps)) → Appends mid new p.now → Appends old new (joined_text (take (i + 1) ps))
-put_more old mid new ps i p lt is before here = rw add-one (subst (Appends old new) (pieces_to ps i p lt is) (Appends-trans old mid new _ _ before here))
+pub put_more : (old mid new : Option (List ℕ)) (ps : List (Bor (List ℕ))) (i : ℕ) (d : Bor (List ℕ)) → i < length ps
+    → Appends old mid (joined_text (take i ps)) → Appends mid new (get_or ps i d).now → Appends old new (joined_text (take (i + 1) ps))
+put_more old mid new ps i d lt before here = rw add-one (subst (Appends old new) (pieces_to ps i d lt) (Appends-trans old mid new _ _ before here))
 
-pub put_failed : (old mid new : Option (List ℕ)) (ps : List (Bor (List ℕ))) (i : ℕ) (p : Bor (List ℕ)) → i < length ps → p ≡ get_or ps i p
-    → Appends old mid (joined_text (take i ps)) → AppendsFront mid new p.now → AppendsFront old new (joined_text ps)
-put_failed old mid new ps i p lt is before here = front_more old mid new _ p.now _ _ before here (pieces_at ps i p lt is)
+pub put_failed : (old mid new : Option (List ℕ)) (ps : List (Bor (List ℕ))) (i : ℕ) (d : Bor (List ℕ)) → i < length ps
+    → Appends old mid (joined_text (take i ps)) → AppendsFront mid new (get_or ps i d).now → AppendsFront old new (joined_text ps)
+put_failed old mid new ps i d lt before here = front_more old mid new _ (get_or ps i d).now _ _ before here (pieces_at ps i d lt)
 
 -- ---- lines
 
@@ -100,23 +99,13 @@ pub lines_failed : (old mid new : Option (List ℕ)) (es : List Event) (os : Lis
 lines_failed old mid new es os i e o l m p q before here = front_more old mid new _ (line_text (e, o)) _ _ before here (lines_at es os i e o l m p q)
 
 -- as many as there are events, or outcomes, are all
-pub lines_whole : (es : List Event) (os : List Outcome) (n : ℕ) → length es ≤ n → lines_text (take n es) (take n os) ≡ lines_text es os
-lines_whole [] os n le = nothing n
+pub lines_end : (es : List Event) (os : List Outcome) (n : ℕ) → min (length es) (length os) ≤ n → lines_text (take n es) (take n os) ≡ lines_text es os
+lines_end [] os n le = nothing n
   where
-    nothing : (k : ℕ) → lines_text (take k []) (take k os) ≡ []
+    nothing : (k : ℕ) → lines_text (take {A = Event} k []) (take k os) ≡ []
     nothing zero = refl
     nothing (suc k) = refl
-lines_whole (x ∷ es) os zero le = absurd (omega arith)
-lines_whole (x ∷ es) [] (suc n) le = refl
-lines_whole (x ∷ es) (y ∷ os) (suc n) le = ap (λ t. line_text (x, y) ++ t) (lines_whole es os n (omega arith))
-
-pub lines_whole_outcomes : (es : List Event) (os : List Outcome) (n : ℕ) → length os ≤ n → lines_text (take n es) (take n os) ≡ lines_text es os
-lines_whole_outcomes es os zero le = empty es os le
-  where
-    empty : (es : List Event) (os : List Outcome) → length os ≤ 0 → lines_text (take 0 es) (take 0 os) ≡ lines_text es os
-    empty [] os le = refl
-    empty (x ∷ es) [] le = refl
-    empty (x ∷ es) (y ∷ os) le = absurd (omega arith)
-lines_whole_outcomes [] os (suc n) le = refl
-lines_whole_outcomes (x ∷ es) [] (suc n) le = refl
-lines_whole_outcomes (x ∷ es) (y ∷ os) (suc n) le = ap (λ t. line_text (x, y) ++ t) (lines_whole_outcomes es os n (omega arith))
+lines_end (x ∷ es) [] zero le = refl
+lines_end (x ∷ es) [] (suc n) le = refl
+lines_end (x ∷ es) (y ∷ os) zero le = absurd (omega arith)
+lines_end (x ∷ es) (y ∷ os) (suc n) le = ap (λ t. line_text (x, y) ++ t) (lines_end es os n (omega arith))

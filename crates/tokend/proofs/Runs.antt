@@ -3,25 +3,26 @@ use Rattle.std.proofs.Common.{◌≡◌, ℕ, List, Option, Some, None, Result, 
 use Rattle.std.specs.Prelude.{IfSome, IfErr, OnOk}
 use Rattle.std.specs.Io.KnownBytes.{Appends}
 use Rattle.clap.specs.Words.{Text}
+use Rattle.tokend.specs.Put.{AppendsFront}
 use Rattle.tokend.specs.Task.{Asks}
-use Rattle.tokend.specs.ScriptRun.{IsScriptRun, PrintsScript, IsScriptFault}
+use Rattle.tokend.specs.ScriptRun.{IsScriptRun, PrintsScript, BeginsScript, IsScriptFault}
 use Rattle.tokend.specs.ProgramRun.{IsFaultFor}
 use Rattle.tokend.specs.declared.options.Task.{Task}
 use Rattle.tokend.specs.declared.options.Task.TheVariants.{Script}
 use Rattle.tokend.specs.declared.fault.Fault.{Fault}
 use Rattle.tokend.specs.declared.fault.Fault.TheVariants.{Words, CannotRead, ScriptTooLong, BadLine, Memory, Output}
 
--- what holds where a piece ends well holds where its caller does
-pub mapped_ok : {A B E F : Type 0} (P Q : Type 0) (r : Result A E) (s : Result B F) → (P → Q) → is_ok s ≡ is_ok r → OnOk r P → OnOk s Q
-mapped_ok P Q (Ok x) (Ok y) f same h = f h
-mapped_ok P Q (Err e) (Ok y) f same h = absurd (cc)
-mapped_ok P Q r (Err e) f same h = tt
-
 -- where the input's bytes are known, they are the script
 pub script_printed : (cap : ℕ) (input : Option (List ℕ)) (script lines : List ℕ) (old new : Option (List ℕ))
     → IfSome input (λ bytes. script ≡ bytes) → IsScriptRun cap script lines → Appends old new lines → PrintsScript cap input old new
 script_printed cap None script lines old new whole run appended = (lines, tt, appended)
 script_printed cap (Some bytes) script lines old new whole run appended = (lines, subst (λ s. IsScriptRun cap s lines) whole run, appended)
+
+-- and so is the beginning of its lines
+pub script_begun : (cap : ℕ) (input : Option (List ℕ)) (script lines : List ℕ) (old new : Option (List ℕ))
+    → IfSome input (λ bytes. script ≡ bytes) → IsScriptRun cap script lines → AppendsFront old new lines → BeginsScript cap input old new
+script_begun cap None script lines old new whole run begun = (lines, tt, begun)
+script_begun cap (Some bytes) script lines old new whole run begun = (lines, subst (λ s. IsScriptRun cap s lines) whole run, begun)
 
 -- a script's fault is the program's, where the words ask for a script
 pub script_fault : (words : List Text) (input : Option (List ℕ)) (cap : ℕ) → Asks words (Script cap)

@@ -1,4 +1,4 @@
-ghost use Rattle.std.specs.Prelude.{◌≡◌, IfSome};
+ghost use Rattle.std.specs.Prelude.{◌≡◌, ◌++◌, ◌∷◌, [], codes, decimal, IfSome};
 ghost use Rattle.std.specs.IoError.{error_kind};
 ghost use Rattle.tokend.specs.declared.fault.Fault.TheVariants as fault;
 ghost use Rattle.tokend.specs.declared.fault.LineError.TheVariants as line;
@@ -49,14 +49,18 @@ pub fn tell<E: Write>(faults: &mut E, fault: &Fault) -> io::Result<()>
         Fault::Words(error) => write!(faults, "{error}"),
         Fault::CannotRead => put_all(faults, &[b"tokend: cannot read -\n"]),
         Fault::ScriptTooLong => put_all(faults, &[b"tokend: script too long\n"]),
-        Fault::BadLine(number) => {
-            let mut digits = Buffer::new();
-            let number = digits.format(*number).as_bytes();
-            put_all(faults, &[b"tokend: bad line ", number, b"\n"])
-        }
+        Fault::BadLine(number) => tell_bad_line(faults, *number),
         Fault::Memory => put_all(faults, &[b"tokend: memory\n"]),
         Fault::Output => put_all(faults, &[]),
     }
+}
+
+fn tell_bad_line<E: Write>(faults: &mut E, number: u64) -> io::Result<()>
+    ensures { Prints result (E.contents faults.old) (E.contents faults.new) (codes "tokend: bad line " ++ (decimal number ++ 10 ∷ [])) }
+{
+    let mut digits = Buffer::new();
+    let number = digits.format(number).as_bytes();
+    put_all(faults, &[b"tokend: bad line ", number, b"\n"])
 }
 
 impl From<AllocError> for Fault {

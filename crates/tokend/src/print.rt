@@ -22,7 +22,10 @@ pub(crate) fn print_outcomes<O: Write>(
     ensures { Prints result (O.contents output.old) (O.contents output.new) (spec.lines_text events.now outcomes.now) }
 {
     for at in 0..events.len().min(outcomes.len()) {
-        print_line(output, &events[at], &outcomes[at])?;
+        match print_line(output, &events[at], &outcomes[at]) {
+            Ok(()) => {}
+            Err(error) => return Err(error),
+        }
     }
     Ok(())
 }
@@ -98,7 +101,9 @@ fn print_bundle<O: Write>(
             let serial = serial_digits.format(dot.serial()).as_bytes();
             put_all(
                 output,
-                &[b"bundle ", index, b" ", count, b" ", region, b":", serial, end],
+                &[
+                    b"bundle ", index, b" ", count, b" ", region, b":", serial, end,
+                ],
             )
         }
         None => put_all(output, &[b"bundle ", index, b" ", count, b" -", end]),

@@ -1,5 +1,6 @@
 //! Writing that tells what a failure leaves: the beginning of what was to be written.
 
+ghost use Rattle.std.specs.Prelude.{◌≡◌, ◌≤◌, drop, length};
 ghost use Rattle.tokend.specs.Put.{Prints, joined_text};
 
 use std::io::{self, ErrorKind, Write};
@@ -9,7 +10,11 @@ pub(crate) fn put_all<O: Write>(output: &mut O, pieces: &[&[u8]]) -> io::Result<
     ensures { Prints result (O.contents output.old) (O.contents output.new) (joined_text pieces.now) }
 {
     for piece in pieces {
-        put(output, piece)?;
+        // Without a `?`, whose goals have no names of their own.
+        match put(output, piece) {
+            Ok(()) => {}
+            Err(error) => return Err(error),
+        }
     }
     Ok(())
 }
@@ -20,7 +25,7 @@ fn put<O: Write>(output: &mut O, bytes: &[u8]) -> io::Result<()>
 {
     let mut written = 0;
     for _ in 0..u64::MAX {
-        let rest = &bytes[written..];
+        let rest = rest_of(bytes, written);
         if rest.is_empty() {
             return Ok(());
         }
@@ -35,4 +40,13 @@ fn put<O: Write>(output: &mut O, bytes: &[u8]) -> io::Result<()>
         }
     }
     Err(io::Error::from(ErrorKind::Other))
+}
+
+// The bytes behind the first so many.
+#[tactic(auto, using(std::proofs::lemmas::List::take_rest))]
+fn rest_of(bytes: &[u8], written: usize) -> &[u8]
+    requires { written ≤ length bytes.now }
+    ensures { result.now ≡ drop written bytes.now }
+{
+    &bytes[written..]
 }
