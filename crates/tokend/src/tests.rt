@@ -1,5 +1,6 @@
 //! The program from its words and its input to its output, standard error and status.
 mod command_line;
+mod deliveries;
 mod devices;
 mod lines;
 mod order;
@@ -19,6 +20,18 @@ struct Row<'a> {
     output: &'a str,
     faults: &'a str,
     status: u8,
+}
+
+/// A run of this script that is printed.
+fn printed<'a>(name: &'a str, input: &'a [u8], output: &'a str) -> Row<'a> {
+    Row {
+        name,
+        words: &["tokend", "script"],
+        input,
+        output,
+        faults: "",
+        status: 0,
+    }
 }
 
 /// Runs each row, over memory.

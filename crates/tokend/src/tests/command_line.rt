@@ -1,3 +1,5 @@
+//! The words of the command line: what is run, shown or refused of them.
+
 use super::{Row, run_rows};
 use std::test::Fail;
 

@@ -1,3 +1,5 @@
+//! Readers and writers that fail: what was written by then, what is told, and the status.
+
 use crate::program::run_program;
 use std::io::{self, ErrorKind, Read, Write};
 use std::process::Abort;

@@ -1,3 +1,5 @@
+//! Which fault is told where there are two, and the longest script.
+
 use super::devices::FailingReader;
 use super::{Row, run_row, run_rows};
 use crate::program::run_program;
