@@ -2,6 +2,7 @@
 mod command_line;
 mod deliveries;
 mod devices;
+mod fakes;
 mod lines;
 mod order;
 mod replies;
@@ -21,6 +22,14 @@ struct Row<'a> {
     faults: &'a str,
     status: u8,
 }
+
+/// Words that are refused, and what is told of them.
+const CAP_ALONE: [&str; 3] = ["tokend", "script", "--cap"];
+
+const CAP_ALONE_TOLD: &str = "error: a value is required for '--cap <N>' but none was supplied
+
+For more information, try '--help'.
+";
 
 /// A run of this script that is printed.
 fn printed<'a>(name: &'a str, input: &'a [u8], output: &'a str) -> Row<'a> {
