@@ -1,6 +1,8 @@
 //! The program from its words and its input to its output, standard error and status.
 mod command_line;
+mod deliveries;
 mod devices;
+mod fakes;
 mod lines;
 mod order;
 mod replies;
@@ -19,6 +21,26 @@ struct Row<'a> {
     output: &'a str,
     faults: &'a str,
     status: u8,
+}
+
+/// Words that are refused, and what is told of them.
+const CAP_ALONE: [&str; 3] = ["tokend", "script", "--cap"];
+
+const CAP_ALONE_TOLD: &str = "error: a value is required for '--cap <N>' but none was supplied
+
+For more information, try '--help'.
+";
+
+/// A run of this script that is printed.
+fn printed<'a>(name: &'a str, input: &'a [u8], output: &'a str) -> Row<'a> {
+    Row {
+        name,
+        words: &["tokend", "script"],
+        input,
+        output,
+        faults: "",
+        status: 0,
+    }
 }
 
 /// Runs each row, over memory.

@@ -1,4 +1,6 @@
-use super::{Row, run_rows};
+//! The words of the command line: what is run, shown or refused of them.
+
+use super::{CAP_ALONE, CAP_ALONE_TOLD, Row, run_rows};
 use std::test::Fail;
 
 const HELP: &str = "An authorisation server whose regions merge
@@ -197,14 +199,7 @@ Usage: tokend script [OPTIONS]
 For more information, try '--help'.
 ",
         ),
-        refused(
-            "a cap without a value",
-            &["tokend", "script", "--cap"],
-            "error: a value is required for '--cap <N>' but none was supplied
-
-For more information, try '--help'.
-",
-        ),
+        refused("a cap without a value", &CAP_ALONE, CAP_ALONE_TOLD),
     ];
     run_rows(&rt, &rows)
 }

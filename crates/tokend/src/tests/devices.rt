@@ -1,5 +1,9 @@
+//! Readers and writers that fail: what was written by then, what is told, and the status.
+
+use super::fakes::{FailingReader, FailingWriter, InterruptedWriter, StuckWriter};
+use super::{CAP_ALONE, CAP_ALONE_TOLD, Row};
 use crate::program::run_program;
-use std::io::{self, ErrorKind, Read, Write};
+use std::io::{ErrorKind, Read};
 use std::process::Abort;
 use std::test::Fail;
 
@@ -36,81 +40,46 @@ static INPUTS: [(&str, &[u8], ErrorKind, &str); 5] = [
     ),
 ];
 
-/// A reader that gives some bytes, one at a time, and then fails.
-#[derive(Drop)]
-pub struct FailingReader<'a> {
-    left: &'a [u8],
-    kind: ErrorKind,
-}
+// A script, and what it prints: a line of each form but `memory`.
+const EVENTS: &[u8] = b"open 1
+open 1
+client 1 1000 public - read https://app.example/cb
+pull 1 - -
+deliver 0 1
+look 1 1001 c1-1
+deliver 1 1
+deliver 0 2
+";
 
-impl<'a> FailingReader<'a> {
-    pub fn new(left: &'a [u8], kind: ErrorKind) -> Self {
-        FailingReader { left, kind }
-    }
-}
+const LINES: &str = r#"opened 1
+number taken
+reply 201 {"client_id":"c1-1"}
+bundle 0 1 1:1 end
+took 0
+reply 200 {"client_id":"c1-1","kind":"public","live":true,"scope":"read"}
+no bundle
+no region
+"#;
 
-impl Read for FailingReader<'_> {
-    fn read(&mut self, buf: &mut [u8]) -> io::Result<usize> {
-        let ([first, rest @ ..], [place, ..]) = (self.left, buf) else {
-            return Err(io::Error::from(self.kind));
-        };
-        *place = *first;
-        self.left = rest;
-        Ok(1)
-    }
-}
-
-/// A writer that takes some bytes and then fails, and counts what is tried after that.
-#[derive(Drop)]
-struct FailingWriter {
-    taken: Vec<u8>,
-    room: usize,
-    failures: u64,
-}
-
-impl FailingWriter {
-    fn new<R: AllocGlobal>(rt: &R, room: usize) -> Self {
-        FailingWriter {
-            taken: Vec::new(rt.alloc()),
-            room,
-            failures: 0,
-        }
-    }
-}
-
-impl Write for FailingWriter {
-    fn write(&mut self, buf: &[u8]) -> io::Result<usize> {
-        let count = buf.len().min(self.room);
-        if count == 0 {
-            self.failures = self.failures.saturating_add(1);
-            return Err(io::Error::from(ErrorKind::BrokenPipe));
-        }
-        self.taken.extend_from_slice(&buf[..count])?;
-        self.room -= count;
-        Ok(count)
-    }
-
-    fn flush(&mut self) -> io::Result<()> {
-        Ok(())
-    }
-}
-
-/// A writer that takes all, and fails when it is to pass it on.
-#[derive(Drop)]
-struct StuckWriter {
-    taken: Vec<u8>,
-}
-
-impl Write for StuckWriter {
-    fn write(&mut self, buf: &[u8]) -> io::Result<usize> {
-        self.taken.extend_from_slice(buf)?;
-        Ok(buf.len())
-    }
-
-    fn flush(&mut self) -> io::Result<()> {
-        Err(io::Error::from(ErrorKind::BrokenPipe))
-    }
-}
+// Runs that are refused.
+static REFUSALS: [Row<'static>; 2] = [
+    Row {
+        name: "a bad line",
+        words: &SCRIPT,
+        input: b"open 1\nopen 0\n",
+        output: "",
+        faults: "tokend: bad line 2\n",
+        status: 2,
+    },
+    Row {
+        name: "bad words",
+        words: &CAP_ALONE,
+        input: b"",
+        output: "",
+        faults: CAP_ALONE_TOLD,
+        status: 2,
+    },
+];
 
 #[test]
 fn an_input_that_fails_cannot_be_read(rt: HostRuntime) -> Result<(), Fail> {
@@ -168,6 +137,49 @@ fn an_output_that_fails_ends_the_run(rt: HostRuntime) -> Result<(), Fail> {
 }
 
 #[test]
+fn an_output_that_fails_has_the_beginning_of_the_lines(rt: HostRuntime) -> Result<(), Fail> {
+    for room in 0..LINES.len() {
+        let cut = cut_off(&rt, &SCRIPT, EVENTS, room)?;
+        assert_eq!(rt; cut.taken.len(), room, "bytes at {room}");
+        assert!(rt;
+            LINES.as_bytes().starts_with(cut.taken.as_slice()),
+            "output at {room}"
+        );
+    }
+    Ok(())
+}
+
+#[test]
+fn an_output_with_just_enough_room_gets_all(rt: HostRuntime) -> Result<(), Fail> {
+    let mut input = EVENTS;
+    let (mut output, mut faults) = (FailingWriter::new(&rt, LINES.len()), Vec::new(rt.alloc()));
+    let status = run_program(&rt, &SCRIPT, &mut input, &mut output, &mut faults);
+    assert_eq!(rt; status, 0);
+    assert_eq!(rt; output.failures, 0);
+    assert_eq!(rt; str::from_utf8(output.taken.as_slice())?, LINES);
+    assert!(rt; faults.is_empty());
+    Ok(())
+}
+
+#[test]
+fn an_output_that_is_interrupted_gets_all(rt: HostRuntime) -> Result<(), Fail> {
+    for place in 0..LINES.len() {
+        let mut input = EVENTS;
+        let (mut output, mut faults) = (InterruptedWriter::new(&rt, place), Vec::new(rt.alloc()));
+        let status = run_program(&rt, &SCRIPT, &mut input, &mut output, &mut faults);
+        assert_eq!(rt; status, 0, "status at {place}");
+        assert_eq!(rt; output.interruptions, 1, "interruptions at {place}");
+        assert!(rt; faults.is_empty(), "faults at {place}");
+        assert_eq!(rt;
+            str::from_utf8(output.taken.as_slice())?,
+            LINES,
+            "output at {place}"
+        );
+    }
+    Ok(())
+}
+
+#[test]
 fn an_output_that_keeps_its_bytes_fails(rt: HostRuntime) -> Result<(), Fail> {
     let mut input = b"open 1\n".as_slice();
     let (mut output, mut faults) = (
@@ -190,5 +202,74 @@ fn a_standard_error_that_fails_changes_nothing(rt: HostRuntime) -> Result<(), Fa
     let status = run_program(&rt, &SCRIPT, &mut input, &mut output, &mut faults);
     assert_eq!(rt; status, 2);
     assert!(rt; output.is_empty());
+    Ok(())
+}
+
+// Over a standard error with this room, a run has the same status, and leaves the beginning of what is told.
+fn told_within<R: AllocGlobal + Abort, I: Read>(rt: &R, row: &Row<'_>, input: &mut I, room: usize) {
+    let name = row.name;
+    let (mut output, mut faults) = (Vec::new(rt.alloc()), FailingWriter::new(rt, room));
+    let status = run_program(rt, row.words, input, &mut output, &mut faults);
+    assert_eq!(rt; status, row.status, "status of {name} at {room}");
+    assert!(rt; output.is_empty(), "output of {name} at {room}");
+    assert_eq!(rt; faults.failures, 1, "failures of {name} at {room}");
+    assert_eq!(rt; faults.taken.len(), room, "bytes of {name} at {room}");
+    assert!(rt;
+        row.faults.as_bytes().starts_with(faults.taken.as_slice()),
+        "faults of {name} at {room}"
+    );
+}
+
+#[test]
+fn a_standard_error_that_fails_has_the_beginning(rt: HostRuntime) {
+    for row in &REFUSALS {
+        for room in 0..row.faults.len() {
+            let mut input = row.input;
+            told_within(&rt, row, &mut input, room);
+        }
+    }
+    for &(name, given, kind, told) in &INPUTS {
+        let row = Row {
+            name,
+            words: &SCRIPT,
+            input: given,
+            output: "",
+            faults: told,
+            status: 1,
+        };
+        for room in 0..told.len() {
+            let mut input = FailingReader::new(row.input, kind);
+            told_within(&rt, &row, &mut input, room);
+        }
+    }
+}
+
+// A standard error that is interrupted where it has taken this many bytes gets all that is told.
+fn told_after<R: AllocGlobal + Abort>(rt: &R, row: &Row<'_>, place: usize) -> Result<(), Fail> {
+    let (name, mut input) = (row.name, row.input);
+    let (mut output, mut faults) = (Vec::new(rt.alloc()), InterruptedWriter::new(rt, place));
+    let status = run_program(rt, row.words, &mut input, &mut output, &mut faults);
+    assert_eq!(rt; status, row.status, "status of {name} at {place}");
+    assert!(rt; output.is_empty(), "output of {name} at {place}");
+    assert_eq!(rt;
+        faults.interruptions,
+        1,
+        "interruptions of {name} at {place}"
+    );
+    assert_eq!(rt;
+        str::from_utf8(faults.taken.as_slice())?,
+        row.faults,
+        "faults of {name} at {place}"
+    );
+    Ok(())
+}
+
+#[test]
+fn a_standard_error_that_is_interrupted_gets_all(rt: HostRuntime) -> Result<(), Fail> {
+    for row in &REFUSALS {
+        for place in 0..row.faults.len() {
+            told_after(&rt, row, place)?;
+        }
+    }
     Ok(())
 }

@@ -1,3 +1,5 @@
+//! Lines that are no events.
+
 use super::{Row, run_row};
 use std::process::Abort;
 use std::test::Fail;

@@ -1,5 +1,7 @@
-use super::devices::FailingReader;
-use super::{Row, run_row, run_rows};
+//! Which fault is told where there are two, and the longest script.
+
+use super::fakes::FailingReader;
+use super::{CAP_ALONE, CAP_ALONE_TOLD, Row, run_row, run_rows};
 use crate::program::run_program;
 use crate::script::LIMIT;
 use std::io::ErrorKind;
@@ -41,13 +43,10 @@ fn the_first_bad_line_is_told(rt: HostRuntime) -> Result<(), Fail> {
 fn bad_words_come_before_the_input(rt: HostRuntime) -> Result<(), Fail> {
     let row = Row {
         name: "bad words and a bad line",
-        words: &["tokend", "script", "--cap"],
+        words: &CAP_ALONE,
         input: b"open 0\n",
         output: "",
-        faults: "error: a value is required for '--cap <N>' but none was supplied
-
-For more information, try '--help'.
-",
+        faults: CAP_ALONE_TOLD,
         status: 2,
     };
     run_row(&rt, &row)?;

@@ -1,8 +1,11 @@
+//! Replies that no request gives yet, printed.
+
 use crate::print::print_outcomes;
 use std::alloc::Global;
 use std::test::Fail;
 use tk_handle::RegionNumber;
-use tk_world::{Event, Outcome, Payload, Reply};
+use tk_message::{Payload, Reply, Status};
+use tk_world::{Event, Outcome};
 
 // What is printed of a reply to region 1.
 fn printed(alloc: Global, reply: Reply) -> Result<Vec<u8>, Fail> {
@@ -16,7 +19,7 @@ fn printed(alloc: Global, reply: Reply) -> Result<Vec<u8>, Fail> {
 fn a_location_stands_behind_the_status(rt: HostRuntime) -> Result<(), Fail> {
     let alloc = rt.alloc();
     let reply = Reply {
-        status: 302,
+        status: Status::Found,
         location: Some(String::from_str(alloc, "https://app.example/cb?state=x")?),
         www: false,
         body: Payload::Empty,
@@ -37,7 +40,7 @@ fn other_bytes_are_printed_as_they_are(rt: HostRuntime) -> Result<(), Fail> {
         (b"".as_slice(), "reply 200\n"),
     ] {
         let reply = Reply {
-            status: 200,
+            status: Status::Ok,
             location: None,
             www: false,
             body: Payload::Bytes(Vec::from_slice(alloc, bytes)?),

@@ -1,17 +1,7 @@
-use super::{Row, run_row, run_rows};
-use std::test::Fail;
+//! Scripts of each event, and what is printed of them.
 
-// A run of this script that is printed.
-fn printed<'a>(name: &'a str, input: &'a [u8], output: &'a str) -> Row<'a> {
-    Row {
-        name,
-        words: &["tokend", "script"],
-        input,
-        output,
-        faults: "",
-        status: 0,
-    }
-}
+use super::{Row, printed, run_row, run_rows};
+use std::test::Fail;
 
 #[test]
 fn a_client_is_known_where_its_bundle_came(rt: HostRuntime) -> Result<(), Fail> {
