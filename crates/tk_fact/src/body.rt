@@ -17,9 +17,9 @@
 //!    doesn't know the kind finds each bundle with such a fact malformed.
 //! 9. tk_ledger: a row in `grant_of` of `proofs/FamilyEnds.antt` for codes and one for refresh tokens. Where it is a link
 //!    of a family or says of one that it ends: `link_of`, `revoked_by` or `reuse_of` of `specs/Tokens.antt` with
-//!    `src/tokens.rt` and `src/families.rt`, and `generation_of` of `specs/Status.antt` with `src/status.rt`. Where it
-//!    makes or ends a client or a consent: `specs/Clients.antt` with `src/clients.rt` and `src/consents.rt`. All but
-//!    `grant_of` end in a row for the other kinds, so nothing asks for these rows.
+//!    `tokens.rt` and `families.rt` of `src/plain/`, and `generation_of` of `specs/Status.antt` with `status.rt` there.
+//!    Where it makes or ends a client or a consent: `specs/Clients.antt` with `clients.rt` and `consents.rt` there. All
+//!    but `grant_of` end in a row for the other kinds, so nothing asks for these rows.
 //! 10. tk_world: the request that makes such facts, and its decision.
 //! 11. Words: "nine" here, in `src/lib.rt`, in README.md and in docs/ARCHITECTURE.md, the kinds 1 to 9 and their table in
 //!     docs/FORMATS.md, the row "fact" of docs/DEFINITIONS.md.

@@ -4,13 +4,13 @@
 --   joins_more            facts, and then further ones
 --   joins_same            one set comes of the same facts in any order, however often each is joined
 --   joins_is_with_facts   it is the set with these facts too
-use Rattle.std.proofs.Common.{◌≡◌, ◌⊎◌, List, [], ◌∷◌, ◌++◌, Option, Some, None, refl, sym, ap, subst, ◌∙◌, inl, inr, Contains, get_or, arith}
+use Rattle.std.proofs.Common.{◌≡◌, ◌⊎◌, [], ◌∷◌, ◌++◌, Option, Some, None, refl, sym, ap, subst, ◌∙◌, inl, inr, Contains, arith}
 use Rattle.std.proofs.lemmas.List.Elements.{Contains-append_right}
 use Rattle.std.specs.FinMap as map
 use Rattle.tk_handle.specs.declared.dot.Dot.{Dot}
 use Rattle.tk_handle.specs.Dot.{dot_cmp}
 use Rattle.tk_fact.specs.declared.body.Body.{Body}
-use Rattle.tk_store.specs.FactSet.{FactSet, Facts, Agree, AllIn, IsSubset, with_facts, set_of}
+use Rattle.tk_store.specs.FactSet.{FactSet, Facts, AllIn, IsSubset, with_facts}
 use Rattle.tk_store.specs.Joining.{JoinsFacts, SameFacts}
 use Rattle.tk_store.proofs.FactSetLaws.{same_set, with_facts-append, with_facts_is_joined}
 use Rattle.tk_store.proofs.PutLaws.{of_dot, get_here, some_injective, none_is_not_some}

@@ -4,12 +4,10 @@
 --   IsFactSet-insert, IsFactSet-empty
 use Rattle.std.proofs.Common.{◌≡◌, ◌+◌, true, false, cond, Option, Some, None, is_some, refl, sym, ap, subst, ◌∙◌}
 use Rattle.std.specs.Ordering.{eq_by_cmp, is_eq}
-use Rattle.std.specs.declared.cmp.Ordering.{Ordering}
-use Rattle.std.specs.declared.cmp.Ordering.TheVariants.{Less, Equal, Greater}
 use Rattle.std.proofs.lemmas.Cmp.{tied_itself}
 use Rattle.std.specs.FinMap as map
 use Rattle.tk_handle.specs.declared.dot.Dot.{Dot}
-use Rattle.tk_handle.specs.Dot.{dot_cmp, dot_cmp_total, dot_cmp-IsAntisymmetric}
+use Rattle.tk_handle.specs.Dot.{dot_cmp, dot_cmp_total}
 use Rattle.tk_fact.specs.Check.{refusal_of}
 use Rattle.tk_fact.specs.declared.body.Body.{Body}
 use Rattle.tk_store.specs.FactSet.{FactSet, IsFactSet}

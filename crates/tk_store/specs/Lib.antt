@@ -1,5 +1,5 @@
 -- The words of this crate:
---   FactSet   sets of facts; Agree, with_facts, joined, IsFactSet
+--   FactSet   sets of facts; Agree, with_facts, joined, IsFactSet, IsSubset
 --   Joining   JoinsFacts, what a set becomes once facts are joined to it; SameFacts
 --   Store     what contracts see of a store; facts_of, known_in
 --   Adding    Adds, what adding a fact may end with

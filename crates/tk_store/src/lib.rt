@@ -5,7 +5,8 @@
 //! the dots that a version vector doesn't cover; `next_dot` says where a region's next fact stands.
 //!
 //! Contracts see a store as a finite map from dots to bodies. Above this crate nothing knows how it is kept: today
-//! a list in the order of the dots. The definitions are in specs/: `FactSet` first, then `Adding`, `Walk`, `Beyond`.
+//! a list in the order of the dots. The definitions are in specs/: `FactSet` first, then `Joining`,
+//! `Adding`, `Walk`, `Beyond`.
 #![tactic(auto)]
 
 mod list;

@@ -54,7 +54,7 @@ ghost use Rattle.tk_store.specs.Beyond.{beyond};
 ghost use Rattle.tk_store.specs.Walk.{above};
 ghost use Rattle.tk_store.specs.NextDot.{next_dot, next_serial};
 
-use crate::list::{count, dots_beyond, first_above, last_serial, insert_at, place};
+use crate::list::{count, dots_beyond, first_above, insert_at, last_serial, place};
 use crate::walk::Facts;
 use std::alloc::{AllocError, Global};
 use tk_handle::{Dot, RegionNumber};

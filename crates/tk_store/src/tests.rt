@@ -75,7 +75,10 @@ fn a_walk_goes_up_by_dot(rt: HostRuntime) -> Result<(), Fail> {
         ("after the last", Some(dot(3, 2)?), None),
     ];
     for (name, after, want) in rows {
-        assert!(rt; store.next_after(after).map(|fact| fact.dot) == want, "{name}");
+        assert!(rt;
+            store.next_after(after).map(|fact| fact.dot) == want,
+            "{name}"
+        );
     }
     Ok(())
 }

@@ -19,7 +19,6 @@ use Rattle.tk_vector.specs.VersionVector.{Vector}
 use Rattle.tk_store.specs.FactSet.{FactSet, Facts, AllIn, IsSubset, with_facts}
 use Rattle.tk_store.specs.Beyond.{beyond, is_beyond}
 use Rattle.tk_store.specs.NextDot.{last_serial, next_serial, next_dot}
-use Rattle.tk_store.specs.Joining.{JoinsFacts}
 use Rattle.tk_store.proofs.EntryLaws.{AllIn-entries}
 use Rattle.tk_store.proofs.JoiningLaws.{joins_is_with_facts}
 use Rattle.tk_store.proofs.NextDotLaws.{next_is_free}

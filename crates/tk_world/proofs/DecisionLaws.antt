@@ -3,10 +3,8 @@ use Rattle.std.proofs.Common.{◌≡◌, ℕ, ◌||◌, ◌&&◌, ◌==◌, Bool
 use Rattle.std.specs.List.{list_all, slice_split}
 use Rattle.tk_handle.specs.declared.dot.Dot.{Dot}
 use Rattle.tk_handle.specs.ClientId as client_id
-use Rattle.tk_fact.specs.Check.{refusal_of}
 use Rattle.tk_match.specs.Redirects.{is_uri, is_absolute, redirects_of, redirects_refusal, registration_refusal}
 use Rattle.tk_scope.specs.Scope.{scope_of}
-use Rattle.tk_fact.specs.declared.body.Body.{Body}
 use Rattle.tk_fact.specs.declared.body.Body.TheVariants.{ClientRetired}
 use Rattle.tk_fact.specs.declared.client_added.ClientAdded as added
 use Rattle.tk_fact.specs.declared.check.FactError.{FactError}

@@ -1,6 +1,6 @@
 -- What a run of the program comes to, by what its pieces do.
-use Rattle.std.proofs.Common.{◌≡◌, ℕ, List, Option, Some, None, Result, Ok, Err, is_ok, subst}
-use Rattle.std.specs.Prelude.{IfSome, IfErr, OnOk}
+use Rattle.std.proofs.Common.{◌≡◌, ℕ, List, Option, Some, None, Result, Ok, Err, subst}
+use Rattle.std.specs.Prelude.{IfSome, IfErr}
 use Rattle.std.specs.Io.KnownBytes.{Appends}
 use Rattle.clap.specs.Words.{Text}
 use Rattle.tokend.specs.Put.{AppendsFront}

@@ -4,6 +4,7 @@
 --   Fields        the numbers and texts that a line's fields stand for
 --   Line          the lines that are events, and the words that these draw
 --   Script        the events of a script, and its first bad line
+--   Put           what writing leaves of an output
 --   Printed       what is printed of an event
 --   Status        the exit status of a fault
 --   ScriptRun     what a script comes to when it is run

@@ -1,4 +1,4 @@
-use Rattle.std.proofs.Common.{◌≡◌, ◌<◌, ◌≤◌, List, length, min, subst, arith}
+use Rattle.std.proofs.Common.{◌<◌, ◌≤◌, length, min, subst, arith}
 use Rattle.std.specs.Io.KnownBytes.{Appends}
 use Rattle.tokend.proofs.Putting.{lines_more, lines_failed, lines_end}
 use Rattle.tokend.proofs.print.print_outcomes.Goals as goal
