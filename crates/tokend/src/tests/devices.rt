@@ -3,7 +3,7 @@
 use super::fakes::{FailingReader, FailingWriter, InterruptedWriter, StuckWriter};
 use super::{CAP_ALONE, CAP_ALONE_TOLD, Row};
 use crate::program::run_program;
-use std::io::{ErrorKind, Read};
+use std::io::ErrorKind;
 use std::process::Abort;
 use std::test::Fail;
 
@@ -205,41 +205,45 @@ fn a_standard_error_that_fails_changes_nothing(rt: HostRuntime) -> Result<(), Fa
     Ok(())
 }
 
-// Over a standard error with this room, a run has the same status, and leaves the beginning of what is told.
-fn told_within<R: AllocGlobal + Abort, I: Read>(rt: &R, row: &Row<'_>, input: &mut I, room: usize) {
-    let name = row.name;
+// Whether these bytes are the first so many of what is told.
+fn is_front(told: &str, taken: &[u8], count: usize) -> bool {
+    taken.len() == count && told.as_bytes().starts_with(taken)
+}
+
+// Over a standard error with this room, a refused run has the same status, and leaves the beginning of what is told.
+fn told_within<R: AllocGlobal + Abort>(rt: &R, row: &Row<'_>, room: usize) -> Result<(), Fail> {
+    let (name, mut input) = (row.name, row.input);
     let (mut output, mut faults) = (Vec::new(rt.alloc()), FailingWriter::new(rt, room));
-    let status = run_program(rt, row.words, input, &mut output, &mut faults);
-    assert_eq!(rt; status, row.status, "status of {name} at {room}");
-    assert!(rt; output.is_empty(), "output of {name} at {room}");
-    assert_eq!(rt; faults.failures, 1, "failures of {name} at {room}");
-    assert_eq!(rt; faults.taken.len(), room, "bytes of {name} at {room}");
-    assert!(rt;
-        row.faults.as_bytes().starts_with(faults.taken.as_slice()),
-        "faults of {name} at {room}"
-    );
+    let status = run_program(rt, row.words, &mut input, &mut output, &mut faults);
+    assert_eq!(rt; status, row.status, "status of {name}");
+    assert!(rt; output.is_empty(), "output of {name}");
+    assert_eq!(rt; faults.failures, 1, "failures of {name}");
+    let is_front = is_front(row.faults, faults.taken.as_slice(), room);
+    assert!(rt; is_front, "faults of {name}");
+    Ok(())
 }
 
 #[test]
-fn a_standard_error_that_fails_has_the_beginning(rt: HostRuntime) {
+fn a_standard_error_that_fails_has_the_beginning(rt: HostRuntime) -> Result<(), Fail> {
     for row in &REFUSALS {
         for room in 0..row.faults.len() {
-            let mut input = row.input;
-            told_within(&rt, row, &mut input, room);
+            told_within(&rt, row, room)?;
         }
     }
+    Ok(())
+}
+
+#[test]
+fn a_standard_error_that_fails_has_the_beginning_for_an_input_too(rt: HostRuntime) {
     for &(name, given, kind, told) in &INPUTS {
-        let row = Row {
-            name,
-            words: &SCRIPT,
-            input: given,
-            output: "",
-            faults: told,
-            status: 1,
-        };
         for room in 0..told.len() {
-            let mut input = FailingReader::new(row.input, kind);
-            told_within(&rt, &row, &mut input, room);
+            let mut input = FailingReader::new(given, kind);
+            let (mut output, mut faults) = (Vec::new(rt.alloc()), FailingWriter::new(&rt, room));
+            let status = run_program(&rt, &SCRIPT, &mut input, &mut output, &mut faults);
+            assert_eq!(rt; status, 1, "status {name}");
+            assert!(rt; output.is_empty(), "output {name}");
+            let is_front = is_front(told, faults.taken.as_slice(), room);
+            assert!(rt; is_front, "faults {name}");
         }
     }
 }
