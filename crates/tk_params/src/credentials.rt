@@ -45,7 +45,7 @@ impl From<AllocError> for CredentialsError {
     }
 }
 
-ghost use Rattle.std.specs.Prelude.{◌≡◌, IfOk, IsErrOf, Some};
+ghost use Rattle.std.specs.Prelude.{◌≡◌, IfNone, IfOk, IsErrOf, IsOk, Some};
 ghost use Rattle.std.specs.Cow.{cow_str_bytes};
 ghost use Rattle.std.specs.Option.{option_copied, option_map};
 ghost use Rattle.tk_params.specs.Credentials as spec;
@@ -68,6 +68,9 @@ impl<'a> Credentials<'a> {
             → spec.presented_in (option_copied header.entry) params.now ≡ spec.Mixed }
         ensures basic { IsErrOf result CredentialsError.Basic
             → spec.presented_in (option_copied header.entry) params.now ≡ spec.Unreadable }
+
+        // What the body alone presents takes no memory.
+        ensures body { IfNone header.entry (IsOk result) }
     {
         match header {
             None => Ok(of_body(params)),
@@ -153,7 +156,11 @@ fn of_basic<'a>(basic: Basic) -> Credentials<'a>
     ensures { result ≡ spec.of_basic basic }
 {
     let Basic { id, secret } = basic;
-    let secret = if secret.is_empty() { None } else { Some(CowStr::Owned(secret)) };
+    let secret = if secret.is_empty() {
+        None
+    } else {
+        Some(CowStr::Owned(secret))
+    };
     Credentials {
         id: Some(CowStr::Owned(id)),
         secret,
