@@ -1,0 +1,227 @@
+-- What becomes of an administration request: for each endpoint its cases, in their order (own; RFC 6749, 2 and 3.3).
+--   registered_of   POST /admin/client
+--   shown_of        GET /admin/client
+--   retired_of      POST /admin/retire
+--   consented_of    POST /admin/consent
+--   withdrawn_of    POST /admin/withdraw
+--   administered_of   by the endpoint
+use Rattle.std.specs.Prelude.{ℕ, Bool, ◌&&◌, ◌==◌, nat_le, List, [], ◌∷◌, length, codes, Option, Some, None, is_none, Result, Ok, Err, if◌then◌else◌}
+use Rattle.std.specs.List.{list_all, slice_split}
+use Rattle.std.specs.Str.{bytes_eq}
+use Rattle.sha2.specs.Sha256.{sha256}
+use Rattle.tk_handle.specs.declared.dot.Dot.{Dot}
+use Rattle.tk_handle.specs.ClientId.{client_in}
+use Rattle.tk_handle.specs.ConsentId.{consent_in}
+use Rattle.tk_match.specs.Redirects.{registration_refusal}
+use Rattle.tk_scope.specs.Scope.{scope_of}
+use Rattle.tk_fact.specs.declared.sort.Sort.{Sort}
+use Rattle.tk_fact.specs.declared.sort.Sort.TheVariants.{Public, Confidential, Resource}
+use Rattle.tk_fact.specs.Subject.{is_visible, is_subject}
+use Rattle.tk_store.specs.FactSet.{FactSet}
+use Rattle.tk_ledger.specs.Views.{client_view, consent_view}
+use Rattle.tk_ledger.specs.ViewFields.{ClientFields, ConsentFields}
+use Rattle.tk_params.specs.Params.{Pairs, value_of, has_twice}
+use Rattle.tk_message.specs.declared.request.Endpoint.{Endpoint}
+use Rattle.tk_message.specs.declared.request.Endpoint.TheVariants as endpoint
+use Rattle.tk_message.specs.RequestFields.{RequestFields}
+use Rattle.tk_message.specs.ScopeAsked.{scope_asked}
+use Rattle.tk_authorize.specs.declared.admin_refusal.AdminRefusal.{AdminRefusal}
+use Rattle.tk_authorize.specs.declared.admin_refusal.AdminRefusal.TheVariants.{DuplicateParameter, MissingParameter, UnknownKind, UnwantedSecret, MissingSecret, BadSecret, BadScope, BadRedirects, UnknownClient, BadSubject, WrongScope, UnknownConsent, UnknownEndpoint}
+use Rattle.tk_authorize.specs.declared.administered.Administered.{Administered}
+use Rattle.tk_authorize.specs.declared.administered.Administered.TheVariants.{Refused, Registers, Shows, Retires, Consents, Withdraws}
+
+-- ---- add a client
+
+-- the most bytes of a client's secret (own)
+abbrev pub most_secret_bytes : ℕ
+most_secret_bytes = 128
+
+-- 1 to that many visible bytes (own)
+abbrev pub is_secret : List ℕ → Bool
+is_secret secret = nat_le 1 (length secret) && nat_le (length secret) most_secret_bytes && list_all is_visible secret
+
+-- a public client has no secret (RFC 6749, 2.1)
+abbrev pub public_sort : Option (List ℕ) → Result Sort AdminRefusal
+public_sort None = Ok Public
+public_sort (Some secret) = Err UnwantedSecret
+
+-- another has one, of which the digest is kept
+abbrev pub digest_asked : Option (List ℕ) → Result (List ℕ) AdminRefusal
+digest_asked None = Err MissingSecret
+digest_asked (Some secret) = if is_secret secret then Ok (sha256 secret) else Err BadSecret
+
+abbrev pub confidential_sort : Result (List ℕ) AdminRefusal → Result Sort AdminRefusal
+confidential_sort (Err why) = Err why
+confidential_sort (Ok digest) = Ok (Confidential digest)
+
+abbrev pub resource_sort : Result (List ℕ) AdminRefusal → Result Sort AdminRefusal
+resource_sort (Err why) = Err why
+resource_sort (Ok digest) = Ok (Resource digest)
+
+abbrev pub sort_asked : List ℕ → Option (List ℕ) → Result Sort AdminRefusal
+sort_asked kind secret =
+    if bytes_eq kind (codes "public") then public_sort secret
+    else if bytes_eq kind (codes "confidential") then confidential_sort (digest_asked secret)
+    else if bytes_eq kind (codes "resource") then resource_sort (digest_asked secret)
+    else Err UnknownKind
+
+-- what parts redirection URIs
+abbrev pub is_space : ℕ → Bool
+is_space b = b == 32
+
+-- the list of these URIs, where each may be registered
+abbrev pub registered : List (List ℕ) → Option (List (List ℕ))
+registered uris = if is_none (registration_refusal uris) then Some uris else None
+
+-- a list that may not be registered
+abbrev pub registered_to : Sort → List ℕ → Option (List (List ℕ)) → Administered
+registered_to sort scope None = Refused BadRedirects
+registered_to sort scope (Some uris) = Registers (record { sort = sort; scope = scope; redirects = uris })
+
+-- a scope that can't be read
+abbrev pub registered_with : Sort → Option (List ℕ) → List ℕ → Administered
+registered_with sort None redirects = Refused BadScope
+registered_with sort (Some scope) redirects = registered_to sort scope (registered (slice_split is_space redirects))
+
+-- a kind that is none, or a secret that doesn't go with it
+abbrev pub registered_as : Result Sort AdminRefusal → List ℕ → List ℕ → Administered
+registered_as (Err why) scope redirects = Refused why
+registered_as (Ok sort) scope redirects = registered_with sort (scope_of scope) redirects
+
+-- the kind, the scope or the redirection URIs absent
+abbrev pub registered_by : Option (List ℕ) → Option (List ℕ) → Option (List ℕ) → Option (List ℕ) → Administered
+registered_by None scope redirects secret = Refused MissingParameter
+registered_by (Some kind) None redirects secret = Refused MissingParameter
+registered_by (Some kind) (Some scope) None secret = Refused MissingParameter
+registered_by (Some kind) (Some scope) (Some redirects) secret = registered_as (sort_asked kind secret) scope redirects
+
+abbrev pub registration_names : List (List ℕ)
+registration_names = codes "kind" ∷ codes "secret" ∷ codes "scope" ∷ codes "redirects" ∷ []
+
+-- a known parameter twice
+abbrev pub registered_of : Pairs → Administered
+registered_of params =
+    if has_twice registration_names params then Refused DuplicateParameter
+    else registered_by (value_of (codes "kind") params) (value_of (codes "scope") params) (value_of (codes "redirects") params) (value_of (codes "secret") params)
+
+-- ---- the client that an id names: show it, retire it
+
+-- no client's id
+abbrev pub client_by : Option Dot → Result Dot AdminRefusal
+client_by None = Err UnknownClient
+client_by (Some d) = Ok d
+
+-- the id absent
+abbrev pub client_asked : Option (List ℕ) → Result Dot AdminRefusal
+client_asked None = Err MissingParameter
+client_asked (Some id) = client_by (client_in id)
+
+abbrev pub client_names : List (List ℕ)
+client_names = codes "client_id" ∷ []
+
+-- the id twice
+abbrev pub client_named : Pairs → Result Dot AdminRefusal
+client_named params =
+    if has_twice client_names params then Err DuplicateParameter
+    else client_asked (value_of (codes "client_id") params)
+
+-- no client there
+abbrev pub shown_at : Dot → Option ClientFields → Administered
+shown_at d None = Refused UnknownClient
+shown_at d (Some client) = Shows (record { client = d; sort = client.sort; live = client.live; scope = client.scope })
+
+abbrev pub shown_by : FactSet → Result Dot AdminRefusal → Administered
+shown_by F (Err why) = Refused why
+shown_by F (Ok d) = shown_at d (client_view F d)
+
+abbrev pub shown_of : FactSet → Pairs → Administered
+shown_of F params = shown_by F (client_named params)
+
+-- no client there
+abbrev pub retired_at : Dot → Option ClientFields → Administered
+retired_at d None = Refused UnknownClient
+retired_at d (Some client) = Retires d client.live
+
+abbrev pub retired_by : FactSet → Result Dot AdminRefusal → Administered
+retired_by F (Err why) = Refused why
+retired_by F (Ok d) = retired_at d (client_view F d)
+
+abbrev pub retired_of : FactSet → Pairs → Administered
+retired_of F params = retired_by F (client_named params)
+
+-- ---- give a consent
+
+-- a scope that can't be read, or goes beyond the client's (RFC 6749, 3.3)
+abbrev pub consented_for : Dot → List ℕ → Option (List ℕ) → Administered
+consented_for client subject None = Refused WrongScope
+consented_for client subject (Some scope) = Consents (record { client = client; subject = subject; scope = scope })
+
+-- a subject that is none
+abbrev pub consented_as : Dot → List ℕ → List ℕ → List ℕ → Administered
+consented_as client whole subject scope =
+    if is_subject subject then consented_for client subject (scope_asked whole (Some scope)) else Refused BadSubject
+
+-- no client there, or a retired one
+abbrev pub consented_at : Dot → List ℕ → List ℕ → Option ClientFields → Administered
+consented_at client subject scope None = Refused UnknownClient
+consented_at client subject scope (Some view) = if view.live then consented_as client view.scope subject scope else Refused UnknownClient
+
+-- no client's id
+abbrev pub consented_to : FactSet → List ℕ → List ℕ → Option Dot → Administered
+consented_to F subject scope None = Refused UnknownClient
+consented_to F subject scope (Some client) = consented_at client subject scope (client_view F client)
+
+-- the client, the subject or the scope absent
+abbrev pub consented_by : FactSet → Option (List ℕ) → Option (List ℕ) → Option (List ℕ) → Administered
+consented_by F None subject scope = Refused MissingParameter
+consented_by F (Some id) None scope = Refused MissingParameter
+consented_by F (Some id) (Some subject) None = Refused MissingParameter
+consented_by F (Some id) (Some subject) (Some scope) = consented_to F subject scope (client_in id)
+
+abbrev pub consent_names : List (List ℕ)
+consent_names = codes "client_id" ∷ codes "subject" ∷ codes "scope" ∷ []
+
+-- a known parameter twice
+abbrev pub consented_of : FactSet → Pairs → Administered
+consented_of F params =
+    if has_twice consent_names params then Refused DuplicateParameter
+    else consented_by F (value_of (codes "client_id") params) (value_of (codes "subject") params) (value_of (codes "scope") params)
+
+-- ---- withdraw a consent
+
+-- no consent there
+abbrev pub withdrawn_at : Dot → Option ConsentFields → Administered
+withdrawn_at d None = Refused UnknownConsent
+withdrawn_at d (Some consent) = Withdraws d consent.live
+
+-- no consent's id
+abbrev pub withdrawn_to : FactSet → Option Dot → Administered
+withdrawn_to F None = Refused UnknownConsent
+withdrawn_to F (Some d) = withdrawn_at d (consent_view F d)
+
+-- the id absent
+abbrev pub withdrawn_by : FactSet → Option (List ℕ) → Administered
+withdrawn_by F None = Refused MissingParameter
+withdrawn_by F (Some id) = withdrawn_to F (consent_in id)
+
+abbrev pub withdrawal_names : List (List ℕ)
+withdrawal_names = codes "consent_id" ∷ []
+
+-- the id twice
+abbrev pub withdrawn_of : FactSet → Pairs → Administered
+withdrawn_of F params =
+    if has_twice withdrawal_names params then Refused DuplicateParameter
+    else withdrawn_by F (value_of (codes "consent_id") params)
+
+-- ---- by the endpoint
+
+abbrev pub administered_at : Endpoint → FactSet → Pairs → Administered
+administered_at endpoint.Authorize F params = Refused UnknownEndpoint
+administered_at endpoint.AddClient F params = registered_of params
+administered_at endpoint.ShowClient F params = shown_of F params
+administered_at endpoint.Retire F params = retired_of F params
+administered_at endpoint.Consent F params = consented_of F params
+administered_at endpoint.Withdraw F params = withdrawn_of F params
+
+abbrev pub administered_of : FactSet → RequestFields → Administered
+administered_of F request = administered_at request.endpoint F request.params

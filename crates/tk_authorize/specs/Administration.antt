@@ -1,0 +1,54 @@
+-- What an administration request is answered, and the fact that it makes (own; RFC 6749, 2 for what a client is).
+--   code_of             what a refusal is called
+--   administered_by     what is done with a judgement
+--   administration_of   the decision: the judgement of specs/Administered, and what is done with it
+use Rattle.std.specs.Prelude.{Option, Some, None, if◌then◌else◌}
+use Rattle.tk_fact.specs.declared.body.Body.TheVariants.{ClientAdded, ClientRetired, ConsentGiven, ConsentWithdrawn}
+use Rattle.tk_store.specs.FactSet.{FactSet}
+use Rattle.tk_message.specs.declared.decision.Decision.{Decision}
+use Rattle.tk_message.specs.declared.error_code.ErrorCode.{ErrorCode}
+use Rattle.tk_message.specs.declared.error_code.ErrorCode.TheVariants.{InvalidRequest, InvalidScope, NotFound}
+use Rattle.tk_message.specs.declared.place.Place.{Place}
+use Rattle.tk_message.specs.declared.status.Status.TheVariants as status
+use Rattle.tk_message.specs.Decision.{answered, refused}
+use Rattle.tk_message.specs.Place.{next_in}
+use Rattle.tk_message.specs.Reply.{client_reply, consent_reply, shown_reply}
+use Rattle.tk_message.specs.RequestFields.{RequestFields}
+use Rattle.tk_authorize.specs.declared.admin_refusal.AdminRefusal.{AdminRefusal}
+use Rattle.tk_authorize.specs.declared.admin_refusal.AdminRefusal.TheVariants as refusal
+use Rattle.tk_authorize.specs.declared.administered.Administered.{Administered}
+use Rattle.tk_authorize.specs.declared.administered.Administered.TheVariants.{Refused, Registers, Shows, Retires, Consents, Withdraws}
+use Rattle.tk_authorize.specs.Administered.{administered_of}
+
+abbrev pub code_of : AdminRefusal → ErrorCode
+code_of refusal.DuplicateParameter = InvalidRequest
+code_of refusal.MissingParameter = InvalidRequest
+code_of refusal.UnknownKind = InvalidRequest
+code_of refusal.UnwantedSecret = InvalidRequest
+code_of refusal.MissingSecret = InvalidRequest
+code_of refusal.BadSecret = InvalidRequest
+code_of refusal.BadScope = InvalidScope
+code_of refusal.BadRedirects = InvalidRequest
+code_of refusal.UnknownClient = NotFound
+code_of refusal.BadSubject = InvalidRequest
+code_of refusal.WrongScope = InvalidScope
+code_of refusal.UnknownConsent = NotFound
+code_of refusal.UnknownEndpoint = NotFound
+
+-- a client and a consent get the id of the next dot; what is retired or withdrawn already makes no fact
+abbrev pub administered_by : Place → Administered → Decision
+administered_by place (Refused why) = refused (code_of why)
+administered_by place (Registers client) = record { reply = client_reply status.Created (next_in place); made = Some (ClientAdded client) }
+administered_by place (Shows client) = answered (shown_reply client.client client.sort client.live client.scope)
+administered_by place (Retires client live) = record {
+  reply = client_reply status.Ok client;
+  made = if live then Some (ClientRetired (record { client = client })) else None;
+}
+administered_by place (Consents consent) = record { reply = consent_reply status.Created (next_in place); made = Some (ConsentGiven consent) }
+administered_by place (Withdraws consent live) = record {
+  reply = consent_reply status.Ok consent;
+  made = if live then Some (ConsentWithdrawn (record { consent = consent })) else None;
+}
+
+abbrev pub administration_of : FactSet → Place → RequestFields → Decision
+administration_of F place request = administered_by place (administered_of F request)

@@ -1,0 +1,15 @@
+-- What holds of every judgement of an administration request (own): it is what makes each fact pass its check.
+use Rattle.std.specs.Prelude.{◌≡◌, None}
+use Rattle.tk_fact.specs.Check.{refusal_of}
+use Rattle.tk_fact.specs.declared.body.Body.TheVariants.{ClientAdded, ConsentGiven}
+use Rattle.tk_authorize.specs.declared.administered.Administered.{Administered}
+use Rattle.tk_authorize.specs.declared.administered.Administered.TheVariants.{Refused, Registers, Shows, Retires, Consents, Withdraws}
+
+-- the client and the consent pass their checks
+abbrev pub IsSoundAdministered : Administered → Type 0
+IsSoundAdministered (Refused why) = Unit {0}
+IsSoundAdministered (Registers client) = refusal_of (ClientAdded client) ≡ None
+IsSoundAdministered (Shows client) = Unit {0}
+IsSoundAdministered (Retires client live) = Unit {0}
+IsSoundAdministered (Consents consent) = refusal_of (ConsentGiven consent) ≡ None
+IsSoundAdministered (Withdraws consent live) = Unit {0}

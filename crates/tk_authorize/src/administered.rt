@@ -1,0 +1,59 @@
+//! What becomes of an administration request, and which endpoint goes through which cases.
+
+use crate::admin_refusal::AdminRefusal;
+use tk_fact::{ClientAdded, ConsentGiven, Sort};
+use tk_handle::Dot;
+use tk_scope::Scope;
+
+// What becomes of an administration request.
+#[derive(Debug, Drop)]
+pub(crate) enum Administered {
+    Refused(AdminRefusal),
+    Registers(ClientAdded),
+    Shows(ShownClient),
+    // The client, and whether it is live.
+    Retires(Dot, bool),
+    Consents(ConsentGiven),
+    // The consent, and whether it is live.
+    Withdraws(Dot, bool),
+}
+
+// What is shown of a client.
+#[derive(Debug, Drop)]
+pub(crate) struct ShownClient {
+    pub(crate) client: Dot,
+    pub(crate) sort: Sort,
+    pub(crate) live: bool,
+    pub(crate) scope: Scope,
+}
+
+ghost use Rattle.std.specs.Prelude.{◌≡◌, IfOk};
+ghost use Rattle.tk_store.specs.Store.{facts_of};
+ghost use Rattle.tk_authorize.specs.Administered as spec;
+ghost use Rattle.tk_authorize.specs.SoundAdministered.{IsSoundAdministered};
+
+use crate::clients::{retire, show};
+use crate::consents::{consent, withdraw};
+use crate::registration::register;
+use std::alloc::{AllocError, Global};
+use tk_ledger::Ledger;
+use tk_message::{Endpoint, Request};
+
+// The cases of the request's endpoint.
+pub(crate) fn administer(
+    alloc: Global,
+    ledger: &Ledger,
+    request: &Request,
+) -> Result<Administered, AllocError>
+    ensures value { IfOk result (λ a. a ≡ spec.administered_of (facts_of ledger.now) request.now) }
+    ensures sound { IfOk result IsSoundAdministered }
+{
+    match request.endpoint {
+        Endpoint::Authorize => Ok(Administered::Refused(AdminRefusal::UnknownEndpoint)),
+        Endpoint::AddClient => register(alloc, &request.params),
+        Endpoint::ShowClient => show(alloc, ledger, &request.params),
+        Endpoint::Retire => Ok(retire(ledger, &request.params)),
+        Endpoint::Consent => consent(alloc, ledger, &request.params),
+        Endpoint::Withdraw => Ok(withdraw(ledger, &request.params)),
+    }
+}

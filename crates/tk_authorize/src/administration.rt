@@ -1,0 +1,76 @@
+//! The requests of an administrator: what is done with the judgement of each.
+
+ghost use Rattle.std.specs.Prelude.{◌≡◌, IfOk};
+ghost use Rattle.tk_store.specs.Store.{facts_of};
+ghost use Rattle.tk_message.specs.Decision.{Passes};
+ghost use Rattle.tk_authorize.specs.Administration as spec;
+ghost use Rattle.tk_authorize.specs.SoundAdministered.{IsSoundAdministered};
+
+use crate::administered::{Administered, administer};
+use std::alloc::{AllocError, Global};
+use tk_fact::{Body, ClientRetired, ConsentWithdrawn};
+use tk_ledger::Ledger;
+use tk_message::{
+    Decision, Place, Request, Status, client_reply, consent_reply, shown_reply,
+};
+
+/// What an administration request is answered, and the fact that it makes: clients added, shown and retired, consents
+/// given and withdrawn (own). A request to another endpoint is `not_found`. An error where memory is refused.
+pub fn decide_admin(
+    alloc: Global,
+    ledger: &Ledger,
+    place: &Place,
+    request: &Request,
+) -> Result<Decision, AllocError>
+    ensures value { IfOk result (λ d. d ≡ spec.administration_of (facts_of ledger.now) place.now request.now) }
+
+    // The fact made, if any, passes its check.
+    ensures passes { IfOk result (λ d. Passes d.made) }
+{
+    let administered = administer(alloc, ledger, request)?;
+    decide_by(alloc, place, administered)
+}
+
+fn decide_by(
+    alloc: Global,
+    place: &Place,
+    administered: Administered,
+) -> Result<Decision, AllocError>
+    requires { IsSoundAdministered administered }
+    ensures value { IfOk result (λ d. d ≡ spec.administered_by place.now administered) }
+    ensures passes { IfOk result (λ d. Passes d.made) }
+{
+    match administered {
+        Administered::Refused(why) => Decision::refuse(alloc, why.code()),
+        Administered::Registers(client) => {
+            let reply = client_reply(alloc, Status::Created, place.next_dot())?;
+            Ok(Decision {
+                reply,
+                made: Some(Body::ClientAdded(client)),
+            })
+        }
+        Administered::Shows(shown) => {
+            let reply = shown_reply(alloc, shown.client, &shown.sort, shown.live, &shown.scope)?;
+            Ok(Decision::answer(reply))
+        }
+        Administered::Retires(client, live) => {
+            let reply = client_reply(alloc, Status::Ok, client)?;
+            let retirement = Body::ClientRetired(ClientRetired { client });
+            let made = if live { Some(retirement) } else { None };
+            Ok(Decision { reply, made })
+        }
+        Administered::Consents(consent) => {
+            let reply = consent_reply(alloc, Status::Created, place.next_dot())?;
+            Ok(Decision {
+                reply,
+                made: Some(Body::ConsentGiven(consent)),
+            })
+        }
+        Administered::Withdraws(consent, live) => {
+            let reply = consent_reply(alloc, Status::Ok, consent)?;
+            let withdrawal = Body::ConsentWithdrawn(ConsentWithdrawn { consent });
+            let made = if live { Some(withdrawal) } else { None };
+            Ok(Decision { reply, made })
+        }
+    }
+}

@@ -1,0 +1,94 @@
+//! Clients that are shown and retired: the cases in their order.
+
+ghost use Rattle.std.specs.Prelude.{◌≡◌, IfOk, Ok as Found};
+ghost use Rattle.std.specs.Option.{option_copied};
+ghost use Rattle.tk_store.specs.Store.{facts_of};
+ghost use Rattle.tk_params.specs.Params.{has_twice};
+ghost use Rattle.tk_authorize.specs.Administered as spec;
+ghost use Rattle.tk_authorize.specs.SoundAdministered.{IsSoundAdministered};
+
+use crate::admin_refusal::AdminRefusal;
+use crate::administered::{Administered, ShownClient};
+use std::alloc::{AllocError, Global};
+use tk_handle::{Dot, read_client};
+use tk_ledger::Ledger;
+use tk_message::Params;
+
+pub(crate) fn show(
+    alloc: Global,
+    ledger: &Ledger,
+    params: &Params,
+) -> Result<Administered, AllocError>
+    ensures value { IfOk result (λ a. a ≡ spec.shown_of (facts_of ledger.now) params.now) }
+    ensures sound { IfOk result IsSoundAdministered }
+{
+    match client_named(params) {
+        Ok(client) => show_at(alloc, ledger, client),
+        Err(why) => Ok(Administered::Refused(why)),
+    }
+}
+
+fn show_at(alloc: Global, ledger: &Ledger, client: Dot) -> Result<Administered, AllocError>
+    ensures value { IfOk result (λ a. a ≡ spec.shown_by (facts_of ledger.now) (Found client)) }
+    ensures sound { IfOk result IsSoundAdministered }
+{
+    let Some(view) = ledger.client(client) else {
+        return Ok(Administered::Refused(AdminRefusal::UnknownClient));
+    };
+    let scope = view.scope.copy(alloc)?;
+    Ok(Administered::Shows(ShownClient {
+        client,
+        sort: *view.sort,
+        live: view.live,
+        scope,
+    }))
+}
+
+pub(crate) fn retire(ledger: &Ledger, params: &Params) -> Administered
+    ensures value { result ≡ spec.retired_of (facts_of ledger.now) params.now }
+    ensures sound { IsSoundAdministered result }
+{
+    match client_named(params) {
+        Ok(client) => retire_at(ledger, client),
+        Err(why) => Administered::Refused(why),
+    }
+}
+
+fn retire_at(ledger: &Ledger, client: Dot) -> Administered
+    ensures value { result ≡ spec.retired_by (facts_of ledger.now) (Found client) }
+    ensures sound { IsSoundAdministered result }
+{
+    match ledger.client(client) {
+        Some(view) => Administered::Retires(client, view.live),
+        None => Administered::Refused(AdminRefusal::UnknownClient),
+    }
+}
+
+// The dot of the client's id that was sent, whether or not a client was added there.
+fn client_named(params: &Params) -> Result<Dot, AdminRefusal>
+    ensures { result ≡ spec.client_named params.now }
+{
+    if is_id_twice(params) {
+        return Err(AdminRefusal::DuplicateParameter);
+    }
+    client_asked(params.value("client_id"))
+}
+
+fn is_id_twice(params: &Params) -> bool
+    ensures { result ≡ has_twice spec.client_names params.now }
+{
+    let names = ["client_id"];
+    params.has_twice(&names)
+}
+
+fn client_asked(id: Option<&str>) -> Result<Dot, AdminRefusal>
+    ensures { result ≡ spec.client_asked (option_copied id.entry) }
+{
+    let Some(id) = id else {
+        return Err(AdminRefusal::MissingParameter);
+    };
+    match read_client(id.as_bytes()) {
+        Some(client) => Ok(client),
+        None => Err(AdminRefusal::UnknownClient),
+    }
+}

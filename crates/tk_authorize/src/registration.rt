@@ -1,0 +1,203 @@
+//! A client that is added: the cases in their order (RFC 6749, 2).
+
+ghost use Rattle.std.specs.Prelude.{◌≡◌, IfOk, OnOk, Ok as Found, Some, map, codes};
+ghost use Rattle.std.specs.List.{list_all, slice_split};
+ghost use Rattle.std.specs.Option.{option_copied};
+ghost use Rattle.tk_fact.specs.Subject.{is_visible};
+ghost use Rattle.tk_params.specs.Params.{has_twice};
+ghost use Rattle.tk_authorize.specs.Administered as spec;
+ghost use Rattle.tk_authorize.specs.SoundAdministered.{IsSoundAdministered};
+
+use crate::admin_refusal::AdminRefusal;
+use crate::administered::Administered;
+use sha2::{Digest, Sha256};
+use std::alloc::{AllocError, Global};
+use tk_fact::{ClientAdded, Sort};
+use tk_match::{RedirectError, Redirects};
+use tk_message::Params;
+use tk_scope::{Scope, ScopeError};
+
+/// The most bytes of a client's secret (own).
+const MOST_SECRET_BYTES: usize = 128;
+
+pub(crate) fn register(alloc: Global, params: &Params) -> Result<Administered, AllocError>
+    ensures value { IfOk result (λ a. a ≡ spec.registered_of params.now) }
+    ensures sound { IfOk result IsSoundAdministered }
+{
+    if has_repeats(params) {
+        return Ok(Administered::Refused(AdminRefusal::DuplicateParameter));
+    }
+    let kind = params.value("kind");
+    let scope = params.value("scope");
+    let redirects = params.value("redirects");
+    register_by(alloc, kind, scope, redirects, params.value("secret"))
+}
+
+fn has_repeats(params: &Params) -> bool
+    ensures { result ≡ has_twice spec.registration_names params.now }
+{
+    let names = ["kind", "secret", "scope", "redirects"];
+    params.has_twice(&names)
+}
+
+fn register_by(
+    alloc: Global,
+    kind: Option<&str>,
+    scope: Option<&str>,
+    redirects: Option<&str>,
+    secret: Option<&str>,
+) -> Result<Administered, AllocError>
+    ensures value { IfOk result (λ a. a ≡ spec.registered_by (option_copied kind.entry) (option_copied scope.entry) (option_copied redirects.entry) (option_copied secret.entry)) }
+    ensures sound { IfOk result IsSoundAdministered }
+{
+    let Some(kind) = kind else {
+        return Ok(Administered::Refused(AdminRefusal::MissingParameter));
+    };
+    let Some(scope) = scope else {
+        return Ok(Administered::Refused(AdminRefusal::MissingParameter));
+    };
+    let Some(redirects) = redirects else {
+        return Ok(Administered::Refused(AdminRefusal::MissingParameter));
+    };
+    match sort_asked(kind, secret) {
+        Ok(sort) => register_as(alloc, sort, scope, redirects),
+        Err(why) => Ok(Administered::Refused(why)),
+    }
+}
+
+// ---- the kind and the secret
+
+fn sort_asked(kind: &str, secret: Option<&str>) -> Result<Sort, AdminRefusal>
+    ensures { result ≡ spec.sort_asked kind.now (option_copied secret.entry) }
+{
+    if kind == "public" {
+        return public_sort(secret);
+    }
+    if kind == "confidential" {
+        return confidential_sort(secret);
+    }
+    if kind == "resource" {
+        return resource_sort(secret);
+    }
+    Err(AdminRefusal::UnknownKind)
+}
+
+fn public_sort(secret: Option<&str>) -> Result<Sort, AdminRefusal>
+    ensures { result ≡ spec.public_sort (option_copied secret.entry) }
+{
+    match secret {
+        Some(_) => Err(AdminRefusal::UnwantedSecret),
+        None => Ok(Sort::Public),
+    }
+}
+
+fn confidential_sort(secret: Option<&str>) -> Result<Sort, AdminRefusal>
+    ensures { result ≡ spec.confidential_sort (spec.digest_asked (option_copied secret.entry)) }
+{
+    match digest_asked(secret) {
+        Ok(digest) => Ok(Sort::Confidential(digest)),
+        Err(why) => Err(why),
+    }
+}
+
+fn resource_sort(secret: Option<&str>) -> Result<Sort, AdminRefusal>
+    ensures { result ≡ spec.resource_sort (spec.digest_asked (option_copied secret.entry)) }
+{
+    match digest_asked(secret) {
+        Ok(digest) => Ok(Sort::Resource(digest)),
+        Err(why) => Err(why),
+    }
+}
+
+fn digest_asked(secret: Option<&str>) -> Result<[u8; 32], AdminRefusal>
+    ensures { result ≡ spec.digest_asked (option_copied secret.entry) }
+{
+    let Some(secret) = secret else {
+        return Err(AdminRefusal::MissingSecret);
+    };
+    if !is_secret(secret.as_bytes()) {
+        return Err(AdminRefusal::BadSecret);
+    }
+    Ok(Sha256::digest(secret.as_bytes()))
+}
+
+fn is_secret(secret: &[u8]) -> bool
+    ensures { result ≡ spec.is_secret secret.now }
+{
+    (1..=MOST_SECRET_BYTES).contains(&secret.len()) && is_all_visible(secret)
+}
+
+fn is_all_visible(secret: &[u8]) -> bool
+    ensures { result ≡ list_all is_visible secret.now }
+{
+    secret.iter().all(|b| (0x21..=0x7e).contains(b))
+}
+
+// ---- the scope and the redirection URIs
+
+fn register_as(
+    alloc: Global,
+    sort: Sort,
+    scope: &str,
+    redirects: &str,
+) -> Result<Administered, AllocError>
+    ensures value { IfOk result (λ a. a ≡ spec.registered_as (Found sort) scope.now redirects.now) }
+    ensures sound { IfOk result IsSoundAdministered }
+{
+    match Scope::read(alloc, scope.as_bytes()) {
+        Ok(scope) => register_with(alloc, sort, scope, redirects),
+        Err(ScopeError::Memory) => Err(AllocError),
+        Err(ScopeError::TooLong) => Ok(Administered::Refused(AdminRefusal::BadScope)),
+        Err(ScopeError::Grammar) => Ok(Administered::Refused(AdminRefusal::BadScope)),
+        Err(ScopeError::TooMany) => Ok(Administered::Refused(AdminRefusal::BadScope)),
+    }
+}
+
+fn register_with(
+    alloc: Global,
+    sort: Sort,
+    scope: Scope,
+    redirects: &str,
+) -> Result<Administered, AllocError>
+    ensures value { IfOk result (λ a. a ≡ spec.registered_with sort (Some scope) redirects.now) }
+    ensures sound { IfOk result IsSoundAdministered }
+{
+    let uris = split_spaces(alloc, redirects.as_bytes())?;
+    let redirects = read_redirects(alloc, uris.as_slice())?;
+    Ok(register_to(sort, scope, redirects))
+}
+
+// The pieces between single spaces.
+fn split_spaces(alloc: Global, text: &[u8]) -> Result<Vec<&[u8]>, AllocError>
+    ensures { IfOk result (λ pieces. map (λ x. x.now) pieces.items ≡ slice_split spec.is_space text.now) }
+{
+    text.split(|b| *b == b' ').collect(alloc)
+}
+
+// The list of these URIs, None where one may not be registered.
+#[tactic(auto, using(crate::proofs::RegistrationLaws::registered_list, crate::proofs::RegistrationLaws::unregistered_list))]
+fn read_redirects(alloc: Global, uris: &[&[u8]]) -> Result<Option<Redirects>, AllocError>
+    ensures { IfOk result (λ redirects. redirects ≡ spec.registered (map (λ x. x.now) uris.now)) }
+{
+    match Redirects::new(alloc, uris) {
+        Ok(redirects) => Ok(Some(redirects)),
+        Err(RedirectError::Memory) => Err(AllocError),
+        Err(RedirectError::Empty | RedirectError::TooMany | RedirectError::Bad) => Ok(None),
+    }
+}
+
+fn register_to(sort: Sort, scope: Scope, redirects: Option<Redirects>) -> Administered
+    ensures value { result ≡ spec.registered_to sort scope redirects }
+    ensures sound { IsSoundAdministered result }
+{
+    let Some(redirects) = redirects else {
+        return Administered::Refused(AdminRefusal::BadRedirects);
+    };
+    // The proof reads from this call that each is a URI.
+    let _uris = redirects.uris();
+    Administered::Registers(ClientAdded {
+        sort,
+        scope,
+        redirects,
+    })
+}
