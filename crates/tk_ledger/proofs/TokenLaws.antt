@@ -1,4 +1,5 @@
 -- The tests of a fact set mean the relations over what stands at each dot, and what is so stays so when facts are added. Key results:
+--   uses_agree                            what a fact uses is what its link uses
 --   is_used-sound .. is_dead-complete      the tests and the relations, both ways
 --   root-sound, root-complete                   the root of a family
 --   IsEnded-below, IsBad-below, IsDead-below      a greater set keeps them
@@ -16,11 +17,12 @@ use Rattle.tk_family.specs.Families.{IsUnder, IsUsed, IsTwice, IsBad, IsDead, Li
 use Rattle.tk_family.proofs.FamilyLaws.{IsUnder-within, IsBad-within, IsDead-within}
 use Rattle.tk_family.proofs.WalkLaws.{code_of-sound, code_of-complete}
 use Rattle.tk_fact.specs.declared.body.Body.{Body}
+use Rattle.tk_fact.specs.declared.body.Body.TheVariants as bodies
 use Rattle.tk_fact.specs.declared.body.Body.TheVariants.{TokenRevoked, ReuseSeen}
 use Rattle.tk_fact.specs.declared.code_issued.CodeIssued as issued
 use Rattle.tk_fact.specs.declared.token_revoked.TokenRevoked as revoked
 use Rattle.tk_fact.specs.declared.reuse_seen.ReuseSeen as seen
-use Rattle.tk_fact.specs.Tokens.{MintedFields, minted_of}
+use Rattle.tk_fact.specs.Tokens.{MintedFields, minted_of, uses_of}
 use Rattle.tk_store.specs.FactSet.{FactSet, IsSubset}
 use Rattle.tk_store.proofs.EntryLaws.{Passing, any_fact-held, any_fact-of}
 use Rattle.tk_ledger.specs.Bodies.{is_same_dot, is_same_token}
@@ -36,6 +38,18 @@ from_some f None y h = absurd (nothing h)
 from_some f (Some x) y h = (x, refl, h)
 
 -- ---- uses
+
+-- a fact uses what its link uses
+pub uses_agree : (body : Body) → uses_of body ≡ use_of (link_of body)
+uses_agree (bodies.ClientAdded f) = refl
+uses_agree (bodies.ClientRetired f) = refl
+uses_agree (bodies.ConsentGiven f) = refl
+uses_agree (bodies.ConsentWithdrawn f) = refl
+uses_agree (bodies.CodeIssued f) = refl
+uses_agree (bodies.CodeRedeemed f) = refl
+uses_agree (bodies.RefreshRotated f) = refl
+uses_agree (bodies.TokenRevoked f) = refl
+uses_agree (bodies.ReuseSeen f) = refl
 
 pub links_at : (F : FactSet) (d : Dot) (b : Body) → map.get F d ≡ Some b → links_in (map.get F) d ≡ link_of b
 links_at F d b h = ap (option_and_then link_of) h

@@ -6,13 +6,14 @@ use Rattle.tk_handle.specs.declared.dot.Dot.{Dot}
 use Rattle.tk_handle.specs.declared.kind.Kind.TheVariants as kind
 use Rattle.tk_handle.specs.declared.token_id.TokenId.{TokenId}
 use Rattle.tk_handle.specs.declared.handle.Handle.{Handle}
-use Rattle.tk_family.specs.Families.{IsUnder, IsUsed, IsTwice, IsBad, IsDead}
+use Rattle.tk_family.specs.Families.{use_of, IsUnder, IsUsed, IsTwice, IsBad, IsDead}
+use Rattle.tk_fact.specs.declared.body.Body.{Body}
 use Rattle.tk_fact.specs.declared.code_issued.CodeIssued as issued
-use Rattle.tk_fact.specs.Tokens.{MintedFields}
+use Rattle.tk_fact.specs.Tokens.{MintedFields, uses_of}
 use Rattle.tk_store.specs.FactSet.{FactSet, IsSubset}
 use Rattle.tk_ledger.specs.Bodies.{Bodies}
 use Rattle.tk_ledger.specs.Clients.{IsRetired, IsLiveClient, IsWithdrawn, IsLiveConsent, is_retired, is_live_client, is_withdrawn, is_live_consent}
-use Rattle.tk_ledger.specs.Tokens.{links_in, minted_in, is_used, is_twice, is_revoked, is_ended, is_marked, is_dead, IsRevoked, IsEnded, IsMarked}
+use Rattle.tk_ledger.specs.Tokens.{link_of, links_in, minted_in, is_used, is_twice, is_revoked, is_ended, is_marked, is_dead, IsRevoked, IsEnded, IsMarked}
 use Rattle.tk_ledger.specs.Status.{IsActive, IsKnown, IsKnownToken, Says, status_in}
 use Rattle.tk_ledger.specs.declared.status.Status.TheVariants.{Unseen, Wrong, Broken}
 
@@ -47,6 +48,12 @@ LiveClientDecided = (F : FactSet) (d : Dot) → IsTrue (is_live_client F d) ↔ 
 
 abbrev pub LiveConsentDecided : Type 0
 LiveConsentDecided = (F : FactSet) (code : issued.CodeIssued) → IsTrue (is_live_consent F code) ↔ IsLiveConsent (map.get F) code
+
+-- ---- what a fact uses
+
+-- of itself a fact uses what its link uses
+abbrev pub UsesAgree : Type 0
+UsesAgree = (body : Body) → uses_of body ≡ use_of (link_of body)
 
 -- ---- what is kept when facts are added
 

@@ -1,6 +1,6 @@
 //! Laws of the ledger: functions with empty bodies, whose contracts hold of all sets of facts.
 
-ghost use Rattle.tk_ledger.specs.Laws.{UsedDecided, TwiceDecided, RevokedDecided, EndedDecided, MarkedDecided, DeadDecided, RetiredDecided, WithdrawnDecided, LiveClientDecided, LiveConsentDecided, DeathStays, EndedStays, RetiredStays, WithdrawnStays, UnseenExactly, WrongExactly, BrokenExactly, KnownExactly, RevokedInactive, FamilyInactive, BadGrants};
+ghost use Rattle.tk_ledger.specs.Laws.{UsedDecided, TwiceDecided, RevokedDecided, EndedDecided, MarkedDecided, DeadDecided, RetiredDecided, WithdrawnDecided, LiveClientDecided, LiveConsentDecided, UsesAgree, DeathStays, EndedStays, RetiredStays, WithdrawnStays, UnseenExactly, WrongExactly, BrokenExactly, KnownExactly, RevokedInactive, FamilyInactive, BadGrants};
 
 /// A law: each test of a set of facts says whether the relation of its name holds (own).
 pub fn tests_decide()
@@ -14,6 +14,11 @@ pub fn tests_decide()
     ensures withdrawn { WithdrawnDecided }
     ensures live_client { LiveClientDecided }
     ensures live_consent { LiveConsentDecided }
+{}
+
+/// A law: the code or refresh token that a fact uses is the one that its link uses (RFC 6749, 4.1.2 and 6).
+pub fn uses_agree()
+    ensures { UsesAgree }
 {}
 
 /// A law: a dead family stays dead when facts are added (own).

@@ -1,19 +1,22 @@
--- Replies (RFC 6749, 5.2 for errors; the others are own).
---   json_reply     a status and a JSON body
---   error_reply    an error, by its code
---   client_reply   the id of a client
---   shown_reply    what is known of a client
-use Rattle.std.specs.Prelude.{ℕ, Bool, true, false, List, None}
+-- Replies (RFC 6749, 4.1.2 for redirects, and 5.2 for errors; the others are own).
+--   json_reply       a status and a JSON body
+--   error_reply      an error, by its code
+--   client_reply     the id of a client
+--   consent_reply    the id of a consent
+--   shown_reply      what is known of a client
+--   redirect_reply   a redirect to the client
+use Rattle.std.specs.Prelude.{ℕ, Bool, true, false, List, [], ◌∷◌, codes, Option, Some, None}
 use Rattle.serde_json.specs.Data.{Data}
 use Rattle.serde_json.specs.Written.{compact_text}
 use Rattle.tk_handle.specs.declared.dot.Dot.{Dot}
+use Rattle.tk_match.specs.ReplyUri.{reply_of}
 use Rattle.tk_fact.specs.declared.sort.Sort.{Sort}
 use Rattle.tk_message.specs.declared.status.Status.{Status}
 use Rattle.tk_message.specs.declared.status.Status.TheVariants.{Ok, Created, Found, BadRequest, Unauthorized, NotFound, ServiceUnavailable}
 use Rattle.tk_message.specs.declared.error_code.ErrorCode.{ErrorCode}
 use Rattle.tk_message.specs.ErrorCode.{error_status, error_name}
-use Rattle.tk_message.specs.Bodies.{error_body, client_body, shown_body}
-use Rattle.tk_message.specs.ReplyFields.{ReplyFields, JsonText}
+use Rattle.tk_message.specs.Bodies.{error_body, client_body, consent_body, shown_body}
+use Rattle.tk_message.specs.ReplyFields.{ReplyFields, Nothing, JsonText}
 
 -- credentials are asked for with every 401 (RFC 6749, 5.2)
 abbrev pub asks_credentials : Status → Bool
@@ -40,5 +43,22 @@ error_reply code = json_reply (error_status code) (error_body (error_name code))
 abbrev pub client_reply : Status → Dot → ReplyFields
 client_reply status client = json_reply status (client_body client)
 
+abbrev pub consent_reply : Status → Dot → ReplyFields
+consent_reply status consent = json_reply status (consent_body consent)
+
 abbrev pub shown_reply : Dot → Sort → Bool → List ℕ → ReplyFields
 shown_reply client sort live scope = json_reply Ok (shown_body client sort live scope)
+
+-- a pair, and behind it the state, if there is one
+abbrev pub with_state : List ℕ → List ℕ → Option (List ℕ) → List (List ℕ × List ℕ)
+with_state name value None = (name, value) ∷ []
+with_state name value (Some state) = (name, value) ∷ (codes "state", state) ∷ []
+
+-- the URI with these in its query (RFC 6749, 4.1.2 and 4.1.2.1)
+abbrev pub redirect_reply : List ℕ → List ℕ → List ℕ → Option (List ℕ) → ReplyFields
+redirect_reply uri name value state = record {
+  status = Found;
+  location = Some (reply_of uri (with_state name value state));
+  www = false;
+  content = Nothing;
+}

@@ -21,6 +21,12 @@ pub(crate) fn client_body(alloc: Global, id: &str) -> Result<Value, AllocError>
     json!(in alloc; {"client_id": id})
 }
 
+pub(crate) fn consent_body(alloc: Global, id: &str) -> Result<Value, AllocError>
+    ensures { IfOk result (λ body. view body ≡ object (member (codes "consent_id") (string id.now) no_members)) }
+{
+    json!(in alloc; {"consent_id": id})
+}
+
 pub(crate) fn shown_body(
     alloc: Global,
     id: &str,

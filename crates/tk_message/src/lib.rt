@@ -9,18 +9,28 @@
 //! for each of them.
 #![tactic(auto)]
 
+mod authentication;
 mod bodies;
 mod decision;
 mod error_code;
 mod place;
 mod reply;
+mod request;
+mod scope;
 mod status;
 
+pub use authentication::{Auth, authenticate};
 pub use decision::Decision;
 pub use error_code::ErrorCode;
 pub use place::{Lives, Place};
-pub use reply::{Payload, Reply, client_reply, error_reply, shown_reply};
+pub use reply::{
+    Payload, Reply, client_reply, consent_reply, error_reply, handle_string, redirect_reply,
+    shown_reply,
+};
+pub use request::{Endpoint, Request};
+pub use scope::scope_asked;
 pub use status::Status;
+pub use tk_params::{Credentials, CredentialsError, One, Params};
 
 #[cfg(test)]
 mod tests;

@@ -37,17 +37,20 @@ impl Model for Reply {
     ghost view = { λ r. record { status = r.status; location = option_map string_bytes r.location; www = r.www; content = content_of r.body } };
 }
 
-ghost use Rattle.std.specs.Prelude.{◌≡◌, IfOk};
+ghost use Rattle.std.specs.Prelude.{◌≡◌, IfOk, string_bytes};
+ghost use Rattle.std.specs.Option.{option_copied};
 ghost use Rattle.serde_json.specs.View.{view};
+ghost use Rattle.tk_handle.specs.Handle.{handle_text};
 ghost use Rattle.tk_message.specs.Bodies.{IsWritable};
 ghost use Rattle.tk_message.specs.Reply as spec;
 
-use crate::bodies::{client_body, error_body, shown_body};
+use crate::bodies::{client_body, consent_body, error_body, shown_body};
 use crate::error_code::ErrorCode;
 use serde_json::Value;
 use std::alloc::{AllocError, Global};
 use tk_fact::Sort;
-use tk_handle::{Dot, client_text};
+use tk_handle::{Dot, Handle, client_text, consent_text};
+use tk_match::reply_uri;
 use tk_scope::Scope;
 
 /// An error, by its code; an error of its own where memory is refused.
@@ -100,4 +103,46 @@ fn asks_credentials(status: Status) -> bool
     ensures { result ≡ spec.asks_credentials status }
 {
     matches!(status, Status::Unauthorized)
+}
+
+/// The id of the consent that was given at the dot (own).
+pub fn consent_reply(alloc: Global, status: Status, consent: Dot) -> Result<Reply, AllocError>
+    ensures { IfOk result (λ reply. reply ≡ spec.consent_reply status consent) }
+{
+    let id = consent_text(alloc, consent)?;
+    let body = consent_body(alloc, id.as_str())?;
+    json_reply(alloc, status, &body)
+}
+
+/// A redirect to the URI with a pair in its query, and behind it the state, if there is one (RFC 6749, 4.1.2 and 4.1.2.1).
+pub fn redirect_reply(
+    alloc: Global,
+    uri: &str,
+    name: &str,
+    value: &str,
+    state: Option<&str>,
+) -> Result<Reply, AllocError>
+    ensures { IfOk result (λ reply. reply ≡ spec.redirect_reply uri.now name.now value.now (option_copied state.entry)) }
+{
+    let location = match state {
+        Some(state) => reply_uri(alloc, uri, &[(name, value), ("state", state)])?,
+        None => reply_uri(alloc, uri, &[(name, value)])?,
+    };
+    Ok(Reply {
+        status: Status::Found,
+        location: Some(location),
+        www: false,
+        body: Payload::Empty,
+    })
+}
+
+/// The text of a handle, which a client is given.
+pub fn handle_string(alloc: Global, handle: &Handle) -> Result<String, AllocError>
+    ensures { IfOk result (λ text. string_bytes text ≡ handle_text handle.now) }
+{
+    let text = handle.text();
+    let Ok(text) = str::from_utf8(&text) else {
+        unreachable!("base64 is ASCII");
+    };
+    String::from_str(alloc, text)
 }

@@ -12,8 +12,7 @@ use Rattle.tk_world.specs.declared.event.Event.{Event}
 use Rattle.tk_world.specs.declared.event.Event.TheVariants.{Open, Request, Pull, Deliver}
 use Rattle.tk_world.specs.declared.request.Request as asked
 use Rattle.tk_world.specs.declared.request.Request.TheVariants.{AddClient, ShowClient, Retire}
-use Rattle.tk_world.specs.Administration.{is_space}
-use Rattle.tokend.specs.Fields.{region_in, moment_in, IsFormText}
+use Rattle.tokend.specs.Fields.{is_space, region_in, moment_in, IsFormText}
 use Rattle.tokend.specs.Line.{texts, IsRequestForm, IsNoRequest, IsPrintable, IsEventForm, IsNoEventForm, IsEventLine, IsNoEventLine}
 use Rattle.tokend.proofs.NumberTexts.{region_found, moment_found, no_region, no_moment}
 

@@ -1,11 +1,16 @@
 -- The numbers and texts that a line's fields stand for.
+--   is_space     what parts the fields of a line
 --   region_in    the region whose number a text is
 --   moment_in    the moment whose seconds a text is
 --   IsFormText   a text that means itself in a form
-use Rattle.std.specs.Prelude.{ℕ, ◌≢◌, Bool, if◌then◌else◌, List, Option, Some, None}
+use Rattle.std.specs.Prelude.{ℕ, ◌≢◌, ◌==◌, Bool, if◌then◌else◌, List, Option, Some, None}
 use Rattle.std.specs.List.{All}
 use Rattle.tk_format.specs.Decimals.{decimal_in}
 use Rattle.tk_handle.specs.Ranges.{is_region, is_moment}
+
+-- SP
+abbrev pub is_space : ℕ → Bool
+is_space b = b == 32
 
 -- the number, where it passes the test
 abbrev pub passing : (ℕ → Bool) → Option ℕ → Option ℕ

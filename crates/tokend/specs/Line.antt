@@ -12,8 +12,7 @@ use Rattle.tk_world.specs.declared.event.Event.{Event}
 use Rattle.tk_world.specs.declared.event.Event.TheVariants.{Open, Request, Pull, Deliver}
 use Rattle.tk_world.specs.declared.request.Request as asked
 use Rattle.tk_world.specs.declared.request.Request.TheVariants.{AddClient, ShowClient, Retire}
-use Rattle.tk_world.specs.Administration.{is_space}
-use Rattle.tokend.specs.Fields.{IsFormText}
+use Rattle.tokend.specs.Fields.{is_space, IsFormText}
 
 -- the bytes are spaces and visible ASCII
 abbrev pub IsPrintable : List ℕ → Type 0

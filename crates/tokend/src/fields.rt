@@ -1,7 +1,6 @@
 ghost use Rattle.std.specs.Prelude.{◌≡◌, ◌↔◌, IfOk, IsTrue, map};
 ghost use Rattle.std.specs.List.{slice_split};
-ghost use Rattle.tk_world.specs.Administration.{is_space};
-ghost use Rattle.tokend.specs.Fields.{region_in, moment_in, IsFormText};
+ghost use Rattle.tokend.specs.Fields.{is_space, region_in, moment_in, IsFormText};
 
 use std::alloc::{AllocError, Global};
 use tk_format::read_decimal;

@@ -4,7 +4,7 @@ use Rattle.std.proofs.lemmas.Iterator.{cases_from_any, YieldsList-from_slice}
 use Rattle.std.proofs.lemmas.Bool.Decides.{when_true, when_false}
 use Rattle.std.proofs.lemmas.Result.{IfOk-weaker}
 use Rattle.std.specs.List.{slice_split}
-use Rattle.tk_world.specs.Administration.{is_space}
+use Rattle.tokend.specs.Fields.{is_space}
 use Rattle.tokend.specs.Line.{texts, IsEventLine, IsEventForm}
 use Rattle.tokend.proofs.EventForms.{line_there, line_bad}
 use Rattle.tokend.proofs.line.event.Goals as goal

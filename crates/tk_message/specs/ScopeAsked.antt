@@ -1,0 +1,14 @@
+-- The scope that a request asks for (RFC 6749, 3.3).
+--   within_whole   a scope, where it is within the whole
+--   scope_asked    by what was sent
+use Rattle.std.specs.Prelude.{ℕ, List, Option, Some, None, if◌then◌else◌}
+use Rattle.tk_scope.specs.Scope.{scope_of, is_within}
+
+abbrev pub within_whole : List ℕ → Option (List ℕ) → Option (List ℕ)
+within_whole whole None = None
+within_whole whole (Some scope) = if is_within scope whole then Some scope else None
+
+-- the scope that was sent, where it is one and within the whole; where none was sent, the whole
+abbrev pub scope_asked : List ℕ → Option (List ℕ) → Option (List ℕ)
+scope_asked whole None = Some whole
+scope_asked whole (Some text) = within_whole whole (scope_of text)

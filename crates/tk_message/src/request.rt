@@ -1,0 +1,73 @@
+//! Requests: what they are sent to, and all that they bring.
+
+use std::marker::Model;
+use tk_params::Params;
+
+/// What a request is sent to (RFC 6749, 3.1, for the first; the others are own).
+#[derive(Clone, Copy, Debug, PartialEq, Eq)]
+pub enum Endpoint {
+    /// GET `/authorize`.
+    Authorize,
+    /// POST `/admin/client`: add a client.
+    AddClient,
+    /// GET `/admin/client`: show a client.
+    ShowClient,
+    /// POST `/admin/retire`: retire a client.
+    Retire,
+    /// POST `/admin/consent`: give a client a subject's consent.
+    Consent,
+    /// POST `/admin/withdraw`: withdraw a consent.
+    Withdraw,
+}
+
+/// A request, read from its head and body. Contracts see the bytes that its parts hold.
+#[derive(Debug, Drop)]
+pub struct Request {
+    /// What it is sent to.
+    pub endpoint: Endpoint,
+    /// Its parameters, of the query or of the body.
+    pub params: Params,
+    /// The value of `Authorization` (RFC 9110, 11.6.2), if there is one: any bytes.
+    pub authorization: Option<Vec<u8>>,
+    /// The value of `X-Subject`, if there is one: who has signed in, any bytes (own).
+    pub subject: Option<Vec<u8>>,
+}
+
+impl Model for Request {
+    ghost use Rattle.std.specs.Option.{option_map};
+    ghost use Rattle.tk_message.specs.RequestFields.{RequestFields};
+
+    ghost Value = { RequestFields };
+
+    ghost view = { λ r. record {
+        endpoint = r.endpoint;
+        params = r.params;
+        authorization = option_map (λ v. v.items) r.authorization;
+        subject = option_map (λ v. v.items) r.subject;
+    } };
+}
+
+ghost use Rattle.std.specs.Prelude.{◌≡◌};
+ghost use Rattle.std.specs.Option.{option_copied};
+
+impl Request {
+    /// The bytes of `Authorization`.
+    pub fn authorization(&self) -> Option<&[u8]>
+        ensures { option_copied result ≡ self.now.authorization }
+    {
+        match &self.authorization {
+            Some(value) => Some(value.as_slice()),
+            None => None,
+        }
+    }
+
+    /// The bytes of `X-Subject`.
+    pub fn subject(&self) -> Option<&[u8]>
+        ensures { option_copied result ≡ self.now.subject }
+    {
+        match &self.subject {
+            Some(subject) => Some(subject.as_slice()),
+            None => None,
+        }
+    }
+}

@@ -1,0 +1,9 @@
+-- The words of this crate:
+--   Params        params_of, the parameters that bytes give; value_of, the value of a name; has_twice, a name repeated
+--   One           IsOne, how often a name occurs
+--   Basic         basic_of, the id and the secret of a Basic header
+--   Credentials   presented_in, what a header and parameters present of a client
+pub mod Basic
+pub mod Credentials
+pub mod One
+pub mod Params

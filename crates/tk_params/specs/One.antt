@@ -1,0 +1,11 @@
+-- How often a name occurs (own).
+--   IsOne   what a `One` says of the values under a name
+use Rattle.std.specs.Prelude.{◌≡◌, ℕ, ◌≤◌, List, [], ◌∷◌, length}
+use Rattle.tk_params.specs.declared.params.One.{One}
+use Rattle.tk_params.specs.declared.params.One.TheVariants.{Absent, Value, Twice}
+
+-- there are none; this is the only one; there are two or more
+abbrev pub IsOne : One → List (List ℕ) → Type 0
+IsOne Absent values = values ≡ []
+IsOne (Value text) values = values ≡ text.now ∷ []
+IsOne Twice values = 2 ≤ length values

@@ -1,0 +1,168 @@
+//! What a request presents of a client (RFC 6749, 2.3 and 2.3.1).
+
+use std::borrow::CowStr;
+use std::marker::Model;
+
+/// What a request presents of a client (RFC 6749, 2.3.1): an id and a secret, either of which may be absent. What comes from
+/// the parameters is borrowed from them. Contracts see the bytes.
+#[derive(Debug, Drop)]
+pub struct Credentials<'a> {
+    id: Option<CowStr<'a>>,
+    secret: Option<CowStr<'a>>,
+}
+
+impl<'a> Model for Credentials<'a> {
+    ghost use Rattle.std.specs.Cow.{cow_str_bytes};
+    ghost use Rattle.std.specs.Option.{option_map};
+    ghost use Rattle.tk_params.specs.Credentials.{CredentialsFields};
+
+    ghost Value = { CredentialsFields };
+
+    ghost view = { λ c. record { id = option_map cow_str_bytes c.id; secret = option_map cow_str_bytes c.secret } };
+}
+
+/// Why a request presents no credentials. Two secrets come first, then an unreadable header, then two ids; `Memory` may come
+/// in place of any answer.
+#[derive(Clone, Copy, Debug, PartialEq, Eq)]
+pub enum CredentialsError {
+    /// A secret in the body beside a header, whatever that holds; or a header and a body that name two clients: more than
+    /// one method in one request (RFC 6749, 2.3).
+    Both,
+    /// The header isn't the Basic scheme with a readable id and secret (RFC 7617, 2).
+    Basic,
+    /// A growth of memory was refused.
+    Memory,
+}
+
+impl From<AllocError> for CredentialsError {
+    ghost use Rattle.std.specs.Prelude.{◌≡◌};
+    ghost use Rattle.tk_params.specs.declared.credentials.CredentialsError.TheVariants.{Memory};
+
+    ghost from_gives = { λ _ e. e ≡ Memory };
+
+    fn from(_: AllocError) -> CredentialsError {
+        CredentialsError::Memory
+    }
+}
+
+ghost use Rattle.std.specs.Prelude.{◌≡◌, IfNone, IfOk, IsErrOf, IsOk, Some};
+ghost use Rattle.std.specs.Cow.{cow_str_bytes};
+ghost use Rattle.std.specs.Option.{option_copied, option_map};
+ghost use Rattle.tk_params.specs.Credentials as spec;
+
+use crate::basic::{Basic, read_basic};
+use crate::params::Params;
+use std::alloc::{AllocError, Global};
+
+impl<'a> Credentials<'a> {
+    /// Those of the value of the `Authorization` header, where there is one, and else those of the parameters `client_id` and
+    /// `client_secret`, where they occur once (RFC 6749, 2.3.1). An empty secret counts as none. Which refusal comes is told
+    /// at [`CredentialsError`]; `Memory` comes only beside a header.
+    pub fn read(
+        alloc: Global,
+        header: Option<&[u8]>,
+        params: &'a Params,
+    ) -> Result<Credentials<'a>, CredentialsError>
+        ensures ok { IfOk result (λ c. spec.presented_in (option_copied header.entry) params.now ≡ spec.Presents c) }
+        ensures both { IsErrOf result CredentialsError.Both
+            → spec.presented_in (option_copied header.entry) params.now ≡ spec.Mixed }
+        ensures basic { IsErrOf result CredentialsError.Basic
+            → spec.presented_in (option_copied header.entry) params.now ≡ spec.Unreadable }
+
+        // What the body alone presents takes no memory.
+        ensures body { IfNone header.entry (IsOk result) }
+    {
+        match header {
+            None => Ok(of_body(params)),
+            Some(header) => of_header(alloc, header, params),
+        }
+    }
+
+    /// The client's id, as it was sent: of a header it may be empty.
+    pub fn id(&self) -> Option<&str>
+        ensures { option_copied result ≡ self.now.id }
+    {
+        text_in(&self.id)
+    }
+
+    /// The client's secret, which isn't empty.
+    pub fn secret(&self) -> Option<&str>
+        ensures { option_copied result ≡ self.now.secret }
+    {
+        text_in(&self.secret)
+    }
+}
+
+fn text_in<'b>(text: &'b Option<CowStr<'_>>) -> Option<&'b str>
+    ensures { option_copied result ≡ option_map cow_str_bytes text.now }
+{
+    match text {
+        Some(text) => Some(text.as_str()),
+        None => None,
+    }
+}
+
+fn of_body(params: &Params) -> Credentials<'_>
+    ensures { result ≡ spec.of_body params.now }
+{
+    Credentials {
+        id: borrowed(params.value("client_id")),
+        secret: borrowed(params.value("client_secret")),
+    }
+}
+
+fn borrowed<'a>(text: Option<&'a str>) -> Option<CowStr<'a>>
+    ensures { option_map cow_str_bytes result ≡ option_copied text.entry }
+{
+    match text {
+        Some(text) => Some(CowStr::Borrowed(text)),
+        None => None,
+    }
+}
+
+fn of_header<'a>(
+    alloc: Global,
+    header: &[u8],
+    params: &Params,
+) -> Result<Credentials<'a>, CredentialsError>
+    ensures ok { IfOk result (λ c. spec.presented_in (Some header.now) params.now ≡ spec.Presents c) }
+    ensures both { IsErrOf result CredentialsError.Both → spec.presented_in (Some header.now) params.now ≡ spec.Mixed }
+    ensures basic { IsErrOf result CredentialsError.Basic
+        → spec.presented_in (Some header.now) params.now ≡ spec.Unreadable }
+{
+    if params.value("client_secret").is_some() {
+        return Err(CredentialsError::Both);
+    }
+    match read_basic(alloc, header)? {
+        Some(basic) => beside_body(basic, params.value("client_id")),
+        None => Err(CredentialsError::Basic),
+    }
+}
+
+fn beside_body<'a>(basic: Basic, id: Option<&str>) -> Result<Credentials<'a>, CredentialsError>
+    ensures ok { IfOk result (λ c. spec.beside_body basic (option_copied id.entry) ≡ spec.Presents c) }
+    ensures both { IsErrOf result CredentialsError.Both → spec.beside_body basic (option_copied id.entry) ≡ spec.Mixed }
+    ensures basic { IsErrOf result CredentialsError.Basic
+        → spec.beside_body basic (option_copied id.entry) ≡ spec.Unreadable }
+{
+    match id {
+        Some(id) if basic.id.as_str() != id => Err(CredentialsError::Both),
+        Some(_) => Ok(of_basic(basic)),
+        None => Ok(of_basic(basic)),
+    }
+}
+
+fn of_basic<'a>(basic: Basic) -> Credentials<'a>
+    ensures { result ≡ spec.of_basic basic }
+{
+    let Basic { id, secret } = basic;
+    let secret = if secret.is_empty() {
+        None
+    } else {
+        Some(CowStr::Owned(secret))
+    };
+    Credentials {
+        id: Some(CowStr::Owned(id)),
+        secret,
+    }
+}

@@ -1,0 +1,121 @@
+//! Names and values of a form or a query (RFC 6749, 3.1, 3.2 and appendix B).
+
+use std::marker::Model;
+
+/// The parameters of a form or a query, in the order in which they were sent. Names and values are texts; one without a
+/// value counts as omitted (RFC 6749, 3.1 and 3.2). Contracts see the list of their bytes.
+#[derive(Debug, Drop)]
+pub struct Params {
+    pairs: Vec<(String, String)>,
+}
+
+impl Model for Params {
+    ghost use Rattle.std.specs.Prelude.{ℕ, List};
+    ghost use Rattle.tk_params.specs.Params.{owned_texts};
+
+    ghost Value = { List (List ℕ × List ℕ) };
+
+    ghost view = { λ p. owned_texts p.pairs.items };
+}
+
+/// What stands under a name.
+#[derive(Clone, Copy, Debug, PartialEq, Eq)]
+pub enum One<'a> {
+    /// Nothing.
+    Absent,
+    /// One value, which isn't empty.
+    Value(&'a str),
+    /// Two values or more.
+    Twice,
+}
+
+ghost use Rattle.std.specs.Prelude.{◌≡◌, IfOk, map};
+ghost use Rattle.std.specs.List.{list_any};
+ghost use Rattle.std.specs.Option.{option_copied};
+ghost use Rattle.tk_params.specs.Params.{owned_texts, params_of, values_of, value_of, is_twice, has_twice};
+ghost use Rattle.tk_params.specs.One.{IsOne};
+
+use form_urlencoded::parse;
+use std::alloc::{AllocError, Global};
+
+impl Params {
+    /// The parameters of a form or a query, of any bytes: those that aren't UTF-8 once they are decoded become U+FFFD. An
+    /// error where memory is refused.
+    pub fn read(alloc: Global, input: &[u8]) -> Result<Params, AllocError>
+        ensures { IfOk result (λ params. params ≡ params_of input.now) }
+    {
+        let pairs = read_pairs(alloc, input)?;
+        Ok(Params { pairs })
+    }
+
+    /// What stands under a name, once it is decoded.
+    pub fn one(&self, name: &str) -> One<'_>
+        ensures { IsOne result (values_of name.now self.now) }
+    {
+        find_one(&self.pairs, name)
+    }
+
+    /// The value under a name that occurs once; None where it doesn't occur, or twice.
+    #[tactic(auto, using(crate::proofs::ParamLaws::only_of_several))]
+    pub fn value(&self, name: &str) -> Option<&str>
+        ensures { option_copied result ≡ value_of name.now self.now }
+    {
+        match self.one(name) {
+            One::Value(value) => Some(value),
+            One::Absent => None,
+            One::Twice => None,
+        }
+    }
+
+    /// Whether a name occurs twice or more, which no request may have (RFC 6749, 3.1 and 3.2).
+    pub fn is_twice(&self, name: &str) -> bool
+        ensures { result ≡ is_twice name.now self.now }
+    {
+        match self.one(name) {
+            One::Twice => true,
+            One::Value(_) => false,
+            One::Absent => false,
+        }
+    }
+
+    /// Whether one of the names occurs twice or more.
+    pub fn has_twice(&self, names: &[&str]) -> bool
+        ensures { result ≡ has_twice (map (λ x. x.now) names.now) self.now }
+    {
+        self.any_twice(names)
+    }
+
+    fn any_twice(&self, names: &[&str]) -> bool
+        ensures { result ≡ list_any (λ name. is_twice name.now self.now) names.now }
+    {
+        names.iter().any(|name| self.is_twice(name))
+    }
+}
+
+fn read_pairs(alloc: Global, input: &[u8]) -> Result<Vec<(String, String)>, AllocError>
+    ensures { IfOk result (λ pairs. owned_texts pairs.items ≡ params_of input.now) }
+{
+    let mut pairs = Vec::new(alloc);
+    for pair in parse(alloc, input) {
+        let (name, value) = pair?;
+        if !value.is_empty() {
+            pairs.push((name.into_owned(alloc)?, value.into_owned(alloc)?))?;
+        }
+    }
+    Ok(pairs)
+}
+
+fn find_one<'a>(pairs: &'a [(String, String)], name: &str) -> One<'a>
+    ensures { IsOne result (values_of name.now (owned_texts pairs.now)) }
+{
+    let mut found = One::Absent;
+    for (key, value) in pairs {
+        if key.as_str() == name {
+            found = match found {
+                One::Absent => One::Value(value.as_str()),
+                _ => One::Twice,
+            };
+        }
+    }
+    found
+}

@@ -1,0 +1,386 @@
+//! Parameters and credentials, by tables: what the standards print, and what is easily taken for another thing.
+
+use crate::{Credentials, CredentialsError, One, Params};
+use std::test::Fail;
+
+// The query of RFC 6749, 4.1.1, and the body of 4.1.3.
+const QUERY: &[u8] =
+    b"response_type=code&client_id=s6BhdRkqt3&state=xyz&redirect_uri=https%3A%2F%2Fclient%2Eexample%2Ecom%2Fcb";
+
+const FORM: &[u8] =
+    b"grant_type=authorization_code&code=SplxlOBeZQQYbYS6WxSbIA&redirect_uri=https%3A%2F%2Fclient%2Eexample%2Ecom%2Fcb";
+
+const URI: &str = "https://client.example.com/cb";
+
+// What a form has under a name.
+const NAMED: [(&str, &[u8], &str, One<'static>); 28] = [
+    ("4.1.1, type", QUERY, "response_type", One::Value("code")),
+    (
+        "4.1.1, client",
+        QUERY,
+        "client_id",
+        One::Value("s6BhdRkqt3"),
+    ),
+    ("4.1.1, state", QUERY, "state", One::Value("xyz")),
+    ("4.1.1, URI", QUERY, "redirect_uri", One::Value(URI)),
+    ("4.1.1, no scope", QUERY, "scope", One::Absent),
+    (
+        "4.1.3, grant",
+        FORM,
+        "grant_type",
+        One::Value("authorization_code"),
+    ),
+    (
+        "4.1.3, code",
+        FORM,
+        "code",
+        One::Value("SplxlOBeZQQYbYS6WxSbIA"),
+    ),
+    ("4.1.3, URI", FORM, "redirect_uri", One::Value(URI)),
+    ("no byte", b"", "a", One::Absent),
+    ("a value", b"a=1", "a", One::Value("1")),
+    ("another name", b"a=1", "b", One::Absent),
+    ("a name in capitals", b"A=1", "a", One::Absent),
+    ("a longer name", b"ab=1", "a", One::Absent),
+    ("two values", b"a=1&a=2", "a", One::Twice),
+    ("a value again", b"a=1&b=2&a=1", "a", One::Twice),
+    ("three values", b"a=1&a=2&a=3", "a", One::Twice),
+    (
+        "an empty value first",
+        b"code=&code=x",
+        "code",
+        One::Value("x"),
+    ),
+    (
+        "an empty value last",
+        b"code=x&code",
+        "code",
+        One::Value("x"),
+    ),
+    ("an empty value", b"a=", "a", One::Absent),
+    ("no equals sign", b"a", "a", One::Absent),
+    ("two equals signs", b"a=b=c", "a", One::Value("b=c")),
+    (
+        "a name by its code",
+        b"client%5fid=c1-1",
+        "client_id",
+        One::Value("c1-1"),
+    ),
+    ("a name by two codes", b"%61=1&a=2", "a", One::Twice),
+    ("a space", b"a=b+c%20d%2Be", "a", One::Value("b c d+e")),
+    (
+        "an ampersand by its code",
+        b"a=b%26c=d",
+        "a",
+        One::Value("b&c=d"),
+    ),
+    ("no code", b"a=%&b=%4&c=%zz", "c", One::Value("%zz")),
+    ("UTF-8", b"a=%C3%A9", "a", One::Value("\u{e9}")),
+    (
+        "no UTF-8",
+        b"a=\xff%c3(",
+        "a",
+        One::Value("\u{fffd}\u{fffd}("),
+    ),
+];
+
+#[test]
+fn a_form_has_names_and_values(rt: HostRuntime) -> Result<(), Fail> {
+    for (row, form, name, want) in NAMED {
+        let params = Params::read(rt.alloc(), form)?;
+        assert_eq!(rt; params.one(name), want, "{row}");
+        assert_eq!(rt; params.is_twice(name), want == One::Twice, "twice: {row}");
+        let value = match want {
+            One::Value(text) => Some(text),
+            _ => None,
+        };
+        assert_eq!(rt; params.value(name), value, "value: {row}");
+    }
+    Ok(())
+}
+
+#[test]
+fn a_repeated_name_is_found(rt: HostRuntime) -> Result<(), Fail> {
+    let rows: [(&str, &[u8], &[&str], bool); 6] = [
+        ("none is known", b"a=1&a=2", &[], false),
+        ("the first", b"a=1&b=1&a=2", &["a", "b"], true),
+        ("the last", b"b=1&a=1&b=2", &["a", "b"], true),
+        ("an unknown one", b"c=1&c=2", &["a", "b"], false),
+        ("one each", b"a=1&b=1", &["a", "b"], false),
+        ("one has no value", b"a=&a=1&b", &["a", "b"], false),
+    ];
+    for (row, form, names, want) in rows {
+        let params = Params::read(rt.alloc(), form)?;
+        assert_eq!(rt; params.has_twice(names), want, "{row}");
+    }
+    Ok(())
+}
+
+#[test]
+fn a_body_of_separators_has_no_parameters(rt: HostRuntime) -> Result<(), Fail> {
+    let body = vec![in rt.alloc(); b'&'; 16_384]?;
+    let params = Params::read(rt.alloc(), &body)?;
+    assert_eq!(rt; params.one(""), One::Absent);
+    Ok(())
+}
+
+// A header, what the body holds, and what both present: an id and a secret. The first header is that of RFC 6749, 2.3.1.
+const PRESENTED: [(&str, Option<&[u8]>, &[u8], Option<&str>, Option<&str>); 25] = [
+    (
+        "2.3.1",
+        Some(b"Basic czZCaGRSa3F0MzpnWDFmQmF0M2JW"),
+        b"",
+        Some("s6BhdRkqt3"),
+        Some("gX1fBat3bV"),
+    ),
+    (
+        "2.3.1 with 4.1.3",
+        Some(b"Basic czZCaGRSa3F0MzpnWDFmQmF0M2JW"),
+        FORM,
+        Some("s6BhdRkqt3"),
+        Some("gX1fBat3bV"),
+    ),
+    (
+        "several spaces",
+        Some(b"Basic   YTpiYw=="),
+        b"",
+        Some("a"),
+        Some("bc"),
+    ),
+    (
+        "small letters",
+        Some(b"basic YTpiYw=="),
+        b"",
+        Some("a"),
+        Some("bc"),
+    ),
+    (
+        "capitals",
+        Some(b"BASIC YTpiYw=="),
+        b"",
+        Some("a"),
+        Some("bc"),
+    ),
+    ("an empty secret", Some(b"Basic YTo="), b"", Some("a"), None),
+    ("an empty id", Some(b"Basic OmI="), b"", Some(""), Some("b")),
+    ("a colon alone", Some(b"Basic Og=="), b"", Some(""), None),
+    (
+        "a colon in the secret",
+        Some(b"Basic YTpiOmM="),
+        b"",
+        Some("a"),
+        Some("b:c"),
+    ),
+    (
+        "a colon by its code",
+        Some(b"Basic YSUzQWI6Yw=="),
+        b"",
+        Some("a:b"),
+        Some("c"),
+    ),
+    (
+        "codes and plus signs",
+        Some(b"Basic YStiOmMlMjBkJTJC"),
+        b"",
+        Some("a b"),
+        Some("c d+"),
+    ),
+    (
+        "raw separators",
+        Some(b"Basic YSZiPWM6ZCZlPWY="),
+        b"",
+        Some("a&b=c"),
+        Some("d&e=f"),
+    ),
+    (
+        "a lone percent sign",
+        Some(b"Basic YTol"),
+        b"",
+        Some("a"),
+        Some("%"),
+    ),
+    (
+        "no UTF-8",
+        Some(b"Basic /zrDKA=="),
+        b"",
+        Some("\u{fffd}"),
+        Some("\u{fffd}("),
+    ),
+    (
+        "no UTF-8 by its code",
+        Some(b"Basic YSVGRjpiJUMzJUE5"),
+        b"",
+        Some("a\u{fffd}"),
+        Some("b\u{e9}"),
+    ),
+    (
+        "the same id in both",
+        Some(b"Basic YTpiYw=="),
+        b"client_id=a",
+        Some("a"),
+        Some("bc"),
+    ),
+    (
+        "the same id, encoded",
+        Some(b"Basic YTpiYw=="),
+        b"client_id=%61",
+        Some("a"),
+        Some("bc"),
+    ),
+    (
+        "two ids in the body",
+        Some(b"Basic YTpiYw=="),
+        b"client_id=x&client_id=y",
+        Some("a"),
+        Some("bc"),
+    ),
+    (
+        "an empty id in the body",
+        Some(b"Basic YTpiYw=="),
+        b"client_id=",
+        Some("a"),
+        Some("bc"),
+    ),
+    (
+        "an empty secret in the body",
+        Some(b"Basic YTpiYw=="),
+        b"client_secret=",
+        Some("a"),
+        Some("bc"),
+    ),
+    (
+        "the body alone",
+        None,
+        b"client_id=a&client_secret=b%3Ac",
+        Some("a"),
+        Some("b:c"),
+    ),
+    (
+        "an id alone",
+        None,
+        b"client_id=a&client_secret=",
+        Some("a"),
+        None,
+    ),
+    ("a secret alone", None, b"client_secret=b", None, Some("b")),
+    (
+        "two secrets in the body",
+        None,
+        b"client_id=a&client_secret=b&client_secret=c",
+        Some("a"),
+        None,
+    ),
+    ("nothing", None, b"", None, None),
+];
+
+#[test]
+fn a_client_is_presented(rt: HostRuntime) -> Result<(), Fail> {
+    for (row, header, body, id, secret) in PRESENTED {
+        let params = Params::read(rt.alloc(), body)?;
+        let credentials = Credentials::read(rt.alloc(), header, &params)?;
+        assert_eq!(rt; credentials.id(), id, "id: {row}");
+        assert_eq!(rt; credentials.secret(), secret, "secret: {row}");
+    }
+    Ok(())
+}
+
+// A header, what the body holds, and why both are refused.
+const REFUSED: [(&str, &[u8], &[u8], CredentialsError); 22] = [
+    ("no byte", b"", b"", CredentialsError::Basic),
+    ("the scheme alone", b"Basic", b"", CredentialsError::Basic),
+    ("no base64", b"Basic ", b"", CredentialsError::Basic),
+    (
+        "another scheme",
+        b"Bearer YTpiYw==",
+        b"",
+        CredentialsError::Basic,
+    ),
+    (
+        "a longer scheme",
+        b"Basics YTpiYw==",
+        b"",
+        CredentialsError::Basic,
+    ),
+    ("no scheme", b"YTpiYw==", b"", CredentialsError::Basic),
+    (
+        "a space before it",
+        b" Basic YTpiYw==",
+        b"",
+        CredentialsError::Basic,
+    ),
+    ("no space", b"BasicYTpiYw==", b"", CredentialsError::Basic),
+    ("a tab", b"Basic\tYTpiYw==", b"", CredentialsError::Basic),
+    (
+        "a space and a tab",
+        b"Basic \tYTpiYw==",
+        b"",
+        CredentialsError::Basic,
+    ),
+    (
+        "a space behind it",
+        b"Basic YTpiYw== ",
+        b"",
+        CredentialsError::Basic,
+    ),
+    ("no padding", b"Basic YTpiYw", b"", CredentialsError::Basic),
+    (
+        "half of the padding",
+        b"Basic YTpiYw=",
+        b"",
+        CredentialsError::Basic,
+    ),
+    (
+        "bits to spare",
+        b"Basic YTpiYx==",
+        b"",
+        CredentialsError::Basic,
+    ),
+    ("base64url", b"Basic _zrDKA==", b"", CredentialsError::Basic),
+    ("no colon", b"Basic YWJj", b"", CredentialsError::Basic),
+    (
+        "unreadable, with an id",
+        b"Basic !",
+        b"client_id=a",
+        CredentialsError::Basic,
+    ),
+    (
+        "another id",
+        b"Basic YTpiYw==",
+        b"client_id=b",
+        CredentialsError::Both,
+    ),
+    (
+        "an empty id",
+        b"Basic OmI=",
+        b"client_id=a",
+        CredentialsError::Both,
+    ),
+    (
+        "two secrets",
+        b"Basic YTpiYw==",
+        b"client_id=a&client_secret=bc",
+        CredentialsError::Both,
+    ),
+    (
+        "an empty secret and one",
+        b"Basic YTo=",
+        b"client_secret=b",
+        CredentialsError::Both,
+    ),
+    (
+        "unreadable, with a secret",
+        b"Basic !",
+        b"client_secret=b",
+        CredentialsError::Both,
+    ),
+];
+
+#[test]
+fn two_methods_or_an_unreadable_one_are_refused(rt: HostRuntime) -> Result<(), Fail> {
+    for (row, header, body, want) in REFUSED {
+        let params = Params::read(rt.alloc(), body)?;
+        let refusal = Credentials::read(rt.alloc(), Some(header), &params).err();
+        assert_eq!(rt; refusal, Some(want), "{row}");
+    }
+    Ok(())
+}
