@@ -1,0 +1,4 @@
+pub mod CapLaws
+pub mod StepLaws
+pub mod TakeLaws
+pub mod UnionLaws

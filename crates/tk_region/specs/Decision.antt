@@ -1,0 +1,31 @@
+-- What a request is answered, over all endpoints, and the serial cap (own).
+--   decision_of   by the endpoint
+--   capped        a decision, unless it makes a fact above the cap
+use Rattle.std.specs.Prelude.{ℕ, ◌&&◌, nat_lt, List, is_some, if◌then◌else◌}
+use Rattle.tk_store.specs.FactSet.{FactSet}
+use Rattle.tk_message.specs.declared.decision.Decision.{Decision}
+use Rattle.tk_message.specs.declared.error_code.ErrorCode.TheVariants.{NotFound, TemporarilyUnavailable}
+use Rattle.tk_message.specs.declared.place.Place.{Place}
+use Rattle.tk_message.specs.declared.request.Endpoint.{Endpoint}
+use Rattle.tk_message.specs.declared.request.Endpoint.TheVariants.{Authorize, Token, Revoke, Introspect, AddClient, ShowClient, Retire, Consent, Withdraw}
+use Rattle.tk_message.specs.RequestFields.{RequestFields}
+use Rattle.tk_message.specs.Decision.{refused}
+
+-- none is served yet
+abbrev pub decision_by : Endpoint → FactSet → Place → ℕ → List ℕ → RequestFields → Decision
+decision_by Authorize F place now words request = refused NotFound
+decision_by Token F place now words request = refused NotFound
+decision_by Revoke F place now words request = refused NotFound
+decision_by Introspect F place now words request = refused NotFound
+decision_by AddClient F place now words request = refused NotFound
+decision_by ShowClient F place now words request = refused NotFound
+decision_by Retire F place now words request = refused NotFound
+decision_by Consent F place now words request = refused NotFound
+decision_by Withdraw F place now words request = refused NotFound
+
+abbrev pub decision_of : FactSet → Place → ℕ → List ℕ → RequestFields → Decision
+decision_of F place now words request = decision_by request.endpoint F place now words request
+
+-- above the cap no fact is made, whichever it would have been: temporarily_unavailable
+abbrev pub capped : ℕ → Place → Decision → Decision
+capped cap place d = if is_some d.made && nat_lt cap place.next then refused TemporarilyUnavailable else d

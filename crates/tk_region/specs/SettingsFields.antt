@@ -1,0 +1,42 @@
+-- What contracts see of settings: the lives of what is issued, in seconds, and the serial cap (own).
+--   SettingsFields   the five numbers
+--   lives_of         the four lives among them
+--   IsSettings       each is in its range
+--   greatest_cap     the greatest cap
+use Rattle.std.specs.Prelude.{ℕ, ◌-◌, ◌<◌, ◌≤◌, refl}
+use Rattle.std.specs.Coded.{Coded, code_by, coded×, coded_ℕ}
+use Rattle.tk_handle.specs.Ranges.{greatest_serial}
+use Rattle.tk_message.specs.declared.place.Lives.{Lives}
+
+pub record SettingsFields : Type 0 where
+  pub code : ℕ
+  pub access : ℕ
+  pub refresh : ℕ
+  pub family : ℕ
+  pub cap : ℕ
+
+abbrev pub lives_of : SettingsFields → Lives
+lives_of s = record { code = s.code; access = s.access; refresh = s.refresh; family = s.family }
+
+-- 1 up to a greatest number
+abbrev pub IsUpTo : ℕ → ℕ → Type 0
+IsUpTo greatest n = (0 < n) × (n ≤ greatest)
+
+-- so that the serial after the cap is one
+abbrev pub greatest_cap : ℕ
+greatest_cap = greatest_serial - 1
+
+-- ten minutes, a day, a year, ten years, and the greatest cap
+pub record IsSettings (s : SettingsFields) : Type 0 where
+  pub code : IsUpTo 600 s.code
+  pub access : IsUpTo 86400 s.access
+  pub refresh : IsUpTo 31536000 s.refresh
+  pub family : IsUpTo 315360000 s.family
+  pub cap : IsUpTo greatest_cap s.cap
+
+-- as pairs
+abbrev pub coded_settings : Coded SettingsFields
+coded_settings =
+    code_by (ℕ × (ℕ × (ℕ × (ℕ × ℕ)))) (coded× coded_ℕ (coded× coded_ℕ (coded× coded_ℕ (coded× coded_ℕ coded_ℕ))))
+    (λ s. (s.code, (s.access, (s.refresh, (s.family, s.cap)))))
+    (λ p. record { code = p.0; access = p.1.0; refresh = p.1.1.0; family = p.1.1.1.0; cap = p.1.1.1.1 }) (λ _. refl)

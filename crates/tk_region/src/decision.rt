@@ -1,0 +1,54 @@
+//! What a request is answered, by its endpoint, and the serial cap.
+
+ghost use Rattle.std.specs.Prelude.{◌≡◌, ◌≤◌, IfOk, IfSome};
+ghost use Rattle.tk_store.specs.Store.{facts_of};
+ghost use Rattle.tk_message.specs.Decision.{Passes};
+ghost use Rattle.tk_region.specs.Decision as spec;
+
+use std::alloc::{AllocError, Global};
+use tk_handle::Moment;
+use tk_ledger::Ledger;
+use tk_message::{Decision, Endpoint, ErrorCode, Place, Request};
+
+// What the request is answered, the cap left out.
+pub(crate) fn decide_endpoint(
+    alloc: Global,
+    ledger: &Ledger,
+    place: &Place,
+    now: Moment,
+    words: &[u64; 6],
+    request: &Request,
+) -> Result<Decision, AllocError>
+    ensures value { IfOk result (λ d. d ≡ spec.decision_of (facts_of ledger.now) place.now now words.now request.now) }
+    ensures passes { IfOk result (λ d. Passes d.made) }
+{
+    match request.endpoint {
+        Endpoint::Authorize
+        | Endpoint::Token
+        | Endpoint::Revoke
+        | Endpoint::Introspect
+        | Endpoint::AddClient
+        | Endpoint::ShowClient
+        | Endpoint::Retire
+        | Endpoint::Consent
+        | Endpoint::Withdraw => Decision::refuse(alloc, ErrorCode::NotFound),
+    }
+}
+
+// The decision, unless it makes a fact above the cap.
+pub(crate) fn capped(
+    alloc: Global,
+    cap: u64,
+    place: &Place,
+    decision: Decision,
+) -> Result<Decision, AllocError>
+    requires { Passes decision.made }
+    ensures value { IfOk result (λ d. d ≡ spec.capped cap place.now decision) }
+    ensures passes { IfOk result (λ d. Passes d.made) }
+    ensures under { IfOk result (λ d. IfSome d.made (λ _. place.now.next ≤ cap)) }
+{
+    if decision.made.is_some() && cap < place.next.number() {
+        return Decision::refuse(alloc, ErrorCode::TemporarilyUnavailable);
+    }
+    Ok(decision)
+}

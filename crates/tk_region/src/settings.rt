@@ -1,0 +1,95 @@
+//! The settings of a region: lives and the serial cap, each in its range.
+
+use std::marker::Model;
+
+/// The lives of what is issued, in seconds, and the serial cap, up to which a region makes facts (own).
+#[derive(Clone, Copy, Debug, PartialEq, Eq)]
+pub struct Settings {
+    code: u64,
+    access: u64,
+    refresh: u64,
+    family: u64,
+    cap: u64,
+}
+
+impl Model for Settings {
+    ghost use Rattle.tk_region.specs.SettingsFields.{SettingsFields, IsSettings};
+
+    ghost Value = { SettingsFields };
+
+    ghost view = { λ s. record { code = s.code; access = s.access; refresh = s.refresh; family = s.family; cap = s.cap } };
+
+    ghost invariant = { λ s. IsSettings (record { code = s.code; access = s.access; refresh = s.refresh; family = s.family; cap = s.cap }) };
+
+    ghost inverse = { λ s. record { code = s.code; access = s.access; refresh = s.refresh; family = s.family; cap = s.cap } };
+}
+
+ghost use Rattle.std.specs.Prelude.{◌≡◌, ◌↔◌, IsTrue};
+ghost use Rattle.std.specs.Option.{SomeIff};
+ghost use Rattle.tk_region.specs.SettingsFields.{IsSettings, IsUpTo, lives_of, greatest_cap};
+
+use tk_handle::Serial;
+use tk_message::Lives;
+
+// The greatest numbers of the settings, in the order of `Settings::new`.
+
+const MOST_CODE: u64 = 600;
+
+const MOST_ACCESS: u64 = 86_400;
+
+const MOST_REFRESH: u64 = 31_536_000;
+
+const MOST_FAMILY: u64 = 315_360_000;
+
+const MOST_CAP: u64 = Serial::GREATEST - 1;
+
+impl Settings {
+    /// None exactly where a number is out of its range: a code lives 1 to 600 seconds, an access token to 86,400,
+    /// a refresh token to 31,536,000, a family to 315,360,000; the cap is 1 to the greatest serial less one.
+    pub fn new(code: u64, access: u64, refresh: u64, family: u64, cap: u64) -> Option<Settings>
+        ensures { SomeIff result (IsSettings (record { code = code; access = access; refresh = refresh; family = family; cap = cap }))
+            (record { code = code; access = access; refresh = refresh; family = family; cap = cap }) }
+    {
+        let in_range = is_up_to(MOST_CODE, code)
+            && is_up_to(MOST_ACCESS, access)
+            && is_up_to(MOST_REFRESH, refresh)
+            && is_up_to(MOST_FAMILY, family)
+            && is_up_to(MOST_CAP, cap);
+        if !in_range {
+            return None;
+        }
+        Some(Settings {
+            code,
+            access,
+            refresh,
+            family,
+            cap,
+        })
+    }
+
+    /// How long what is issued lasts.
+    pub fn lives(&self) -> Lives
+        ensures { result ≡ lives_of self.now }
+    {
+        Lives {
+            code: self.code,
+            access: self.access,
+            refresh: self.refresh,
+            family: self.family,
+        }
+    }
+
+    /// The greatest serial at which a region makes a fact.
+    pub fn cap(&self) -> u64
+        ensures value { result ≡ self.now.cap }
+        ensures range { IsUpTo greatest_cap self.now.cap }
+    {
+        self.cap
+    }
+}
+
+fn is_up_to(greatest: u64, n: u64) -> bool
+    ensures { IsTrue result ↔ IsUpTo greatest n }
+{
+    0 < n && n <= greatest
+}

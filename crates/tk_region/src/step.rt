@@ -1,0 +1,92 @@
+//! A reply, the fact that is added before it goes out, and the record of that fact.
+
+use std::marker::Model;
+use tk_fact::Fact;
+use tk_message::Reply;
+
+/// A reply, and the fact that is to be added before it goes out. Contracts see the bytes that its parts hold.
+#[derive(Debug, Drop)]
+pub struct Prepared {
+    /// The reply.
+    pub reply: Reply,
+    /// The fact; None where the request makes none.
+    pub fact: Option<Fact>,
+    /// The record of the fact: the bundle of it alone.
+    pub logged: Option<Vec<u8>>,
+}
+
+impl Model for Prepared {
+    ghost use Rattle.std.specs.Option.{option_map};
+    ghost use Rattle.tk_region.specs.Step.{PreparedFields};
+
+    ghost Value = { PreparedFields };
+
+    ghost view = { λ p. record { reply = p.reply; fact = p.fact; logged = option_map (λ v. v.items) p.logged } };
+}
+
+/// A reply, and the record of the fact that was added. Contracts see the bytes that its parts hold.
+#[derive(Debug, Drop)]
+pub struct Handled {
+    /// The reply.
+    pub reply: Reply,
+    /// The record of the fact, the bundle of it alone; None where the request made none.
+    pub logged: Option<Vec<u8>>,
+}
+
+impl Model for Handled {
+    ghost use Rattle.std.specs.Option.{option_map};
+    ghost use Rattle.tk_region.specs.Step.{HandledFields};
+
+    ghost Value = { HandledFields };
+
+    ghost view = { λ h. record { reply = h.reply; logged = option_map (λ v. v.items) h.logged } };
+}
+
+ghost use Rattle.std.specs.Prelude.{◌≡◌, IfOk, IfSome};
+ghost use Rattle.tk_message.specs.Decision.{Passes};
+ghost use Rattle.tk_region.specs.Step as spec;
+
+use crate::decision::capped;
+use std::alloc::{AllocError, Global};
+use tk_bundle::single;
+use tk_handle::Dot;
+use tk_message::{Decision, Place};
+
+// The decision, unless it makes a fact above the cap, with the record of its fact.
+pub(crate) fn prepare(
+    alloc: Global,
+    cap: u64,
+    place: &Place,
+    decision: Decision,
+) -> Result<Prepared, AllocError>
+    requires { Passes decision.made }
+    ensures value { IfOk result (λ p. p ≡ spec.prepared_by cap place.now decision) }
+    ensures next { IfOk result (λ p. IfSome p.fact (spec.IsNextAt cap place.now)) }
+{
+    let decision = capped(alloc, cap, place, decision)?;
+    with_record(alloc, place.next_dot(), decision)
+}
+
+// The decision, its fact at the dot, and the record of that fact.
+fn with_record(alloc: Global, next: Dot, decision: Decision) -> Result<Prepared, AllocError>
+    requires { Passes decision.made }
+    ensures { IfOk result (λ p. p ≡ spec.prepared_at next decision) }
+{
+    let Decision { reply, made } = decision;
+    match made {
+        Some(body) => {
+            let fact = Fact { dot: next, body };
+            let logged = single(alloc, &fact)?;
+            Ok(Prepared {
+                reply,
+                fact: Some(fact),
+                logged: Some(logged),
+            })
+        }
+        None => Ok(Prepared {
+            reply,
+            fact: None,
+            logged: None,
+        }),
+    }
+}

@@ -1,0 +1,129 @@
+//! Bundles taken in: what is refused, and the facts added one after another.
+
+/// Why a bundle isn't taken in: the first that holds, in this order, but `Memory` may come at any point (own).
+#[derive(Clone, Copy, Debug, PartialEq, Eq)]
+pub enum TakeError {
+    /// The bytes spell no bundle.
+    Malformed,
+    /// It holds a fact of the region's own number that the region hasn't made.
+    OwnNumber,
+    /// It holds another body for a dot that is held.
+    Conflict,
+    /// Memory was refused; the first of the bundle's facts may have been added.
+    Memory,
+}
+
+ghost use Rattle.std.specs.Prelude.{◌≡◌, ◌≤◌, ◌+◌, ◌↔◌, length, IfOk, OnErr, IsTrue, Some, None};
+ghost use Rattle.std.specs.FinMap as sets;
+ghost use Rattle.tk_format.specs.Format.{whole};
+ghost use Rattle.tk_fact.specs.Check.{refusal_of};
+ghost use Rattle.tk_fact.specs.declared.body.Body.{Body};
+ghost use Rattle.tk_store.specs.FactSet.{FactSet, IsFactSet, AllIn, IsSubset};
+ghost use Rattle.tk_bundle.specs.Bundle.{bundle};
+ghost use Rattle.tk_region.specs.Taking as spec;
+
+use std::alloc::{AllocError, Global};
+use tk_bundle::Bundle;
+use tk_fact::Fact;
+use tk_format::ReadError;
+use tk_handle::Dot;
+use tk_ledger::Ledger;
+use tk_store::{AddError, Added};
+
+// Takes a bundle in, into the ledger of the region whose next dot it is handed.
+pub(crate) fn take_bytes(
+    alloc: Global,
+    next: Dot,
+    ledger: &mut Ledger,
+    bytes: &[u8],
+) -> Result<u16, TakeError>
+    ensures { spec.TakesIn ledger.old next (whole bundle bytes.now) result ledger.new }
+{
+    match Bundle::read(alloc, bytes) {
+        Ok(bundle) => take_bundle(alloc, next, ledger, bundle.facts()),
+        Err(ReadError::Malformed) => Err(TakeError::Malformed),
+        Err(ReadError::Memory) => Err(TakeError::Memory),
+    }
+}
+
+fn take_bundle(
+    alloc: Global,
+    next: Dot,
+    ledger: &mut Ledger,
+    facts: &[Fact],
+) -> Result<u16, TakeError>
+    requires { bundle.Fits facts.now }
+    ensures { spec.TakesIn ledger.old next (Some facts.now) result ledger.new }
+{
+    if has_unmade(next, facts) {
+        return Err(TakeError::OwnNumber);
+    }
+    if !agree(ledger, facts) {
+        return Err(TakeError::Conflict);
+    }
+    ledger.store().known();
+    take_facts(alloc, ledger, facts)
+}
+
+fn has_unmade(next: Dot, facts: &[Fact]) -> bool
+    ensures { result ≡ spec.has_unmade next facts.now }
+{
+    facts.iter().any(|fact| is_unmade(next, fact))
+}
+
+fn is_unmade(next: Dot, fact: &Fact) -> bool
+    ensures { result ≡ spec.is_unmade next fact.now }
+{
+    fact.dot.region().number() == next.region().number() && next.serial() <= fact.dot.serial()
+}
+
+// Whether no fact stands at a dot with another body. At most 128 facts.
+fn agree(ledger: &Ledger, facts: &[Fact]) -> bool
+    ensures { IsTrue result ↔ spec.AgreesWith ledger.now facts.now }
+{
+    match facts {
+        [] => true,
+        [first, rest @ ..] => agrees(ledger, first) && agree(ledger, rest),
+    }
+}
+
+fn agrees(ledger: &Ledger, fact: &Fact) -> bool
+    ensures { IsTrue result ↔ spec.AgreesAt ledger.now fact.now }
+{
+    match ledger.store().get(fact.dot) {
+        Some(held) => held.same(fact),
+        None => true,
+    }
+}
+
+// Adds copies of the facts, one after another, and counts those that are new.
+fn take_facts(alloc: Global, ledger: &mut Ledger, facts: &[Fact]) -> Result<u16, TakeError>
+    requires agree { (U : FactSet) × IsFactSet U × IsSubset ledger.old U × AllIn U facts.now }
+    requires few { length facts.now ≤ 128 }
+    ensures { spec.Takes ledger.old facts.now result ledger.new }
+{
+    let mut taken = 0u16;
+    for fact in facts {
+        match take_fact(alloc, ledger, fact) {
+            Ok(new) => taken += new,
+            Err(_) => return Err(TakeError::Memory),
+        }
+    }
+    Ok(taken)
+}
+
+// Adds a copy of the fact, and answers 1 where it is new.
+fn take_fact(alloc: Global, ledger: &mut Ledger, fact: &Fact) -> Result<u16, AllocError>
+    requires agree { (b : Body) → sets.get ledger.old fact.now.0 ≡ Some b → b ≡ fact.now.1 }
+    requires passes { refusal_of fact.now.1 ≡ None }
+    ensures ok { IfOk result (λ new. (ledger.new ≡ sets.insert ledger.old fact.now.0 fact.now.1) × (sets.len ledger.old + new ≡ sets.len ledger.new) × (new ≤ 1)) }
+    ensures err { OnErr result (ledger.new ≡ ledger.old) }
+{
+    let copy = fact.copy(alloc)?;
+    match ledger.add(copy) {
+        Ok(Added::New) => Ok(1),
+        Ok(Added::Held) => Ok(0),
+        Err(AddError::Memory) => Err(AllocError),
+        Err(AddError::Conflict) => unreachable!(),
+    }
+}

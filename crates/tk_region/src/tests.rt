@@ -1,0 +1,333 @@
+//! A region that makes facts and takes bundles in: what it answers, and the bytes of what it then holds.
+
+use crate::step::prepare;
+use crate::{Handled, Region, Settings, TakeError};
+use std::alloc::Global;
+use std::process::Abort;
+use std::test::Fail;
+use tk_bundle::make;
+use tk_fact::{Body, ClientRetired};
+use tk_format::Writer;
+use tk_handle::{Dot, RegionNumber};
+use tk_message::{Decision, Payload, Reply, Status, client_reply};
+use tk_vector::VersionVector;
+
+const GREATEST_CAP: u64 = 9_223_372_036_854_775_806;
+
+// Code, access, refresh, family, cap, and whether they are settings.
+const SETTINGS: [(&str, [u64; 5], bool); 12] = [
+    ("the least", [1, 1, 1, 1, 1], true),
+    (
+        "the greatest",
+        [600, 86_400, 31_536_000, 315_360_000, GREATEST_CAP],
+        true,
+    ),
+    ("no life of a code", [0, 1, 1, 1, 1], false),
+    ("a code of 601 seconds", [601, 1, 1, 1, 1], false),
+    ("no life of an access token", [1, 0, 1, 1, 1], false),
+    ("an access token of more than a day", [1, 86_401, 1, 1, 1], false),
+    ("no life of a refresh token", [1, 1, 0, 1, 1], false),
+    ("a refresh token of more than a year", [1, 1, 31_536_001, 1, 1], false),
+    ("no life of a family", [1, 1, 1, 0, 1], false),
+    ("a family of more than ten years", [1, 1, 1, 315_360_001, 1], false),
+    ("no cap", [1, 1, 1, 1, 0], false),
+    (
+        "a cap at the greatest serial",
+        [1, 1, 1, 1, GREATEST_CAP + 1],
+        false,
+    ),
+];
+
+#[test]
+fn settings_end_where_their_ranges_do(rt: HostRuntime) {
+    for (name, [code, access, refresh, family, cap], want) in SETTINGS {
+        let settings = Settings::new(code, access, refresh, family, cap);
+        assert_eq!(rt; settings.is_some(), want, "{name}");
+    }
+}
+
+#[test]
+fn settings_are_told_as_they_were_given(rt: HostRuntime) -> Result<(), Fail> {
+    let settings = Settings::new(60, 3_600, 86_400, 2_592_000, 7).ok_or("settings")?;
+    let lives = settings.lives();
+    assert_eq!(rt; lives.code, 60);
+    assert_eq!(rt; lives.access, 3_600);
+    assert_eq!(rt; lives.refresh, 86_400);
+    assert_eq!(rt; lives.family, 2_592_000);
+    assert_eq!(rt; settings.cap(), 7);
+    Ok(())
+}
+
+// A fact that a client was retired: where it stands, and where the client was added.
+type Retired = ((u16, u64), (u16, u64));
+
+fn put_dot(writer: &mut Writer, dot: (u16, u64)) -> Result<(), Fail> {
+    writer.put_u16(dot.0)?;
+    Ok(writer.put_u64(dot.1)?)
+}
+
+// Its 21 bytes behind their length: the dot, the kind 2, the client.
+fn put_retired(writer: &mut Writer, fact: &Retired) -> Result<(), Fail> {
+    writer.put_u16(21)?;
+    put_dot(writer, fact.0)?;
+    writer.put_u8(2)?;
+    put_dot(writer, fact.1)
+}
+
+// The facts in this order, behind the magic and their number.
+fn bundle_of(alloc: Global, facts: &[Retired]) -> Result<Vec<u8>, Fail> {
+    let mut writer = Writer::new(alloc);
+    writer.put_bytes(b"OTB1")?;
+    writer.put_u16(u16::try_from(facts.len())?)?;
+    for fact in facts {
+        put_retired(&mut writer, fact)?;
+    }
+    Ok(writer.into_bytes())
+}
+
+// What the region holds, as one bundle.
+fn held(alloc: Global, region: &Region) -> Result<Vec<u8>, Fail> {
+    let vector = VersionVector::new(alloc);
+    Ok(make(alloc, region.ledger().store(), &vector)?.bytes)
+}
+
+fn holds(
+    rt: &impl Abort,
+    alloc: Global,
+    name: &str,
+    region: &Region,
+    facts: &[Retired],
+) -> Result<(), Fail> {
+    let (bytes, want) = (held(alloc, region)?, bundle_of(alloc, facts)?);
+    assert_eq!(rt; region.len(), facts.len() as u64, "facts after {name}");
+    assert!(rt; bytes.as_slice() == want.as_slice(), "bytes after {name}");
+    Ok(())
+}
+
+fn new_region(alloc: Global, cap: u64) -> Result<Region, Fail> {
+    let settings = Settings::new(60, 3_600, 86_400, 2_592_000, cap).ok_or("settings")?;
+    let number = RegionNumber::new(2).ok_or("a number")?;
+    Ok(Region::new(alloc, number, settings))
+}
+
+fn take(
+    alloc: Global,
+    region: &mut Region,
+    facts: &[Retired],
+) -> Result<Result<u16, TakeError>, Fail> {
+    let bytes = bundle_of(alloc, facts)?;
+    Ok(region.take_in(alloc, bytes.as_slice()))
+}
+
+ghost use Rattle.std.specs.Prelude.{IfOk};
+ghost use Rattle.tk_message.specs.Decision.{Passes};
+
+// To retire the client that was added there.
+fn retirement(alloc: Global, client: (u16, u64)) -> Result<Decision, Fail>
+    ensures { IfOk result (λ d. Passes d.made) }
+{
+    let region = RegionNumber::new(client.0).ok_or("a region")?;
+    let client = Dot::new(region, client.1).ok_or("a dot")?;
+    let reply = client_reply(alloc, Status::Ok, client)?;
+    Ok(Decision {
+        reply,
+        made: Some(Body::ClientRetired(ClientRetired { client })),
+    })
+}
+
+// The region makes that fact at its next dot, if its cap lets it.
+fn retire(alloc: Global, region: &mut Region, client: (u16, u64)) -> Result<Handled, Fail> {
+    let decision = retirement(alloc, client)?;
+    let place = region.place();
+    let prepared = prepare(alloc, region.settings().cap(), &place, decision)?;
+    Ok(region.commit(prepared)?)
+}
+
+// Of region 1, and of region 2 itself.
+const FIRST: [Retired; 2] = [((1, 1), (1, 9)), ((2, 1), (1, 8))];
+
+// Region 2 with both, below its cap.
+fn with_first(alloc: Global) -> Result<Region, Fail> {
+    let mut region = new_region(alloc, 5)?;
+    if take(alloc, &mut region, &FIRST[..1])? != Ok(1) {
+        return Err("a fact of another region")?;
+    }
+    let _handled = retire(alloc, &mut region, (1, 8))?;
+    Ok(region)
+}
+
+// A bundle's facts, what taking it in answers, and what the region then holds.
+const BUNDLES: [(&str, &[Retired], Result<u16, TakeError>, &[Retired]); 15] = [
+    ("nothing", &[], Ok(0), &FIRST),
+    (
+        "a new fact",
+        &[((1, 3), (1, 9))],
+        Ok(1),
+        &[((1, 1), (1, 9)), ((1, 3), (1, 9)), ((2, 1), (1, 8))],
+    ),
+    ("all that is held", &FIRST, Ok(0), &FIRST),
+    (
+        "a held fact and a new one",
+        &[((2, 1), (1, 8)), ((3, 1), (1, 9))],
+        Ok(1),
+        &[((1, 1), (1, 9)), ((2, 1), (1, 8)), ((3, 1), (1, 9))],
+    ),
+    (
+        "its next fact",
+        &[((2, 2), (1, 9))],
+        Err(TakeError::OwnNumber),
+        &FIRST,
+    ),
+    (
+        "a later fact of its own",
+        &[((2, 7), (1, 9))],
+        Err(TakeError::OwnNumber),
+        &FIRST,
+    ),
+    (
+        "its next fact behind new ones",
+        &[((1, 2), (1, 9)), ((2, 2), (1, 9)), ((3, 1), (1, 9))],
+        Err(TakeError::OwnNumber),
+        &FIRST,
+    ),
+    (
+        "another body",
+        &[((1, 1), (1, 7))],
+        Err(TakeError::Conflict),
+        &FIRST,
+    ),
+    (
+        "another body for its own fact",
+        &[((2, 1), (1, 7))],
+        Err(TakeError::Conflict),
+        &FIRST,
+    ),
+    (
+        "another body behind a new fact",
+        &[((1, 2), (1, 9)), ((2, 1), (1, 7))],
+        Err(TakeError::Conflict),
+        &FIRST,
+    ),
+    (
+        "another body, and then its next fact",
+        &[((1, 1), (1, 7)), ((2, 2), (1, 9))],
+        Err(TakeError::OwnNumber),
+        &FIRST,
+    ),
+    (
+        "dots that fall",
+        &[((1, 3), (1, 9)), ((1, 2), (1, 9))],
+        Err(TakeError::Malformed),
+        &FIRST,
+    ),
+    (
+        "a dot twice",
+        &[((1, 3), (1, 9)), ((1, 3), (1, 9))],
+        Err(TakeError::Malformed),
+        &FIRST,
+    ),
+    (
+        "its next fact, and dots that fall",
+        &[((2, 2), (1, 9)), ((1, 1), (1, 7))],
+        Err(TakeError::Malformed),
+        &FIRST,
+    ),
+    (
+        "the serial 0",
+        &[((1, 0), (1, 9))],
+        Err(TakeError::Malformed),
+        &FIRST,
+    ),
+];
+
+#[test]
+fn a_bundle_is_taken_in_or_changes_nothing(rt: HostRuntime) -> Result<(), Fail> {
+    let alloc = rt.alloc();
+    for (name, facts, want, after) in BUNDLES {
+        let mut region = with_first(alloc)?;
+        let result = take(alloc, &mut region, facts)?;
+        assert_eq!(rt; result, want, "{name}");
+        holds(&rt, alloc, name, &region, after)?;
+    }
+    Ok(())
+}
+
+#[test]
+fn a_torn_bundle_is_malformed(rt: HostRuntime) -> Result<(), Fail> {
+    let alloc = rt.alloc();
+    let mut region = with_first(alloc)?;
+    let bytes = bundle_of(alloc, &[((1, 2), (1, 9)), ((2, 2), (1, 9))])?;
+    for length in 0..bytes.len() {
+        let torn = region.take_in(alloc, &bytes[..length]);
+        assert_eq!(rt; torn, Err(TakeError::Malformed), "{length} bytes");
+    }
+    holds(&rt, alloc, "torn bundles", &region, &FIRST)
+}
+
+// Bundles in the order in which they come, and how many facts of each are new.
+const DELIVERIES: [(&str, &[Retired], u16); 4] = [
+    (
+        "the newer one",
+        &[((1, 3), (1, 9)), ((3, 1), (1, 9))],
+        2,
+    ),
+    ("the older one", &[((1, 1), (1, 9)), ((1, 2), (1, 9))], 2),
+    (
+        "the newer one again",
+        &[((1, 3), (1, 9)), ((3, 1), (1, 9))],
+        0,
+    ),
+    (
+        "one that reaches into both",
+        &[((1, 2), (1, 9)), ((1, 3), (1, 9)), ((1, 4), (1, 9))],
+        1,
+    ),
+];
+
+#[test]
+fn bundles_come_in_any_order(rt: HostRuntime) -> Result<(), Fail> {
+    let alloc = rt.alloc();
+    let mut region = new_region(alloc, 5)?;
+    for (name, facts, new) in DELIVERIES {
+        assert_eq!(rt; take(alloc, &mut region, facts)?, Ok(new), "{name}");
+    }
+    let all = [
+        ((1, 1), (1, 9)),
+        ((1, 2), (1, 9)),
+        ((1, 3), (1, 9)),
+        ((1, 4), (1, 9)),
+        ((3, 1), (1, 9)),
+    ];
+    holds(&rt, alloc, "four bundles", &region, &all)
+}
+
+fn is_json(reply: &Reply, status: u16, body: &str) -> bool {
+    match &reply.body {
+        Payload::Json(bytes) => {
+            reply.status.number() == status && bytes.as_slice() == body.as_bytes()
+        }
+        _ => false,
+    }
+}
+
+// The facts of region 2, whose cap is 2.
+const MADE: [Retired; 2] = [((2, 1), (1, 7)), ((2, 2), (1, 8))];
+
+#[test]
+fn a_fact_is_recorded_and_none_is_above_the_cap(rt: HostRuntime) -> Result<(), Fail> {
+    let alloc = rt.alloc();
+    let mut region = new_region(alloc, 2)?;
+    for fact in MADE {
+        let handled = retire(alloc, &mut region, fact.1)?;
+        let logged = handled.logged.ok_or("a record")?;
+        let record = bundle_of(alloc, &[fact])?;
+        assert!(rt; logged.as_slice() == record.as_slice(), "record");
+        assert_eq!(rt; handled.reply.status.number(), 200);
+    }
+    let refused = retire(alloc, &mut region, (1, 9))?;
+    let body = "{\"error\":\"temporarily_unavailable\"}";
+    assert!(rt; is_json(&refused.reply, 503, body), "above the cap");
+    assert!(rt; refused.logged.is_none(), "no record");
+    assert_eq!(rt; region.number().number(), 2);
+    holds(&rt, alloc, "a fact above the cap", &region, &MADE)
+}
