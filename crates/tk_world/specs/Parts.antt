@@ -1,25 +1,28 @@
 -- What the parts of a step may end with, each on what it is handed (own).
-use Rattle.std.specs.Prelude.{◌≡◌, ℕ, ◌+◌, List, [], ◌∷◌, ◌++◌, length, insert, take}
+use Rattle.std.specs.Prelude.{◌≡◌, ℕ, ◌+◌, List, [], ◌∷◌, ◌++◌, length, insert, take, IfSome}
 use Rattle.std.specs.FinMap as map
-use Rattle.tk_handle.specs.declared.dot.Dot.{Dot}
-use Rattle.tk_store.specs.FactSet.{FactSet, Facts, with_facts}
-use Rattle.tk_message.specs.declared.decision.Decision.{Decision}
+use Rattle.tk_store.specs.FactSet.{Facts}
+use Rattle.tk_store.specs.Store.{facts_of}
+use Rattle.tk_bundle.specs.Page.{PageFields}
+use Rattle.tk_region.specs.RegionFields.{RegionFields, Gains}
+use Rattle.tk_region.specs.Step.{prepared_of, listed, IsNextFact}
 use Rattle.tk_world.specs.declared.event.Outcome.{Outcome}
 use Rattle.tk_world.specs.declared.event.Outcome.TheVariants.{Opened, Reply, Bundle, Took, Memory}
-use Rattle.tk_bundle.specs.Page.{PageFields}
-use Rattle.tk_world.specs.World.{made_at}
+use Rattle.tk_world.specs.AskedFields.{AskedFields}
 
--- the region is in its place, with nothing in it
-abbrev pub Opens : List (ℕ × FactSet) → ℕ → ℕ → Outcome → List (ℕ × FactSet) → Type 0
-Opens old at n Opened new = new ≡ insert old at (n, map.empty)
-Opens old at n Memory new = new ≡ old
-Opens old at n outcome new = ⊥
+-- the region is in its place
+abbrev pub Opens : List RegionFields → ℕ → RegionFields → Outcome → List RegionFields → Type 0
+Opens old at region Opened new = new ≡ insert old at region
+Opens old at region Memory new = new ≡ old
+Opens old at region outcome new = ⊥
 
--- the reply comes where the fact, if any, is in
-abbrev pub Commits : Dot → Decision → FactSet → Outcome → FactSet → Type 0
-Commits next d F (Reply reply) G = (reply ≡ d.reply) × (G ≡ with_facts F (made_at next d.made))
-Commits next d F Memory G = G ≡ F
-Commits next d F outcome G = ⊥
+-- the reply comes where the fact that is prepared, if there is one, is in; it is the region's next
+abbrev pub Answers : RegionFields → AskedFields → Outcome → RegionFields → Type 0
+Answers old asked (Reply reply) new =
+    (let prepared = prepared_of old asked.now asked.words asked.request in
+    (reply ≡ prepared.reply) × Gains old (listed prepared.fact) new × IfSome prepared.fact (IsNextFact old))
+Answers old asked Memory new = new ≡ old
+Answers old asked outcome new = ⊥
 
 -- the page joins the bundles
 abbrev pub Pages : PageFields → List Facts → Outcome → List Facts → Type 0
@@ -29,7 +32,7 @@ Pages page old Memory new = new ≡ old
 Pages page old outcome new = ⊥
 
 -- all are in, and the set has grown by the number of those that it lacked; or the first of them are in
-abbrev pub TakesFacts : FactSet → Facts → Outcome → FactSet → Type 0
-TakesFacts F fs (Took n) G = (G ≡ with_facts F fs) × (map.len F + n ≡ map.len G)
-TakesFacts F fs Memory G = (k : ℕ) × (G ≡ with_facts F (take k fs))
-TakesFacts F fs outcome G = ⊥
+abbrev pub TakesFacts : RegionFields → Facts → Outcome → RegionFields → Type 0
+TakesFacts old fs (Took n) new = Gains old fs new × (map.len (facts_of old.facts) + n ≡ map.len (facts_of new.facts))
+TakesFacts old fs Memory new = (k : ℕ) × Gains old (take k fs) new
+TakesFacts old fs outcome new = ⊥

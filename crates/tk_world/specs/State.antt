@@ -1,7 +1,8 @@
 -- What a world is: the open regions with their sets of facts, and the bundles made (own).
---   State       settings, regions, bundles
---   facts_in    what a region holds
---   Consists    there is one set of all facts made, which every region and bundle is part of
+--   State         settings, regions, bundles
+--   facts_in      what a region holds
+--   region_with   the region of a number with a set
+--   Consists      there is one set of all facts made, which every region and bundle is part of
 use Rattle.std.specs.Prelude.{◌≡◌, ℕ, ◌<◌, ◌≤◌, ◌^◌, ◌-◌, List, [], ◌∷◌, ◌++◌, length, slice_get, Some, unwrap_or, refl}
 use Rattle.std.specs.Ordering.{nat_cmp}
 use Rattle.std.specs.FinMap as map
@@ -11,7 +12,8 @@ use Rattle.tk_handle.specs.Dot.{coded_dot}
 use Rattle.tk_fact.specs.declared.body.Body.{Body}
 use Rattle.tk_fact.specs.contracts.body.Body.{the_row}
 use Rattle.tk_store.specs.FactSet.{FactSet, Facts, AllIn, IsFactSet, IsSubset, coded_facts}
-use Rattle.tk_world.specs.SettingsFields.{SettingsFields}
+use Rattle.tk_region.specs.SettingsFields.{SettingsFields, coded_settings}
+use Rattle.tk_region.specs.RegionFields.{RegionFields}
 
 pub record State : Type 0 where
   pub settings : SettingsFields
@@ -19,12 +21,6 @@ pub record State : Type 0 where
   pub bundles : List Facts
 
 -- as pairs
-abbrev pub coded_settings : Coded SettingsFields
-coded_settings =
-    code_by (ℕ × (ℕ × (ℕ × (ℕ × ℕ)))) (coded× coded_ℕ (coded× coded_ℕ (coded× coded_ℕ (coded× coded_ℕ coded_ℕ))))
-    (λ s. (s.code, (s.access, (s.refresh, (s.family, s.cap)))))
-    (λ p. record { code = p.0; access = p.1.0; refresh = p.1.1.0; family = p.1.1.1.0; cap = p.1.1.1.1 }) (λ _. refl)
-
 abbrev pub coded_state : Coded State
 coded_state =
     code_by (SettingsFields × (map.FinMap nat_cmp FactSet × List Facts))
@@ -46,6 +42,10 @@ with_bundle s fs = record { settings = s.settings; regions = s.regions; bundles 
 -- what a region holds, and nothing where it isn't open
 abbrev pub facts_in : State → ℕ → FactSet
 facts_in s r = unwrap_or (map.get s.regions r) map.empty
+
+-- the region of this number that holds these facts
+abbrev pub region_with : State → ℕ → FactSet → RegionFields
+region_with s r F = record { number = r; settings = s.settings; facts = F }
 
 -- U is the set of all facts made: each stands in the region of its number, under the cap
 pub record Consists (s : State) (U : FactSet) : Type 0 where

@@ -5,23 +5,20 @@
 --   Step          one event: its outcome, what it showed its region, and the new state
 --   Run           one step after another
 --   seen_by       what a region has seen: the facts that it made and took in
-use Rattle.std.specs.Prelude.{◌≡◌, ℕ, ◌+◌, ◌==◌, if◌then◌else◌, List, [], ◌∷◌, ◌++◌, length, take, slice_get, Option, Some, None, IsSome}
+use Rattle.std.specs.Prelude.{◌≡◌, ℕ, ◌+◌, ◌==◌, if◌then◌else◌, List, [], ◌∷◌, ◌++◌, length, take, slice_get, Some, None, IsSome}
 use Rattle.std.specs.FinMap as map
-use Rattle.tk_handle.specs.declared.dot.Dot.{Dot}
-use Rattle.tk_fact.specs.declared.body.Body.{Body}
 use Rattle.tk_vector.specs.VersionVector.{Vector}
 use Rattle.tk_store.specs.FactSet.{FactSet}
 pub use Rattle.tk_store.specs.FactSet.{Facts}
 use Rattle.tk_store.specs.Joining.{JoinsFacts}
-use Rattle.tk_store.specs.NextDot.{next_dot}
 use Rattle.tk_bundle.specs.Page.{page_of}
+use Rattle.tk_region.specs.Step.{prepared_of, listed}
 use Rattle.tk_world.specs.declared.event.Event.{Event}
 use Rattle.tk_world.specs.declared.event.Event.TheVariants.{Open, Request, Pull, Deliver}
 use Rattle.tk_world.specs.declared.event.Outcome.{Outcome}
 use Rattle.tk_world.specs.declared.event.Outcome.TheVariants.{Opened, NumberTaken, NoRegion, NoBundle, Reply, Bundle, Took, Memory}
 use Rattle.tk_world.specs.AskedFields.{AskedFields}
-use Rattle.tk_world.specs.Decision.{decided}
-use Rattle.tk_world.specs.State.{State, with_region, with_bundle}
+use Rattle.tk_world.specs.State.{State, with_region, with_bundle, region_with}
 
 -- nothing was shown to a region, and nothing changed
 abbrev pub IsUnchanged : State → Facts → State → Type 0
@@ -42,16 +39,11 @@ IsOpening old n NumberTaken seen new = IsSome (map.get old.regions n) × IsUncha
 IsOpening old n Memory seen new = (map.get old.regions n ≡ None) × IsUnchanged old seen new
 IsOpening old n outcome seen new = ⊥
 
--- the fact at the dot, if one is made
-abbrev pub made_at : Dot → Option Body → Facts
-made_at d None = []
-made_at d (Some b) = (d, b) ∷ []
-
--- the reply is that of the decision, and the fact made, if any, joins the set
+-- the reply is what the region prepares, and its fact, if there is one, joins the set
 abbrev pub IsAnswer : State → ℕ → AskedFields → Outcome → Facts → State → Type 0
 IsAnswer old r asked (Reply reply) seen new =
     (F : FactSet) × Grows old r F seen new
-    × (let decision = decided old.settings F r asked in (reply ≡ decision.reply) × (seen ≡ made_at (next_dot F r) decision.made))
+    × (let prepared = prepared_of (region_with old r F) asked.now asked.words asked.request in (reply ≡ prepared.reply) × (seen ≡ listed prepared.fact))
 IsAnswer old r asked NoRegion seen new = (map.get old.regions r ≡ None) × IsUnchanged old seen new
 IsAnswer old r asked Memory seen new = IsSome (map.get old.regions r) × IsUnchanged old seen new
 IsAnswer old r asked outcome seen new = ⊥

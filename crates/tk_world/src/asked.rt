@@ -1,8 +1,8 @@
 //! What a region is asked: all that an answer depends on beside the facts and the place.
 
-use crate::request::Request;
 use std::marker::Model;
 use tk_handle::Moment;
+use tk_message::Request;
 
 /// A request, and what comes with it: the moment, and six random words.
 #[derive(Debug, Drop)]

@@ -21,14 +21,11 @@ impl Model for MadeBundle {
     ghost invariant = { λ b. IsReadable b.bytes.items };
 }
 
-ghost use Rattle.std.specs.Prelude.{◌≡◌, IfOk};
+ghost use Rattle.std.specs.Prelude.{◌≡◌, Some};
+ghost use Rattle.tk_format.specs.Format.{whole};
 ghost use Rattle.tk_store.specs.FactSet.{Facts};
 ghost use Rattle.tk_bundle.specs.Bundle.{bundle, bundle_bytes};
 ghost use Rattle.tk_world.specs.Bundles.{facts_in_bytes, IsReadable};
-
-use std::alloc::{AllocError, Global};
-use tk_bundle::Bundle;
-use tk_format::ReadError;
 
 impl MadeBundle {
     // The bundle of bytes that spell one.
@@ -39,28 +36,21 @@ impl MadeBundle {
         MadeBundle { bytes }
     }
 
+    // The bytes, which spell its facts.
     pub(crate) fn bytes(&self) -> &[u8]
-        ensures { result.now ≡ bundle_bytes self.now }
+        ensures spelled { result.now ≡ bundle_bytes self.now }
+        ensures read { whole bundle result.now ≡ Some self.now }
     {
         spelling(&self.bytes)
     }
 
-    // Its facts, read from the bytes.
-    pub(crate) fn read(&self, alloc: Global) -> Result<Bundle, AllocError>
-        ensures { IfOk result (λ bundle. bundle ≡ self.now) }
-    {
-        match Bundle::read(alloc, &self.bytes) {
-            Ok(bundle) => Ok(bundle),
-            Err(ReadError::Memory) => Err(AllocError),
-            Err(ReadError::Malformed) => unreachable!(),
-        }
-    }
 }
 
 // Bytes that spell a bundle are the spelling of its facts.
 fn spelling(bytes: &[u8]) -> &[u8]
     requires { IsReadable bytes.now }
-    ensures { result.now ≡ bundle_bytes (facts_in_bytes bytes.now) }
+    ensures spelled { result.now ≡ bundle_bytes (facts_in_bytes bytes.now) }
+    ensures read { whole bundle result.now ≡ Some (facts_in_bytes bytes.now) }
 {
     bytes
 }

@@ -1,8 +1,7 @@
 //! What may happen to a world, and how it ends.
 
-use crate::request::Request;
 use tk_handle::{Dot, Moment, RegionNumber};
-use tk_message::Reply;
+use tk_message::{Reply, Request};
 use tk_vector::VersionVector;
 
 /// What may happen to a world.

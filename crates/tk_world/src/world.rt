@@ -1,17 +1,16 @@
 //! Regions and the bundles between them, and the run of a list of events.
 
 use crate::bundle::MadeBundle;
-use crate::region::Region;
-use crate::settings::Settings;
 use std::alloc::Global;
 use std::marker::Model;
+use tk_region::{Region, Settings};
 
 /// Regions under their numbers, and the bundles that they made, which any of them may be handed in any order.
 #[derive(Debug, Drop)]
 pub struct World {
     alloc: Global,
     settings: Settings,
-    // Ascending by number.
+    // Ascending by number, each with these settings.
     regions: Vec<Region>,
     // In the order of making. All facts that regions hold or bundles carry are one set.
     bundles: Vec<MadeBundle>,
@@ -21,16 +20,17 @@ impl Model for World {
     ghost use Rattle.std.specs.Prelude.{T};
     ghost use Rattle.std.specs.Ordering.{nat_cmp};
     ghost use Rattle.std.specs.FinMap as map;
+    ghost use Rattle.tk_world.specs.Regions.{entries_of, HaveSettings};
     ghost use Rattle.tk_world.specs.State.{State, coded_state, IsConsistent};
 
     ghost Value = { State };
 
     ghost coded = { coded_state };
 
-    ghost view = { λ w. record { settings = w.settings; regions = map.from_sorted w.regions.items; bundles = w.bundles.items } };
+    ghost view = { λ w. record { settings = w.settings; regions = map.from_sorted (entries_of w.regions.items); bundles = w.bundles.items } };
 
-    ghost invariant = { λ w. T (map.is_sorted nat_cmp w.regions.items)
-        × IsConsistent (record { settings = w.settings; regions = map.from_sorted w.regions.items; bundles = w.bundles.items }) };
+    ghost invariant = { λ w. T (map.is_sorted nat_cmp (entries_of w.regions.items)) × HaveSettings w.settings w.regions.items
+        × IsConsistent (record { settings = w.settings; regions = map.from_sorted (entries_of w.regions.items); bundles = w.bundles.items }) };
 }
 
 ghost use Rattle.std.specs.Prelude.{◌≡◌, ◌≤◌, ◌<◌, ◌+◌, T, ℕ, List, IfOk, OnOk, OnErr, MatchResult, length, insert, [], slice_get, vec_len, vec_capacity, ◌++◌, ◌∷◌};
@@ -46,9 +46,11 @@ ghost use Rattle.tk_bundle.specs.Page as pages;
 ghost use Rattle.tk_world.specs.State.{facts_in, new_state, IsConsistent};
 ghost use Rattle.tk_world.specs.World.{Step, Run, seen_by};
 ghost use Rattle.tk_world.specs.Parts.{Opens, Pages};
+ghost use Rattle.tk_world.specs.Regions.{entries_of};
 
 use crate::asked::Asked;
 use crate::event::{Event, Outcome};
+use crate::region::{answer, deliver, pull};
 use std::alloc::AllocError;
 use tk_bundle::Page;
 use tk_handle::RegionNumber;
@@ -138,7 +140,10 @@ impl World {
     {
         match find_region(&self.regions, number) {
             Ok(_) => Outcome::NumberTaken,
-            Err(at) => open_region(self.alloc, &mut self.regions, at, number),
+            Err(at) => {
+                let region = Region::new(self.alloc, number, self.settings);
+                open_region(&mut self.regions, at, region)
+            }
         }
     }
 
@@ -146,7 +151,7 @@ impl World {
         ensures { (seen : Facts) × Step self.old (Event.Request region asked.entry.now.now asked.entry.now.words asked.entry.now.request) result seen self.new }
     {
         match find_region(&self.regions, region) {
-            Ok(at) => self.regions[at].answer(self.alloc, &self.settings, asked),
+            Ok(at) => answer(self.alloc, &mut self.regions[at], asked),
             Err(_) => Outcome::NoRegion,
         }
     }
@@ -165,7 +170,7 @@ impl World {
     {
         match find_region(&self.regions, region) {
             Ok(at) => match bundle_at(&self.bundles, bundle) {
-                Some(bundle) => self.regions[at].deliver(self.alloc, bundle),
+                Some(bundle) => deliver(self.alloc, &mut self.regions[at], bundle),
                 None => Outcome::NoBundle,
             },
             Err(_) => Outcome::NoRegion,
@@ -194,17 +199,17 @@ fn bundle_at(bundles: &[MadeBundle], index: u64) -> Option<&MadeBundle>
 
 // Where the region of the number stands, or where it would go.
 fn find_region(regions: &[Region], number: RegionNumber) -> Result<usize, usize>
-    requires { T (map.is_sorted nat_cmp regions.now) }
-    ensures { MatchResult result (IsAt nat_cmp regions.now number) (IsGap nat_cmp regions.now number) }
+    requires { T (map.is_sorted nat_cmp (entries_of regions.now)) }
+    ensures { MatchResult result (IsAt nat_cmp (entries_of regions.now) number) (IsGap nat_cmp (entries_of regions.now) number) }
 {
     regions.binary_search_by_key(&number, |region| region.number())
 }
 
-fn open_region(alloc: Global, regions: &mut Vec<Region>, at: usize, number: RegionNumber) -> Outcome
+fn open_region(regions: &mut Vec<Region>, at: usize, region: Region) -> Outcome
     requires { at ≤ length regions.old.items }
-    ensures { Opens regions.old.items at number result regions.new.items }
+    ensures { Opens regions.old.items at region result regions.new.items }
 {
-    match insert_region(regions, at, Region::new(alloc, number)) {
+    match insert_region(regions, at, region) {
         Ok(()) => Outcome::Opened,
         Err(_) => Outcome::Memory,
     }
@@ -226,9 +231,9 @@ fn pull_page(
     bundles: &mut Vec<MadeBundle>,
     vector: &VersionVector,
 ) -> Outcome
-    ensures { Pages (pages.page_of (known_in region.now.1) vector.now) bundles.old.items result bundles.new.items }
+    ensures { Pages (pages.page_of (known_in region.now.facts) vector.now) bundles.old.items result bundles.new.items }
 {
-    match region.pull(alloc, vector) {
+    match pull(alloc, region, vector) {
         Ok(page) => keep_page(bundles, page),
         Err(_) => Outcome::Memory,
     }
