@@ -7,16 +7,13 @@ use Rattle.tk_message.specs.declared.decision.Decision.{Decision}
 use Rattle.tk_message.specs.declared.error_code.ErrorCode.TheVariants.{NotFound, TemporarilyUnavailable}
 use Rattle.tk_message.specs.declared.place.Place.{Place}
 use Rattle.tk_message.specs.declared.request.Endpoint.{Endpoint}
-use Rattle.tk_message.specs.declared.request.Endpoint.TheVariants.{Authorize, Token, Revoke, Introspect, AddClient, ShowClient, Retire, Consent, Withdraw}
+use Rattle.tk_message.specs.declared.request.Endpoint.TheVariants.{Authorize, AddClient, ShowClient, Retire, Consent, Withdraw}
 use Rattle.tk_message.specs.RequestFields.{RequestFields}
 use Rattle.tk_message.specs.Decision.{refused}
 
 -- none is served yet
 abbrev pub decision_by : Endpoint → FactSet → Place → ℕ → List ℕ → RequestFields → Decision
 decision_by Authorize F place now words request = refused NotFound
-decision_by Token F place now words request = refused NotFound
-decision_by Revoke F place now words request = refused NotFound
-decision_by Introspect F place now words request = refused NotFound
 decision_by AddClient F place now words request = refused NotFound
 decision_by ShowClient F place now words request = refused NotFound
 decision_by Retire F place now words request = refused NotFound

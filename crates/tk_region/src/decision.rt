@@ -24,9 +24,6 @@ pub(crate) fn decide_endpoint(
 {
     match request.endpoint {
         Endpoint::Authorize
-        | Endpoint::Token
-        | Endpoint::Revoke
-        | Endpoint::Introspect
         | Endpoint::AddClient
         | Endpoint::ShowClient
         | Endpoint::Retire

@@ -8,8 +8,8 @@ use std::test::Fail;
 use tk_bundle::make;
 use tk_fact::{Body, ClientRetired};
 use tk_format::Writer;
-use tk_handle::{Dot, RegionNumber};
-use tk_message::{Decision, Payload, Reply, Status, client_reply};
+use tk_handle::{Dot, Moment, RegionNumber};
+use tk_message::{Decision, Endpoint, Params, Payload, Reply, Request, Status, client_reply};
 use tk_vector::VersionVector;
 
 const GREATEST_CAP: u64 = 9_223_372_036_854_775_806;
@@ -25,11 +25,23 @@ const SETTINGS: [(&str, [u64; 5], bool); 12] = [
     ("no life of a code", [0, 1, 1, 1, 1], false),
     ("a code of 601 seconds", [601, 1, 1, 1, 1], false),
     ("no life of an access token", [1, 0, 1, 1, 1], false),
-    ("an access token of more than a day", [1, 86_401, 1, 1, 1], false),
+    (
+        "an access token of more than a day",
+        [1, 86_401, 1, 1, 1],
+        false,
+    ),
     ("no life of a refresh token", [1, 1, 0, 1, 1], false),
-    ("a refresh token of more than a year", [1, 1, 31_536_001, 1, 1], false),
+    (
+        "a refresh token of more than a year",
+        [1, 1, 31_536_001, 1, 1],
+        false,
+    ),
     ("no life of a family", [1, 1, 1, 0, 1], false),
-    ("a family of more than ten years", [1, 1, 1, 315_360_001, 1], false),
+    (
+        "a family of more than ten years",
+        [1, 1, 1, 315_360_001, 1],
+        false,
+    ),
     ("no cap", [1, 1, 1, 1, 0], false),
     (
         "a cap at the greatest serial",
@@ -266,11 +278,7 @@ fn a_torn_bundle_is_malformed(rt: HostRuntime) -> Result<(), Fail> {
 
 // Bundles in the order in which they come, and how many facts of each are new.
 const DELIVERIES: [(&str, &[Retired], u16); 4] = [
-    (
-        "the newer one",
-        &[((1, 3), (1, 9)), ((3, 1), (1, 9))],
-        2,
-    ),
+    ("the newer one", &[((1, 3), (1, 9)), ((3, 1), (1, 9))], 2),
     ("the older one", &[((1, 1), (1, 9)), ((1, 2), (1, 9))], 2),
     (
         "the newer one again",
@@ -330,4 +338,83 @@ fn a_fact_is_recorded_and_none_is_above_the_cap(rt: HostRuntime) -> Result<(), F
     assert!(rt; refused.logged.is_none(), "no record");
     assert_eq!(rt; region.number().number(), 2);
     holds(&rt, alloc, "a fact above the cap", &region, &MADE)
+}
+
+// Requests for what no fact speaks of.
+const UNKNOWN: [(&str, Endpoint, &[u8]); 3] = [
+    ("a client to show", Endpoint::ShowClient, b"client_id=c9-9"),
+    ("a client to retire", Endpoint::Retire, b"client_id=c9-9"),
+    (
+        "a consent to withdraw",
+        Endpoint::Withdraw,
+        b"consent_id=g9-9",
+    ),
+];
+
+fn request_of(alloc: Global, endpoint: Endpoint, input: &[u8]) -> Result<Request, Fail> {
+    Ok(Request {
+        endpoint,
+        params: Params::read(alloc, input)?,
+        authorization: None,
+        subject: None,
+    })
+}
+
+#[test]
+fn what_is_unknown_is_not_found(rt: HostRuntime) -> Result<(), Fail> {
+    let alloc = rt.alloc();
+    let mut region = new_region(alloc, 2)?;
+    let now = Moment::new(1_000).ok_or("a moment")?;
+    let (words, body) = ([7; 6], "{\"error\":\"not_found\"}");
+    for (name, endpoint, input) in UNKNOWN {
+        let request = request_of(alloc, endpoint, input)?;
+        let prepared = region.decide(alloc, now, &words, &request)?;
+        assert!(rt; is_json(&prepared.reply, 404, body), "{name}");
+        assert!(rt; prepared.fact.is_none(), "{name}");
+        let handled = region.handle(alloc, now, &words, &request)?;
+        assert!(rt; is_json(&handled.reply, 404, body), "{name}");
+        assert!(rt; handled.logged.is_none(), "{name}");
+    }
+    holds(&rt, alloc, "what is unknown", &region, &[])
+}
+
+// What a bundle of three may leave: none of its facts, the first, the first two, or all.
+const LEFT: [&[Retired]; 4] = [
+    &FIRST,
+    &[((1, 1), (1, 9)), ((1, 2), (1, 9)), ((2, 1), (1, 8))],
+    &[
+        ((1, 1), (1, 9)),
+        ((1, 2), (1, 9)),
+        ((1, 3), (1, 9)),
+        ((2, 1), (1, 8)),
+    ],
+    &[
+        ((1, 1), (1, 9)),
+        ((1, 2), (1, 9)),
+        ((1, 3), (1, 9)),
+        ((2, 1), (1, 8)),
+        ((3, 1), (1, 9)),
+    ],
+];
+
+#[test]
+fn memory_leaves_the_first_facts(rt: HostRuntime) -> Result<(), Fail> {
+    let alloc = rt.alloc();
+    let mut region = with_first(alloc)?;
+    let bytes = bundle_of(
+        alloc,
+        &[((1, 2), (1, 9)), ((1, 3), (1, 9)), ((3, 1), (1, 9))],
+    )?;
+    let result = region.take_in(alloc, bytes.as_slice());
+    let new = match region.len() {
+        2 => 0,
+        3 => 1,
+        4 => 2,
+        _ => 3,
+    };
+    match result {
+        Ok(count) => assert_eq!(rt; (count, new), (3, 3), "all are new"),
+        Err(error) => assert_eq!(rt; error, TakeError::Memory, "the bundle is good"),
+    }
+    holds(&rt, alloc, "a bundle of three", &region, LEFT[new])
 }
