@@ -151,7 +151,10 @@ impl Region {
         words: &[u64; 6],
         request: &Request,
     ) -> Result<Handled, AllocError>
-        ensures { Commits self.old (prepared_of self.old now words.now request.now) result self.new }
+        ensures commits { Commits self.old (prepared_of self.old now words.now request.now) result self.new }
+
+        // The fact added, if there is one, is the region's next.
+        ensures next { OnOk result (IfSome (prepared_of self.old now words.now request.now).fact (IsNextFact self.old)) }
     {
         let prepared = self.decide(alloc, now, words, request)?;
         self.commit(prepared)

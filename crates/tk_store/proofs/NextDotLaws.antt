@@ -1,4 +1,5 @@
 -- The next dot of a region is free, and what a binary search for it ends with. Key results:
+--   at_most_last_serial                 no fact of a region has a greater serial than its greatest
 --   next_is_free                        nothing stands at a region's next dot
 --   next_dot_there                      which dot it is, where a serial is left
 --   greatest_at_end, none_at_end        the last fact up to a region has the region's greatest serial, or the region has none
@@ -21,7 +22,7 @@ use Rattle.tk_store.specs.NextDot.{last_serial, next_serial, next_dot}
 use Rattle.tk_store.proofs.FactSetLaws.{tied}
 use Rattle.tk_store.proofs.PutLaws.{none_is_not_some}
 
-at_most_last_serial : (r : ℕ) (es : Facts) (q : Dot) (b : Body) → q.region ≡ r → map.find dot_cmp q es ≡ Some b → q.serial ≤ last_serial r es
+pub at_most_last_serial : (r : ℕ) (es : Facts) (q : Dot) (b : Body) → q.region ≡ r → map.find dot_cmp q es ≡ Some b → q.serial ≤ last_serial r es
 at_most_last_serial r [] q b here h = absurd (none_is_not_some b h)
 at_most_last_serial r (e ∷ es) q b here h =
     elim (eq_by_cmp dot_cmp q e.0) as (λ t. eq_by_cmp dot_cmp q e.0 ≡ t → cond t (Some e.1) (map.find dot_cmp q es) ≡ Some b → q.serial ≤ last_serial r (e ∷ es)) [

@@ -1,8 +1,7 @@
 -- A step keeps a world consistent: there stays one set of all facts made. Key results:
 --   step_keeps          what a step leaves is consistent
 --   new_is_consistent   so is a world with nothing
---   next_under          a region's next serial is at most one above the cap
-use Rattle.std.proofs.Common.{◌≡◌, ℕ, Bool, zero, suc, ◌+◌, ◌-◌, ◌^◌, ◌<◌, ◌≤◌, ◌==◌, true, false, cond, if◌then◌else◌, nat_lt, max, List, [], ◌∷◌, ◌++◌, length, take, slice_get, Option, Some, None, is_some, ◌&&◌, refl, sym, ap, subst, ◌∙◌, arith}
+use Rattle.std.proofs.Common.{◌≡◌, ℕ, Bool, zero, suc, ◌+◌, ◌-◌, ◌^◌, ◌<◌, ◌≤◌, ◌==◌, true, false, cond, if◌then◌else◌, nat_lt, max, List, [], ◌∷◌, ◌++◌, length, take, slice_get, Option, Some, None, IfSome, refl, sym, ap, subst, ◌∙◌, arith}
 use Rattle.std.specs.Ordering.{nat_cmp, eq_by_cmp, is_eq}
 use Rattle.std.specs.Cmp.{nat_cmp_total}
 use Rattle.std.proofs.lemmas.Cmp.{tied_itself}
@@ -18,27 +17,21 @@ use Rattle.tk_fact.specs.declared.body.Body.{Body}
 use Rattle.tk_vector.specs.VersionVector.{Vector}
 use Rattle.tk_store.specs.FactSet.{FactSet, Facts, AllIn, IsSubset, with_facts}
 use Rattle.tk_store.specs.Beyond.{beyond, is_beyond}
-use Rattle.tk_store.specs.NextDot.{last_serial, next_serial, next_dot}
+use Rattle.tk_store.specs.NextDot.{next_dot}
 use Rattle.tk_store.proofs.EntryLaws.{AllIn-entries}
 use Rattle.tk_store.proofs.JoiningLaws.{joins_is_with_facts}
 use Rattle.tk_store.proofs.NextDotLaws.{next_is_free}
 use Rattle.tk_store.proofs.PutLaws.{by_dot, of_dot, get_here, some_injective, none_is_not_some, IsFactSet-empty, IsFactSet-insert}
 use Rattle.tk_store.proofs.SubsetLaws.{subset_itself, subset_trans, subset_with_facts, keeps_with_facts, AllIn-take, AllIn-filter, AllIn-subset}
-use Rattle.tk_world.specs.SettingsFields.{SettingsFields}
-use Rattle.tk_world.specs.State.{State, new_state, with_region, with_bundle, Consists, IsConsistent}
-use Rattle.tk_message.specs.declared.decision.Decision.{Decision}
-use Rattle.tk_message.specs.declared.error_code.ErrorCode.TheVariants.{TemporarilyUnavailable}
-use Rattle.tk_message.specs.declared.place.Place.{Place}
-use Rattle.tk_message.specs.Decision.{refused, Passes}
+use Rattle.tk_region.specs.SettingsFields.{SettingsFields, greatest_cap}
+use Rattle.tk_region.specs.Step.{prepared_of, listed, IsNextFact}
+use Rattle.tk_world.specs.State.{State, new_state, with_region, with_bundle, region_with, Consists, IsConsistent}
 use Rattle.tk_world.specs.declared.event.Event.{Event}
 use Rattle.tk_world.specs.declared.event.Event.TheVariants.{Open, Request, Pull, Deliver}
 use Rattle.tk_world.specs.declared.event.Outcome.{Outcome}
 use Rattle.tk_world.specs.declared.event.Outcome.TheVariants.{Opened, NumberTaken, NoRegion, NoBundle, Reply, Bundle, Took, Memory}
-use Rattle.tk_world.specs.AskedFields.{AskedFields}
-use Rattle.tk_world.specs.Decision.{decision_of, capped, decided, place_in}
 use Rattle.tk_bundle.specs.Page.{page_of}
-use Rattle.tk_world.specs.World.{Grows, Step, made_at}
-use Rattle.tk_world.proofs.DecisionLaws.{made_passes}
+use Rattle.tk_world.specs.World.{Grows, Step}
 
 -- ---- pages
 
@@ -146,21 +139,11 @@ consists_bundle s U fs k a short = record {
 
 -- ---- a step
 
--- a fact that a decision makes is under the cap
-under_cap : (cap : ℕ) (place : Place) (d : Decision) (b : Body) → (capped cap place d).made ≡ Some b → place.next ≤ cap
-under_cap cap place d b h =
-    elim (is_some d.made && nat_lt cap place.next) as (λ t. is_some d.made && nat_lt cap place.next ≡ t → (cond t (refused TemporarilyUnavailable) d).made ≡ Some b → place.next ≤ cap) [
-      | true ↦ λ _ k. absurd (none_is_not_some b k)
-      | false ↦ λ t k. not_above (is_some d.made) cap place.next (ap is_some k) t
-    ] refl h
-  where
-    not_above : (made : Bool) (m n : ℕ) → made ≡ true → made && nat_lt m n ≡ false → n ≤ m
-    not_above true m n h t = grind (arith, nat_tests)
-    not_above false m n h t = absurd (false≢true h)
-
-made_keeps : (s : State) (n : ℕ) (F : FactSet) → map.get s.regions n ≡ Some F → (o : Option Body) → ((b : Body) → o ≡ Some b → (next_dot F n).serial ≤ s.settings.cap) → Passes o → IsConsistent s → IsConsistent (with_region s n (with_facts F (made_at (next_dot F n) o)))
-made_keeps s n F at None low passes k = (k.0, consists_set s k.0 n F F k.1 at (k.1.held n F at) (subset_itself F))
-made_keeps s n F at (Some b) low passes k = (map.insert k.0 (next_dot F n) b, consists_made s k.0 n F (next_dot F n) b k.1 at refl (next_is_free F n) (low b refl) passes)
+made_keeps : (s : State) (n : ℕ) (F : FactSet) → map.get s.regions n ≡ Some F → (o : Option (Dot × Body)) → IfSome o (IsNextFact (region_with s n F)) → IsConsistent s → IsConsistent (with_region s n (with_facts F (listed o)))
+made_keeps s n F at None x k = (k.0, consists_set s k.0 n F F k.1 at (k.1.held n F at) (subset_itself F))
+made_keeps s n F at (Some f) x k =
+    let free : map.get F f.0 ≡ None = ap (map.get F) x.next ∙ next_is_free F n in
+    (map.insert k.0 f.0 f.1, consists_made s k.0 n F f.0 f.1 k.1 at (ap (λ d. d.region) x.next) free x.under x.passes)
 
 -- a region that grows is set to its set with these facts
 grown_to : (old new : State) (n : ℕ) (F : FactSet) (seen fs : Facts) (g : Grows old n F seen new) → seen ≡ fs → new ≡ with_region old n (with_facts F fs)
@@ -173,37 +156,44 @@ joined_keeps old new n F seen g k all =
     subst IsConsistent (sym (grown_to old new n F seen seen g refl))
     (k.0, consists_set old k.0 n F _ k.1 g.is_open (subset_with_facts F k.0 seen within all) (keeps_with_facts F k.0 seen within all))
 
-pub step_keeps : (old : State) (e : Event) (o : Outcome) (seen : Facts) (new : State) → Step old e o seen new → IsConsistent old → IsConsistent new
-step_keeps old (Open n) Opened seen new step k = subst IsConsistent (sym step.2) (k.0, consists_opened old k.0 n k.1 step.0)
-step_keeps old (Open n) NumberTaken seen new step k = subst IsConsistent (sym step.1.1) k
-step_keeps old (Open n) Memory seen new step k = subst IsConsistent (sym step.1.1) k
-step_keeps old (Request n now words q) (Reply reply) seen new step k =
+-- a reply's fact, if there is one, is the region's next
+abbrev pub IsNextOf : State → Event → Outcome → Type 0
+IsNextOf old (Request n now words q) (Reply reply) =
+    (F : FactSet) → map.get old.regions n ≡ Some F → IfSome (prepared_of (region_with old n F) now words q).fact (IsNextFact (region_with old n F))
+IsNextOf old (Request n now words q) o = Unit {0}
+IsNextOf old (Open n) o = Unit {0}
+IsNextOf old (Pull n v) o = Unit {0}
+IsNextOf old (Deliver i n) o = Unit {0}
+
+pub step_keeps : (old : State) (e : Event) (o : Outcome) (seen : Facts) (new : State) → Step old e o seen new → IsNextOf old e o → IsConsistent old → IsConsistent new
+step_keeps old (Open n) Opened seen new step next k = subst IsConsistent (sym step.2) (k.0, consists_opened old k.0 n k.1 step.0)
+step_keeps old (Open n) NumberTaken seen new step next k = subst IsConsistent (sym step.1.1) k
+step_keeps old (Open n) Memory seen new step next k = subst IsConsistent (sym step.1.1) k
+step_keeps old (Request n now words q) (Reply reply) seen new step next k =
     let F = step.0 in
-    let asked : AskedFields = record { now = now; words = words; request = q } in
-    let place = place_in old.settings F n in
-    let d = decided old.settings F n asked in
-    subst IsConsistent (sym (grown_to old new n F seen (made_at (next_dot F n) d.made) step.1 step.2.1))
-    (made_keeps old n F step.1.is_open d.made (λ b h. under_cap old.settings.cap place (decision_of F place asked) b h) (made_passes old.settings F place asked) k)
-step_keeps old (Request n now words q) NoRegion seen new step k = subst IsConsistent (sym step.1.1) k
-step_keeps old (Request n now words q) Memory seen new step k = subst IsConsistent (sym step.1.1) k
-step_keeps old (Pull n v) (Bundle index count last more) seen new step k =
+    let fact = (prepared_of (region_with old n F) now words q).fact in
+    subst IsConsistent (sym (grown_to old new n F seen (listed fact) step.1 step.2.1))
+    (made_keeps old n F step.1.is_open fact (next F step.1.is_open) k)
+step_keeps old (Request n now words q) NoRegion seen new step next k = subst IsConsistent (sym step.1.1) k
+step_keeps old (Request n now words q) Memory seen new step next k = subst IsConsistent (sym step.1.1) k
+step_keeps old (Pull n v) (Bundle index count last more) seen new step next k =
     let F = step.0 in
     let fs = (page_of F v).facts in
     subst IsConsistent (sym step.3.4) (k.0, consists_bundle old k.0 fs k.1 (AllIn-subset F k.0 fs (k.1.held n F step.1) (AllIn-page F v)) (short_page (beyond F v)))
   where
     short_page : (fs : Facts) → length (take 128 fs) ≤ 128
     short_page fs = omega (arith, length-take 128 fs)
-step_keeps old (Pull n v) NoRegion seen new step k = subst IsConsistent (sym step.1.1) k
-step_keeps old (Pull n v) Memory seen new step k = subst IsConsistent (sym step.1.1) k
-step_keeps old (Deliver i n) (Took m) seen new step k = joined_keeps old new n step.0 seen step.1 k (k.1.carried i seen step.2).0
-step_keeps old (Deliver i n) Memory seen new step k =
+step_keeps old (Pull n v) NoRegion seen new step next k = subst IsConsistent (sym step.1.1) k
+step_keeps old (Pull n v) Memory seen new step next k = subst IsConsistent (sym step.1.1) k
+step_keeps old (Deliver i n) (Took m) seen new step next k = joined_keeps old new n step.0 seen step.1 k (k.1.carried i seen step.2).0
+step_keeps old (Deliver i n) Memory seen new step next k =
     joined_keeps old new n step.0 seen step.1 k (subst (AllIn k.0) (sym step.5) (AllIn-take k.0 step.4 step.2 (k.1.carried i step.2 step.3).0))
-step_keeps old (Deliver i n) NoRegion seen new step k = subst IsConsistent (sym step.1.1) k
-step_keeps old (Deliver i n) NoBundle seen new step k = subst IsConsistent (sym step.2.1) k
-step_keeps old e o seen new step k = absurd step
+step_keeps old (Deliver i n) NoRegion seen new step next k = subst IsConsistent (sym step.1.1) k
+step_keeps old (Deliver i n) NoBundle seen new step next k = subst IsConsistent (sym step.2.1) k
+step_keeps old e o seen new step next k = absurd step
 
 -- a world with nothing
-pub new_is_consistent : (settings : SettingsFields) → settings.cap < 2 ^ 63 - 1 → IsConsistent (new_state settings)
+pub new_is_consistent : (settings : SettingsFields) → settings.cap ≤ greatest_cap → IsConsistent (new_state settings)
 new_is_consistent settings low = (
   map.empty,
   record {
@@ -219,16 +209,3 @@ new_is_consistent settings low = (
     nothing : (i : ℕ) → None ≡ slice_get {X = Facts} [] i
     nothing zero = refl
     nothing (suc i) = refl
-
-one_under : (region r serial rest cap : ℕ) → serial ≤ cap → rest ≤ cap → max (if region == r then serial else 0) rest ≤ cap
-one_under region r serial rest cap p q = grind (arith, nat_tests)
-
-all_under : (s : State) (k : IsConsistent s) (r : ℕ) (es : Facts) → AllIn k.0 es → last_serial r es ≤ s.settings.cap
-all_under s k r [] a = omega arith
-all_under s k r (e ∷ es) a = one_under e.0.region r e.0.serial (last_serial r es) s.settings.cap (k.1.capped e.0 e.1 a.0) (all_under s k r es a.1)
-
--- a region's next serial is at most one above the cap, so it is one
-pub next_under : (s : State) → IsConsistent s → (r : ℕ) (F : FactSet) → map.get s.regions r ≡ Some F → next_serial F r ≤ greatest_serial
-next_under s k r F at =
-    let most = all_under s k r (map.entries F) (AllIn-subset F k.0 (map.entries F) (k.1.held r F at) (AllIn-entries F)) in
-    omega (arith, k.1.low)

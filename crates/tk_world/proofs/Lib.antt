@@ -1,6 +1,6 @@
 pub mod BundleLaws
 pub mod ConsistencyLaws
-pub mod DecisionLaws
+pub mod HonestLaws
 pub mod PartLaws
+pub mod RegionLaws
 pub mod RunLaws
-pub mod TakeLaws

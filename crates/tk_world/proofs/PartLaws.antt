@@ -1,8 +1,8 @@
 -- How a change of one part of a world's fields is a step of the world. Key results:
 --   open_step, request_step, pull_step, deliver_step   what each part ends with is a step
---   held_at, number_at, sorted_after, state_after      what stands at a place, and what a write there does to the fields
+--   held_at, region_at, sorted_after, settings_after, state_after   what stands at a place, and what a write there does to the fields
 --   ended, ended_keeps                                 the end of each method of the world
-use Rattle.std.proofs.Common.{◌≡◌, ℕ, T, List, [], ◌∷◌, take, slice_get, get_or, set, Option, Some, None, IsSome, is_some, cond, true, false, refl, sym, ap, subst, ◌∙◌}
+use Rattle.std.proofs.Common.{◌≡◌, ℕ, T, List, [], ◌∷◌, take, slice_get, get_or, set, Option, Some, None, IsSome, IfSome, is_some, cond, true, false, refl, sym, ap, subst, ◌∙◌}
 use Rattle.std.specs.List.{insert}
 use Rattle.std.specs.Ordering.{nat_cmp, eq_by_cmp, is_eq}
 use Rattle.std.specs.declared.cmp.Ordering.{Ordering}
@@ -13,27 +13,25 @@ use Rattle.std.specs.FinMap as map
 use Rattle.tk_handle.specs.SortedEntries.{IsAt, IsGap}
 use Rattle.tk_handle.proofs.SortedEntriesLaws.{get_at_place, get_at_gap, sorted_at_place, sorted_at_gap, insert_at_place, insert_at_gap}
 use Rattle.tk_vector.specs.VersionVector.{Vector}
-use Rattle.tk_handle.specs.declared.dot.Dot.{Dot}
-use Rattle.tk_fact.specs.declared.body.Body.{Body}
-use Rattle.tk_store.specs.FactSet.{FactSet, Facts, AllIn, IsSubset, with_facts}
+use Rattle.tk_store.specs.FactSet.{FactSet, Facts}
 use Rattle.tk_store.specs.Joining.{JoinsFacts}
-use Rattle.tk_store.specs.NextDot.{next_dot}
-use Rattle.tk_store.proofs.JoiningLaws.{joins_nothing, joins_with_facts}
-use Rattle.tk_store.proofs.NextDotLaws.{next_is_free}
-use Rattle.tk_store.proofs.PutLaws.{by_dot, get_here, none_is_not_some}
-use Rattle.tk_store.proofs.SubsetLaws.{AllIn-take}
-use Rattle.tk_world.specs.SettingsFields.{SettingsFields}
+use Rattle.tk_store.proofs.PutLaws.{some_injective}
+use Rattle.tk_message.specs.ReplyFields.{ReplyFields}
+use Rattle.tk_region.specs.RegionFields.{RegionFields}
+use Rattle.tk_region.specs.SettingsFields.{SettingsFields}
+use Rattle.tk_region.specs.Step.{prepared_of, listed, IsNextFact}
 use Rattle.tk_world.specs.AskedFields.{AskedFields}
 use Rattle.tk_world.specs.declared.event.Event.{Event}
 use Rattle.tk_world.specs.declared.event.Event.TheVariants.{Open, Request, Pull, Deliver}
 use Rattle.tk_world.specs.declared.event.Outcome.{Outcome}
 use Rattle.tk_world.specs.declared.event.Outcome.TheVariants.{Opened, Reply, Bundle, Took, Memory}
-use Rattle.tk_world.specs.Decision.{decided}
 use Rattle.tk_bundle.specs.Page.{page_of}
-use Rattle.tk_world.specs.State.{State, with_region, IsConsistent}
-use Rattle.tk_world.specs.World.{Grows, Step, made_at}
-use Rattle.tk_world.specs.Parts.{Commits, Opens, Pages, TakesFacts}
-use Rattle.tk_world.proofs.ConsistencyLaws.{step_keeps}
+use Rattle.tk_world.specs.Regions.{entry_of, entries_of, HaveSettings}
+use Rattle.tk_world.specs.State.{State, with_region, region_with, IsConsistent}
+use Rattle.tk_world.specs.World.{Grows, Step}
+use Rattle.tk_world.specs.Parts.{Answers, Opens, Pages, TakesFacts}
+use Rattle.tk_world.proofs.ConsistencyLaws.{IsNextOf, step_keeps}
+use Rattle.tk_world.proofs.RegionLaws.{entry_at, entries_set, entries_insert, settings_at, settings_set, settings_insert}
 
 abbrev pub state : SettingsFields → List (ℕ × FactSet) → List Facts → State
 state settings rs bs = record { settings = settings; regions = map.from_sorted rs; bundles = bs }
@@ -60,32 +58,37 @@ some_is o x h = ap is_some h
 
 -- ---- steps of one region
 
--- a fact at a free dot, or none, joins the set
-joins_made : (F : FactSet) (d : Dot) → map.get F d ≡ None → (o : Option Body) → JoinsFacts F (made_at d o) (with_facts F (made_at d o))
-joins_made F d free None = joins_nothing F
-joins_made F d free (Some b) =
-    let more : IsSubset F (map.insert F d b) = λ q c h. by_dot (λ o. o ≡ Some c) F d b q (λ same. absurd (none_is_not_some c (sym free ∙ ap (map.get F) (sym same) ∙ h))) h in
-    joins_with_facts (map.insert F d b) F ((d, b) ∷ []) more (get_here F d b, tt)
-
 -- the region with this set grows
-abbrev grows_to : (s : State) (r : ℕ) (F G : FactSet) (fs : Facts) → map.get s.regions r ≡ Some F → JoinsFacts F fs (with_facts F fs) → G ≡ with_facts F fs → Grows s r F fs (with_region s r G)
-grows_to s r F G fs at joins same = record { is_open = at; grown = G; joins = subst (JoinsFacts F fs) (sym same) joins; changes = refl }
+abbrev grows_to : (s : State) (r : ℕ) (F : FactSet) (q : RegionFields) (fs : Facts) → map.get s.regions r ≡ Some F → JoinsFacts F fs q.facts → Grows s r F fs (with_region s r q.facts)
+grows_to s r F q fs at joins = record { is_open = at; grown = q.facts; joins = joins; changes = refl }
 
-request_step_at : (s : State) (r : ℕ) (F G : FactSet) (asked : AskedFields) (o : Outcome) → map.get s.regions r ≡ Some F → Commits (next_dot F r) (decided s.settings F r asked) F o G → (seen : Facts) × Step s (Request r asked.now asked.words asked.request) o seen (with_region s r G)
-request_step_at s r F G asked (Reply reply) at a =
-    let made = (decided s.settings F r asked).made in
-    (made_at (next_dot F r) made, (F, grows_to s r F G (made_at (next_dot F r) made) at (joins_made F (next_dot F r) (next_is_free F r) made) a.1, (a.0, refl)))
-request_step_at s r F G asked Memory at a = ([], (some_is _ F at, (refl, ap (with_region s r) a ∙ same_region s r F at)))
-request_step_at s r F G asked o at a = absurd a
+-- what is prepared, by a region that is known by its number, its settings and its set
+prepared_as : (s : State) (r : ℕ) (p q : RegionFields) (asked : AskedFields) (reply : ReplyFields) → p ≡ region_with s r p.facts → reply ≡ (prepared_of p asked.now asked.words asked.request).reply
+    → JoinsFacts p.facts (listed (prepared_of p asked.now asked.words asked.request).fact) q.facts
+    → (let prepared = prepared_of (region_with s r p.facts) asked.now asked.words asked.request in (reply ≡ prepared.reply) × JoinsFacts p.facts (listed prepared.fact) q.facts)
+prepared_as s r p q asked reply is same joins =
+    subst (λ x. (reply ≡ (prepared_of x asked.now asked.words asked.request).reply) × JoinsFacts p.facts (listed (prepared_of x asked.now asked.words asked.request).fact) q.facts) is (same, joins)
 
-pub request_step : (s : State) (r n : ℕ) (F G : FactSet) (asked : AskedFields) (o : Outcome) → n ≡ r → map.get s.regions r ≡ Some F → Commits (next_dot F n) (decided s.settings F n asked) F o G → (seen : Facts) × Step s (Request r asked.now asked.words asked.request) o seen (with_region s r G)
-request_step s r n F G asked o same at a = request_step_at s r F G asked o at (subst (λ (m : ℕ). Commits (next_dot F m) (decided s.settings F m asked) F o G) same a)
+pub request_step : (s : State) (r : ℕ) (p q : RegionFields) (asked : AskedFields) (o : Outcome) → p ≡ region_with s r p.facts → map.get s.regions r ≡ Some p.facts → Answers p asked o q → (seen : Facts) × Step s (Request r asked.now asked.words asked.request) o seen (with_region s r q.facts)
+request_step s r p q asked (Reply reply) is at a =
+    let both = prepared_as s r p q asked reply is a.0 a.1.joins in
+    let made = listed (prepared_of (region_with s r p.facts) asked.now asked.words asked.request).fact in
+    (made, (p.facts, grows_to s r p.facts q made at both.1, (both.0, refl)))
+request_step s r p q asked Memory is at a = ([], (some_is _ p.facts at, (refl, ap (λ (x : RegionFields). with_region s r x.facts) a ∙ same_region s r p.facts at)))
+request_step s r p q asked o is at a = absurd a
 
-pub deliver_step : (s : State) (i r : ℕ) (F G U : FactSet) (fs : Facts) (o : Outcome) → IsSubset F U → AllIn U fs → map.get s.regions r ≡ Some F → slice_get s.bundles i ≡ Some fs → TakesFacts F fs o G → (seen : Facts) × Step s (Deliver i r) o seen (with_region s r G)
-deliver_step s i r F G U fs (Took n) within all at there t = (fs, (F, grows_to s r F G fs at (joins_with_facts U F fs within all) t.0, there, t.1))
-deliver_step s i r F G U fs Memory within all at there t =
-    (take t.0 fs, (F, grows_to s r F G (take t.0 fs) at (joins_with_facts U F (take t.0 fs) within (AllIn-take U t.0 fs all)) t.1, fs, there, t.0, refl))
-deliver_step s i r F G U fs o within all at there t = absurd t
+-- the fact of a reply is the region's next
+pub request_next : (s : State) (r : ℕ) (p q : RegionFields) (asked : AskedFields) (o : Outcome) → p ≡ region_with s r p.facts → map.get s.regions r ≡ Some p.facts → Answers p asked o q → IsNextOf s (Request r asked.now asked.words asked.request) o
+request_next s r p q asked (Reply reply) is at a = λ F there.
+    let same : p ≡ region_with s r F = is ∙ ap (region_with s r) (some_injective p.facts F (sym at ∙ there)) in
+    subst (λ x. IfSome (prepared_of x asked.now asked.words asked.request).fact (IsNextFact x)) same a.2
+request_next s r p q asked Memory is at a = tt
+request_next s r p q asked o is at a = absurd a
+
+pub deliver_step : (s : State) (i r : ℕ) (p q : RegionFields) (fs : Facts) (o : Outcome) → map.get s.regions r ≡ Some p.facts → slice_get s.bundles i ≡ Some fs → TakesFacts p fs o q → (seen : Facts) × Step s (Deliver i r) o seen (with_region s r q.facts)
+deliver_step s i r p q fs (Took n) at there t = (fs, (p.facts, grows_to s r p.facts q fs at t.0.joins, there, t.1))
+deliver_step s i r p q fs Memory at there t = (take t.0 fs, (p.facts, grows_to s r p.facts q (take t.0 fs) at t.1.joins, fs, there, t.0, refl))
+deliver_step s i r p q fs o at there t = absurd t
 
 pub pull_step : (s : State) (r : ℕ) (F : FactSet) (v : Vector) (o : Outcome) (bs : List Facts) → map.get s.regions r ≡ Some F → Pages (page_of F v) s.bundles o bs → (seen : Facts) × Step s (Pull r v) o seen (record { settings = s.settings; regions = s.regions; bundles = bs })
 pull_step s r F v (Bundle index count last more) bs at p = ([], (F, at, refl, (p.0, p.1, p.2, p.3, ap (λ xs. record { settings = s.settings; regions = s.regions; bundles = xs }) p.4)))
@@ -94,49 +97,81 @@ pull_step s r F v o bs at p = absurd p
 
 -- ---- the fields
 
-module _ (settings : SettingsFields) (rs : List (ℕ × FactSet)) (bs : List Facts) (sorted : T (map.is_sorted nat_cmp rs)) (r i : ℕ) where
-  pub absent_at : IsGap nat_cmp rs r i → map.get (map.from_sorted {R = nat_cmp} rs) r ≡ None
-  absent_at gap = get_at_gap nat_cmp_total rs sorted r i gap
+abbrev pub world : SettingsFields → List RegionFields → List Facts → State
+world settings rs bs = state settings (entries_of rs) bs
 
-  pub sorted_opened : IsGap nat_cmp rs r i → (G : FactSet) → T (map.is_sorted nat_cmp (insert rs i (r, G)))
-  sorted_opened gap G = sorted_at_gap nat_cmp_total rs sorted r i gap G
+module _ (settings : SettingsFields) (rs : List RegionFields) (bs : List Facts) (sorted : T (map.is_sorted nat_cmp (entries_of rs))) (r i : ℕ) where
+  pub absent_at : IsGap nat_cmp (entries_of rs) r i → map.get (world settings rs bs).regions r ≡ None
+  absent_at gap = get_at_gap nat_cmp_total (entries_of rs) sorted r i gap
 
-  pub state_opened : IsGap nat_cmp rs r i → (G : FactSet) → state settings (insert rs i (r, G)) bs ≡ with_region (state settings rs bs) r G
-  state_opened gap G = ap (λ m. record { settings = settings; regions = m; bundles = bs }) (insert_at_gap nat_cmp_total rs sorted r i gap G)
+  module _ (gap : IsGap nat_cmp (entries_of rs) r i) (p : RegionFields) (is : p ≡ record { number = r; settings = settings; facts = map.empty }) where
+    -- the entries with one of a new region
+    opened_entries : (new : List RegionFields) → new ≡ insert rs i p → entries_of new ≡ insert (entries_of rs) i (r, map.empty)
+    opened_entries new h = ap entries_of h ∙ entries_insert rs i p ∙ ap (λ x. insert (entries_of rs) i (entry_of x)) is
 
-  pub open_step : IsGap nat_cmp rs r i → (o : Outcome) (new : List (ℕ × FactSet)) → Opens rs i r o new → (seen : Facts) × Step (state settings rs bs) (Open r) o seen (state settings new bs)
-  open_step gap Opened new h = ([], (absent_at gap, refl, ap (λ xs. state settings xs bs) h ∙ state_opened gap map.empty))
-  open_step gap Memory new h = ([], (absent_at gap, (refl, ap (λ xs. state settings xs bs) h)))
-  open_step gap o new h = absurd h
+    pub open_step : (o : Outcome) (new : List RegionFields) → Opens rs i p o new → (seen : Facts) × Step (world settings rs bs) (Open r) o seen (world settings new bs)
+    open_step Opened new h =
+        ([], (absent_at gap, refl, ap (λ es. state settings es bs) (opened_entries new h) ∙ ap (λ m. record { settings = settings; regions = m; bundles = bs }) (insert_at_gap nat_cmp_total (entries_of rs) sorted r i gap map.empty)))
+    open_step Memory new h = ([], (absent_at gap, (refl, ap (λ xs. world settings xs bs) h)))
+    open_step o new h = absurd h
 
-  pub sorted_new : IsGap nat_cmp rs r i → (o : Outcome) (new : List (ℕ × FactSet)) → Opens rs i r o new → T (map.is_sorted nat_cmp new)
-  sorted_new gap Opened new h = subst (λ xs. T (map.is_sorted nat_cmp xs)) (sym h) (sorted_opened gap map.empty)
-  sorted_new gap Memory new h = subst (λ xs. T (map.is_sorted nat_cmp xs)) (sym h) sorted
-  sorted_new gap o new h = absurd h
+    pub sorted_new : (o : Outcome) (new : List RegionFields) → Opens rs i p o new → T (map.is_sorted nat_cmp (entries_of new))
+    sorted_new Opened new h = subst (λ es. T (map.is_sorted nat_cmp es)) (sym (opened_entries new h)) (sorted_at_gap nat_cmp_total (entries_of rs) sorted r i gap map.empty)
+    sorted_new Memory new h = subst (λ xs. T (map.is_sorted nat_cmp (entries_of xs))) (sym h) sorted
+    sorted_new o new h = absurd h
 
-  pub found_at : IsAt nat_cmp rs r i → IsSome (map.get (map.from_sorted {R = nat_cmp} rs) r)
-  found_at at = found (map.get (map.from_sorted {R = nat_cmp} rs) r) (λ d. get_at_place nat_cmp_total rs sorted r i at d)
+    pub settings_new : (o : Outcome) (new : List RegionFields) → Opens rs i p o new → HaveSettings settings rs → HaveSettings settings new
+    settings_new Opened new h all = subst (HaveSettings settings) (sym h) (settings_insert settings rs i p (ap (λ (x : RegionFields). x.settings) is) all)
+    settings_new Memory new h all = subst (HaveSettings settings) (sym h) all
+    settings_new o new h all = absurd h
+
+  pub found_at : IsAt nat_cmp (entries_of rs) r i → IsSome (map.get (world settings rs bs).regions r)
+  found_at at = found (map.get (world settings rs bs).regions r) (λ d. get_at_place nat_cmp_total (entries_of rs) sorted r i at d)
     where
-      found : (o : Option FactSet) → ((d : ℕ × FactSet) → o ≡ Some (get_or rs i d).1) → IsSome o
+      found : (o : Option FactSet) → ((d : ℕ × FactSet) → o ≡ Some (get_or (entries_of rs) i d).1) → IsSome o
       found o h = ap is_some (h (0, map.empty))
 
-  module _ (at : IsAt nat_cmp rs r i) (p : ℕ × FactSet) (is : p ≡ get_or rs i p) where
-    pub held_at : map.get (map.from_sorted {R = nat_cmp} rs) r ≡ Some p.1
-    held_at = get_at_place nat_cmp_total rs sorted r i at p ∙ ap (λ e. Some e.1) (sym is)
+  module _ (at : IsAt nat_cmp (entries_of rs) r i) (all : HaveSettings settings rs) (p : RegionFields) (is : p ≡ get_or rs i p) where
+    entry_is : entry_of p ≡ get_or (entries_of rs) i (entry_of p)
+    entry_is = entry_at rs i p at.in_range is
 
-    -- it has the number that was looked for
-    pub number_at : p.0 ≡ r
-    number_at = ap (λ (e : ℕ × FactSet). e.0) is ∙ map.nat_cmp-IsAntisymmetric _ _ (at.tied p)
+    pub held_at : map.get (world settings rs bs).regions r ≡ Some p.facts
+    held_at = get_at_place nat_cmp_total (entries_of rs) sorted r i at (entry_of p) ∙ ap (λ e. Some e.1) (sym entry_is)
 
-    pub sorted_after : (q : ℕ × FactSet) → q.0 ≡ p.0 → T (map.is_sorted nat_cmp (set rs i q))
-    sorted_after q same =
-        subst (λ (n : ℕ). T (map.is_sorted nat_cmp (set rs i (n, q.1)))) (sym (same ∙ ap (λ (e : ℕ × FactSet). e.0) is))
-        (sorted_at_place nat_cmp_total rs sorted r i at q.1 p)
+    number_at : p.number ≡ r
+    number_at = ap (λ (e : ℕ × FactSet). e.0) entry_is ∙ map.nat_cmp-IsAntisymmetric _ _ (at.tied (entry_of p))
 
-    pub state_after : (q : ℕ × FactSet) → q.0 ≡ p.0 → state settings (set rs i q) bs ≡ with_region (state settings rs bs) r q.1
-    state_after q same =
-        ap (λ (n : ℕ). state settings (set rs i (n, q.1)) bs) (same ∙ ap (λ (e : ℕ × FactSet). e.0) is)
-        ∙ ap (λ m. record { settings = settings; regions = m; bundles = bs }) (insert_at_place nat_cmp_total rs sorted r i at q.1 p)
+    -- it is the region of that number, with the world's settings
+    pub region_at : p ≡ region_with (world settings rs bs) r p.facts
+    region_at =
+        ap (λ (n : ℕ). record { number = n; settings = p.settings; facts = p.facts }) number_at
+        ∙ ap (λ (x : SettingsFields). record { number = r; settings = x; facts = p.facts }) (settings_at settings rs i p at.in_range is all)
+
+    module _ (q : RegionFields) (number : q.number ≡ p.number) (same : q.settings ≡ p.settings) where
+      after : entries_of (set rs i q) ≡ set (entries_of rs) i ((get_or (entries_of rs) i (entry_of p)).0, q.facts)
+      after = entries_set rs i q ∙ ap (λ (n : ℕ). set (entries_of rs) i (n, q.facts)) (number ∙ ap (λ (e : ℕ × FactSet). e.0) entry_is)
+
+      pub sorted_after : T (map.is_sorted nat_cmp (entries_of (set rs i q)))
+      sorted_after = subst (λ es. T (map.is_sorted nat_cmp es)) (sym after) (sorted_at_place nat_cmp_total (entries_of rs) sorted r i at q.facts (entry_of p))
+
+      pub settings_after : HaveSettings settings (set rs i q)
+      settings_after = settings_set settings rs i q (same ∙ settings_at settings rs i p at.in_range is all) all
+
+      pub state_after : world settings (set rs i q) bs ≡ with_region (world settings rs bs) r q.facts
+      state_after =
+          ap (λ es. state settings es bs) after
+          ∙ ap (λ m. record { settings = settings; regions = m; bundles = bs }) (insert_at_place nat_cmp_total (entries_of rs) sorted r i at q.facts (entry_of p))
+
+-- what a part leaves of its region's number and settings
+pub answered_number : (p q : RegionFields) (asked : AskedFields) (o : Outcome) → Answers p asked o q → (q.number ≡ p.number) × (q.settings ≡ p.settings)
+answered_number p q asked (Reply reply) a = (a.1.number, a.1.settings)
+answered_number p q asked Memory a = (ap (λ (x : RegionFields). x.number) a, ap (λ (x : RegionFields). x.settings) a)
+answered_number p q asked o a = absurd a
+
+pub taken_number : (p q : RegionFields) (fs : Facts) (o : Outcome) → TakesFacts p fs o q → (q.number ≡ p.number) × (q.settings ≡ p.settings)
+taken_number p q fs (Took n) t = (t.0.number, t.0.settings)
+taken_number p q fs Memory t = (t.1.number, t.1.settings)
+taken_number p q fs o t = absurd t
 
 -- ---- the end of a call
 
@@ -146,5 +181,5 @@ ended s e o new' step new same old seen_as =
     (step.0, subst (λ w. Step w e o step.0 new) seen_as (subst (λ w. Step s e o step.0 w) (sym same) step.1))
 
 -- and keeps the invariant
-pub ended_keeps : (s : State) (e : Event) (o : Outcome) (new' : State) → ((seen : Facts) × Step s e o seen new') → (new : State) → new ≡ new' → IsConsistent s → IsConsistent new
-ended_keeps s e o new' step new same k = subst IsConsistent (sym same) (step_keeps s e o step.0 new' step.1 k)
+pub ended_keeps : (s : State) (e : Event) (o : Outcome) (new' : State) → ((seen : Facts) × Step s e o seen new') → IsNextOf s e o → (new : State) → new ≡ new' → IsConsistent s → IsConsistent new
+ended_keeps s e o new' step next new same k = subst IsConsistent (sym same) (step_keeps s e o step.0 new' step.1 next k)

@@ -2,7 +2,7 @@
 --   entries_of    each number with its region's facts
 --   HaveSettings  the regions have these settings
 use Rattle.std.specs.Prelude.{◌≡◌, ℕ, List, map}
-use Rattle.std.specs.List.{All}
+use Rattle.std.specs.List.{AllByRecursion}
 use Rattle.tk_store.specs.FactSet.{FactSet}
 use Rattle.tk_store.specs.Store.{facts_of}
 use Rattle.tk_region.specs.RegionFields.{RegionFields}
@@ -16,4 +16,4 @@ abbrev pub entries_of : List RegionFields → List (ℕ × FactSet)
 entries_of regions = map entry_of regions
 
 abbrev pub HaveSettings : SettingsFields → List RegionFields → Type 0
-HaveSettings settings regions = All (λ region. region.settings ≡ settings) regions
+HaveSettings settings regions = AllByRecursion (λ region. region.settings ≡ settings) regions

@@ -12,7 +12,7 @@ use Rattle.tk_handle.specs.Dot.{coded_dot}
 use Rattle.tk_fact.specs.declared.body.Body.{Body}
 use Rattle.tk_fact.specs.contracts.body.Body.{the_row}
 use Rattle.tk_store.specs.FactSet.{FactSet, Facts, AllIn, IsFactSet, IsSubset, coded_facts}
-use Rattle.tk_region.specs.SettingsFields.{SettingsFields, coded_settings}
+use Rattle.tk_region.specs.SettingsFields.{SettingsFields, coded_settings, greatest_cap}
 use Rattle.tk_region.specs.RegionFields.{RegionFields}
 
 pub record State : Type 0 where
@@ -54,7 +54,7 @@ pub record Consists (s : State) (U : FactSet) : Type 0 where
   pub home : (d : Dot) (b : Body) → map.get U d ≡ Some b → (F : FactSet) × (map.get s.regions d.region ≡ Some F) × (map.get F d ≡ Some b)
   pub carried : (i : ℕ) (fs : Facts) → slice_get s.bundles i ≡ Some fs → AllIn U fs × (length fs ≤ 128)
   pub capped : (d : Dot) (b : Body) → map.get U d ≡ Some b → d.serial ≤ s.settings.cap
-  pub low : s.settings.cap < 2 ^ 63 - 1
+  pub low : s.settings.cap ≤ greatest_cap
 
 abbrev pub IsConsistent : State → Type 0
 IsConsistent s = (U : FactSet) × Consists s U

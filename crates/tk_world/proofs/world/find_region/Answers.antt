@@ -3,9 +3,11 @@ use Rattle.std.proofs.lemmas.List.Sorted.{answers_always}
 use Rattle.std.specs.Ordering.{nat_cmp}
 use Rattle.std.specs.Cmp.{nat_cmp_total}
 use Rattle.tk_handle.proofs.SortedEntriesLaws.{searched}
+use Rattle.tk_world.specs.Regions.{entries_of}
+use Rattle.tk_world.proofs.RegionLaws.{searched_entries}
 use Rattle.tk_world.proofs.world.find_region.Goals as goal
 
 pub returns : goal.returns
 returns c =
-    let by_key = c.binary_search_by_key.ensures.position (λ region. region.0) (answers_always _ _ _ (λ f a r g called. search rules)) in
-    searched nat_cmp nat_cmp_total c.args.regions.now c.requires c.args.number c.binary_search_by_key.result c.binary_search_by_key.ensures.bound by_key
+    let by_key = c.binary_search_by_key.ensures.position (λ region. region.number) (answers_always _ _ _ (λ f a r g called. search rules)) in
+    searched_entries c.args.regions.now c.requires c.args.number c.binary_search_by_key.result c.binary_search_by_key.ensures.bound by_key

@@ -1,7 +1,11 @@
-use Rattle.std.proofs.Common.{[], ap, sym, ◌∙◌, refl, is_some, slice_get}
+use Rattle.std.proofs.Common.{◌≡◌, false, [], ap, sym, subst, ◌∙◌, refl, is_some, slice_get}
 use Rattle.std.specs.FinMap as map
+use Rattle.tk_message.specs.Place.{next_in}
+use Rattle.tk_region.specs.RegionFields.{RegionFields, place_in}
+use Rattle.tk_region.specs.Taking.{has_unmade}
 use Rattle.tk_world.specs.declared.event.Event.TheVariants.{Deliver}
-use Rattle.tk_world.proofs.PartLaws.{state, absent_at, held_at, sorted_after, state_after, found_at, deliver_step, ended, ended_keeps}
+use Rattle.tk_world.proofs.HonestLaws.{agrees_within, all_made}
+use Rattle.tk_world.proofs.PartLaws.{world, absent_at, held_at, region_at, sorted_after, settings_after, state_after, found_at, deliver_step, taken_number, ended, ended_keeps}
 use Rattle.tk_world.proofs.world.World.deliver.Goals as goal
 
 pub returns-in-Err : goal.returns-in-Err
@@ -21,15 +25,24 @@ deliver-requires-clause-agree c =
     let at = rw c.deref.ensures.value at c.in-Ok.ensures in
     let p = c.index_mut.result.now in
     let is = c.index_mut.ensures.value in
-    let held = held_at w.settings w.regions.items w.bundles.items c.self.invariant.0 c.args.region c.in-Ok.at at p is in
+    let held = held_at w.settings w.regions.items w.bundles.items c.self.invariant.0 c.args.region c.in-Ok.at at c.self.invariant.1 p is in
     let there = rw c.deref-in-Ok.ensures.value at c.in-Some.ensures in
-    let k = c.self.invariant.1 in
-    (k.0, k.1.sound, k.1.held c.args.region p.1 held, (k.1.carried c.args.bundle c.in-Some.bundle.now (sym there)).0)
+    let k = c.self.invariant.2 in
+    agrees_within p.facts k.0 c.in-Some.bundle.now (k.1.held c.args.region p.facts held) (k.1.carried c.args.bundle c.in-Some.bundle.now (sym there)).0
 
-pub deliver-requires-clause-few : goal.deliver-requires-clause-few
-deliver-requires-clause-few c =
+pub deliver-requires-clause-made : goal.deliver-requires-clause-made
+deliver-requires-clause-made c =
+    let w = c.self.inside in
+    let at = rw c.deref.ensures.value at c.in-Ok.ensures in
+    let p = c.index_mut.result.now in
+    let is = c.index_mut.ensures.value in
+    let s = world w.settings w.regions.items w.bundles.items in
+    let held = held_at w.settings w.regions.items w.bundles.items c.self.invariant.0 c.args.region c.in-Ok.at at c.self.invariant.1 p is in
+    let same = region_at w.settings w.regions.items w.bundles.items c.self.invariant.0 c.args.region c.in-Ok.at at c.self.invariant.1 p is in
     let there = rw c.deref-in-Ok.ensures.value at c.in-Some.ensures in
-    (c.self.invariant.1.1.carried c.args.bundle c.in-Some.bundle.now (sym there)).1
+    let k = c.self.invariant.2 in
+    subst (λ (x : RegionFields). has_unmade (next_in (place_in x)) c.in-Some.bundle.now ≡ false) (sym same)
+    (all_made s k.0 k.1 c.args.region p.facts held c.in-Some.bundle.now (k.1.carried c.args.bundle c.in-Some.bundle.now (sym there)).0)
 
 pub invariant_of-self : goal.invariant_of-self
 invariant_of-self c =
@@ -37,16 +50,16 @@ invariant_of-self c =
     let at = rw c.deref.ensures.value at c.in-Ok.ensures in
     let p = c.index_mut.result.now in
     let is = c.index_mut.ensures.value in
-    let s = state w.settings w.regions.items w.bundles.items in
-    let held = held_at w.settings w.regions.items w.bundles.items c.self.invariant.0 c.args.region c.in-Ok.at at p is in
+    let s = world w.settings w.regions.items w.bundles.items in
+    let held = held_at w.settings w.regions.items w.bundles.items c.self.invariant.0 c.args.region c.in-Ok.at at c.self.invariant.1 p is in
     let there = rw c.deref-in-Ok.ensures.value at c.in-Some.ensures in
-    let q = c.deliver.new.self in
-    let k = c.self.invariant.1 in
-    let step = deliver_step s c.args.bundle c.args.region p.1 q.1 k.0 c.in-Some.bundle.now c.deliver.result (k.1.held c.args.region p.1 held)
-    (k.1.carried c.args.bundle c.in-Some.bundle.now (sym there)).0 held (sym there) c.deliver.ensures.takes in (
-      sorted_after w.settings w.regions.items w.bundles.items c.self.invariant.0 c.args.region c.in-Ok.at at p is q c.deliver.ensures.number,
-      ended_keeps s (Deliver c.args.bundle c.args.region) c.deliver.result _ step _
-          (state_after w.settings w.regions.items w.bundles.items c.self.invariant.0 c.args.region c.in-Ok.at at p is q c.deliver.ensures.number) k,
+    let q = c.deliver.new.region in
+    let kept = taken_number p q c.in-Some.bundle.now c.deliver.result c.deliver.ensures in
+    let step = deliver_step s c.args.bundle c.args.region p q c.in-Some.bundle.now c.deliver.result held (sym there) c.deliver.ensures in (
+      sorted_after w.settings w.regions.items w.bundles.items c.self.invariant.0 c.args.region c.in-Ok.at at c.self.invariant.1 p is q kept.0 kept.1,
+      settings_after w.settings w.regions.items w.bundles.items c.self.invariant.0 c.args.region c.in-Ok.at at c.self.invariant.1 p is q kept.0 kept.1,
+      ended_keeps s (Deliver c.args.bundle c.args.region) c.deliver.result _ step tt _
+          (state_after w.settings w.regions.items w.bundles.items c.self.invariant.0 c.args.region c.in-Ok.at at c.self.invariant.1 p is q kept.0 kept.1) c.self.invariant.2,
     )
 
 pub returns-in-Some : goal.returns-in-Some
@@ -55,15 +68,14 @@ returns-in-Some c =
     let at = rw c.deref.ensures.value at c.in-Ok.ensures in
     let p = c.index_mut.result.now in
     let is = c.index_mut.ensures.value in
-    let s = state w.settings w.regions.items w.bundles.items in
-    let held = held_at w.settings w.regions.items w.bundles.items c.self.invariant.0 c.args.region c.in-Ok.at at p is in
+    let s = world w.settings w.regions.items w.bundles.items in
+    let held = held_at w.settings w.regions.items w.bundles.items c.self.invariant.0 c.args.region c.in-Ok.at at c.self.invariant.1 p is in
     let there = rw c.deref-in-Ok.ensures.value at c.in-Some.ensures in
-    let q = c.deliver.new.self in
-    let k = c.self.invariant.1 in
-    let step = deliver_step s c.args.bundle c.args.region p.1 q.1 k.0 c.in-Some.bundle.now c.deliver.result (k.1.held c.args.region p.1 held)
-    (k.1.carried c.args.bundle c.in-Some.bundle.now (sym there)).0 held (sym there) c.deliver.ensures.takes in
+    let q = c.deliver.new.region in
+    let kept = taken_number p q c.in-Some.bundle.now c.deliver.result c.deliver.ensures in
+    let step = deliver_step s c.args.bundle c.args.region p q c.in-Some.bundle.now c.deliver.result held (sym there) c.deliver.ensures in
     ended s (Deliver c.args.bundle c.args.region) c.deliver.result _ step _
-    (state_after w.settings w.regions.items w.bundles.items c.self.invariant.0 c.args.region c.in-Ok.at at p is q c.deliver.ensures.number) _ c.self.view_is
+    (state_after w.settings w.regions.items w.bundles.items c.self.invariant.0 c.args.region c.in-Ok.at at c.self.invariant.1 p is q kept.0 kept.1) _ c.self.view_is
 
 pub returns-in-None : goal.returns-in-None
 returns-in-None c =

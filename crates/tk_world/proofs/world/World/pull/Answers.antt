@@ -1,7 +1,7 @@
-use Rattle.std.proofs.Common.{[], ap, sym, ◌∙◌, refl}
+use Rattle.std.proofs.Common.{[], ap, sym, subst, ◌∙◌, refl}
 use Rattle.std.specs.FinMap as map
 use Rattle.tk_world.specs.declared.event.Event.TheVariants.{Pull}
-use Rattle.tk_world.proofs.PartLaws.{state, absent_at, held_at, pull_step, ended, ended_keeps}
+use Rattle.tk_world.proofs.PartLaws.{world, absent_at, held_at, pull_step, ended, ended_keeps}
 use Rattle.tk_world.proofs.world.World.pull.Goals as goal
 
 pub returns-in-Err : goal.returns-in-Err
@@ -21,10 +21,10 @@ invariant_of-self c =
     let at = rw c.deref.ensures.value at c.in-Ok.ensures in
     let p = c.index.result.now in
     let is = c.index.ensures in
-    let s = state w.settings w.regions.items w.bundles.items in
-    let held = held_at w.settings w.regions.items w.bundles.items c.self.invariant.0 c.args.region c.in-Ok.at at p is in
-    let step = pull_step s c.args.region p.1 c.args.vector.now c.pull_page.result c.pull_page.new.bundles.items held c.pull_page.ensures in
-    (c.self.invariant.0, ended_keeps s (Pull c.args.region c.args.vector.now) c.pull_page.result _ step _ refl c.self.invariant.1)
+    let s = world w.settings w.regions.items w.bundles.items in
+    let held = held_at w.settings w.regions.items w.bundles.items c.self.invariant.0 c.args.region c.in-Ok.at at c.self.invariant.1 p is in
+    let step = pull_step s c.args.region p.facts c.args.vector.now c.pull_page.result c.pull_page.new.bundles.items held c.pull_page.ensures in
+    (c.self.invariant.0, c.self.invariant.1, ended_keeps s (Pull c.args.region c.args.vector.now) c.pull_page.result _ step tt _ refl c.self.invariant.2)
 
 pub returns-in-Ok : goal.returns-in-Ok
 returns-in-Ok c =
@@ -32,7 +32,7 @@ returns-in-Ok c =
     let at = rw c.deref.ensures.value at c.in-Ok.ensures in
     let p = c.index.result.now in
     let is = c.index.ensures in
-    let s = state w.settings w.regions.items w.bundles.items in
-    let held = held_at w.settings w.regions.items w.bundles.items c.self.invariant.0 c.args.region c.in-Ok.at at p is in
-    let step = pull_step s c.args.region p.1 c.args.vector.now c.pull_page.result c.pull_page.new.bundles.items held c.pull_page.ensures in
+    let s = world w.settings w.regions.items w.bundles.items in
+    let held = held_at w.settings w.regions.items w.bundles.items c.self.invariant.0 c.args.region c.in-Ok.at at c.self.invariant.1 p is in
+    let step = pull_step s c.args.region p.facts c.args.vector.now c.pull_page.result c.pull_page.new.bundles.items held c.pull_page.ensures in
     ended s (Pull c.args.region c.args.vector.now) c.pull_page.result _ step _ refl _ c.self.view_is

@@ -1,10 +1,7 @@
-use Rattle.std.proofs.Common.{[], ℕ, ◌≤◌, ap, sym, subst, ◌∙◌, refl}
+use Rattle.std.proofs.Common.{[], ap, sym, subst, ◌∙◌, refl}
 use Rattle.std.specs.FinMap as map
-use Rattle.tk_handle.specs.Ranges.{greatest_serial}
-use Rattle.tk_store.specs.NextDot.{next_serial}
 use Rattle.tk_world.specs.declared.event.Event.TheVariants.{Request}
-use Rattle.tk_world.proofs.ConsistencyLaws.{next_under}
-use Rattle.tk_world.proofs.PartLaws.{state, absent_at, held_at, number_at, sorted_after, state_after, request_step, ended, ended_keeps}
+use Rattle.tk_world.proofs.PartLaws.{world, absent_at, held_at, region_at, sorted_after, settings_after, state_after, request_step, request_next, answered_number, ended, ended_keeps}
 use Rattle.tk_world.proofs.world.World.request.Goals as goal
 
 pub returns-in-Err : goal.returns-in-Err
@@ -18,32 +15,24 @@ returns-in-Err c =
       ),
     )
 
-pub answer-requires : goal.answer-requires
-answer-requires c =
-    let w = c.self.inside in
-    let at = rw c.deref.ensures.value at c.in-Ok.ensures in
-    let p = c.index_mut.result.now in
-    let is = c.index_mut.ensures.value in
-    let s = state w.settings w.regions.items w.bundles.items in
-    let held = held_at w.settings w.regions.items w.bundles.items c.self.invariant.0 c.args.region c.in-Ok.at at p is in
-    let number = number_at w.settings w.regions.items w.bundles.items c.self.invariant.0 c.args.region c.in-Ok.at at p is in
-    subst (λ (n : ℕ). next_serial p.1 n ≤ greatest_serial) (sym number) (next_under s c.self.invariant.1 c.args.region p.1 held)
-
 pub invariant_of-self : goal.invariant_of-self
 invariant_of-self c =
     let w = c.self.inside in
     let at = rw c.deref.ensures.value at c.in-Ok.ensures in
     let p = c.index_mut.result.now in
     let is = c.index_mut.ensures.value in
-    let s = state w.settings w.regions.items w.bundles.items in
-    let held = held_at w.settings w.regions.items w.bundles.items c.self.invariant.0 c.args.region c.in-Ok.at at p is in
-    let number = number_at w.settings w.regions.items w.bundles.items c.self.invariant.0 c.args.region c.in-Ok.at at p is in
-    let q = c.answer.new.self in
+    let s = world w.settings w.regions.items w.bundles.items in
+    let held = held_at w.settings w.regions.items w.bundles.items c.self.invariant.0 c.args.region c.in-Ok.at at c.self.invariant.1 p is in
+    let same = region_at w.settings w.regions.items w.bundles.items c.self.invariant.0 c.args.region c.in-Ok.at at c.self.invariant.1 p is in
+    let q = c.answer.new.region in
     let asked = c.args.asked.now in
-    let step = request_step s c.args.region p.0 p.1 q.1 asked c.answer.result number held c.answer.ensures.commits in (
-      sorted_after w.settings w.regions.items w.bundles.items c.self.invariant.0 c.args.region c.in-Ok.at at p is q c.answer.ensures.number,
-      ended_keeps s (Request c.args.region asked.now asked.words asked.request) c.answer.result _ step _
-          (state_after w.settings w.regions.items w.bundles.items c.self.invariant.0 c.args.region c.in-Ok.at at p is q c.answer.ensures.number) c.self.invariant.1,
+    let kept = answered_number p q asked c.answer.result c.answer.ensures in
+    let step = request_step s c.args.region p q asked c.answer.result same held c.answer.ensures in
+    let next = request_next s c.args.region p q asked c.answer.result same held c.answer.ensures in (
+      sorted_after w.settings w.regions.items w.bundles.items c.self.invariant.0 c.args.region c.in-Ok.at at c.self.invariant.1 p is q kept.0 kept.1,
+      settings_after w.settings w.regions.items w.bundles.items c.self.invariant.0 c.args.region c.in-Ok.at at c.self.invariant.1 p is q kept.0 kept.1,
+      ended_keeps s (Request c.args.region asked.now asked.words asked.request) c.answer.result _ step next _
+          (state_after w.settings w.regions.items w.bundles.items c.self.invariant.0 c.args.region c.in-Ok.at at c.self.invariant.1 p is q kept.0 kept.1) c.self.invariant.2,
     )
 
 pub returns-in-Ok : goal.returns-in-Ok
@@ -52,11 +41,12 @@ returns-in-Ok c =
     let at = rw c.deref.ensures.value at c.in-Ok.ensures in
     let p = c.index_mut.result.now in
     let is = c.index_mut.ensures.value in
-    let s = state w.settings w.regions.items w.bundles.items in
-    let held = held_at w.settings w.regions.items w.bundles.items c.self.invariant.0 c.args.region c.in-Ok.at at p is in
-    let number = number_at w.settings w.regions.items w.bundles.items c.self.invariant.0 c.args.region c.in-Ok.at at p is in
-    let q = c.answer.new.self in
+    let s = world w.settings w.regions.items w.bundles.items in
+    let held = held_at w.settings w.regions.items w.bundles.items c.self.invariant.0 c.args.region c.in-Ok.at at c.self.invariant.1 p is in
+    let same = region_at w.settings w.regions.items w.bundles.items c.self.invariant.0 c.args.region c.in-Ok.at at c.self.invariant.1 p is in
+    let q = c.answer.new.region in
     let asked = c.args.asked.now in
-    let step = request_step s c.args.region p.0 p.1 q.1 asked c.answer.result number held c.answer.ensures.commits in
+    let kept = answered_number p q asked c.answer.result c.answer.ensures in
+    let step = request_step s c.args.region p q asked c.answer.result same held c.answer.ensures in
     ended s (Request c.args.region asked.now asked.words asked.request) c.answer.result _ step _
-    (state_after w.settings w.regions.items w.bundles.items c.self.invariant.0 c.args.region c.in-Ok.at at p is q c.answer.ensures.number) _ c.self.view_is
+    (state_after w.settings w.regions.items w.bundles.items c.self.invariant.0 c.args.region c.in-Ok.at at c.self.invariant.1 p is q kept.0 kept.1) _ c.self.view_is
