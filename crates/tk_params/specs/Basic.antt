@@ -3,14 +3,23 @@
 --   encoded_in     what a header of the Basic scheme carries, still encoded
 --   halves_of      the id and the secret in decoded bytes
 --   basic_of       the id and the secret of a header
-use Rattle.std.specs.Prelude.{ℕ, Bool, ◌==◌, ◌+◌, position, List, [], ◌∷◌, map, take, drop, codes, Option, Some, None, if◌then◌else◌}
+use Rattle.std.specs.Prelude.{ℕ, Bool, ◌==◌, ◌+◌, position, List, map, take, drop, codes, Option, Some, None, if◌then◌else◌}
 use Rattle.std.specs.Char.{to_ascii_lowercase}
+use Rattle.std.specs.List.{prefix_len}
 use Rattle.std.specs.Option.{option_and_then, option_map}
 use Rattle.std.specs.Result.{result_ok}
 use Rattle.std.specs.Str.{bytes_eq}
 use Rattle.base64.specs.Engines.{standard}
 use Rattle.base64.specs.GeneralPurpose.{decode_of}
 use Rattle.tk_params.specs.Params.{text_of}
+
+-- `b' '`
+abbrev pub space : ℕ
+space = 32
+
+-- `b':'`
+abbrev pub colon : ℕ
+colon = 58
 
 -- what stands before and behind a place
 abbrev pub around : List ℕ → Option ℕ → Option (List ℕ × List ℕ)
@@ -25,10 +34,9 @@ around_first mark bytes = around bytes (position (λ b. b == mark) bytes)
 abbrev pub is_scheme : List ℕ → Bool
 is_scheme bytes = bytes_eq (map to_ascii_lowercase bytes) (codes "basic")
 
--- the bytes from the first that is no space
+-- the bytes behind the leading spaces
 abbrev pub skip_spaces : List ℕ → List ℕ
-skip_spaces [] = []
-skip_spaces (b ∷ bytes) = if b == 32 then skip_spaces bytes else b ∷ bytes
+skip_spaces bytes = drop (prefix_len (λ b. b == space) bytes) bytes
 
 -- what comes with the Basic scheme
 abbrev pub encoded_behind : List ℕ → List ℕ → Option (List ℕ)
@@ -36,7 +44,7 @@ encoded_behind scheme rest = if is_scheme scheme then Some (skip_spaces rest) el
 
 -- what stands behind the scheme and one or more spaces (RFC 9110, 11.4)
 abbrev pub encoded_in : List ℕ → Option (List ℕ)
-encoded_in header = option_and_then (λ p. encoded_behind p.0 p.1) (around_first 32 header)
+encoded_in header = option_and_then (λ p. encoded_behind p.0 p.1) (around_first space header)
 
 -- the bytes whose padded base64 this is, with no bit to spare (RFC 4648, 3.5 and 4)
 abbrev pub decoded : List ℕ → Option (List ℕ)
@@ -44,7 +52,7 @@ decoded text = result_ok (decode_of standard text)
 
 -- the first colon parts the id from the secret (RFC 7617, 2); each is form-encoded as a whole (RFC 6749, 2.3.1)
 abbrev pub halves_of : List ℕ → Option (List ℕ × List ℕ)
-halves_of bytes = option_map (λ p. (text_of p.0, text_of p.1)) (around_first 58 bytes)
+halves_of bytes = option_map (λ p. (text_of p.0, text_of p.1)) (around_first colon bytes)
 
 -- the id and the secret of a header, if it can be read
 abbrev pub basic_of : List ℕ → Option (List ℕ × List ℕ)
