@@ -1,5 +1,5 @@
--- Where the answer to an authorisation request leads. Key result: leads.
-use Rattle.std.proofs.Common.{◌≡◌, ℕ, ◌<◌, Bool, true, false, if◌then◌else◌, List, [], ◌∷◌, length, codes, Option, Some, None, Ok, Err, Contains, bytes_eq, refl, ap, sym, subst}
+-- Where the answer to an authorisation request leads. Key result: decision_leads.
+use Rattle.std.proofs.Common.{◌≡◌, ℕ, Bool, true, false, if◌then◌else◌, List, [], ◌∷◌, codes, Option, Some, None, Ok, Err, IfOk, Contains, bytes_eq, refl, ap, sym, subst, arith}
 use Rattle.std.specs.Option.{option_and_then}
 use Rattle.std.specs.Prelude.{Result}
 use Rattle.std.specs.List.{list_any}
@@ -12,7 +12,10 @@ use Rattle.tk_store.specs.FactSet.{FactSet}
 use Rattle.tk_ledger.specs.Views.{client_view}
 use Rattle.tk_ledger.specs.ViewFields.{ClientFields}
 use Rattle.tk_params.specs.Params.{Pairs, value_of, has_twice}
+use Rattle.std.specs.declared.alloc.AllocError.{AllocError}
+use Rattle.tk_message.specs.declared.decision.Decision.{Decision}
 use Rattle.tk_message.specs.declared.place.Place.{Place}
+use Rattle.tk_message.specs.Reply.{redirect_reply, with_state}
 use Rattle.tk_message.specs.RequestFields.{RequestFields}
 use Rattle.tk_authorize.specs.declared.approval.Approval.{Approval}
 use Rattle.tk_authorize.specs.declared.denial.Denial.{Denial}
@@ -81,12 +84,19 @@ by_duplicate : (F : FactSet) (params : Pairs) (subject : Option (List ℕ)) (b :
 by_duplicate F params subject true = tt
 by_duplicate F params subject false = by_id F params subject _ refl
 
+redirect_leads : (F : FactSet) (params : Pairs) (uri name value : List ℕ) (state : Option (List ℕ)) → IsRegistered F params uri → LeadsToClient F params (redirect_reply uri name value state)
+redirect_leads F params uri name value state known = record { uri = uri; known = known; pairs = with_state name value state; location_is = refl }
+
 -- the reply leads where the judgement leads
 decided_leads : (F : FactSet) (params : Pairs) (place : Place) (now : ℕ) (words : List ℕ) (state : Option (List ℕ)) (judged : Judged) → LeadsTo F params judged → LeadsToClient F params (decided_by place now words state judged).reply
 decided_leads F params place now words state (Refused why) known = tt
-decided_leads F params place now words state (Denied target why) known = record { uri = target.uri; known = known; pairs = _; location_is = refl }
-decided_leads F params place now words state (Approved target approval) known = record { uri = target.uri; known = known; pairs = _; location_is = refl }
+decided_leads F params place now words state (Denied target why) known = redirect_leads F params target.uri _ _ state known
+decided_leads F params place now words state (Approved target approval) known = redirect_leads F params target.uri _ _ state known
 
-pub leads : (F : FactSet) (place : Place) (now : ℕ) (words : List ℕ) (request : RequestFields) → LeadsToClient F request.params (authorization_of F place now words request).reply
+leads : (F : FactSet) (place : Place) (now : ℕ) (words : List ℕ) (request : RequestFields) → LeadsToClient F request.params (authorization_of F place now words request).reply
 leads F place now words request =
     decided_leads F request.params place now words _ (judged_of F request.params request.subject) (by_duplicate F request.params request.subject (has_twice target_names request.params))
+
+pub decision_leads : (F : FactSet) (place : Place) (now : ℕ) (words : List ℕ) (request : RequestFields) (r : Result Decision AllocError) → IfOk r (λ d. d ≡ authorization_of F place now words request) → IfOk r (λ d. LeadsToClient F request.params d.reply)
+decision_leads F place now words request (Ok d) is = subst (λ (x : Decision). LeadsToClient F request.params x.reply) (sym is) (leads F place now words request)
+decision_leads F place now words request (Err e) is = tt

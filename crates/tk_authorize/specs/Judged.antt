@@ -1,6 +1,6 @@
 -- What an authorisation request comes to: the ordered cases (RFC 6749, 3.1.2.3, 3.1.2.4, 4.1.1 and 4.1.2.1).
 --   judged_of   refused in place, denied at the client's URI, or approved: the first case that holds
-use Rattle.std.specs.Prelude.{ℕ, Bool, if◌then◌else◌, List, [], ◌∷◌, codes, Option, Some, None, is_some, Result, Ok, Err}
+use Rattle.std.specs.Prelude.{ℕ, if◌then◌else◌, List, [], ◌∷◌, codes, Option, Some, None, is_some, Result, Ok, Err}
 use Rattle.tk_handle.specs.declared.dot.Dot.{Dot}
 use Rattle.tk_handle.specs.ClientId.{client_in}
 use Rattle.tk_match.specs.Pick.{Picked, Uri, Missing, Unknown, picked}

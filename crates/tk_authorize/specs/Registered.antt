@@ -2,7 +2,7 @@
 --   IsRegistered    a URI is one of the live client's that the parameters name
 --   IsAtRegistered  a location is such a URI with parameters in its query
 --   LeadsToClient   a reply leads to such a location, or nowhere
-use Rattle.std.specs.Prelude.{◌≡◌, ℕ, true, List, codes, Option, Some, IfSome, Contains}
+use Rattle.std.specs.Prelude.{◌≡◌, ℕ, true, List, codes, Some, IfSome, Contains}
 use Rattle.std.specs.Option.{option_and_then}
 use Rattle.tk_handle.specs.declared.dot.Dot.{Dot}
 use Rattle.tk_handle.specs.ClientId.{client_in}

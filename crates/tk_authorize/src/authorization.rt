@@ -21,7 +21,6 @@ use tk_message::{Decision, Place, Request, handle_string, redirect_reply};
 /// What an authorisation request is answered, and the fact that a code was issued, at the place's dot (RFC 6749, 4.1.1 to
 /// 4.1.2.1; RFC 7636, 4.3 and 4.4). A code takes the first three words. A bad client or redirection URI is told in place, and
 /// all else at the URI. An error where memory is refused.
-#[tactic(auto, using(crate::proofs::RedirectLaws::leads))]
 pub fn decide_authorize(
     alloc: Global,
     ledger: &Ledger,

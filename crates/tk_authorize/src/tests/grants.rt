@@ -159,7 +159,8 @@ fn a_code_is_issued(rt: HostRuntime) -> Result<(), Fail> {
 fn the_whole_scope_needs_a_consent(rt: HostRuntime) -> Result<(), Fail> {
     let alloc = rt.alloc();
     let ledger = ledger(alloc)?;
-    let query = "client_id=c2-1&response_type=code&redirect_uri=https%3A%2F%2Fclient.example.com%2Fcb";
+    let query =
+        "client_id=c2-1&response_type=code&redirect_uri=https%3A%2F%2Fclient.example.com%2Fcb";
     let decision = decided(alloc, &ledger, query, Some("ann"))?;
     let want = "https://client.example.com/cb?error=access_denied";
     is_redirect(&rt, "the whole scope", &decision, want);

@@ -8,18 +8,33 @@ use tk_message::{Decision, Payload};
 
 // Each is good but for one fault, or for others that are told at a client's URI.
 const ROWS: [(&str, &str); 12] = [
-    ("the client twice", "client_id=c2-9&client_id=c2-9&response_type=code&state=xyz"),
+    (
+        "the client twice",
+        "client_id=c2-9&client_id=c2-9&response_type=code&state=xyz",
+    ),
     (
         "the URI twice",
         "client_id=c2-9&response_type=code&redirect_uri=https%3A%2F%2Fclient.example.com%2Fcb&redirect_uri=https%3A%2F%2Fclient.example.com%2Fcb",
     ),
     ("no client", "response_type=code"),
     ("a client without a value", "client_id=&response_type=code"),
-    ("an id with a leading zero", "client_id=c2-09&response_type=code"),
-    ("a client that was never added", "client_id=c9-9&response_type=code"),
-    ("a consent for a client", "client_id=c2-10&response_type=code"),
+    (
+        "an id with a leading zero",
+        "client_id=c2-09&response_type=code",
+    ),
+    (
+        "a client that was never added",
+        "client_id=c9-9&response_type=code",
+    ),
+    (
+        "a consent for a client",
+        "client_id=c2-10&response_type=code",
+    ),
     ("a retired client", "client_id=c2-7&response_type=code"),
-    ("no URI, and several are registered", "client_id=c2-1&response_type=code&scope=read"),
+    (
+        "no URI, and several are registered",
+        "client_id=c2-1&response_type=code&scope=read",
+    ),
     (
         "a URI with a slash more",
         "client_id=c1-1&response_type=code&redirect_uri=https%3A%2F%2Fapp.example%2Fcb%2F",
