@@ -1,1 +1,2 @@
+pub mod RedirectLaws
 mod RegistrationLaws

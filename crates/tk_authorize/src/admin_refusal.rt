@@ -8,7 +8,7 @@ use tk_message::ErrorCode;
 /// Why an administration request is refused: the first that holds, in the order that specs/Administration.antt has for
 /// its endpoint (own).
 #[derive(Clone, Copy, Debug, PartialEq, Eq)]
-pub enum AdminRefusal {
+pub(crate) enum AdminRefusal {
     /// A parameter that is known there occurs twice.
     DuplicateParameter,
     /// A parameter that is required there is absent.
@@ -39,7 +39,7 @@ pub enum AdminRefusal {
 
 impl AdminRefusal {
     /// What the error is called.
-    pub fn code(self) -> ErrorCode
+    pub(crate) fn code(self) -> ErrorCode
         ensures { result ≡ code_of self }
     {
         match self {

@@ -1,0 +1,102 @@
+-- Where the answer to an authorisation request leads. Key result: decision_leads.
+use Rattle.std.proofs.Common.{◌≡◌, ℕ, Bool, true, false, if◌then◌else◌, List, [], ◌∷◌, codes, Option, Some, None, Ok, Err, IfOk, Contains, bytes_eq, refl, ap, sym, subst, arith}
+use Rattle.std.specs.Option.{option_and_then}
+use Rattle.std.specs.Prelude.{Result}
+use Rattle.std.specs.List.{list_any}
+use Rattle.std.proofs.lemmas.Map.Views.{Contains-from_any}
+use Rattle.std.proofs.lemmas.Slice.Eq.{bytes_eq-Decides}
+use Rattle.tk_handle.specs.declared.dot.Dot.{Dot}
+use Rattle.tk_handle.specs.ClientId.{client_in}
+use Rattle.tk_match.specs.Pick.{Picked, Uri, Missing, Unknown, picked, only_uri}
+use Rattle.tk_store.specs.FactSet.{FactSet}
+use Rattle.tk_ledger.specs.Views.{client_view}
+use Rattle.tk_ledger.specs.ViewFields.{ClientFields}
+use Rattle.tk_params.specs.Params.{Pairs, value_of, has_twice}
+use Rattle.std.specs.declared.alloc.AllocError.{AllocError}
+use Rattle.tk_message.specs.declared.decision.Decision.{Decision}
+use Rattle.tk_message.specs.declared.place.Place.{Place}
+use Rattle.tk_message.specs.Reply.{redirect_reply, with_state}
+use Rattle.tk_message.specs.RequestFields.{RequestFields}
+use Rattle.tk_authorize.specs.declared.approval.Approval.{Approval}
+use Rattle.tk_authorize.specs.declared.denial.Denial.{Denial}
+use Rattle.tk_authorize.specs.declared.judged.Judged.{Judged}
+use Rattle.tk_authorize.specs.declared.judged.Judged.TheVariants.{Refused, Denied, Approved}
+use Rattle.tk_authorize.specs.declared.judged.Target.{Target}
+use Rattle.tk_authorize.specs.declared.refusal.Refusal.TheVariants as refusal
+use Rattle.tk_authorize.specs.Authorization.{decided_by, authorization_of}
+use Rattle.tk_authorize.specs.Judged.{judged_at, target_of, judged_by_redirect, judged_by_view, judged_by_client, judged_by_id, judged_of, target_names}
+use Rattle.tk_authorize.specs.Registered.{IsRegistered, LeadsToClient}
+
+-- the URI that is meant is in the list
+only_listed : (uris : List (List ℕ)) (uri : List ℕ) → only_uri uris ≡ Uri uri → Contains uris uri
+only_listed [] uri h = cc
+only_listed (x ∷ []) uri h = let same : x ≡ uri = cc in (0, omega arith, same)
+only_listed (x ∷ y ∷ uris) uri h = cc
+
+sent_listed : (uris : List (List ℕ)) (sent uri : List ℕ) (b : Bool) → list_any (bytes_eq sent) uris ≡ b → (if b then Uri sent else Unknown) ≡ Uri uri → Contains uris uri
+sent_listed uris sent uri true is h = let same : sent ≡ uri = cc in subst (Contains uris) same (Contains-from_any (λ x y e. (bytes_eq-Decides x y).0 e) sent uris is)
+sent_listed uris sent uri false is h = cc
+
+picked_listed : (uris : List (List ℕ)) (sent : Option (List ℕ)) (uri : List ℕ) → picked uris sent ≡ Uri uri → Contains uris uri
+picked_listed uris None uri h = only_listed uris uri h
+picked_listed uris (Some sent) uri h = sent_listed uris sent uri (list_any (bytes_eq sent) uris) refl h
+
+-- a judgement that leads somewhere leads to a registered URI
+abbrev LeadsTo : FactSet → Pairs → Judged → Type 0
+LeadsTo F params (Refused why) = Unit {0}
+LeadsTo F params (Denied target why) = IsRegistered F params target.uri
+LeadsTo F params (Approved target approval) = IsRegistered F params target.uri
+
+at_target : (F : FactSet) (params : Pairs) (target : Target) (approval : Result Approval Denial) → IsRegistered F params target.uri → LeadsTo F params (judged_at target approval)
+at_target F params target (Ok approval) known = known
+at_target F params target (Err why) known = known
+
+by_redirect : (F : FactSet) (params : Pairs) (subject : Option (List ℕ)) (client : Dot) (view : ClientFields) → option_and_then client_in (value_of (codes "client_id") params) ≡ Some client → client_view F client ≡ Some view → view.live ≡ true → (p : Picked) → picked view.redirects (value_of (codes "redirect_uri") params) ≡ p → LeadsTo F params (judged_by_redirect F params subject client view p)
+by_redirect F params subject client view named added live Missing is = tt
+by_redirect F params subject client view named added live Unknown is = tt
+by_redirect F params subject client view named added live (Uri uri) is =
+    at_target F params (target_of client uri params) _ (record {
+      client = client;
+      view = view;
+      named = named;
+      added = added;
+      live = live;
+      registered = picked_listed view.redirects _ uri is;
+    })
+
+by_live : (F : FactSet) (params : Pairs) (subject : Option (List ℕ)) (client : Dot) (view : ClientFields) → option_and_then client_in (value_of (codes "client_id") params) ≡ Some client → client_view F client ≡ Some view → (b : Bool) → view.live ≡ b → LeadsTo F params (if b then judged_by_redirect F params subject client view (picked view.redirects (value_of (codes "redirect_uri") params)) else Refused refusal.RetiredClient)
+by_live F params subject client view named added true live = by_redirect F params subject client view named added live _ refl
+by_live F params subject client view named added false live = tt
+
+by_view : (F : FactSet) (params : Pairs) (subject : Option (List ℕ)) (client : Dot) → option_and_then client_in (value_of (codes "client_id") params) ≡ Some client → (v : Option ClientFields) → client_view F client ≡ v → LeadsTo F params (judged_by_view F params subject client v)
+by_view F params subject client named None added = tt
+by_view F params subject client named (Some view) added = by_live F params subject client view named added view.live refl
+
+by_client : (F : FactSet) (params : Pairs) (subject : Option (List ℕ)) (d : Option Dot) → option_and_then client_in (value_of (codes "client_id") params) ≡ d → LeadsTo F params (judged_by_client F params subject d)
+by_client F params subject None named = tt
+by_client F params subject (Some client) named = by_view F params subject client named (client_view F client) refl
+
+by_id : (F : FactSet) (params : Pairs) (subject : Option (List ℕ)) (id : Option (List ℕ)) → value_of (codes "client_id") params ≡ id → LeadsTo F params (judged_by_id F params subject id)
+by_id F params subject None is = tt
+by_id F params subject (Some id) is = by_client F params subject (client_in id) (ap (option_and_then client_in) is)
+
+by_duplicate : (F : FactSet) (params : Pairs) (subject : Option (List ℕ)) (b : Bool) → LeadsTo F params (if b then Refused refusal.DuplicateClientOrRedirect else judged_by_id F params subject (value_of (codes "client_id") params))
+by_duplicate F params subject true = tt
+by_duplicate F params subject false = by_id F params subject _ refl
+
+redirect_leads : (F : FactSet) (params : Pairs) (uri name value : List ℕ) (state : Option (List ℕ)) → IsRegistered F params uri → LeadsToClient F params (redirect_reply uri name value state)
+redirect_leads F params uri name value state known = record { uri = uri; known = known; pairs = with_state name value state; location_is = refl }
+
+-- the reply leads where the judgement leads
+decided_leads : (F : FactSet) (params : Pairs) (place : Place) (now : ℕ) (words : List ℕ) (state : Option (List ℕ)) (judged : Judged) → LeadsTo F params judged → LeadsToClient F params (decided_by place now words state judged).reply
+decided_leads F params place now words state (Refused why) known = tt
+decided_leads F params place now words state (Denied target why) known = redirect_leads F params target.uri _ _ state known
+decided_leads F params place now words state (Approved target approval) known = redirect_leads F params target.uri _ _ state known
+
+leads : (F : FactSet) (place : Place) (now : ℕ) (words : List ℕ) (request : RequestFields) → LeadsToClient F request.params (authorization_of F place now words request).reply
+leads F place now words request =
+    decided_leads F request.params place now words _ (judged_of F request.params request.subject) (by_duplicate F request.params request.subject (has_twice target_names request.params))
+
+pub decision_leads : (F : FactSet) (place : Place) (now : ℕ) (words : List ℕ) (request : RequestFields) (r : Result Decision AllocError) → IfOk r (λ d. d ≡ authorization_of F place now words request) → IfOk r (λ d. LeadsToClient F request.params d.reply)
+decision_leads F place now words request (Ok d) is = subst (λ (x : Decision). LeadsToClient F request.params x.reply) (sym is) (leads F place now words request)
+decision_leads F place now words request (Err e) is = tt

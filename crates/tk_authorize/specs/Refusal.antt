@@ -1,0 +1,14 @@
+-- What a refusal is called (RFC 6749, 4.1.2.1).
+--   refusal_code   the error code of each
+use Rattle.tk_message.specs.declared.error_code.ErrorCode.{ErrorCode}
+use Rattle.tk_message.specs.declared.error_code.ErrorCode.TheVariants.{InvalidRequest}
+use Rattle.tk_authorize.specs.declared.refusal.Refusal.{Refusal}
+use Rattle.tk_authorize.specs.declared.refusal.Refusal.TheVariants as refusal
+
+abbrev pub refusal_code : Refusal → ErrorCode
+refusal_code refusal.DuplicateClientOrRedirect = InvalidRequest
+refusal_code refusal.MissingClient = InvalidRequest
+refusal_code refusal.UnknownClient = InvalidRequest
+refusal_code refusal.RetiredClient = InvalidRequest
+refusal_code refusal.MissingRedirect = InvalidRequest
+refusal_code refusal.UnknownRedirect = InvalidRequest

@@ -1,0 +1,112 @@
+//! What a request asks for by its parameters, or why it is denied for them.
+
+ghost use Rattle.std.specs.Prelude.{◌≡◌, IfOk};
+ghost use Rattle.std.specs.List.{list_all};
+ghost use Rattle.std.specs.Option.{option_copied};
+ghost use Rattle.tk_params.specs.Params.{has_twice};
+ghost use Rattle.tk_authorize.specs.Asked as spec;
+
+use crate::challenge::find_challenge;
+use crate::denial::Denial;
+use std::alloc::{AllocError, Global};
+use tk_fact::Sort;
+use tk_match::Challenge;
+use tk_message::{Params, scope_asked};
+use tk_scope::Scope;
+
+// What a code is asked for.
+#[derive(Debug, Drop)]
+pub(crate) struct Asked {
+    pub(crate) scope: Scope,
+    pub(crate) challenge: Option<Challenge>,
+}
+
+// By the client's sort and whole scope, and the parameters.
+pub(crate) fn find_asked(
+    alloc: Global,
+    sort: &Sort,
+    whole: &Scope,
+    params: &Params,
+) -> Result<Result<Asked, Denial>, AllocError>
+    ensures { IfOk result (λ asked. asked ≡ spec.asked_of sort.now whole.now params.now) }
+{
+    if has_duplicate(params) {
+        return Ok(Err(Denial::DuplicateParameter));
+    }
+    if !is_state(params.value("state")) {
+        return Ok(Err(Denial::BadState));
+    }
+    ask_by_type(alloc, sort, whole, params, params.value("response_type"))
+}
+
+fn has_duplicate(params: &Params) -> bool
+    ensures { result ≡ has_twice spec.other_names params.now }
+{
+    let names = [
+        "response_type",
+        "scope",
+        "state",
+        "code_challenge",
+        "code_challenge_method",
+    ];
+    params.has_twice(&names)
+}
+
+pub(crate) fn is_state(state: Option<&str>) -> bool
+    ensures { result ≡ spec.is_state (option_copied state.entry) }
+{
+    match state {
+        Some(text) => is_all_printable(text.as_bytes()),
+        None => true,
+    }
+}
+
+fn is_all_printable(bytes: &[u8]) -> bool
+    ensures { result ≡ list_all spec.is_printable bytes.now }
+{
+    bytes.iter().all(|b| (0x20..=0x7e).contains(b))
+}
+
+fn ask_by_type(
+    alloc: Global,
+    sort: &Sort,
+    whole: &Scope,
+    params: &Params,
+    response_type: Option<&str>,
+) -> Result<Result<Asked, Denial>, AllocError>
+    ensures { IfOk result (λ asked. asked ≡ spec.asked_by_type sort.now whole.now params.now (option_copied response_type.entry)) }
+{
+    let Some(response_type) = response_type else {
+        return Ok(Err(Denial::MissingResponseType));
+    };
+    if response_type == "code" {
+        let scope = scope_asked(alloc, whole, params.value("scope"))?;
+        return ask_by_scope(alloc, sort, params, scope);
+    }
+    Ok(Err(Denial::UnsupportedResponseType))
+}
+
+fn ask_by_scope(
+    alloc: Global,
+    sort: &Sort,
+    params: &Params,
+    scope: Option<Scope>,
+) -> Result<Result<Asked, Denial>, AllocError>
+    ensures { IfOk result (λ asked. asked ≡ spec.asked_by_scope sort.now params.now scope) }
+{
+    let Some(scope) = scope else {
+        return Ok(Err(Denial::WrongScope));
+    };
+    let method = params.value("code_challenge_method");
+    let challenge = find_challenge(alloc, sort, method, params.value("code_challenge"))?;
+    Ok(asked_with(scope, challenge))
+}
+
+fn asked_with(scope: Scope, challenge: Result<Option<Challenge>, Denial>) -> Result<Asked, Denial>
+    ensures { result ≡ spec.asked_with scope challenge }
+{
+    match challenge {
+        Ok(challenge) => Ok(Asked { scope, challenge }),
+        Err(why) => Err(why),
+    }
+}

@@ -1,0 +1,136 @@
+//! What an authorisation request is answered, and the fact that a code was issued.
+
+ghost use Rattle.std.specs.Prelude.{◌≡◌, ◌≤◌, IfOk, None};
+ghost use Rattle.std.specs.Option.{option_copied};
+ghost use Rattle.tk_handle.specs.Moment.{moment_plus};
+ghost use Rattle.tk_fact.specs.Check.{refusal_of};
+ghost use Rattle.tk_store.specs.Store.{facts_of};
+ghost use Rattle.tk_message.specs.Decision.{Passes};
+ghost use Rattle.tk_authorize.specs.Authorization as spec;
+ghost use Rattle.tk_authorize.specs.Registered.{LeadsToClient};
+
+use crate::approval::Approval;
+use crate::asked::is_state;
+use crate::judged::{Judged, Target, judge};
+use std::alloc::{AllocError, Global};
+use tk_fact::{Body, CodeIssued};
+use tk_handle::{Dot, Handle, Kind, Moment, TokenId};
+use tk_ledger::Ledger;
+use tk_message::{Decision, Place, Request, handle_string, redirect_reply};
+
+/// What an authorisation request is answered, and the fact that a code was issued, at the place's dot (RFC 6749, 4.1.1 to
+/// 4.1.2.1; RFC 7636, 4.3 and 4.4). A code takes the first three words. A bad client or redirection URI is told in place, and
+/// all else at the URI. An error where memory is refused.
+pub fn decide_authorize(
+    alloc: Global,
+    ledger: &Ledger,
+    place: &Place,
+    now: Moment,
+    words: &[u64; 6],
+    request: &Request,
+) -> Result<Decision, AllocError>
+    ensures value { IfOk result (λ d. d ≡ spec.authorization_of (facts_of ledger.now) place.now now words.now request.now) }
+    ensures passes { IfOk result (λ d. Passes d.made) }
+
+    // A browser is sent to a URI of the client's that the request names, or nowhere.
+    ensures leads { IfOk result (λ d. LeadsToClient (facts_of ledger.now) request.now.params d.reply) }
+{
+    let judged = judge(alloc, ledger, &request.params, request.subject())?;
+    let state = kept_state(request.params.value("state"));
+    decide_by(alloc, place, now, words, state, judged)
+}
+
+fn kept_state(state: Option<&str>) -> Option<&str>
+    ensures { option_copied result ≡ spec.kept_state (option_copied state.entry) }
+{
+    if is_state(state) { state } else { None }
+}
+
+fn decide_by(
+    alloc: Global,
+    place: &Place,
+    now: Moment,
+    words: &[u64; 6],
+    state: Option<&str>,
+    judged: Judged,
+) -> Result<Decision, AllocError>
+    ensures value { IfOk result (λ d. d ≡ spec.decided_by place.now now words.now (option_copied state.entry) judged) }
+    ensures passes { IfOk result (λ d. Passes d.made) }
+{
+    match judged {
+        Judged::Refused(why) => Decision::refuse(alloc, why.code()),
+        Judged::Denied(target, why) => {
+            let uri = target.uri.as_str();
+            let reply = redirect_reply(alloc, uri, "error", why.code().name(), state)?;
+            Ok(Decision::answer(reply))
+        }
+        Judged::Approved(target, approval) => {
+            let code = code_handle(place.next_dot(), words);
+            let text = handle_string(alloc, &code)?;
+            let reply = redirect_reply(alloc, target.uri.as_str(), "code", text.as_str(), state)?;
+            let fact = code_issued(place, now, &code, target, approval);
+            Ok(Decision {
+                reply,
+                made: Some(Body::CodeIssued(fact)),
+            })
+        }
+    }
+}
+
+fn code_handle(next: Dot, words: &[u64; 6]) -> Handle
+    ensures { result ≡ spec.code_handle next words.now }
+{
+    let id = TokenId {
+        dot: next,
+        kind: Kind::Code,
+    };
+    Handle::mint(id, [words[0], words[1], words[2]])
+}
+
+fn code_issued(
+    place: &Place,
+    now: Moment,
+    code: &Handle,
+    target: Target,
+    approval: Approval,
+) -> CodeIssued
+    ensures value { result ≡ spec.code_issued place.now now code.now target approval }
+    ensures passes { refusal_of (Body.CodeIssued result) ≡ None }
+{
+    let expiry = later(now, place.lives.code);
+    let family_end = later(now, place.lives.family);
+    let Target { client, uri, sent } = target;
+    let Approval {
+        consent,
+        subject,
+        scope,
+        challenge,
+    } = approval;
+    // The proof reads from these calls that each is within its limits.
+    let (_uri, _subject) = (uri.as_str(), subject.as_str());
+    if let Some(challenge) = &challenge {
+        let _text = challenge.text();
+    }
+    CodeIssued {
+        client,
+        consent,
+        digest: code.digest(),
+        start: now,
+        expiry,
+        family_end,
+        subject,
+        scope,
+        uri,
+        sent,
+        challenge,
+    }
+}
+
+// So many seconds later, which isn't before.
+fn later(now: Moment, life: u64) -> Moment
+    ensures value { result ≡ moment_plus now life }
+    ensures later { now ≤ result }
+{
+    let _now = now.seconds();
+    now.plus(life)
+}

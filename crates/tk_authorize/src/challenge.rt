@@ -1,0 +1,71 @@
+//! The challenge that a request sends, or why it is denied for it (RFC 7636, 4.3 and 4.4.1).
+
+ghost use Rattle.std.specs.Prelude.{◌≡◌, IfOk};
+ghost use Rattle.std.specs.Option.{option_copied};
+ghost use Rattle.tk_authorize.specs.Challenge as spec;
+
+use crate::denial::Denial;
+use std::alloc::{AllocError, Global};
+use tk_fact::Sort;
+use tk_match::{Challenge, ChallengeError};
+
+// The challenge, or none where a client may do without.
+pub(crate) fn find_challenge(
+    alloc: Global,
+    sort: &Sort,
+    method: Option<&str>,
+    text: Option<&str>,
+) -> Result<Result<Option<Challenge>, Denial>, AllocError>
+    ensures { IfOk result (λ challenge. challenge ≡ spec.challenge_sent sort.now (option_copied method.entry) (option_copied text.entry)) }
+{
+    match text {
+        Some(text) => read_challenge(alloc, method_of(method), text),
+        None => Ok(without_challenge(sort, method)),
+    }
+}
+
+fn without_challenge(sort: &Sort, method: Option<&str>) -> Result<Option<Challenge>, Denial>
+    ensures { result ≡ spec.without_challenge sort.now (option_copied method.entry) }
+{
+    if method.is_some() {
+        return Err(Denial::ChallengeMethodAlone);
+    }
+    if is_public(sort) {
+        return Err(Denial::MissingChallenge);
+    }
+    Ok(None)
+}
+
+fn is_public(sort: &Sort) -> bool
+    ensures { result ≡ spec.is_public sort.now }
+{
+    match sort {
+        Sort::Public => true,
+        Sort::Confidential(_) => false,
+        Sort::Resource(_) => false,
+    }
+}
+
+fn method_of(method: Option<&str>) -> &str
+    ensures { result.now ≡ spec.method_of (option_copied method.entry) }
+{
+    match method {
+        Some(method) => method,
+        None => "plain",
+    }
+}
+
+fn read_challenge(
+    alloc: Global,
+    method: &str,
+    text: &str,
+) -> Result<Result<Option<Challenge>, Denial>, AllocError>
+    ensures { IfOk result (λ challenge. challenge ≡ spec.read_challenge method.now text.now) }
+{
+    match Challenge::read(alloc, method.as_bytes(), text.as_bytes()) {
+        Ok(challenge) => Ok(Ok(Some(challenge))),
+        Err(ChallengeError::Method) => Ok(Err(Denial::UnsupportedChallengeMethod)),
+        Err(ChallengeError::Grammar) => Ok(Err(Denial::MalformedChallenge)),
+        Err(ChallengeError::Memory) => Err(AllocError),
+    }
+}

@@ -1,0 +1,133 @@
+//! What a request comes to, over the facts and the parameters: who asks, where the answer goes, and whether a code is issued.
+
+ghost use Rattle.std.specs.Prelude.{◌≡◌, IfOk, Some, true};
+ghost use Rattle.std.specs.Option.{option_copied};
+ghost use Rattle.std.specs.Str.{IsUtf8};
+ghost use Rattle.tk_match.specs.Redirects.{is_uri};
+ghost use Rattle.tk_params.specs.Params.{has_twice};
+ghost use Rattle.tk_store.specs.Store.{facts_of};
+ghost use Rattle.tk_authorize.specs.Judged as spec;
+
+use crate::approval::{Approval, approve};
+use crate::asked::find_asked;
+use crate::denial::Denial;
+use crate::refusal::Refusal;
+use std::alloc::{AllocError, Global};
+use tk_handle::{Dot, read_client};
+use tk_ledger::Ledger;
+use tk_match::{Pick, RedirectError, Uri};
+use tk_message::Params;
+
+// Where an answer goes, and whom a code is issued to.
+#[derive(Debug, Drop)]
+pub(crate) struct Target {
+    pub(crate) client: Dot,
+    pub(crate) uri: Uri,
+    // Whether the request named the URI.
+    pub(crate) sent: bool,
+}
+
+// What a request comes to.
+#[derive(Debug, Drop)]
+pub(crate) enum Judged {
+    Refused(Refusal),
+    Denied(Target, Denial),
+    Approved(Target, Approval),
+}
+
+// The ordered cases of a request, by its parameters and who has signed in.
+pub(crate) fn judge(
+    alloc: Global,
+    ledger: &Ledger,
+    params: &Params,
+    subject: Option<&[u8]>,
+) -> Result<Judged, AllocError>
+    ensures { IfOk result (λ judged. judged ≡ spec.judged_of (facts_of ledger.now) params.now (option_copied subject.entry)) }
+{
+    if has_duplicate(params) {
+        return Ok(Judged::Refused(Refusal::DuplicateClientOrRedirect));
+    }
+    judge_by_id(alloc, ledger, params, subject, params.value("client_id"))
+}
+
+fn has_duplicate(params: &Params) -> bool
+    ensures { result ≡ has_twice spec.target_names params.now }
+{
+    let names = ["client_id", "redirect_uri"];
+    params.has_twice(&names)
+}
+
+fn judge_by_id(
+    alloc: Global,
+    ledger: &Ledger,
+    params: &Params,
+    subject: Option<&[u8]>,
+    id: Option<&str>,
+) -> Result<Judged, AllocError>
+    ensures { IfOk result (λ judged. judged ≡ spec.judged_by_id (facts_of ledger.now) params.now (option_copied subject.entry) (option_copied id.entry)) }
+{
+    let Some(id) = id else {
+        return Ok(Judged::Refused(Refusal::MissingClient));
+    };
+    match read_client(id.as_bytes()) {
+        Some(client) => judge_client(alloc, ledger, params, subject, client),
+        None => Ok(Judged::Refused(Refusal::UnknownClient)),
+    }
+}
+
+fn judge_client(
+    alloc: Global,
+    ledger: &Ledger,
+    params: &Params,
+    subject: Option<&[u8]>,
+    client: Dot,
+) -> Result<Judged, AllocError>
+    ensures { IfOk result (λ judged. judged ≡ spec.judged_by_client (facts_of ledger.now) params.now (option_copied subject.entry) (Some client)) }
+{
+    let Some(view) = ledger.client(client) else {
+        return Ok(Judged::Refused(Refusal::UnknownClient));
+    };
+    if !view.live {
+        return Ok(Judged::Refused(Refusal::RetiredClient));
+    }
+    let named = bytes_of(params.value("redirect_uri"));
+    match view.redirects.pick(named) {
+        Pick::Uri(uri) => {
+            let target = find_target(alloc, client, uri, named.is_some())?;
+            let asked = find_asked(alloc, view.sort, view.scope, params)?;
+            let approval = approve(alloc, ledger, client, subject, asked)?;
+            Ok(judged_at(target, approval))
+        }
+        Pick::Missing => Ok(Judged::Refused(Refusal::MissingRedirect)),
+        Pick::Unknown => Ok(Judged::Refused(Refusal::UnknownRedirect)),
+    }
+}
+
+fn bytes_of(text: Option<&str>) -> Option<&[u8]>
+    ensures { option_copied result ≡ option_copied text.entry }
+{
+    match text {
+        Some(text) => Some(text.as_bytes()),
+        None => None,
+    }
+}
+
+fn find_target(alloc: Global, client: Dot, uri: &[u8], sent: bool) -> Result<Target, AllocError>
+    requires { is_uri uri.now ≡ true }
+    ensures { IfOk result (λ target. target ≡ record { client = client; uri = uri.now; sent = sent }) }
+{
+    match Uri::read(alloc, uri) {
+        Ok(uri) => Ok(Target { client, uri, sent }),
+        Err(RedirectError::Memory) => Err(AllocError),
+        Err(_) => unreachable!("a registered URI is one"),
+    }
+}
+
+fn judged_at(target: Target, approval: Result<Approval, Denial>) -> Judged
+    ensures { result ≡ spec.judged_at target approval }
+{
+    match approval {
+        Ok(approval) => Judged::Approved(target, approval),
+        Err(why) => Judged::Denied(target, why),
+    }
+}
