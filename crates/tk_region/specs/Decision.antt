@@ -4,21 +4,22 @@
 use Rattle.std.specs.Prelude.{ℕ, ◌&&◌, nat_lt, List, is_some, if◌then◌else◌}
 use Rattle.tk_store.specs.FactSet.{FactSet}
 use Rattle.tk_message.specs.declared.decision.Decision.{Decision}
-use Rattle.tk_message.specs.declared.error_code.ErrorCode.TheVariants.{NotFound, TemporarilyUnavailable}
+use Rattle.tk_message.specs.declared.error_code.ErrorCode.TheVariants.{TemporarilyUnavailable}
 use Rattle.tk_message.specs.declared.place.Place.{Place}
 use Rattle.tk_message.specs.declared.request.Endpoint.{Endpoint}
 use Rattle.tk_message.specs.declared.request.Endpoint.TheVariants.{Authorize, AddClient, ShowClient, Retire, Consent, Withdraw}
 use Rattle.tk_message.specs.RequestFields.{RequestFields}
 use Rattle.tk_message.specs.Decision.{refused}
+use Rattle.tk_authorize.specs.Administration.{administration_of}
+use Rattle.tk_authorize.specs.Authorization.{authorization_of}
 
--- none is served yet
 abbrev pub decision_by : Endpoint → FactSet → Place → ℕ → List ℕ → RequestFields → Decision
-decision_by Authorize F place now words request = refused NotFound
-decision_by AddClient F place now words request = refused NotFound
-decision_by ShowClient F place now words request = refused NotFound
-decision_by Retire F place now words request = refused NotFound
-decision_by Consent F place now words request = refused NotFound
-decision_by Withdraw F place now words request = refused NotFound
+decision_by Authorize F place now words request = authorization_of F place now words request
+decision_by AddClient F place now words request = administration_of F place request
+decision_by ShowClient F place now words request = administration_of F place request
+decision_by Retire F place now words request = administration_of F place request
+decision_by Consent F place now words request = administration_of F place request
+decision_by Withdraw F place now words request = administration_of F place request
 
 abbrev pub decision_of : FactSet → Place → ℕ → List ℕ → RequestFields → Decision
 decision_of F place now words request = decision_by request.endpoint F place now words request

@@ -6,6 +6,7 @@ ghost use Rattle.tk_message.specs.Decision.{Passes};
 ghost use Rattle.tk_region.specs.Decision as spec;
 
 use std::alloc::{AllocError, Global};
+use tk_authorize::{decide_admin, decide_authorize};
 use tk_handle::Moment;
 use tk_ledger::Ledger;
 use tk_message::{Decision, Endpoint, ErrorCode, Place, Request};
@@ -23,12 +24,12 @@ pub(crate) fn decide_endpoint(
     ensures passes { IfOk result (λ d. Passes d.made) }
 {
     match request.endpoint {
-        Endpoint::Authorize
-        | Endpoint::AddClient
+        Endpoint::Authorize => decide_authorize(alloc, ledger, place, now, words, request),
+        Endpoint::AddClient
         | Endpoint::ShowClient
         | Endpoint::Retire
         | Endpoint::Consent
-        | Endpoint::Withdraw => Decision::refuse(alloc, ErrorCode::NotFound),
+        | Endpoint::Withdraw => decide_admin(alloc, ledger, place, request),
     }
 }
 
