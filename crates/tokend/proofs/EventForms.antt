@@ -1,5 +1,5 @@
 -- The forms of events' fields: what fields that are given by their number and their texts are, and which have no event.
-use Rattle.std.proofs.Common.{◌≡◌, ◌≢◌, ℕ, ◌<◌, ◌≤◌, ◌^◌, List, [], ◌∷◌, length, get_or, slice_index_or, drop, codes, decimal, string_bytes, Some, None, Bor, refl, sym, ap, ◌∙◌, subst, arith}
+use Rattle.std.proofs.Common.{◌≡◌, ◌≢◌, ℕ, ◌<◌, ◌≤◌, ◌^◌, List, [], ◌∷◌, length, get_or, slice_index_or, drop, codes, decimal, Some, None, Bor, refl, sym, ap, ◌∙◌, subst, arith}
 use Rattle.std.specs.List.{All, AllWithin, HoldsAt, slice_split}
 use Rattle.std.proofs.lemmas.List.{get_or-map, length-map}
 use Rattle.std.proofs.lemmas.List.Elements.{All-map, All-from_all_within}
@@ -10,10 +10,10 @@ use Rattle.tk_vector.specs.VersionVector.{Vector}
 use Rattle.tk_vector.specs.VectorText.{IsVectorText, IsNoVectorText}
 use Rattle.tk_world.specs.declared.event.Event.{Event}
 use Rattle.tk_world.specs.declared.event.Event.TheVariants.{Open, Request, Pull, Deliver}
-use Rattle.tk_world.specs.declared.request.Request as asked
-use Rattle.tk_world.specs.declared.request.Request.TheVariants.{AddClient, ShowClient, Retire}
-use Rattle.tokend.specs.Fields.{is_space, region_in, moment_in, IsFormText}
-use Rattle.tokend.specs.Line.{texts, IsRequestForm, IsNoRequest, IsPrintable, IsEventForm, IsNoEventForm, IsEventLine, IsNoEventLine}
+use Rattle.tk_message.specs.RequestFields.{RequestFields}
+use Rattle.tokend.specs.Fields.{is_space, region_in, moment_in}
+use Rattle.tokend.specs.RequestLine.{asked_of}
+use Rattle.tokend.specs.Line.{texts, IsPrintable, IsEventForm, IsNoEventForm, IsEventLine, IsNoEventLine}
 use Rattle.tokend.proofs.NumberTexts.{region_found, moment_found, no_region, no_moment}
 
 -- the text at an index, empty past the end; a slice pattern reads its texts with this default
@@ -56,10 +56,12 @@ count (x ∷ fs) (a ∷ l) e = let rest : texts fs ≡ l = cc in let n = count f
 first_letter : {a b : ℕ} {s t : List ℕ} → a ∷ s ≡ b ∷ t → a ≡ b
 first_letter e = cc
 
-request_names : (name : List ℕ) (form : List (List ℕ)) (request : asked.Request) → IsRequestForm name form request → (name ≢ codes "open") × (name ≢ codes "deliver") × (name ≢ codes "pull")
-request_names name form (AddClient scope redirects) h = (λ e. absurd (omega (arith, first_letter (sym h.0 ∙ e))), λ e. absurd (omega (arith, first_letter (sym h.0 ∙ e))), λ e. absurd (omega (arith, first_letter (sym h.0 ∙ e))))
-request_names name form (ShowClient id) h = (λ e. absurd (omega (arith, first_letter (sym h.0 ∙ e))), λ e. absurd (omega (arith, first_letter (sym h.0 ∙ e))), λ e. absurd (omega (arith, first_letter (sym h.0 ∙ e))))
-request_names name form (Retire id) h = (λ e. absurd (omega (arith, first_letter (sym h.0 ∙ e))), λ e. absurd (omega (arith, first_letter (sym h.0 ∙ e))), λ e. absurd (omega (arith, first_letter (sym h.0 ∙ e))))
+-- no request's first field is that of another event
+no_request_named : (name other : List ℕ) (form : List (List ℕ)) (request : RequestFields) → asked_of name form ≡ Some request → asked_of other form ≡ None → name ≢ other
+no_request_named name other form request h none same = some_is_not_none request (sym h ∙ ap (λ n. asked_of n form) same ∙ none)
+  where
+    some_is_not_none : (q : RequestFields) → ¬ (Some q ≡ None)
+    some_is_not_none q h = cc
 
 -- ---- fields of an event
 
@@ -80,7 +82,7 @@ module _ (fs : List (Bor (List ℕ))) where
       let at_region = region_found (text_at fs 1) region at in
       (text_at fs 2, rw (four fs long, name, last, at_region.1) refl, at_region.0, is)
 
-  pub request_there : (region now : ℕ) (words : List ℕ) (request : asked.Request) → 3 ≤ length fs → region_in (text_at fs 1) ≡ Some region → moment_in (text_at fs 2) ≡ Some now → IsRequestForm (text_at fs 0) (texts (drop 3 fs)) request → IsEventForm (texts fs) (Request region now words request)
+  pub request_there : (region now : ℕ) (words : List ℕ) (request : RequestFields) → 3 ≤ length fs → region_in (text_at fs 1) ≡ Some region → moment_in (text_at fs 2) ≡ Some now → asked_of (text_at fs 0) (texts (drop 3 fs)) ≡ Some request → IsEventForm (texts fs) (Request region now words request)
   request_there region now words request long at then is =
       let at_region = region_found (text_at fs 1) region at in
       let at_moment = moment_found (text_at fs 2) now then in
@@ -105,7 +107,7 @@ module _ (fs : List (Bor (List ℕ))) where
   deliver_only long name none (Request region now words request) h =
       let parts = sym (three_up fs (omega arith)) ∙ h.2 in
       let same : h.0 ≡ codes "deliver" = cc in
-      (request_names h.0 h.1 request h.5).1 same
+      no_request_named h.0 (codes "deliver") h.1 request h.5 refl same
   deliver_only long name none (Pull region vector) h = absurd (omega (arith, count fs _ h.1))
   deliver_only long name none (Deliver bundle region) h =
       let parts = sym (three fs long) ∙ h.0 in
@@ -123,7 +125,7 @@ module _ (fs : List (Bor (List ℕ))) where
   pull_only long name none (Request region now words request) h =
       let parts = sym (three_up fs (omega arith)) ∙ h.2 in
       let same : h.0 ≡ codes "pull" = cc in
-      (request_names h.0 h.1 request h.5).2 same
+      no_request_named h.0 (codes "pull") h.1 request h.5 refl same
   pull_only long name none (Pull region vector) h =
       let parts = sym (four fs long) ∙ h.1 in
       let entries : h.0 ≡ text_at fs 2 = cc in
@@ -142,13 +144,13 @@ module _ (fs : List (Bor (List ℕ))) where
     pub deliver : length fs ≡ 3 → text_at fs 0 ≢ codes "deliver"
     pub pull : length fs ≡ 4 → text_at fs 3 ≡ codes "-" → text_at fs 0 ≢ codes "pull"
 
-  request_only : IsOther → ((region now : ℕ) (request : asked.Request) → text_at fs 1 ≡ decimal region → IsRegion region → text_at fs 2 ≡ decimal now → IsMoment now → IsRequestForm (text_at fs 0) (texts (drop 3 fs)) request → ⊥) → IsNoEventForm (texts fs)
+  request_only : IsOther → ((region now : ℕ) (request : RequestFields) → text_at fs 1 ≡ decimal region → IsRegion region → text_at fs 2 ≡ decimal now → IsMoment now → asked_of (text_at fs 0) (texts (drop 3 fs)) ≡ Some request → ⊥) → IsNoEventForm (texts fs)
   request_only other none (Open region) h = let long = other.long in absurd (omega (arith, count fs _ h.0))
   request_only other none (Request region now words request) h =
       let parts = sym (three_up fs other.long) ∙ h.2 in
       let name : h.0 ≡ text_at fs 0 = cc in
       let form : h.1 ≡ texts (drop 3 fs) = cc in
-      none region now request (cc) h.3 (cc) h.4 (subst (λ t. IsRequestForm (text_at fs 0) t request) form (subst (λ t. IsRequestForm t h.1 request) name h.5))
+      none region now request (cc) h.3 (cc) h.4 (subst (λ t. asked_of (text_at fs 0) t ≡ Some request) form (subst (λ t. asked_of t h.1 ≡ Some request) name h.5))
   request_only other none (Pull region vector) h =
       let long = count fs _ h.1 in
       let parts = sym (four fs long) ∙ h.1 in
@@ -163,21 +165,6 @@ module _ (fs : List (Bor (List ℕ))) where
 
   pub request_bad_moment : IsOther → moment_in (text_at fs 2) ≡ None → IsNoEventForm (texts fs)
   request_bad_moment other none = request_only other (λ region now request at is then late form. no_moment (text_at fs 2) now none late then)
-
--- ---- fields of no request
-
-pub no_request : (name : List ℕ) (fs : List (Bor (List ℕ)))
-    → (length fs ≡ 4 → name ≡ codes "client" → text_at fs 0 ≡ codes "public" → text_at fs 1 ≡ codes "-" → IsFormText (text_at fs 2) → IsFormText (text_at fs 3) → ⊥)
-    → (length fs ≡ 1 → name ≡ codes "look" → ⊥) → (length fs ≡ 1 → name ≡ codes "retire" → ⊥)
-    → IsNoRequest name (texts fs)
-no_request name fs client look retire (AddClient scope redirects) h =
-    let long = count fs _ h.1 in
-    let parts = sym (four fs long) ∙ h.1 in
-    let one : string_bytes scope ≡ text_at fs 2 = cc in
-    let other : string_bytes redirects ≡ text_at fs 3 = cc in
-    client long h.0 (cc) (cc) (subst IsFormText one h.2) (subst IsFormText other h.3)
-no_request name fs client look retire (ShowClient id) h = look (count fs _ h.1) h.0
-no_request name fs client look retire (Retire id) h = retire (count fs _ h.1) h.0
 
 -- ---- lines
 

@@ -4,7 +4,7 @@ use Rattle.std.specs.Prelude.{◌⊎◌, IfErr, IfNone, IsErrAnd}
 use Rattle.clap.specs.Words.{App, Row, Text, FailsBy, IsAmong, fault_of, is_simple_and_free, kind_of}
 use Rattle.clap.specs.declared.error.Error.{Error}
 use Rattle.clap.specs.declared.error.kind.ErrorKind.TheVariants as kind
-use Rattle.tk_world.specs.SettingsFields.{greatest_cap}
+use Rattle.tk_region.specs.SettingsFields.{greatest_cap}
 use Rattle.tokend.specs.CommandLine.{HasNumber, tokend_app}
 use Rattle.tokend.specs.Task.{IsNoTask, IsRefusalOf}
 use Rattle.tokend.specs.declared.options.Task.TheVariants.{Script}

@@ -2,9 +2,7 @@
 --   is_space     what parts the fields of a line
 --   region_in    the region whose number a text is
 --   moment_in    the moment whose seconds a text is
---   IsFormText   a text that means itself in a form
-use Rattle.std.specs.Prelude.{ℕ, ◌≢◌, ◌==◌, Bool, if◌then◌else◌, List, Option, Some, None}
-use Rattle.std.specs.List.{All}
+use Rattle.std.specs.Prelude.{ℕ, ◌==◌, Bool, if◌then◌else◌, List, Option, Some, None}
 use Rattle.tk_format.specs.Decimals.{decimal_in}
 use Rattle.tk_handle.specs.Ranges.{is_region, is_moment}
 
@@ -24,7 +22,3 @@ region_in text = passing is_region (decimal_in text)
 -- the seconds of a moment, as a decimal
 abbrev pub moment_in : List ℕ → Option ℕ
 moment_in text = passing is_moment (decimal_in text)
-
--- no byte of the text is `&`, `=`, `+` or `%`
-abbrev pub IsFormText : List ℕ → Type 0
-IsFormText text = All (λ b. (b ≢ 38) × (b ≢ 61) × (b ≢ 43) × (b ≢ 37)) text

@@ -2,6 +2,7 @@
 --   CommandLine   the command line, as clap's contracts see it
 --   Task          what the words ask for
 --   Fields        the numbers and texts that a line's fields stand for
+--   RequestLine   the requests of lines, whole and short
 --   Line          the lines that are events, and the words that these draw
 --   Script        the events of a script, and its first bad line
 --   Put           what writing leaves of an output
@@ -12,6 +13,7 @@
 pub mod CommandLine
 pub mod Task
 pub mod Fields
+pub mod RequestLine
 pub mod Line
 pub mod Script
 pub mod Printed

@@ -1,18 +1,16 @@
 -- The lines of a script that are events, and the words that their events draw.
---   IsRequestForm   the request of a line's first field and of those after the moment
 --   IsEventForm     the event of a line's fields
 --   IsEventLine     the event of a line
 --   HasWords        the words of a request; words_at, those of an event by its place
-use Rattle.std.specs.Prelude.{◌≡◌, ◌≤◌, ◌<◌, ◌+◌, ◌*◌, ◌^◌, ⊤, ℕ, List, [], ◌∷◌, map, length, codes, decimal, string_bytes}
+use Rattle.std.specs.Prelude.{◌≡◌, ◌≤◌, ◌<◌, ◌+◌, ◌*◌, ◌^◌, ⊤, ℕ, List, [], ◌∷◌, map, length, codes, decimal, Some}
 use Rattle.std.specs.Borrow.{Bor}
 use Rattle.std.specs.List.{All, slice_split}
 use Rattle.tk_handle.specs.Ranges.{IsRegion, IsMoment}
 use Rattle.tk_vector.specs.VectorText.{IsVectorText}
 use Rattle.tk_world.specs.declared.event.Event.{Event}
 use Rattle.tk_world.specs.declared.event.Event.TheVariants.{Open, Request, Pull, Deliver}
-use Rattle.tk_world.specs.declared.request.Request as asked
-use Rattle.tk_world.specs.declared.request.Request.TheVariants.{AddClient, ShowClient, Retire}
-use Rattle.tokend.specs.Fields.{is_space, IsFormText}
+use Rattle.tokend.specs.Fields.{is_space}
+use Rattle.tokend.specs.RequestLine.{asked_of}
 
 -- the bytes are spaces and visible ASCII
 abbrev pub IsPrintable : List ℕ → Type 0
@@ -22,24 +20,12 @@ IsPrintable line = All (λ b. (32 ≤ b) × (b ≤ 126)) line
 abbrev pub texts : List (Bor (List ℕ)) → List (List ℕ)
 texts fields = map (λ field. field.now) fields
 
--- `client .. public - SCOPE URIS`, `look .. ID` and `retire .. ID`, by the name and by what stands behind the moment
-abbrev pub IsRequestForm : List ℕ → List (List ℕ) → asked.Request → Type 0
-IsRequestForm name form (AddClient scope redirects) =
-    (name ≡ codes "client") × (form ≡ codes "public" ∷ codes "-" ∷ string_bytes scope ∷ string_bytes redirects ∷ [])
-    × IsFormText (string_bytes scope) × IsFormText (string_bytes redirects)
-IsRequestForm name form (ShowClient id) = (name ≡ codes "look") × (form ≡ string_bytes id ∷ [])
-IsRequestForm name form (Retire id) = (name ≡ codes "retire") × (form ≡ string_bytes id ∷ [])
-
--- they are no request's
-abbrev pub IsNoRequest : List ℕ → List (List ℕ) → Type 0
-IsNoRequest name form = (request : asked.Request) → ¬ (IsRequestForm name form request)
-
 -- `open R`, NAME R NOW and a request's form, `pull R VECTOR -`, and `deliver B R`
 abbrev pub IsEventForm : List (List ℕ) → Event → Type 0
 IsEventForm fields (Open region) = (fields ≡ codes "open" ∷ decimal region ∷ []) × IsRegion region
 IsEventForm fields (Request region now words request) =
     (name : List ℕ) × (form : List (List ℕ)) × (fields ≡ name ∷ decimal region ∷ decimal now ∷ form)
-    × IsRegion region × IsMoment now × IsRequestForm name form request
+    × IsRegion region × IsMoment now × (asked_of name form ≡ Some request)
 IsEventForm fields (Pull region vector) =
     (entries : List ℕ) × (fields ≡ codes "pull" ∷ decimal region ∷ entries ∷ codes "-" ∷ [])
     × IsRegion region × IsVectorText entries vector

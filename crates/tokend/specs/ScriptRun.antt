@@ -6,7 +6,7 @@
 --   LeavesScript     what a fault leaves of the output
 use Rattle.std.specs.Prelude.{◌≡◌, ◌≤◌, ⊤, ℕ, List, Option, IfSome, length, slice_get}
 use Rattle.std.specs.Io.KnownBytes.{Appends, Keeps}
-use Rattle.tk_world.specs.SettingsFields.{SettingsFields}
+use Rattle.tk_region.specs.SettingsFields.{SettingsFields}
 use Rattle.tk_world.specs.State.{State, new_state}
 use Rattle.tk_world.specs.World.{Facts, Run}
 use Rattle.tk_world.specs.declared.event.Event.{Event}

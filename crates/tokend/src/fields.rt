@@ -1,6 +1,6 @@
-ghost use Rattle.std.specs.Prelude.{◌≡◌, ◌↔◌, IfOk, IsTrue, map};
+ghost use Rattle.std.specs.Prelude.{◌≡◌, IfOk, map};
 ghost use Rattle.std.specs.List.{slice_split};
-ghost use Rattle.tokend.specs.Fields.{is_space, region_in, moment_in, IsFormText};
+ghost use Rattle.tokend.specs.Fields.{is_space, region_in, moment_in};
 
 use std::alloc::{AllocError, Global};
 use tk_format::read_decimal;
@@ -25,12 +25,4 @@ pub(crate) fn moment(text: &str) -> Option<Moment>
     ensures { result ≡ moment_in text.now }
 {
     Moment::new(read_decimal(text.as_bytes())?)
-}
-
-/// Whether the text means itself in a form, with no byte that parts, joins or stands for another.
-pub(crate) fn is_form_text(text: &str) -> bool
-    ensures { IsTrue result ↔ IsFormText text.now }
-{
-    text.bytes()
-        .all(|b| !matches!(b, b'&' | b'=' | b'+' | b'%'))
 }

@@ -1,25 +1,23 @@
 ghost use Rattle.std.specs.Prelude.{◌≡◌, ◌↔◌, IfOk, IfSome, IsErrOf, IsSome};
-ghost use Rattle.tokend.specs.Line.{IsPrintable, texts, IsRequestForm, IsNoRequest, IsEventForm, IsNoEventForm, IsEventLine, IsNoEventLine, HasWords};
+ghost use Rattle.tokend.specs.Line.{IsPrintable, texts, IsEventForm, IsNoEventForm, IsEventLine, IsNoEventLine, HasWords};
 
 use crate::fault::LineError;
-use crate::fields::{fields, is_form_text, moment, region};
+use crate::fields::{fields, moment, region};
+use crate::request_line::asked;
 use std::alloc::Global;
 use tk_format::read_decimal;
 use tk_vector::VersionVector;
-use tk_world::{Event, Request};
+use tk_world::Event;
 
-/// The event of a line without its end, and with the words that a request draws. A line has one of these forms:
+/// The event of a line without its end, and with the words that a request draws. A line has one of these forms, or one of
+/// those of [`asked`]:
 ///
 /// - `open R`
-/// - `client R NOW public - SCOPE URIS`
-/// - `retire R NOW ID`
-/// - `look R NOW ID`
 /// - `pull R VECTOR -`
 /// - `deliver B R`
 ///
 /// Fields have one byte or more of `%x21-7E` and are parted by one space. R is the number of a region, NOW a moment,
-/// B a bundle's number from 0; VECTOR is `-`, or entries `R:S` of rising regions that are joined by commas. SCOPE and
-/// URIS hold none of `&`, `=`, `+` and `%`.
+/// B a bundle's number from 0; VECTOR is `-`, or entries `R:S` of rising regions that are joined by commas.
 pub(crate) fn event(alloc: Global, line: &[u8], words: [u64; 6]) -> Result<Event, LineError>
     ensures found { IfOk result (IsEventLine line.now) }
     ensures words { IfOk result (HasWords words) }
@@ -52,7 +50,7 @@ fn event_of(alloc: Global, fields: &[&str], words: [u64; 6]) -> Result<Event, Li
             region: region(at).ok_or(LineError::Bad)?,
             now: moment(now).ok_or(LineError::Bad)?,
             words,
-            request: request(alloc, name, form)?,
+            request: asked(alloc, name, form)?.ok_or(LineError::Bad)?,
         }),
         _ => Err(LineError::Bad),
     }
@@ -67,26 +65,4 @@ fn printable(line: &[u8]) -> Option<&str>
         return None;
     }
     str::from_utf8(line).ok()
-}
-
-// The request of a line by its first field, and by those after the moment.
-fn request(alloc: Global, name: &str, form: &[&str]) -> Result<Request, LineError>
-    ensures found { IfOk result (IsRequestForm name.now (texts form.now)) }
-    ensures bad { IsErrOf result LineError.Bad → IsNoRequest name.now (texts form.now) }
-{
-    match (name, form) {
-        ("client", ["public", "-", scope, uris]) if is_form_text(scope) && is_form_text(uris) => {
-            Ok(Request::AddClient {
-                scope: String::from_str(alloc, scope)?,
-                redirects: String::from_str(alloc, uris)?,
-            })
-        }
-        ("look", [id]) => Ok(Request::ShowClient {
-            client_id: String::from_str(alloc, id)?,
-        }),
-        ("retire", [id]) => Ok(Request::Retire {
-            client_id: String::from_str(alloc, id)?,
-        }),
-        _ => Err(LineError::Bad),
-    }
 }

@@ -5,7 +5,7 @@
 //! the words, the lines and the exit statuses: 0 done, 1 memory or a device, 2 bad words or a bad script.
 //!
 //! In reading order: `options` (the words of the command line), `script` (the input as events), `line` (one line),
-//! `fields` (its numbers and texts), `print` (outcomes as lines) over `put` (what a failed output leaves), `fault` (what
+//! `request_line` (its request), `fields` (its numbers and texts), `print` (outcomes as lines) over `put` (what a failed output leaves), `fault` (what
 //! may go wrong, and how it is told), `program` (all of it in order); `promises` says what all of this is for. The
 //! definitions are in specs/: `CommandLine` and `Task` for the words, `Line` and `Fields` for the lines, `Script` for all
 //! of them, `Put` and `Printed` for what is printed, `Status` for faults, `ScriptRun` and `ProgramRun` for what a run
@@ -20,6 +20,7 @@ mod print;
 mod program;
 pub mod promises;
 mod put;
+mod request_line;
 mod script;
 #[cfg(test)]
 mod tests;

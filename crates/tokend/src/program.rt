@@ -6,7 +6,7 @@ ghost use Rattle.tokend.specs.Printed.{lines_text};
 ghost use Rattle.tokend.specs.ProgramRun.{IsDone, IsFaultFor, Leaves, Tells};
 ghost use Rattle.tokend.specs.Put.{Prints};
 ghost use Rattle.tokend.specs.ScriptRun.{settings_of, PrintsScript, IsScriptFault, LeavesScript};
-ghost use Rattle.tk_world.specs.SettingsFields.{greatest_cap};
+ghost use Rattle.tk_region.specs.SettingsFields.{greatest_cap};
 ghost use Rattle.tokend.specs.Status.{status_of};
 ghost use Rattle.tokend.specs.declared.fault.Fault.{Fault as FaultValue};
 

@@ -4,7 +4,8 @@ use Rattle.std.proofs.lemmas.Grind.{common_steps}
 use Rattle.std.proofs.lemmas.List.{take_rest}
 use Rattle.tk_format.specs.Decimals.{decimal_in}
 use Rattle.tk_vector.specs.VectorText.{IsNoVectorText}
-use Rattle.tokend.specs.Line.{texts, IsRequestForm}
+use Rattle.tokend.specs.Line.{texts}
+use Rattle.tokend.specs.RequestLine.{asked_of}
 use Rattle.tokend.proofs.EventForms.{text_at, open_there, deliver_there, pull_there, request_there, open_bad, deliver_bad_bundle, deliver_bad_region, pull_bad_region, pull_bad_vector, IsOther, request_bad_region, request_bad_moment}
 use Rattle.tokend.proofs.line.event_of.Goals as goal
 
@@ -59,12 +60,12 @@ returns-in_ok-read_text-in-pull-clause-found c =
     let region : c.region-in-pull.result ≡ Some c.in_ok-ok_or-in-pull.field-0 = grind arith in
     pull_there c.args.fields.now _ _ (omega arith) (search (rules, tests)) (search (rules, tests)) (sym c.region-in-pull.ensures ∙ region) (search rules)
 
-pub returns-in_ok-request-in-len3-up-clause-found : goal.returns-in_ok-request-in-len3-up-clause-found
-returns-in_ok-request-in-len3-up-clause-found c =
+pub returns-in_ok-ok_or-in-len3-up-3-clause-found : goal.returns-in_ok-ok_or-in-len3-up-3-clause-found
+returns-in_ok-ok_or-in-len3-up-3-clause-found c =
     let region : c.region-in-len3-up.result ≡ Some c.in_ok-ok_or-in-len3-up.field-0 = grind arith in
     let now : c.moment.result ≡ Some c.in_ok-ok_or-in-len3-up-2.field-0 = grind arith in
     let fields = c.args.fields.now in
-    let asked = c.in_ok-request-in-len3-up.field-0 in
-    let form : IsRequestForm (text_at fields 0) (texts (take (length fields - 3) (drop 3 fields))) asked = search rules in
+    let asked = c.in_ok-ok_or-in-len3-up-3.field-0 in
+    let form : asked_of (text_at fields 0) (texts (take (length fields - 3) (drop 3 fields))) ≡ Some asked = search rules in
     request_there fields _ _ c.args.words asked (grind arith) (sym c.region-in-len3-up.ensures ∙ region) (sym c.moment.ensures ∙ now)
-    (subst (λ rest. IsRequestForm (text_at fields 0) (texts rest) asked) (take_rest fields 3) form)
+    (subst (λ rest. asked_of (text_at fields 0) (texts rest) ≡ Some asked) (take_rest fields 3) form)
