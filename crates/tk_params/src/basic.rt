@@ -3,7 +3,7 @@
 use std::marker::Model;
 
 // The id and the secret of a Basic header, either of which may be empty.
-#[derive(Debug, Drop)]
+#[derive(Drop)]
 pub(crate) struct Basic {
     pub(crate) id: String,
     pub(crate) secret: String,

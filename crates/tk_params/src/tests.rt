@@ -1,7 +1,12 @@
 //! Parameters and credentials, by tables: what the standards print, and what is easily taken for another thing.
 
 use crate::{Credentials, CredentialsError, One, Params};
+use std::alloc::Global;
+use std::process::Abort;
 use std::test::Fail;
+
+// A row's name, an id and a secret.
+type Presented<'a> = (&'a str, Option<&'a str>, Option<&'a str>);
 
 // The query of RFC 6749, 4.1.1, and the body of 4.1.3.
 const QUERY: &[u8] =
@@ -84,17 +89,22 @@ const NAMED: [(&str, &[u8], &str, One<'static>); 28] = [
     ),
 ];
 
+// What stands under a name, told in each way.
+fn stands(rt: &impl Abort, params: &Params, row: &str, name: &str, want: One<'static>) {
+    assert_eq!(rt; params.one(name), want, "{row}");
+    assert_eq!(rt; params.is_twice(name), want == One::Twice, "twice: {row}");
+    let value = match want {
+        One::Value(text) => Some(text),
+        _ => None,
+    };
+    assert_eq!(rt; params.value(name), value, "value: {row}");
+}
+
 #[test]
 fn a_form_has_names_and_values(rt: HostRuntime) -> Result<(), Fail> {
     for (row, form, name, want) in NAMED {
         let params = Params::read(rt.alloc(), form)?;
-        assert_eq!(rt; params.one(name), want, "{row}");
-        assert_eq!(rt; params.is_twice(name), want == One::Twice, "twice: {row}");
-        let value = match want {
-            One::Value(text) => Some(text),
-            _ => None,
-        };
-        assert_eq!(rt; params.value(name), value, "value: {row}");
+        stands(&rt, &params, row, name, want);
     }
     Ok(())
 }
@@ -273,13 +283,26 @@ const PRESENTED: [(&str, Option<&[u8]>, &[u8], Option<&str>, Option<&str>); 25] 
     ("nothing", None, b"", None, None),
 ];
 
+// What a header presents beside parameters.
+fn presents(
+    rt: &impl Abort,
+    alloc: Global,
+    header: Option<&[u8]>,
+    params: &Params,
+    want: Presented,
+) -> Result<(), Fail> {
+    let (row, id, secret) = want;
+    let credentials = Credentials::read(alloc, header, params)?;
+    assert_eq!(rt; credentials.id(), id, "id: {row}");
+    assert_eq!(rt; credentials.secret(), secret, "secret: {row}");
+    Ok(())
+}
+
 #[test]
 fn a_client_is_presented(rt: HostRuntime) -> Result<(), Fail> {
     for (row, header, body, id, secret) in PRESENTED {
         let params = Params::read(rt.alloc(), body)?;
-        let credentials = Credentials::read(rt.alloc(), header, &params)?;
-        assert_eq!(rt; credentials.id(), id, "id: {row}");
-        assert_eq!(rt; credentials.secret(), secret, "secret: {row}");
+        presents(&rt, rt.alloc(), header, &params, (row, id, secret))?;
     }
     Ok(())
 }
