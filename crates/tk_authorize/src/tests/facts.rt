@@ -62,6 +62,13 @@ fn put_dot(writer: &mut Writer, at: At) -> Result<(), Fail> {
     Ok(dot(at)?.write(writer)?)
 }
 
+fn put_text(writer: &mut Writer, text: &str) -> Result<(), Fail> {
+    if text.len() > 1_000 {
+        return Err(Fail::from("a text of a test is short"));
+    }
+    Ok(writer.put_text(text.as_bytes())?)
+}
+
 fn put_client(
     writer: &mut Writer,
     sort: u8,
@@ -74,15 +81,15 @@ fn put_client(
     if sort != 0 {
         writer.put_bytes(&[7; 32])?;
     }
-    writer.put_text(scope.as_bytes())?;
+    put_text(writer, scope)?;
     match other {
         None => writer.put_u8(1)?,
         Some(other) => {
             writer.put_u8(2)?;
-            writer.put_text(other.as_bytes())?;
+            put_text(writer, other)?;
         }
     }
-    Ok(writer.put_text(uri.as_bytes())?)
+    put_text(writer, uri)
 }
 
 // The number of the kind, and what the fact says.
@@ -97,7 +104,7 @@ fn put_fact(writer: &mut Writer, says: Says) -> Result<(), Fail> {
             writer.put_u8(3)?;
             put_dot(writer, client)?;
             writer.put_text(b"ann")?;
-            Ok(writer.put_text(scope.as_bytes())?)
+            put_text(writer, scope)
         }
         Says::Withdrawn(consent) => {
             writer.put_u8(4)?;
