@@ -5,7 +5,6 @@
 --   capped_taken     and where a bundle is taken in
 use Rattle.std.proofs.Common.{◌≡◌, ℕ, zero, suc, ◌+◌, ◌<◌, ◌≤◌, ◌==◌, ◌&&◌, ◌||◌, Bool, true, false, if◌then◌else◌, nat_le, max, [], ◌∷◌, length, get_or, take, Contains, Option, Some, None, Result, Ok, Err, refl, sym, ap, subst, ◌∙◌, inl, inr, arith}
 use mathlib.Core.Bool.{false≢true}
-use Rattle.std.specs.List.{list_any}
 use Rattle.std.specs.FinMap as map
 use Rattle.std.proofs.lemmas.Bool.Decides.{nat_tests}
 use Rattle.tk_handle.specs.declared.dot.Dot.{Dot}
@@ -18,14 +17,14 @@ use Rattle.tk_store.specs.NextDot.{last_serial, next_serial}
 use Rattle.tk_store.proofs.EntryLaws.{AllIn-entries}
 use Rattle.tk_store.proofs.JoiningLaws.{joins_with_facts}
 use Rattle.tk_store.proofs.NextDotLaws.{next_is_free}
-use Rattle.tk_store.proofs.PutLaws.{by_dot, of_dot, get_here, none_is_not_some}
+use Rattle.tk_store.proofs.PutLaws.{by_dot, get_here, none_is_not_some}
 use Rattle.tk_message.specs.Place.{next_in}
 use Rattle.tk_region.specs.declared.take.TakeError.{TakeError}
 use Rattle.tk_region.specs.declared.take.TakeError.TheVariants.{Malformed, OwnNumber, Conflict, Memory}
 use Rattle.tk_region.specs.RegionFields.{RegionFields, IsCapped, place_in}
 use Rattle.tk_region.specs.SettingsFields.{SettingsFields, greatest_cap}
 use Rattle.tk_region.specs.Step.{IsNextFact}
-use Rattle.tk_region.specs.Taking.{is_unmade, has_unmade, Takes, TakesIn}
+use Rattle.tk_region.specs.Taking.{has_unmade, TakesIn}
 
 -- each fact of a list under the number is at most at the cap
 abbrev UpTo : ℕ → ℕ → Facts → Type 0
@@ -45,8 +44,8 @@ last_under r k = let most = all_under r k (map.entries r.facts) (AllIn-entries r
 pub next_under : (r : RegionFields) → IsCapped r → next_serial r.facts r.number ≤ greatest_serial
 next_under r k = let most = last_under r k in omega (arith, k.low)
 
-pub capped_empty : (number : ℕ) (settings : SettingsFields) → settings.cap ≤ greatest_cap → IsCapped (record { number = number; settings = settings; facts = map.empty })
-capped_empty number settings low = record { own = λ d b h. absurd (none_is_not_some b (sym (map.get-empty dot_cmp d) ∙ h)); low = low }
+pub capped_empty : (r : RegionFields) → r.facts ≡ map.empty → r.settings.cap ≤ greatest_cap → IsCapped r
+capped_empty r none low = record { own = λ d b h. absurd (none_is_not_some b (sym (map.get-empty dot_cmp d) ∙ ap (λ F. map.get F d) (sym none) ∙ h)); low = low }
 
 -- what is joined is at most at the cap
 pub capped_joins : (n : ℕ) (s : SettingsFields) (F G : FactSet) (fs : Facts) → IsCapped (record { number = n; settings = s; facts = F }) → JoinsFacts F fs G

@@ -2,7 +2,7 @@
 --   next_given    the prepared fact is the region's next
 --   gains_next    the region gains it
 --   gains_none    and nothing where none is prepared
-use Rattle.std.proofs.Common.{◌≡◌, [], ◌∷◌, Option, Some, None, IfSome, refl, sym, ap, subst}
+use Rattle.std.proofs.Common.{◌≡◌, [], ◌∷◌, Option, Some, None, IfSome, refl, sym, subst}
 use Rattle.tk_handle.specs.declared.dot.Dot.{Dot}
 use Rattle.tk_fact.specs.declared.body.Body.{Body}
 use Rattle.tk_store.specs.FactSet.{FactSet}

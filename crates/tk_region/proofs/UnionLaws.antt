@@ -1,5 +1,5 @@
 -- A set that agrees with a bundle, and the bundle's facts, are parts of one set. Key results: union_holds, union_keeps, union_sound.
-use Rattle.std.proofs.Common.{◌≡◌, ◌≢◌, ℕ, Bool, true, false, ◌&&◌, List, [], ◌∷◌, Option, Some, None, is_none, refl, sym, ap, subst, ◌∙◌}
+use Rattle.std.proofs.Common.{◌≡◌, ◌≢◌, Bool, true, false, ◌&&◌, [], ◌∷◌, Option, Some, None, is_none, refl, sym, ap, subst, ◌∙◌}
 use mathlib.Core.Bool.{false≢true}
 use Rattle.std.specs.Ordering.{is_lt}
 use Rattle.std.specs.declared.cmp.Ordering.{Ordering}
@@ -13,7 +13,7 @@ use Rattle.tk_fact.specs.Check.{refusal_of}
 use Rattle.tk_fact.specs.declared.check.FactError.{FactError}
 use Rattle.tk_fact.specs.FactBytes.{framed}
 use Rattle.tk_store.specs.FactSet.{FactSet, Facts, IsFactSet, AllIn, IsSubset, with_facts}
-use Rattle.tk_store.proofs.PutLaws.{of_dot, by_dot, get_here, some_injective, IsFactSet-insert}
+use Rattle.tk_store.proofs.PutLaws.{of_dot, by_dot, get_here, IsFactSet-insert}
 use Rattle.tk_store.proofs.SubsetLaws.{subset_itself, subset_trans}
 use Rattle.tk_bundle.specs.Bundle.{ascends, bundle}
 use Rattle.tk_region.specs.Taking.{AgreesAt, AgreesWith}
