@@ -6,6 +6,7 @@ mod fakes;
 mod lines;
 mod order;
 mod replies;
+mod requests;
 mod world;
 
 use crate::program::run_program;

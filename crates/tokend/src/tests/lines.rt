@@ -5,61 +5,40 @@ use std::process::Abort;
 use std::test::Fail;
 
 // Lines that have none of the forms.
-static FORMS: [(&str, &[u8]); 28] = [
+static FORMS: [(&str, &[u8]); 31] = [
     ("an unknown name", b"close 1"),
     ("a name in capitals", b"OPEN 1"),
-    ("a request in full", b"req 1 1000 GET /authorize - - -"),
     ("a prune", b"prune 1 1000"),
     ("open alone", b"open"),
     ("open with two regions", b"open 1 2"),
+    ("a request without a body", b"req 1 1000 GET /authorize - -"),
+    (
+        "a request with one field more",
+        b"req 1 1000 GET /authorize - - - -",
+    ),
+    ("another path", b"req 1 1000 GET /nothing - - -"),
+    ("a path with a slash behind", b"req 1 1000 GET /authorize/ - - -"),
+    ("a path in capitals", b"req 1 1000 GET /Authorize - - -"),
+    ("a path with an escape", b"req 1 1000 GET /%61uthorize - - -"),
+    ("no path", b"req 1 1000 GET ?client_id=c1-1 - - -"),
+    ("a target that is a dash", b"req 1 1000 GET - - - -"),
+    ("a method in small letters", b"req 1 1000 get /authorize - - -"),
+    ("another method", b"req 1 1000 PUT /admin/client - - kind=public"),
+    (
+        "an authorisation by POST",
+        b"req 1 1000 POST /authorize - - client_id=c1-1",
+    ),
+    (
+        "a retirement by GET",
+        b"req 1 1000 GET /admin/retire?client_id=c1-1 - - -",
+    ),
+    ("a token request", b"req 1 1000 POST /token - - grant_type=x"),
+    ("an introspection", b"req 1 1000 POST /introspect - - token=x"),
+    ("a revocation", b"req 1 1000 POST /revoke - - token=x"),
     ("client with too few fields", b"client 1 1000 public - read"),
     (
         "client with too many fields",
         b"client 1 1000 public - read https://app.example/cb https://app.example/cd",
-    ),
-    (
-        "a confidential client",
-        b"client 1 1000 confidential - read https://app.example/cb",
-    ),
-    (
-        "a public client with a secret",
-        b"client 1 1000 public s3cret read https://app.example/cb",
-    ),
-    (
-        "a client of no kind",
-        b"client 1 1000 - - read https://app.example/cb",
-    ),
-    (
-        "a scope with an ampersand",
-        b"client 1 1000 public - read&kind https://app.example/cb",
-    ),
-    (
-        "a scope with an equals sign",
-        b"client 1 1000 public - read=write https://app.example/cb",
-    ),
-    (
-        "a scope with a plus",
-        b"client 1 1000 public - read+write https://app.example/cb",
-    ),
-    (
-        "a scope with a per cent",
-        b"client 1 1000 public - read%20write https://app.example/cb",
-    ),
-    (
-        "URIs with an ampersand",
-        b"client 1 1000 public - read https://app.example/cb?a&b",
-    ),
-    (
-        "URIs with an equals sign",
-        b"client 1 1000 public - read https://app.example/cb?t=1",
-    ),
-    (
-        "URIs with a plus",
-        b"client 1 1000 public - read https://app.example/cb+https://app.example/cd",
-    ),
-    (
-        "URIs with a per cent",
-        b"client 1 1000 public - read https://app.example/cb?t%3D1",
     ),
     ("retire without an id", b"retire 1 1003"),
     ("retire of two ids", b"retire 1 1003 c1-1 c1-2"),
@@ -92,7 +71,7 @@ static SPACES: [(&str, &[u8]); 15] = [
 ];
 
 // Lines with a number that is none, or out of its range.
-static NUMBERS: [(&str, &[u8]); 22] = [
+static NUMBERS: [(&str, &[u8]); 24] = [
     ("region 0", b"open 0"),
     ("a region above the greatest", b"open 65536"),
     ("a region with a leading zero", b"open 01"),
@@ -113,6 +92,11 @@ static NUMBERS: [(&str, &[u8]); 22] = [
     (
         "a client in region 0",
         b"client 0 1000 public - read https://app.example/cb",
+    ),
+    ("a request to region 0", b"req 0 1000 GET /authorize - - -"),
+    (
+        "a request's moment above the greatest",
+        b"req 1 253402300800 GET /authorize - - -",
     ),
     ("a moment above the greatest", b"look 1 253402300800 c1-1"),
     ("a moment with a leading zero", b"look 1 00 c1-1"),
