@@ -2,7 +2,7 @@
 --   SettingsFields   the five numbers
 --   lives_of         the four lives among them
 --   IsSettings       each is in its range
---   greatest_cap     the greatest cap
+--   greatest_code, greatest_access, greatest_refresh, greatest_family, greatest_cap   the ends of the ranges
 use Rattle.std.specs.Prelude.{ℕ, ◌-◌, ◌<◌, ◌≤◌, refl}
 use Rattle.std.specs.Coded.{Coded, code_by, coded×, coded_ℕ}
 use Rattle.tk_handle.specs.Ranges.{greatest_serial}
@@ -22,16 +22,28 @@ lives_of s = record { code = s.code; access = s.access; refresh = s.refresh; fam
 abbrev pub IsUpTo : ℕ → ℕ → Type 0
 IsUpTo greatest n = (0 < n) × (n ≤ greatest)
 
+-- ten minutes, a day, a year, ten years (own; RFC 6749, 4.1.2 recommends the first)
+abbrev pub greatest_code : ℕ
+greatest_code = 600
+
+abbrev pub greatest_access : ℕ
+greatest_access = 86400
+
+abbrev pub greatest_refresh : ℕ
+greatest_refresh = 31536000
+
+abbrev pub greatest_family : ℕ
+greatest_family = 315360000
+
 -- so that the serial after the cap is one
 abbrev pub greatest_cap : ℕ
 greatest_cap = greatest_serial - 1
 
--- ten minutes, a day, a year, ten years, and the greatest cap
 pub record IsSettings (s : SettingsFields) : Type 0 where
-  pub code : IsUpTo 600 s.code
-  pub access : IsUpTo 86400 s.access
-  pub refresh : IsUpTo 31536000 s.refresh
-  pub family : IsUpTo 315360000 s.family
+  pub code : IsUpTo greatest_code s.code
+  pub access : IsUpTo greatest_access s.access
+  pub refresh : IsUpTo greatest_refresh s.refresh
+  pub family : IsUpTo greatest_family s.family
   pub cap : IsUpTo greatest_cap s.cap
 
 -- as pairs

@@ -31,30 +31,33 @@ ghost use Rattle.tk_region.specs.SettingsFields.{IsSettings, IsUpTo, lives_of, g
 use tk_handle::Serial;
 use tk_message::Lives;
 
-// The greatest numbers of the settings, in the order of `Settings::new`.
-
-const MOST_CODE: u64 = 600;
-
-const MOST_ACCESS: u64 = 86_400;
-
-const MOST_REFRESH: u64 = 31_536_000;
-
-const MOST_FAMILY: u64 = 315_360_000;
-
-const MOST_CAP: u64 = Serial::GREATEST - 1;
-
 impl Settings {
+    /// The most seconds that a code may live.
+    pub const GREATEST_CODE: u64 = 600;
+
+    /// The most seconds that an access token may live.
+    pub const GREATEST_ACCESS: u64 = 86_400;
+
+    /// The most seconds that a refresh token may live.
+    pub const GREATEST_REFRESH: u64 = 31_536_000;
+
+    /// The most seconds that a family may live.
+    pub const GREATEST_FAMILY: u64 = 315_360_000;
+
+    /// The greatest cap: a serial is left above it.
+    pub const GREATEST_CAP: u64 = Serial::GREATEST - 1;
+
     /// None exactly where a number is out of its range: a code lives 1 to 600 seconds, an access token to 86,400,
     /// a refresh token to 31,536,000, a family to 315,360,000; the cap is 1 to the greatest serial less one.
     pub fn new(code: u64, access: u64, refresh: u64, family: u64, cap: u64) -> Option<Settings>
         ensures { SomeIff result (IsSettings (record { code = code; access = access; refresh = refresh; family = family; cap = cap }))
             (record { code = code; access = access; refresh = refresh; family = family; cap = cap }) }
     {
-        let in_range = is_up_to(MOST_CODE, code)
-            && is_up_to(MOST_ACCESS, access)
-            && is_up_to(MOST_REFRESH, refresh)
-            && is_up_to(MOST_FAMILY, family)
-            && is_up_to(MOST_CAP, cap);
+        let in_range = is_up_to(Settings::GREATEST_CODE, code)
+            && is_up_to(Settings::GREATEST_ACCESS, access)
+            && is_up_to(Settings::GREATEST_REFRESH, refresh)
+            && is_up_to(Settings::GREATEST_FAMILY, family)
+            && is_up_to(Settings::GREATEST_CAP, cap);
         if !in_range {
             return None;
         }

@@ -4,21 +4,21 @@ use Rattle.std.specs.Prelude.{◌⊎◌, IfErr, IfNone, IsErrAnd}
 use Rattle.clap.specs.Words.{App, Row, Text, FailsBy, IsAmong, fault_of, is_simple_and_free, kind_of}
 use Rattle.clap.specs.declared.error.Error.{Error}
 use Rattle.clap.specs.declared.error.kind.ErrorKind.TheVariants as kind
-use Rattle.tk_region.specs.SettingsFields.{greatest_cap}
-use Rattle.tokend.specs.CommandLine.{HasNumber, tokend_app}
+use Rattle.tk_region.specs.SettingsFields.{SettingsFields}
+use Rattle.tokend.specs.CommandLine.{HasSettings, tokend_app}
 use Rattle.tokend.specs.Task.{IsNoTask, IsRefusalOf}
 use Rattle.tokend.specs.declared.options.Task.TheVariants.{Script}
 
 no_task_of : (found : Option (Text × List Row)) (rows : List Row) → option_map (λ p. p.1) found ≡ Some rows
-    → ((n : ℕ) → ¬ (HasNumber rows (codes "cap") greatest_cap n)) → IsNoTask found
-no_task_of found rows at none (Script cap) h =
+    → ((s : SettingsFields) → ¬ (HasSettings rows s)) → IsNoTask found
+no_task_of found rows at none (Script s) h =
     let both : Some rows ≡ Some h.0 = sym at ∙ ap (option_map (λ p. p.1)) h.1 in
     let same : h.0 ≡ rows = cc in
-    none cap (subst (λ r. HasNumber r (codes "cap") greatest_cap cap) same h.2)
+    none s (subst (λ r. HasSettings r s) same h.2)
 
--- a subcommand without its number is no task's
+-- a subcommand without its numbers is no task's
 pub no_task : {T : Type 0} (found : Option (Text × List Row)) (rows : List Row) (r : Option T) → option_map (λ p. p.1) found ≡ Some rows
-    → ((n : ℕ) → ¬ (HasNumber rows (codes "cap") greatest_cap n)) → IfNone r (IsNoTask found)
+    → ((s : SettingsFields) → ¬ (HasSettings rows s)) → IfNone r (IsNoTask found)
 no_task found rows (Some x) at none = tt
 no_task found rows None at none = no_task_of found rows at none
 

@@ -18,30 +18,26 @@ use Rattle.tokend.specs.Put.{AppendsFront}
 use Rattle.tokend.specs.declared.fault.Fault.{Fault}
 use Rattle.tokend.specs.declared.fault.Fault.TheVariants.{BadLine, Output}
 
--- a code lives a minute, an access token an hour, a refresh token a day and a family thirty days (own)
-abbrev pub settings_of : ℕ → SettingsFields
-settings_of cap = record { code = 60; access = 3600; refresh = 86400; family = 2592000; cap = cap }
-
 -- the script is short enough; its events, with their words, are run in a new world; and the lines are their outcomes'
-pub record IsScriptRun (cap : ℕ) (script : List ℕ) (lines : List ℕ) : Type 0 where
+pub record IsScriptRun (settings : SettingsFields) (script : List ℕ) (lines : List ℕ) : Type 0 where
   pub short : length script ≤ greatest_length
   pub events : List Event
   pub outcomes : List Outcome
   pub after : State
   pub found : AreEvents (lines_of script) events
   pub words : (k : ℕ) → IfSome (slice_get events k) (HasWords (words_at k))
-  pub run : (shown : List Facts) × Run (new_state (settings_of cap)) events outcomes shown after
+  pub run : (shown : List Facts) × Run (new_state settings) events outcomes shown after
   pub printed : lines ≡ lines_text events outcomes
 
 -- the lines that the input's script comes to were written behind what the output had
-abbrev pub PrintsScript : ℕ → Option (List ℕ) → Option (List ℕ) → Option (List ℕ) → Type 0
-PrintsScript cap input old new =
-    (lines : List ℕ) × IfSome input (λ script. IsScriptRun cap script lines) × Appends old new lines
+abbrev pub PrintsScript : SettingsFields → Option (List ℕ) → Option (List ℕ) → Option (List ℕ) → Type 0
+PrintsScript settings input old new =
+    (lines : List ℕ) × IfSome input (λ script. IsScriptRun settings script lines) × Appends old new lines
 
 -- the beginning of the lines that the input's script comes to was written behind what the output had
-abbrev pub BeginsScript : ℕ → Option (List ℕ) → Option (List ℕ) → Option (List ℕ) → Type 0
-BeginsScript cap input old new =
-    (lines : List ℕ) × IfSome input (λ script. IsScriptRun cap script lines) × AppendsFront old new lines
+abbrev pub BeginsScript : SettingsFields → Option (List ℕ) → Option (List ℕ) → Option (List ℕ) → Type 0
+BeginsScript settings input old new =
+    (lines : List ℕ) × IfSome input (λ script. IsScriptRun settings script lines) × AppendsFront old new lines
 
 -- the input gives no script, or its script no events; or memory or the output fails
 abbrev pub IsScriptFault : Option (List ℕ) → Fault → Type 0
@@ -50,6 +46,6 @@ IsScriptFault input (BadLine number) = IfSome input (λ script. (length script �
 IsScriptFault input fault = IsInputFault input fault
 
 -- where the output failed, the beginning of the lines; else all as it was
-abbrev pub LeavesScript : ℕ → Option (List ℕ) → Fault → Option (List ℕ) → Option (List ℕ) → Type 0
-LeavesScript cap input Output old new = BeginsScript cap input old new
-LeavesScript cap input fault old new = Keeps old new
+abbrev pub LeavesScript : SettingsFields → Option (List ℕ) → Fault → Option (List ℕ) → Option (List ℕ) → Type 0
+LeavesScript settings input Output old new = BeginsScript settings input old new
+LeavesScript settings input fault old new = Keeps old new

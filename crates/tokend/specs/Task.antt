@@ -7,8 +7,7 @@ use Rattle.std.specs.Prelude.{◌≡◌, ◌≢◌, ◌⊎◌, ⊤, List, [], Op
 use Rattle.clap.specs.Words.{Row, Text, IsAmong, fault_of, kind_of, subcommand_of}
 use Rattle.clap.specs.declared.error.kind.ErrorKind.{ErrorKind}
 use Rattle.clap.specs.declared.error.kind.ErrorKind.TheVariants.{DisplayHelp, DisplayVersion, InvalidValue, MissingSubcommand}
-use Rattle.tk_region.specs.SettingsFields.{greatest_cap}
-use Rattle.tokend.specs.CommandLine.{HasNumber, tokend_app}
+use Rattle.tokend.specs.CommandLine.{HasSettings, tokend_app}
 use Rattle.tokend.specs.declared.fault.Fault.{Fault}
 use Rattle.tokend.specs.declared.fault.Fault.TheVariants.{Memory, Words}
 use Rattle.tokend.specs.declared.options.Task.{Task}
@@ -16,7 +15,7 @@ use Rattle.tokend.specs.declared.options.Task.TheVariants.{Script}
 
 -- the subcommand and its values
 abbrev pub IsTask : Option (Text × List Row) → Task → Type 0
-IsTask found (Script cap) = (rows : List Row) × (found ≡ Some (codes "script", rows)) × HasNumber rows (codes "cap") greatest_cap cap
+IsTask found (Script settings) = (rows : List Row) × (found ≡ Some (codes "script", rows)) × HasSettings rows settings
 
 -- they are no task's
 abbrev pub IsNoTask : Option (Text × List Row) → Type 0

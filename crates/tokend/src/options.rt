@@ -1,8 +1,9 @@
 ghost use Rattle.std.specs.Prelude.{◌≡◌, ◌⊎◌, ◌<◌, ◌^◌, ℕ, IfOk, IfErr, IfSome, IfNone, map, false};
-ghost use Rattle.clap.specs.Words.{app_of, kind_of, rows_of, found_of, subcommand_rows_of};
+ghost use Rattle.clap.specs.Words.{app_of, rule_of, kind_of, rows_of, found_of, subcommand_rows_of};
 ghost use Rattle.clap.specs.declared.error.kind.ErrorKind.TheVariants as kind;
 ghost use Rattle.clap.specs.declared.builder.command.Command.TheViews.{out-Command};
-ghost use Rattle.tokend.specs.CommandLine.{script_app, tokend_app, ReadsNumber, HasNumber};
+ghost use Rattle.tk_region.specs.SettingsFields.{SettingsFields};
+ghost use Rattle.tokend.specs.CommandLine.{script_app, tokend_app, number_rule, ReadsNumber, HasNumber, HasSettings};
 ghost use Rattle.tokend.specs.Task.{Asks, IsTask, IsNoTask, IsNoText, IsRefusalOf};
 
 use crate::fault::Fault;
@@ -13,17 +14,14 @@ use std::alloc::{AllocError, Global};
 use std::convert::AsStr;
 use std::rt::Env;
 use std::{env, io};
+use tk_world::Settings;
 
 /// What the program is asked to do.
 #[derive(Clone, Copy, Debug, PartialEq, Eq)]
 pub enum Task {
-    /// Runs the lines of the standard input, in regions that make facts up to the serial `cap`,
-    /// 1 to 9,223,372,036,854,775,806.
-    Script { cap: u64 },
+    /// Runs the lines of the standard input, in regions with these settings.
+    Script(Settings),
 }
-
-/// The greatest cap: one below the greatest serial.
-const GREATEST_CAP: u64 = 9_223_372_036_854_775_806;
 
 /// What the words ask for, the first of them being the program's name. An error is a mistake in the words, a
 /// request for help or the version, or want of memory, as its kind says.
@@ -68,29 +66,62 @@ fn script_command<'a>(alloc: Global) -> Result<Command<'a>, AllocError>
     ensures shape { IfOk result (λ c. app_of c ≡ script_app) }
     ensures local { IfOk result (λ c. (out-Command c).has_globals ≡ false) }
 {
-    let cap = Arg::new(alloc, "cap")
-        .long("cap")
-        .value_name("N")
-        .help("The greatest serial of a fact that a region makes")
-        .value_parser(ValueParser::Unsigned(1, GREATEST_CAP))
-        .default_value("9223372036854775806");
+    let code = "How many seconds a code lives";
+    let access = "How many seconds an access token lives";
+    let refresh = "How many seconds a refresh token lives";
+    let family = "How many seconds a code and all tokens that descend from it live";
+    let cap = "The greatest serial of a fact that a region makes";
+    let greatest_cap = "9223372036854775806";
     Command::new(alloc, "script")
         .about("Runs events, given as lines on the standard input")
-        .arg(cap)
+        .arg(number_arg(alloc, "code", code, Settings::GREATEST_CODE, "60"))?
+        .arg(number_arg(alloc, "access", access, Settings::GREATEST_ACCESS, "3600"))?
+        .arg(number_arg(alloc, "refresh", refresh, Settings::GREATEST_REFRESH, "86400"))?
+        .arg(number_arg(alloc, "family", family, Settings::GREATEST_FAMILY, "2592000"))?
+        .arg(number_arg(alloc, "cap", cap, Settings::GREATEST_CAP, greatest_cap))
 }
 
-// What the matches say. A subcommand is always there, and so is its number: clap has seen to it.
+// An option with a number from 1 to the greatest, and a default.
+fn number_arg<'a>(
+    alloc: Global,
+    id: &'a str,
+    help: &'a str,
+    greatest: u64,
+    default: &'a str,
+) -> Arg<'a>
+    ensures rule { rule_of result ≡ number_rule id.entry.now default.entry.now greatest }
+    ensures local { result.global ≡ false }
+{
+    Arg::new(alloc, id)
+        .long(id)
+        .value_name("N")
+        .help(help)
+        .value_parser(ValueParser::Unsigned(1, greatest))
+        .default_value(default)
+}
+
+// What the matches say. A subcommand is always there, and so are its numbers: clap has seen to it.
 fn read_matches(matches: &ArgMatches<'_>) -> Option<Task>
     ensures task { IfSome result (IsTask (subcommand_rows_of matches.now)) }
     ensures none { IfNone result (IsNoTask (subcommand_rows_of matches.now)) }
 {
     match matches.subcommand()? {
-        ("script", values) => {
-            let cap = number(values, "cap", GREATEST_CAP)?;
-            Some(Task::Script { cap })
-        }
+        ("script", values) => Some(Task::Script(settings(values)?)),
         _ => None,
     }
+}
+
+fn settings(matches: &ArgMatches<'_>) -> Option<Settings>
+    ensures value { IfSome result (HasSettings (rows_of (found_of matches.now))) }
+    ensures none { IfNone result ((s : SettingsFields) → ¬ (HasSettings (rows_of (found_of matches.now)) s)) }
+{
+    Settings::new(
+        number(matches, "code", Settings::GREATEST_CODE)?,
+        number(matches, "access", Settings::GREATEST_ACCESS)?,
+        number(matches, "refresh", Settings::GREATEST_REFRESH)?,
+        number(matches, "family", Settings::GREATEST_FAMILY)?,
+        number(matches, "cap", Settings::GREATEST_CAP)?,
+    )
 }
 
 // A number within its range. Clap has tested the range, and its contract says so of the top level alone.

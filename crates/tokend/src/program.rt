@@ -5,8 +5,7 @@ ghost use Rattle.std.specs.Io.KnownBytes.{Keeps};
 ghost use Rattle.tokend.specs.Printed.{lines_text};
 ghost use Rattle.tokend.specs.ProgramRun.{IsDone, IsFaultFor, Leaves, Tells};
 ghost use Rattle.tokend.specs.Put.{Prints};
-ghost use Rattle.tokend.specs.ScriptRun.{settings_of, PrintsScript, IsScriptFault, LeavesScript};
-ghost use Rattle.tk_region.specs.SettingsFields.{greatest_cap};
+ghost use Rattle.tokend.specs.ScriptRun.{PrintsScript, IsScriptFault, LeavesScript};
 ghost use Rattle.tokend.specs.Status.{status_of};
 ghost use Rattle.tokend.specs.declared.fault.Fault.{Fault as FaultValue};
 
@@ -20,15 +19,6 @@ use std::alloc::Global;
 use std::convert::AsStr;
 use std::io::{self, Read, Write};
 use tk_world::{Event, Outcome, Settings, World};
-
-// The lives of a code, an access token, a refresh token and a family, in seconds.
-const CODE: u64 = 60;
-
-const ACCESS: u64 = 3_600;
-
-const REFRESH: u64 = 86_400;
-
-const FAMILY: u64 = 2_592_000;
 
 /// Does what the words ask for, the first of them being the program's name, and gives the exit status: 0 done,
 /// 1 memory or a device, 2 bad words or a bad script. A fault is told on `faults`, whose own failures are ignored.
@@ -82,7 +72,7 @@ fn run<S: AsStr, I: Read, O: Write>(
     ensures left { IfErr result (λ fault. Leaves (map S.text words.now) (I.remaining input.old) fault (O.contents output.old) (O.contents output.new)) }
 {
     match options(alloc, words) {
-        Ok(Task::Script { cap }) => run_script(alloc, cap, input, output),
+        Ok(Task::Script(settings)) => run_script(alloc, settings, input, output),
         Err(error) => match error.kind() {
             ErrorKind::DisplayHelp | ErrorKind::DisplayVersion => match show(output, &error) {
                 Ok(()) => Ok(()),
@@ -103,19 +93,17 @@ fn show<O: Write>(output: &mut O, text: &Error) -> io::Result<()> {
 // All that may fail for memory or input comes before the first event.
 fn run_script<I: Read, O: Write>(
     alloc: Global,
-    cap: u64,
+    settings: Settings,
     input: &mut I,
     output: &mut O,
 ) -> Result<(), Fault>
-    requires low { 1 ≤ cap }
-    requires high { cap ≤ greatest_cap }
-    ensures done { OnOk result (PrintsScript cap (I.remaining input.old) (O.contents output.old) (O.contents output.new)) }
+    ensures done { OnOk result (PrintsScript settings (I.remaining input.old) (O.contents output.old) (O.contents output.new)) }
     ensures fault { IfErr result (IsScriptFault (I.remaining input.old)) }
-    ensures left { IfErr result (λ fault. LeavesScript cap (I.remaining input.old) fault (O.contents output.old) (O.contents output.new)) }
+    ensures left { IfErr result (λ fault. LeavesScript settings (I.remaining input.old) fault (O.contents output.old) (O.contents output.new)) }
 {
     let script = read_script(alloc, input)?;
     let events = read_events(alloc, script.as_slice())?;
-    let mut world = World::new(alloc, settings(cap));
+    let mut world = World::new(alloc, settings);
     let outcomes = world.run(events.as_slice())?;
     match print_all(output, events.as_slice(), outcomes.as_slice()) {
         Ok(()) => Ok(()),
@@ -129,13 +117,4 @@ fn print_all<O: Write>(output: &mut O, events: &[Event], outcomes: &[Outcome]) -
 {
     print_outcomes(output, events, outcomes)?;
     output.flush()
-}
-
-// The program's lives, and this cap.
-fn settings(cap: u64) -> Settings
-    requires low { 1 ≤ cap }
-    requires high { cap ≤ greatest_cap }
-    ensures { result ≡ settings_of cap }
-{
-    Settings::new(CODE, ACCESS, REFRESH, FAMILY, cap).unwrap()
 }
