@@ -36,6 +36,7 @@ asked_by_type sort whole params (Some name) =
 abbrev pub is_printable : ℕ → Bool
 is_printable b = nat_le 32 b && nat_le b 126
 
+-- a state of such bytes, or none
 abbrev pub is_state : Option (List ℕ) → Bool
 is_state None = true
 is_state (Some text) = list_all is_printable text

@@ -66,6 +66,7 @@ decided_by place now words state (Approved target approval) = record {
   made = Some (body.CodeIssued (code_issued place now (code_handle (next_in place) words) target approval));
 }
 
+-- by the judgement and the state
 abbrev pub authorization_of : FactSet → Place → ℕ → List ℕ → RequestFields → Decision
 authorization_of F place now words request =
     decided_by place now words (kept_state (value_of (codes "state") request.params)) (judged_of F request.params request.subject)

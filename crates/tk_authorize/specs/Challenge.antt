@@ -32,6 +32,7 @@ read_challenge method text =
     else if not (is_verifier text) then Err denial.MalformedChallenge
     else Ok (challenge_of method text)
 
+-- by the method and the challenge that were sent
 abbrev pub challenge_sent : Sort → Option (List ℕ) → Option (List ℕ) → Result (Option ChallengeFields) Denial
 challenge_sent sort method None = without_challenge sort method
 challenge_sent sort method (Some text) = read_challenge (method_of method) text

@@ -22,6 +22,7 @@ abbrev pub judged_at : Target → Result Approval Denial → Judged
 judged_at target (Err why) = Denied target why
 judged_at target (Ok approval) = Approved target approval
 
+-- where the answer goes, and whether the request named it (RFC 6749, 4.1.3 asks for it again)
 abbrev pub target_of : Dot → List ℕ → Pairs → Target
 target_of client uri params = record { client = client; uri = uri; sent = is_some (value_of (codes "redirect_uri") params) }
 

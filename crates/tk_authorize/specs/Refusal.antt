@@ -5,6 +5,7 @@ use Rattle.tk_message.specs.declared.error_code.ErrorCode.TheVariants.{InvalidRe
 use Rattle.tk_authorize.specs.declared.refusal.Refusal.{Refusal}
 use Rattle.tk_authorize.specs.declared.refusal.Refusal.TheVariants as refusal
 
+-- all of them are bad requests
 abbrev pub refusal_code : Refusal → ErrorCode
 refusal_code refusal.DuplicateClientOrRedirect = InvalidRequest
 refusal_code refusal.MissingClient = InvalidRequest

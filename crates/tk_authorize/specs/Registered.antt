@@ -1,7 +1,7 @@
 -- Where the answer to an authorisation request may lead (RFC 6749, 3.1.2.3, 3.1.2.4 and 10.15).
---   IsRegistered    a URI is one of the live client's that the parameters name
---   IsAtRegistered  a location is such a URI with parameters in its query
---   LeadsToClient   a reply leads to such a location, or nowhere
+--   IsRegistered     a URI is one of the live client's that the parameters name
+--   IsAtRegistered   a location is such a URI with parameters in its query
+--   LeadsToClient    a reply leads to such a location, or nowhere
 use Rattle.std.specs.Prelude.{◌≡◌, ℕ, true, List, codes, Some, IfSome, Contains}
 use Rattle.std.specs.Option.{option_and_then}
 use Rattle.tk_handle.specs.declared.dot.Dot.{Dot}
