@@ -5,7 +5,7 @@ use Rattle.std.specs.Io.KnownBytes.{Appends}
 use Rattle.clap.specs.Words.{Text}
 use Rattle.tk_region.specs.SettingsFields.{SettingsFields}
 use Rattle.tokend.specs.Put.{AppendsFront}
-use Rattle.tokend.specs.Task.{Asks}
+use Rattle.tokend.specs.Task.{script_task, Asks}
 use Rattle.tokend.specs.ScriptRun.{IsScriptRun, PrintsScript, BeginsScript, IsScriptFault}
 use Rattle.tokend.specs.ProgramRun.{IsFaultFor}
 use Rattle.tokend.specs.declared.options.Task.{Task}
@@ -26,7 +26,7 @@ script_begun settings None script lines old new whole run begun = (lines, tt, be
 script_begun settings (Some bytes) script lines old new whole run begun = (lines, subst (λ s. IsScriptRun settings s lines) whole run, begun)
 
 -- a script's fault is the program's, where the words ask for a script
-pub script_fault : (words : List Text) (input : Option (List ℕ)) (settings : SettingsFields) → Asks words (Script settings)
+pub script_fault : (words : List Text) (input : Option (List ℕ)) (settings : SettingsFields) → Asks words (script_task settings)
     → (fault : Fault) → IsScriptFault input fault → IsFaultFor words input fault
 script_fault words input settings asks (Words error) h = absurd h
 script_fault words input settings asks CannotRead h = ((settings, asks), h)
@@ -38,4 +38,5 @@ script_fault words input settings asks Output h = tt
 pub faults_of_script : {T : Type 0} (words : List Text) (input : Option (List ℕ)) (task : Task) (r : Result T Fault) → Asks words task
     → IfErr r (IsScriptFault input) → IfErr r (IsFaultFor words input)
 faults_of_script words input task (Ok x) asks h = tt
-faults_of_script words input (Script settings) (Err fault) asks h = script_fault words input settings asks fault h
+faults_of_script words input (Script code access refresh family cap) (Err fault) asks h =
+    script_fault words input (record { code = code; access = access; refresh = refresh; family = family; cap = cap }) asks fault h

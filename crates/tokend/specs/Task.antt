@@ -1,4 +1,5 @@
 -- What the words of the command line ask for.
+--   IsScript       the numbers of a script; script_task, a script with settings
 --   Asks           a task
 --   AsksToShow     help, or the version
 --   IsRefusalOf    the kind of a fault in the words
@@ -7,15 +8,25 @@ use Rattle.std.specs.Prelude.{◌≡◌, ◌≢◌, ◌⊎◌, ⊤, List, [], Op
 use Rattle.clap.specs.Words.{Row, Text, IsAmong, fault_of, kind_of, subcommand_of}
 use Rattle.clap.specs.declared.error.kind.ErrorKind.{ErrorKind}
 use Rattle.clap.specs.declared.error.kind.ErrorKind.TheVariants.{DisplayHelp, DisplayVersion, InvalidValue, MissingSubcommand}
+use Rattle.tk_region.specs.SettingsFields.{SettingsFields}
 use Rattle.tokend.specs.CommandLine.{HasSettings, tokend_app}
 use Rattle.tokend.specs.declared.fault.Fault.{Fault}
 use Rattle.tokend.specs.declared.fault.Fault.TheVariants.{Memory, Words}
 use Rattle.tokend.specs.declared.options.Task.{Task}
 use Rattle.tokend.specs.declared.options.Task.TheVariants.{Script}
 
+-- the numbers of a script's settings
+abbrev pub IsScript : List Row → Task → Type 0
+IsScript rows (Script code access refresh family cap) =
+    HasSettings rows (record { code = code; access = access; refresh = refresh; family = family; cap = cap })
+
+-- a script with these settings
+abbrev pub script_task : SettingsFields → Task
+script_task s = Script s.code s.access s.refresh s.family s.cap
+
 -- the subcommand and its values
 abbrev pub IsTask : Option (Text × List Row) → Task → Type 0
-IsTask found (Script settings) = (rows : List Row) × (found ≡ Some (codes "script", rows)) × HasSettings rows settings
+IsTask found task = (rows : List Row) × (found ≡ Some (codes "script", rows)) × IsScript rows task
 
 -- they are no task's
 abbrev pub IsNoTask : Option (Text × List Row) → Type 0

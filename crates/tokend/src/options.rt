@@ -1,10 +1,10 @@
 ghost use Rattle.std.specs.Prelude.{◌≡◌, ◌⊎◌, ◌<◌, ◌^◌, ℕ, IfOk, IfErr, IfSome, IfNone, map, false};
-ghost use Rattle.clap.specs.Words.{app_of, rule_of, kind_of, rows_of, found_of, subcommand_rows_of};
+ghost use Rattle.clap.specs.Words.{app_of, kind_of, with_rule, rows_of, found_of, subcommand_rows_of};
 ghost use Rattle.clap.specs.declared.error.kind.ErrorKind.TheVariants as kind;
 ghost use Rattle.clap.specs.declared.builder.command.Command.TheViews.{out-Command};
-ghost use Rattle.tk_region.specs.SettingsFields.{SettingsFields};
-ghost use Rattle.tokend.specs.CommandLine.{script_app, tokend_app, number_rule, ReadsNumber, HasNumber, HasSettings};
-ghost use Rattle.tokend.specs.Task.{Asks, IsTask, IsNoTask, IsNoText, IsRefusalOf};
+ghost use Rattle.tokend.specs.CommandLine.{script_app, tokend_app, number_rule, ReadsNumber, HasNumber};
+ghost use Rattle.tokend.specs.Task.{Asks, IsScript, IsTask, IsNoTask, IsNoText, IsRefusalOf};
+ghost use Rattle.tokend.specs.declared.options.Task.{Task as TaskValue};
 
 use crate::fault::Fault;
 use clap::builder::ValueParser;
@@ -19,8 +19,15 @@ use tk_world::Settings;
 /// What the program is asked to do.
 #[derive(Clone, Copy, Debug, PartialEq, Eq)]
 pub enum Task {
-    /// Runs the lines of the standard input, in regions with these settings.
-    Script(Settings),
+    /// Runs the lines of the standard input, in regions where a code, an access token, a refresh token and a family live so
+    /// many seconds, and that make facts up to the serial `cap`. Each number is in the range of [`Settings`].
+    Script {
+        code: u64,
+        access: u64,
+        refresh: u64,
+        family: u64,
+        cap: u64,
+    },
 }
 
 /// What the words ask for, the first of them being the program's name. An error is a mistake in the words, a
@@ -72,32 +79,64 @@ fn script_command<'a>(alloc: Global) -> Result<Command<'a>, AllocError>
     let family = "How many seconds a code and all tokens that descend from it live";
     let cap = "The greatest serial of a fact that a region makes";
     let greatest_cap = "9223372036854775806";
-    Command::new(alloc, "script")
-        .about("Runs events, given as lines on the standard input")
-        .arg(number_arg(alloc, "code", code, Settings::GREATEST_CODE, "60"))?
-        .arg(number_arg(alloc, "access", access, Settings::GREATEST_ACCESS, "3600"))?
-        .arg(number_arg(alloc, "refresh", refresh, Settings::GREATEST_REFRESH, "86400"))?
-        .arg(number_arg(alloc, "family", family, Settings::GREATEST_FAMILY, "2592000"))?
-        .arg(number_arg(alloc, "cap", cap, Settings::GREATEST_CAP, greatest_cap))
+    let script = Command::new(alloc, "script").about(
+        "Runs events, given as lines on the standard input",
+    );
+    let script = with_number(alloc, script, "code", code, Settings::GREATEST_CODE, "60")?;
+    let script = with_number(
+        alloc,
+        script,
+        "access",
+        access,
+        Settings::GREATEST_ACCESS,
+        "3600",
+    )?;
+    let script = with_number(
+        alloc,
+        script,
+        "refresh",
+        refresh,
+        Settings::GREATEST_REFRESH,
+        "86400",
+    )?;
+    let script = with_number(
+        alloc,
+        script,
+        "family",
+        family,
+        Settings::GREATEST_FAMILY,
+        "2592000",
+    )?;
+    with_number(
+        alloc,
+        script,
+        "cap",
+        cap,
+        Settings::GREATEST_CAP,
+        greatest_cap,
+    )
 }
 
-// An option with a number from 1 to the greatest, and a default.
-fn number_arg<'a>(
+// The command with an option that takes a number from 1 to the greatest, and has a default.
+fn with_number<'a>(
     alloc: Global,
+    command: Command<'a>,
     id: &'a str,
     help: &'a str,
     greatest: u64,
     default: &'a str,
-) -> Arg<'a>
-    ensures rule { rule_of result ≡ number_rule id.entry.now default.entry.now greatest }
-    ensures local { result.global ≡ false }
+) -> Result<Command<'a>, AllocError>
+    requires { (out-Command command).has_globals ≡ false }
+    ensures rule { IfOk result (λ c. app_of c ≡ with_rule (app_of command.entry) (number_rule id.entry.now default.entry.now greatest)) }
+    ensures local { IfOk result (λ c. (out-Command c).has_globals ≡ false) }
 {
-    Arg::new(alloc, id)
+    let arg = Arg::new(alloc, id)
         .long(id)
         .value_name("N")
         .help(help)
         .value_parser(ValueParser::Unsigned(1, greatest))
-        .default_value(default)
+        .default_value(default);
+    command.arg(arg)
 }
 
 // What the matches say. A subcommand is always there, and so are its numbers: clap has seen to it.
@@ -106,22 +145,22 @@ fn read_matches(matches: &ArgMatches<'_>) -> Option<Task>
     ensures none { IfNone result (IsNoTask (subcommand_rows_of matches.now)) }
 {
     match matches.subcommand()? {
-        ("script", values) => Some(Task::Script(settings(values)?)),
+        ("script", values) => script(values),
         _ => None,
     }
 }
 
-fn settings(matches: &ArgMatches<'_>) -> Option<Settings>
-    ensures value { IfSome result (HasSettings (rows_of (found_of matches.now))) }
-    ensures none { IfNone result ((s : SettingsFields) → ¬ (HasSettings (rows_of (found_of matches.now)) s)) }
+fn script(matches: &ArgMatches<'_>) -> Option<Task>
+    ensures task { IfSome result (IsScript (rows_of (found_of matches.now))) }
+    ensures none { IfNone result ((task : TaskValue) → ¬ (IsScript (rows_of (found_of matches.now)) task)) }
 {
-    Settings::new(
-        number(matches, "code", Settings::GREATEST_CODE)?,
-        number(matches, "access", Settings::GREATEST_ACCESS)?,
-        number(matches, "refresh", Settings::GREATEST_REFRESH)?,
-        number(matches, "family", Settings::GREATEST_FAMILY)?,
-        number(matches, "cap", Settings::GREATEST_CAP)?,
-    )
+    Some(Task::Script {
+        code: number(matches, "code", Settings::GREATEST_CODE)?,
+        access: number(matches, "access", Settings::GREATEST_ACCESS)?,
+        refresh: number(matches, "refresh", Settings::GREATEST_REFRESH)?,
+        family: number(matches, "family", Settings::GREATEST_FAMILY)?,
+        cap: number(matches, "cap", Settings::GREATEST_CAP)?,
+    })
 }
 
 // A number within its range. Clap has tested the range, and its contract says so of the top level alone.

@@ -72,7 +72,18 @@ fn run<S: AsStr, I: Read, O: Write>(
     ensures left { IfErr result (λ fault. Leaves (map S.text words.now) (I.remaining input.old) fault (O.contents output.old) (O.contents output.new)) }
 {
     match options(alloc, words) {
-        Ok(Task::Script(settings)) => run_script(alloc, settings, input, output),
+        Ok(
+            Task::Script {
+                code,
+                access,
+                refresh,
+                family,
+                cap,
+            },
+        ) => match Settings::new(code, access, refresh, family, cap) {
+            Some(settings) => run_script(alloc, settings, input, output),
+            None => unreachable!(),
+        },
         Err(error) => match error.kind() {
             ErrorKind::DisplayHelp | ErrorKind::DisplayVersion => match show(output, &error) {
                 Ok(()) => Ok(()),

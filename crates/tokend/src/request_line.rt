@@ -17,11 +17,7 @@ use tk_message::{Endpoint, Params, Request};
 /// - `look R NOW ID`
 ///
 /// What is put into the body or the query of a whole line is put as it stands. An error where memory is refused.
-pub(crate) fn asked(
-    alloc: Global,
-    name: &str,
-    form: &[&str],
-) -> Result<Option<Request>, AllocError>
+pub(crate) fn asked(alloc: Global, name: &str, form: &[&str]) -> Result<Option<Request>, AllocError>
     ensures { IfOk result (λ request. request ≡ spec.asked_of name.now (texts form.now)) }
 {
     if name == "req" {

@@ -21,8 +21,12 @@ const SCRIPT_HELP: &str = "Runs events, given as lines on the standard input
 Usage: tokend script [OPTIONS]
 
 Options:
-      --cap <N>  The greatest serial of a fact that a region makes [default: 9223372036854775806]
-  -h, --help     Print help
+      --code <N>     How many seconds a code lives [default: 60]
+      --access <N>   How many seconds an access token lives [default: 3600]
+      --refresh <N>  How many seconds a refresh token lives [default: 86400]
+      --family <N>   How many seconds a code and all tokens that descend from it live [default: 2592000]
+      --cap <N>      The greatest serial of a fact that a region makes [default: 9223372036854775806]
+  -h, --help         Print help
 ";
 
 // A run with these words and a script of one region.
@@ -73,6 +77,32 @@ fn words_ask_for_a_script(rt: HostRuntime) -> Result<(), Fail> {
         asked(
             "the greatest cap",
             &["tokend", "script", "--cap", "9223372036854775806"],
+        ),
+        asked(
+            "the least lives",
+            &[
+                "tokend",
+                "script",
+                "--code",
+                "1",
+                "--access",
+                "1",
+                "--refresh",
+                "1",
+                "--family",
+                "1",
+            ],
+        ),
+        asked(
+            "the greatest lives",
+            &[
+                "tokend",
+                "script",
+                "--code=600",
+                "--access=86400",
+                "--refresh=31536000",
+                "--family=315360000",
+            ],
         ),
     ];
     run_rows(&rt, &rows)
@@ -143,8 +173,8 @@ For more information, try '--help'.
         ),
         refused(
             "an unknown option",
-            &["tokend", "script", "--code", "60"],
-            "error: unexpected argument '--code' found
+            &["tokend", "script", "--life", "60"],
+            "error: unexpected argument '--life' found
 
 Usage: tokend script [OPTIONS]
 
@@ -153,6 +183,26 @@ For more information, try '--help'.
         ),
     ];
     run_rows(&rt, &rows)
+}
+
+// A life that is too long, by its option, and its range.
+const LIVES: [(&str, &str, &str); 4] = [
+    ("--code", "601", "600"),
+    ("--access", "86401", "86400"),
+    ("--refresh", "31536001", "31536000"),
+    ("--family", "315360001", "315360000"),
+];
+
+#[test]
+fn lives_out_of_range_are_told(rt: HostRuntime) -> Result<(), Fail> {
+    for (option, life, greatest) in LIVES {
+        let told = format!(in rt.alloc();
+            "error: invalid value '{life}' for '{option} <N>': {life} is not in 1..={greatest}\n\nFor more information, try '--help'.\n"
+        )?;
+        let words = ["tokend", "script", option, life];
+        run_rows(&rt, &[refused(option, &words, told.as_str())])?;
+    }
+    Ok(())
 }
 
 #[test]

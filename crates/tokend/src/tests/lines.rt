@@ -17,13 +17,25 @@ static FORMS: [(&str, &[u8]); 31] = [
         b"req 1 1000 GET /authorize - - - -",
     ),
     ("another path", b"req 1 1000 GET /nothing - - -"),
-    ("a path with a slash behind", b"req 1 1000 GET /authorize/ - - -"),
+    (
+        "a path with a slash behind",
+        b"req 1 1000 GET /authorize/ - - -",
+    ),
     ("a path in capitals", b"req 1 1000 GET /Authorize - - -"),
-    ("a path with an escape", b"req 1 1000 GET /%61uthorize - - -"),
+    (
+        "a path with an escape",
+        b"req 1 1000 GET /%61uthorize - - -",
+    ),
     ("no path", b"req 1 1000 GET ?client_id=c1-1 - - -"),
     ("a target that is a dash", b"req 1 1000 GET - - - -"),
-    ("a method in small letters", b"req 1 1000 get /authorize - - -"),
-    ("another method", b"req 1 1000 PUT /admin/client - - kind=public"),
+    (
+        "a method in small letters",
+        b"req 1 1000 get /authorize - - -",
+    ),
+    (
+        "another method",
+        b"req 1 1000 PUT /admin/client - - kind=public",
+    ),
     (
         "an authorisation by POST",
         b"req 1 1000 POST /authorize - - client_id=c1-1",
@@ -32,8 +44,14 @@ static FORMS: [(&str, &[u8]); 31] = [
         "a retirement by GET",
         b"req 1 1000 GET /admin/retire?client_id=c1-1 - - -",
     ),
-    ("a token request", b"req 1 1000 POST /token - - grant_type=x"),
-    ("an introspection", b"req 1 1000 POST /introspect - - token=x"),
+    (
+        "a token request",
+        b"req 1 1000 POST /token - - grant_type=x",
+    ),
+    (
+        "an introspection",
+        b"req 1 1000 POST /introspect - - token=x",
+    ),
     ("a revocation", b"req 1 1000 POST /revoke - - token=x"),
     ("client with too few fields", b"client 1 1000 public - read"),
     (

@@ -159,7 +159,10 @@ fn short_lines_stand_for_whole_ones(rt: HostRuntime) -> Result<(), Fail> {
     for (name, short, whole) in SHORT {
         let one = told(&rt, short)?;
         let other = told(&rt, whole)?;
-        assert!(rt; one.as_slice().starts_with(b"opened 1\nreply 201 "), "{name}");
+        assert!(rt;
+            one.as_slice().starts_with(b"opened 1\nreply 201 "),
+            "{name}"
+        );
         assert_eq!(rt; one.as_slice(), other.as_slice(), "{name}");
     }
     Ok(())

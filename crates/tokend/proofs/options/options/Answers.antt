@@ -1,5 +1,7 @@
-use Rattle.std.proofs.Common.{rules, map, inr}
-use Rattle.clap.specs.Words.{app_of}
+use Rattle.std.proofs.Common.{◌≡◌, rules, map, inr, subst}
+use Rattle.clap.specs.Words.{app_of, subcommand_of, subcommand_rows_of}
+use Rattle.tokend.specs.CommandLine.{tokend_app}
+use Rattle.tokend.specs.Task.{IsNoTask}
 use Rattle.tokend.proofs.Tasks.{fails_by, refused_by}
 use Rattle.tokend.proofs.options.options.Goals as goal
 
@@ -16,4 +18,6 @@ returns-in-Some-clause-task g c =
 pub returns-clause-refused : goal.returns-clause-refused
 returns-clause-refused g c =
     let fails = fails_by (app_of c.in_ok-command.command) (map g.S.AsStr.text c.args.words.now) c.try_get_matches_from_mut.result (search rules) c.try_get_matches_from_mut.ensures.kinds in
-    inr (inr (search rules, search rules, search rules))
+    let same : subcommand_rows_of c.in_ok-matches.matches ≡ subcommand_of tokend_app (map g.S.AsStr.text c.args.words.now) = search rules in
+    let none : IsNoTask (subcommand_rows_of c.in_ok-matches.matches) = search rules in
+    inr (inr (search rules, search rules, subst IsNoTask same none))
