@@ -2,7 +2,7 @@
 --   open_step, request_step, pull_step, deliver_step   what each part ends with is a step
 --   held_at, region_at, sorted_after, settings_after, state_after   what stands at a place, and what a write there does to the fields
 --   ended, ended_keeps                                 the end of each method of the world
-use Rattle.std.proofs.Common.{◌≡◌, ℕ, T, List, [], ◌∷◌, take, slice_get, get_or, set, Option, Some, None, IsSome, IfSome, is_some, cond, true, false, refl, sym, ap, subst, ◌∙◌}
+use Rattle.std.proofs.Common.{◌≡◌, ℕ, T, List, [], take, slice_get, get_or, set, Option, Some, None, IsSome, IfSome, is_some, cond, true, false, refl, sym, ap, subst, ◌∙◌}
 use Rattle.std.specs.List.{insert}
 use Rattle.std.specs.Ordering.{nat_cmp, eq_by_cmp, is_eq}
 use Rattle.std.specs.declared.cmp.Ordering.{Ordering}

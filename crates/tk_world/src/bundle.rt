@@ -43,7 +43,6 @@ impl MadeBundle {
     {
         spelling(&self.bytes)
     }
-
 }
 
 // Bytes that spell a bundle are the spelling of its facts.

@@ -7,12 +7,7 @@ use tk_handle::{Moment, RegionNumber};
 use tk_message::{Endpoint, Params, Payload, Request};
 use tk_vector::VersionVector;
 
-fn ask(
-    alloc: Global,
-    region: RegionNumber,
-    endpoint: Endpoint,
-    form: &str,
-) -> Result<Event, Fail> {
+fn ask(alloc: Global, region: RegionNumber, endpoint: Endpoint, form: &str) -> Result<Event, Fail> {
     let request = Request {
         endpoint,
         params: Params::read(alloc, form.as_bytes())?,
@@ -58,7 +53,10 @@ fn a_registration_is_shown(rt: HostRuntime) -> Result<(), Fail> {
     events.push(ask(alloc, one, Endpoint::ShowClient, "client_id=c1-1")?)?;
     let outcomes = world.run(events.as_slice())?;
     assert_eq!(rt; outcomes.len(), 3);
-    assert!(rt; is_reply(outcomes.get(1), 201, "{\"client_id\":\"c1-1\"}"), "added");
+    assert!(rt;
+        is_reply(outcomes.get(1), 201, "{\"client_id\":\"c1-1\"}"),
+        "added"
+    );
     let shown = "{\"client_id\":\"c1-1\",\"kind\":\"public\",\"live\":true,\"scope\":\"read\"}";
     assert!(rt; is_reply(outcomes.get(2), 200, shown), "shown");
     Ok(())

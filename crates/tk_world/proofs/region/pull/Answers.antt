@@ -1,4 +1,4 @@
-use Rattle.std.proofs.Common.{IfOk, subst, sym, ◌∙◌}
+use Rattle.std.proofs.Common.{IfOk, subst, ◌∙◌}
 use Rattle.tk_store.specs.Store.{Store}
 use Rattle.tk_bundle.specs.Page as pages
 use Rattle.tk_world.proofs.region.pull.Goals as goal

@@ -1,9 +1,5 @@
 use Rattle.std.proofs.Common.{rules}
 use Rattle.std.proofs.lemmas.List.Sorted.{answers_always}
-use Rattle.std.specs.Ordering.{nat_cmp}
-use Rattle.std.specs.Cmp.{nat_cmp_total}
-use Rattle.tk_handle.proofs.SortedEntriesLaws.{searched}
-use Rattle.tk_world.specs.Regions.{entries_of}
 use Rattle.tk_world.proofs.RegionLaws.{searched_entries}
 use Rattle.tk_world.proofs.world.find_region.Goals as goal
 

@@ -1,4 +1,4 @@
-use Rattle.std.proofs.Common.{[], ap, sym, subst, ◌∙◌, refl, is_some}
+use Rattle.std.proofs.Common.{[], ap, sym, ◌∙◌, refl, is_some}
 use Rattle.std.specs.FinMap as map
 use Rattle.tk_world.specs.declared.event.Event.TheVariants.{Open}
 use Rattle.tk_world.proofs.PartLaws.{world, open_step, sorted_new, settings_new, found_at, ended, ended_keeps}
