@@ -40,10 +40,10 @@ impl Model for Request {
     ghost Value = { RequestFields };
 
     ghost view = { λ r. record {
-        endpoint = r.endpoint;
-        params = r.params;
-        authorization = option_map (λ v. v.items) r.authorization;
-        subject = option_map (λ v. v.items) r.subject;
+      endpoint = r.endpoint;
+      params = r.params;
+      authorization = option_map (λ v. v.items) r.authorization;
+      subject = option_map (λ v. v.items) r.subject;
     } };
 }
 
