@@ -1,5 +1,9 @@
 //! The texts of replies, byte for byte, and the names and numbers in them.
 
+mod authentication;
+mod replies;
+mod requests;
+
 use crate::{Decision, ErrorCode, Lives, Payload, Place, Reply, Status, client_reply, shown_reply};
 use std::alloc::Global;
 use std::process::Abort;
