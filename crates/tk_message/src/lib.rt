@@ -1,12 +1,15 @@
-//! What requests are answered with: statuses, error codes, replies and decisions.
+//! Requests, who sends them, and what they are answered with.
 //!
-//! A `Reply` is a `Status`, perhaps a place to be sent to, and a `Payload`. An `ErrorCode` says how an error is called and
-//! with which status it goes. Each JSON body is a value, stated once in specs/Bodies.antt and written by one function;
-//! no other crate makes JSON. A `Decision` is a reply and the fact that a request makes, if any; a `Place` is where it
-//! would stand, and how long what is issued lasts. What is decided, and in which order, is said above.
+//! A `Request` is sent to an `Endpoint`, with the parameters and credentials of tk_params; `authenticate` says which client
+//! credentials prove, and `scope_asked` which scope a request asks for. A `Reply` is a `Status`, perhaps a place to be sent
+//! to, and a `Payload`. An `ErrorCode` says how an error is called and with which status it goes. Each JSON body is a value,
+//! stated once in specs/Bodies.antt and written by one function; no other crate makes JSON. A `Decision` is a reply and the
+//! fact that a request makes, if any; a `Place` is where it would stand, and how long what is issued lasts. What is decided,
+//! and in which order, is said above.
 //!
-//! In reading order: `Status`, `ErrorCode`, `Reply`, `Lives`, `Place`, `Decision`. The definitions are in specs/, one file
-//! for each of them.
+//! In reading order: `Endpoint`, `Request`, `Auth`, `scope_asked`, `Status`, `ErrorCode`, `Reply`, `Lives`, `Place`,
+//! `Decision`. The definitions are in specs/, beside the file of their name: `RequestFields`, `Authentication`, `ScopeAsked`,
+//! `Status`, `ErrorCode`, `Bodies`, `ReplyFields`, `Reply`, `Place`, `Decision`.
 #![tactic(auto)]
 
 mod authentication;
