@@ -10,9 +10,7 @@ use crate::administered::{Administered, administer};
 use std::alloc::{AllocError, Global};
 use tk_fact::{Body, ClientRetired, ConsentWithdrawn};
 use tk_ledger::Ledger;
-use tk_message::{
-    Decision, Place, Request, Status, client_reply, consent_reply, shown_reply,
-};
+use tk_message::{Decision, Place, Request, Status, client_reply, consent_reply, shown_reply};
 
 /// What an administration request is answered, and the fact that it makes: clients added, shown and retired, consents
 /// given and withdrawn (own). A request to another endpoint is `not_found`. An error where memory is refused.
