@@ -8,6 +8,7 @@ mod facts;
 mod grants;
 mod kept;
 mod refusals;
+mod registrations;
 
 use crate::{decide_admin, decide_authorize};
 use std::alloc::Global;

@@ -9,9 +9,9 @@ use tk_fact::Body;
 use tk_ledger::Ledger;
 use tk_message::{Decision, Endpoint, Payload};
 
-// The kind of fact that is made, and for an end the client or the consent that it ends.
+/// The kind of fact that is made, and for an end the client or the consent that it ends.
 #[derive(Clone, Copy)]
-enum Makes {
+pub(super) enum Makes {
     Nothing,
     Client,
     Consent,
@@ -19,213 +19,22 @@ enum Makes {
     Withdrawal(At),
 }
 
-// The status, the body, and what is made.
-type Answer = (u16, &'static str, Makes);
+/// The status, the body, and what is made.
+pub(super) type Answer = (u16, &'static str, Makes);
 
-const BAD_REQUEST: Answer = (400, "{\"error\":\"invalid_request\"}", Makes::Nothing);
+pub(super) const BAD_REQUEST: Answer = (400, "{\"error\":\"invalid_request\"}", Makes::Nothing);
 
-const BAD_SCOPE: Answer = (400, "{\"error\":\"invalid_scope\"}", Makes::Nothing);
+pub(super) const BAD_SCOPE: Answer = (400, "{\"error\":\"invalid_scope\"}", Makes::Nothing);
 
 const NOT_FOUND: Answer = (404, "{\"error\":\"not_found\"}", Makes::Nothing);
 
 // The next dot is region 1, serial 3.
-const ADDED: Answer = (201, "{\"client_id\":\"c1-3\"}", Makes::Client);
+pub(super) const ADDED: Answer = (201, "{\"client_id\":\"c1-3\"}", Makes::Client);
 
 const CONSENTED: Answer = (201, "{\"consent_id\":\"g1-3\"}", Makes::Consent);
 
-// What a request is called, its parameters, and its answer.
-type Row = (&'static str, &'static str, Answer);
-
-// A row with several faults tells the first; only a bad scope has an answer of its own.
-const REGISTRATIONS: [Row; 39] = [
-    (
-        "a public client",
-        "kind=public&scope=read&redirects=https://app.example/cb",
-        ADDED,
-    ),
-    (
-        "a client with a secret",
-        "kind=confidential&scope=read&redirects=https://app.example/cb&secret=abc",
-        ADDED,
-    ),
-    (
-        "a resource server",
-        "kind=resource&scope=read&redirects=https://app.example/cb&secret=%21%7E",
-        ADDED,
-    ),
-    (
-        "a secret without a value, which is none",
-        "kind=public&scope=read&redirects=https://app.example/cb&secret=",
-        ADDED,
-    ),
-    (
-        "two URIs",
-        "kind=public&scope=read&redirects=https://app.example/cb+app:/cb",
-        ADDED,
-    ),
-    (
-        "parameters that aren't known, twice",
-        "client_id=1&client_id=2&kind=public&scope=read&redirects=https://app.example/cb",
-        ADDED,
-    ),
-    (
-        "the kind twice",
-        "kind=public&kind=public&scope=read&redirects=https://app.example/cb",
-        BAD_REQUEST,
-    ),
-    (
-        "the secret twice",
-        "kind=resource&secret=abc&secret=abc&scope=read&redirects=https://app.example/cb",
-        BAD_REQUEST,
-    ),
-    (
-        "the scope twice",
-        "kind=public&scope=read&scope=read&redirects=https://app.example/cb",
-        BAD_REQUEST,
-    ),
-    (
-        "the URIs twice",
-        "kind=public&scope=read&redirects=https://app.example/cb&redirects=https://app.example/cb",
-        BAD_REQUEST,
-    ),
-    (
-        "the kind twice before the scope",
-        "kind=public&kind=public&scope=read++write&redirects=https://app.example/cb",
-        BAD_REQUEST,
-    ),
-    (
-        "no kind",
-        "scope=read&redirects=https://app.example/cb",
-        BAD_REQUEST,
-    ),
-    (
-        "no scope",
-        "kind=public&redirects=https://app.example/cb",
-        BAD_REQUEST,
-    ),
-    ("no URIs", "kind=public&scope=read", BAD_REQUEST),
-    (
-        "no URIs before the scope",
-        "kind=public&scope=read++write",
-        BAD_REQUEST,
-    ),
-    ("no parameter", "", BAD_REQUEST),
-    (
-        "a kind without a value",
-        "kind=&scope=read&redirects=https://app.example/cb",
-        BAD_REQUEST,
-    ),
-    (
-        "a scope without a value",
-        "kind=public&scope=&redirects=https://app.example/cb",
-        BAD_REQUEST,
-    ),
-    (
-        "URIs without a value",
-        "kind=public&scope=read&redirects=",
-        BAD_REQUEST,
-    ),
-    (
-        "another kind",
-        "kind=native&scope=read&redirects=https://app.example/cb",
-        BAD_REQUEST,
-    ),
-    (
-        "a kind in capitals",
-        "kind=Public&scope=read&redirects=https://app.example/cb",
-        BAD_REQUEST,
-    ),
-    (
-        "another kind before the scope",
-        "kind=native&scope=read++write&redirects=https://app.example/cb",
-        BAD_REQUEST,
-    ),
-    (
-        "a public client with a secret",
-        "kind=public&secret=abc&scope=read&redirects=https://app.example/cb",
-        BAD_REQUEST,
-    ),
-    (
-        "a public client with a secret before the scope",
-        "kind=public&secret=abc&scope=read++write&redirects=https://app.example/cb",
-        BAD_REQUEST,
-    ),
-    (
-        "a confidential client without a secret",
-        "kind=confidential&scope=read&redirects=https://app.example/cb",
-        BAD_REQUEST,
-    ),
-    (
-        "a resource server without a secret",
-        "kind=resource&scope=read&redirects=https://app.example/cb",
-        BAD_REQUEST,
-    ),
-    (
-        "a secret that was to be there, without a value",
-        "kind=confidential&secret=&scope=read&redirects=https://app.example/cb",
-        BAD_REQUEST,
-    ),
-    (
-        "a secret with a space",
-        "kind=confidential&secret=a+b&scope=read&redirects=https://app.example/cb",
-        BAD_REQUEST,
-    ),
-    (
-        "a secret with a delete",
-        "kind=resource&secret=a%7F&scope=read&redirects=https://app.example/cb",
-        BAD_REQUEST,
-    ),
-    (
-        "a secret beyond ASCII, before the scope",
-        "kind=resource&secret=%C3%A9&scope=read++write&redirects=https://app.example/cb",
-        BAD_REQUEST,
-    ),
-    (
-        "two spaces in the scope",
-        "kind=public&scope=read++write&redirects=https://app.example/cb",
-        BAD_SCOPE,
-    ),
-    (
-        "a quote in the scope",
-        "kind=public&scope=%22read%22&redirects=https://app.example/cb",
-        BAD_SCOPE,
-    ),
-    (
-        "the scope before the URIs",
-        "kind=public&scope=read++write&redirects=/cb",
-        BAD_SCOPE,
-    ),
-    (
-        "two spaces between URIs",
-        "kind=public&scope=read&redirects=https://app.example/cb++app:/cb",
-        BAD_REQUEST,
-    ),
-    (
-        "a space behind a URI",
-        "kind=public&scope=read&redirects=https://app.example/cb+",
-        BAD_REQUEST,
-    ),
-    (
-        "a relative URI",
-        "kind=public&scope=read&redirects=https://app.example/cb+/cb",
-        BAD_REQUEST,
-    ),
-    (
-        "a URI with a fragment",
-        "kind=public&scope=read&redirects=https://app.example/cb%23top",
-        BAD_REQUEST,
-    ),
-    (
-        "eight URIs",
-        "kind=public&scope=read&redirects=a:b+a:b+a:b+a:b+a:b+a:b+a:b+a:b",
-        ADDED,
-    ),
-    (
-        "nine URIs",
-        "kind=public&scope=read&redirects=a:b+a:b+a:b+a:b+a:b+a:b+a:b+a:b+a:b",
-        BAD_REQUEST,
-    ),
-];
+/// What a request is called, its parameters, and its answer.
+pub(super) type Row = (&'static str, &'static str, Answer);
 
 // What is the same of the clients that are shown and retired.
 const IDS: [Row; 9] = [
@@ -443,6 +252,8 @@ const WITHDRAWN: [Row; 9] = [
     ),
 ];
 
+const ELSEWHERE: [Row; 1] = [("another endpoint", "client_id=c1-1", NOT_FOUND)];
+
 fn is_made(made: &Option<Body>, makes: Makes) -> Result<bool, Fail> {
     Ok(match (made, makes) {
         (None, Makes::Nothing) => true,
@@ -476,7 +287,7 @@ fn is_answered(
     Ok(())
 }
 
-fn are_answered(
+pub(super) fn are_answered(
     rt: &impl Abort,
     alloc: Global,
     ledger: &Ledger,
@@ -491,18 +302,48 @@ fn are_answered(
 }
 
 #[test]
-fn each_request_has_its_answer(rt: HostRuntime) -> Result<(), Fail> {
+fn a_client_is_named_by_its_id(rt: HostRuntime) -> Result<(), Fail> {
     let alloc = rt.alloc();
     let ledger = ledger(alloc)?;
-    are_answered(&rt, alloc, &ledger, Endpoint::AddClient, &REGISTRATIONS)?;
-    are_answered(&rt, alloc, &ledger, Endpoint::ShowClient, &IDS)?;
-    are_answered(&rt, alloc, &ledger, Endpoint::ShowClient, &SHOWN)?;
-    are_answered(&rt, alloc, &ledger, Endpoint::Retire, &IDS)?;
-    are_answered(&rt, alloc, &ledger, Endpoint::Retire, &RETIRED)?;
-    are_answered(&rt, alloc, &ledger, Endpoint::Consent, &CONSENTS)?;
-    are_answered(&rt, alloc, &ledger, Endpoint::Withdraw, &WITHDRAWN)?;
-    let row = ("another endpoint", "client_id=c1-1", NOT_FOUND);
-    are_answered(&rt, alloc, &ledger, Endpoint::Authorize, &[row])
+    for endpoint in [Endpoint::ShowClient, Endpoint::Retire] {
+        are_answered(&rt, alloc, &ledger, endpoint, &IDS)?;
+    }
+    Ok(())
+}
+
+#[test]
+fn clients_are_shown(rt: HostRuntime) -> Result<(), Fail> {
+    let alloc = rt.alloc();
+    let ledger = ledger(alloc)?;
+    are_answered(&rt, alloc, &ledger, Endpoint::ShowClient, &SHOWN)
+}
+
+#[test]
+fn clients_are_retired_once(rt: HostRuntime) -> Result<(), Fail> {
+    let alloc = rt.alloc();
+    let ledger = ledger(alloc)?;
+    are_answered(&rt, alloc, &ledger, Endpoint::Retire, &RETIRED)
+}
+
+#[test]
+fn consents_are_given(rt: HostRuntime) -> Result<(), Fail> {
+    let alloc = rt.alloc();
+    let ledger = ledger(alloc)?;
+    are_answered(&rt, alloc, &ledger, Endpoint::Consent, &CONSENTS)
+}
+
+#[test]
+fn consents_are_withdrawn_once(rt: HostRuntime) -> Result<(), Fail> {
+    let alloc = rt.alloc();
+    let ledger = ledger(alloc)?;
+    are_answered(&rt, alloc, &ledger, Endpoint::Withdraw, &WITHDRAWN)
+}
+
+#[test]
+fn another_endpoint_is_not_found(rt: HostRuntime) -> Result<(), Fail> {
+    let alloc = rt.alloc();
+    let ledger = ledger(alloc)?;
+    are_answered(&rt, alloc, &ledger, Endpoint::Authorize, &ELSEWHERE)
 }
 
 // What stands before a value of so many letters, and the answer.
