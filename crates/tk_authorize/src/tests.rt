@@ -1,13 +1,16 @@
 //! Requests by tables, with the exact reply to each and the fact that it makes.
 //!
-//! Each is decided at region 1, whose next fact stands at serial 3, with the words 18 to 23.
+//! Each is decided at region 1, whose next fact stands at serial 3; what is authorised with the words 18 to 23.
 
+mod administration;
 mod denials;
 mod facts;
 mod grants;
+mod kept;
 mod refusals;
+mod registrations;
 
-use crate::decide_authorize;
+use crate::{decide_admin, decide_authorize};
 use std::alloc::Global;
 use std::process::Abort;
 use std::test::Fail;
@@ -69,6 +72,23 @@ fn decided(
 ) -> Result<Decision, Fail> {
     let request = request(alloc, query, subject)?;
     decided_at(alloc, ledger, &place(60, 2_592_000)?, 1_000, &request)
+}
+
+// A request of an administrator's, which no life, moment or word is asked for.
+fn administer(
+    alloc: Global,
+    ledger: &Ledger,
+    endpoint: Endpoint,
+    form: &str,
+) -> Result<Decision, Fail> {
+    let params = Params::read(alloc, form.as_bytes())?;
+    let request = Request {
+        endpoint,
+        params,
+        authorization: None,
+        subject: None,
+    };
+    Ok(decide_admin(alloc, ledger, &place(60, 2_592_000)?, &request)?)
 }
 
 // A redirect to the URI, which carries nothing else.
