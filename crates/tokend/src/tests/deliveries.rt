@@ -3,11 +3,7 @@
 use super::{printed, run_row};
 use std::test::Fail;
 
-#[test]
-fn a_lost_bundle(rt: HostRuntime) -> Result<(), Fail> {
-    let row = printed(
-        "a bundle that reaches one of two regions",
-        b"open 1
+const LOST: &[u8] = b"open 1
 open 2
 open 3
 client 1 1000 public - read https://app.example/cb
@@ -41,8 +37,9 @@ pull 3 - -
 deliver 4 2
 look 2 1012 c1-1
 pull 2 - -
-",
-        r#"opened 1
+";
+
+const LOST_TOLD: &str = r#"opened 1
 opened 2
 opened 3
 reply 201 {"client_id":"c1-1"}
@@ -70,16 +67,17 @@ bundle 4 2 1:2 end
 took 1
 reply 200 {"client_id":"c1-1","kind":"public","live":true,"scope":"read"}
 bundle 5 5 2:2 end
-"#,
-    );
-    run_row(&rt, &row)
-}
+"#;
 
 #[test]
-fn a_late_bundle(rt: HostRuntime) -> Result<(), Fail> {
-    let row = printed(
-        "a bundle that comes after one that holds more",
-        b"open 1
+fn a_lost_bundle(rt: HostRuntime) -> Result<(), Fail> {
+    run_row(
+        &rt,
+        &printed("a bundle that reaches one of two regions", LOST, LOST_TOLD),
+    )
+}
+
+const LATE: &[u8] = b"open 1
 open 2
 client 1 1000 public - read https://app.example/cb
 pull 1 - -
@@ -100,8 +98,9 @@ client 2 1007 public - read https://app.example/cb
 # Bundle 0 is as old in region 1, which made it.
 deliver 0 1
 look 1 1008 c1-1
-",
-        r#"opened 1
+";
+
+const LATE_TOLD: &str = r#"opened 1
 opened 2
 reply 201 {"client_id":"c1-1"}
 bundle 0 1 1:1 end
@@ -119,16 +118,21 @@ bundle 3 3 1:3 end
 reply 201 {"client_id":"c2-1"}
 took 0
 reply 200 {"client_id":"c1-1","kind":"public","live":false,"scope":"read"}
-"#,
-    );
-    run_row(&rt, &row)
-}
+"#;
 
 #[test]
-fn bundles_out_of_order_and_repeated(rt: HostRuntime) -> Result<(), Fail> {
-    let row = printed(
-        "a retirement before its client, and each of them again",
-        b"open 1
+fn a_late_bundle(rt: HostRuntime) -> Result<(), Fail> {
+    run_row(
+        &rt,
+        &printed(
+            "a bundle that comes after one that holds more",
+            LATE,
+            LATE_TOLD,
+        ),
+    )
+}
+
+const REORDERED: &[u8] = b"open 1
 open 2
 open 3
 client 1 1000 public - read https://app.example/cb
@@ -159,8 +163,9 @@ look 1 1008 c1-1
 deliver 3 1
 look 1 1009 c1-1
 deliver 3 1
-",
-        r#"opened 1
+";
+
+const REORDERED_TOLD: &str = r#"opened 1
 opened 2
 opened 3
 reply 201 {"client_id":"c1-1"}
@@ -186,7 +191,16 @@ reply 200 {"client_id":"c1-1","kind":"public","live":true,"scope":"read"}
 took 2
 reply 200 {"client_id":"c1-1","kind":"public","live":false,"scope":"read"}
 took 0
-"#,
-    );
-    run_row(&rt, &row)
+"#;
+
+#[test]
+fn bundles_out_of_order_and_repeated(rt: HostRuntime) -> Result<(), Fail> {
+    run_row(
+        &rt,
+        &printed(
+            "a retirement before its client, and each of them again",
+            REORDERED,
+            REORDERED_TOLD,
+        ),
+    )
 }
