@@ -78,7 +78,7 @@ const NAMED: [(&str, &[u8], &str, One<'static>); 28] = [
         One::Value("b&c=d"),
     ),
     ("no code", b"a=%&b=%4&c=%zz", "c", One::Value("%zz")),
-    ("UTF-8", b"a=%C3%A9", "a", One::Value("\u{e9}")),
+    ("UTF-8", b"a=%c3%a9", "a", One::Value("\u{e9}")),
     (
         "no UTF-8",
         b"a=\xff%c3(",

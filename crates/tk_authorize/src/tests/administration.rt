@@ -195,7 +195,7 @@ const CONSENTS: [Row; 24] = [
     ),
     (
         "a subject beyond ASCII, before the scope",
-        "client_id=c1-1&subject=%C3%A9&scope=admin",
+        "client_id=c1-1&subject=%c3%a9&scope=admin",
         BAD_REQUEST,
     ),
     (

@@ -41,7 +41,7 @@ const ROWS: [(&str, &str, &str); 22] = [
     ),
     (
         "a state beyond ASCII",
-        "response_type=token&state=%C3%A9",
+        "response_type=token&state=%c3%a9",
         "invalid_request",
     ),
     (
