@@ -217,6 +217,9 @@ withdrawn_of F params =
 
 abbrev pub administered_at : Endpoint → FactSet → Pairs → Administered
 administered_at endpoint.Authorize F params = Refused UnknownEndpoint
+administered_at endpoint.Token F params = Refused UnknownEndpoint
+administered_at endpoint.Introspect F params = Refused UnknownEndpoint
+administered_at endpoint.Revoke F params = Refused UnknownEndpoint
 administered_at endpoint.AddClient F params = registered_of params
 administered_at endpoint.ShowClient F params = shown_of F params
 administered_at endpoint.Retire F params = retired_of F params

@@ -3,13 +3,18 @@
 --   client_body    {"client_id":ID} (own)
 --   consent_body   {"consent_id":ID} (own)
 --   shown_body     {"client_id":ID,"kind":KIND,"live":LIVE,"scope":SCOPE} (own)
+--   token_body     an access and a refresh token (RFC 6749, 5.1)
+--   access_body    what is said of an active access token; refresh_body, of a refresh token (RFC 7662, 2.2)
+--   inactive_body  what is said of any other token (RFC 7662, 2.2)
 --   IsWritable     a value that has one text: it holds no floating-point number
-use Rattle.std.specs.Prelude.{◌≡◌, ℕ, Bool, false, List, codes}
-use Rattle.serde_json.specs.Data.{Data, string, boolean, object, member, no_members}
+use Rattle.std.specs.Prelude.{◌≡◌, ℕ, Bool, true, false, List, codes}
+use Rattle.serde_json.specs.Data.{Data, string, boolean, number, unsigned, object, member, no_members}
 use Rattle.serde_json.specs.Written.{has_float}
 use Rattle.tk_handle.specs.declared.dot.Dot.{Dot}
 use Rattle.tk_handle.specs.ClientId.{client_text}
 use Rattle.tk_handle.specs.ConsentId.{consent_text}
+use Rattle.tk_handle.specs.declared.handle.Handle.{Handle}
+use Rattle.tk_handle.specs.Handle.{handle_text}
 use Rattle.tk_fact.specs.declared.sort.Sort.{Sort}
 use Rattle.tk_fact.specs.declared.sort.Sort.TheVariants.{Public, Confidential, Resource}
 
@@ -37,3 +42,36 @@ shown_body client sort live scope = object
     (member (codes "kind") (string (kind_name sort))
     (member (codes "live") (boolean live)
     (member (codes "scope") (string scope) no_members))))
+
+-- both tokens, how many seconds the access token lasts, and its scope (RFC 6749, 5.1 and 7.1)
+abbrev pub token_body : Handle → ℕ → Handle → List ℕ → Data
+token_body access lifetime refresh scope = object
+    (member (codes "access_token") (string (handle_text access))
+    (member (codes "expires_in") (number (unsigned lifetime))
+    (member (codes "refresh_token") (string (handle_text refresh))
+    (member (codes "scope") (string scope)
+    (member (codes "token_type") (string (codes "Bearer")) no_members)))))
+
+-- the client, the token's end and start, its scope and its subject (RFC 7662, 2.2)
+abbrev pub access_body : Dot → ℕ → ℕ → List ℕ → List ℕ → Data
+access_body client expiry start scope subject = object
+    (member (codes "active") (boolean true)
+    (member (codes "client_id") (string (client_text client))
+    (member (codes "exp") (number (unsigned expiry))
+    (member (codes "iat") (number (unsigned start))
+    (member (codes "scope") (string scope)
+    (member (codes "sub") (string subject)
+    (member (codes "token_type") (string (codes "Bearer")) no_members)))))))
+
+-- the same; a refresh token is of no type of access token (RFC 7662, 2.2; RFC 6749, 7.1)
+abbrev pub refresh_body : Dot → ℕ → ℕ → List ℕ → List ℕ → Data
+refresh_body client expiry start scope subject = object
+    (member (codes "active") (boolean true)
+    (member (codes "client_id") (string (client_text client))
+    (member (codes "exp") (number (unsigned expiry))
+    (member (codes "iat") (number (unsigned start))
+    (member (codes "scope") (string scope)
+    (member (codes "sub") (string subject) no_members))))))
+
+abbrev pub inactive_body : Data
+inactive_body = object (member (codes "active") (boolean false) no_members)

@@ -1,6 +1,7 @@
 -- The words of this crate:
 --   RequestFields    what contracts see of a request
 --   Authentication   authenticated, the client that credentials prove
+--   Caller           caller_of, who sends a request where a client has to prove who it is
 --   ScopeAsked       scope_asked, the scope that a request asks for
 --   Status           status_number, the number of a status
 --   ErrorCode        error_row, the status and the name of an error code
@@ -11,6 +12,7 @@
 --   Place            next_in, where the next fact stands
 pub mod Authentication
 pub mod Bodies
+pub mod Caller
 pub mod Decision
 pub mod ErrorCode
 pub mod Place

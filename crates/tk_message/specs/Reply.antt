@@ -1,21 +1,27 @@
--- Replies (RFC 6749, 4.1.2 for redirects, and 5.2 for errors; the others are own).
+-- Replies (RFC 6749, 4.1.2 for redirects, 5.1 for tokens, and 5.2 for errors; RFC 7662, 2.2, for what is said of tokens;
+-- RFC 7009, 2.2, for a status alone; the others are own).
 --   json_reply       a status and a JSON body
 --   error_reply      an error, by its code
 --   client_reply     the id of a client
 --   consent_reply    the id of a consent
 --   shown_reply      what is known of a client
 --   redirect_reply   a redirect to the client
+--   token_reply      an access and a refresh token
+--   access_reply     what is said of an active access token; refresh_reply, of a refresh token
+--   inactive_reply   what is said of any other token
+--   empty_reply      a status alone
 use Rattle.std.specs.Prelude.{ℕ, Bool, true, false, List, [], ◌∷◌, codes, Option, Some, None}
 use Rattle.serde_json.specs.Data.{Data}
 use Rattle.serde_json.specs.Written.{compact_text}
 use Rattle.tk_handle.specs.declared.dot.Dot.{Dot}
+use Rattle.tk_handle.specs.declared.handle.Handle.{Handle}
 use Rattle.tk_match.specs.ReplyUri.{reply_of}
 use Rattle.tk_fact.specs.declared.sort.Sort.{Sort}
 use Rattle.tk_message.specs.declared.status.Status.{Status}
 use Rattle.tk_message.specs.declared.status.Status.TheVariants.{Ok, Created, Found, BadRequest, Unauthorized, NotFound, ServiceUnavailable}
 use Rattle.tk_message.specs.declared.error_code.ErrorCode.{ErrorCode}
 use Rattle.tk_message.specs.ErrorCode.{error_status, error_name}
-use Rattle.tk_message.specs.Bodies.{error_body, client_body, consent_body, shown_body}
+use Rattle.tk_message.specs.Bodies.{error_body, client_body, consent_body, shown_body, token_body, access_body, refresh_body, inactive_body}
 use Rattle.tk_message.specs.ReplyFields.{ReplyFields, Nothing, JsonText}
 
 -- credentials are asked for with every 401 (RFC 6749, 5.2)
@@ -60,5 +66,26 @@ redirect_reply uri name value state = record {
   status = Found;
   location = Some (reply_of uri (with_state name value state));
   www = false;
+  content = Nothing;
+}
+
+abbrev pub token_reply : Handle → ℕ → Handle → List ℕ → ReplyFields
+token_reply access lifetime refresh scope = json_reply Ok (token_body access lifetime refresh scope)
+
+abbrev pub access_reply : Dot → ℕ → ℕ → List ℕ → List ℕ → ReplyFields
+access_reply client expiry start scope subject = json_reply Ok (access_body client expiry start scope subject)
+
+abbrev pub refresh_reply : Dot → ℕ → ℕ → List ℕ → List ℕ → ReplyFields
+refresh_reply client expiry start scope subject = json_reply Ok (refresh_body client expiry start scope subject)
+
+abbrev pub inactive_reply : ReplyFields
+inactive_reply = json_reply Ok inactive_body
+
+-- a status, and nothing to be read (RFC 7009, 2.2)
+abbrev pub empty_reply : Status → ReplyFields
+empty_reply status = record {
+  status = status;
+  location = None;
+  www = asks_credentials status;
   content = Nothing;
 }

@@ -1,19 +1,20 @@
 //! Requests, who sends them, and what they are answered with.
 //!
 //! A `Request` is sent to an `Endpoint`, with the parameters and credentials of tk_params; `authenticate` says which client
-//! credentials prove, and `scope_asked` which scope a request asks for. A `Reply` is a `Status`, perhaps a place to be sent
+//! credentials prove, `find_caller` who sends a request where a client has to, and `scope_asked` which scope a request asks for. A `Reply` is a `Status`, perhaps a place to be sent
 //! to, and a `Payload`. An `ErrorCode` says how an error is called and with which status it goes. Each JSON body is a value,
 //! stated once in specs/Bodies.antt and written by one function; no other crate makes JSON. A `Decision` is a reply and the
 //! fact that a request makes, if any; a `Place` is where it would stand, and how long what is issued lasts. What is decided,
 //! and in which order, is said above.
 //!
-//! In reading order: `Endpoint`, `Request`, `Auth`, `scope_asked`, `Status`, `ErrorCode`, `Reply`, `Lives`, `Place`,
-//! `Decision`. The definitions are in specs/, beside the file of their name: `RequestFields`, `Authentication`, `ScopeAsked`,
+//! In reading order: `Endpoint`, `Request`, `Auth`, `Caller`, `scope_asked`, `Status`, `ErrorCode`, `Reply`, `Lives`, `Place`,
+//! `Decision`. The definitions are in specs/, beside the file of their name: `RequestFields`, `Authentication`, `Caller`, `ScopeAsked`,
 //! `Status`, `ErrorCode`, `Bodies`, `ReplyFields`, `Reply`, `Place`, `Decision`.
 #![tactic(auto)]
 
 mod authentication;
 mod bodies;
+mod caller;
 mod decision;
 mod error_code;
 mod place;
@@ -23,12 +24,13 @@ mod scope;
 mod status;
 
 pub use authentication::{Auth, authenticate};
+pub use caller::{Caller, find_caller};
 pub use decision::Decision;
 pub use error_code::ErrorCode;
 pub use place::{Lives, Place};
 pub use reply::{
-    Payload, Reply, client_reply, consent_reply, error_reply, handle_string, redirect_reply,
-    shown_reply,
+    Payload, Reply, access_reply, client_reply, consent_reply, empty_reply, error_reply,
+    handle_string, inactive_reply, redirect_reply, refresh_reply, shown_reply, token_reply,
 };
 pub use request::{Endpoint, Request};
 pub use scope::scope_asked;

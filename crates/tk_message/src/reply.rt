@@ -44,12 +44,15 @@ ghost use Rattle.tk_handle.specs.Handle.{handle_text};
 ghost use Rattle.tk_message.specs.Bodies.{IsWritable};
 ghost use Rattle.tk_message.specs.Reply as spec;
 
-use crate::bodies::{client_body, consent_body, error_body, shown_body};
+use crate::bodies::{
+    access_body, client_body, consent_body, error_body, inactive_body, refresh_body, shown_body,
+    token_body,
+};
 use crate::error_code::ErrorCode;
 use serde_json::Value;
 use std::alloc::{AllocError, Global};
-use tk_fact::Sort;
-use tk_handle::{Dot, Handle, client_text, consent_text};
+use tk_fact::{Sort, Subject};
+use tk_handle::{Dot, Handle, Moment, client_text, consent_text};
 use tk_match::reply_uri;
 use tk_scope::Scope;
 
@@ -112,6 +115,88 @@ pub fn consent_reply(alloc: Global, status: Status, consent: Dot) -> Result<Repl
     let id = consent_text(alloc, consent)?;
     let body = consent_body(alloc, id.as_str())?;
     json_reply(alloc, status, &body)
+}
+
+/// An access token that lasts so many seconds, a refresh token, and the scope of the access token (RFC 6749, 5.1).
+pub fn token_reply(
+    alloc: Global,
+    access: &Handle,
+    lifetime: u64,
+    refresh: &Handle,
+    scope: &Scope,
+) -> Result<Reply, AllocError>
+    ensures { IfOk result (λ reply. reply ≡ spec.token_reply access.now lifetime refresh.now scope.now) }
+{
+    let access = handle_string(alloc, access)?;
+    let refresh = handle_string(alloc, refresh)?;
+    let body = token_body(alloc, access.as_str(), lifetime, refresh.as_str(), scope.text())?;
+    json_reply(alloc, Status::Ok, &body)
+}
+
+/// What is said of an active access token: its client, its end and start, its scope and its subject (RFC 7662, 2.2).
+pub fn access_reply(
+    alloc: Global,
+    client: Dot,
+    expiry: Moment,
+    start: Moment,
+    scope: &Scope,
+    subject: &Subject,
+) -> Result<Reply, AllocError>
+    ensures { IfOk result (λ reply. reply ≡ spec.access_reply client expiry start scope.now subject.now) }
+{
+    let id = client_text(alloc, client)?;
+    let body = access_body(
+        alloc,
+        id.as_str(),
+        expiry.seconds(),
+        start.seconds(),
+        scope.text(),
+        subject.as_str(),
+    )?;
+    json_reply(alloc, Status::Ok, &body)
+}
+
+/// What is said of an active refresh token: the same, but for the type (RFC 7662, 2.2).
+pub fn refresh_reply(
+    alloc: Global,
+    client: Dot,
+    expiry: Moment,
+    start: Moment,
+    scope: &Scope,
+    subject: &Subject,
+) -> Result<Reply, AllocError>
+    ensures { IfOk result (λ reply. reply ≡ spec.refresh_reply client expiry start scope.now subject.now) }
+{
+    let id = client_text(alloc, client)?;
+    let body = refresh_body(
+        alloc,
+        id.as_str(),
+        expiry.seconds(),
+        start.seconds(),
+        scope.text(),
+        subject.as_str(),
+    )?;
+    json_reply(alloc, Status::Ok, &body)
+}
+
+/// What is said of a token that isn't active: that alone (RFC 7662, 2.2).
+pub fn inactive_reply(alloc: Global) -> Result<Reply, AllocError>
+    ensures { IfOk result (λ reply. reply ≡ spec.inactive_reply) }
+{
+    let body = inactive_body(alloc)?;
+    json_reply(alloc, Status::Ok, &body)
+}
+
+/// A status, and nothing else. No memory is taken.
+pub fn empty_reply(status: Status) -> Reply
+    ensures { result ≡ spec.empty_reply status }
+{
+    Reply {
+        status,
+        location: None,
+        www: asks_credentials(status),
+        body: Payload::Empty,
+    }
 }
 
 /// A redirect to the URI with a pair in its query, and behind it the state, if there is one (RFC 6749, 4.1.2 and 4.1.2.1).

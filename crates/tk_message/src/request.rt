@@ -3,11 +3,17 @@
 use std::marker::Model;
 use tk_params::Params;
 
-/// What a request is sent to (RFC 6749, 3.1, for the first; the others are own).
+/// What a request is sent to. The endpoints of administration are own.
 #[derive(Clone, Copy, Debug, PartialEq, Eq)]
 pub enum Endpoint {
-    /// GET `/authorize`.
+    /// GET `/authorize` (RFC 6749, 3.1).
     Authorize,
+    /// POST `/token` (RFC 6749, 3.2).
+    Token,
+    /// POST `/introspect` (RFC 7662, 2).
+    Introspect,
+    /// POST `/revoke` (RFC 7009, 2).
+    Revoke,
     /// POST `/admin/client`: add a client.
     AddClient,
     /// GET `/admin/client`: show a client.

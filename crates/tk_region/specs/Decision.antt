@@ -7,14 +7,20 @@ use Rattle.tk_message.specs.declared.decision.Decision.{Decision}
 use Rattle.tk_message.specs.declared.error_code.ErrorCode.TheVariants.{TemporarilyUnavailable}
 use Rattle.tk_message.specs.declared.place.Place.{Place}
 use Rattle.tk_message.specs.declared.request.Endpoint.{Endpoint}
-use Rattle.tk_message.specs.declared.request.Endpoint.TheVariants.{Authorize, AddClient, ShowClient, Retire, Consent, Withdraw}
+use Rattle.tk_message.specs.declared.request.Endpoint.TheVariants.{Authorize, Token, Introspect, Revoke, AddClient, ShowClient, Retire, Consent, Withdraw}
 use Rattle.tk_message.specs.RequestFields.{RequestFields}
-use Rattle.tk_message.specs.Decision.{refused}
+use Rattle.tk_message.specs.Decision.{answered, refused}
 use Rattle.tk_authorize.specs.Administration.{administration_of}
 use Rattle.tk_authorize.specs.Authorization.{authorization_of}
+use Rattle.tk_grant.specs.Granted.{grant_of}
+use Rattle.tk_query.specs.Introspection.{introspection_of}
+use Rattle.tk_query.specs.Revocation.{revocation_of}
 
 abbrev pub decision_by : Endpoint → FactSet → Place → ℕ → List ℕ → RequestFields → Decision
 decision_by Authorize F place now words request = authorization_of F place now words request
+decision_by Token F place now words request = grant_of F place now words request
+decision_by Introspect F place now words request = answered (introspection_of F now request)
+decision_by Revoke F place now words request = revocation_of F place now request
 decision_by AddClient F place now words request = administration_of F place request
 decision_by ShowClient F place now words request = administration_of F place request
 decision_by Retire F place now words request = administration_of F place request

@@ -7,9 +7,11 @@ ghost use Rattle.tk_region.specs.Decision as spec;
 
 use std::alloc::{AllocError, Global};
 use tk_authorize::{decide_admin, decide_authorize};
+use tk_grant::decide_token;
 use tk_handle::Moment;
 use tk_ledger::Ledger;
 use tk_message::{Decision, Endpoint, ErrorCode, Place, Request};
+use tk_query::{decide_introspect, decide_revoke};
 
 // What the request is answered, the cap left out.
 pub(crate) fn decide_endpoint(
@@ -25,6 +27,9 @@ pub(crate) fn decide_endpoint(
 {
     match request.endpoint {
         Endpoint::Authorize => decide_authorize(alloc, ledger, place, now, words, request),
+        Endpoint::Token => decide_token(alloc, ledger, place, now, words, request),
+        Endpoint::Introspect => decide_introspect(alloc, ledger, now, request),
+        Endpoint::Revoke => decide_revoke(alloc, ledger, place, now, request),
         Endpoint::AddClient
         | Endpoint::ShowClient
         | Endpoint::Retire

@@ -4,10 +4,12 @@
 --   Regions       entries_of, the numbers and facts of regions
 --   State         State, a world's regions and bundles; Consists, what holds of all of it
 --   World         Step, Run, seen_by
+--   Promises      what is promised of introspection: TellsOfSets, IntrospectAlike, RevokedInactive, FamiliesInactive
 --   Parts         what the parts of a step may end with
 pub mod AskedFields
 pub mod Bundles
 pub mod Parts
+pub mod Promises
 pub mod Regions
 pub mod State
 pub mod World

@@ -46,6 +46,7 @@ ghost use Rattle.tk_bundle.specs.Page as pages;
 ghost use Rattle.tk_world.specs.State.{facts_in, new_state, IsConsistent};
 ghost use Rattle.tk_world.specs.World.{Step, Run, seen_by};
 ghost use Rattle.tk_world.specs.Parts.{Opens, Pages};
+ghost use Rattle.tk_world.specs.Promises.{TellsOfSets, IntrospectAlike, RevokedInactive, FamiliesInactive};
 ghost use Rattle.tk_world.specs.Regions.{entries_of};
 
 use crate::asked::Asked;
@@ -85,11 +86,18 @@ impl World {
 
         // The old world, the events, the outcomes and the new world are a run. Each region's set of facts is its old one
         // joined with what it has seen, which agrees with it. Two regions that began alike, and that have seen the same
-        // facts, in whatever order and however often, are alike.
+        // facts, in whatever order and however often, are alike. Each reply to an introspection request is told by the set
+        // that the region held then, the moment and the request; so where regions hold equal sets, they introspect alike.
         ensures run { IfOk result (λ outcomes. (shown : List Facts) × Run self.old events.now outcomes.items shown self.new
             × ((r : ℕ) → JoinsFacts (facts_in self.old r) (seen_by r events.now shown) (facts_in self.new r))
             × ((q r : ℕ) → facts_in self.old q ≡ facts_in self.old r → SameFacts (seen_by q events.now shown) (seen_by r events.now shown)
-            → facts_in self.new q ≡ facts_in self.new r)) }
+            → facts_in self.new q ≡ facts_in self.new r)
+            × TellsOfSets self.old events.now outcomes.items shown × IntrospectAlike self.old events.now outcomes.items shown) }
+
+        // Wherever such facts are held, a token that its client revoked is active at no moment, and told to nobody; nor is
+        // any token of a family with a bad grant.
+        ensures revoked { RevokedInactive self.new }
+        ensures families { FamiliesInactive self.new }
 
         ensures err { OnErr result (self.new ≡ self.old) }
     {

@@ -7,7 +7,7 @@ use Rattle.std.specs.Option.{option_map}
 use Rattle.std.specs.Str.{bytes_eq}
 use Rattle.tk_params.specs.Params.{params_of}
 use Rattle.tk_message.specs.declared.request.Endpoint.{Endpoint}
-use Rattle.tk_message.specs.declared.request.Endpoint.TheVariants.{Authorize, AddClient, ShowClient, Retire, Consent, Withdraw}
+use Rattle.tk_message.specs.declared.request.Endpoint.TheVariants.{Authorize, Token, Introspect, Revoke, AddClient, ShowClient, Retire, Consent, Withdraw}
 use Rattle.tk_message.specs.RequestFields.{RequestFields}
 
 -- ---- what is asked
@@ -20,7 +20,10 @@ get_endpoint path =
 
 abbrev pub post_endpoint : List ℕ → Option Endpoint
 post_endpoint path =
-    if bytes_eq path (codes "/admin/client") then Some AddClient
+    if bytes_eq path (codes "/token") then Some Token
+    else if bytes_eq path (codes "/introspect") then Some Introspect
+    else if bytes_eq path (codes "/revoke") then Some Revoke
+    else if bytes_eq path (codes "/admin/client") then Some AddClient
     else if bytes_eq path (codes "/admin/retire") then Some Retire
     else if bytes_eq path (codes "/admin/consent") then Some Consent
     else if bytes_eq path (codes "/admin/withdraw") then Some Withdraw
@@ -68,6 +71,9 @@ body_in text = if bytes_eq text none_text then [] else text
 abbrev pub form_in : Endpoint → List ℕ → List ℕ → List ℕ
 form_in Authorize query body = query
 form_in ShowClient query body = query
+form_in Token query body = body
+form_in Introspect query body = body
+form_in Revoke query body = body
 form_in AddClient query body = body
 form_in Retire query body = body
 form_in Consent query body = body

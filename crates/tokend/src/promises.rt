@@ -4,6 +4,7 @@
 ghost use Rattle.std.specs.Prelude.{◌≡◌, ℕ, List, IfOk, OnErr};
 ghost use Rattle.tk_store.specs.FactSet.{Agree, AllIn, Facts, IsSubset};
 ghost use Rattle.tk_store.specs.Joining.{SameFacts};
+ghost use Rattle.tk_world.specs.Promises.{IntrospectAlike, RevokedInactive, FamiliesInactive};
 ghost use Rattle.tk_world.specs.State.{facts_in};
 ghost use Rattle.tk_world.specs.World.{Run, seen_by};
 
@@ -46,6 +47,41 @@ pub fn regions_agree(world: &World)
     ensures { (q r : ℕ) → Agree (facts_in world.now q) (facts_in world.now r) }
 {
     world.known()
+}
+
+/// Equal facts introspect alike: where two regions hold equal sets when they are asked, the same introspection request at the
+/// same moment has the same reply, whatever their numbers and the words (RFC 7662, 2.2).
+pub fn equal_facts_introspect_alike(
+    world: &mut World,
+    events: &[Event],
+) -> Result<Vec<Outcome>, AllocError>
+    ensures { IfOk result (λ outcomes. (shown : List Facts) × Run world.old events.now outcomes.items shown world.new
+        × IntrospectAlike world.old events.now outcomes.items shown) }
+{
+    world.run(events)
+}
+
+/// Revoked tokens are inactive: where a region holds facts by which a token's client revoked it, the token is active at no
+/// moment, and introspection tells nobody of it (RFC 7009, 2.1; RFC 7662, 2.2).
+pub fn revoked_tokens_are_inactive(
+    world: &mut World,
+    events: &[Event],
+) -> Result<Vec<Outcome>, AllocError>
+    ensures { RevokedInactive world.new }
+{
+    world.run(events)
+}
+
+/// Families with a bad grant are inactive: where a region holds facts by which a code or refresh token was used twice, was
+/// seen to be reused, or is a refresh token that its client revoked, each token under the same code is active at no moment,
+/// and introspection tells nobody of it (RFC 6749, 4.1.2, 10.4 and 10.5).
+pub fn families_with_a_bad_grant_are_inactive(
+    world: &mut World,
+    events: &[Event],
+) -> Result<Vec<Outcome>, AllocError>
+    ensures { FamiliesInactive world.new }
+{
+    world.run(events)
 }
 
 /// An error changes nothing: where memory is refused for a whole run, no event of it was run.

@@ -165,6 +165,9 @@ fn form_in<'a>(endpoint: Endpoint, query: &'a [u8], body: &'a [u8]) -> &'a [u8]
     match endpoint {
         Endpoint::Authorize => query,
         Endpoint::ShowClient => query,
+        Endpoint::Token => body,
+        Endpoint::Introspect => body,
+        Endpoint::Revoke => body,
         Endpoint::AddClient => body,
         Endpoint::Retire => body,
         Endpoint::Consent => body,
@@ -268,6 +271,15 @@ fn get_endpoint(path: &[u8]) -> Option<Endpoint>
 fn post_endpoint(path: &[u8]) -> Option<Endpoint>
     ensures { result ≡ spec.post_endpoint path.now }
 {
+    if path == b"/token".as_slice() {
+        return Some(Endpoint::Token);
+    }
+    if path == b"/introspect".as_slice() {
+        return Some(Endpoint::Introspect);
+    }
+    if path == b"/revoke".as_slice() {
+        return Some(Endpoint::Revoke);
+    }
     if path == b"/admin/client".as_slice() {
         return Some(Endpoint::AddClient);
     }

@@ -1,6 +1,7 @@
 use Rattle.std.proofs.Common.{◌≡◌, ◌+◌, [], ◌∷◌, ◌++◌, take, ap, sym, ◌∙◌, arith}
 use Rattle.std.proofs.lemmas.Grind.{take_at_read}
 use Rattle.std.proofs.lemmas.List.{take_all}
+use Rattle.tk_world.proofs.PromiseLaws.{tells_of_sets, introspect_alike, revoked_inactive, families_inactive}
 use Rattle.tk_world.proofs.RunLaws.{run_more, run_joins, run_alike, run_counts}
 use Rattle.tk_world.proofs.world.World.run.Goals as goal
 
@@ -25,6 +26,8 @@ returns-clause-run c =
       run,
       run_joins c.args.self.now c.args.events.now c.loop-event.outcomes.items i.run.0 c.loop-event.self run,
       run_alike c.args.self.now c.args.events.now c.loop-event.outcomes.items i.run.0 c.loop-event.self run,
+      tells_of_sets c.args.self.now c.args.events.now c.loop-event.outcomes.items i.run.0 c.loop-event.self run,
+      introspect_alike c.args.self.now c.args.events.now c.loop-event.outcomes.items i.run.0 c.loop-event.self run,
     )
 
 pub returns-clause-count : goal.returns-clause-count

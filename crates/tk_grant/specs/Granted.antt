@@ -1,0 +1,97 @@
+-- What a token request is answered, and the fact that it makes (RFC 6749, 4.1.4, 5.1, 6 and 10.4).
+--   ends_at        when a token ends: its life after the moment, cut at the family's end
+--   access_token   what the fact keeps of an access token; refresh_token, of a refresh token
+--   grant_of       the decision
+use Rattle.std.specs.Prelude.{ℕ, ◌-◌, nat_le, List, [], ◌∷◌, Some, slice_index, if◌then◌else◌}
+use Rattle.tk_handle.specs.declared.dot.Dot.{Dot}
+use Rattle.tk_handle.specs.declared.kind.Kind.TheVariants as kind
+use Rattle.tk_handle.specs.declared.handle.Handle.{Handle}
+use Rattle.tk_handle.specs.Moment.{moment_plus}
+use Rattle.tk_fact.specs.declared.body.Body.TheVariants.{CodeRedeemed, RefreshRotated, ReuseSeen}
+use Rattle.tk_fact.specs.declared.minted_token.MintedToken.{MintedToken}
+use Rattle.tk_store.specs.FactSet.{FactSet}
+use Rattle.tk_ledger.specs.Status.{digest_of}
+use Rattle.tk_message.specs.declared.decision.Decision.{Decision}
+use Rattle.tk_message.specs.declared.error_code.ErrorCode.TheVariants.{InvalidGrant}
+use Rattle.tk_message.specs.declared.place.Place.{Place}
+use Rattle.tk_message.specs.Decision.{refused}
+use Rattle.tk_message.specs.Place.{next_in}
+use Rattle.tk_message.specs.Reply.{error_reply, token_reply}
+use Rattle.tk_message.specs.ReplyFields.{ReplyFields}
+use Rattle.tk_message.specs.RequestFields.{RequestFields}
+use Rattle.tk_grant.specs.declared.judged.Grant.{Grant}
+use Rattle.tk_grant.specs.declared.judged.Judged.{Judged}
+use Rattle.tk_grant.specs.declared.judged.Judged.TheVariants.{Refused, Reused, Redeems, Rotates}
+use Rattle.tk_grant.specs.Judged.{judged_of}
+use Rattle.tk_grant.specs.Refusal.{refusal_code}
+
+-- the earlier of two moments
+abbrev pub earlier : ℕ → ℕ → ℕ
+earlier a b = if nat_le a b then a else b
+
+-- no token outlasts its family (own)
+abbrev pub ends_at : ℕ → ℕ → ℕ → ℕ
+ends_at now life family_end = earlier (moment_plus now life) family_end
+
+-- the access token's handle, with the first three words, and the refresh token's, with the others (own)
+abbrev pub access_handle : Dot → List ℕ → Handle
+access_handle next words = record {
+  id = record { dot = next; kind = kind.Access };
+  words = slice_index words 0 ∷ slice_index words 1 ∷ slice_index words 2 ∷ [];
+}
+
+abbrev pub refresh_handle : Dot → List ℕ → Handle
+refresh_handle next words = record {
+  id = record { dot = next; kind = kind.Refresh };
+  words = slice_index words 3 ∷ slice_index words 4 ∷ slice_index words 5 ∷ [];
+}
+
+-- the digest of the handle, the token's end and its scope
+abbrev pub access_token : Place → ℕ → List ℕ → Grant → MintedToken
+access_token place now words grant = record {
+  digest = digest_of (access_handle (next_in place) words);
+  end = ends_at now place.lives.access grant.family_end;
+  scope = grant.access;
+}
+
+abbrev pub refresh_token : Place → ℕ → List ℕ → Grant → MintedToken
+refresh_token place now words grant = record {
+  digest = digest_of (refresh_handle (next_in place) words);
+  end = ends_at now place.lives.refresh grant.family_end;
+  scope = grant.refresh;
+}
+
+-- both handles, and how long the access token lasts (RFC 6749, 5.1)
+abbrev pub granted_reply : Place → ℕ → List ℕ → Grant → ReplyFields
+granted_reply place now words grant = token_reply
+    (access_handle (next_in place) words) (ends_at now place.lives.access grant.family_end - now)
+    (refresh_handle (next_in place) words) grant.access
+
+-- an error (RFC 6749, 5.2); a reuse, which is an error and is recorded (4.1.2 and 10.4); the tokens of a code (4.1.4), or of a
+-- refresh token (6), with the fact that minted them
+abbrev pub granted_by : Place → ℕ → List ℕ → Judged → Decision
+granted_by place now words (Refused why) = refused (refusal_code why)
+granted_by place now words (Reused id) = record { reply = error_reply InvalidGrant; made = Some (ReuseSeen (record { token = id })) }
+granted_by place now words (Redeems grant) = record {
+  reply = granted_reply place now words grant;
+  made = Some (CodeRedeemed (record {
+    code = grant.from;
+    start = now;
+    access = access_token place now words grant;
+    refresh = refresh_token place now words grant;
+  }));
+}
+granted_by place now words (Rotates generation grant) = record {
+  reply = granted_reply place now words grant;
+  made = Some (RefreshRotated (record {
+    parent = grant.from;
+    generation = generation;
+    start = now;
+    access = access_token place now words grant;
+    refresh = refresh_token place now words grant;
+  }));
+}
+
+-- by the judgement
+abbrev pub grant_of : FactSet → Place → ℕ → List ℕ → RequestFields → Decision
+grant_of F place now words request = granted_by place now words (judged_of F now request)

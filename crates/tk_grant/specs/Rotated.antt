@@ -1,0 +1,28 @@
+-- Whether a refresh token is rotated, and else why not (RFC 6749, 6).
+--   rotated_of   what a request for a refresh token's tokens comes to
+use Rattle.std.specs.Prelude.{ℕ, ◌+◌, nat_le, List, codes, Option, Some, None, if◌then◌else◌}
+use Rattle.tk_handle.specs.declared.dot.Dot.{Dot}
+use Rattle.tk_fact.specs.Check.{most_generations}
+use Rattle.tk_ledger.specs.StandingFields.{StandingFields}
+use Rattle.tk_params.specs.Params.{Pairs, value_of}
+use Rattle.tk_message.specs.ScopeAsked.{scope_asked}
+use Rattle.tk_grant.specs.declared.gate.Gate.{Gate}
+use Rattle.tk_grant.specs.declared.gate.Gate.TheVariants.{Shut, Reuse, Open}
+use Rattle.tk_grant.specs.declared.judged.Judged.{Judged}
+use Rattle.tk_grant.specs.declared.judged.Judged.TheVariants.{Refused, Reused, Rotates}
+use Rattle.tk_grant.specs.declared.refusal.Refusal.TheVariants.{LastGeneration, WrongScope}
+
+-- a scope that can't be read, or isn't within the token's; else the access token has it alone, and the new refresh token keeps
+-- the old one's (RFC 6749, 6)
+abbrev pub rotated_by : Dot → StandingFields → Option (List ℕ) → Judged
+rotated_by from standing None = Refused WrongScope
+rotated_by from standing (Some scope) =
+    Rotates (standing.generation + 1) (record { from = from; family_end = standing.family_end; access = scope; refresh = standing.scope })
+
+-- the last generation (own); else it is the scope that was sent, or the token's where none was (RFC 6749, 6)
+abbrev pub rotated_of : Pairs → Gate → Judged
+rotated_of params (Shut why) = Refused why
+rotated_of params (Reuse id) = Reused id
+rotated_of params (Open id standing) =
+    if nat_le most_generations standing.generation then Refused LastGeneration
+    else rotated_by id.dot standing (scope_asked standing.scope (value_of (codes "scope") params))

@@ -1,0 +1,167 @@
+//! What a token request is answered, and the fact that it makes.
+
+ghost use Rattle.std.specs.Prelude.{◌≡◌, ◌<◌, ◌≤◌, IfOk};
+ghost use Rattle.tk_store.specs.Store.{facts_of};
+ghost use Rattle.tk_message.specs.Decision.{Passes};
+ghost use Rattle.tk_grant.specs.Granted as spec;
+ghost use Rattle.tk_grant.specs.SoundJudged.{IsSoundJudged};
+
+use crate::judged::{Grant, Judged, judge};
+use std::alloc::{AllocError, Global};
+use tk_fact::{Body, CodeRedeemed, MintedToken, RefreshRotated, ReuseSeen};
+use tk_handle::{Dot, Handle, Kind, Moment, TokenId};
+use tk_ledger::Ledger;
+use tk_message::{Decision, ErrorCode, Place, Reply, Request, error_reply, token_reply};
+
+/// What a token request is answered, and the fact that it makes, at the place's dot: a code was redeemed, a refresh token
+/// rotated, or a reuse of one seen (RFC 6749, 4.1.3, 4.1.4, 5, 6 and 10.4; RFC 7636, 4.5 and 4.6). The access token takes the
+/// first three words, the refresh token the others. An error where memory is refused.
+pub fn decide_token(
+    alloc: Global,
+    ledger: &Ledger,
+    place: &Place,
+    now: Moment,
+    words: &[u64; 6],
+    request: &Request,
+) -> Result<Decision, AllocError>
+    ensures value { IfOk result (λ d. d ≡ spec.grant_of (facts_of ledger.now) place.now now words.now request.now) }
+
+    // The fact made, if any, passes its check.
+    ensures passes { IfOk result (λ d. Passes d.made) }
+{
+    let judged = judge(alloc, ledger, now, request)?;
+    decide_by(alloc, place, now, words, judged)
+}
+
+fn decide_by(
+    alloc: Global,
+    place: &Place,
+    now: Moment,
+    words: &[u64; 6],
+    judged: Judged,
+) -> Result<Decision, AllocError>
+    requires { IsSoundJudged now judged }
+    ensures value { IfOk result (λ d. d ≡ spec.granted_by place.now now words.now judged) }
+    ensures passes { IfOk result (λ d. Passes d.made) }
+{
+    match judged {
+        Judged::Refused(why) => Decision::refuse(alloc, why.code()),
+        Judged::Reused(token) => {
+            let reply = error_reply(alloc, ErrorCode::InvalidGrant)?;
+            Ok(Decision {
+                reply,
+                made: Some(Body::ReuseSeen(ReuseSeen { token })),
+            })
+        }
+        Judged::Redeems(grant) => {
+            let reply = reply_for(alloc, place, now, words, &grant)?;
+            let code = grant.from;
+            let (access, refresh) = tokens(place, now, words, grant);
+            let fact = CodeRedeemed {
+                code,
+                start: now,
+                access,
+                refresh,
+            };
+            Ok(Decision {
+                reply,
+                made: Some(Body::CodeRedeemed(fact)),
+            })
+        }
+        Judged::Rotates(generation, grant) => {
+            let reply = reply_for(alloc, place, now, words, &grant)?;
+            let parent = grant.from;
+            let (access, refresh) = tokens(place, now, words, grant);
+            let fact = RefreshRotated {
+                parent,
+                generation,
+                start: now,
+                access,
+                refresh,
+            };
+            Ok(Decision {
+                reply,
+                made: Some(Body::RefreshRotated(fact)),
+            })
+        }
+    }
+}
+
+// Both tokens, as the fact has them.
+fn tokens(place: &Place, now: Moment, words: &[u64; 6], grant: Grant) -> (MintedToken, MintedToken)
+    requires { now < grant.family_end }
+    ensures value { result ≡ (spec.access_token place.now now words.now grant, spec.refresh_token place.now now words.now grant) }
+    ensures access { now ≤ result.0.end }
+    ensures refresh { now ≤ result.1.end }
+{
+    let next = place.next_dot();
+    let Grant {
+        from: _,
+        family_end,
+        access,
+        refresh,
+    } = grant;
+    let access = MintedToken {
+        digest: access_handle(next, words).digest(),
+        end: ends_at(now, place.lives.access, family_end),
+        scope: access,
+    };
+    let refresh = MintedToken {
+        digest: refresh_handle(next, words).digest(),
+        end: ends_at(now, place.lives.refresh, family_end),
+        scope: refresh,
+    };
+    (access, refresh)
+}
+
+fn reply_for(
+    alloc: Global,
+    place: &Place,
+    now: Moment,
+    words: &[u64; 6],
+    grant: &Grant,
+) -> Result<Reply, AllocError>
+    requires { now < grant.now.family_end }
+    ensures { IfOk result (λ reply. reply ≡ spec.granted_reply place.now now words.now grant.now) }
+{
+    let next = place.next_dot();
+    let end = ends_at(now, place.lives.access, grant.family_end);
+    let lifetime = end.seconds() - now.seconds();
+    let access = access_handle(next, words);
+    let refresh = refresh_handle(next, words);
+    token_reply(alloc, &access, lifetime, &refresh, &grant.access)
+}
+
+fn access_handle(next: Dot, words: &[u64; 6]) -> Handle
+    ensures { result ≡ spec.access_handle next words.now }
+{
+    let id = TokenId {
+        dot: next,
+        kind: Kind::Access,
+    };
+    Handle::mint(id, [words[0], words[1], words[2]])
+}
+
+fn refresh_handle(next: Dot, words: &[u64; 6]) -> Handle
+    ensures { result ≡ spec.refresh_handle next words.now }
+{
+    let id = TokenId {
+        dot: next,
+        kind: Kind::Refresh,
+    };
+    Handle::mint(id, [words[3], words[4], words[5]])
+}
+
+// When a token ends that lasts so many seconds, in a family that ends then.
+fn ends_at(now: Moment, life: u64, family_end: Moment) -> Moment
+    requires { now < family_end }
+    ensures value { result ≡ spec.ends_at now life family_end }
+    ensures later { now ≤ result }
+{
+    let end = now.plus(life);
+    if end.seconds() <= family_end.seconds() {
+        end
+    } else {
+        family_end
+    }
+}

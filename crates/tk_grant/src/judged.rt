@@ -1,0 +1,121 @@
+//! What a token request comes to: the ordered cases, over the facts, the moment and the parameters.
+
+use tk_handle::{Dot, Moment, TokenId};
+use tk_scope::Scope;
+
+// What tokens are minted for: they descend from the code or refresh token that was sent.
+#[derive(Debug, Drop)]
+pub(crate) struct Grant {
+    // Where the fact stands that minted what was sent.
+    pub(crate) from: Dot,
+    // When the family ends.
+    pub(crate) family_end: Moment,
+    // The scope of the access token.
+    pub(crate) access: Scope,
+    // The scope of the refresh token.
+    pub(crate) refresh: Scope,
+}
+
+// What a token request comes to.
+#[derive(Debug, Drop)]
+pub(crate) enum Judged {
+    Refused(Refusal),
+    // The code or refresh token was used before.
+    Reused(TokenId),
+    // A code is redeemed.
+    Redeems(Grant),
+    // A refresh token is rotated, into that generation.
+    Rotates(u16, Grant),
+}
+
+ghost use Rattle.std.specs.Prelude.{◌≡◌, IfOk};
+ghost use Rattle.std.specs.Option.{option_copied};
+ghost use Rattle.tk_store.specs.Store.{facts_of};
+ghost use Rattle.tk_message.specs.Caller.{caller_of};
+ghost use Rattle.tk_grant.specs.Judged as spec;
+ghost use Rattle.tk_grant.specs.SoundJudged.{IsSoundJudged};
+
+use crate::gate::find_gate;
+use crate::redeem::redeem;
+use crate::refusal::Refusal;
+use crate::rotate::rotate;
+use std::alloc::{AllocError, Global};
+use tk_handle::Kind;
+use tk_ledger::Ledger;
+use tk_message::{Caller, Params, Request, find_caller};
+
+// The ordered cases of a token request.
+pub(crate) fn judge(
+    alloc: Global,
+    ledger: &Ledger,
+    now: Moment,
+    request: &Request,
+) -> Result<Judged, AllocError>
+    ensures value { IfOk result (λ judged. judged ≡ spec.judged_of (facts_of ledger.now) now request.now) }
+    ensures sound { IfOk result (IsSoundJudged now) }
+{
+    let caller = caller_here(alloc, ledger, request)?;
+    judge_by_caller(alloc, ledger, now, &request.params, caller)
+}
+
+fn caller_here(alloc: Global, ledger: &Ledger, request: &Request) -> Result<Caller, AllocError>
+    ensures { IfOk result (λ caller. caller ≡ caller_of (facts_of ledger.now) spec.known_names request.now) }
+{
+    let names = [
+        "grant_type",
+        "code",
+        "redirect_uri",
+        "client_id",
+        "client_secret",
+        "code_verifier",
+        "refresh_token",
+        "scope",
+    ];
+    find_caller(alloc, ledger, &names, request)
+}
+
+fn judge_by_caller(
+    alloc: Global,
+    ledger: &Ledger,
+    now: Moment,
+    params: &Params,
+    caller: Caller,
+) -> Result<Judged, AllocError>
+    ensures value { IfOk result (λ judged. judged ≡ spec.judged_by_caller (facts_of ledger.now) now params.now caller) }
+    ensures sound { IfOk result (IsSoundJudged now) }
+{
+    match caller {
+        Caller::DuplicateParameter => Ok(Judged::Refused(Refusal::DuplicateParameter)),
+        Caller::MixedCredentials => Ok(Judged::Refused(Refusal::MixedCredentials)),
+        Caller::InvalidClient => Ok(Judged::Refused(Refusal::InvalidClient)),
+        Caller::Client(client) => {
+            let grant_type = params.value("grant_type");
+            judge_by_type(alloc, ledger, now, params, client, grant_type)
+        }
+    }
+}
+
+fn judge_by_type(
+    alloc: Global,
+    ledger: &Ledger,
+    now: Moment,
+    params: &Params,
+    client: Dot,
+    grant_type: Option<&str>,
+) -> Result<Judged, AllocError>
+    ensures value { IfOk result (λ judged. judged ≡ spec.judged_by_type (facts_of ledger.now) now params.now client (option_copied grant_type.entry)) }
+    ensures sound { IfOk result (IsSoundJudged now) }
+{
+    let Some(grant_type) = grant_type else {
+        return Ok(Judged::Refused(Refusal::MissingGrantType));
+    };
+    if grant_type == "authorization_code" {
+        let gate = find_gate(ledger, now, client, Kind::Code, params.value("code"));
+        return redeem(alloc, ledger, now, params, gate);
+    }
+    if grant_type == "refresh_token" {
+        let gate = find_gate(ledger, now, client, Kind::Refresh, params.value("refresh_token"));
+        return rotate(alloc, now, params, gate);
+    }
+    Ok(Judged::Refused(Refusal::UnsupportedGrantType))
+}

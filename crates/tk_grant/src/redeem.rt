@@ -1,0 +1,110 @@
+//! A code is redeemed (RFC 6749, 4.1.3).
+
+ghost use Rattle.std.specs.Prelude.{◌≡◌, ◌<◌, IfOk};
+ghost use Rattle.std.specs.FinMap as map;
+ghost use Rattle.std.specs.Option.{option_copied};
+ghost use Rattle.tk_store.specs.Store.{facts_of};
+ghost use Rattle.tk_ledger.specs.Tokens as tokens;
+ghost use Rattle.tk_grant.specs.Redeemed as spec;
+ghost use Rattle.tk_grant.specs.SoundGate.{IsSoundGate};
+ghost use Rattle.tk_grant.specs.SoundJudged.{IsSoundJudged};
+
+use crate::gate::Gate;
+use crate::judged::{Grant, Judged};
+use crate::refusal::Refusal;
+use std::alloc::{AllocError, Global};
+use tk_fact::{Body, CodeIssued};
+use tk_handle::{Dot, Moment};
+use tk_ledger::{Ledger, Standing};
+use tk_match::{Challenge, Uri};
+use tk_message::Params;
+
+// Whether the code that serves is redeemed by these parameters.
+pub(crate) fn redeem(
+    alloc: Global,
+    ledger: &Ledger,
+    now: Moment,
+    params: &Params,
+    gate: Gate<'_>,
+) -> Result<Judged, AllocError>
+    requires { IsSoundGate now gate }
+    ensures value { IfOk result (λ judged. judged ≡ spec.redeemed_of (facts_of ledger.now) params.now gate.entry) }
+    ensures sound { IfOk result (IsSoundJudged now) }
+{
+    match gate {
+        Gate::Shut(why) => Ok(Judged::Refused(why)),
+        Gate::Reuse(id) => Ok(Judged::Reused(id)),
+        Gate::Open(_, standing) => {
+            let code = issued_at(ledger, standing.code);
+            redeem_by(alloc, now, params, &standing, code)
+        }
+    }
+}
+
+fn issued_at(ledger: &Ledger, code: Dot) -> Option<&CodeIssued>
+    ensures { option_copied result ≡ tokens.issued_at (map.get (facts_of ledger.now)) code }
+{
+    match ledger.store().get(code) {
+        Some(fact) => issued_in(&fact.body),
+        None => None,
+    }
+}
+
+fn issued_in(body: &Body) -> Option<&CodeIssued>
+    ensures { option_copied result ≡ tokens.issued_in body.now }
+{
+    match body {
+        Body::CodeIssued(code) => Some(code),
+        _ => None,
+    }
+}
+
+fn redeem_by(
+    alloc: Global,
+    now: Moment,
+    params: &Params,
+    standing: &Standing<'_>,
+    code: Option<&CodeIssued>,
+) -> Result<Judged, AllocError>
+    requires { now < standing.now.family_end }
+    ensures value { IfOk result (λ judged. judged ≡ spec.redeemed_by params.now standing.now (option_copied code.entry)) }
+    ensures sound { IfOk result (IsSoundJudged now) }
+{
+    let Some(code) = code else {
+        return Ok(Judged::Refused(Refusal::UnknownGrant));
+    };
+    if !names_uri(code.sent, &code.uri, params.value("redirect_uri")) {
+        return Ok(Judged::Refused(Refusal::WrongRedirect));
+    }
+    if !meets_challenge(&code.challenge, params.value("code_verifier")) {
+        return Ok(Judged::Refused(Refusal::WrongVerifier));
+    }
+    let access = standing.scope.copy(alloc)?;
+    let refresh = standing.scope.copy(alloc)?;
+    Ok(Judged::Redeems(Grant {
+        from: standing.code,
+        family_end: standing.family_end,
+        access,
+        refresh,
+    }))
+}
+
+fn names_uri(sent: bool, uri: &Uri, named: Option<&str>) -> bool
+    ensures { result ≡ spec.names_uri sent uri.now (option_copied named.entry) }
+{
+    match named {
+        Some(named) => named == uri.as_str(),
+        None => !sent,
+    }
+}
+
+fn meets_challenge(challenge: &Option<Challenge>, verifier: Option<&str>) -> bool
+    ensures { result ≡ spec.meets_challenge challenge.now (option_copied verifier.entry) }
+{
+    match (challenge, verifier) {
+        (None, None) => true,
+        (None, Some(_)) => false,
+        (Some(_), None) => false,
+        (Some(challenge), Some(verifier)) => challenge.meets(verifier.as_bytes()),
+    }
+}

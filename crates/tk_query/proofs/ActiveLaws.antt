@@ -1,0 +1,127 @@
+-- Introspection tells of exactly the active tokens. Key results: says_active, says_nothing.
+use Rattle.std.proofs.Common.{◌≡◌, ◌≢◌, ℕ, Bool, true, false, ◌||◌, not, cond, Some, refl, sym, ap, subst, ◌∙◌}
+use Rattle.std.proofs.lemmas.Bool.{false_from_ne_true}
+use Rattle.std.specs.FinMap as map
+use Rattle.tk_handle.specs.declared.dot.Dot.{Dot}
+use Rattle.tk_handle.specs.declared.kind.Kind.{Kind}
+use Rattle.tk_handle.specs.declared.kind.Kind.TheVariants as kind
+use Rattle.tk_handle.specs.declared.handle.Handle.{Handle}
+use Rattle.tk_family.proofs.FamilyLaws.{IsUnder-one}
+use Rattle.tk_fact.specs.declared.sort.Sort.{Sort}
+use Rattle.tk_fact.specs.declared.code_issued.CodeIssued as issued
+use Rattle.tk_fact.specs.Tokens.{MintedFields}
+use Rattle.tk_store.specs.FactSet.{FactSet}
+use Rattle.tk_store.proofs.PutLaws.{some_injective}
+use Rattle.tk_ledger.specs.declared.status.State.{State}
+use Rattle.tk_ledger.specs.declared.status.State.TheVariants as state
+use Rattle.tk_ledger.specs.declared.status.Status.{Status}
+use Rattle.tk_ledger.specs.declared.status.Status.TheVariants.{Unseen, Wrong, Broken, Known}
+use Rattle.tk_ledger.specs.StandingFields.{StandingFields}
+use Rattle.tk_ledger.specs.Tokens.{links_in, issued_at}
+use Rattle.tk_ledger.specs.Status.{status_in, IsActive}
+use Rattle.tk_ledger.proofs.StatusCases.{Knows, known_parts}
+use Rattle.tk_ledger.proofs.StatusLaws.{live_is_active, active_is_live}
+use Rattle.tk_message.specs.Reply.{inactive_reply}
+use Rattle.tk_message.specs.ReplyFields.{ReplyFields}
+use Rattle.tk_query.specs.declared.introspected.Introspected.{Introspected}
+use Rattle.tk_query.specs.declared.introspected.Introspected.TheVariants.{Inactive}
+use Rattle.tk_query.specs.Introspected.{sees, is_live, active, introspected_by_status, introspected_by_kind}
+use Rattle.tk_query.specs.Introspection.{told}
+use Rattle.tk_query.specs.Laws.{told_by_kind, told_to}
+
+-- ---- nothing is told of another token
+
+live_state : (x : State) → is_live x ≡ true → x ≡ state.Live
+live_state state.Dead h = cc
+live_state state.Withdrawn h = cc
+live_state state.Over h = cc
+live_state state.Used h = cc
+live_state state.Past h = cc
+live_state state.Ended h = cc
+live_state state.Live h = refl
+
+second_fails : (b c : Bool) (x y : Introspected) → c ≡ false → cond (not b || not c) x y ≡ x
+second_fails true c x y h = ap (λ t. cond (not t) x y) h
+second_fails false c x y h = refl
+
+quiet : (F : FactSet) (now : ℕ) (sort : Sort) (asker : Dot) (h : Handle) (k : Kind) (x : Status) → status_in F now h ≡ x → h.id.kind ≢ kind.Code → ¬ IsActive (map.get F) now h → introspected_by_status sort asker k x ≡ Inactive
+quiet F now sort asker h k Unseen e nc n = refl
+quiet F now sort asker h k Wrong e nc n = refl
+quiet F now sort asker h k (Broken t) e nc n = refl
+quiet F now sort asker h k (Known s) e nc n =
+    second_fails (sees sort asker s.client) (is_live s.state) Inactive (active k s)
+    (false_from_ne_true (is_live s.state) (λ l. n (live_is_active F now h s nc e (live_state s.state l))))
+
+no_code : (k : Kind) → k ≡ kind.Access → k ≢ kind.Code
+no_code k a c = let e : kind.Access ≡ kind.Code = sym a ∙ c in cc
+
+no_code_either : (k : Kind) → k ≡ kind.Refresh → k ≢ kind.Code
+no_code_either k a c = let e : kind.Refresh ≡ kind.Code = sym a ∙ c in cc
+
+quiet_by_kind : (F : FactSet) (now : ℕ) (sort : Sort) (asker : Dot) (h : Handle) (k : Kind) → h.id.kind ≡ k → ¬ IsActive (map.get F) now h → introspected_by_kind F now sort asker h k ≡ Inactive
+quiet_by_kind F now sort asker h kind.Code e n = refl
+quiet_by_kind F now sort asker h kind.Access e n = quiet F now sort asker h kind.Access (status_in F now h) refl (no_code h.id.kind e) n
+quiet_by_kind F now sort asker h kind.Refresh e n = quiet F now sort asker h kind.Refresh (status_in F now h) refl (no_code_either h.id.kind e) n
+
+pub says_nothing : (F : FactSet) (now : ℕ) (sort : Sort) (asker : Dot) (h : Handle) → ¬ IsActive (map.get F) now h → told_to F now sort asker h ≡ inactive_reply
+says_nothing F now sort asker h n = ap told (quiet_by_kind F now sort asker h h.id.kind refl n)
+
+-- ---- an active token is told
+
+-- the fields of the standing that are told
+pub record Tells (F : FactSet) (now : ℕ) (h : Handle) (a : IsActive (map.get F) now h) (s : StandingFields) : Type 0 where
+  pub is : status_in F now h ≡ Known s
+  pub live : s.state ≡ state.Live
+  pub client : s.client ≡ a.issued.client
+  pub expiry : s.expiry ≡ a.minted.expiry
+  pub start : s.start ≡ a.minted.start
+  pub scope : s.scope ≡ a.minted.scope
+  pub subject : s.subject ≡ a.issued.subject
+
+tells : (F : FactSet) (now : ℕ) (h : Handle) (a : IsActive (map.get F) now h) → (s : StandingFields) × Tells F now h a s
+tells F now h a =
+    let y : (s : StandingFields) × (status_in F now h ≡ Known s) × (s.state ≡ state.Live) = active_is_live F now h a in
+    let x : Knows F now h y.0 = known_parts F now h y.0 y.1 in
+    let m : x.minted ≡ a.minted = some_injective x.minted a.minted (sym x.mints ∙ a.mints) in
+    let c : x.root.code ≡ a.code = IsUnder-one (links_in (map.get F)) h.id.dot x.root.code a.code x.under a.under in
+    let i : x.root.issued ≡ a.issued = some_injective x.root.issued a.issued (sym x.issues ∙ ap (issued_at (map.get F)) c ∙ a.issues) in (
+      y.0,
+      record {
+        is = y.1;
+        live = y.2;
+        client = sym (ap (λ (z : StandingFields). z.client) x.standing) ∙ ap (λ (z : issued.CodeIssued). z.client) i;
+        expiry = sym (ap (λ (z : StandingFields). z.expiry) x.standing) ∙ ap (λ (z : MintedFields). z.expiry) m;
+        start = sym (ap (λ (z : StandingFields). z.start) x.standing) ∙ ap (λ (z : MintedFields). z.start) m;
+        scope = sym (ap (λ (z : StandingFields). z.scope) x.standing) ∙ ap (λ (z : MintedFields). z.scope) m;
+        subject = sym (ap (λ (z : StandingFields). z.subject) x.standing) ∙ ap (λ (z : issued.CodeIssued). z.subject) i;
+      },
+    )
+
+both_hold : (a b : Bool) (x y : Introspected) → a ≡ true → b ≡ true → cond (not a || not b) x y ≡ y
+both_hold a b x y h i = rw (h, i) refl
+
+-- what is told of the standing of an active token
+loud_as : (F : FactSet) (now : ℕ) (sort : Sort) (asker : Dot) (h : Handle) (a : IsActive (map.get F) now h) (s : StandingFields) → Tells F now h a s → sees sort asker a.issued.client ≡ true → (k : Kind) → introspected_by_status sort asker k (status_in F now h) ≡ active k s
+loud_as F now sort asker h a s t seen k =
+    ap (introspected_by_status sort asker k) t.is
+    ∙ both_hold (sees sort asker s.client) (is_live s.state) Inactive (active k s) (ap (sees sort asker) t.client ∙ seen) (ap is_live t.live)
+
+told_fields : (k : Kind) (s : StandingFields) → told (active k s) ≡ told_by_kind k s.client s.expiry s.start s.scope s.subject
+told_fields kind.Code s = refl
+told_fields kind.Access s = refl
+told_fields kind.Refresh s = refl
+
+same_fields : (F : FactSet) (now : ℕ) (h : Handle) (a : IsActive (map.get F) now h) (s : StandingFields) → Tells F now h a s → (k : Kind) → told_by_kind k s.client s.expiry s.start s.scope s.subject ≡ told_by_kind k a.issued.client a.minted.expiry a.minted.start a.minted.scope a.issued.subject
+same_fields F now h a s t k = rw (t.client, t.expiry, t.start, t.scope, t.subject) refl
+
+loud_by_kind : (F : FactSet) (now : ℕ) (sort : Sort) (asker : Dot) (h : Handle) (a : IsActive (map.get F) now h) (s : StandingFields) → Tells F now h a s → sees sort asker a.issued.client ≡ true → (k : Kind) → h.id.kind ≡ k → introspected_by_kind F now sort asker h k ≡ active k s
+loud_by_kind F now sort asker h a s t seen kind.Code e = absurd (a.no_code e)
+loud_by_kind F now sort asker h a s t seen kind.Access e = loud_as F now sort asker h a s t seen kind.Access
+loud_by_kind F now sort asker h a s t seen kind.Refresh e = loud_as F now sort asker h a s t seen kind.Refresh
+
+pub says_active : (F : FactSet) (now : ℕ) (sort : Sort) (asker : Dot) (h : Handle) (a : IsActive (map.get F) now h) → sees sort asker a.issued.client ≡ true → told_to F now sort asker h ≡ told_by_kind h.id.kind a.issued.client a.minted.expiry a.minted.start a.minted.scope a.issued.subject
+says_active F now sort asker h a seen =
+    let x : (s : StandingFields) × Tells F now h a s = tells F now h a in
+    ap told (loud_by_kind F now sort asker h a x.0 x.1 seen h.id.kind refl)
+    ∙ told_fields h.id.kind x.0
+    ∙ same_fields F now h a x.0 x.1 h.id.kind

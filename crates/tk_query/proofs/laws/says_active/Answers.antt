@@ -1,0 +1,9 @@
+-- The law of introspection, from the laws of a status.
+use Rattle.tk_query.proofs.ActiveLaws as laws
+use Rattle.tk_query.proofs.laws.says_active.Goals as goal
+
+pub returns-clause-active : goal.returns-clause-active
+returns-clause-active c = λ F now sort asker h a seen. laws.says_active F now sort asker h a seen
+
+pub returns-clause-nothing : goal.returns-clause-nothing
+returns-clause-nothing c = λ F now sort asker h n. laws.says_nothing F now sort asker h n

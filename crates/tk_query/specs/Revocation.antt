@@ -1,0 +1,27 @@
+-- What a revocation request is answered, and the fact that it makes (RFC 7009, 2.2).
+--   revocation_of   the decision
+use Rattle.std.specs.Prelude.{ℕ, Some}
+use Rattle.tk_fact.specs.declared.body.Body.TheVariants.{TokenRevoked}
+use Rattle.tk_store.specs.FactSet.{FactSet}
+use Rattle.tk_message.specs.declared.decision.Decision.{Decision}
+use Rattle.tk_message.specs.declared.place.Place.{Place}
+use Rattle.tk_message.specs.declared.status.Status.TheVariants.{Ok}
+use Rattle.tk_message.specs.Caller.{caller_of}
+use Rattle.tk_message.specs.Decision.{answered, refused}
+use Rattle.tk_message.specs.Reply.{empty_reply}
+use Rattle.tk_message.specs.RequestFields.{RequestFields}
+use Rattle.tk_query.specs.declared.revoked.Revocation.{Revocation}
+use Rattle.tk_query.specs.declared.revoked.Revocation.TheVariants.{Refused, Done, Revokes}
+use Rattle.tk_query.specs.Caller.{known_names}
+use Rattle.tk_query.specs.Refusal.{refusal_code}
+use Rattle.tk_query.specs.Revoked.{revoked_by_caller}
+
+-- an error (RFC 7009, 2.2.1); 200 without a body, whether or not anything was left to revoke (2.2)
+abbrev pub revoked_by : Revocation → Decision
+revoked_by (Refused why) = refused (refusal_code why)
+revoked_by (Done why) = answered (empty_reply Ok)
+revoked_by (Revokes fact) = record { reply = empty_reply Ok; made = Some (TokenRevoked fact) }
+
+-- of the place the number alone is asked for
+abbrev pub revocation_of : FactSet → Place → ℕ → RequestFields → Decision
+revocation_of F place now request = revoked_by (revoked_by_caller F place.number now request.params (caller_of F known_names request))

@@ -1,0 +1,80 @@
+-- What a revocation comes to: the ordered cases, the first that holds (RFC 7009, 2.1 and 2.2).
+--   revocation_of       the fact that the client revoked a handle's token
+--   revoked_by_caller   what the revocation comes to
+use Rattle.std.specs.Prelude.{ℕ, ◌==◌, nat_le, List, codes, Option, Some, None, if◌then◌else◌}
+use Rattle.tk_handle.specs.declared.dot.Dot.{Dot}
+use Rattle.tk_handle.specs.declared.kind.Kind.{Kind}
+use Rattle.tk_handle.specs.declared.kind.Kind.TheVariants as kind
+use Rattle.tk_handle.specs.declared.handle.Handle.{Handle}
+use Rattle.tk_handle.specs.Handle.{handle_in}
+use Rattle.tk_fact.specs.declared.token_revoked.TokenRevoked.{TokenRevoked}
+use Rattle.tk_store.specs.FactSet.{FactSet}
+use Rattle.tk_ledger.specs.Bodies.{is_same_dot}
+use Rattle.tk_ledger.specs.Status.{status_in, digest_of}
+use Rattle.tk_ledger.specs.Tokens.{is_revoked}
+use Rattle.tk_ledger.specs.declared.status.State.{State}
+use Rattle.tk_ledger.specs.declared.status.State.TheVariants as state
+use Rattle.tk_ledger.specs.declared.status.Status.{Status}
+use Rattle.tk_ledger.specs.declared.status.Status.TheVariants.{Unseen, Wrong, Broken, Known}
+use Rattle.tk_params.specs.Params.{Pairs, value_of}
+use Rattle.tk_message.specs.declared.caller.Caller.{Caller}
+use Rattle.tk_message.specs.declared.caller.Caller.TheVariants as caller
+use Rattle.tk_query.specs.declared.idle.Idle.TheVariants as idle
+use Rattle.tk_query.specs.declared.refusal.Refusal.TheVariants as refusal
+use Rattle.tk_query.specs.declared.revoked.Revocation.{Revocation}
+use Rattle.tk_query.specs.declared.revoked.Revocation.TheVariants.{Refused, Done, Revokes}
+
+-- the token of that kind at the handle's dot, by the handle's digest
+abbrev pub revocation_of : Handle → Kind → Dot → TokenRevoked
+revocation_of h k client = record { token = record { dot = h.id.dot; kind = k }; digest = digest_of h; client = client }
+
+-- the client revoked it before (RFC 7009, 2.2); else the fact is made, whether or not the token has been seen (own)
+abbrev pub revoked_unless_held : FactSet → TokenRevoked → Revocation
+revoked_unless_held F fact = if is_revoked F fact.token fact.digest fact.client then Done idle.Revoked else Revokes fact
+
+-- another client's token (RFC 7009, 2.1)
+abbrev pub revoked_of_client : FactSet → TokenRevoked → Dot → Revocation
+revoked_of_client F fact client = if is_same_dot client fact.client then revoked_unless_held F fact else Refused refusal.ForeignToken
+
+-- its family is dead: no token of it serves, whoever asks (RFC 7009, 2.2)
+abbrev pub revoked_by_state : FactSet → TokenRevoked → Dot → State → Revocation
+revoked_by_state F fact client state.Dead = Done idle.DeadFamily
+revoked_by_state F fact client state.Withdrawn = revoked_of_client F fact client
+revoked_by_state F fact client state.Over = revoked_of_client F fact client
+revoked_by_state F fact client state.Used = revoked_of_client F fact client
+revoked_by_state F fact client state.Past = revoked_of_client F fact client
+revoked_by_state F fact client state.Ended = revoked_of_client F fact client
+revoked_by_state F fact client state.Live = revoked_of_client F fact client
+
+-- a handle that was never minted: another is at its dot, or it would be of this region; one that has ended (RFC 7009, 2.2)
+abbrev pub revoked_by_status : FactSet → ℕ → ℕ → TokenRevoked → Status → Revocation
+revoked_by_status F number now fact Wrong = Done idle.WrongHandle
+revoked_by_status F number now fact Unseen =
+    if fact.token.dot.region == number then Done idle.NeverMinted else revoked_unless_held F fact
+revoked_by_status F number now fact (Broken expiry) =
+    if nat_le expiry now then Done idle.Past else revoked_unless_held F fact
+revoked_by_status F number now fact (Known s) =
+    if nat_le s.expiry now then Done idle.Past else revoked_by_state F fact s.client s.state
+
+-- a code isn't revoked (RFC 7009, 2)
+abbrev pub revoked_by_kind : FactSet → ℕ → ℕ → Dot → Handle → Kind → Revocation
+revoked_by_kind F number now client h kind.Code = Done idle.Code
+revoked_by_kind F number now client h kind.Access = revoked_by_status F number now (revocation_of h kind.Access client) (status_in F now h)
+revoked_by_kind F number now client h kind.Refresh = revoked_by_status F number now (revocation_of h kind.Refresh client) (status_in F now h)
+
+-- no handle is no token (RFC 7009, 2.2)
+abbrev pub revoked_by_handle : FactSet → ℕ → ℕ → Dot → Option Handle → Revocation
+revoked_by_handle F number now client None = Done idle.NoHandle
+revoked_by_handle F number now client (Some h) = revoked_by_kind F number now client h h.id.kind
+
+-- no token (RFC 7009, 2.1)
+abbrev pub revoked_by_text : FactSet → ℕ → ℕ → Dot → Option (List ℕ) → Revocation
+revoked_by_text F number now client None = Refused refusal.MissingToken
+revoked_by_text F number now client (Some text) = revoked_by_handle F number now client (handle_in text)
+
+-- who asks: a known parameter twice, credentials in two places, no authenticated client (RFC 6749, 2.3 and 3.2; RFC 7009, 2.1)
+abbrev pub revoked_by_caller : FactSet → ℕ → ℕ → Pairs → Caller → Revocation
+revoked_by_caller F number now params caller.DuplicateParameter = Refused refusal.DuplicateParameter
+revoked_by_caller F number now params caller.MixedCredentials = Refused refusal.MixedCredentials
+revoked_by_caller F number now params caller.InvalidClient = Refused refusal.InvalidClient
+revoked_by_caller F number now params (caller.Client client) = revoked_by_text F number now client (value_of (codes "token") params)

@@ -1,0 +1,11 @@
+-- What holds of every revocation (own): it is what makes the fact pass its check.
+--   IsSoundRevocation   what is revoked is an access or refresh token
+use Rattle.std.specs.Prelude.{◌≡◌, true}
+use Rattle.tk_fact.specs.Check.{is_revocable}
+use Rattle.tk_query.specs.declared.revoked.Revocation.{Revocation}
+use Rattle.tk_query.specs.declared.revoked.Revocation.TheVariants.{Refused, Done, Revokes}
+
+abbrev pub IsSoundRevocation : Revocation → Type 0
+IsSoundRevocation (Refused why) = Unit {0}
+IsSoundRevocation (Done why) = Unit {0}
+IsSoundRevocation (Revokes fact) = is_revocable fact.token.kind ≡ true

@@ -1,0 +1,21 @@
+//! Who asks, at both endpoints.
+
+ghost use Rattle.std.specs.Prelude.{◌≡◌, IfOk};
+ghost use Rattle.tk_store.specs.Store.{facts_of};
+ghost use Rattle.tk_message.specs.Caller.{caller_of};
+ghost use Rattle.tk_query.specs.Caller.{known_names};
+
+use std::alloc::{AllocError, Global};
+use tk_ledger::Ledger;
+use tk_message::{Caller, Request, find_caller};
+
+pub(crate) fn caller_here(
+    alloc: Global,
+    ledger: &Ledger,
+    request: &Request,
+) -> Result<Caller, AllocError>
+    ensures { IfOk result (λ caller. caller ≡ caller_of (facts_of ledger.now) known_names request.now) }
+{
+    let names = ["token", "token_type_hint", "client_id", "client_secret"];
+    find_caller(alloc, ledger, &names, request)
+}

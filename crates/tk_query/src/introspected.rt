@@ -1,0 +1,144 @@
+//! What is known of a token to who asks: the ordered cases of introspection.
+
+use tk_ledger::Standing;
+
+// What is known of a token to who asks.
+#[derive(Debug, Drop)]
+pub(crate) enum Introspected<'a> {
+    Refused(Refusal),
+    // It isn't active, or isn't the asker's to see.
+    Inactive,
+    // An active access token.
+    Access(Standing<'a>),
+    // An active refresh token.
+    Refresh(Standing<'a>),
+}
+
+ghost use Rattle.std.specs.Prelude.{◌≡◌};
+ghost use Rattle.std.specs.Option.{option_copied};
+ghost use Rattle.tk_store.specs.Store.{facts_of};
+ghost use Rattle.tk_query.specs.Introspected as spec;
+
+use crate::refusal::Refusal;
+use tk_fact::Sort;
+use tk_handle::{Dot, Handle, Kind, Moment};
+use tk_ledger::{Ledger, State, Status};
+use tk_message::{Caller, Params};
+
+// The ordered cases, for who asks.
+pub(crate) fn introspect<'a>(
+    ledger: &'a Ledger,
+    now: Moment,
+    params: &Params,
+    caller: Caller,
+) -> Introspected<'a>
+    ensures { result ≡ spec.introspected_by_caller (facts_of ledger.now) now params.now caller }
+{
+    match caller {
+        Caller::DuplicateParameter => Introspected::Refused(Refusal::DuplicateParameter),
+        Caller::MixedCredentials => Introspected::Refused(Refusal::MixedCredentials),
+        Caller::InvalidClient => Introspected::Refused(Refusal::InvalidClient),
+        Caller::Client(asker) => match ledger.client(asker) {
+            Some(client) => introspect_as(ledger, now, params, asker, client.sort),
+            None => Introspected::Refused(Refusal::InvalidClient),
+        },
+    }
+}
+
+fn introspect_as<'a>(
+    ledger: &'a Ledger,
+    now: Moment,
+    params: &Params,
+    asker: Dot,
+    sort: &Sort,
+) -> Introspected<'a>
+    ensures { result ≡ spec.introspected_as (facts_of ledger.now) now params.now asker sort.now }
+{
+    match sort {
+        Sort::Public => Introspected::Refused(Refusal::PublicClient),
+        Sort::Confidential(_) => introspect_token(ledger, now, sort, asker, params.value("token")),
+        Sort::Resource(_) => introspect_token(ledger, now, sort, asker, params.value("token")),
+    }
+}
+
+fn introspect_token<'a>(
+    ledger: &'a Ledger,
+    now: Moment,
+    sort: &Sort,
+    asker: Dot,
+    text: Option<&str>,
+) -> Introspected<'a>
+    ensures { result ≡ spec.introspected_by_text (facts_of ledger.now) now sort.now asker (option_copied text.entry) }
+{
+    let Some(text) = text else {
+        return Introspected::Refused(Refusal::MissingToken);
+    };
+    match Handle::read(text.as_bytes()) {
+        Some(handle) => introspect_handle(ledger, now, sort, asker, &handle),
+        None => Introspected::Inactive,
+    }
+}
+
+fn introspect_handle<'a>(
+    ledger: &'a Ledger,
+    now: Moment,
+    sort: &Sort,
+    asker: Dot,
+    handle: &Handle,
+) -> Introspected<'a>
+    ensures { result ≡ spec.introspected_by_kind (facts_of ledger.now) now sort.now asker handle.now handle.now.id.kind }
+{
+    match handle.id.kind {
+        Kind::Code => Introspected::Inactive,
+        Kind::Access => by_status(sort, asker, Kind::Access, ledger.status(now, handle)),
+        Kind::Refresh => by_status(sort, asker, Kind::Refresh, ledger.status(now, handle)),
+    }
+}
+
+fn by_status<'a>(sort: &Sort, asker: Dot, kind: Kind, status: Status<'a>) -> Introspected<'a>
+    ensures { result ≡ spec.introspected_by_status sort.now asker kind status.entry }
+{
+    match status {
+        Status::Unseen => Introspected::Inactive,
+        Status::Wrong => Introspected::Inactive,
+        Status::Broken(_) => Introspected::Inactive,
+        Status::Known(standing) => by_standing(sort, asker, kind, standing),
+    }
+}
+
+fn by_standing<'a>(sort: &Sort, asker: Dot, kind: Kind, standing: Standing<'a>) -> Introspected<'a>
+    ensures { result ≡ spec.introspected_by_standing sort.now asker kind standing.entry }
+{
+    if !sees(sort, asker, standing.client) || !is_live(standing.state) {
+        return Introspected::Inactive;
+    }
+    match kind {
+        Kind::Code => Introspected::Inactive,
+        Kind::Access => Introspected::Access(standing),
+        Kind::Refresh => Introspected::Refresh(standing),
+    }
+}
+
+fn sees(sort: &Sort, asker: Dot, client: Dot) -> bool
+    ensures { result ≡ spec.sees sort.now asker client }
+{
+    match sort {
+        Sort::Public => false,
+        Sort::Confidential(_) => client == asker,
+        Sort::Resource(_) => true,
+    }
+}
+
+fn is_live(state: State) -> bool
+    ensures { result ≡ spec.is_live state }
+{
+    match state {
+        State::Dead
+        | State::Withdrawn
+        | State::Over
+        | State::Used
+        | State::Past
+        | State::Ended => false,
+        State::Live => true,
+    }
+}

@@ -1,0 +1,69 @@
+//! What an introspection request is answered.
+
+ghost use Rattle.std.specs.Prelude.{◌≡◌, IfOk};
+ghost use Rattle.tk_store.specs.Store.{facts_of};
+ghost use Rattle.tk_message.specs.Decision.{answered};
+ghost use Rattle.tk_query.specs.Introspection as spec;
+
+use crate::caller::caller_here;
+use crate::introspected::{Introspected, introspect};
+use std::alloc::{AllocError, Global};
+use tk_handle::Moment;
+use tk_ledger::{Ledger, Standing};
+use tk_message::{
+    Decision, Reply, Request, access_reply, error_reply, inactive_reply, refresh_reply,
+};
+
+/// What is said of a token (RFC 7662, 2): of an active one its client, end, start, scope and subject, of any other that it
+/// isn't active. It depends on the facts, the moment and the request alone, and makes no fact. An error where memory is
+/// refused.
+pub fn decide_introspect(
+    alloc: Global,
+    ledger: &Ledger,
+    now: Moment,
+    request: &Request,
+) -> Result<Decision, AllocError>
+    ensures { IfOk result (λ d. d ≡ answered (spec.introspection_of (facts_of ledger.now) now request.now)) }
+{
+    let caller = caller_here(alloc, ledger, request)?;
+    let known = introspect(ledger, now, &request.params, caller);
+    let reply = reply_to(alloc, known)?;
+    Ok(Decision::answer(reply))
+}
+
+fn reply_to(alloc: Global, known: Introspected<'_>) -> Result<Reply, AllocError>
+    ensures { IfOk result (λ reply. reply ≡ spec.told known.entry) }
+{
+    match known {
+        Introspected::Refused(why) => error_reply(alloc, why.code()),
+        Introspected::Inactive => inactive_reply(alloc),
+        Introspected::Access(standing) => tell_access(alloc, &standing),
+        Introspected::Refresh(standing) => tell_refresh(alloc, &standing),
+    }
+}
+
+fn tell_access(alloc: Global, standing: &Standing<'_>) -> Result<Reply, AllocError>
+    ensures { IfOk result (λ reply. reply ≡ spec.told_access standing.now) }
+{
+    access_reply(
+        alloc,
+        standing.client,
+        standing.expiry,
+        standing.start,
+        standing.scope,
+        standing.subject,
+    )
+}
+
+fn tell_refresh(alloc: Global, standing: &Standing<'_>) -> Result<Reply, AllocError>
+    ensures { IfOk result (λ reply. reply ≡ spec.told_refresh standing.now) }
+{
+    refresh_reply(
+        alloc,
+        standing.client,
+        standing.expiry,
+        standing.start,
+        standing.scope,
+        standing.subject,
+    )
+}

@@ -1,0 +1,186 @@
+//! What a revocation comes to: the ordered cases.
+
+use tk_fact::TokenRevoked;
+
+// What a revocation comes to.
+#[derive(Debug, Drop)]
+pub(crate) enum Revocation {
+    Refused(Refusal),
+    // Nothing is left to revoke.
+    Done(Idle),
+    // A fact says that the client revoked the token, whether or not that has been seen.
+    Revokes(TokenRevoked),
+}
+
+ghost use Rattle.std.specs.Prelude.{◌≡◌, true};
+ghost use Rattle.std.specs.Option.{option_copied};
+ghost use Rattle.tk_fact.specs.Check.{is_revocable};
+ghost use Rattle.tk_store.specs.Store.{facts_of};
+ghost use Rattle.tk_query.specs.Revoked as spec;
+ghost use Rattle.tk_query.specs.SoundRevocation.{IsSoundRevocation};
+
+use crate::idle::Idle;
+use crate::refusal::Refusal;
+use tk_handle::{Dot, Handle, Kind, Moment, RegionNumber, TokenId};
+use tk_ledger::{Ledger, Standing, State, Status};
+use tk_message::{Caller, Params};
+
+// The ordered cases, for who asks.
+pub(crate) fn revoke(
+    ledger: &Ledger,
+    number: RegionNumber,
+    now: Moment,
+    params: &Params,
+    caller: Caller,
+) -> Revocation
+    ensures value { result ≡ spec.revoked_by_caller (facts_of ledger.now) number now params.now caller }
+    ensures sound { IsSoundRevocation result }
+{
+    match caller {
+        Caller::DuplicateParameter => Revocation::Refused(Refusal::DuplicateParameter),
+        Caller::MixedCredentials => Revocation::Refused(Refusal::MixedCredentials),
+        Caller::InvalidClient => Revocation::Refused(Refusal::InvalidClient),
+        Caller::Client(client) => revoke_text(ledger, number, now, client, params.value("token")),
+    }
+}
+
+fn revoke_text(
+    ledger: &Ledger,
+    number: RegionNumber,
+    now: Moment,
+    client: Dot,
+    text: Option<&str>,
+) -> Revocation
+    ensures value { result ≡ spec.revoked_by_text (facts_of ledger.now) number now client (option_copied text.entry) }
+    ensures sound { IsSoundRevocation result }
+{
+    let Some(text) = text else {
+        return Revocation::Refused(Refusal::MissingToken);
+    };
+    match Handle::read(text.as_bytes()) {
+        Some(handle) => revoke_handle(ledger, number, now, client, &handle),
+        None => Revocation::Done(Idle::NoHandle),
+    }
+}
+
+fn revoke_handle(
+    ledger: &Ledger,
+    number: RegionNumber,
+    now: Moment,
+    client: Dot,
+    handle: &Handle,
+) -> Revocation
+    ensures value { result ≡ spec.revoked_by_kind (facts_of ledger.now) number now client handle.now handle.now.id.kind }
+    ensures sound { IsSoundRevocation result }
+{
+    match handle.id.kind {
+        Kind::Code => Revocation::Done(Idle::Code),
+        Kind::Access => {
+            let fact = revocation_of(handle, Kind::Access, client);
+            revoke_by_status(ledger, number, now, fact, ledger.status(now, handle))
+        }
+        Kind::Refresh => {
+            let fact = revocation_of(handle, Kind::Refresh, client);
+            revoke_by_status(ledger, number, now, fact, ledger.status(now, handle))
+        }
+    }
+}
+
+fn revocation_of(handle: &Handle, kind: Kind, client: Dot) -> TokenRevoked
+    ensures { result ≡ spec.revocation_of handle.now kind client }
+{
+    let token = TokenId {
+        dot: handle.id.dot,
+        kind,
+    };
+    TokenRevoked {
+        token,
+        digest: handle.digest(),
+        client,
+    }
+}
+
+fn revoke_by_status(
+    ledger: &Ledger,
+    number: RegionNumber,
+    now: Moment,
+    fact: TokenRevoked,
+    status: Status<'_>,
+) -> Revocation
+    requires { is_revocable fact.token.kind ≡ true }
+    ensures value { result ≡ spec.revoked_by_status (facts_of ledger.now) number now fact status.entry }
+    ensures sound { IsSoundRevocation result }
+{
+    match status {
+        Status::Wrong => Revocation::Done(Idle::WrongHandle),
+        Status::Unseen => {
+            if fact.token.dot.region().number() == number.number() {
+                return Revocation::Done(Idle::NeverMinted);
+            }
+            revoke_unless_held(ledger, fact)
+        }
+        Status::Broken(expiry) => {
+            if expiry.seconds() <= now.seconds() {
+                return Revocation::Done(Idle::Past);
+            }
+            revoke_unless_held(ledger, fact)
+        }
+        Status::Known(standing) => {
+            if standing.expiry.seconds() <= now.seconds() {
+                return Revocation::Done(Idle::Past);
+            }
+            revoke_known(ledger, fact, &standing)
+        }
+    }
+}
+
+fn revoke_known(ledger: &Ledger, fact: TokenRevoked, standing: &Standing<'_>) -> Revocation
+    requires { is_revocable fact.token.kind ≡ true }
+    ensures value { result ≡ spec.revoked_by_state (facts_of ledger.now) fact standing.now.client standing.now.state }
+    ensures sound { IsSoundRevocation result }
+{
+    revoke_by_state(ledger, fact, standing.client, standing.state)
+}
+
+fn revoke_by_state(
+    ledger: &Ledger,
+    fact: TokenRevoked,
+    client: Dot,
+    state: State,
+) -> Revocation
+    requires { is_revocable fact.token.kind ≡ true }
+    ensures value { result ≡ spec.revoked_by_state (facts_of ledger.now) fact client state }
+    ensures sound { IsSoundRevocation result }
+{
+    match state {
+        State::Dead => Revocation::Done(Idle::DeadFamily),
+        State::Withdrawn
+        | State::Over
+        | State::Used
+        | State::Past
+        | State::Ended
+        | State::Live => revoke_of_client(ledger, fact, client),
+    }
+}
+
+fn revoke_of_client(ledger: &Ledger, fact: TokenRevoked, client: Dot) -> Revocation
+    requires { is_revocable fact.token.kind ≡ true }
+    ensures value { result ≡ spec.revoked_of_client (facts_of ledger.now) fact client }
+    ensures sound { IsSoundRevocation result }
+{
+    if client != fact.client {
+        return Revocation::Refused(Refusal::ForeignToken);
+    }
+    revoke_unless_held(ledger, fact)
+}
+
+fn revoke_unless_held(ledger: &Ledger, fact: TokenRevoked) -> Revocation
+    requires { is_revocable fact.token.kind ≡ true }
+    ensures value { result ≡ spec.revoked_unless_held (facts_of ledger.now) fact }
+    ensures sound { IsSoundRevocation result }
+{
+    if ledger.revoked(&fact.token, &fact.digest, fact.client) {
+        return Revocation::Done(Idle::Revoked);
+    }
+    Revocation::Revokes(fact)
+}

@@ -1,0 +1,88 @@
+-- What is promised of introspection, from what a run is. Key results:
+--   tells_of_sets       each introspection reply of a run is told by the set that its region holds then
+--   introspect_alike    equal sets introspect alike
+--   revoked_inactive, families_inactive   what is never told again
+use Rattle.std.proofs.Common.{◌≡◌, ℕ, zero, suc, List, [], ◌∷◌, take, slice_get, Some, None, unwrap_or, refl, sym, ap, subst, ◌∙◌}
+use Rattle.std.specs.FinMap as map
+use Rattle.tk_handle.specs.declared.dot.Dot.{Dot}
+use Rattle.tk_handle.specs.declared.handle.Handle.{Handle}
+use Rattle.tk_family.specs.Families.{IsUnder, IsBad}
+use Rattle.tk_store.specs.FactSet.{FactSet, Facts, IsSubset}
+use Rattle.tk_store.specs.Store.{facts_of}
+use Rattle.tk_store.specs.Joining.{JoinsFacts}
+use Rattle.tk_store.proofs.PutLaws.{none_is_not_some, some_injective}
+use Rattle.tk_ledger.specs.Status.{IsActive}
+use Rattle.tk_ledger.specs.Tokens.{links_in, IsEnded, IsMarked}
+use Rattle.tk_ledger.proofs.FamilyEnds as ends
+use Rattle.tk_message.specs.declared.request.Endpoint.{Endpoint}
+use Rattle.tk_message.specs.declared.request.Endpoint.TheVariants.{Introspect}
+use Rattle.tk_message.specs.ReplyFields.{ReplyFields}
+use Rattle.tk_message.specs.RequestFields.{RequestFields}
+use Rattle.tk_query.specs.Introspection.{introspection_of}
+use Rattle.tk_query.proofs.ActiveLaws.{says_nothing}
+use Rattle.tk_region.specs.Decision.{decision_by, capped}
+use Rattle.tk_region.specs.RegionFields.{RegionFields, place_in}
+use Rattle.tk_region.specs.Step.{prepared_of, prepared_by}
+use Rattle.tk_world.specs.declared.event.Event.{Event}
+use Rattle.tk_world.specs.declared.event.Event.TheVariants.{Open, Request, Pull, Deliver}
+use Rattle.tk_world.specs.declared.event.Outcome.{Outcome}
+use Rattle.tk_world.specs.declared.event.Outcome.TheVariants.{Opened, NumberTaken, NoRegion, NoBundle, Reply, Bundle, Took, Memory}
+use Rattle.tk_world.specs.Promises.{held_before, IsIntrospected, TellsOfSets, IntrospectAlike, IsInactive, RevokedInactive, FamiliesInactive}
+use Rattle.tk_world.specs.State.{State, facts_in, region_with}
+use Rattle.tk_world.specs.World.{Step, Run, seen_by}
+use Rattle.tk_world.proofs.RunLaws.{run_joins}
+
+-- ---- one event of a run
+
+-- the run up to an event, and the step of the event
+record At (old : State) (es : List Event) (os : List Outcome) (ss : List Facts) (i : ℕ) (e : Event) (o : Outcome) : Type 0 where
+  mid : State
+  next : State
+  seen : Facts
+  run : Run old (take i es) (take i os) (take i ss) mid
+  step : Step mid e o seen next
+
+run_at : (old : State) (es : List Event) (os : List Outcome) (ss : List Facts) (new : State) → Run old es os ss new → (i : ℕ) (e : Event) (o : Outcome) → slice_get es i ≡ Some e → slice_get os i ≡ Some o → At old es os ss i e o
+run_at old [] [] [] new run i e o he ho = absurd (none_is_not_some e he)
+run_at old (x ∷ es) (y ∷ os) (s ∷ ss) new run zero e o he ho = record {
+  mid = old;
+  next = run.0;
+  seen = s;
+  run = refl;
+  step = subst (λ z. Step old e z s run.0) (some_injective y o ho) (subst (λ z. Step old z y s run.0) (some_injective x e he) run.1);
+}
+run_at old (x ∷ es) (y ∷ os) (s ∷ ss) new run (suc i) e o he ho =
+    let at : At run.0 es os ss i e o = run_at run.0 es os ss new run.2 i e o he ho in
+    record { mid = at.mid; next = at.next; seen = at.seen; run = (run.0, run.1, at.run); step = at.step }
+run_at old es os ss new run i e o he ho = absurd run
+
+-- ---- equal facts introspect alike
+
+-- the cap is no matter, since no fact is made
+introspects : (r : RegionFields) (now : ℕ) (words : List ℕ) (request : RequestFields) → request.endpoint ≡ Introspect → (prepared_of r now words request).reply ≡ introspection_of (facts_of r.facts) now request
+introspects r now words request h =
+    ap (λ (e : Endpoint). (prepared_by r.settings.cap (place_in r) (decision_by e (facts_of r.facts) (place_in r) now words request)).reply) h
+
+pub tells_of_sets : (old : State) (es : List Event) (os : List Outcome) (ss : List Facts) (new : State) → Run old es os ss new → TellsOfSets old es os ss
+tells_of_sets old es os ss new run i r now request reply q =
+    let at : At old es os ss i (Request r now q.words request) (Reply reply) = run_at old es os ss new run i (Request r now q.words request) (Reply reply) q.asked q.answered in
+    let joins = run_joins old (take i es) (take i os) (take i ss) at.mid at.run r in
+    let F = at.step.0 in
+    let held : F ≡ held_before old es ss i r = ap (λ o. unwrap_or o map.empty) (sym at.step.1.is_open) ∙ joins.joins in
+    at.step.2.0 ∙ introspects (region_with at.mid r F) now q.words request q.introspects ∙ ap (λ G. introspection_of G now request) held
+
+pub introspect_alike : (old : State) (es : List Event) (os : List Outcome) (ss : List Facts) (new : State) → Run old es os ss new → IntrospectAlike old es os ss
+introspect_alike old es os ss new run i j q r now request one two a b same =
+    tells_of_sets old es os ss new run i q now request one a ∙ ap (λ G. introspection_of G now request) same
+    ∙ sym (tells_of_sets old es os ss new run j r now request two b)
+
+-- ---- what is never told again
+
+inactive : (F : FactSet) (h : Handle) → ((now : ℕ) → ¬ IsActive (map.get F) now h) → IsInactive F h
+inactive F h never now = (never now, λ sort asker. says_nothing F now sort asker h (never now))
+
+pub revoked_inactive : (s : State) → RevokedInactive s
+revoked_inactive s r F within h ended = inactive (facts_in s r) h (λ now. ends.revoked_inactive F (facts_in s r) within now h ended)
+
+pub families_inactive : (s : State) → FamiliesInactive s
+families_inactive s r F within h d c bad under member = inactive (facts_in s r) h (λ now. ends.family_inactive F (facts_in s r) within now h d c bad under member)
