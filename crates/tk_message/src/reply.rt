@@ -191,10 +191,11 @@ pub fn inactive_reply(alloc: Global) -> Result<Reply, AllocError>
 pub fn empty_reply(status: Status) -> Reply
     ensures { result ≡ spec.empty_reply status }
 {
+    let www = asks_credentials(status);
     Reply {
         status,
         location: None,
-        www: asks_credentials(status),
+        www,
         body: Payload::Empty,
     }
 }

@@ -1,7 +1,8 @@
 -- What a revocation comes to: the ordered cases, the first that holds (RFC 7009, 2.1 and 2.2).
 --   revocation_of       the fact that the client revoked a handle's token
+--   is_own              the token would be of this region
 --   revoked_by_caller   what the revocation comes to
-use Rattle.std.specs.Prelude.{ℕ, ◌==◌, nat_le, List, codes, Option, Some, None, if◌then◌else◌}
+use Rattle.std.specs.Prelude.{ℕ, Bool, ◌==◌, nat_le, List, codes, Option, Some, None, if◌then◌else◌}
 use Rattle.tk_handle.specs.declared.dot.Dot.{Dot}
 use Rattle.tk_handle.specs.declared.kind.Kind.{Kind}
 use Rattle.tk_handle.specs.declared.kind.Kind.TheVariants as kind
@@ -46,21 +47,25 @@ revoked_by_state F fact client state.Past = revoked_of_client F fact client
 revoked_by_state F fact client state.Ended = revoked_of_client F fact client
 revoked_by_state F fact client state.Live = revoked_of_client F fact client
 
--- a handle that was never minted: another is at its dot, or it would be of this region; one that has ended (RFC 7009, 2.2)
-abbrev pub revoked_by_status : FactSet → ℕ → ℕ → TokenRevoked → Status → Revocation
-revoked_by_status F number now fact Wrong = Done idle.WrongHandle
-revoked_by_status F number now fact Unseen =
-    if fact.token.dot.region == number then Done idle.NeverMinted else revoked_unless_held F fact
-revoked_by_status F number now fact (Broken expiry) =
-    if nat_le expiry now then Done idle.Past else revoked_unless_held F fact
-revoked_by_status F number now fact (Known s) =
+-- a handle that was never minted, as another stands at its dot, or as it would be of this region; one that has ended (RFC 7009, 2.2)
+abbrev pub revoked_by_status : FactSet → Bool → ℕ → TokenRevoked → Status → Revocation
+revoked_by_status F is_own now fact Wrong = Done idle.WrongHandle
+revoked_by_status F is_own now fact Unseen = if is_own then Done idle.NeverMinted else revoked_unless_held F fact
+revoked_by_status F is_own now fact (Broken expiry) = if nat_le expiry now then Done idle.Past else revoked_unless_held F fact
+revoked_by_status F is_own now fact (Known s) =
     if nat_le s.expiry now then Done idle.Past else revoked_by_state F fact s.client s.state
+
+-- the token would be of the region of this number
+abbrev pub is_own : ℕ → Handle → Bool
+is_own number h = h.id.dot.region == number
 
 -- a code isn't revoked (RFC 7009, 2)
 abbrev pub revoked_by_kind : FactSet → ℕ → ℕ → Dot → Handle → Kind → Revocation
 revoked_by_kind F number now client h kind.Code = Done idle.Code
-revoked_by_kind F number now client h kind.Access = revoked_by_status F number now (revocation_of h kind.Access client) (status_in F now h)
-revoked_by_kind F number now client h kind.Refresh = revoked_by_status F number now (revocation_of h kind.Refresh client) (status_in F now h)
+revoked_by_kind F number now client h kind.Access =
+    revoked_by_status F (is_own number h) now (revocation_of h kind.Access client) (status_in F now h)
+revoked_by_kind F number now client h kind.Refresh =
+    revoked_by_status F (is_own number h) now (revocation_of h kind.Refresh client) (status_in F now h)
 
 -- no handle is no token (RFC 7009, 2.2)
 abbrev pub revoked_by_handle : FactSet → ℕ → ℕ → Dot → Option Handle → Revocation

@@ -73,15 +73,16 @@ fn revoke_handle(
     ensures value { result ≡ spec.revoked_by_kind (facts_of ledger.now) number now client handle.now handle.now.id.kind }
     ensures sound { IsSoundRevocation result }
 {
+    let is_own = handle.id.dot.region().number() == number.number();
     match handle.id.kind {
         Kind::Code => Revocation::Done(Idle::Code),
         Kind::Access => {
             let fact = revocation_of(handle, Kind::Access, client);
-            revoke_by_status(ledger, number, now, fact, ledger.status(now, handle))
+            revoke_by_status(ledger, is_own, now, fact, ledger.status(now, handle))
         }
         Kind::Refresh => {
             let fact = revocation_of(handle, Kind::Refresh, client);
-            revoke_by_status(ledger, number, now, fact, ledger.status(now, handle))
+            revoke_by_status(ledger, is_own, now, fact, ledger.status(now, handle))
         }
     }
 }
@@ -102,34 +103,37 @@ fn revocation_of(handle: &Handle, kind: Kind, client: Dot) -> TokenRevoked
 
 fn revoke_by_status(
     ledger: &Ledger,
-    number: RegionNumber,
+    is_own: bool,
     now: Moment,
     fact: TokenRevoked,
     status: Status<'_>,
 ) -> Revocation
     requires { is_revocable fact.token.kind ≡ true }
-    ensures value { result ≡ spec.revoked_by_status (facts_of ledger.now) number now fact status.entry }
+    ensures value { result ≡ spec.revoked_by_status (facts_of ledger.now) is_own now fact status.entry }
     ensures sound { IsSoundRevocation result }
 {
     match status {
         Status::Wrong => Revocation::Done(Idle::WrongHandle),
         Status::Unseen => {
-            if fact.token.dot.region().number() == number.number() {
-                return Revocation::Done(Idle::NeverMinted);
+            if is_own {
+                Revocation::Done(Idle::NeverMinted)
+            } else {
+                revoke_unless_held(ledger, fact)
             }
-            revoke_unless_held(ledger, fact)
         }
         Status::Broken(expiry) => {
             if expiry.seconds() <= now.seconds() {
-                return Revocation::Done(Idle::Past);
+                Revocation::Done(Idle::Past)
+            } else {
+                revoke_unless_held(ledger, fact)
             }
-            revoke_unless_held(ledger, fact)
         }
         Status::Known(standing) => {
             if standing.expiry.seconds() <= now.seconds() {
-                return Revocation::Done(Idle::Past);
+                Revocation::Done(Idle::Past)
+            } else {
+                revoke_known(ledger, fact, &standing)
             }
-            revoke_known(ledger, fact, &standing)
         }
     }
 }
