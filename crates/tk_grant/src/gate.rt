@@ -93,12 +93,7 @@ fn gate_by_status<'a>(now: Moment, id: TokenId, client: Dot, status: Status<'a>)
     }
 }
 
-fn gate_by_client<'a>(
-    now: Moment,
-    id: TokenId,
-    client: Dot,
-    standing: Standing<'a>,
-) -> Gate<'a>
+fn gate_by_client<'a>(now: Moment, id: TokenId, client: Dot, standing: Standing<'a>) -> Gate<'a>
     requires once { is_used_once id.kind ≡ true }
     requires sound { IsSoundStanding now standing }
     ensures value { result ≡ spec.gate_by_client id client standing.entry }

@@ -114,7 +114,13 @@ fn judge_by_type(
         return redeem(alloc, ledger, now, params, gate);
     }
     if grant_type == "refresh_token" {
-        let gate = find_gate(ledger, now, client, Kind::Refresh, params.value("refresh_token"));
+        let gate = find_gate(
+            ledger,
+            now,
+            client,
+            Kind::Refresh,
+            params.value("refresh_token"),
+        );
         return rotate(alloc, now, params, gate);
     }
     Ok(Judged::Refused(Refusal::UnsupportedGrantType))

@@ -129,7 +129,13 @@ pub fn token_reply(
 {
     let access = handle_string(alloc, access)?;
     let refresh = handle_string(alloc, refresh)?;
-    let body = token_body(alloc, access.as_str(), lifetime, refresh.as_str(), scope.text())?;
+    let body = token_body(
+        alloc,
+        access.as_str(),
+        lifetime,
+        refresh.as_str(),
+        scope.text(),
+    )?;
     json_reply(alloc, Status::Ok, &body)
 }
 

@@ -1,8 +1,10 @@
 //! The texts of replies, byte for byte, and the names and numbers in them.
 
 mod authentication;
+mod callers;
 mod replies;
 mod requests;
+mod tokens;
 
 use crate::{Decision, ErrorCode, Lives, Payload, Place, Reply, Status, client_reply, shown_reply};
 use std::alloc::Global;

@@ -133,12 +133,8 @@ fn is_live(state: State) -> bool
     ensures { result ≡ spec.is_live state }
 {
     match state {
-        State::Dead
-        | State::Withdrawn
-        | State::Over
-        | State::Used
-        | State::Past
-        | State::Ended => false,
+        State::Dead | State::Withdrawn | State::Over | State::Used | State::Past | State::Ended =>
+            false,
         State::Live => true,
     }
 }

@@ -146,24 +146,15 @@ fn revoke_known(ledger: &Ledger, fact: TokenRevoked, standing: &Standing<'_>) ->
     revoke_by_state(ledger, fact, standing.client, standing.state)
 }
 
-fn revoke_by_state(
-    ledger: &Ledger,
-    fact: TokenRevoked,
-    client: Dot,
-    state: State,
-) -> Revocation
+fn revoke_by_state(ledger: &Ledger, fact: TokenRevoked, client: Dot, state: State) -> Revocation
     requires { is_revocable fact.token.kind ≡ true }
     ensures value { result ≡ spec.revoked_by_state (facts_of ledger.now) fact client state }
     ensures sound { IsSoundRevocation result }
 {
     match state {
         State::Dead => Revocation::Done(Idle::DeadFamily),
-        State::Withdrawn
-        | State::Over
-        | State::Used
-        | State::Past
-        | State::Ended
-        | State::Live => revoke_of_client(ledger, fact, client),
+        State::Withdrawn | State::Over | State::Used | State::Past | State::Ended | State::Live =>
+            revoke_of_client(ledger, fact, client),
     }
 }
 

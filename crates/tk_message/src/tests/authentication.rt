@@ -27,7 +27,7 @@ const CLIENTS: [Sort; 5] = [
 // Where a client is retired, and which.
 const RETIRED: [(u64, u64); 2] = [(6, 4), (7, 5)];
 
-fn dot(serial: u64) -> Result<Dot, Fail> {
+pub(super) fn dot(serial: u64) -> Result<Dot, Fail> {
     let region = RegionNumber::new(1).ok_or("a region")?;
     Ok(Dot::new(region, serial).ok_or("a dot")?)
 }
@@ -56,7 +56,7 @@ fn client(alloc: Global, sort: Sort) -> Result<Body, Fail> {
     }))
 }
 
-fn ledger(alloc: Global) -> Result<Ledger, Fail> {
+pub(super) fn ledger(alloc: Global) -> Result<Ledger, Fail> {
     let mut ledger = Ledger::new(alloc);
     for (serial, sort) in (1..).zip(CLIENTS) {
         let body = client(alloc, sort)?;

@@ -1,0 +1,81 @@
+//! Token requests by tables, with the exact reply to each and the fact that it makes.
+//!
+//! Each is decided at region 1, whose next fact stands at serial 7, with the words 42 to 47.
+
+mod granted;
+mod refused;
+
+use crate::decide_token;
+use std::alloc::Global;
+use std::process::Abort;
+use std::test::Fail;
+use tk_fact::Fact;
+use tk_handle::{Moment, RegionNumber, Serial};
+use tk_ledger::Ledger;
+use tk_message::{Decision, Endpoint, Lives, Params, Payload, Place, Request};
+
+// The facts of the ledger, spelled out: the client c1-1 with the secret `s3cret` and ann's consent g1-2; a code with a
+// challenge (1:3), one whose request named the URI (1:4) and one that is redeemed (1:5), all to 1,060 in families to 2,593,000; the
+// tokens of the last (1:6), the refresh token to 87,410; and the public client c2-1.
+const FACTS: [&[u8]; 7] = [
+    b"\x00\x01\x00\x00\x00\x00\x00\x00\x00\x01\x01\x01\x1e\xc1\xc2kP\xd5\xd3\xc5\x8d\x95\x83\x18\x1a\xf8\x07fU\xfe\x00uk\xf7(Y@\xba6p\xf9\x9f\xcb\xa0\x00\x0aread write\x01\x00\x16https://app.example/cb",
+    b"\x00\x01\x00\x00\x00\x00\x00\x00\x00\x02\x03\x00\x01\x00\x00\x00\x00\x00\x00\x00\x01\x00\x03ann\x00\x0aread write",
+    b"\x00\x01\x00\x00\x00\x00\x00\x00\x00\x03\x05\x00\x01\x00\x00\x00\x00\x00\x00\x00\x01\x00\x01\x00\x00\x00\x00\x00\x00\x00\x02kxhl@\xdez\x1ci'\x1e\x12\x7f\x9eR\xabX\x87|\xf3\x8csk\x0d)\xf0\x1e\x1c\x1f\xdb\xdc\xb4\x00\x00\x00\x00\x00\x00\x03\xe8\x00\x00\x00\x00\x00\x00\x04$\x00\x00\x00\x00\x00'\x90\xe8\x00\x03ann\x00\x0aread write\x00\x16https://app.example/cb\x00\x02\x00+E9Melhoa2OwvFrEMTJguCHaoeK1t8URWbuGJSstw-cM",
+    b"\x00\x01\x00\x00\x00\x00\x00\x00\x00\x04\x05\x00\x01\x00\x00\x00\x00\x00\x00\x00\x01\x00\x01\x00\x00\x00\x00\x00\x00\x00\x02.w\xd8\xb3\x0d\xf7\xaaPy\x89\xc5I\xcf\x06\xf31\x18\x8b\xaf\xc27\xe1EK\xe2r\xc0\x04i\xe2\xa9\xb3\x00\x00\x00\x00\x00\x00\x03\xe8\x00\x00\x00\x00\x00\x00\x04$\x00\x00\x00\x00\x00'\x90\xe8\x00\x03ann\x00\x0aread write\x00\x16https://app.example/cb\x01\x00",
+    b"\x00\x01\x00\x00\x00\x00\x00\x00\x00\x05\x05\x00\x01\x00\x00\x00\x00\x00\x00\x00\x01\x00\x01\x00\x00\x00\x00\x00\x00\x00\x02\x9d\xfbKs3\xf8e\xf6\x07\x84@\xf3\x7fc\xa7V\xcdz\xafs\xee\xab\x9a\x16\xc8\xd8\xb6\x0b\xec\xe5@\x89\x00\x00\x00\x00\x00\x00\x03\xe8\x00\x00\x00\x00\x00\x00\x04$\x00\x00\x00\x00\x00'\x90\xe8\x00\x03ann\x00\x0aread write\x00\x16https://app.example/cb\x00\x00",
+    b"\x00\x01\x00\x00\x00\x00\x00\x00\x00\x06\x06\x00\x01\x00\x00\x00\x00\x00\x00\x00\x05\x00\x00\x00\x00\x00\x00\x03\xf2_\xc1\xd5b\x0e3\xdf\xf7\x9e+5\xca\x88\x11,\x0b\x1d\xa0(7=\xc7\x10\xcc[&sN\xe9Vs:\x00\x00\x00\x00\x00\x00\x12\x02\x00\x0aread writeW.\xa0\xb6?\xc0\xe6\x8d\x92\xec'\xbbb\xbe\x90A\xa6\xb4\xaa(\xa7\x0c\xc1d\xb1\xf1Y \x82-<\xab\x00\x00\x00\x00\x00\x01Ur\x00\x0aread write",
+    b"\x00\x02\x00\x00\x00\x00\x00\x00\x00\x01\x01\x00\x00\x04read\x01\x00\x16https://app.example/cb",
+];
+
+fn ledger(alloc: Global) -> Result<Ledger, Fail> {
+    let mut ledger = Ledger::new(alloc);
+    for bytes in FACTS {
+        let fact = Fact::read(alloc, bytes)?;
+        if fact.check().is_err() {
+            Err("a fact that was read breaks a rule")?;
+        }
+        if ledger.add(fact).is_err() {
+            Err("the fact wasn't added")?;
+        }
+    }
+    Ok(ledger)
+}
+
+fn place() -> Result<Place, Fail> {
+    Ok(Place {
+        number: RegionNumber::new(1).ok_or("a region")?,
+        next: Serial::new(7).ok_or("a serial")?,
+        lives: Lives {
+            code: 60,
+            access: 3_600,
+            refresh: 86_400,
+            family: 2_592_000,
+        },
+    })
+}
+
+fn decided(alloc: Global, ledger: &Ledger, now: u64, form: &str) -> Result<Decision, Fail> {
+    let request = Request {
+        endpoint: Endpoint::Token,
+        params: Params::read(alloc, form.as_bytes())?,
+        authorization: None,
+        subject: None,
+    };
+    let now = Moment::new(now).ok_or("a moment")?;
+    let words = [42, 43, 44, 45, 46, 47];
+    Ok(decide_token(alloc, ledger, &place()?, now, &words, &request)?)
+}
+
+// A JSON text under a status, and no place to be sent to.
+fn is_reply(rt: &impl Abort, name: &str, decision: &Decision, status: u16, body: &str) {
+    let reply = &decision.reply;
+    assert_eq!(rt; reply.status.number(), status, "status of {name}");
+    assert_eq!(rt; reply.www, status == 401, "credentials for {name}");
+    assert!(rt; reply.location.is_none(), "location of {name}");
+    match &reply.body {
+        Payload::Json(bytes) => {
+            assert_eq!(rt; bytes.as_slice(), body.as_bytes(), "body of {name}");
+        }
+        _ => assert!(rt; false, "{name} is JSON"),
+    }
+}
