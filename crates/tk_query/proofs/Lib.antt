@@ -1,1 +1,1 @@
-mod ActiveLaws
+pub mod ActiveLaws

@@ -35,3 +35,15 @@ returns-clause-count c =
     let i = c.loop-event.invariant in
     let run = rw (take_all c.loop-event.event-index c.args.events.now c.loop-event-test.false) at i.run.1 in
     run_counts c.args.self.now c.args.events.now c.loop-event.outcomes.items i.run.0 c.loop-event.self run
+
+pub returns-clause-revoked : goal.returns-clause-revoked
+returns-clause-revoked c = revoked_inactive c.loop-event.self
+
+pub returns-clause-families : goal.returns-clause-families
+returns-clause-families c = families_inactive c.loop-event.self
+
+pub returns-in_err-outcomes-clause-revoked : goal.returns-in_err-outcomes-clause-revoked
+returns-in_err-outcomes-clause-revoked c = revoked_inactive c.args.self.now
+
+pub returns-in_err-outcomes-clause-families : goal.returns-in_err-outcomes-clause-families
+returns-in_err-outcomes-clause-families c = families_inactive c.args.self.now
