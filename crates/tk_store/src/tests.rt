@@ -1,4 +1,7 @@
-//! What a store holds, walks over and leaves out.
+//! What a store holds, walks over and leaves out, and its front.
+
+mod joining;
+mod paging;
 
 ghost use Rattle.std.specs.Prelude.{◌≡◌, None};
 ghost use Rattle.tk_fact.specs.Check.{refusal_of};
@@ -92,11 +95,11 @@ fn a_vector_leaves_out_what_it_covers(rt: HostRuntime) -> Result<(), Fail> {
     vector.raise(one, 2)?;
     let beyond = [dot(1, 3)?, dot(2, 1)?, dot(3, 2)?];
     assert_eq!(rt;
-        store.since(alloc, &vector, 9)?.as_slice(),
+        store.since(alloc, &vector, None, 9)?.as_slice(),
         beyond.as_slice()
     );
     for (limit, want) in [(0, 0), (2, 2), (3, 3), (4, 3)] {
-        let dots = store.since(alloc, &vector, limit)?;
+        let dots = store.since(alloc, &vector, None, limit)?;
         assert_eq!(rt; dots.len(), want, "at most {limit}");
     }
     Ok(())
@@ -120,5 +123,40 @@ fn a_region_goes_on_after_its_greatest_serial(rt: HostRuntime) -> Result<(), Fai
         let number = RegionNumber::new(region).ok_or("a region")?;
         assert!(rt; store.next_dot(number) == want, "region {region}");
     }
+    Ok(())
+}
+
+#[test]
+fn the_front_stops_at_a_gap(rt: HostRuntime) -> Result<(), Fail> {
+    let client = dot(1, 1)?;
+    let one = RegionNumber::new(1).ok_or("a region")?;
+    let two = RegionNumber::new(2).ok_or("a region")?;
+    let mut store = four(rt.alloc())?;
+    assert_eq!(rt; store.vector().get(one), 1);
+    let rows = [
+        // Whether the fact of region 1 is added or taken back, its serial, whether the set changes, and after it the
+        // front and the next serial.
+        ("the gap is filled", true, 2, true, 3, 4),
+        ("one beyond a gap", true, 5, true, 3, 6),
+        ("the last of the front is taken back", false, 3, true, 2, 6),
+        ("it isn't there", false, 3, false, 2, 6),
+        ("one beyond the front is taken back", false, 5, true, 2, 3),
+        ("the first is taken back", false, 1, true, 0, 3),
+        ("and is added again", true, 1, true, 2, 3),
+        ("it is there", true, 1, false, 2, 3),
+    ];
+    for (name, added, serial, changes, front, next) in rows {
+        let at = dot(1, serial)?;
+        let changed = if added {
+            store.add(retirement(at, client)) == Ok(Added::New)
+        } else {
+            store.take_back(at).map(|fact| fact.dot) == Some(at)
+        };
+        assert_eq!(rt; changed, changes, "{name}");
+        assert_eq!(rt; store.vector().get(one), front, "{name}");
+        assert_eq!(rt; store.vector().get(two), 1, "{name}");
+        assert!(rt; store.next_dot(one) == Some(dot(1, next)?), "{name}");
+    }
+    assert_eq!(rt; store.len(), 4);
     Ok(())
 }
