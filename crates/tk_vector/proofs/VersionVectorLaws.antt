@@ -2,7 +2,7 @@
 --   raised_above, raised_within                   raising, by cases
 --   lowered_none, lowered_below, lowered_within   lowering, by cases
 --   entry_raised, entry_lowered, entry_empty      the entries afterwards
-use Rattle.std.proofs.Common.{◌≡◌, ℕ, ◌<◌, ◌≤◌, ◌==◌, arith, ap, sym, refl, ◌∙◌, Bool, true, false, cond, if◌then◌else◌, max, min, Option, Some, None, unwrap_or, inl, inr}
+use Rattle.std.proofs.Common.{◌≡◌, ℕ, ◌<◌, ◌≤◌, ◌==◌, arith, ap, refl, ◌∙◌, Bool, true, false, cond, if◌then◌else◌, max, min, Option, Some, None, unwrap_or, inl, inr}
 use Rattle.std.specs.Ordering.{nat_cmp, is_lt, is_eq, eq_by_cmp}
 use Rattle.std.specs.Cmp.{nat_cmp_total}
 use Rattle.std.specs.FinMap as map

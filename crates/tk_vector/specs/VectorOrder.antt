@@ -4,7 +4,6 @@
 --   AllAtMost   each of some entries is at most the vector's
 --   RaisedBy    the first of some entries were raised in turn
 use Rattle.std.specs.Prelude.{ℕ, ◌<◌, ◌≤◌, List, length, slice_index_or, Option, Some, None}
-use Rattle.std.specs.Ordering.{nat_cmp}
 use Rattle.std.specs.FinMap as map
 use Rattle.tk_vector.specs.VersionVector.{Vector}
 

@@ -1,4 +1,4 @@
-use Rattle.std.proofs.Common.{ap, ◌∙◌, sym, arith, ℕ, ◌≡◌, get_or}
+use Rattle.std.proofs.Common.{ap, ◌∙◌, sym}
 use Rattle.tk_vector.specs.VersionVector.{raised}
 use Rattle.tk_vector.proofs.OrderLaws.{raised_more, get_or-any}
 use Rattle.tk_vector.proofs.vector.raise_each.Goals as goal
