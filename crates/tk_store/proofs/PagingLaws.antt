@@ -12,7 +12,7 @@ use Rattle.tk_vector.specs.VersionVector.{Vector, Covers}
 use Rattle.tk_store.specs.FactSet.{FactSet, Facts, AllIn, dot_of}
 use Rattle.tk_store.specs.Beyond.{is_beyond, beyond}
 use Rattle.tk_store.specs.Walk.{is_above, above}
-use Rattle.tk_store.specs.Paging.{page, last_dot, TookPages, Complete}
+use Rattle.tk_store.specs.Paging.{page, last_dot, TookPages, PagingCompletes}
 use Rattle.tk_store.proofs.FactSetLaws.{tied}
 use Rattle.tk_store.proofs.PutLaws.{some_injective, none_is_not_some}
 
@@ -120,7 +120,7 @@ taken limit v R some (G ∷ later) after F took d b held free past =
 covered : (v : Vector) (d : Dot) (b : Body) → is_beyond v (d, b) ≡ false → Covers v d
 covered v d b h = grind (arith, nat_tests)
 
-pub complete : Complete
+pub complete : PagingCompletes
 complete limit v F R later some held took d b at = elim (cases_Bool (is_beyond v (d, b))) [
   | inl free ↦ taken limit v R some later None F took d b at free refl
   | inr not_free ↦ held d b at (covered v d b not_free)

@@ -8,7 +8,7 @@
 --   Beyond         beyond, the facts above a dot that a vector doesn't cover, ascending
 --   Front          IsFront, up to which serial the facts of each region are all held
 --   NextDot        next_dot, where a region's next fact stands
---   Paging         Complete, what a receiver of all pages holds; page, last_dot
+--   Paging         PagingCompletes, what a receiver of all pages holds; page, last_dot
 --   Seeking        Seeks, one step of a search for what a vector doesn't cover
 --   Table          IsTable, how facts are kept in a map by dot
 pub mod Adding

@@ -1,8 +1,8 @@
 -- Paging through what a vector doesn't cover (own).
---   page           the first facts that the vector doesn't cover above a place
---   last_dot       where the next page goes on
---   TookPages      a set holds the pages that were made for a vector, one after another, until no more followed
---   Complete       then it holds all that the sender held when the first page was made
+--   page              the first facts that the vector doesn't cover above a place
+--   last_dot          where the next page goes on
+--   TookPages         a set holds the pages that were made for a vector, one after another, until no more followed
+--   PagingCompletes   then it holds all that the sender held when the first page was made
 use Rattle.std.specs.Prelude.{◌≡◌, ℕ, ◌-◌, ◌<◌, ◌≤◌, List, [], ◌∷◌, length, map, take, slice_get, Option, Some, None}
 use Rattle.std.specs.FinMap as sets
 use Rattle.tk_handle.specs.declared.dot.Dot.{Dot}
@@ -32,6 +32,6 @@ HoldsCovered v F R = (d : Dot) (b : Body) → sets.get F d ≡ Some b → Covers
 
 -- a receiver that holds all that the vector covers, and all pages made for it until no more follow, holds all that the
 -- sender held when the first page was made
-abbrev pub Complete : Type 0
-Complete =
+abbrev pub PagingCompletes : Type 0
+PagingCompletes =
     (limit : ℕ) (v : Vector) (F R : FactSet) (later : List FactSet) → 0 < limit → HoldsCovered v F R → TookPages limit v R None F later → IsSubset F R

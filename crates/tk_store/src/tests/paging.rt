@@ -1,6 +1,6 @@
 //! Pages by cursor, and a receiver of pages in any order.
 
-use super::{dot, four, retirement};
+use super::{dot, four, retirement, store_of};
 use crate::FactStore;
 use std::alloc::{AllocError, Global};
 use std::test::Fail;
@@ -9,57 +9,47 @@ use tk_vector::{Join, VersionVector};
 
 #[test]
 fn a_page_goes_on_at_its_cursor(rt: HostRuntime) -> Result<(), Fail> {
-    let alloc = rt.alloc();
-    let store = four(alloc)?;
-    let mut vector = VersionVector::new(alloc);
     let one = RegionNumber::new(1).ok_or("a region")?;
-    vector.raise(one, 2)?;
+    let first = dot(1, 3)?;
+    let second = dot(2, 1)?;
+    let third = dot(3, 2)?;
+    let covered = dot(1, 1)?;
+    let gap = dot(2, 5)?;
     let rows = [
-        // Beyond the vector stand 1:3, 2:1 and 3:2.
-        (
-            "from the start",
-            None,
-            9,
-            Some(dot(1, 3)?),
-            Some(dot(3, 2)?),
-            3,
-        ),
+        // The place, the greatest length, and the first, the last and the number of the dots found.
+        ("from the start", None, 9, Some(first), Some(third), 3),
         (
             "at a covered dot",
-            Some(dot(1, 1)?),
+            Some(covered),
             9,
-            Some(dot(1, 3)?),
-            Some(dot(3, 2)?),
+            Some(first),
+            Some(third),
             3,
         ),
         (
             "after the first",
-            Some(dot(1, 3)?),
+            Some(first),
             9,
-            Some(dot(2, 1)?),
-            Some(dot(3, 2)?),
+            Some(second),
+            Some(third),
             2,
         ),
         (
-            "after the first, one",
-            Some(dot(1, 3)?),
+            "one after the first",
+            Some(first),
             1,
-            Some(dot(2, 1)?),
-            Some(dot(2, 1)?),
-            1,
-        ),
-        (
-            "in a gap",
-            Some(dot(2, 5)?),
-            9,
-            Some(dot(3, 2)?),
-            Some(dot(3, 2)?),
+            Some(second),
+            Some(second),
             1,
         ),
-        ("after the last", Some(dot(3, 2)?), 9, None, None, 0),
+        ("in a gap", Some(gap), 9, Some(third), Some(third), 1),
+        ("after the last", Some(third), 9, None, None, 0),
     ];
+    let store = four(rt.alloc())?;
+    let mut vector = VersionVector::new(rt.alloc());
+    vector.raise(one, 2)?;
     for (name, after, limit, first, last, count) in rows {
-        let dots = store.since(alloc, &vector, after, limit)?;
+        let dots = store.since(rt.alloc(), &vector, after, limit)?;
         assert_eq!(rt; dots.len(), count, "{name}");
         assert!(rt; dots.first().copied() == first, "{name}");
         assert!(rt; dots.last().copied() == last, "{name}");
@@ -67,64 +57,53 @@ fn a_page_goes_on_at_its_cursor(rt: HostRuntime) -> Result<(), Fail> {
     Ok(())
 }
 
-// Retirements of the client 1:1 at the dots.
-fn store_of(alloc: Global, dots: &[Dot]) -> Result<FactStore, Fail> {
-    let client = dot(1, 1)?;
-    let mut store = FactStore::new(alloc);
-    for at in dots {
-        store
-            .add(retirement(*at, client))
-            .ok()
-            .ok_or("an addition")?;
-    }
-    Ok(store)
-}
-
-// Where the pages of two begin.
-fn places(
+// The receiver takes in the sender's page of two at a place. It gives the page's last dot.
+fn deliver(
     alloc: Global,
     sender: &FactStore,
     vector: &VersionVector,
-) -> Result<Vec<Option<Dot>>, AllocError> {
-    let mut places = Vec::new(alloc);
-    let mut place = None;
-    for _ in 0..9 {
-        places.push(place)?;
-        let page = sender.since(alloc, vector, place, 2)?;
-        place = page.last().copied();
-        if page.len() < 2 {
-            break;
-        }
+    place: Option<Dot>,
+    client: Dot,
+    receiver: &mut FactStore,
+) -> Result<Option<Dot>, AllocError> {
+    let page = sender.since(alloc, vector, place, 2)?;
+    for at in page.as_slice() {
+        let _ = receiver.add(retirement(*at, client));
     }
-    Ok(places)
+    Ok(page.last().copied())
 }
 
 #[test]
 fn pages_in_any_order_end_in_the_senders_facts(rt: HostRuntime) -> Result<(), Fail> {
-    let alloc = rt.alloc();
     let client = dot(1, 1)?;
-    let had = [dot(1, 1)?, dot(1, 2)?, dot(2, 4)?];
-    let new = [dot(1, 4)?, dot(1, 5)?, dot(2, 1)?, dot(2, 2)?, dot(7, 3)?];
-    let mut receiver = store_of(alloc, had.as_slice())?;
-    let mut sender = store_of(alloc, had.as_slice())?;
-    for at in new {
-        sender
-            .add(retirement(at, client))
-            .ok()
-            .ok_or("an addition")?;
-    }
-    let vector = receiver.vector().copy(alloc)?;
-    let places = places(alloc, &sender, &vector)?;
-    assert_eq!(rt; places.len(), 4);
-    // From the last page to the first, and the last once more.
-    for place in places.iter().rev().chain(places.last()) {
-        let page = sender.since(alloc, &vector, *place, 2)?;
-        for at in page.as_slice() {
-            receiver
-                .add(retirement(*at, client))
-                .ok()
-                .ok_or("an addition")?;
-        }
+    let had = [client, dot(1, 2)?, dot(2, 4)?];
+    let first = dot(1, 5)?;
+    let second = dot(2, 2)?;
+    let last = dot(7, 3)?;
+    let all = [
+        client,
+        had[1],
+        dot(1, 4)?,
+        first,
+        dot(2, 1)?,
+        second,
+        had[2],
+        last,
+    ];
+    let rows = [
+        // The place of a page, and its last dot; from the last page to the first, and this one twice.
+        (Some(last), None),
+        (Some(second), Some(last)),
+        (Some(first), Some(second)),
+        (None, Some(first)),
+        (None, Some(first)),
+    ];
+    let sender = store_of(rt.alloc(), all.as_slice(), client)?;
+    let mut receiver = store_of(rt.alloc(), had.as_slice(), client)?;
+    let vector = receiver.vector().copy(rt.alloc())?;
+    for (place, ends) in rows {
+        let page = deliver(rt.alloc(), &sender, &vector, place, client, &mut receiver)?;
+        assert!(rt; page == ends);
     }
     assert!(rt; sender.below(&receiver));
     assert!(rt; receiver.below(&sender));
