@@ -133,37 +133,36 @@ fn change(store: &mut FactStore, add: bool, at: Dot, client: Dot) -> bool {
     }
 }
 
+// Adds a fact of region 1 or takes it back: whether the set changed, and after it the region's front and its next
+// serial.
+fn changed(
+    store: &mut FactStore,
+    add: bool,
+    serial: u64,
+) -> Result<(bool, u64, u64), &'static str> {
+    let client = dot(1, 1)?;
+    let at = dot(1, serial)?;
+    let changes = change(store, add, at, client);
+    let next = store.next_dot(at.region()).ok_or("a next dot")?;
+    Ok((changes, store.vector().get(at.region()), next.serial()))
+}
+
 #[test]
 fn the_front_stops_at_a_gap(rt: HostRuntime) -> Result<(), Fail> {
-    let client = dot(1, 1)?;
-    let one = RegionNumber::new(1).ok_or("a region")?;
-    let two = RegionNumber::new(2).ok_or("a region")?;
     let rows = [
-        // Whether a fact of region 1 is added or taken back, its dot, whether the set changes, and after it the front
-        // and the next dot.
-        ("the gap is filled", true, dot(1, 2)?, true, 3, dot(1, 4)?),
-        ("one beyond a gap", true, dot(1, 5)?, true, 3, dot(1, 6)?),
-        (
-            "the front's last back",
-            false,
-            dot(1, 3)?,
-            true,
-            2,
-            dot(1, 6)?,
-        ),
-        ("it isn't there", false, dot(1, 3)?, false, 2, dot(1, 6)?),
-        ("one beyond it back", false, dot(1, 5)?, true, 2, dot(1, 3)?),
-        ("the first back", false, dot(1, 1)?, true, 0, dot(1, 3)?),
-        ("and added again", true, dot(1, 1)?, true, 2, dot(1, 3)?),
-        ("it is there", true, dot(1, 1)?, false, 2, dot(1, 3)?),
+        ("the gap is filled", true, 2, (true, 3, 4)),
+        ("one beyond a gap", true, 5, (true, 3, 6)),
+        ("the front's last is taken back", false, 3, (true, 2, 6)),
+        ("it isn't there", false, 3, (false, 2, 6)),
+        ("one beyond the front is taken back", false, 5, (true, 2, 3)),
+        ("the first is taken back", false, 1, (true, 0, 3)),
+        ("and added again", true, 1, (true, 2, 3)),
+        ("it is there", true, 1, (false, 2, 3)),
     ];
     let mut store = four(rt.alloc())?;
-    assert_eq!(rt; store.vector().get(one), 1);
-    for (name, add, at, changes, front, next) in rows {
-        assert_eq!(rt; change(&mut store, add, at, client), changes, "{name}");
-        assert_eq!(rt; store.vector().get(one), front, "{name}");
-        assert_eq!(rt; store.vector().get(two), 1, "{name}");
-        assert!(rt; store.next_dot(one) == Some(next), "{name}");
+    for (name, add, serial, want) in rows {
+        let seen = changed(&mut store, add, serial)?;
+        assert!(rt; seen == want, "{name}");
     }
     assert_eq!(rt; store.len(), 4);
     Ok(())

@@ -1,49 +1,40 @@
 //! Stores that are joined, and stores that disagree.
 
 use super::{dot, four, store_of};
+use std::alloc::Global;
 use std::test::Fail;
-use tk_handle::RegionNumber;
 use tk_vector::{Join, JoinError};
+
+// What comes of joining the four facts to a store with a retirement of one client: whether they held it, how the join
+// ends, whether all are held then, how many facts there are, and the front of region 1.
+fn joined(
+    alloc: Global,
+    (region, serial): (u16, u64),
+    client: u64,
+) -> Result<(bool, Result<(), JoinError>, bool, u64, u64), Fail> {
+    let at = dot(region, serial)?;
+    let client = dot(1, client)?;
+    let four = four(alloc)?;
+    let mut other = store_of(alloc, [at].as_slice(), client)?;
+    let held = other.below(&four);
+    let ends = other.join_from(&four);
+    let front = other.vector().get(client.region());
+    Ok((held, ends, four.below(&other), other.len(), front))
+}
 
 #[test]
 fn stores_are_joined_where_they_agree(rt: HostRuntime) -> Result<(), Fail> {
-    let first = RegionNumber::new(1).ok_or("a region")?;
-    let client = dot(1, 1)?;
-    let another = dot(1, 9)?;
+    let apart = Err(JoinError::Apart);
     let rows = [
-        // The one fact of the other store, whether it was held, how the join ends, and after it the facts and the
-        // front of region 1.
-        ("a fact in the gap", dot(1, 2)?, client, false, Ok(()), 5, 3),
-        ("another region's", dot(4, 1)?, client, false, Ok(()), 5, 1),
-        ("a held fact", dot(1, 3)?, client, true, Ok(()), 4, 1),
-        (
-            "another body",
-            dot(1, 3)?,
-            another,
-            false,
-            Err(JoinError::Apart),
-            1,
-            0,
-        ),
-        (
-            "another body at the last dot",
-            dot(3, 2)?,
-            another,
-            false,
-            Err(JoinError::Apart),
-            1,
-            0,
-        ),
+        ("in the gap", (1, 2), 1, (false, Ok(()), true, 5, 3)),
+        ("another region's", (4, 1), 1, (false, Ok(()), true, 5, 1)),
+        ("a held one", (1, 3), 1, (true, Ok(()), true, 4, 1)),
+        ("another body", (1, 3), 9, (false, apart, false, 1, 0)),
+        ("at the last dot", (3, 2), 9, (false, apart, false, 1, 0)),
     ];
-    let four = four(rt.alloc())?;
-    for (name, at, client, held, ends, len, front) in rows {
-        let mut other = store_of(rt.alloc(), [at].as_slice(), client)?;
-        assert_eq!(rt; other.below(&four), held, "{name}");
-        assert_eq!(rt; other.join_from(&four), ends, "{name}");
-        assert_eq!(rt; other.len(), len, "{name}");
-        assert_eq!(rt; other.vector().get(first), front, "{name}");
-        assert_eq!(rt; four.below(&other), ends.is_ok(), "{name}");
-        assert_eq!(rt; four.len(), 4, "{name}");
+    for (name, at, client, want) in rows {
+        let seen = joined(rt.alloc(), at, client)?;
+        assert!(rt; seen == want, "{name}");
     }
     Ok(())
 }
