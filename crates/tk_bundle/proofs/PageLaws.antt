@@ -20,8 +20,9 @@ use Rattle.tk_fact.specs.FactBytes.{framed}
 use Rattle.tk_vector.specs.VersionVector.{Vector}
 use Rattle.tk_store.specs.FactSet.{FactSet, Facts, AllIn, dot_of}
 use Rattle.tk_store.specs.Beyond.{beyond, is_beyond}
-use Rattle.tk_store.proofs.EntryLaws.{AllIn-entries}
-use Rattle.tk_store.proofs.SubsetLaws.{AllIn-take, AllIn-filter}
+use Rattle.tk_store.specs.Walk.{above, is_above}
+use Rattle.tk_store.proofs.EntryLaws.{AllIn-beyond}
+use Rattle.tk_store.proofs.SubsetLaws.{AllIn-take}
 use Rattle.tk_bundle.specs.declared.page.Page.{Page}
 use Rattle.tk_bundle.specs.Bundle.{ascends, most_facts, bundle}
 use Rattle.tk_bundle.specs.Page.{fact_at, facts_at, last_of, page_within, IsPageAt, IsPageOf}
@@ -59,11 +60,11 @@ pub more_fits : (F : FactSet) (dots : List Dot) (i : ℕ) (dot : Dot) → i < le
 more_fits F dots i dot within is so_far one = subst (AllByRecursion framed.Fits) (facts_at-more F dots i dot within is) (all_append (facts_at F (take i dots)) (facts_at F (dot ∷ [])) so_far one)
 
 -- the first dots beyond a vector are those of the first facts
-pub dots_are : (F : FactSet) (v : Vector) (limit : ℕ) → take limit (take (limit + 1) (map dot_of (beyond F v))) ≡ map dot_of (take limit (beyond F v))
-dots_are F v limit = take-take limit (limit + 1) (map dot_of (beyond F v)) (omega arith) ∙ take-map dot_of limit (beyond F v)
+pub dots_are : (F : FactSet) (v : Vector) (limit : ℕ) → take limit (take (limit + 1) (map dot_of (beyond F v None))) ≡ map dot_of (take limit (beyond F v None))
+dots_are F v limit = take-take limit (limit + 1) (map dot_of (beyond F v None)) (omega arith) ∙ take-map dot_of limit (beyond F v None)
 
-page_facts : (F : FactSet) (v : Vector) (limit : ℕ) → facts_at F (map dot_of (take limit (beyond F v))) ≡ take limit (beyond F v)
-page_facts F v limit = facts_at-dots F (take limit (beyond F v)) (AllIn-take F limit (beyond F v) (AllIn-filter F (is_beyond v) (sets.entries F) (AllIn-entries F)))
+page_facts : (F : FactSet) (v : Vector) (limit : ℕ) → facts_at F (map dot_of (take limit (beyond F v None))) ≡ take limit (beyond F v None)
+page_facts F v limit = facts_at-dots F (take limit (beyond F v None)) (AllIn-take F limit (beyond F v None) (AllIn-beyond F v None))
 
 -- one dot more than there is room for tells whether more follow
 pub page_more : (fs : Facts) (limit : ℕ) → nat_lt limit (length (take (limit + 1) (map dot_of fs))) ≡ nat_lt limit (length fs)
@@ -77,9 +78,9 @@ short_dots dots limit low = omega (arith, length-take limit dots)
 
 -- ---- the page in bytes
 
-pub page_is : (page : Page) (F : FactSet) (v : Vector) (limit : ℕ) (dots : List Dot) (more : Bool) → dots ≡ map dot_of (take limit (beyond F v)) → more ≡ nat_lt limit (length (beyond F v)) → IsPageAt page F dots more → IsPageOf page (page_within limit (beyond F v))
+pub page_is : (page : Page) (F : FactSet) (v : Vector) (limit : ℕ) (dots : List Dot) (more : Bool) → dots ≡ map dot_of (take limit (beyond F v None)) → more ≡ nat_lt limit (length (beyond F v None)) → IsPageAt page F dots more → IsPageOf page (page_within limit (beyond F v None))
 page_is page F v limit dots more same follows at =
-    let fs = take limit (beyond F v) in
+    let fs = take limit (beyond F v None) in
     let count : length dots ≡ length fs = ap length same ∙ length-map fs dot_of in
     let facts : facts_at F dots ≡ fs = ap (facts_at F) same ∙ page_facts F v limit in
     record {
@@ -137,12 +138,12 @@ ascends_sorted [] sorted = refl
 ascends_sorted (e ∷ es) sorted = let s = both _ _ sorted in ascends_above e.0 es s.0 s.1
 
 -- so a page has a spelling
-pub page_fits : (F : FactSet) (v : Vector) (limit : ℕ) (dots : List Dot) → limit ≤ most_facts → dots ≡ map dot_of (take limit (beyond F v)) → AllByRecursion framed.Fits (facts_at F dots) → bundle.Fits (take limit (beyond F v))
+pub page_fits : (F : FactSet) (v : Vector) (limit : ℕ) (dots : List Dot) → limit ≤ most_facts → dots ≡ map dot_of (take limit (beyond F v None)) → AllByRecursion framed.Fits (facts_at F dots) → bundle.Fits (take limit (beyond F v None))
 page_fits F v limit dots low same fits =
-    let fs = take limit (beyond F v) in
+    let fs = take limit (beyond F v None) in
     let facts : facts_at F dots ≡ fs = ap (facts_at F) same ∙ page_facts F v limit in
-    let short : length fs ≤ most_facts = omega (arith, length-take limit (beyond F v)) in
-    (((small (length fs) short, few (length fs) short), subst (AllByRecursion framed.Fits) facts fits), ascends_sorted fs (sorted-take limit (beyond F v) (sorted-filter (is_beyond v) (sets.entries F) (sets.entries_sorted F))))
+    let short : length fs ≤ most_facts = omega (arith, length-take limit (beyond F v None)) in
+    (((small (length fs) short, few (length fs) short), subst (AllByRecursion framed.Fits) facts fits), ascends_sorted fs (sorted-take limit (beyond F v None) (sorted-filter (is_beyond v) (above F None) (sorted-filter (is_above None) (sets.entries F) (sets.entries_sorted F)))))
   where
     small : (n : ℕ) → n ≤ most_facts → n < 2 ^ 16
     small n h = omega arith

@@ -2,7 +2,7 @@
 --   page_of    the facts of a page, the dot of the last, and whether more follow
 --   IsPageOf   the parts of a page in bytes are these
 --   facts_at   what a set holds at some dots
-use Rattle.std.specs.Prelude.{◌≡◌, ℕ, ◌-◌, Bool, nat_lt, List, ◌++◌, length, map, take, slice_get, Option}
+use Rattle.std.specs.Prelude.{◌≡◌, ℕ, ◌-◌, Bool, nat_lt, List, ◌++◌, length, map, take, slice_get, Option, None}
 use Rattle.std.specs.Int.{w16}
 use Rattle.std.specs.List.{filter_map, flat_map}
 use Rattle.tk_format.specs.Format.{number}
@@ -32,7 +32,7 @@ page_within limit fs = record { facts = take limit fs; last = last_of (map dot_o
 
 -- a page is a bundle, and has as many facts at most
 abbrev pub page_of : FactSet → Vector → PageFields
-page_of F v = page_within most_facts (beyond F v)
+page_of F v = page_within most_facts (beyond F v None)
 
 -- the page has these facts in bytes, their number, the dot of the last, and tells whether more follow
 pub record IsPageOf (page : Page) (fields : PageFields) : Type 0 where

@@ -51,10 +51,10 @@ fn page_within(
     limit: usize,
 ) -> Result<Page, AllocError>
     requires { limit ≤ most_facts }
-    ensures page { IfOk result (λ page. spec.IsPageOf page (spec.page_within limit (beyond (known_in store.now) vector.now))) }
-    ensures fits { OnOk result (bundle.Fits (take limit (beyond (known_in store.now) vector.now))) }
+    ensures page { IfOk result (λ page. spec.IsPageOf page (spec.page_within limit (beyond (known_in store.now) vector.now None))) }
+    ensures fits { OnOk result (bundle.Fits (take limit (beyond (known_in store.now) vector.now None))) }
 {
-    let mut dots = store.since(alloc, vector, limit + 1)?;
+    let mut dots = store.since(alloc, vector, None, limit + 1)?;
     let more = dots.as_slice().len() > limit;
     dots.truncate(limit);
     page_at(alloc, store, &dots, more)

@@ -1,8 +1,14 @@
 pub mod EntryLaws
 pub mod FactSetLaws
+pub mod FrontLaws
 pub mod JoiningLaws
+pub mod JoiningStepsLaws
 pub mod NextDotLaws
+pub mod OneMoreLaws
+pub mod PagingLaws
 pub mod PutLaws
-pub mod StoreLaws
+pub mod SeekingLaws
+pub mod SetOrderLaws
 pub mod SubsetLaws
+pub mod TableLaws
 pub mod WalkLaws

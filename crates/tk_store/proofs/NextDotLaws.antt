@@ -1,24 +1,24 @@
--- The next dot of a region is free, and what a binary search for it ends with. Key results:
---   at_most_last_serial                 no fact of a region has a greater serial than its greatest
---   next_is_free                        nothing stands at a region's next dot
---   next_dot_there                      which dot it is, where a serial is left
---   greatest_at_end, none_at_end        the last fact up to a region has the region's greatest serial, or the region has none
-use Rattle.std.proofs.Common.{◌≡◌, ◌≢◌, ℕ, zero, suc, ◌+◌, ◌-◌, ◌<◌, ◌≤◌, ◌==◌, leb, true, false, cond, if◌then◌else◌, max, T, [], ◌∷◌, length, get_or, Option, Some, None, refl, sym, ap, subst, ◌∙◌, arith, inl, inr}
-use Rattle.std.specs.Ordering.{eq_by_cmp}
+-- The next dot of a region is free, and the last fact of a region has its greatest serial. Key results:
+--   at_most_last_serial          no fact of a region has a greater serial than its greatest
+--   next_is_free                 nothing stands at a region's next dot
+--   next_dot_there               which dot it is, where a serial is left
+--   greatest_is, greatest_none   the last fact of a region has the region's greatest serial, or the region has none
+use Rattle.std.proofs.Common.{◌≡◌, ℕ, ◌+◌, ◌<◌, ◌≤◌, ◌==◌, true, false, cond, if◌then◌else◌, max, [], ◌∷◌, Option, Some, None, IsSome, is_some, refl, sym, ap, ◌∙◌, arith, inl, inr}
+use mathlib.Core.Bool.{false≢true}
+use Rattle.std.specs.Ordering.{eq_by_cmp, is_lt}
 use Rattle.std.specs.FinMap as map
 use Rattle.std.specs.Option.{SomeIff}
-use Rattle.std.specs.List.Sorted.{IsNonDecreasingBy, IsPartitionedBy, IsPartitionPoint}
-use Rattle.std.specs.declared.cmp.Ordering.TheVariants.{Less}
+use Rattle.std.specs.BTreeMap.Range.{IsLeBy}
 use Rattle.std.proofs.lemmas.Bool.{cases_lt}
-use Rattle.std.proofs.lemmas.List.Sorted.{IsPartitionedBy-leb}
-use Rattle.tk_handle.proofs.SortedEntriesLaws.{rises}
 use Rattle.std.proofs.lemmas.Bool.Decides.{nat_tests}
 use Rattle.tk_handle.specs.declared.dot.Dot.{Dot}
 use Rattle.tk_handle.specs.Dot.{dot_cmp}
 use Rattle.tk_handle.specs.Ranges.{IsSerial, greatest_serial}
 use Rattle.tk_fact.specs.declared.body.Body.{Body}
-use Rattle.tk_store.specs.FactSet.{FactSet, Facts}
+use Rattle.tk_store.specs.FactSet.{FactSet, Facts, AllIn}
+use Rattle.tk_store.specs.Front.{dot_at}
 use Rattle.tk_store.specs.NextDot.{last_serial, next_serial, next_dot}
+use Rattle.tk_store.proofs.EntryLaws.{AllIn-entries}
 use Rattle.tk_store.proofs.FactSetLaws.{tied}
 use Rattle.tk_store.proofs.PutLaws.{none_is_not_some}
 
@@ -45,84 +45,51 @@ pub next_dot_there : (F : FactSet) (r n : ℕ) (result : Option Dot) → n ≡ l
 next_dot_there F r n None same h = λ left. h (omega arith, omega arith)
 next_dot_there F r n (Some d) same h = (omega (arith, h.0.1, same), h.1 ∙ ap (λ (m : ℕ). record { region = r; serial = m + 1 }) same)
 
--- ---- the greatest serial, in a list that rises
+-- ---- the greatest serial
 
-dots_rise : (a b : Dot) → dot_cmp a b ≡ Less → (a.region ≤ b.region) × (a.region ≡ b.region → a.serial ≤ b.serial)
-dots_rise a b h = (regions, serials)
-  where
-    regions : a.region ≤ b.region
-    regions = grind (arith, nat_tests)
-
-    serials : a.region ≡ b.region → a.serial ≤ b.serial
-    serials same = grind (arith, nat_tests)
-
-regions_rise : (es : Facts) → T (map.is_sorted dot_cmp es) → IsNonDecreasingBy (λ f. f.0.region) es
-regions_rise es sorted i j d le within = elim (cases_lt i j) [
-  | inl lt ↦ (dots_rise (get_or es i d).0 (get_or es j d).0 (rises dot_cmp es sorted i j d lt within)).0
-  | inr ge ↦ let same : i ≡ j = omega arith in subst (λ n. (get_or es i d).0.region ≤ (get_or es n d).0.region) same (omega arith)
-]
-
--- so those up to a region stand before all others
-pub up_to : (r : ℕ) (es : Facts) → T (map.is_sorted dot_cmp es) → IsPartitionedBy (λ f. leb f.0.region r) es
-up_to r es sorted = IsPartitionedBy-leb (λ f. f.0.region) es r (regions_rise es sorted)
-
-no_greater : (r m : ℕ) (es : Facts) (d : Dot × Body) → ((j : ℕ) → j < length es → (get_or es j d).0.region ≡ r → (get_or es j d).0.serial ≤ m) → last_serial r es ≤ m
-no_greater r m [] d all = omega arith
-no_greater r m (e ∷ es) d all = first e.0.region e.0.serial (last_serial r es) (all 0 (omega arith)) (no_greater r m es d (λ j within. all (suc j) (omega arith)))
+-- no fact of the region is above a number, so neither is the greatest serial
+at_most : (F : FactSet) (r m : ℕ) (fs : Facts) → AllIn F fs → ((q : Dot) (b : Body) → map.get F q ≡ Some b → q.region ≡ r → q.serial ≤ m) → last_serial r fs ≤ m
+at_most F r m [] a all = omega arith
+at_most F r m (f ∷ fs) a all = first f.0.region f.0.serial (last_serial r fs) (all f.0 f.1 a.0) (at_most F r m fs a.1 all)
   where
     first : (region serial rest : ℕ) → (region ≡ r → serial ≤ m) → rest ≤ m → max (if region == r then serial else 0) rest ≤ m
     first region serial rest h k = grind (arith, nat_tests)
 
-none_there : (r : ℕ) (es : Facts) → ((j : ℕ) (d : Dot × Body) → j < length es → (get_or es j d).0.region ≢ r) → 0 ≡ last_serial r es
-none_there r [] other = refl
-none_there r (e ∷ es) other = let low = no_greater r 0 (e ∷ es) e (λ j within here. absurd (other j e within here)) in omega arith
+-- a dot of the region, unless its serial is 0, is between the first and the last one of the region
+pub in_region : (r : ℕ) (q : Dot) → q.region ≡ r → 0 < q.serial → q.serial ≤ greatest_serial → IsLeBy dot_cmp (dot_at r 1) q × IsLeBy dot_cmp q (dot_at r greatest_serial)
+in_region r q here low high = (grind (arith, nat_tests), grind (arith, nat_tests))
 
-at_least : (r : ℕ) (es : Facts) (j : ℕ) (d : Dot × Body) → j < length es → (get_or es j d).0.region ≡ r → (get_or es j d).0.serial ≤ last_serial r es
-at_least r [] j d within here = absurd (omega arith)
-at_least r (e ∷ es) zero d within here = first e.0.region e.0.serial (last_serial r es) here
-  where
-    first : (region serial rest : ℕ) → region ≡ r → serial ≤ max (if region == r then serial else 0) rest
-    first region serial rest h = grind (arith, nat_tests)
-at_least r (e ∷ es) (suc j) d within here = let rest = at_least r es j d (omega arith) here in omega arith
+region_of : (r : ℕ) (e : Dot) → IsLeBy dot_cmp (dot_at r 1) e → IsLeBy dot_cmp e (dot_at r greatest_serial) → e.region ≡ r
+region_of r e low high = grind (arith, nat_tests)
 
-module _ (r : ℕ) (es : Facts) (sorted : T (map.is_sorted dot_cmp es)) (i : ℕ) (parted : IsPartitionPoint (λ f. f.0.region ≤ r) (λ f. r < f.0.region) es i) where
-  -- the region's facts are among those before i
-  before_end : (j : ℕ) (d : Dot × Body) → j < length es → (get_or es j d).0.region ≡ r → j < i
-  before_end j d within here = elim (cases_lt j i) [
-    | inl lt ↦ lt
-    | inr ge ↦ let past = parted.1 j d ge within in absurd (omega arith)
-  ]
+serial_at_most : (e q : Dot) → e.region ≡ q.region → is_lt (dot_cmp e q) ≡ false → q.serial ≤ e.serial
+serial_at_most e q same h = grind (arith, nat_tests)
 
-  -- so there are none where none is before i
-  pub none_at_start : i ≡ 0 → 0 ≡ last_serial r es
-  none_at_start start = none_there r es (λ j d within here. let before = before_end j d within here in absurd (omega arith))
+module _ (F : FactSet) (r : ℕ) (high : (d : Dot) → IsSome (map.get F d) → d.serial ≤ greatest_serial) where
+  -- the greatest dot of the region has its greatest serial
+  pub greatest_is : (e : Dot) → IsSome (map.get F e) → IsLeBy dot_cmp (dot_at r 1) e × IsLeBy dot_cmp e (dot_at r greatest_serial)
+      → ((q : Dot) → IsLeBy dot_cmp (dot_at r 1) q × IsLeBy dot_cmp q (dot_at r greatest_serial) → IsSome (map.get F q) → is_lt (dot_cmp e q) ≡ false)
+      → e.serial ≡ last_serial r (map.entries F)
+  greatest_is e held within last =
+      let here : e.region ≡ r = region_of r e within.0 within.1 in
+      let low : last_serial r (map.entries F) ≤ e.serial = at_most F r e.serial (map.entries F) (AllIn-entries F) (λ q b at same. elim (cases_lt 0 q.serial) [
+        | inl some ↦
+            let there : IsSome (map.get F q) = ap is_some at in
+            serial_at_most e q (here ∙ sym same) (last q (in_region r q same some (high q there)) there)
+        | inr none ↦ omega arith
+      ]) in
+      let reached : e.serial ≤ last_serial r (map.entries F) = held_counts (map.get F e) refl held here in
+      omega arith
+    where
+      held_counts : (o : Option Body) → map.get F e ≡ o → IsSome (map.get F e) → e.region ≡ r → e.serial ≤ last_serial r (map.entries F)
+      held_counts None at held here = absurd (false≢true (sym (ap is_some at) ∙ held))
+      held_counts (Some b) at held here = at_most_last_serial r (map.entries F) e b here (sym (map.get-entries F e) ∙ at)
 
-  module _ (d : Dot × Body) (within : i ≤ length es) (some : 0 < i) where
-    abbrev last : Dot × Body
-    last = get_or es (i - 1) d
-
-    up_to_last : (j : ℕ) → j < length es → (get_or es j d).0.region ≡ r → (r ≤ last.0.region) × (last.0.region ≡ r → (get_or es j d).0.serial ≤ last.0.serial)
-    up_to_last j inside here = elim (cases_lt j (i - 1)) [
-      | inl lt ↦
-          let rise = dots_rise (get_or es j d).0 last.0 (rises dot_cmp es sorted j (i - 1) d lt (omega arith)) in
-          (omega arith, λ same. rise.1 (here ∙ sym same))
-      | inr ge ↦
-          let before = before_end j d inside here in
-          let at : j ≡ i - 1 = omega arith in
-          let same : get_or es j d ≡ last = ap (λ n. get_or es n d) at in
-          (omega (arith, ap (λ e. e.0.region) same), λ _. omega (arith, ap (λ e. e.0.serial) same))
-    ]
-
-    -- the last of the facts before i has the greatest serial, if it is the region's
-    pub greatest_at_end : last.0.region ≡ r → last.0.serial ≡ last_serial r es
-    greatest_at_end here =
-        let high = at_least r es (i - 1) d (omega arith) here in
-        let low = no_greater r last.0.serial es d (λ j inside same. (up_to_last j inside same).1 here) in
-        omega arith
-
-    -- and if it isn't, the region has none
-    pub none_at_end : last.0.region ≢ r → 0 ≡ last_serial r es
-    none_at_end other =
-        let at : last.0.region ≤ r = parted.0 (i - 1) d (omega arith) (omega arith) in
-        let low = no_greater r 0 es d (λ j inside same. let above = (up_to_last j inside same).0 in absurd (other (omega arith))) in
-        omega arith
+  -- and where none is there, it is 0
+  pub greatest_none : ((q : Dot) → IsLeBy dot_cmp (dot_at r 1) q × IsLeBy dot_cmp q (dot_at r greatest_serial) → map.get F q ≡ None) → 0 ≡ last_serial r (map.entries F)
+  greatest_none none =
+      let at_zero : last_serial r (map.entries F) ≤ 0 = at_most F r 0 (map.entries F) (AllIn-entries F) (λ q b at same. elim (cases_lt 0 q.serial) [
+        | inl some ↦ absurd (none_is_not_some b (sym (none q (in_region r q same some (high q (ap is_some at)))) ∙ at))
+        | inr low ↦ omega arith
+      ]) in
+      omega arith

@@ -1,7 +1,8 @@
 -- What a set holds once a fact is put into it. Key results, by which everything above reasons about sets:
 --   by_dot, of_dot   what stands at a dot after an insertion, in a goal and in a premise
 --   insert_held      a fact that is held changes nothing
---   IsFactSet-insert, IsFactSet-empty
+--   taken_back       what was put where nothing stood, and taken back, leaves the set
+--   IsFactSet-insert, IsFactSet-empty, IsFactSet-remove
 use Rattle.std.proofs.Common.{◌≡◌, ◌+◌, true, false, cond, Option, Some, None, is_some, refl, sym, ap, subst, ◌∙◌}
 use Rattle.std.specs.Ordering.{eq_by_cmp, is_eq}
 use Rattle.std.proofs.lemmas.Cmp.{tied_itself}
@@ -50,3 +51,19 @@ IsFactSet-empty d b h = absurd (none_is_not_some b (sym (map.get-empty dot_cmp d
 
 pub IsFactSet-insert : (F : FactSet) (d : Dot) (b : Body) → IsFactSet F → refusal_of b ≡ None → IsFactSet (map.insert F d b)
 IsFactSet-insert F d b sound passes q c h = of_dot F d b q c (refusal_of c ≡ None) (λ _ same. ap refusal_of (sym same) ∙ passes) (sound q c) h
+
+-- what was put where nothing stood, and taken back, leaves the set
+pub taken_back : (F : FactSet) (d : Dot) (b : Body) → map.get F d ≡ None → map.remove (map.insert F d b) d ≡ F
+taken_back F d b free = same_set _ _ (λ q.
+    map.get-remove dot_cmp_total (map.insert F d b) d q
+    ∙ elim (eq_by_cmp dot_cmp q d) as (λ t. eq_by_cmp dot_cmp q d ≡ t → cond t None (map.get (map.insert F d b) q) ≡ map.get F q) [
+      | true ↦ λ e. sym free ∙ ap (map.get F) (sym (tied q d e))
+      | false ↦ λ e. map.get-insert dot_cmp_total F d b q ∙ ap (λ t. cond t (Some b) (map.get F q)) e
+    ] refl)
+
+pub IsFactSet-remove : (F : FactSet) (d : Dot) → IsFactSet F → IsFactSet (map.remove F d)
+IsFactSet-remove F d sound q c h =
+    elim (eq_by_cmp dot_cmp q d) as (λ t. cond t None (map.get F q) ≡ Some c → refusal_of c ≡ None) [
+      | true ↦ λ k. absurd (none_is_not_some c k)
+      | false ↦ sound q c
+    ] (sym (map.get-remove dot_cmp_total F d q) ∙ h)

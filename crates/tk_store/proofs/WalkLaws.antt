@@ -1,8 +1,5 @@
 -- What is above the first fact above a dot is the rest of what is above that dot.
-use Rattle.std.proofs.Common.{◌≡◌, ℕ, zero, suc, ◌+◌, ◌<◌, Bool, true, false, ◌&&◌, cond, T, List, [], ◌∷◌, filter, length, get_or, slice_get, Option, Some, None, refl, sym, ap, subst, ◌∙◌, arith, inl, inr}
-use Rattle.std.proofs.lemmas.Bool.{cases_lt}
-use Rattle.tk_handle.specs.SortedEntries.{IsAt, IsGap}
-use Rattle.tk_handle.proofs.SortedEntriesLaws.{turned_equal}
+use Rattle.std.proofs.Common.{◌≡◌, Bool, true, false, ◌&&◌, cond, T, [], ◌∷◌, filter, slice_get, Option, Some, None, refl, sym, ap, subst, ◌∙◌}
 use Rattle.std.specs.Ordering.{is_lt, ordering_reverse}
 use Rattle.std.specs.declared.cmp.Ordering.{Ordering}
 use Rattle.std.specs.declared.cmp.Ordering.TheVariants.{Less, Equal, Greater}
@@ -86,36 +83,6 @@ walk a (e ∷ es) f rest sorted h =
 -- so a walk that goes on from the fact it was given sees each fact once, and ends
 pub above_next : (F : FactSet) (a : Option Dot) (f : Dot × Body) (rest : Facts) → above F a ≡ f ∷ rest → above F (Some f.0) ≡ rest
 above_next F a f rest h = walk a (map.entries F) f rest (map.entries_sorted F) h
-
--- ---- the first of what is above
-
--- the first that passes a test is the one before which all fail it, if that one passes
-first_of : {X : Type 0} (p : X → Bool) (es : List X) (i : ℕ) → ((j : ℕ) (d : X) → j < i → j < length es → p (get_or es j d) ≡ false) → ((d : X) → i < length es → p (get_or es i d) ≡ true) → slice_get (filter p es) 0 ≡ slice_get es i
-first_of p [] zero below here = refl
-first_of p [] (suc i) below here = refl
-first_of p (e ∷ es) zero below here = ap (λ t. slice_get (cond t (e ∷ filter p es) (filter p es)) 0) (here e (omega arith))
-first_of p (e ∷ es) (suc i) below here =
-    ap (λ t. slice_get (cond t (e ∷ filter p es) (filter p es)) 0) (below 0 e (omega arith) (omega arith))
-    ∙ first_of p es i (λ j d lt within. below (suc j) d (omega arith) (omega arith)) (λ d within. here d (omega arith))
-
-module _ (es : Facts) (k : Dot) (i : ℕ) where
-  -- so it is at the place where the dot would go
-  pub first_at_gap : IsGap dot_cmp es k i → slice_get (filter (is_above (Some k)) es) 0 ≡ slice_get es i
-  first_at_gap gap = first_of (is_above (Some k)) es i (λ j d lt within. ap is_lt (gap.below j d lt)) (λ d within. ap is_lt (gap.above i d (omega arith) within))
-
-  -- or right after the place where it stands
-  pub first_at_place : IsAt dot_cmp es k i → slice_get (filter (is_above (Some k)) es) 0 ≡ slice_get es (i + 1)
-  first_at_place at = first_of (is_above (Some k)) es (i + 1)
-      (λ j d lt within. elim (cases_lt j i) [
-        | inl less ↦ ap is_lt (at.below j d less)
-        | inr more ↦ let here : j ≡ i = omega arith in ap (λ n. is_above (Some k) (get_or es n d)) here ∙ ap is_lt (turned_equal dot_cmp_total _ k (at.tied d))
-      ])
-      (λ d within. ap is_lt (at.above (i + 1) d (omega arith) within))
-
--- with no dot given it is the first of all
-pub first_of_all : (es : Facts) → slice_get (filter (is_above None) es) 0 ≡ slice_get es 0
-first_of_all [] = refl
-first_of_all (e ∷ es) = refl
 
 pub above_none : (F : FactSet) → above F None ≡ map.entries F
 above_none F = all (map.entries F)

@@ -1,17 +1,22 @@
 //! A store of facts.
 
+use crate::table::Table;
+use std::alloc::{AllocError, Global};
 use std::marker::Model;
 use tk_fact::Fact;
+use tk_vector::VersionVector;
 
 /// A set of facts, each of which passes its check, no two at one dot.
 #[derive(Debug, Drop)]
 pub struct FactStore {
-    // Ascending by dot.
-    facts: Vec<Fact>,
+    facts: Table,
+    // Up to which serial the facts of each region are all held.
+    front: VersionVector,
+    // Where copies for a join are made.
+    alloc: Global,
 }
 
 impl Model for FactStore {
-    ghost use Rattle.std.specs.FinMap as map;
     ghost use Rattle.tk_store.specs.FactSet.{coded_facts};
     ghost use Rattle.tk_store.specs.Store.{Store, IsKept};
 
@@ -19,9 +24,9 @@ impl Model for FactStore {
 
     ghost coded = { coded_facts };
 
-    ghost view = { λ s. map.from_sorted s.facts.items };
+    ghost view = { λ s. s.facts };
 
-    ghost invariant = { λ s. IsKept s.facts.items };
+    ghost invariant = { λ s. IsKept s.facts s.front };
 }
 
 /// How an addition ended.
@@ -42,23 +47,23 @@ pub enum AddError {
     Memory,
 }
 
-ghost use Rattle.std.specs.Prelude.{◌≡◌, ◌≤◌, IfOk, None, take, map, slice_get};
+ghost use Rattle.std.specs.Prelude.{◌≡◌, ◌≤◌, IfOk, OnOk, OnErr, None, take, map, slice_get};
 ghost use Rattle.std.specs.Option.{SomeIff, option_map, option_copied};
 ghost use Rattle.std.specs.FinMap as sets;
 ghost use Rattle.tk_fact.specs.Check.{refusal_of};
 ghost use Rattle.tk_handle.specs.Ranges.{greatest_serial};
 ghost use Rattle.tk_store.specs.FactSet.{IsFactSet, dot_of};
-ghost use Rattle.tk_store.specs.Store.{facts_of, known_in};
+ghost use Rattle.tk_store.specs.Store.{facts_of, known_in, IsKept};
 ghost use Rattle.tk_store.specs.Adding.{Adds};
 ghost use Rattle.tk_store.specs.Beyond.{beyond};
+ghost use Rattle.tk_store.specs.Front.{IsFront};
 ghost use Rattle.tk_store.specs.Walk.{above};
 ghost use Rattle.tk_store.specs.NextDot.{next_dot, next_serial};
 
-use crate::list::{count, dots_beyond, first_above, insert_at, last_serial, place};
+use crate::advance::advance;
+use crate::since::dots_beyond;
 use crate::walk::Facts;
-use std::alloc::{AllocError, Global};
 use tk_handle::{Dot, RegionNumber};
-use tk_vector::VersionVector;
 
 impl FactStore {
     /// No fact.
@@ -66,8 +71,14 @@ impl FactStore {
         ensures { result ≡ sets.empty }
     {
         FactStore {
-            facts: Vec::new(alloc),
+            facts: Table::new(alloc),
+            front: VersionVector::new(alloc),
+            alloc,
         }
+    }
+
+    pub(crate) fn allocator(&self) -> Global {
+        self.alloc
     }
 
     /// Each fact held passes its check: told to callers, nothing is done.
@@ -82,44 +93,57 @@ impl FactStore {
         requires { refusal_of fact.1 ≡ None }
         ensures { Adds self.old fact result self.new }
     {
-        match place(&self.facts, fact.dot) {
-            Ok(at) => {
-                let held = &self.facts[at];
+        match self.facts.get(fact.dot) {
+            Some(held) => {
                 if held.body.same(&fact.body) {
                     Ok(Added::Held)
                 } else {
                     Err(AddError::Conflict)
                 }
             }
-            Err(at) => match insert_at(&mut self.facts, at, fact) {
+            None => match add_new(&mut self.facts, &mut self.front, fact) {
                 Ok(()) => Ok(Added::New),
                 Err(_) => Err(AddError::Memory),
             },
         }
     }
 
+    /// Takes the fact at the dot out and hands it back, which takes no memory. None where there is none, and then
+    /// nothing changes. It undoes an addition.
+    pub fn take_back(&mut self, dot: Dot) -> Option<Fact>
+        ensures fact { result ≡ option_map (λ body. (dot, body)) (sets.get (facts_of self.old) dot) }
+        ensures rest { self.new ≡ sets.remove self.old dot }
+    {
+        self.front.lower(dot.region(), dot.serial() - 1);
+        self.facts.take(dot)
+    }
+
     /// The fact at the dot.
     pub fn get(&self, dot: Dot) -> Option<&Fact>
         ensures { option_copied result ≡ option_map (λ body. (dot, body)) (sets.get (facts_of self.now) dot) }
     {
-        match place(&self.facts, dot) {
-            Ok(at) => Some(&self.facts[at]),
-            Err(_) => None,
-        }
+        self.facts.get(dot)
     }
 
     /// How many facts there are.
     pub fn len(&self) -> u64
         ensures { result ≡ sets.len (facts_of self.now) }
     {
-        count(&self.facts)
+        self.facts.len()
+    }
+
+    /// The front: to each region the greatest number such that its serials from 1 up to it are all held.
+    pub fn vector(&self) -> &VersionVector
+        ensures { IsFront (known_in self.now) result.now }
+    {
+        &self.front
     }
 
     /// The held fact with the least dot above, or of all.
     pub fn next_after(&self, after: Option<Dot>) -> Option<&Fact>
         ensures { option_copied result ≡ slice_get (above (facts_of self.now) after) 0 }
     {
-        first_above(&self.facts, after)
+        self.facts.next_after(after)
     }
 
     /// The facts, ascending by dot, each looked up when it is asked for.
@@ -132,22 +156,42 @@ impl FactStore {
         }
     }
 
-    /// The first dots that the vector doesn't cover, ascending, at most as many as the limit.
+    /// The first dots that the vector doesn't cover above a place, or of all, ascending, at most as many as the limit.
+    /// Each of them, and each region with facts, costs a look-up or two.
     pub fn since(
         &self,
         alloc: Global,
         vector: &VersionVector,
+        after: Option<Dot>,
         limit: usize,
     ) -> Result<Vec<Dot>, AllocError>
-        ensures { IfOk result (λ dots. dots.items ≡ take limit (map dot_of (beyond (known_in self.now) vector.now))) }
+        ensures { IfOk result (λ dots. dots.items ≡ take limit (map dot_of (beyond (known_in self.now) vector.now after))) }
     {
-        dots_beyond(alloc, &self.facts, vector, limit)
+        dots_beyond(alloc, &self.facts, vector, after, limit)
     }
 
     /// Where the region's next fact stands: 1 past its greatest serial. None where that is the greatest of all.
     pub fn next_dot(&self, region: RegionNumber) -> Option<Dot>
         ensures { SomeIff result (next_serial (known_in self.now) region ≤ greatest_serial) (next_dot (known_in self.now) region) }
     {
-        Dot::new(region, last_serial(&self.facts, region) + 1)
+        Dot::new(region, self.facts.last_serial(region) + 1)
     }
+}
+
+// Adds a fact at a dot that is free. Where memory is refused, the fact comes out again.
+fn add_new(facts: &mut Table, front: &mut VersionVector, fact: Fact) -> Result<(), AllocError>
+    requires free { sets.get facts.old fact.0 ≡ None }
+    requires passes { refusal_of fact.1 ≡ None }
+    requires kept { IsKept facts.old front.old }
+    ensures ok { OnOk result (facts.new ≡ sets.insert facts.old fact.0 fact.1) }
+    ensures err { OnErr result (facts.new ≡ facts.old) }
+    ensures kept { IsKept facts.new front.new }
+{
+    let dot = fact.dot;
+    facts.put(fact)?;
+    if let Err(error) = advance(facts, front, dot) {
+        facts.take(dot);
+        return Err(error);
+    }
+    Ok(())
 }

@@ -1,2 +1,4 @@
+pub mod OrderLaws
+pub mod RemovalLaws
 pub mod VectorTextLaws
 pub mod VersionVectorLaws

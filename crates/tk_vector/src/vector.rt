@@ -1,4 +1,4 @@
-//! A version vector, and what it covers.
+//! A version vector, what it covers, and how vectors are joined.
 
 use std::marker::Model;
 use tk_handle::{Dot, RegionNumber, Serial};
@@ -25,13 +25,16 @@ impl Model for VersionVector {
     ghost invariant = { λ v. T (map.is_sorted nat_cmp v.entries.items) };
 }
 
-ghost use Rattle.std.specs.Prelude.{◌≡◌, ◌≤◌, ◌↔◌, T, IsTrue, OnOk, OnErr, MatchResult};
+ghost use Rattle.std.specs.Prelude.{◌≡◌, ℕ, ◌≤◌, ◌↔◌, T, IsTrue, length, ⊤, IfOk, OnOk, OnErr, MatchResult};
 ghost use Rattle.std.specs.Ordering.{nat_cmp};
 ghost use Rattle.std.specs.FinMap as map;
 ghost use Rattle.tk_handle.specs.Ranges.{greatest_serial};
 ghost use Rattle.tk_handle.specs.SortedEntries.{IsAt, IsGap};
-ghost use Rattle.tk_vector.specs.VersionVector.{entry, raised, Covers};
+ghost use Rattle.tk_vector.specs.Join.{IsJoin, JoinLaws};
+ghost use Rattle.tk_vector.specs.VectorOrder.{Below, AllAtMost, RaisedBy};
+ghost use Rattle.tk_vector.specs.VersionVector.{entry, raised, lowered, Covers};
 
+use crate::join::{Join, JoinError};
 use std::alloc::{AllocError, Global};
 
 impl VersionVector {
@@ -44,9 +47,18 @@ impl VersionVector {
         }
     }
 
+    /// The same entries once more.
+    pub fn copy(&self, alloc: Global) -> Result<VersionVector, AllocError>
+        ensures { IfOk result (λ copy. copy ≡ self.now) }
+    {
+        let entries = Vec::from_slice(alloc, &self.entries)?;
+        Ok(VersionVector { entries })
+    }
+
     /// The region's entry, a serial, or 0 where there is none.
     pub fn get(&self, region: RegionNumber) -> u64
-        ensures { result ≡ entry self.now region }
+        ensures value { result ≡ entry self.now region }
+        ensures high { result ≤ greatest_serial }
     {
         match place(&self.entries, region) {
             Ok(at) => self.entries[at].1.number(),
@@ -75,6 +87,25 @@ impl VersionVector {
         Ok(())
     }
 
+    /// The region's entry becomes the lesser of itself and this number, and there is none for 0. It takes no memory.
+    pub fn lower(&mut self, region: RegionNumber, serial: u64)
+        requires { serial ≤ greatest_serial }
+        ensures { self.new ≡ lowered self.old region serial }
+    {
+        if let Ok(at) = place(&self.entries, region) {
+            match Serial::new(serial) {
+                Some(serial) => {
+                    if serial < self.entries[at].1 {
+                        self.entries[at].1 = serial;
+                    }
+                }
+                None => {
+                    self.entries.remove(at);
+                }
+            }
+        }
+    }
+
     /// Whether the dot's serial is at most its region's entry.
     pub fn covers(&self, dot: Dot) -> bool
         ensures { IsTrue result ↔ Covers self.now dot }
@@ -90,3 +121,54 @@ fn place(entries: &[(RegionNumber, Serial)], region: RegionNumber) -> Result<usi
 {
     entries.binary_search_by_key(&region, |&(region, _)| region)
 }
+
+// Whether each of the entries is at most the vector's.
+fn each_below(entries: &[(RegionNumber, Serial)], vector: &VersionVector) -> bool
+    ensures { IsTrue result ↔ AllAtMost entries.now (length entries.now) vector.now }
+{
+    for entry in entries {
+        if vector.get(entry.0) < entry.1.number() {
+            return false;
+        }
+    }
+    true
+}
+
+// Raises each of the entries. Where memory is refused, the first of them are raised.
+fn raise_each(
+    vector: &mut VersionVector,
+    entries: &[(RegionNumber, Serial)],
+) -> Result<(), AllocError>
+    ensures ok { OnOk result (RaisedBy vector.old entries.now vector.new (length entries.now)) }
+    ensures err { OnErr result ((i : ℕ) × RaisedBy vector.old entries.now vector.new i) }
+{
+    for entry in entries {
+        vector.raise(entry.0, entry.1.number())?;
+    }
+    Ok(())
+}
+
+impl Join for VersionVector {
+    ghost use Rattle.std.specs.Prelude.{⊤};
+    ghost use Rattle.tk_vector.specs.VectorOrder.{Below};
+
+    ghost within = { Below };
+
+    ghost agree = { λ a b. ⊤ };
+
+    fn below(&self, other: &Self) -> bool {
+        each_below(&self.entries, other)
+    }
+
+    fn join_from(&mut self, other: &Self) -> Result<(), JoinError> {
+        match raise_each(self, &other.entries) {
+            Ok(()) => Ok(()),
+            Err(_) => Err(JoinError::Memory),
+        }
+    }
+}
+
+/// A law: version vectors are ordered by their entries, and any two have a least one above both (own).
+pub fn vectors_join()
+    ensures { JoinLaws Below (λ a b. ⊤) }
+{}

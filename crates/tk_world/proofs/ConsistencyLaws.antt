@@ -14,12 +14,12 @@ use Rattle.tk_fact.specs.Check.{refusal_of}
 use Rattle.tk_fact.specs.declared.body.Body.{Body}
 use Rattle.tk_vector.specs.VersionVector.{Vector}
 use Rattle.tk_store.specs.FactSet.{FactSet, Facts, AllIn, IsSubset, with_facts}
-use Rattle.tk_store.specs.Beyond.{beyond, is_beyond}
-use Rattle.tk_store.proofs.EntryLaws.{AllIn-entries}
+use Rattle.tk_store.specs.Beyond.{beyond}
+use Rattle.tk_store.proofs.EntryLaws.{AllIn-beyond}
 use Rattle.tk_store.proofs.JoiningLaws.{joins_is_with_facts}
 use Rattle.tk_store.proofs.NextDotLaws.{next_is_free}
 use Rattle.tk_store.proofs.PutLaws.{by_dot, of_dot, get_here, some_injective, none_is_not_some, IsFactSet-empty, IsFactSet-insert}
-use Rattle.tk_store.proofs.SubsetLaws.{subset_itself, subset_trans, subset_with_facts, keeps_with_facts, AllIn-take, AllIn-filter, AllIn-subset}
+use Rattle.tk_store.proofs.SubsetLaws.{subset_itself, subset_trans, subset_with_facts, keeps_with_facts, AllIn-take, AllIn-subset}
 use Rattle.tk_region.specs.SettingsFields.{SettingsFields, greatest_cap}
 use Rattle.tk_region.specs.Step.{prepared_of, listed, IsNextFact}
 use Rattle.tk_world.specs.State.{State, new_state, with_region, with_bundle, region_with, Consists, IsConsistent}
@@ -33,7 +33,7 @@ use Rattle.tk_world.specs.World.{Grows, Step}
 -- ---- pages
 
 AllIn-page : (F : FactSet) (v : Vector) → AllIn F (page_of F v).facts
-AllIn-page F v = AllIn-take F 128 (beyond F v) (AllIn-filter F (is_beyond v) (map.entries F) (AllIn-entries F))
+AllIn-page F v = AllIn-take F 128 (beyond F v None) (AllIn-beyond F v None)
 
 -- ---- worlds
 
@@ -176,7 +176,7 @@ step_keeps old (Request n now words q) Memory seen new step next k = subst IsCon
 step_keeps old (Pull n v) (Bundle index count last more) seen new step next k =
     let F = step.0 in
     let fs = (page_of F v).facts in
-    subst IsConsistent (sym step.3.4) (k.0, consists_bundle old k.0 fs k.1 (AllIn-subset F k.0 fs (k.1.held n F step.1) (AllIn-page F v)) (short_page (beyond F v)))
+    subst IsConsistent (sym step.3.4) (k.0, consists_bundle old k.0 fs k.1 (AllIn-subset F k.0 fs (k.1.held n F step.1) (AllIn-page F v)) (short_page (beyond F v None)))
   where
     short_page : (fs : Facts) → length (take 128 fs) ≤ 128
     short_page fs = omega (arith, length-take 128 fs)

@@ -1,10 +1,11 @@
 use Rattle.std.proofs.Common.{ap, ◌∙◌}
+use Rattle.std.specs.FinMap as sets
+use Rattle.tk_store.specs.FactSet.{FactSet}
 use Rattle.tk_store.specs.NextDot as next
 use Rattle.tk_store.proofs.NextDotLaws.{next_dot_there}
-use Rattle.tk_store.proofs.StoreLaws.{kept_entries}
 use Rattle.tk_store.proofs.store.FactStore.next_dot.Goals as goal
 
 pub returns : goal.returns
 returns c =
-    let last = c.last_serial.ensures.value ∙ ap (next.last_serial c.args.region) (c.deref.ensures.value ∙ kept_entries _ _ c.self.invariant c.self.view_is) in
+    let last = c.last_serial.ensures.value ∙ ap (λ (F : FactSet). next.last_serial c.args.region (sets.entries F)) c.self.view_is in
     next_dot_there c.args.self.now c.args.region c.last_serial.result c.new.result last c.new.ensures

@@ -1,0 +1,88 @@
+-- A set with one fact more. Key results:
+--   OneMore                    the one set is the other with a body at a dot, where nothing stood
+--   more_insert, more_remove   what makes one
+--   more_subset                the smaller is within the larger
+--   by_more                    what stands at a dot of the larger
+--   any_fact-more              one more fact is one more test
+use Rattle.std.proofs.Common.{◌≡◌, ◌≢◌, ◌⊎◌, inl, inr, Bool, true, false, ◌||◌, Option, Some, None, refl, sym, ap, subst, ◌∙◌}
+use Rattle.std.proofs.lemmas.Bool.{true≢false, cases_Bool, cond-true, cond-false, or_cases, or_left, or_right}
+use Rattle.std.proofs.lemmas.Cmp.{tied_itself}
+use Rattle.std.specs.Ordering.{eq_by_cmp, is_eq}
+use Rattle.std.specs.FinMap as map
+use Rattle.tk_handle.specs.declared.dot.Dot.{Dot}
+use Rattle.tk_handle.specs.Dot.{dot_cmp, dot_cmp_total}
+use Rattle.tk_fact.specs.declared.body.Body.{Body}
+use Rattle.tk_store.specs.FactSet.{FactSet, IsSubset, any_fact}
+use Rattle.tk_store.proofs.EntryLaws.{Passing, any_fact-held, any_fact-of}
+use Rattle.tk_store.proofs.FactSetLaws.{tied}
+use Rattle.tk_store.proofs.PutLaws.{get_here, some_injective, none_is_not_some}
+
+at_itself : (d : Dot) → eq_by_cmp dot_cmp d d ≡ true
+at_itself d = ap is_eq (tied_itself dot_cmp_total d)
+
+pub cases_dots : (a b : Dot) → (a ≡ b) ⊎ (a ≢ b)
+cases_dots a b = elim (cases_Bool (eq_by_cmp dot_cmp a b)) [
+  | inl same ↦ inl (tied a b same)
+  | inr apart ↦ inr (λ is. true≢false (sym (at_itself b) ∙ ap (λ (x : Dot). eq_by_cmp dot_cmp x b) (sym is) ∙ apart))
+]
+
+-- dots that differ don't tie
+pub apart_at : (a b : Dot) → a ≢ b → eq_by_cmp dot_cmp a b ≡ false
+apart_at a b ne = elim (cases_Bool (eq_by_cmp dot_cmp a b)) [
+  | inl same ↦ absurd (ne (tied a b same))
+  | inr apart ↦ apart
+]
+
+-- G is F with b at d, where nothing stood
+pub record OneMore (F G : FactSet) (d : Dot) (b : Body) : Type 0 where
+  pub free : map.get F d ≡ None
+  pub here : map.get G d ≡ Some b
+  pub there : (q : Dot) → q ≢ d → map.get G q ≡ map.get F q
+
+pub more_insert : (F : FactSet) (d : Dot) (b : Body) → map.get F d ≡ None → OneMore F (map.insert F d b) d b
+more_insert F d b free = record {
+  free = free;
+  here = get_here F d b;
+  there = λ q ne. map.get-insert dot_cmp_total F d b q ∙ cond-false (eq_by_cmp dot_cmp q d) (Some b) (map.get F q) (apart_at q d ne);
+}
+
+pub more_remove : (G : FactSet) (d : Dot) (b : Body) → map.get G d ≡ Some b → OneMore (map.remove G d) G d b
+more_remove G d b held = record {
+  free = map.get-remove dot_cmp_total G d d ∙ cond-true (eq_by_cmp dot_cmp d d) None (map.get G d) (at_itself d);
+  here = held;
+  there = λ q ne. sym (map.get-remove dot_cmp_total G d q ∙ cond-false (eq_by_cmp dot_cmp q d) None (map.get G q) (apart_at q d ne));
+}
+
+pub more_subset : (F G : FactSet) (d : Dot) (b : Body) → OneMore F G d b → IsSubset F G
+more_subset F G d b m q x h = elim (cases_dots q d) [
+  | inl same ↦ absurd (none_is_not_some x (sym m.free ∙ ap (map.get F) (sym same) ∙ h))
+  | inr ne ↦ m.there q ne ∙ h
+]
+
+-- what stands at a dot, in a goal
+pub by_more : (P : Dot → Option Body → Type 0) (F G : FactSet) (d : Dot) (b : Body) → OneMore F G d b → (q : Dot) → (q ≡ d → P d (Some b)) → (q ≢ d → P q (map.get F q)) → P q (map.get G q)
+by_more P F G d b m q at_it elsewhere = elim (cases_dots q d) [
+  | inl same ↦ subst (λ (x : Dot). P x (map.get G x)) (sym same) (subst (P d) (sym m.here) (at_it same))
+  | inr ne ↦ subst (P q) (sym (m.there q ne)) (elsewhere ne)
+]
+
+-- two tests that imply each other are one
+same_tests : (a b : Bool) → (a ≡ true → b ≡ true) → (b ≡ true → a ≡ true) → a ≡ b
+same_tests true b f g = sym (f refl)
+same_tests false true f g = g refl
+same_tests false false f g = refl
+
+-- one more fact is one more test
+pub any_fact-more : (p : Dot × Body → Bool) (F G : FactSet) (d : Dot) (b : Body) → OneMore F G d b → any_fact p G ≡ (p (d, b) || any_fact p F)
+any_fact-more p F G d b m = same_tests (any_fact p G) (p (d, b) || any_fact p F)
+    (λ h. (let x : Passing p G = any_fact-held p G h in elim (cases_dots x.dot d) [
+      | inl same ↦ or_left (p (d, b)) (any_fact p F) (moved x.dot x.body same (some_injective x.body b (sym x.held ∙ ap (map.get G) same ∙ m.here)) x.passes)
+      | inr ne ↦ or_right (p (d, b)) (any_fact p F) (any_fact-of p F x.dot x.body (sym (m.there x.dot ne) ∙ x.held) x.passes)
+    ]))
+    (λ h. elim (or_cases (p (d, b)) (any_fact p F) h) [
+      | inl new ↦ any_fact-of p G d b m.here new
+      | inr old ↦ (let x : Passing p F = any_fact-held p F old in any_fact-of p G x.dot x.body (more_subset F G d b m x.dot x.body x.held) x.passes)
+    ])
+  where
+    moved : (e : Dot) (c : Body) → e ≡ d → c ≡ b → p (e, c) ≡ true → p (d, b) ≡ true
+    moved e c i j k = rw (← i, ← j) k

@@ -1,0 +1,33 @@
+-- One step of a search for what a vector doesn't cover (own).
+--   GoesOn    where the search goes on from a dot
+--   SeeksAt   what is left after a step to a place
+--   Seeks     what a step does, if there is one
+--   noted     the dots found, with that of a step
+use Rattle.std.specs.Prelude.{◌≡◌, ◌<◌, ◌≤◌, Bool, true, false, List, [], ◌∷◌, ◌++◌, length, map, Option, Some, None}
+use Rattle.tk_handle.specs.declared.dot.Dot.{Dot}
+use Rattle.tk_vector.specs.VersionVector.{Vector, entry}
+use Rattle.tk_store.specs.declared.since.Step.{Step}
+use Rattle.tk_store.specs.FactSet.{FactSet, dot_of}
+use Rattle.tk_store.specs.Beyond.{beyond}
+use Rattle.tk_store.specs.Walk.{above}
+
+-- the vector doesn't cover the dot, and the search goes on from it; or it covers it, and the search goes on from the
+-- last dot of the region that it covers
+abbrev pub GoesOn : Vector → Dot → Dot → Bool → Type 0
+GoesOn v d at true = (at ≡ d) × (entry v d.region < d.serial)
+GoesOn v d at false = (at ≡ record { region = d.region; serial = entry v d.region }) × (d.serial ≤ entry v d.region)
+
+-- a step takes the first dot that isn't covered, or none, from what is left; and fewer facts are to come
+abbrev pub SeeksAt : FactSet → Vector → Option Dot → Dot → Bool → Type 0
+SeeksAt F v after at true = map dot_of (beyond F v after) ≡ at ∷ map dot_of (beyond F v (Some at))
+SeeksAt F v after at false = map dot_of (beyond F v after) ≡ map dot_of (beyond F v (Some at))
+
+-- a step, or none where nothing is left
+abbrev pub Seeks : FactSet → Vector → Option Dot → Option Step → Type 0
+Seeks F v after (Some step) = SeeksAt F v after step.at step.is_beyond × (length (above F (Some step.at)) < length (above F after))
+Seeks F v after None = map dot_of (beyond F v after) ≡ []
+
+-- the dots found, with that of the step where it isn't covered
+abbrev pub noted : List Dot → Dot → Bool → List Dot
+noted found at true = found ++ at ∷ []
+noted found at false = found

@@ -1,0 +1,47 @@
+//! How the front follows a new fact.
+
+ghost use Rattle.std.specs.Prelude.{◌≡◌, ℕ, ◌≤◌, ◌+◌, OnOk, OnErr, IsSome, None};
+ghost use Rattle.std.specs.FinMap as sets;
+ghost use Rattle.tk_handle.specs.Ranges.{greatest_serial};
+ghost use Rattle.tk_store.specs.Front.{IsFront, dot_at};
+
+use crate::table::Table;
+use std::alloc::AllocError;
+use tk_handle::{Dot, Serial};
+use tk_vector::VersionVector;
+
+// The last of the serials that are held without a gap from the dot's on.
+fn run_end(table: &Table, dot: Dot) -> u64
+    requires { IsSome (sets.get table.now dot) }
+    ensures from { dot.serial ≤ result }
+    ensures high { result ≤ greatest_serial }
+    ensures held { (k : ℕ) → dot.serial ≤ k → k ≤ result → IsSome (sets.get table.now (dot_at dot.region k)) }
+    ensures next { sets.get table.now (dot_at dot.region (result + 1)) ≡ None }
+{
+    table.known();
+    for serial in dot.serial()..Serial::GREATEST {
+        match Dot::new(dot.region(), serial + 1) {
+            Some(next) => {
+                if !table.holds(next) {
+                    return serial;
+                }
+            }
+            None => unreachable!(),
+        }
+    }
+    Serial::GREATEST
+}
+
+// The front of the set without the fact at the dot becomes that of the whole set.
+pub(crate) fn advance(table: &Table, front: &mut VersionVector, dot: Dot) -> Result<(), AllocError>
+    requires held { IsSome (sets.get table.now dot) }
+    requires front { IsFront (sets.remove table.now dot) front.old }
+    ensures ok { OnOk result (IsFront table.now front.new) }
+    ensures err { OnErr result (front.new ≡ front.old) }
+{
+    if dot.serial() - 1 != front.get(dot.region()) {
+        return Ok(());
+    }
+    let end = run_end(table, dot);
+    front.raise(dot.region(), end)
+}

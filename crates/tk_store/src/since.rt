@@ -1,0 +1,96 @@
+//! What a vector doesn't cover, found without a look at what it covers.
+
+ghost use Rattle.std.specs.Prelude.{◌≡◌, [], IfOk, OnOk, take, map};
+ghost use Rattle.tk_store.specs.FactSet.{dot_of};
+ghost use Rattle.tk_store.specs.Beyond.{beyond};
+ghost use Rattle.tk_store.specs.Seeking.{Seeks, GoesOn, noted};
+
+use crate::table::Table;
+use std::alloc::{AllocError, Global};
+use tk_fact::Fact;
+use tk_handle::Dot;
+use tk_vector::VersionVector;
+
+// The place to go on from, and whether the fact there is one that the vector doesn't cover.
+#[derive(Clone, Copy)]
+pub(crate) struct Step {
+    at: Dot,
+    is_beyond: bool,
+}
+
+// Where to go on from a fact: from the fact itself, or from the last dot of its region that the vector covers.
+fn step_at(vector: &VersionVector, fact: &Fact) -> Step
+    ensures { GoesOn vector.now fact.now.0 result.at result.is_beyond }
+{
+    let entry = vector.get(fact.dot.region());
+    if fact.dot.serial() > entry {
+        return Step {
+            at: fact.dot,
+            is_beyond: true,
+        };
+    }
+    match Dot::new(fact.dot.region(), entry) {
+        Some(last) => Step {
+            at: last,
+            is_beyond: false,
+        },
+        None => unreachable!(),
+    }
+}
+
+// The next step from a place.
+fn next_step(table: &Table, vector: &VersionVector, after: Option<Dot>) -> Option<Step>
+    ensures { Seeks table.now vector.now after result }
+{
+    match table.next_after(after) {
+        Some(fact) => Some(step_at(vector, fact)),
+        None => None,
+    }
+}
+
+// Notes the dot of a step where it isn't covered.
+fn note(dots: &mut Vec<Dot>, at: Dot, is_beyond: bool) -> Result<(), AllocError>
+    ensures ok { OnOk result (dots.new.items ≡ noted dots.old.items at is_beyond) }
+{
+    if is_beyond {
+        dots.push(at)?;
+    }
+    Ok(())
+}
+
+// Gathers the first dots above a place that the vector doesn't cover.
+fn gather(
+    table: &Table,
+    vector: &VersionVector,
+    after: Option<Dot>,
+    limit: usize,
+    dots: &mut Vec<Dot>,
+) -> Result<(), AllocError>
+    requires { dots.old.items ≡ [] }
+    ensures { OnOk result (dots.new.items ≡ take limit (map dot_of (beyond table.now vector.now after))) }
+{
+    let mut place = after;
+    'pages: while dots.len() < limit {
+        let Some(Step { at, is_beyond }) = next_step(table, vector, place) else {
+            return Ok(());
+        };
+        note(dots, at, is_beyond)?;
+        place = Some(at);
+    }
+    Ok(())
+}
+
+// The first dots above a place that the vector doesn't cover, at most as many as the limit.
+pub(crate) fn dots_beyond(
+    alloc: Global,
+    table: &Table,
+    vector: &VersionVector,
+    after: Option<Dot>,
+    limit: usize,
+) -> Result<Vec<Dot>, AllocError>
+    ensures { IfOk result (λ dots. dots.items ≡ take limit (map dot_of (beyond table.now vector.now after))) }
+{
+    let mut dots = Vec::new(alloc);
+    gather(table, vector, after, limit, &mut dots)?;
+    Ok(dots)
+}

@@ -1,0 +1,18 @@
+-- Joining two values to the least one above both (own; the least upper bound of an order).
+--   IsJoin     the least value above two
+--   JoinLaws   the order of the values, and which of them have a value above both
+use Rattle.std.specs.Prelude.{◌≡◌}
+
+-- c is above a and b, and below every value that is
+pub record IsJoin {V : Type 0} (Below : V → V → Type 0) (a b c : V) : Type 0 where
+  pub left : Below a c
+  pub right : Below b c
+  pub least : (d : V) → Below a d → Below b d → Below c d
+
+-- the values are ordered, and two agree exactly where some value is above both, and then there is a least one
+pub record JoinLaws {V : Type 0} (Below Agree : V → V → Type 0) : Type 0 where
+  pub reflexive : (a : V) → Below a a
+  pub transitive : (a b c : V) → Below a b → Below b c → Below a c
+  pub antisymmetric : (a b : V) → Below a b → Below b a → a ≡ b
+  pub bounded : (a b c : V) → Below a c → Below b c → Agree a b
+  pub joined : (a b : V) → Agree a b → (c : V) × IsJoin Below a b c
