@@ -9,14 +9,27 @@
 //! and `laws`, each stated in specs/Laws.antt and proved in proofs/.
 #![tactic(auto)]
 
+mod find;
+mod forest;
+mod gather;
 mod laws;
 mod link;
+mod look;
+mod mark;
+mod put;
+mod row;
+mod steps;
+mod top;
+mod write;
 
+pub use forest::Forest;
 pub use laws::{
     chain_length, death_stays, one_code, rank_falls, twice_stays, under_stays, walk_ends,
     walk_finds,
 };
 pub use link::{Link, fits, grant, named, rank, used};
+pub use steps::Steps;
+pub use top::Top;
 
 #[cfg(test)]
 mod tests;
