@@ -1,11 +1,10 @@
 -- One more link, and what it adds.
-use Rattle.std.proofs.Common.{◌≡◌, ◌≢◌, ◌⊎◌, inl, inr, ℕ, ◌+◌, Bool, true, false, Option, None, Some, List, [], ◌∷◌, ap, sym, ◌∙◌, refl, arith}
+use Rattle.std.proofs.Common.{◌≡◌, ◌≢◌, ◌⊎◌, inl, inr, Bool, true, None, Some, List, [], ◌∷◌, ap, sym, ◌∙◌}
 use Rattle.tk_family.proofs.DotLaws.{cases_dots}
 use Rattle.tk_handle.specs.declared.dot.Dot.{Dot}
-use Rattle.tk_handle.specs.declared.token_id.TokenId.{TokenId}
 use Rattle.tk_family.specs.declared.link.Link.{Link}
-use Rattle.tk_family.specs.declared.link.Link.TheVariants.{Code, Redeems, Rotates}
-use Rattle.tk_family.specs.Families.{Links, Marks, used_by, named_by, grant_at, fits, rank, rank_of, IsParent, IsPath, IsUnder, use_of, IsTwice, IsBad, IsDead, LinksWithin}
+use Rattle.tk_family.specs.declared.link.Link.TheVariants.{Code}
+use Rattle.tk_family.specs.Families.{Links, IsParent, IsPath, IsUnder, LinksWithin}
 
 -- g is f with one more link
 pub record Adds (f g : Links) (d : Dot) (l : Link) : Type 0 where

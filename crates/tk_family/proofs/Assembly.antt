@@ -1,28 +1,27 @@
 -- The steps together: `put` keeps what the rows keep.
-use Rattle.std.proofs.Common.{◌≡◌, ◌≢◌, ◌⊎◌, inl, inr, ℕ, ◌||◌, ◌&&◌, Bool, true, false, cond, Option, None, Some, List, [], ◌∷◌, ◌++◌, ap, sym, ◌∙◌, refl, subst, IsSome, rules}
+use Rattle.std.proofs.Common.{◌≡◌, inl, inr, ◌||◌, ◌&&◌, true, cond, Option, None, Some, List, [], ◌∷◌, ap, sym, ◌∙◌, refl, subst, IsSome}
 use Rattle.std.proofs.lemmas.Bool.{true≢false, cases_Bool, cond-true, cond-false, or_cases, and_parts}
 use Rattle.std.specs.List.{IsDistinct}
 use Rattle.tk_handle.specs.declared.dot.Dot.{Dot}
-use Rattle.tk_handle.specs.declared.kind.Kind.{Kind}
 use Rattle.tk_handle.specs.declared.token_id.TokenId.{TokenId}
 use Rattle.tk_family.specs.Laws.{passing}
 use Rattle.tk_family.specs.declared.link.Link.{Link}
-use Rattle.tk_family.specs.declared.link.Link.TheVariants.{Code, Redeems, Rotates}
+use Rattle.tk_family.specs.declared.link.Link.TheVariants.{Code}
 use Rattle.tk_family.specs.declared.row.Row.{Row}
 use Rattle.tk_family.specs.Dots.{dot_eq, has}
-use Rattle.tk_family.specs.Families.{Links, Marks, named_by, IsParent, IsPath, IsUnder, IsTwice, IsBad, IsDead, LinksWithin, IsTrail}
+use Rattle.tk_family.specs.Families.{Links, named_by, IsPath, IsUnder, IsTwice, IsBad, LinksWithin, IsTrail}
 use Rattle.tk_family.specs.Puts.{IsBelow, with_link, Gathers, Puts, NothingSeen}
-use Rattle.tk_family.specs.Rows.{Rows, link_in, code_in, dead_in, first_in, next_in, marked_in, used_in, again_in, bad_at, bad_in, links_of, marks_of}
-use Rattle.tk_family.specs.Kept.{Hangs, IsForest}
+use Rattle.tk_family.specs.Rows.{Rows, link_in, code_in, used_in, again_in, bad_in, links_of, marks_of}
+use Rattle.tk_family.specs.Kept.{IsForest}
 use Rattle.tk_family.proofs.Growth.{uses_it, Grown, Grown-walk, Grown-waits, PutRows, IsForest-put, IsTwice-new, uses_it-true, bad-sound}
 use Rattle.tk_family.specs.Tops.{IsRaised}
-use Rattle.tk_family.specs.Writes.{hung, raised, buried, chain_code}
+use Rattle.tk_family.specs.Writes.{hung, raised, chain_code}
 use Rattle.tk_family.proofs.DotLaws.{cases_dots}
 use Rattle.tk_family.proofs.Adding.{Adds, Within-adds, IsPath-here}
 use Rattle.tk_family.proofs.FamilyLaws.{IsUnder-one, IsUnder-within, IsParent-within, IsParent-one, IsParent-code, IsTwice-within}
 use Rattle.tk_family.proofs.Gathering.{with_link-here, with_link-other, Adds-with_link}
-use Rattle.tk_family.proofs.Columns.{Hangs-same, chain-some, chain-none, chain-path}
-use Rattle.tk_family.proofs.Putting.{AlikeButDeath, Hung, hung-all, Mid, Mid-none, Mid-raised, Last, Last-none, Last-buried, RowAt, row_at, bad-same}
+use Rattle.tk_family.proofs.Columns.{Hangs-same, chain-some, chain-none}
+use Rattle.tk_family.proofs.Putting.{Hung, hung-all, Mid, Mid-none, Mid-raised, Last, RowAt, bad-same}
 
 -- a path ends at a code
 pub IsPath-code : (f : Links) (q : Dot) (ps : List Dot) (c : Dot) → IsPath f q ps c → f c ≡ Some Code

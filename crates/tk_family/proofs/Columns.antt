@@ -1,7 +1,6 @@
 -- The steps of `put`, and what they leave of each column.
-use Rattle.std.proofs.Common.{◌≡◌, ◌≢◌, ◌⊎◌, inl, inr, ℕ, ◌+◌, ◌-◌, ◌<◌, ◌≤◌, ◌||◌, ◌&&◌, Bool, true, false, cond, Option, None, Some, List, [], ◌∷◌, ◌++◌, ap, sym, ◌∙◌, refl, arith, subst, IsSome, rules}
-use Rattle.std.proofs.lemmas.Bool.{true≢false, cases_Bool, cond-true, cond-false, or_left, or_right, or_cases, and_parts, and_from, false_from_ne_true}
-use Rattle.std.specs.List.{list_any}
+use Rattle.std.proofs.Common.{◌≡◌, ◌≢◌, ◌⊎◌, inl, inr, ◌+◌, ◌<◌, Bool, true, false, cond, Option, None, Some, List, [], ◌∷◌, ap, sym, ◌∙◌, refl, arith, subst, IsSome}
+use Rattle.std.proofs.lemmas.Bool.{true≢false, cases_Bool, cond-true, cond-false}
 use Rattle.tk_handle.specs.declared.dot.Dot.{Dot}
 use Rattle.tk_handle.specs.declared.kind.Kind.{Kind}
 use Rattle.tk_handle.specs.declared.kind.Kind.TheVariants as kind
@@ -10,17 +9,17 @@ use Rattle.tk_family.specs.Laws.{passing}
 use Rattle.tk_family.specs.declared.link.Link.{Link}
 use Rattle.tk_family.specs.declared.link.Link.TheVariants.{Code, Redeems, Rotates}
 use Rattle.tk_family.specs.declared.row.Row.{Row}
-use Rattle.tk_family.specs.Dots.{dot_eq, has}
-use Rattle.tk_family.specs.Families.{Links, Marks, used_by, named_by, fits, grant_at, use_of, IsParent, IsPath, IsUnder, IsTwice, IsBad, IsDead, LinksWithin, IsUsed, rank_of}
-use Rattle.tk_family.specs.Rows.{Rows, link_in, code_in, dead_in, first_in, next_in, marked_in, used_in, again_in, bad_at, bad_in, links_of, marks_of, named_of}
-use Rattle.tk_family.specs.Kept.{IsChain, NamesAll, Hangs, IsForest}
-use Rattle.tk_family.proofs.Growth.{uses_it, is_code, is_refresh, Grown, Grown-walk, Grown-waits, PutRows, PutChains, Hangs-put, IsForest-put, IsChain-same, bad-sound, bad-complete, uses_it-true, used_by-uses}
-use Rattle.tk_family.specs.Writes.{with_code, with_dead, with_put, with_redeemer, with_rotator, with_marked, blank, or_blank, is_dot, put_at, hung, settled, raised, buried, chain_by, chain_code}
+use Rattle.tk_family.specs.Dots.{dot_eq}
+use Rattle.tk_family.specs.Families.{Links, named_by, fits, grant_at, use_of, IsPath, IsUnder, IsDead, LinksWithin, IsUsed, rank_of}
+use Rattle.tk_family.specs.Rows.{Rows, link_in, code_in, dead_in, first_in, next_in, marked_in, used_in, again_in, links_of, marks_of, named_of}
+use Rattle.tk_family.specs.Kept.{IsChain, Hangs, IsForest}
+use Rattle.tk_family.proofs.Growth.{IsChain-same}
+use Rattle.tk_family.specs.Writes.{or_blank, chain_by, chain_code}
 use Rattle.tk_family.specs.Walks.{fits_over}
 use Rattle.tk_family.specs.Puts.{NothingSeen}
-use Rattle.tk_family.proofs.DotLaws.{cases_dots, dot_eq-true, dot_eq-same, dot_eq-apart, has-cons, has-here}
-use Rattle.tk_family.proofs.Adding.{Adds, Within-adds, IsPath-adds, IsPath-here, alone, below_under}
-use Rattle.tk_family.proofs.FamilyLaws.{IsUnder-one, IsUnder-within, IsTwice-within, IsDead-within, use_of-within, IsParent-rank}
+use Rattle.tk_family.proofs.DotLaws.{dot_eq-same}
+use Rattle.tk_family.proofs.Adding.{Adds, Within-adds, alone, below_under}
+use Rattle.tk_family.proofs.FamilyLaws.{IsUnder-within, IsTwice-within, IsDead-within, IsParent-rank}
 
 -- ---- columns
 

@@ -1,5 +1,5 @@
 -- Gathering all that hangs below a dot, by a list that is its own queue.
-use Rattle.std.proofs.Common.{◌≡◌, ◌≢◌, ◌⊎◌, inl, inr, ℕ, ◌+◌, ◌-◌, ◌<◌, ◌≤◌, Bool, true, false, cond, Option, None, Some, List, [], ◌∷◌, ◌++◌, length, take, drop, get_or, ap, sym, ◌∙◌, refl, arith, subst, append_assoc, append-nil, length-append, IsSome, BTreeMap, btree_map_len, rules}
+use Rattle.std.proofs.Common.{◌≡◌, ◌≢◌, inl, inr, ℕ, ◌+◌, ◌<◌, ◌≤◌, true, Option, None, Some, List, [], ◌∷◌, ◌++◌, length, take, drop, get_or, ap, sym, ◌∙◌, arith, subst, append-nil, length-append, IsSome, BTreeMap, btree_map_len, rules}
 use Rattle.std.proofs.lemmas.Bool.{true≢false, cond-true, cond-false}
 use Rattle.std.proofs.lemmas.List.{take_more, drop_more, take-append-le, drop-append-le, take-append-drop, take_all, drop_all}
 use Rattle.std.proofs.lemmas.Map.Steps.{length-le_from_keys}
@@ -11,12 +11,12 @@ use Rattle.tk_handle.specs.declared.dot.Dot.{Dot}
 use Rattle.tk_family.specs.declared.link.Link.{Link}
 use Rattle.tk_family.specs.declared.row.Row.{Row}
 use Rattle.tk_family.specs.Dots.{dot_eq, has}
-use Rattle.tk_family.specs.Families.{Links, IsParent, IsUnder, fits, named_by}
-use Rattle.tk_family.specs.Rows.{Rows, table, link_in, links_of, named_of}
-use Rattle.tk_family.specs.Puts.{fits_at, with_link, FitsAll, Pushes, Gathers}
+use Rattle.tk_family.specs.Families.{Links, IsParent, fits}
+use Rattle.tk_family.specs.Rows.{table, link_in, links_of, named_of}
+use Rattle.tk_family.specs.Puts.{fits_at, with_link, FitsAll, Gathers}
 use Rattle.tk_family.proofs.DotLaws.{dots_equiv, dot_eq-apart, dot_eq-same, cases_dots}
 use Rattle.tk_family.proofs.Adding.{Adds}
-use Rattle.tk_family.proofs.Reaching.{Walk, Walk-starts, Walk-turns, AreChildren, IsRooted}
+use Rattle.tk_family.proofs.Reaching.{Walk, Walk-starts, Walk-turns, AreChildren}
 
 pub with_link-here : (f : Links) (d : Dot) (l : Link) → with_link f d l d ≡ Some l
 with_link-here f d l = cond-true (dot_eq d d) (Some l) (f d) (dot_eq-same d)

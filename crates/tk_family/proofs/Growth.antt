@@ -1,7 +1,7 @@
 -- What a forest's rows keep is kept when a link is put and when a token is marked.
-use Rattle.std.proofs.Common.{◌≡◌, ◌≢◌, ◌⊎◌, inl, inr, ℕ, ◌+◌, ◌≤◌, Bool, true, false, cond, Option, None, Some, List, [], ◌∷◌, ◌++◌, ◌||◌, ◌&&◌, ap, sym, ◌∙◌, refl, arith, subst}
+use Rattle.std.proofs.Common.{◌≡◌, ◌≢◌, ◌⊎◌, inl, inr, Bool, true, false, cond, Option, None, Some, List, [], ◌∷◌, ◌||◌, ◌&&◌, ap, sym, ◌∙◌, refl, subst}
 use Rattle.std.proofs.lemmas.Bool.{true≢false, cases_Bool, or_cases, or_left, or_right, false_from_ne_true, cond-true, cond-false, and_parts, and_from, or_parts}
-use Rattle.std.specs.List.{IsDistinct, AllByRecursion}
+use Rattle.std.specs.List.{AllByRecursion}
 use Rattle.std.proofs.lemmas.Map.Keys.{IsDistinct-cons}
 use Rattle.tk_handle.specs.declared.dot.Dot.{Dot}
 use Rattle.tk_handle.specs.declared.kind.Kind.{Kind}
@@ -10,15 +10,13 @@ use Rattle.tk_handle.specs.declared.token_id.TokenId.{TokenId}
 use Rattle.tk_family.specs.Laws.{passing}
 use Rattle.tk_family.specs.declared.link.Link.{Link}
 use Rattle.tk_family.specs.declared.link.Link.TheVariants.{Code, Redeems, Rotates}
-use Rattle.tk_family.specs.declared.row.Row.{Row}
 use Rattle.tk_family.specs.Dots.{dot_eq, has}
-use Rattle.tk_family.specs.Families.{Links, Marks, used_by, named_by, grant_at, use_of, IsParent, IsPath, IsUnder, IsTwice, IsBad, IsDead, LinksWithin, IsUsed}
-use Rattle.tk_family.specs.Rows.{Rows, link_in, code_in, dead_in, first_in, next_in, marked_in, used_in, again_in, grant_kind, bad_at, bad_in, links_of, marks_of, named_of}
+use Rattle.tk_family.specs.Families.{Links, used_by, named_by, grant_at, use_of, IsParent, IsPath, IsUnder, IsTwice, IsBad, IsDead, LinksWithin, IsUsed}
+use Rattle.tk_family.specs.Rows.{Rows, code_in, dead_in, first_in, next_in, used_in, again_in, bad_at, bad_in, links_of, marks_of, named_of}
 use Rattle.tk_family.specs.Kept.{IsChain, NamesAll, Hangs, IsForest}
-use Rattle.tk_family.proofs.DotLaws.{cases_dots, has-cons, has-here, has-there, dot_eq-apart, dot_eq-true, dot_eq-same}
+use Rattle.tk_family.proofs.DotLaws.{cases_dots, has-cons, has-here, has-there, dot_eq-true, dot_eq-same}
 use Rattle.tk_family.proofs.Adding.{Adds, Within-adds, IsPath-adds, IsPath-here, alone, below_under}
 use Rattle.tk_family.proofs.FamilyLaws.{IsUnder-one, IsUnder-within, IsTwice-within, IsDead-within, use_of-within}
-use Rattle.tk_family.proofs.Reaching.{Walk}
 
 -- ---- whether a link uses a token
 

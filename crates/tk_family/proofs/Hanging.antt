@@ -1,5 +1,5 @@
 -- Going along what hangs below a dot.
-use Rattle.std.proofs.Common.{◌≡◌, ◌≢◌, ◌⊎◌, inl, inr, ℕ, ◌+◌, ◌-◌, ◌<◌, ◌≤◌, Bool, true, false, cond, Option, None, Some, List, [], ◌∷◌, ◌++◌, length, filter, ap, sym, ◌∙◌, refl, arith, subst, append_assoc, append-nil, length-append, IsSome, BTreeMap, btree_map_len, rules}
+use Rattle.std.proofs.Common.{◌≡◌, ◌≢◌, inl, inr, ℕ, ◌-◌, ◌≤◌, Bool, true, false, cond, Option, None, Some, List, [], ◌∷◌, ◌++◌, length, filter, ap, sym, ◌∙◌, refl, arith, subst, append_assoc, append-nil, IsSome, BTreeMap, btree_map_len, rules}
 use Rattle.std.proofs.lemmas.Bool.{true≢false, cases_Bool, cond-true, cond-false, false_from_ne_true}
 use Rattle.std.proofs.lemmas.Map.Steps.{length-le_from_keys}
 use Rattle.std.proofs.lemmas.Map.Keys.{IsDistinct-cons, IsDistinct-head, IsDistinct-tail}
@@ -8,11 +8,10 @@ use Rattle.tk_handle.specs.declared.dot.Dot.{Dot}
 use Rattle.tk_family.specs.declared.link.Link.{Link}
 use Rattle.tk_family.specs.declared.row.Row.{Row}
 use Rattle.tk_family.specs.Dots.{dot_eq, has}
-use Rattle.tk_family.specs.Families.{Links, IsParent, fits, named_by}
 use Rattle.tk_family.specs.Rows.{Rows, table, link_in, next_in, first_in, links_of, named_of}
 use Rattle.tk_family.specs.Kept.{IsChain, NamesAll, Hangs}
-use Rattle.tk_family.specs.Puts.{fits_at, with_link, FitsAll, Pushes}
-use Rattle.tk_family.proofs.DotLaws.{dots_equiv, has-cons, has-here, has-there, has-append, has-left, list_none, dot_eq-apart, dot_eq-same, cases_dots}
+use Rattle.tk_family.specs.Puts.{fits_at, Pushes}
+use Rattle.tk_family.proofs.DotLaws.{dots_equiv, has-cons, has-here, has-there, list_none, dot_eq-apart}
 
 -- ---- filters of lists of dots
 

@@ -1,5 +1,5 @@
 -- A token is marked.
-use Rattle.std.proofs.Common.{◌≡◌, ◌≢◌, ◌⊎◌, inl, inr, ◌||◌, ◌&&◌, Bool, true, false, cond, Option, None, Some, List, [], ◌∷◌, ap, sym, ◌∙◌, refl, subst, IsSome, rules}
+use Rattle.std.proofs.Common.{◌≡◌, ◌⊎◌, inl, inr, true, false, cond, Option, None, Some, ap, sym, ◌∙◌, refl, IsSome}
 use Rattle.std.proofs.lemmas.Bool.{true≢false, cases_Bool, cond-true, cond-false, or_left}
 use Rattle.tk_handle.specs.declared.dot.Dot.{Dot}
 use Rattle.tk_handle.specs.declared.kind.Kind.{Kind}
@@ -8,18 +8,17 @@ use Rattle.tk_handle.specs.declared.token_id.TokenId.{TokenId}
 use Rattle.tk_family.specs.Laws.{passing}
 use Rattle.tk_family.specs.declared.link.Link.{Link}
 use Rattle.tk_family.specs.declared.link.Link.TheVariants.{Code, Redeems, Rotates}
-use Rattle.tk_family.specs.declared.top.Top.{Top}
 use Rattle.tk_family.specs.declared.top.Top.TheVariants as top
 use Rattle.tk_family.specs.declared.row.Row.{Row}
-use Rattle.tk_family.specs.Dots.{dot_eq, has}
-use Rattle.tk_family.specs.Families.{Links, grant_at, IsPath, IsUnder, IsTwice, IsBad, IsDead, LinksWithin}
+use Rattle.tk_family.specs.Dots.{dot_eq}
+use Rattle.tk_family.specs.Families.{grant_at, IsUnder, LinksWithin}
 use Rattle.tk_family.specs.Tops.{IsTop}
 use Rattle.tk_family.specs.Rows.{Rows, link_in, code_in, dead_in, first_in, next_in, marked_in, used_in, again_in, bad_at, bad_in, grant_kind, links_of, marks_of}
 use Rattle.tk_family.specs.Kept.{IsForest}
 use Rattle.tk_family.specs.Writes.{with_marked, buried}
 use Rattle.tk_family.specs.Puts.{MarksOne, NothingSeen}
-use Rattle.tk_family.proofs.DotLaws.{cases_dots, dot_eq-true, dot_eq-same, dot_eq-apart}
-use Rattle.tk_family.proofs.FamilyLaws.{IsUnder-within, IsTwice-within, IsUnder-one}
+use Rattle.tk_family.proofs.DotLaws.{dot_eq-true, dot_eq-same}
+use Rattle.tk_family.proofs.FamilyLaws.{IsUnder-within, IsTwice-within}
 use Rattle.tk_family.proofs.Growth.{bad-sound}
 use Rattle.tk_family.proofs.Columns.{column, MarkRows, IsForest-mark}
 use Rattle.tk_family.proofs.Putting.{Last, Last-buried, RowAt, row_at, bad-same}

@@ -1,5 +1,5 @@
 -- From the rows to the finite map and set that contracts see.
-use Rattle.std.proofs.Common.{◌≡◌, ◌≢◌, ◌⊎◌, inl, inr, Bool, true, false, cond, Option, None, Some, List, [], ◌∷◌, ap, sym, ◌∙◌, refl, subst, BTreeMap, Result, Ok, Err, IfOk, OnOk, OnErr, ◌||◌, Vec, Global, rules}
+use Rattle.std.proofs.Common.{◌≡◌, inl, inr, Bool, true, false, Option, None, Some, List, [], ap, sym, ◌∙◌, refl, subst, BTreeMap, Result, Ok, Err, IfOk, OnOk, OnErr, ◌||◌, Vec, Global, rules}
 use Rattle.std.specs.Cmp.{IsEquivalence, eq_by_cmp_equiv, Equal-is, both_ways}
 use Rattle.std.specs.Ordering.{eq_by_cmp}
 use Rattle.std.proofs.lemmas.Bool.{true≢false, or_left, or_right, or_cases}
@@ -12,14 +12,13 @@ use Rattle.tk_handle.specs.declared.kind.Kind.{Kind}
 use Rattle.tk_handle.specs.declared.token_id.TokenId.{TokenId}
 use Rattle.tk_family.specs.Laws.{passing}
 use Rattle.tk_family.specs.declared.link.Link.{Link}
-use Rattle.tk_family.specs.declared.link.Link.TheVariants.{Code}
 use Rattle.tk_family.specs.declared.top.Top.{Top}
 use Rattle.tk_family.specs.declared.row.Row.{Row}
-use Rattle.tk_family.specs.Dots.{dot_eq, has}
-use Rattle.tk_family.specs.Families.{Links, Marks, use_of, IsPath, IsUnder, IsTwice, IsBad, IsDead, IsUsed}
+use Rattle.tk_family.specs.Dots.{has}
+use Rattle.tk_family.specs.Families.{Links, use_of, IsUsed}
 use Rattle.tk_family.specs.Tops.{IsTop, IsRaised}
-use Rattle.tk_family.specs.Rows.{Rows, table, link_in, code_in, dead_in, first_in, next_in, used_in, again_in, marked_in, links_of, marks_of, named_of}
-use Rattle.tk_family.specs.Kept.{IsChain, Hangs, IsForest}
+use Rattle.tk_family.specs.Rows.{Rows, table, link_in, code_in, dead_in, first_in, used_in, again_in, links_of, marks_of, named_of}
+use Rattle.tk_family.specs.Kept.{Hangs, IsForest}
 use Rattle.tk_family.specs.Puts.{Puts, MarksOne}
 use Rattle.tk_family.specs.ForestFacts.{ForestFacts, links_at, marks_at}
 use Rattle.tk_family.specs.View.{seen, seen_links, seen_marks}

@@ -1,6 +1,6 @@
 -- The rows after a link was put are as `PutRows` says.
-use Rattle.std.proofs.Common.{◌≡◌, ◌≢◌, ◌⊎◌, inl, inr, ℕ, ◌||◌, ◌&&◌, Bool, true, false, cond, Option, None, Some, List, [], ◌∷◌, ◌++◌, ap, sym, ◌∙◌, refl, subst, IsSome, rules}
-use Rattle.std.proofs.lemmas.Bool.{true≢false, cases_Bool, cond-true, cond-false, or_left, or_right, or_cases, and_parts, and_from, false_from_ne_true}
+use Rattle.std.proofs.Common.{◌≡◌, ◌≢◌, ◌⊎◌, inl, inr, ◌||◌, ◌&&◌, Bool, true, false, cond, Option, None, Some, List, [], ◌∷◌, ap, sym, ◌∙◌, refl, IsSome}
+use Rattle.std.proofs.lemmas.Bool.{true≢false, cases_Bool, cond-true, cond-false, or_left, or_right, or_cases, and_parts, and_from}
 use Rattle.std.specs.List.{list_any}
 use Rattle.tk_handle.specs.declared.dot.Dot.{Dot}
 use Rattle.tk_handle.specs.declared.kind.Kind.{Kind}
@@ -10,16 +10,15 @@ use Rattle.tk_family.specs.declared.link.Link.{Link}
 use Rattle.tk_family.specs.declared.link.Link.TheVariants.{Code, Redeems, Rotates}
 use Rattle.tk_family.specs.declared.row.Row.{Row}
 use Rattle.tk_family.specs.Dots.{dot_eq, has}
-use Rattle.tk_family.specs.Families.{Links, Marks, named_by, grant_at, IsParent, IsUnder, IsTwice, IsBad, IsDead, LinksWithin}
+use Rattle.tk_family.specs.Families.{named_by}
 use Rattle.tk_family.specs.declared.row.Uses.{Uses}
 use Rattle.tk_family.specs.declared.row.Uses.TheVariants.{Never, Once, Often}
-use Rattle.tk_family.specs.Rows.{is_some_use, is_often, Rows, link_in, code_in, dead_in, first_in, next_in, marked_in, used_in, again_in, bad_at, bad_in, grant_kind, links_of, marks_of, named_of}
-use Rattle.tk_family.specs.Kept.{Hangs, IsForest}
-use Rattle.tk_family.proofs.Growth.{uses_it, is_code, is_refresh, Grown, PutRows, PutChains, Hangs-put, Hangs-code, bad-sound}
-use Rattle.tk_family.specs.Writes.{once_more, with_code, with_dead, with_put, with_redeemer, with_rotator, is_dot, put_at, hung, settled, raised, buried, chain_code}
-use Rattle.tk_family.proofs.DotLaws.{cases_dots, dot_eq-true, dot_eq-same, dot_eq-apart, has-cons, has-here, has-there}
-use Rattle.tk_family.proofs.Adding.{Adds, Within-adds}
-use Rattle.tk_family.proofs.FamilyLaws.{IsUnder-one, IsUnder-within}
+use Rattle.tk_family.specs.Rows.{is_some_use, is_often, Rows, link_in, code_in, dead_in, first_in, next_in, marked_in, used_in, again_in, bad_at, bad_in, grant_kind, links_of}
+use Rattle.tk_family.specs.Kept.{Hangs}
+use Rattle.tk_family.proofs.Growth.{uses_it, is_code, is_refresh, Hangs-put, Hangs-code}
+use Rattle.tk_family.specs.Writes.{once_more, with_code, with_dead, with_put, with_redeemer, with_rotator, is_dot, put_at, hung, settled, raised, buried}
+use Rattle.tk_family.proofs.DotLaws.{dot_eq-true, dot_eq-same, dot_eq-apart, has-cons, has-here, has-there}
+use Rattle.tk_family.proofs.Adding.{Adds}
 use Rattle.tk_family.proofs.Columns.{column}
 
 -- ---- the columns that no tombstone changes

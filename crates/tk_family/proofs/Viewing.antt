@@ -1,6 +1,6 @@
 -- What the rows show is what their look-ups show.
-use Rattle.std.proofs.Common.{◌≡◌, ◌≢◌, ◌⊎◌, inl, inr, ◌||◌, ◌&&◌, not, ℕ, Bool, true, false, cond, Option, None, Some, List, [], ◌∷◌, ap, sym, ◌∙◌, refl, subst, BTreeMap}
-use Rattle.std.proofs.lemmas.Bool.{true≢false, cases_Bool, cond-true, cond-false, and_parts}
+use Rattle.std.proofs.Common.{◌≡◌, ◌||◌, ◌&&◌, not, Bool, true, false, cond, Option, None, Some, List, [], ◌∷◌, ap, sym, ◌∙◌, refl, BTreeMap}
+use Rattle.std.proofs.lemmas.Bool.{true≢false, and_parts}
 use Rattle.std.specs.declared.cmp.Ordering.{Ordering}
 use Rattle.std.specs.declared.cmp.Ordering.TheVariants.{Less, Equal, Greater}
 use Rattle.std.specs.Ordering.{nat_cmp, ordering_then, is_eq, eq_by_cmp}
@@ -17,11 +17,10 @@ use Rattle.tk_family.specs.declared.link.Link.{Link}
 use Rattle.tk_family.specs.declared.row.Row.{Row}
 use Rattle.tk_handle.specs.Dot.{dot_cmp, dot_cmp_total, dot_cmp-IsAntisymmetric}
 use Rattle.tk_family.specs.Dots.{dot_eq}
-use Rattle.tk_family.specs.Rows.{Rows, table, link_in, marked_in, links_of, marks_of}
+use Rattle.tk_family.specs.Rows.{table, link_in, marked_in, links_of, marks_of}
 use Rattle.tk_family.specs.Puts.{with_link}
 use Rattle.tk_handle.specs.TokenId.{token_cmp}
 use Rattle.tk_handle.specs.Kind.{kind_number}
-use Rattle.tk_family.specs.ForestFacts.{ForestFacts}
 use Rattle.tk_family.specs.View.{seen_link, seen_links, seen_mark, seen_marks, seen}
 use Rattle.tk_family.proofs.DotLaws.{dots_equiv, dot_eq-true}
 use Rattle.tk_family.proofs.Marking.{token_is}

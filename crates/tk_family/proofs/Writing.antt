@@ -1,12 +1,12 @@
 -- What the steps of `put` and `mark` write.
-use Rattle.std.proofs.Common.{◌≡◌, ◌≢◌, ◌⊎◌, inl, inr, ℕ, ◌+◌, ◌-◌, ◌<◌, ◌≤◌, ◌||◌, ◌&&◌, Bool, true, false, cond, Option, None, Some, List, [], ◌∷◌, ◌++◌, length, take, drop, get_or, option_map, ap, sym, ◌∙◌, refl, arith, subst, append_assoc, append-nil, IsSome, rules}
-use Rattle.std.proofs.lemmas.Bool.{true≢false, cases_Bool, cond-true, cond-false, or_left, or_right, or_cases, false_from_ne_true}
+use Rattle.std.proofs.Common.{◌≡◌, inl, inr, true, false, cond, Option, None, Some, List, [], ◌∷◌, ◌++◌, option_map, ap, sym, ◌∙◌, refl, subst}
+use Rattle.std.proofs.lemmas.Bool.{true≢false, cases_Bool, cond-true, cond-false, false_from_ne_true}
 use Rattle.tk_handle.specs.declared.dot.Dot.{Dot}
 use Rattle.tk_family.specs.declared.row.Row.{Row}
 use Rattle.tk_family.specs.Dots.{dot_eq, has}
 use Rattle.tk_family.specs.Rows.{Rows}
 use Rattle.tk_family.specs.Writes.{with_code, settled}
-use Rattle.tk_family.proofs.DotLaws.{dot_eq-true, dot_eq-same, dot_eq-apart, has-append, has-left, has-right, has-cons, has-here}
+use Rattle.tk_family.proofs.DotLaws.{dot_eq-true, dot_eq-same, has-append, has-left, has-right, has-cons, has-here}
 
 pub changed : (T N : Rows) (at : Dot) (r row : Row) (F : Option Row → Option Row) → T at ≡ Some r → F (Some r) ≡ Some row → ((q : Dot) → N q ≡ cond (dot_eq at q) (option_map (λ _. row) (T q)) (T q)) → (q : Dot) → N q ≡ cond (dot_eq at q) (F (T q)) (T q)
 changed T N at r row F here written new q = elim (cases_Bool (dot_eq at q)) [

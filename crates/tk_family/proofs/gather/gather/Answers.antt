@@ -1,9 +1,8 @@
-use Rattle.std.proofs.Common.{◌≡◌, ◌++◌, ◌∷◌, ◌<◌, ◌≤◌, ◌+◌, [], List, sym, ◌∙◌, ap, subst, Some, None, arith, length, btree_map_len, append-nil, Vec, Global}
+use Rattle.std.proofs.Common.{◌≡◌, ◌++◌, ◌∷◌, ◌<◌, ◌≤◌, [], List, sym, ◌∙◌, ap, arith, length, btree_map_len, append-nil, Vec, Global}
 use Rattle.tk_handle.specs.declared.dot.Dot.{Dot}
-use Rattle.tk_family.specs.declared.link.Link.{Link}
 use Rattle.tk_family.specs.Rows.{table, links_of}
 use Rattle.tk_family.specs.Puts.{with_link, Pushes}
-use Rattle.tk_family.proofs.Gathering.{Gathering, Gathering-starts, Gathering-turns, Gathering-ends, AreChildren-from, AreChildren-none}
+use Rattle.tk_family.proofs.Gathering.{Gathering-starts, Gathering-turns, Gathering-ends, AreChildren-from, AreChildren-none}
 use Rattle.tk_family.proofs.gather.gather.Goals as goal
 use Rattle.tk_family.proofs.gather.gather.Goals.{in-Some+in_ok-push_children, in_default}
 

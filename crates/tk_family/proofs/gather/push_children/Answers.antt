@@ -1,9 +1,9 @@
-use Rattle.std.proofs.Common.{◌≡◌, ◌++◌, ◌∷◌, [], List, cond, sym, ◌∙◌, ap, subst, Some, None, arith, ◌≤◌, Vec, Global}
+use Rattle.std.proofs.Common.{◌≡◌, ◌++◌, ◌∷◌, [], List, cond, sym, ◌∙◌, ap, arith, ◌≤◌, Vec, Global}
 use Rattle.std.proofs.lemmas.Bool.{cond-true, cond-false}
 use Rattle.tk_handle.specs.declared.dot.Dot.{Dot}
 use Rattle.tk_family.specs.Rows.{table, links_of}
 use Rattle.tk_family.specs.Puts.{fits_at}
-use Rattle.tk_family.proofs.Hanging.{Pushing, Pushing-starts, Pushing-more, Pushing-turns, Pushing-ends}
+use Rattle.tk_family.proofs.Hanging.{Pushing-starts, Pushing-more, Pushing-turns, Pushing-ends}
 use Rattle.tk_family.proofs.gather.push_children.Goals as goal
 use Rattle.tk_family.proofs.gather.push_children.Goals.{then-fits_below+in_ok-push, else-fits_below}
 

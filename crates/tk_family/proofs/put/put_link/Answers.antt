@@ -1,4 +1,3 @@
-use Rattle.std.proofs.Common.{sym}
 use Rattle.tk_family.specs.Rows.{table}
 use Rattle.tk_family.proofs.Assembly.{Puts-seen}
 use Rattle.tk_family.proofs.put.put_link.Goals as goal

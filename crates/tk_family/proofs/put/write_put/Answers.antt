@@ -1,9 +1,8 @@
-use Rattle.std.proofs.Common.{◌≡◌, ap, sym, ◌∙◌, subst, refl, List, [], Some, None, IsSome, is_some, BTreeMap}
+use Rattle.std.proofs.Common.{ap, sym, ◌∙◌, subst, refl, List, is_some, BTreeMap}
 use Rattle.tk_handle.specs.declared.dot.Dot.{Dot}
 use Rattle.tk_family.specs.declared.row.Row.{Row}
 use Rattle.tk_family.specs.Rows.{Rows, table}
 use Rattle.tk_family.specs.Puts.{Puts}
-use Rattle.tk_family.specs.Writes.{hung, raised}
 use Rattle.tk_family.proofs.Putting.{Last, Last-none, Last-buried}
 use Rattle.tk_family.proofs.Assembly.{Puts-whole, Puts-waits}
 use Rattle.tk_family.proofs.put.write_put.Goals as goal

@@ -1,4 +1,4 @@
-use Rattle.std.proofs.Common.{◌≡◌, ap, List, ◌∷◌, []}
+use Rattle.std.proofs.Common.{ap, List}
 use Rattle.std.specs.Map.{lookup}
 use Rattle.tk_handle.specs.declared.dot.Dot.{Dot}
 use Rattle.tk_family.specs.declared.row.Row.{Row}

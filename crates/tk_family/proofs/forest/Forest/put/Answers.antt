@@ -1,16 +1,16 @@
-use Rattle.std.proofs.Common.{◌≡◌, ap, sym, ◌∙◌, IfOk, OnErr, Result, Ok, Err, Vec, Global, true, List}
+use Rattle.std.proofs.Common.{◌≡◌, ap, sym, ◌∙◌, OnErr, Result, Ok, Err, Vec, Global, true}
 use Rattle.std.specs.declared.alloc.AllocError.{AllocError}
 use Rattle.std.specs.FinMap as map
 use Rattle.tk_handle.specs.declared.dot.Dot.{Dot}
 use Rattle.tk_family.specs.Dots.{dot_eq, has}
 use Rattle.std.specs.List.{IsDistinct}
-use Rattle.tk_family.specs.Rows.{table, links_of}
+use Rattle.tk_family.specs.Rows.{table}
 use Rattle.tk_family.specs.Puts.{Puts, NothingSeen}
 use Rattle.tk_family.specs.Tops.{IsRaised}
 use Rattle.tk_family.specs.ForestFacts.{ForestFacts, links_at}
 use Rattle.tk_family.specs.View.{seen, seen_links, seen_marks}
 use Rattle.tk_family.proofs.Viewing.{get-links, seen_same, links_put, marks_same}
-use Rattle.tk_family.proofs.Modelling.{links_seen, raised_seen, raised_back, raised_all, if_ok}
+use Rattle.tk_family.proofs.Modelling.{raised_seen, raised_back, raised_all, if_ok}
 use Rattle.tk_family.proofs.forest.Forest.put.Goals as goal
 
 pub put_link-requires-clause-free : goal.put_link-requires-clause-free
