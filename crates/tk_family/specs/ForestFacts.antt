@@ -1,7 +1,7 @@
 -- A forest as contracts see it: a finite map from dots to links, and a finite set of marks (own).
 --   ForestFacts           the links and the marks
 --   links_at, marks_at    the link at a dot; the marked tokens
---   coded_facts           both as a code
+--   coded_forest           both as a code
 use Rattle.std.specs.Prelude.{◌≡◌, ℕ, Bool, true, false, Option, None, Some, refl}
 use Rattle.std.specs.Coded.{Coded, code_by, coded×, coded_ℕ, coded_bool, coded_option}
 use Rattle.std.specs.FinMap as map
@@ -79,5 +79,5 @@ token_undo k = token_by k.dot k.kind
 abbrev pub coded_token : Coded TokenId
 coded_token = code_by (Dot × Option Bool) (coded× coded_dot (coded_option coded_bool)) (λ k. (k.dot, kind_out k.kind)) (λ p. record { dot = p.0; kind = kind_back p.1 }) token_undo
 
-abbrev pub coded_facts : Coded ForestFacts
-coded_facts = code_by (map.FinMap dot_cmp Link × set.FinSet token_cmp) (coded× (map.code coded_dot coded_link) (set.code coded_token)) (λ f. (f.links, f.marks)) (λ p. record { links = p.0; marks = p.1 }) (λ _. refl)
+abbrev pub coded_forest : Coded ForestFacts
+coded_forest = code_by (map.FinMap dot_cmp Link × set.FinSet token_cmp) (coded× (map.code coded_dot coded_link) (set.code coded_token)) (λ f. (f.links, f.marks)) (λ p. record { links = p.0; marks = p.1 }) (λ _. refl)

@@ -27,11 +27,11 @@ pub struct Forest {
 }
 
 impl Model for Forest {
-    ghost use Rattle.tk_family.specs.ForestFacts.{ForestFacts, coded_facts};
+    ghost use Rattle.tk_family.specs.ForestFacts.{ForestFacts, coded_forest};
 
     ghost Value = { ForestFacts };
 
-    ghost coded = { coded_facts };
+    ghost coded = { coded_forest };
 
     ghost use Rattle.tk_family.specs.View.{seen};
     ghost use Rattle.tk_family.specs.Kept.{IsForest};

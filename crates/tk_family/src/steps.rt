@@ -29,6 +29,7 @@ impl Steps {
     /// One more. At the greatest number it stays.
     pub fn tick(&mut self)
         ensures more { self.old + 1 < 2 ^ 64 → self.new ≡ self.old + 1 }
+        ensures greatest { self.old + 1 ≡ 2 ^ 64 → self.new ≡ self.old }
         ensures at_least { self.old ≤ self.new }
         ensures at_most { self.new ≤ self.old + 1 }
     {
