@@ -1,8 +1,24 @@
 -- The words of this crate:
---   Families   families over links and marks: parent, under a code, uses, bad grants, dead families
---   Walks      the code that a dot is under, found from parent to parent
---   Laws       what holds of all links and marks
+--   Families      families over links and marks: parent, under a code, uses, bad grants, dead families
+--   Walks         the code that a dot is under, found from parent to parent
+--   Laws          what holds of all links and marks
+--   Tops          where a dot stands, and which dots a link raises
+--   Dots          dots in lists
+--   ForestFacts   a forest as contracts see it: a finite map of links, and a finite set of marks
+--   View          what the rows of a forest show
+--   Rows          the rows of a forest, and their columns
+--   Kept          what the rows of a forest keep
+--   Writes        what the steps of a forest write
+--   Puts          what they do together
+pub mod Dots
 pub mod Families
+pub mod ForestFacts
+pub mod Kept
 pub mod Laws
+pub mod Puts
+pub mod Rows
+pub mod Tops
+pub mod View
 pub mod Walks
+pub mod Writes
 pub use Rattle.tk_handle.specs.Dot

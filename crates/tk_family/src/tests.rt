@@ -1,4 +1,6 @@
-//! Tables of links: what each names, uses and mints, its parents and its rank.
+//! Tables of links: what each names, uses and mints, its parents and its rank. Forests of them in `forests`.
+
+mod forests;
 
 use crate::{Link, fits, grant, named, rank, used};
 use std::test::Fail;

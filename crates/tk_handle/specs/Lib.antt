@@ -8,7 +8,7 @@
 --   ClientId        client_text, the text of a client's id; client_in, what a text says
 --   ConsentId       consent_text, the text of a consent's id; consent_in, what a text says
 --   Kind            kind_number; kind, a kind in bytes
---   TokenId         token, the name of a token in bytes
+--   TokenId         token_cmp, the order of tokens; token, the name of a token in bytes
 --   Handle          handle_bytes and handle_text, the spellings of a handle
 --   SortedEntries   where a key stands in a list of entries whose keys rise
 pub mod ClientId

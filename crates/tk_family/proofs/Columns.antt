@@ -1,0 +1,244 @@
+-- The steps of `put`, and what they leave of each column.
+use Rattle.std.proofs.Common.{◌≡◌, ◌≢◌, ◌⊎◌, inl, inr, ◌+◌, ◌<◌, Bool, true, false, cond, Option, None, Some, List, [], ◌∷◌, ap, sym, ◌∙◌, refl, arith, subst, IsSome}
+use Rattle.std.proofs.lemmas.Bool.{true≢false, cases_Bool, cond-true, cond-false}
+use Rattle.tk_handle.specs.declared.dot.Dot.{Dot}
+use Rattle.tk_handle.specs.declared.kind.Kind.{Kind}
+use Rattle.tk_handle.specs.declared.kind.Kind.TheVariants as kind
+use Rattle.tk_handle.specs.declared.token_id.TokenId.{TokenId}
+use Rattle.tk_family.specs.Laws.{passing}
+use Rattle.tk_family.specs.declared.link.Link.{Link}
+use Rattle.tk_family.specs.declared.link.Link.TheVariants.{Code, Redeems, Rotates}
+use Rattle.tk_family.specs.declared.row.Row.{Row}
+use Rattle.tk_family.specs.Dots.{dot_eq}
+use Rattle.tk_family.specs.Families.{Links, named_by, fits, grant_at, use_of, IsPath, IsUnder, IsDead, LinksWithin, IsUsed, rank_of}
+use Rattle.tk_family.specs.Rows.{Rows, link_in, code_in, dead_in, first_in, next_in, marked_in, used_in, again_in, links_of, marks_of, named_of}
+use Rattle.tk_family.specs.Kept.{IsChain, Hangs, IsForest}
+use Rattle.tk_family.proofs.Growth.{IsChain-same}
+use Rattle.tk_family.specs.Writes.{or_blank, chain_by, chain_code}
+use Rattle.tk_family.specs.Walks.{fits_over}
+use Rattle.tk_family.specs.Puts.{NothingSeen}
+use Rattle.tk_family.proofs.DotLaws.{dot_eq-same}
+use Rattle.tk_family.proofs.Adding.{Adds, Within-adds, alone, below_under}
+use Rattle.tk_family.proofs.FamilyLaws.{IsUnder-within, IsTwice-within, IsDead-within, IsParent-rank}
+
+-- ---- columns
+
+-- what a column has at a choice, where both sides have the same
+pub column : {X : Type 0} (π : Option Row → X) (b : Bool) (changed old : Option Row) → π changed ≡ π old → π (cond b changed old) ≡ π old
+column π true changed old same = same
+column π false changed old same = refl
+
+-- two tables alike in each column
+pub record Alike (T N : Rows) : Type 0 where
+  pub link : (q : Dot) → link_in (N q) ≡ link_in (T q)
+  pub code : (q : Dot) → code_in (N q) ≡ code_in (T q)
+  pub dead : (q : Dot) → dead_in (N q) ≡ dead_in (T q)
+  pub first : (q : Dot) → first_in (N q) ≡ first_in (T q)
+  pub next : (q : Dot) → next_in (N q) ≡ next_in (T q)
+  pub marked : (q : Dot) (k : Kind) → marked_in (N q) k ≡ marked_in (T q) k
+  pub used : (q : Dot) (k : Kind) → used_in (N q) k ≡ used_in (T q) k
+  pub again : (q : Dot) (k : Kind) → again_in (N q) k ≡ again_in (T q) k
+
+flag_blank : (k : Kind) (o : Option Row) → (marked_in (or_blank o) k ≡ marked_in o k) × (used_in (or_blank o) k ≡ used_in o k) × (again_in (or_blank o) k ≡ again_in o k)
+flag_blank k (Some r) = (refl, refl, refl)
+flag_blank kind.Code None = (refl, refl, refl)
+flag_blank kind.Access None = (refl, refl, refl)
+flag_blank kind.Refresh None = (refl, refl, refl)
+
+same_blank : (o : Option Row) → (link_in (or_blank o) ≡ link_in o) × (code_in (or_blank o) ≡ code_in o) × (dead_in (or_blank o) ≡ dead_in o) × (first_in (or_blank o) ≡ first_in o) × (next_in (or_blank o) ≡ next_in o)
+same_blank None = (refl, refl, refl, refl, refl)
+same_blank (Some r) = (refl, refl, refl, refl, refl)
+
+-- a row that says nothing changes nothing
+pub Alike-blank : (T N : Rows) (at : Dot) → ((q : Dot) → N q ≡ cond (dot_eq at q) (or_blank (T q)) (T q)) → Alike T N
+Alike-blank T N at h = record {
+  link = λ q. ap link_in (h q) ∙ column link_in (dot_eq at q) (or_blank (T q)) (T q) (same_blank (T q)).0;
+  code = λ q. ap code_in (h q) ∙ column code_in (dot_eq at q) (or_blank (T q)) (T q) (same_blank (T q)).1;
+  dead = λ q. ap dead_in (h q) ∙ column dead_in (dot_eq at q) (or_blank (T q)) (T q) (same_blank (T q)).2;
+  first = λ q. ap first_in (h q) ∙ column first_in (dot_eq at q) (or_blank (T q)) (T q) (same_blank (T q)).3;
+  next = λ q. ap next_in (h q) ∙ column next_in (dot_eq at q) (or_blank (T q)) (T q) (same_blank (T q)).4;
+  marked = λ q k. ap (λ (o : Option Row). marked_in o k) (h q) ∙ column (λ (o : Option Row). marked_in o k) (dot_eq at q) (or_blank (T q)) (T q) (flag_blank k (T q)).0;
+  used = λ q k. ap (λ (o : Option Row). used_in o k) (h q) ∙ column (λ (o : Option Row). used_in o k) (dot_eq at q) (or_blank (T q)) (T q) (flag_blank k (T q)).1;
+  again = λ q k. ap (λ (o : Option Row). again_in o k) (h q) ∙ column (λ (o : Option Row). again_in o k) (dot_eq at q) (or_blank (T q)) (T q) (flag_blank k (T q)).2;
+}
+
+pub Alike-same : (T N : Rows) → ((q : Dot) → N q ≡ T q) → Alike T N
+Alike-same T N h = record {
+  link = λ q. ap link_in (h q);
+  code = λ q. ap code_in (h q);
+  dead = λ q. ap dead_in (h q);
+  first = λ q. ap first_in (h q);
+  next = λ q. ap next_in (h q);
+  marked = λ q k. ap (λ (o : Option Row). marked_in o k) (h q);
+  used = λ q k. ap (λ (o : Option Row). used_in o k) (h q);
+  again = λ q k. ap (λ (o : Option Row). again_in o k) (h q);
+}
+
+pub Alike-then : (T M N : Rows) → Alike T M → Alike M N → Alike T N
+Alike-then T M N a b = record {
+  link = λ q. b.link q ∙ a.link q;
+  code = λ q. b.code q ∙ a.code q;
+  dead = λ q. b.dead q ∙ a.dead q;
+  first = λ q. b.first q ∙ a.first q;
+  next = λ q. b.next q ∙ a.next q;
+  marked = λ q k. b.marked q k ∙ a.marked q k;
+  used = λ q k. b.used q k ∙ a.used q k;
+  again = λ q k. b.again q k ∙ a.again q k;
+}
+
+-- ---- marking: also what a row that says nothing needs, as a mark of no token
+
+-- N is T with more marks, all of them k's, and with the tombstone that k asks for
+pub record MarkRows (T N : Rows) (k : TokenId) : Type 0 where
+  pub link : (q : Dot) → link_in (N q) ≡ link_in (T q)
+  pub code : (q : Dot) → code_in (N q) ≡ code_in (T q)
+  pub first : (q : Dot) → first_in (N q) ≡ first_in (T q)
+  pub next : (q : Dot) → next_in (N q) ≡ next_in (T q)
+  pub used : (q : Dot) (j : Kind) → used_in (N q) j ≡ used_in (T q) j
+  pub again : (q : Dot) (j : Kind) → again_in (N q) j ≡ again_in (T q) j
+  pub marks_new : (j : TokenId) → marks_of N j ≡ true → (j ≡ k) ⊎ (marks_of T j ≡ true)
+  pub marks_old : (j : TokenId) → marks_of T j ≡ true → marks_of N j ≡ true
+  pub dead_old : (c : Dot) → dead_in (T c) ≡ true → dead_in (N c) ≡ true
+  pub dead_new : (c : Dot) → dead_in (N c) ≡ true → (dead_in (T c) ≡ true) ⊎ IsDead (links_of N) (passing (marks_of N)) c
+  pub dead_mark : (q c : Dot) (l : Link) → links_of T q ≡ Some l → grant_at q l ≡ k → marks_of N k ≡ true → code_in (T q) ≡ Some c → dead_in (N c) ≡ true
+
+within_same : (f g : Links) → ((q : Dot) → g q ≡ f q) → LinksWithin f g
+within_same f g same d l h = same d ∙ h
+
+within_back : (f g : Links) → ((q : Dot) → g q ≡ f q) → LinksWithin g f
+within_back f g same d l h = sym (same d) ∙ h
+
+pub Hangs-same : (T N : Rows) (p : Dot) → ((q : Dot) → link_in (N q) ≡ link_in (T q)) → ((q : Dot) → first_in (N q) ≡ first_in (T q)) → ((q : Dot) → next_in (N q) ≡ next_in (T q)) → Hangs T p → Hangs N p
+Hangs-same T N p link first next h = record {
+  list = h.list;
+  chain = subst (λ (o : Option Dot). IsChain (λ q. next_in (N q)) o h.list) (sym (first p)) (IsChain-same (λ q. next_in (T q)) (λ q. next_in (N q)) (first_in (T p)) h.list h.chain (λ e e_in. next e));
+  names = record {
+    sound = λ e e_in. ap named_of (link e) ∙ h.names.sound e e_in;
+    all = λ e names. h.names.all e (sym (ap named_of (link e)) ∙ names);
+    distinct = h.names.distinct;
+  };
+}
+
+mark-tomb : (T N : Rows) (k : TokenId) → IsForest T → MarkRows T N k → (c : Dot) → IsDead (links_of N) (passing (marks_of N)) c → dead_in (N c) ≡ true
+mark-tomb T N k t p c x =
+    let back : LinksWithin (links_of N) (links_of T) = within_back (links_of T) (links_of N) p.link in
+    let under : IsUnder (links_of T) x.member c = IsUnder-within (links_of N) (links_of T) back x.member c x.under in
+    let here : links_of T x.member ≡ Some x.bad.link = back x.member x.bad.link x.bad.here in
+    elim x.bad.why [
+      | inl marked ↦ elim (p.marks_new (grant_at x.member x.bad.link) marked) [
+        | inl same ↦ p.dead_mark x.member c x.bad.link here same (subst (λ (j : TokenId). marks_of N j ≡ true) same marked) (t.memo x.member c under)
+        | inr old ↦ p.dead_old c (t.tomb c (record { member = x.member; under = under; bad = record { link = x.bad.link; here = here; why = inl old } }))
+      ]
+      | inr twice ↦ p.dead_old c (t.tomb c (record { member = x.member; under = under; bad = record { link = x.bad.link; here = here; why = inr (IsTwice-within (links_of N) (links_of T) back (grant_at x.member x.bad.link) twice) } }))
+    ]
+
+pub IsForest-mark : (T N : Rows) (k : TokenId) → IsForest T → MarkRows T N k → IsForest N
+IsForest-mark T N k t p =
+    let w : LinksWithin (links_of T) (links_of N) = within_same (links_of T) (links_of N) p.link in
+    let back : LinksWithin (links_of N) (links_of T) = within_back (links_of T) (links_of N) p.link in
+    record {
+      under = λ q c h. IsUnder-within (links_of T) (links_of N) w q c (t.under q c (sym (p.code q) ∙ h));
+      memo = λ q c u. p.code q ∙ t.memo q c (IsUnder-within (links_of N) (links_of T) back q c u);
+      dead = λ c h. elim (p.dead_new c h) [
+        | inl old ↦ IsDead-within (links_of T) (links_of N) (passing (marks_of T)) (passing (marks_of N)) w p.marks_old c (t.dead c old)
+        | inr now ↦ now
+      ];
+      tomb = mark-tomb T N k t p;
+      used = λ j h. let u : IsUsed (links_of T) j = t.used j (sym (p.used j.dot j.kind) ∙ h) in record { user = u.user; by = ap use_of (p.link u.user) ∙ u.by };
+      uses = λ j u. p.used j.dot j.kind ∙ t.uses j (record { user = u.user; by = sym (ap use_of (p.link u.user)) ∙ u.by });
+      again = λ j h. IsTwice-within (links_of T) (links_of N) w j (t.again j (sym (p.again j.dot j.kind) ∙ h));
+      twice = λ j h. p.again j.dot j.kind ∙ t.twice j (IsTwice-within (links_of N) (links_of T) back j h);
+      hangs = λ r. Hangs-same T N r p.link p.first p.next (t.hangs r);
+    }
+
+no_access : (q : Dot) (l : Link) → grant_at q l ≡ record { dot = record { region = 0; serial = 0 }; kind = kind.Access } → ⊥
+no_access q Code h = let e : kind.Code ≡ kind.Access = ap (λ (t : TokenId). t.kind) h in cc
+no_access q (Redeems c) h = let e : kind.Refresh ≡ kind.Access = ap (λ (t : TokenId). t.kind) h in cc
+no_access q (Rotates p g) h = let e : kind.Refresh ≡ kind.Access = ap (λ (t : TokenId). t.kind) h in cc
+
+pub IsForest-alike : (T N : Rows) → IsForest T → Alike T N → IsForest N
+IsForest-alike T N t a =
+    let none : Dot = record { region = 0; serial = 0 } in
+    let k : TokenId = record { dot = none; kind = kind.Access } in
+    IsForest-mark T N k t (record {
+      link = a.link;
+      code = a.code;
+      first = a.first;
+      next = a.next;
+      used = a.used;
+      again = a.again;
+      marks_new = λ j h. inr (sym (a.marked j.dot j.kind) ∙ h);
+      marks_old = λ j h. a.marked j.dot j.kind ∙ h;
+      dead_old = λ c h. a.dead c ∙ h;
+      dead_new = λ c h. inl (sym (a.dead c) ∙ h);
+      dead_mark = λ q c l here same marked code. absurd (no_access q l same);
+    })
+
+-- ---- the code of a new link
+
+IsPath-below : (f g : Links) (d : Dot) (l : Link) → Adds f g d l → (q : Dot) (ps : List Dot) (c : Dot) → IsPath g q ps c → rank_of (g q) < rank_of (g d) → IsUnder f q c
+IsPath-below f g d l a q [] c m low =
+    let ne : q ≢ d = λ same. let e : rank_of (g q) ≡ rank_of (g d) = ap (λ (y : Dot). rank_of (g y)) same in absurd (omega arith) in
+    alone f g d l a q c ne m
+IsPath-below f g d l a q (p ∷ ps) c m low =
+    let ne : q ≢ d = λ same. let e : rank_of (g q) ≡ rank_of (g d) = ap (λ (y : Dot). rank_of (g y)) same in absurd (omega arith) in
+    let r : rank_of (g q) ≡ rank_of (g p) + 1 = IsParent-rank g q p m.0.0 in
+    let less : rank_of (g p) < rank_of (g d) = omega arith in
+    below_under f g d l a q p c ne m.0.0 (IsPath-below f g d l a p ps c (m.0.1, m.1) less)
+
+fits_over-some : (l : Link) (o : Option Link) → fits_over l o ≡ true → (k : Link) × (o ≡ Some k) × (fits l k ≡ true)
+fits_over-some l None h = absurd (true≢false (sym h))
+fits_over-some l (Some k) h = (k, refl, h)
+
+no_name : (l : Link) → named_by l ≡ None → l ≡ Code
+no_name Code h = refl
+no_name (Redeems c) h = absurd (cc)
+no_name (Rotates p g) h = absurd (cc)
+
+pub chain-some : (T : Rows) (g : Links) (d : Dot) (l : Link) (o : Option Dot) (c : Dot) → IsForest T → Adds (links_of T) g d l → named_by l ≡ o → chain_by T d l o ≡ Some c → IsUnder g d c
+chain-some T g d l None c t a names h =
+    let code : l ≡ Code = no_name l names in
+    let same : d ≡ c = cc in
+    record { path = []; leads = (same, ap g (sym same) ∙ (a.here ∙ ap (λ (k : Link). Some k) code)) }
+chain-some T g d l (Some p) c t a names h = elim (cases_Bool (fits_over l (link_in (T p)))) [
+  | inl fit ↦
+      let above : (k : Link) × (link_in (T p) ≡ Some k) × (fits l k ≡ true) = fits_over-some l (link_in (T p)) fit in
+      let code : code_in (T p) ≡ Some c = sym (cond-true _ _ _ fit) ∙ h in
+      let w : LinksWithin (links_of T) g = Within-adds (links_of T) g d l a in
+      let u : IsUnder g p c = IsUnder-within (links_of T) g w p c (t.under p c code) in
+      record { path = p ∷ u.path; leads = ((record { link = l; above = above.0; here = a.here; names = names; there = w p above.0 above.1; fitting = above.2 }, u.leads.0), u.leads.1) }
+  | inr none ↦ absurd (let clash : None ≡ Some c = sym (cond-false _ _ _ none) ∙ h in cc)
+]
+
+some_over : (l k : Link) (o : Option Link) → o ≡ Some k → fits l k ≡ true → fits_over l o ≡ true
+some_over l k o at fit = ap (fits_over l) at ∙ fit
+
+pub chain-path : (T : Rows) (g : Links) (d : Dot) (l : Link) (ps : List Dot) (c : Dot) → IsForest T → Adds (links_of T) g d l → IsPath g d ps c → chain_code T d l ≡ Some c
+chain-path T g d l [] c t a m =
+    let both : Some l ≡ Some Code = sym a.here ∙ (ap g m.0 ∙ m.1) in
+    let code : l ≡ Code = cc in
+    ap (chain_code T d) code ∙ ap (λ (y : Dot). Some y) m.0
+chain-path T g d l (p ∷ ps) c t a m =
+    let both : Some m.0.0.link ≡ Some l = sym m.0.0.here ∙ a.here in
+    let same : m.0.0.link ≡ l = cc in
+    let names : named_by l ≡ Some p = ap named_by (sym same) ∙ m.0.0.names in
+    let r : rank_of (g d) ≡ rank_of (g p) + 1 = IsParent-rank g d p m.0.0 in
+    let less : rank_of (g p) < rank_of (g d) = omega arith in
+    let ne : p ≢ d = λ e. let s : rank_of (g p) ≡ rank_of (g d) = ap (λ (y : Dot). rank_of (g y)) e in absurd (omega arith) in
+    let above : links_of T p ≡ Some m.0.0.above = sym (a.others p ne) ∙ m.0.0.there in
+    let fit : fits l m.0.0.above ≡ true = ap (λ (k : Link). fits k m.0.0.above) (sym same) ∙ m.0.0.fitting in
+    let u : IsUnder (links_of T) p c = IsPath-below (links_of T) g d l a p ps c (m.0.1, m.1) less in
+    ap (chain_by T d l) names ∙ (cond-true _ _ _ (some_over l m.0.0.above (link_in (T p)) above fit) ∙ t.memo p c u)
+
+pub chain-none : (T : Rows) (g : Links) (d : Dot) (l : Link) → IsForest T → Adds (links_of T) g d l → chain_code T d l ≡ None → (c : Dot) → IsUnder g d c → ⊥
+chain-none T g d l t a none c u = let clash : Some c ≡ None = sym (chain-path T g d l u.path c t a u.leads) ∙ none in cc
+
+pub NothingSeen-alike : (T N : Rows) → IsForest T → Alike T N → NothingSeen T N
+NothingSeen-alike T N t a = record { forest = IsForest-alike T N t a; links = a.link; marks = λ k. a.marked k.dot k.kind }
+
+blank_there : (o : Option Row) → IsSome (or_blank o)
+blank_there None = refl
+blank_there (Some r) = refl
+
+pub present-blank : (T N : Rows) (at : Dot) → ((q : Dot) → N q ≡ cond (dot_eq at q) (or_blank (T q)) (T q)) → IsSome (N at)
+present-blank T N at h = subst (λ (o : Option Row). IsSome o) (sym (h at ∙ cond-true (dot_eq at at) (or_blank (T at)) (T at) (dot_eq-same at))) (blank_there (T at))

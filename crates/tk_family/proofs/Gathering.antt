@@ -1,0 +1,120 @@
+-- Gathering all that hangs below a dot, by a list that is its own queue.
+use Rattle.std.proofs.Common.{◌≡◌, ◌≢◌, inl, inr, ℕ, ◌+◌, ◌<◌, ◌≤◌, true, Option, None, Some, List, [], ◌∷◌, ◌++◌, length, take, drop, get_or, ap, sym, ◌∙◌, arith, subst, append-nil, length-append, IsSome, BTreeMap, btree_map_len, rules}
+use Rattle.std.proofs.lemmas.Bool.{true≢false, cond-true, cond-false}
+use Rattle.std.proofs.lemmas.List.{take_more, drop_more, take-append-le, drop-append-le, take-append-drop, take_all, drop_all}
+use Rattle.std.proofs.lemmas.Map.Steps.{length-le_from_keys}
+use Rattle.std.proofs.lemmas.Map.Keys.{IsDistinct-IsPermutation}
+use Rattle.std.proofs.lemmas.List.Sorted.{list_any-IsPermutation}
+use Rattle.std.specs.List.Sorted.{IsPermutation}
+use Rattle.std.specs.List.{IsDistinct}
+use Rattle.tk_handle.specs.declared.dot.Dot.{Dot}
+use Rattle.tk_family.specs.declared.link.Link.{Link}
+use Rattle.tk_family.specs.declared.row.Row.{Row}
+use Rattle.tk_family.specs.Dots.{dot_eq, has}
+use Rattle.tk_family.specs.Families.{Links, IsParent, fits}
+use Rattle.tk_family.specs.Rows.{table, link_in, links_of, named_of}
+use Rattle.tk_family.specs.Puts.{fits_at, with_link, FitsAll, Gathers}
+use Rattle.tk_family.proofs.DotLaws.{dots_equiv, dot_eq-apart, dot_eq-same, cases_dots}
+use Rattle.tk_family.proofs.Adding.{Adds}
+use Rattle.tk_family.proofs.Reaching.{Walk, Walk-starts, Walk-turns, AreChildren}
+
+pub with_link-here : (f : Links) (d : Dot) (l : Link) → with_link f d l d ≡ Some l
+with_link-here f d l = cond-true (dot_eq d d) (Some l) (f d) (dot_eq-same d)
+
+pub with_link-other : (f : Links) (d : Dot) (l : Link) (q : Dot) → q ≢ d → with_link f d l q ≡ f q
+with_link-other f d l q ne = cond-false (dot_eq d q) (Some l) (f q) (dot_eq-apart d q (λ same. ne (sym same)))
+
+pub Adds-with_link : (f : Links) (d : Dot) (l : Link) → f d ≡ None → Adds f (with_link f d l) d l
+Adds-with_link f d l free = record { free = free; here = with_link-here f d l; others = with_link-other f d l }
+
+parent_from : (g : Links) (e x : Dot) (above : Link) (o : Option Link) → g e ≡ o → named_of o ≡ Some x → fits_at o above ≡ true → g x ≡ Some above → IsParent g e x
+parent_from g e x above None at names fitting there = absurd (cc)
+parent_from g e x above (Some k) at names fitting there = record { link = k; above = above; here = at; names = names; there = there; fitting = fitting }
+
+pub AreChildren-from : (f : Links) (d : Dot) (l : Link) (x : Dot) (above : Link) (cs : List Dot) → f d ≡ None → with_link f d l x ≡ Some above → FitsAll f x above cs → AreChildren (with_link f d l) d x cs
+AreChildren-from f d l x above cs free there fit = record {
+  sound = λ e h.
+      let ne : e ≢ d = λ same. (let clash : None ≡ Some x = sym (ap named_of (ap f same ∙ free)) ∙ fit.names e h in cc) in
+      parent_from (with_link f d l) e x above (f e) (with_link-other f d l e ne) (fit.names e h) (fit.fitting e h) there;
+  all = λ e ne par.
+      let at : f e ≡ Some par.link = sym (with_link-other f d l e ne) ∙ par.here in
+      let both : Some par.above ≡ Some above = sym par.there ∙ there in
+      let same : par.above ≡ above = cc in
+      fit.all e (ap named_of at ∙ par.names) (ap (λ (o : Option Link). fits_at o above) at ∙ (ap (λ (k : Link). fits par.link k) (sym same) ∙ par.fitting));
+  distinct = fit.distinct;
+}
+
+pub AreChildren-none : (g : Links) (d x : Dot) → g x ≡ None → AreChildren g d x []
+unfolding IsDistinct
+AreChildren-none g d x none = record {
+  sound = λ e h. absurd (true≢false (sym h));
+  all = λ e ne par. absurd (let clash : Some par.above ≡ None = sym par.there ∙ none in cc);
+  distinct = search rules;
+}
+
+-- the list is done with its first i dots
+pub record Gathering (m : BTreeMap Dot Row) (d : Dot) (l : Link) (ys : List Dot) (i : ℕ) : Type 0 where
+  pub walk : Walk (with_link (links_of (table m)) d l) d (take i ys) (drop i ys)
+  pub within : i ≤ length ys
+  pub room : length ys ≤ btree_map_len m
+
+row_of : (o : Option Row) (k : Link) → link_in o ≡ Some k → IsSome o
+row_of None k h = absurd (cc)
+row_of (Some r) k h = search rules
+
+Walk-room : (m : BTreeMap Dot Row) (d : Dot) (l : Link) (done rest : List Dot) → IsSome (table m d) → Walk (with_link (links_of (table m)) d l) d done rest → length (done ++ rest) ≤ btree_map_len m
+Walk-room m d l done rest row w = length-le_from_keys dots_equiv (done ++ rest) m.entries w.distinct (λ q h.
+    elim (cases_dots q d) [
+      | inl same ↦ subst (λ (y : Dot). IsSome (table m y)) (sym same) row
+      | inr ne ↦ elim (w.rooted q h).why [
+        | inl same ↦ absurd (ne same)
+        | inr above ↦ row_of (table m q) above.0.link (sym (with_link-other (links_of (table m)) d l q ne) ∙ above.0.here)
+      ]
+    ])
+
+pub Gathering-from : (m : BTreeMap Dot Row) (d : Dot) (l : Link) (ys : List Dot) (i : ℕ) → IsSome (table m d) → i ≤ length ys → Walk (with_link (links_of (table m)) d l) d (take i ys) (drop i ys) → Gathering m d l ys i
+Gathering-from m d l ys i row within w =
+    let room : length (take i ys ++ drop i ys) ≤ btree_map_len m = Walk-room m d l (take i ys) (drop i ys) row w in
+    record { walk = w; within = within; room = subst (λ (zs : List Dot). length zs ≤ btree_map_len m) (take-append-drop i ys) room }
+
+pub Gathering-starts : (m : BTreeMap Dot Row) (d : Dot) (l : Link) → IsSome (table m d) → Gathering m d l (d ∷ []) 0
+Gathering-starts m d l row = Gathering-from m d l (d ∷ []) 0 row (omega arith) (Walk-starts (with_link (links_of (table m)) d l) d)
+
+pub Gathering-turns : (m : BTreeMap Dot Row) (d : Dot) (l : Link) (ys cs zs : List Dot) (i : ℕ) (x : Dot) → IsSome (table m d) → i < length ys → x ≡ get_or ys i x → zs ≡ ys ++ cs → AreChildren (with_link (links_of (table m)) d l) d x cs → Gathering m d l ys i → Gathering m d l zs (i + 1)
+Gathering-turns m d l ys cs zs i x row below at after children g =
+    let front : take (i + 1) ys ≡ take i ys ++ x ∷ [] = take_more ys i x below ∙ ap (λ (y : Dot). take i ys ++ y ∷ []) (sym at) in
+    let split : drop i ys ≡ x ∷ drop (i + 1) ys = drop_more ys i x below ∙ ap (λ (y : Dot). y ∷ drop (i + 1) ys) (sym at) in
+    let turned : Walk (with_link (links_of (table m)) d l) d (take i ys ++ x ∷ []) (drop (i + 1) ys ++ cs) =
+    Walk-turns (with_link (links_of (table m)) d l) d (take i ys) x (drop (i + 1) ys) cs (subst (λ (r : List Dot). Walk (with_link (links_of (table m)) d l) d (take i ys) r) split g.walk) children in
+    let in_ys : i + 1 ≤ length ys = omega arith in
+    let new_front : take i ys ++ x ∷ [] ≡ take (i + 1) zs = sym front ∙ (sym (take-append-le (i + 1) ys cs in_ys) ∙ ap (take (i + 1)) (sym after)) in
+    let new_rest : drop (i + 1) ys ++ cs ≡ drop (i + 1) zs = sym (drop-append-le (i + 1) ys cs in_ys) ∙ ap (drop (i + 1)) (sym after) in
+    let long : length zs ≡ length ys + length cs = ap length after ∙ length-append ys cs in
+    Gathering-from m d l zs (i + 1) row (omega arith)
+    (subst (λ (r : List Dot). Walk (with_link (links_of (table m)) d l) d (take (i + 1) zs) r) new_rest
+    (subst (λ (f : List Dot). Walk (with_link (links_of (table m)) d l) d f (drop (i + 1) ys ++ cs)) new_front turned))
+
+pub Gathering-ends : (m : BTreeMap Dot Row) (d : Dot) (l : Link) (ys : List Dot) (i : ℕ) → length ys ≤ i → Gathering m d l ys i → Gathers (links_of (table m)) d l ys
+Gathering-ends m d l ys i above g =
+    let all : take i ys ≡ ys = take_all i ys above in
+    let none : drop i ys ≡ [] = drop_all i ys above in
+    let w : Walk (with_link (links_of (table m)) d l) d ys [] =
+    subst (λ (r : List Dot). Walk (with_link (links_of (table m)) d l) d ys r) none
+    (subst (λ (f : List Dot). Walk (with_link (links_of (table m)) d l) d f (drop i ys)) all g.walk) in
+    let whole : ys ++ [] ≡ ys = append-nil ys in
+    record {
+      root = subst (λ (zs : List Dot). has zs d ≡ true) whole w.root;
+      closed = λ x e h par. subst (λ (zs : List Dot). has zs e ≡ true) whole (w.closed x e h par);
+      below = λ q h. w.below q (subst (λ (zs : List Dot). has zs q ≡ true) (sym whole) h);
+      distinct = subst (λ (zs : List Dot). IsDistinct dot_eq zs) whole w.distinct;
+    }
+
+pub Gathers-permuted : (f : Links) (d : Dot) (l : Link) (ys zs : List Dot) → IsPermutation ys zs → Gathers f d l ys → Gathers f d l zs
+Gathers-permuted f d l ys zs p g =
+    let same : (q : Dot) → has ys q ≡ has zs q = λ q. list_any-IsPermutation (dot_eq q) ys zs p in
+    record {
+      root = sym (same d) ∙ g.root;
+      closed = λ x e h par. sym (same e) ∙ g.closed x e (same x ∙ h) par;
+      below = λ q h. g.below q (same q ∙ h);
+      distinct = IsDistinct-IsPermutation dot_eq dots_equiv.symm ys zs p g.distinct;
+    }

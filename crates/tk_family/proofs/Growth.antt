@@ -1,0 +1,332 @@
+-- What a forest's rows keep is kept when a link is put and when a token is marked.
+use Rattle.std.proofs.Common.{◌≡◌, ◌≢◌, ◌⊎◌, inl, inr, Bool, true, false, cond, Option, None, Some, List, [], ◌∷◌, ◌||◌, ◌&&◌, ap, sym, ◌∙◌, refl, subst}
+use Rattle.std.proofs.lemmas.Bool.{true≢false, cases_Bool, or_cases, or_left, or_right, false_from_ne_true, cond-true, cond-false, and_parts, and_from, or_parts}
+use Rattle.std.specs.List.{AllByRecursion}
+use Rattle.std.proofs.lemmas.Map.Keys.{IsDistinct-cons}
+use Rattle.tk_handle.specs.declared.dot.Dot.{Dot}
+use Rattle.tk_handle.specs.declared.kind.Kind.{Kind}
+use Rattle.tk_handle.specs.declared.kind.Kind.TheVariants as kind
+use Rattle.tk_handle.specs.declared.token_id.TokenId.{TokenId}
+use Rattle.tk_family.specs.Laws.{passing}
+use Rattle.tk_family.specs.declared.link.Link.{Link}
+use Rattle.tk_family.specs.declared.link.Link.TheVariants.{Code, Redeems, Rotates}
+use Rattle.tk_family.specs.Dots.{dot_eq, has}
+use Rattle.tk_family.specs.Families.{Links, used_by, named_by, grant_at, use_of, IsParent, IsPath, IsUnder, IsTwice, IsBad, IsDead, LinksWithin, IsUsed}
+use Rattle.tk_family.specs.Rows.{Rows, code_in, dead_in, first_in, next_in, used_in, again_in, bad_at, bad_in, links_of, marks_of, named_of}
+use Rattle.tk_family.specs.Kept.{IsChain, NamesAll, Hangs, IsForest}
+use Rattle.tk_family.proofs.DotLaws.{cases_dots, has-cons, has-here, has-there, dot_eq-true, dot_eq-same}
+use Rattle.tk_family.proofs.Adding.{Adds, Within-adds, IsPath-adds, IsPath-here, alone, below_under}
+use Rattle.tk_family.proofs.FamilyLaws.{IsUnder-one, IsUnder-within, IsTwice-within, IsDead-within, use_of-within}
+
+-- ---- whether a link uses a token
+
+abbrev pub is_code : Kind → Bool
+is_code kind.Code = true
+is_code kind.Access = false
+is_code kind.Refresh = false
+
+abbrev pub is_refresh : Kind → Bool
+is_refresh kind.Code = false
+is_refresh kind.Access = false
+is_refresh kind.Refresh = true
+
+-- the link uses the token
+abbrev pub uses_it : Link → TokenId → Bool
+uses_it Code k = false
+uses_it (Redeems code) k = dot_eq code k.dot && is_code k.kind
+uses_it (Rotates parent generation) k = dot_eq parent k.dot && is_refresh k.kind
+
+-- ---- what is under a code with one more link
+
+-- ys are the dots that have come under c0
+pub record Grown (f g : Links) (c0 : Dot) (ys : List Dot) : Type 0 where
+  pub claim : (q c : Dot) → IsUnder g q c → (has ys q ≡ true) ⊎ IsUnder f q c
+  pub sound : (q : Dot) → has ys q ≡ true → IsUnder g q c0
+
+pub Grown-walk : (f g : Links) (d : Dot) (l : Link) (c : Dot) (ys : List Dot) → Adds f g d l → (has ys d ≡ true) → ((x e : Dot) → has ys x ≡ true → IsParent g e x → has ys e ≡ true) → ((q : Dot) → has ys q ≡ true → IsUnder g q c) → Grown f g c ys
+Grown-walk f g d l c ys a root closed sound = record {
+  claim = λ q b u. IsPath-adds f g d l (has ys) a root closed q u.path b u.leads;
+  sound = sound;
+}
+
+pub IsPath-waits : (f g : Links) (d : Dot) (l : Link) → Adds f g d l → ((c : Dot) → IsUnder g d c → ⊥) → (q : Dot) (ps : List Dot) (c : Dot) → IsPath g q ps c → IsUnder f q c
+IsPath-waits f g d l a none_under q [] c m = elim (cases_dots q d) [
+  | inl same ↦ absurd (none_under c (subst (λ (x : Dot). IsUnder g x c) same (record { path = []; leads = m })))
+  | inr ne ↦ alone f g d l a q c ne m
+]
+IsPath-waits f g d l a none_under q (p ∷ ps) c m = elim (cases_dots q d) [
+  | inl same ↦ absurd (none_under c (subst (λ (x : Dot). IsUnder g x c) same (record { path = p ∷ ps; leads = m })))
+  | inr ne ↦ below_under f g d l a q p c ne m.0.0 (IsPath-waits f g d l a none_under p ps c (m.0.1, m.1))
+]
+
+pub Grown-waits : (f g : Links) (d : Dot) (l : Link) (c0 : Dot) → Adds f g d l → ((c : Dot) → IsUnder g d c → ⊥) → Grown f g c0 []
+Grown-waits f g d l c0 a none_under = record {
+  claim = λ q c u. inr (IsPath-waits f g d l a none_under q u.path c u.leads);
+  sound = λ q h. absurd (true≢false (sym h));
+}
+
+-- ---- uses
+
+-- a dot that has a use has a link
+some_use : (f : Links) (e : Dot) (k : TokenId) → use_of (f e) ≡ Some k → f e ≡ None → ⊥
+some_use f e k h none = let clash : None ≡ Some k = sym (ap use_of none) ∙ h in cc
+
+pub IsUsed-adds : (f g : Links) (d : Dot) (l : Link) → Adds f g d l → (k : TokenId) → IsUsed g k → (used_by l ≡ Some k) ⊎ IsUsed f k
+IsUsed-adds f g d l a k u = elim (cases_dots u.user d) [
+  | inl same ↦ inl (sym (ap use_of (ap g same ∙ a.here)) ∙ u.by)
+  | inr ne ↦ inr (record { user = u.user; by = sym (ap use_of (a.others u.user ne)) ∙ u.by })
+]
+
+pub IsTwice-adds : (f g : Links) (d : Dot) (l : Link) → Adds f g d l → (k : TokenId) → IsTwice g k → ((used_by l ≡ Some k) × IsUsed f k) ⊎ IsTwice f k
+IsTwice-adds f g d l a k t = elim (cases_dots t.one d) [
+  | inl first ↦ elim (cases_dots t.two d) [
+    | inl second ↦ absurd (t.apart (first ∙ sym second))
+    | inr other ↦ inl (sym (ap use_of (ap g first ∙ a.here)) ∙ t.by_one, record { user = t.two; by = sym (ap use_of (a.others t.two other)) ∙ t.by_two })
+  ]
+  | inr other ↦ elim (cases_dots t.two d) [
+    | inl second ↦ inl (sym (ap use_of (ap g second ∙ a.here)) ∙ t.by_two, record { user = t.one; by = sym (ap use_of (a.others t.one other)) ∙ t.by_one })
+    | inr also ↦ inr (record { one = t.one; two = t.two; apart = t.apart; by_one = sym (ap use_of (a.others t.one other)) ∙ t.by_one; by_two = sym (ap use_of (a.others t.two also)) ∙ t.by_two })
+  ]
+]
+
+pub IsTwice-new : (f g : Links) (d : Dot) (l : Link) → Adds f g d l → (k : TokenId) → used_by l ≡ Some k → IsUsed f k → IsTwice g k
+IsTwice-new f g d l a k uses u = record {
+  one = d;
+  two = u.user;
+  apart = λ same. some_use f u.user k u.by (ap f (sym same) ∙ a.free);
+  by_one = ap use_of a.here ∙ uses;
+  by_two = use_of-within f g (Within-adds f g d l a) u.user (f u.user) k refl u.by;
+}
+
+-- ---- chains
+
+pub IsChain-same : (m n : Dot → Option Dot) (cursor : Option Dot) (list : List Dot) → IsChain m cursor list → ((e : Dot) → has list e ≡ true → n e ≡ m e) → IsChain n cursor list
+IsChain-same m n cursor [] h same = h
+IsChain-same m n cursor (e ∷ es) h same = (h.0, rw (same e (has-here e es)) (IsChain-same m n (m e) es h.1 (λ q q_in. same q (has-there e es q q_in))))
+
+-- ---- bad tokens
+
+pub bad-sound : (T : Rows) → ((k : TokenId) → again_in (T k.dot) k.kind ≡ true → IsTwice (links_of T) k) → (d : Dot) (o : Option Link) → links_of T d ≡ o → bad_at o (T d) ≡ true → IsBad (links_of T) (passing (marks_of T)) d
+bad-sound T again d None at h = absurd (true≢false (sym h))
+bad-sound T again d (Some Code) at h = record { link = Code; here = at; why = elim (or_cases _ _ h) [ inl marked ↦ inl marked | inr twice ↦ inr (again (grant_at d Code) twice) ] }
+bad-sound T again d (Some (Redeems c)) at h = record { link = Redeems c; here = at; why = elim (or_cases _ _ h) [ inl marked ↦ inl marked | inr twice ↦ inr (again (grant_at d (Redeems c)) twice) ] }
+bad-sound T again d (Some (Rotates p n)) at h = record { link = Rotates p n; here = at; why = elim (or_cases _ _ h) [ inl marked ↦ inl marked | inr twice ↦ inr (again (grant_at d (Rotates p n)) twice) ] }
+
+bad-flags : (T : Rows) → ((k : TokenId) → IsTwice (links_of T) k → again_in (T k.dot) k.kind ≡ true) → (d : Dot) (l : Link) → (marks_of T (grant_at d l) ≡ true) ⊎ IsTwice (links_of T) (grant_at d l) → bad_at (Some l) (T d) ≡ true
+bad-flags T twice d Code why = elim why [ inl marked ↦ or_left _ _ marked | inr t ↦ or_right _ _ (twice (grant_at d Code) t) ]
+bad-flags T twice d (Redeems c) why = elim why [ inl marked ↦ or_left _ _ marked | inr t ↦ or_right _ _ (twice (grant_at d (Redeems c)) t) ]
+bad-flags T twice d (Rotates p n) why = elim why [ inl marked ↦ or_left _ _ marked | inr t ↦ or_right _ _ (twice (grant_at d (Rotates p n)) t) ]
+
+pub bad-complete : (T : Rows) → ((k : TokenId) → IsTwice (links_of T) k → again_in (T k.dot) k.kind ≡ true) → (d : Dot) → IsBad (links_of T) (passing (marks_of T)) d → bad_in (T d) ≡ true
+bad-complete T twice d b = ap (λ (o : Option Link). bad_at o (T d)) b.here ∙ bad-flags T twice d b.link b.why
+
+abbrev option_map_dot : Option TokenId → Option Dot
+option_map_dot None = None
+option_map_dot (Some k) = Some k.dot
+
+-- a link that uses the grant at q names q
+pub names_grant : (l m : Link) (q : Dot) → used_by l ≡ Some (grant_at q m) → named_by l ≡ Some q
+names_grant Code m q h = absurd (cc)
+names_grant (Redeems c) Code q h = let s : Some c ≡ Some q = ap (option_map_dot) h in s
+names_grant (Redeems c) (Redeems x) q h = ap option_map_dot h
+names_grant (Redeems c) (Rotates x g) q h = ap option_map_dot h
+names_grant (Rotates p n) Code q h = ap option_map_dot h
+names_grant (Rotates p n) (Redeems x) q h = ap option_map_dot h
+names_grant (Rotates p n) (Rotates x g) q h = ap option_map_dot h
+
+-- ---- a link is put
+
+kind_code : (k : Kind) → is_code k ≡ true → k ≡ kind.Code
+kind_code kind.Code h = refl
+kind_code kind.Access h = absurd (cc)
+kind_code kind.Refresh h = absurd (cc)
+
+kind_refresh : (k : Kind) → is_refresh k ≡ true → k ≡ kind.Refresh
+kind_refresh kind.Code h = absurd (cc)
+kind_refresh kind.Access h = absurd (cc)
+kind_refresh kind.Refresh h = refl
+
+abbrev token_at : Dot → Kind → Option TokenId
+token_at d k = Some (record { dot = d; kind = k })
+
+same_token : (a b : Dot) (x y : Kind) → a ≡ b → x ≡ y → token_at a x ≡ token_at b y
+same_token a b x y e h = ap (λ (z : Dot). token_at z x) e ∙ ap (λ (z : Kind). token_at b z) h
+
+pub uses_it-true : (l : Link) (k : TokenId) → uses_it l k ≡ true → used_by l ≡ Some k
+uses_it-true Code k h = absurd (cc)
+uses_it-true (Redeems c) k h = let parts : (dot_eq c k.dot ≡ true) × (is_code k.kind ≡ true) = and_parts _ _ h in same_token c k.dot kind.Code k.kind (dot_eq-true c k.dot parts.0) (sym (kind_code k.kind parts.1))
+uses_it-true (Rotates p g) k h = let parts : (dot_eq p k.dot ≡ true) × (is_refresh k.kind ≡ true) = and_parts _ _ h in same_token p k.dot kind.Refresh k.kind (dot_eq-true p k.dot parts.0) (sym (kind_refresh k.kind parts.1))
+
+token_or : TokenId → Option TokenId → TokenId
+token_or d None = d
+token_or d (Some k) = k
+
+pub used_by-uses : (l : Link) (k : TokenId) → used_by l ≡ Some k → uses_it l k ≡ true
+unfolding token_or
+used_by-uses Code k h = absurd (cc)
+used_by-uses (Redeems c) k h = subst (λ (t : TokenId). uses_it (Redeems c) t ≡ true) (ap (token_or k) h) (and_from _ _ (dot_eq-same c) refl)
+used_by-uses (Rotates p g) k h = subst (λ (t : TokenId). uses_it (Rotates p g) t ≡ true) (ap (token_or k) h) (and_from _ _ (dot_eq-same p) refl)
+
+-- N is T after the link l was put at d, where the dots ys have come under c0
+pub record PutRows (T N : Rows) (d : Dot) (l : Link) (c0 : Dot) (ys : List Dot) : Type 0 where
+  pub adds : Adds (links_of T) (links_of N) d l
+  pub grown : Grown (links_of T) (links_of N) c0 ys
+  pub marks : (k : TokenId) → marks_of N k ≡ marks_of T k
+  pub code : (q : Dot) → code_in (N q) ≡ cond (has ys q) (Some c0) (code_in (T q))
+  pub used_is : (k : TokenId) → used_in (N k.dot) k.kind ≡ (used_in (T k.dot) k.kind || uses_it l k)
+  pub again_is : (k : TokenId) → again_in (N k.dot) k.kind ≡ (again_in (T k.dot) k.kind || (uses_it l k && used_in (T k.dot) k.kind))
+  pub chains : (p : Dot) → Hangs N p
+  pub dead_old : (c : Dot) → dead_in (T c) ≡ true → dead_in (N c) ≡ true
+  pub dead_new : (c : Dot) → dead_in (N c) ≡ true → (dead_in (T c) ≡ true) ⊎ IsDead (links_of N) (passing (marks_of N)) c
+  pub dead_walk : (q : Dot) → has ys q ≡ true → bad_in (N q) ≡ true → dead_in (N c0) ≡ true
+  pub dead_parent : (p c : Dot) → named_by l ≡ Some p → code_in (T p) ≡ Some c → bad_in (N p) ≡ true → dead_in (N c) ≡ true
+
+put-again : (T N : Rows) (d : Dot) (l : Link) (c0 : Dot) (ys : List Dot) → IsForest T → PutRows T N d l c0 ys → (k : TokenId) → again_in (N k.dot) k.kind ≡ true → IsTwice (links_of N) k
+put-again T N d l c0 ys t p k h = elim (or_cases (again_in (T k.dot) k.kind) (uses_it l k && used_in (T k.dot) k.kind) (sym (p.again_is k) ∙ h)) [
+  | inl old ↦ IsTwice-within (links_of T) (links_of N) (Within-adds (links_of T) (links_of N) d l p.adds) k (t.again k old)
+  | inr now ↦
+      let parts : (uses_it l k ≡ true) × (used_in (T k.dot) k.kind ≡ true) = and_parts _ _ now in
+      IsTwice-new (links_of T) (links_of N) d l p.adds k (uses_it-true l k parts.0) (t.used k parts.1)
+]
+
+put-twice : (T N : Rows) (d : Dot) (l : Link) (c0 : Dot) (ys : List Dot) → IsForest T → PutRows T N d l c0 ys → (k : TokenId) → IsTwice (links_of N) k → again_in (N k.dot) k.kind ≡ true
+put-twice T N d l c0 ys t p k h = p.again_is k ∙ (elim (IsTwice-adds (links_of T) (links_of N) d l p.adds k h) [
+  | inl now ↦ or_right _ _ (and_from _ _ (used_by-uses l k now.0) (t.uses k now.1))
+  | inr old ↦ or_left _ _ (t.twice k old)
+])
+
+put-tomb : (T N : Rows) (d : Dot) (l : Link) (c0 : Dot) (ys : List Dot) → IsForest T → PutRows T N d l c0 ys → (c : Dot) → IsDead (links_of N) (passing (marks_of N)) c → dead_in (N c) ≡ true
+put-tomb T N d l c0 ys t p c x =
+    let flagged : bad_in (N x.member) ≡ true = bad-complete N (put-twice T N d l c0 ys t p) x.member x.bad in
+    elim (p.grown.claim x.member c x.under) [
+      | inl walked ↦
+          let one : c0 ≡ c = IsUnder-one (links_of N) x.member c0 c (p.grown.sound x.member walked) x.under in
+          subst (λ (y : Dot). dead_in (N y) ≡ true) one (p.dead_walk x.member walked flagged)
+      | inr before ↦
+          let link : links_of T x.member ≡ Some x.bad.link = elim (cases_dots x.member d) [
+            | inl same ↦ absurd (IsPath-here (links_of T) x.member before.path c before.leads (ap (links_of T) same ∙ p.adds.free))
+            | inr ne ↦ sym (p.adds.others x.member ne) ∙ x.bad.here
+          ] in
+          elim x.bad.why [
+            | inl marked ↦ p.dead_old c (t.tomb c (record { member = x.member; under = before; bad = record { link = x.bad.link; here = link; why = inl (sym (p.marks (grant_at x.member x.bad.link)) ∙ marked) } }))
+            | inr twice ↦ elim (IsTwice-adds (links_of T) (links_of N) d l p.adds (grant_at x.member x.bad.link) twice) [
+              | inl now ↦ p.dead_parent x.member c (names_grant l x.bad.link x.member now.0) (t.memo x.member c before) flagged
+              | inr old ↦ p.dead_old c (t.tomb c (record { member = x.member; under = before; bad = record { link = x.bad.link; here = link; why = inr old } }))
+            ]
+          ]
+    ]
+
+pub IsForest-put : (T N : Rows) (d : Dot) (l : Link) (c0 : Dot) (ys : List Dot) → IsForest T → PutRows T N d l c0 ys → IsForest N
+IsForest-put T N d l c0 ys t p =
+    let w : LinksWithin (links_of T) (links_of N) = Within-adds (links_of T) (links_of N) d l p.adds in
+    record {
+      under = λ q c h. elim (cases_Bool (has ys q)) [
+        | inl walked ↦
+            let one : Some c0 ≡ Some c = sym (p.code q ∙ cond-true (has ys q) (Some c0) (code_in (T q)) walked) ∙ h in
+            let same : c0 ≡ c = cc in
+            subst (λ (y : Dot). IsUnder (links_of N) q y) same (p.grown.sound q walked)
+        | inr passed ↦ IsUnder-within (links_of T) (links_of N) w q c (t.under q c (sym (p.code q ∙ cond-false (has ys q) (Some c0) (code_in (T q)) passed) ∙ h))
+      ];
+      memo = λ q c u. elim (cases_Bool (has ys q)) [
+        | inl walked ↦ p.code q ∙ (cond-true (has ys q) (Some c0) (code_in (T q)) walked ∙ ap (λ (y : Dot). Some y) (IsUnder-one (links_of N) q c0 c (p.grown.sound q walked) u))
+        | inr passed ↦ p.code q ∙ (cond-false (has ys q) (Some c0) (code_in (T q)) passed ∙ (elim (p.grown.claim q c u) [
+          | inl walked ↦ absurd (true≢false (sym walked ∙ passed))
+          | inr before ↦ t.memo q c before
+        ]))
+      ];
+      dead = λ c h. elim (p.dead_new c h) [
+        | inl old ↦ IsDead-within (links_of T) (links_of N) (passing (marks_of T)) (passing (marks_of N)) w (λ k marked. p.marks k ∙ marked) c (t.dead c old)
+        | inr now ↦ now
+      ];
+      tomb = put-tomb T N d l c0 ys t p;
+      used = λ k h. elim (or_cases (used_in (T k.dot) k.kind) (uses_it l k) (sym (p.used_is k) ∙ h)) [
+        | inl old ↦ let u : IsUsed (links_of T) k = t.used k old in record { user = u.user; by = use_of-within (links_of T) (links_of N) w u.user (links_of T u.user) k refl u.by }
+        | inr now ↦ record { user = d; by = ap use_of p.adds.here ∙ uses_it-true l k now }
+      ];
+      uses = λ k u. p.used_is k ∙ (elim (IsUsed-adds (links_of T) (links_of N) d l p.adds k u) [
+        | inl now ↦ or_right _ _ (used_by-uses l k now)
+        | inr old ↦ or_left _ _ (t.uses k old)
+      ]);
+      again = put-again T N d l c0 ys t p;
+      twice = put-twice T N d l c0 ys t p;
+      hangs = p.chains;
+    }
+
+-- ---- the chains after a link was put
+
+-- next and first are as they were but for d, which stands first among those that name p
+pub record PutChains (T N : Rows) (d p : Dot) (l : Link) : Type 0 where
+  pub names : named_by l ≡ Some p
+  pub next_here : next_in (N d) ≡ first_in (T p)
+  pub next_old : (q : Dot) → q ≢ d → next_in (N q) ≡ next_in (T q)
+  pub first_here : first_in (N p) ≡ Some d
+  pub first_old : (q : Dot) → q ≢ p → first_in (N q) ≡ first_in (T q)
+
+-- d isn't among the dots that name any, before it has a link
+fresh : (f g : Links) (d : Dot) (l : Link) → Adds f g d l → (p : Dot) (list : List Dot) → NamesAll f p list → has list d ≡ false
+fresh f g d l a p list n = false_from_ne_true (has list d) (λ h. let clash : None ≡ Some p = sym (ap named_of a.free) ∙ n.sound d h in cc)
+
+not_fresh : (f g : Links) (d : Dot) (l : Link) → Adds f g d l → (p : Dot) (list : List Dot) → NamesAll f p list → (e : Dot) → has list e ≡ true → e ≢ d
+not_fresh f g d l a p list n e h same = true≢false (sym (subst (λ (y : Dot). has list y ≡ true) same h) ∙ fresh f g d l a p list n)
+
+all_apart : (d : Dot) (list : List Dot) → has list d ≡ false → AllByRecursion (λ y. dot_eq d y ≡ false) list
+all_apart d [] h = tt
+all_apart d (x ∷ xs) h = let parts : (dot_eq d x ≡ false) × (has xs d ≡ false) = or_parts _ _ h in (parts.0, all_apart d xs parts.1)
+
+pub Hangs-put : (T N : Rows) (d p : Dot) (l : Link) → Adds (links_of T) (links_of N) d l → PutChains T N d p l → (r : Dot) → Hangs T r → Hangs N r
+Hangs-put T N d p l a c r h =
+    let frame : (e : Dot) → has h.list e ≡ true → next_in (N e) ≡ next_in (T e) = λ e e_in. c.next_old e (not_fresh (links_of T) (links_of N) d l a r h.list h.names e e_in) in
+    let kept : (e : Dot) → has h.list e ≡ true → named_of (links_of N e) ≡ Some r = λ e e_in. ap named_of (a.others e (not_fresh (links_of T) (links_of N) d l a r h.list h.names e e_in)) ∙ h.names.sound e e_in in
+    elim (cases_dots r p) [
+      | inl same ↦ record {
+        list = d ∷ h.list;
+        chain = (
+          ap (λ (y : Dot). first_in (N y)) same ∙ c.first_here,
+          subst (λ (o : Option Dot). IsChain (λ q. next_in (N q)) o h.list) (ap (λ (y : Dot). first_in (T y)) same ∙ sym c.next_here)
+              (IsChain-same (λ q. next_in (T q)) (λ q. next_in (N q)) (first_in (T r)) h.list h.chain frame),
+        );
+        names = record {
+          sound = λ e e_in. elim (has-cons d h.list e e_in) [
+            | inl first ↦ ap (λ (y : Dot). named_of (links_of N y)) first ∙ (ap named_of a.here ∙ (c.names ∙ ap (λ (y : Dot). Some y) (sym same)))
+            | inr more ↦ kept e more
+          ];
+          all = λ e e_names. elim (cases_dots e d) [
+            | inl first ↦ subst (λ (y : Dot). has (d ∷ h.list) y ≡ true) (sym first) (has-here d h.list)
+            | inr ne ↦ has-there d h.list e (h.names.all e (sym (ap named_of (a.others e ne)) ∙ e_names))
+          ];
+          distinct = IsDistinct-cons dot_eq d h.list (all_apart d h.list (fresh (links_of T) (links_of N) d l a r h.list h.names)) h.names.distinct;
+        };
+      }
+      | inr apart ↦ record {
+        list = h.list;
+        chain = subst (λ (o : Option Dot). IsChain (λ q. next_in (N q)) o h.list) (sym (c.first_old r apart))
+            (IsChain-same (λ q. next_in (T q)) (λ q. next_in (N q)) (first_in (T r)) h.list h.chain frame);
+        names = record {
+          sound = kept;
+          all = λ e e_names. elim (cases_dots e d) [
+            | inl first ↦
+                let clash : Some p ≡ Some r = sym c.names ∙ (sym (ap named_of a.here) ∙ (sym (ap (λ (y : Dot). named_of (links_of N y)) first) ∙ e_names)) in
+                let other : p ≡ r = cc in
+                absurd (apart (sym other))
+            | inr ne ↦ h.names.all e (sym (ap named_of (a.others e ne)) ∙ e_names)
+          ];
+          distinct = h.names.distinct;
+        };
+      }
+    ]
+
+-- a code hangs below nothing
+pub Hangs-code : (T N : Rows) (d : Dot) → Adds (links_of T) (links_of N) d Code → ((q : Dot) → q ≢ d → N q ≡ T q) → ((q : Dot) → first_in (N q) ≡ first_in (T q)) → (r : Dot) → Hangs T r → Hangs N r
+Hangs-code T N d a apart first r h = record {
+  list = h.list;
+  chain = subst (λ (o : Option Dot). IsChain (λ q. next_in (N q)) o h.list) (sym (first r))
+      (IsChain-same (λ q. next_in (T q)) (λ q. next_in (N q)) (first_in (T r)) h.list h.chain (λ e e_in. ap next_in (apart e (not_fresh (links_of T) (links_of N) d Code a r h.list h.names e e_in))));
+  names = record {
+    sound = λ e e_in. ap named_of (a.others e (not_fresh (links_of T) (links_of N) d Code a r h.list h.names e e_in)) ∙ h.names.sound e e_in;
+    all = λ e names. elim (cases_dots e d) [
+      | inl same ↦ absurd (let clash : None ≡ Some r = sym (ap named_of a.here) ∙ (sym (ap (λ (y : Dot). named_of (links_of N y)) same) ∙ names) in cc)
+      | inr ne ↦ h.names.all e (sym (ap named_of (a.others e ne)) ∙ names)
+    ];
+    distinct = h.names.distinct;
+  };
+}

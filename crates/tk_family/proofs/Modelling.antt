@@ -1,0 +1,123 @@
+-- From the rows to the finite map and set that contracts see.
+use Rattle.std.proofs.Common.{◌≡◌, inl, inr, Bool, true, false, Option, None, Some, List, [], ap, sym, ◌∙◌, refl, subst, BTreeMap, Result, Ok, Err, IfOk, OnOk, OnErr, ◌||◌, Vec, Global, rules}
+use Rattle.std.specs.Cmp.{IsEquivalence, eq_by_cmp_equiv, Equal-is, both_ways}
+use Rattle.std.specs.Ordering.{eq_by_cmp}
+use Rattle.std.proofs.lemmas.Bool.{true≢false, or_left, or_right, or_cases}
+use Rattle.std.specs.declared.alloc.AllocError.{AllocError}
+use Rattle.std.specs.List.{IsDistinct}
+use Rattle.std.specs.FinMap as map
+use Rattle.std.specs.FinSet as set
+use Rattle.tk_handle.specs.declared.dot.Dot.{Dot}
+use Rattle.tk_handle.specs.declared.kind.Kind.{Kind}
+use Rattle.tk_handle.specs.declared.token_id.TokenId.{TokenId}
+use Rattle.tk_family.specs.Laws.{passing}
+use Rattle.tk_family.specs.declared.link.Link.{Link}
+use Rattle.tk_family.specs.declared.top.Top.{Top}
+use Rattle.tk_family.specs.declared.row.Row.{Row}
+use Rattle.tk_family.specs.Dots.{has}
+use Rattle.tk_family.specs.Families.{Links, use_of, IsUsed}
+use Rattle.tk_family.specs.Tops.{IsTop, IsRaised}
+use Rattle.tk_family.specs.Rows.{Rows, table, link_in, code_in, dead_in, first_in, used_in, again_in, links_of, marks_of, named_of}
+use Rattle.tk_family.specs.Kept.{Hangs, IsForest}
+use Rattle.tk_family.specs.Puts.{Puts, MarksOne}
+use Rattle.tk_family.specs.ForestFacts.{ForestFacts, links_at, marks_at}
+use Rattle.tk_family.specs.View.{seen, seen_links, seen_marks}
+use Rattle.tk_handle.specs.Dot.{dot_cmp_total, dot_cmp-IsAntisymmetric}
+use Rattle.tk_handle.specs.TokenId.{token_cmp}
+use Rattle.tk_family.proofs.Adding.{IsPath-here}
+use Rattle.tk_family.proofs.Viewing.{get-links, contains-marks, tokens_total, exact_tokens}
+
+links_ext : (f g : Links) → ((q : Dot) → f q ≡ g q) → f ≡ g
+links_ext f g h = λ i q. h q i
+
+marks_ext : (f g : TokenId → Bool) → ((k : TokenId) → f k ≡ g k) → f ≡ g
+marks_ext f g h = λ i k. h k i
+
+pub links_seen : (m : BTreeMap Dot Row) (v : ForestFacts) → seen m ≡ v → links_of (table m) ≡ links_at v
+links_seen m v is = links_ext (links_of (table m)) (links_at (seen m)) (λ q. sym (get-links m q)) ∙ ap links_at is
+
+pub marks_seen : (m : BTreeMap Dot Row) (v : ForestFacts) → seen m ≡ v → marks_of (table m) ≡ set.contains v.marks
+marks_seen m v is = marks_ext (marks_of (table m)) (set.contains (seen_marks m.entries)) (λ k. sym (contains-marks m k)) ∙ ap (λ (x : ForestFacts). set.contains x.marks) is
+
+pub top_seen : (m : BTreeMap Dot Row) (v : ForestFacts) → seen m ≡ v → (q : Dot) (t : Top) → IsTop (links_of (table m)) (passing (marks_of (table m))) q t → IsTop (links_at v) (marks_at v) q t
+top_seen m v is q t h = subst (λ (f : Links). IsTop f (marks_at v) q t) (links_seen m v is) (subst (λ (k : TokenId → Bool). IsTop (links_of (table m)) (passing k) q t) (marks_seen m v is) h)
+
+pub raised_seen : (m n : BTreeMap Dot Row) (v : ForestFacts) → seen m ≡ v → (q : Dot) → IsRaised (links_of (table m)) (links_of (table n)) q → IsRaised (links_at v) (links_at (seen n)) q
+raised_seen m n v is q h = subst (λ (f : Links). IsRaised f (links_at (seen n)) q) (links_seen m v is) (subst (λ (g : Links). IsRaised (links_of (table m)) g q) (links_seen n (seen n) refl) h)
+
+pub raised_back : (m n : BTreeMap Dot Row) (v : ForestFacts) → seen m ≡ v → (q : Dot) → IsRaised (links_at v) (links_at (seen n)) q → IsRaised (links_of (table m)) (links_of (table n)) q
+raised_back m n v is q h = subst (λ (f : Links). IsRaised f (links_of (table n)) q) (sym (links_seen m v is)) (subst (λ (g : Links). IsRaised (links_at v) g q) (sym (links_seen n (seen n) refl)) h)
+
+pub raised_all : (T N : Rows) (d : Dot) (l : Link) (ys : List Dot) → Puts T N d l ys → (q : Dot) → IsRaised (links_of T) (links_of N) q → has ys q ≡ true
+raised_all T N d l ys p q r = elim (p.no_other q r.code r.now) [ inl walked ↦ walked | inr before ↦ absurd (r.before r.code before) ]
+
+pub if_ok : (r : Result (Vec Dot Global) AllocError) (P Q : Vec Dot Global → Type 0) → IfOk r P → ((v : Vec Dot Global) → P v → Q v) → IfOk r Q
+if_ok (Ok v) P Q h f = f v h
+if_ok (Err e) P Q h f = tt
+
+-- ---- the forest with nothing
+
+no_names : (T : Rows) (p : Dot) → ((q : Dot) → T q ≡ None) → Hangs T p
+unfolding IsDistinct
+no_names T p h = record {
+  list = [];
+  chain = ap first_in (h p);
+  names = record {
+    sound = λ e e_in. absurd (true≢false (sym e_in));
+    all = λ e names. absurd (let clash : None ≡ Some p = sym (ap (λ (o : Option Row). named_of (link_in o)) (h e)) ∙ names in cc);
+    distinct = search rules;
+  };
+}
+
+no_flag : (F : Option Row → Kind → Bool) → ((k : Kind) → F None k ≡ false) → (T : Rows) → ((q : Dot) → T q ≡ None) → (q : Dot) (k : Kind) → F (T q) k ≡ true → ⊥
+no_flag F none T h q k yes' = true≢false (sym yes' ∙ (ap (λ (o : Option Row). F o k) (h q) ∙ none k))
+
+pub IsForest-empty : (T : Rows) → ((q : Dot) → T q ≡ None) → IsForest T
+IsForest-empty T h = record {
+  under = λ q c e. absurd (let clash : None ≡ Some c = sym (ap code_in (h q)) ∙ e in cc);
+  memo = λ q c u. absurd (IsPath-here (links_of T) q u.path c u.leads (ap link_in (h q)));
+  dead = λ c e. absurd (true≢false (sym e ∙ ap dead_in (h c)));
+  tomb = λ c x. absurd (IsPath-here (links_of T) x.member x.under.path c x.under.leads (ap link_in (h x.member)));
+  used = λ k e. absurd (no_flag used_in (λ j. refl) T h k.dot k.kind e);
+  uses = λ k u. absurd (let clash : None ≡ Some k = sym (ap (λ (o : Option Row). use_of (link_in o)) (h u.user)) ∙ u.by in cc);
+  again = λ k e. absurd (no_flag again_in (λ j. refl) T h k.dot k.kind e);
+  twice = λ k t. absurd (let clash : None ≡ Some k = sym (ap (λ (o : Option Row). use_of (link_in o)) (h t.one)) ∙ t.by_one in cc);
+  hangs = λ p. no_names T p h;
+}
+
+pub used_seen : (m : BTreeMap Dot Row) (v : ForestFacts) → seen m ≡ v → (k : TokenId) (b : Bool) → ((b ≡ true) → IsUsed (links_of (table m)) k) × (IsUsed (links_of (table m)) k → (b ≡ true)) → ((b ≡ true) → IsUsed (links_at v) k) × (IsUsed (links_at v) k → (b ≡ true))
+used_seen m v is k b h = subst (λ (f : Links). ((b ≡ true) → IsUsed f k) × (IsUsed f k → (b ≡ true))) (links_seen m v is) h
+
+-- ---- a mark
+
+tokens_equiv : IsEquivalence (eq_by_cmp token_cmp)
+tokens_equiv = eq_by_cmp_equiv tokens_total
+
+one_mark : (m n : BTreeMap Dot Row) (k : TokenId) → MarksOne (table m) (table n) k → (j : TokenId) → marks_of (table n) j ≡ (eq_by_cmp token_cmp j k || set.contains (seen_marks m.entries) j)
+one_mark m n k p j = both_ways (marks_of (table n) j) (eq_by_cmp token_cmp j k || set.contains (seen_marks m.entries) j)
+    (λ h. elim (p.new j h) [
+      | inl same ↦ or_left (eq_by_cmp token_cmp j k) (set.contains (seen_marks m.entries) j) (subst (λ (x : TokenId). eq_by_cmp token_cmp j x ≡ true) same (tokens_equiv.refl j))
+      | inr old ↦ or_right (eq_by_cmp token_cmp j k) (set.contains (seen_marks m.entries) j) (contains-marks m j ∙ old)
+    ])
+    (λ h. elim (or_cases (eq_by_cmp token_cmp j k) (set.contains (seen_marks m.entries) j) h) [
+      | inl same ↦ subst (λ (x : TokenId). marks_of (table n) x ≡ true) (sym (exact_tokens j k ((Equal-is (token_cmp j k)).0 same))) p.here
+      | inr old ↦ p.old j (sym (contains-marks m j) ∙ old)
+    ])
+
+pub marks_one : (m n : BTreeMap Dot Row) (k : TokenId) → MarksOne (table m) (table n) k → seen_marks n.entries ≡ set.insert (seen_marks m.entries) k
+marks_one m n k p = set.same_set tokens_total exact_tokens _ _ (λ j. contains-marks n j ∙ (one_mark m n k p j ∙ sym (set.contains-insert tokens_total (seen_marks m.entries) k j)))
+
+pub links_kept : (m n : BTreeMap Dot Row) → ((q : Dot) → links_of (table n) q ≡ links_of (table m) q) → seen_links n.entries ≡ seen_links m.entries
+links_kept m n h = map.same_map dot_cmp_total dot_cmp-IsAntisymmetric _ _ (λ q. get-links n q ∙ (h q ∙ sym (get-links m q)))
+
+pub unit_ok : (r : Result (Unit {0}) AllocError) (P Q : Type 0) → OnOk r P → (P → Q) → OnOk r Q
+unit_ok (Ok v) P Q h f = f h
+unit_ok (Err e) P Q h f = tt
+
+pub unit_err : (r : Result (Unit {0}) AllocError) (P Q : Type 0) → OnErr r P → (P → Q) → OnErr r Q
+unit_err (Ok v) P Q h f = tt
+unit_err (Err e) P Q h f = f h
+
+pub unit_both : (r : Result (Unit {0}) AllocError) (P Q R : Type 0) → OnOk r P → OnErr r Q → (P → R) → (Q → R) → R
+unit_both (Ok v) P Q R h k f g = f h
+unit_both (Err e) P Q R h k f g = g k

@@ -1,0 +1,24 @@
+use Rattle.std.proofs.Common.{OnErr, Result, Ok, Err}
+use Rattle.std.specs.declared.alloc.AllocError.{AllocError}
+use Rattle.tk_family.specs.Rows.{table}
+use Rattle.tk_family.specs.Puts.{NothingSeen}
+use Rattle.tk_family.proofs.Columns.{Alike-blank, Alike-same, NothingSeen-alike, present-blank}
+use Rattle.tk_family.proofs.Marking.{MarksOne-from, MarksOne-seen}
+use Rattle.tk_family.proofs.mark.mark_token.Goals as goal
+
+on_err : (P : Type 0) (r : Result (Unit {0}) AllocError) → P → OnErr r P
+on_err P (Ok u) p = tt
+on_err P (Err e) p = p
+
+pub returns-in_err-add_row-clause-err : goal.returns-in_err-add_row-clause-err
+returns-in_err-add_row-clause-err c =
+    let seen = NothingSeen-alike (table c.args.rows.now) (table c.add_row.new.rows) c.requires (Alike-same (table c.args.rows.now) (table c.add_row.new.rows) c.in_err-add_row.ensures.err) in
+    on_err (NothingSeen (table c.args.rows.now) (table c.add_row.new.rows)) c.from_residual.result seen
+
+pub returns-clause-ok : goal.returns-clause-ok
+returns-clause-ok c =
+    let T = table c.args.rows.now in
+    let M = table c.add_row.new.rows in
+    let seen = NothingSeen-alike T M c.requires (Alike-blank T M c.args.token.dot c.in_ok-add_row.ensures.ok) in
+    MarksOne-seen T M (table c.bury.new.rows) c.args.token seen
+    (MarksOne-from M (table c.set_marked.new.rows) (table c.bury.new.rows) c.args.token seen.forest (present-blank T M c.args.token.dot c.in_ok-add_row.ensures.ok) c.set_marked.ensures c.bury.ensures)

@@ -1,0 +1,15 @@
+use Rattle.std.proofs.Common.{[], ◌∷◌, ◌++◌, ap, ◌∙◌, take, sym, subst, List, ◌≡◌}
+use Rattle.std.proofs.lemmas.List.{take_more}
+use Rattle.tk_handle.specs.declared.dot.Dot.{Dot}
+use Rattle.tk_family.specs.Rows.{table}
+use Rattle.tk_family.specs.Writes.{settled}
+use Rattle.tk_family.proofs.Writing.{settled-more}
+use Rattle.tk_family.proofs.write.settle.Goals as goal
+
+pub loop-at-preserved : goal.loop-at-preserved
+loop-at-preserved c = λ q.
+    let i = c.loop-at.at-index in
+    let list : List Dot = c.args.list.now in
+    let at : Dot = c.at-item.result in
+    subst (λ (l : List Dot). table c.set_code.new.rows q ≡ settled (table c.args.rows.now) l c.args.code q) (sym (take_more list i at c.loop-at-test.true ∙ ap (λ (x : Dot). take i list ++ x ∷ []) (sym c.at-item.is)))
+    (settled-more (table c.args.rows.now) (table c.loop-at.rows) (table c.set_code.new.rows) (take i list) at c.args.code c.loop-at.invariant c.set_code.ensures q)

@@ -1,0 +1,113 @@
+//! Putting a link.
+
+ghost use Rattle.std.specs.Prelude.{◌≡◌, true, false, None, OnOk, OnErr, IfOk, IsSome, [], IsSorted};
+ghost use Rattle.tk_family.specs.Families.{named_by};
+ghost use Rattle.tk_family.specs.Kept.{IsForest};
+ghost use Rattle.tk_family.specs.Puts.{Gathers, Puts, NothingSeen};
+ghost use Rattle.tk_family.specs.Rows.{table, links_of};
+ghost use Rattle.tk_family.specs.Writes.{chain_code};
+ghost use Rattle.tk_handle.specs.Dot.{dot_cmp};
+ghost use Rattle.tk_handle.specs.declared.dot.Dot.{Dot as the_dot};
+
+use crate::gather::gather;
+use crate::link::{Link, named};
+use crate::look::{code_at, fits_above};
+use crate::row::Row;
+use crate::write::{add_row, bury, hang, raise};
+use std::alloc::{AllocError, Global};
+use std::collections::BTreeMap;
+use tk_handle::Dot;
+
+/// Makes the rows that a link at a dot needs. They say nothing yet.
+fn make_room(rows: &mut BTreeMap<Dot, Row>, dot: Dot, link: &Link) -> Result<(), AllocError>
+    requires { IsForest (table rows.old) }
+    ensures same { NothingSeen (table rows.old) (table rows.new) }
+    ensures own { OnOk result (IsSome (table rows.new dot)) }
+    ensures named { OnOk result ((p : the_dot) → named_by link.now ≡ Some p → IsSome (table rows.new p)) }
+{
+    add_row(rows, dot)?;
+    if let Some(above) = named(link) {
+        add_row(rows, above)?;
+    }
+    Ok(())
+}
+
+/// The code that a link comes under at a dot.
+fn code_for(rows: &BTreeMap<Dot, Row>, dot: Dot, link: &Link) -> Option<Dot>
+    ensures { result ≡ chain_code (table rows.now) dot link.now }
+{
+    let above = match link {
+        Link::Code => return Some(dot),
+        Link::Redeems(code) => *code,
+        Link::Rotates { parent, .. } => *parent,
+    };
+    if fits_above(rows, link, above) {
+        code_at(rows, above)
+    } else {
+        None
+    }
+}
+
+/// The dots that come under a code by a link, where its chain is whole. They are all the memory that a put needs beside
+/// its rows.
+fn answer(
+    alloc: Global,
+    rows: &BTreeMap<Dot, Row>,
+    dot: Dot,
+    link: &Link,
+    whole: bool,
+) -> Result<Vec<Dot>, AllocError>
+    requires forest { IsForest (table rows.now) }
+    requires row { IsSome (table rows.now dot) }
+    requires free { links_of (table rows.now) dot ≡ None }
+    ensures whole { IfOk result (λ ys. whole ≡ true → Gathers (links_of (table rows.now)) dot link.now ys.items) }
+    ensures waits { IfOk result (λ ys. whole ≡ false → ys.items ≡ []) }
+    ensures sorted { IfOk result (λ ys. IsSorted dot_cmp ys.items) }
+{
+    if !whole {
+        return Ok(Vec::new(alloc));
+    }
+    let mut dots = gather(alloc, rows, dot, link)?;
+    dots.sort_unstable();
+    Ok(dots)
+}
+
+/// Writes a link and all that follows from it. It takes no memory.
+fn write_put(rows: &mut BTreeMap<Dot, Row>, dot: Dot, link: &Link, code: Option<Dot>, dots: &[Dot])
+    requires forest { IsForest (table rows.old) }
+    requires free { links_of (table rows.old) dot ≡ None }
+    requires own { IsSome (table rows.old dot) }
+    requires named { (p : the_dot) → named_by link.now ≡ Some p → IsSome (table rows.old p) }
+    requires code { code ≡ chain_code (table rows.old) dot link.now }
+    requires whole { IsSome code → Gathers (links_of (table rows.old)) dot link.now dots.now }
+    requires waits { code ≡ None → dots.now ≡ [] }
+    ensures { Puts (table rows.old) (table rows.new) dot link.now dots.now }
+{
+    hang(rows, dot, link);
+    if let Some(code) = code {
+        raise(rows, dots, code);
+    }
+    if let Some(above) = named(link) {
+        bury(rows, above);
+    }
+}
+
+/// Puts a link, and answers the dots that come under a code by that, in order.
+pub fn put_link(
+    alloc: Global,
+    rows: &mut BTreeMap<Dot, Row>,
+    dot: Dot,
+    link: &Link,
+) -> Result<Vec<Dot>, AllocError>
+    requires forest { IsForest (table rows.old) }
+    requires free { links_of (table rows.old) dot ≡ None }
+    ensures ok { IfOk result (λ ys. Puts (table rows.old) (table rows.new) dot link.now ys.items) }
+    ensures sorted { IfOk result (λ ys. IsSorted dot_cmp ys.items) }
+    ensures err { OnErr result (NothingSeen (table rows.old) (table rows.new)) }
+{
+    make_room(rows, dot, link)?;
+    let code = code_for(rows, dot, link);
+    let dots = answer(alloc, rows, dot, link, code.is_some())?;
+    write_put(rows, dot, link, code, dots.as_slice());
+    Ok(dots)
+}

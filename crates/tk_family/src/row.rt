@@ -1,0 +1,162 @@
+//! What a forest keeps at a dot.
+
+ghost use Rattle.std.specs.Prelude.{◌≡◌, Some};
+ghost use Rattle.tk_family.specs.Rows.{is_some_use, is_often};
+ghost use Rattle.tk_family.specs.Writes.{once_more};
+
+use crate::link::Link;
+use tk_handle::{Dot, Kind};
+
+/// How many links use a token (own).
+#[derive(Clone, Copy, Debug, PartialEq, Eq)]
+pub enum Uses {
+    /// None.
+    Never,
+    /// One.
+    Once,
+    /// Two or more.
+    Often,
+}
+
+impl Uses {
+    /// One more.
+    pub fn more(self) -> Uses
+        ensures { result ≡ once_more self }
+    {
+        match self {
+            Uses::Never => Uses::Once,
+            Uses::Once => Uses::Often,
+            Uses::Often => Uses::Often,
+        }
+    }
+
+    /// One or more.
+    pub fn is_some(self) -> bool
+        ensures { result ≡ is_some_use self }
+    {
+        match self {
+            Uses::Never => false,
+            Uses::Once => true,
+            Uses::Often => true,
+        }
+    }
+
+    /// Two or more.
+    pub fn is_often(self) -> bool
+        ensures { result ≡ is_often self }
+    {
+        match self {
+            Uses::Never => false,
+            Uses::Once => false,
+            Uses::Often => true,
+        }
+    }
+}
+
+/// What is kept at a dot: its link, marks and uses, and what follows from all links and marks (own).
+#[derive(Clone, Copy, Debug)]
+pub struct Row {
+    /// What was put there.
+    pub link: Option<Link>,
+    /// The code that the dot is under.
+    pub code: Option<Dot>,
+    /// At a code: its family is dead. Set once, never taken back.
+    pub dead: bool,
+    /// The code at the dot is marked.
+    pub marked_code: bool,
+    /// The access token at the dot is marked.
+    pub marked_access: bool,
+    /// The refresh token at the dot is marked.
+    pub marked_refresh: bool,
+    /// How many links redeem the code at the dot.
+    pub redeemed: Uses,
+    /// How many links rotate the refresh token at the dot.
+    pub rotated: Uses,
+    /// The last dot whose link named this one.
+    pub first: Option<Dot>,
+    /// The dot before this one among those whose links name the same dot.
+    pub next: Option<Dot>,
+}
+
+impl Row {
+    ghost use Rattle.tk_family.specs.Writes.{blank, with_code, with_dead, with_put, with_redeemer, with_rotator, with_marked};
+
+    /// A row that says nothing but the link at its dot, if there is one.
+    pub fn new(link: Option<Link>) -> Row
+        ensures { result ≡ record blank { link = link } }
+    {
+        Row {
+            link,
+            code: None,
+            dead: false,
+            marked_code: false,
+            marked_access: false,
+            marked_refresh: false,
+            redeemed: Uses::Never,
+            rotated: Uses::Never,
+            first: None,
+            next: None,
+        }
+    }
+
+    /// The row under a code.
+    pub fn with_code(&self, code: Dot) -> Row
+        ensures { with_code (Some self.now) code ≡ Some result }
+    {
+        let mut row = *self;
+        row.code = Some(code);
+        row
+    }
+
+    /// The row of a code whose family is dead.
+    pub fn with_dead(&self) -> Row
+        ensures { with_dead (Some self.now) ≡ Some result }
+    {
+        let mut row = *self;
+        row.dead = true;
+        row
+    }
+
+    /// The row with a link, before another dot whose link names the same one.
+    pub fn with_link(&self, link: Link, next: Option<Dot>) -> Row
+        ensures { with_put (Some self.now) link next ≡ Some result }
+    {
+        let mut row = *self;
+        row.link = Some(link);
+        row.next = next;
+        row
+    }
+
+    /// The row whose code the link at a dot redeems.
+    pub fn redeemed_by(&self, dot: Dot) -> Row
+        ensures { with_redeemer (Some self.now) dot ≡ Some result }
+    {
+        let mut row = *self;
+        row.first = Some(dot);
+        row.redeemed = row.redeemed.more();
+        row
+    }
+
+    /// The row whose refresh token the link at a dot rotates.
+    pub fn rotated_by(&self, dot: Dot) -> Row
+        ensures { with_rotator (Some self.now) dot ≡ Some result }
+    {
+        let mut row = *self;
+        row.first = Some(dot);
+        row.rotated = row.rotated.more();
+        row
+    }
+
+    /// The row with the token of a kind marked.
+    pub fn marked_as(&self, kind: Kind) -> Row
+        ensures { with_marked (Some self.now) kind ≡ Some result }
+    {
+        let mut row = *self;
+        match kind {
+            Kind::Code => row.marked_code = true,
+            Kind::Access => row.marked_access = true,
+            Kind::Refresh => row.marked_refresh = true,
+        }
+        row
+    }
+}
