@@ -1,0 +1,386 @@
+//! Requests with two causes for a refusal, and which of them is told.
+
+use super::*;
+
+const TAKEN: &str = "reply 200";
+
+// The moment, endpoint and header, what stands before the token, the token, and what stands behind it; the answer.
+const TWO_CAUSES: [(&str, (&str, &str, &str, &str), &str, &str); 33] = [
+    (
+        "a name twice, and an unknown client",
+        (
+            "1020 POST /token -",
+            "grant_type=authorization_code&code=",
+            FREE_CODE,
+            "&code=x&client_id=c1-9&client_secret=s3cret",
+        ),
+        INVALID_REQUEST,
+        NOTHING_MADE,
+    ),
+    (
+        "a name twice, and a used code",
+        (
+            "1020 POST /token -",
+            "grant_type=authorization_code&code=",
+            USED_CODE,
+            "&scope=x&scope=x&client_id=c1-1&client_secret=s3cret",
+        ),
+        INVALID_REQUEST,
+        NOTHING_MADE,
+    ),
+    (
+        "two secrets, and an unknown client",
+        (
+            "1020 POST /token YzEtOTpzM2NyZXQ=",
+            "grant_type=authorization_code&code=",
+            FREE_CODE,
+            "&client_secret=s3cret",
+        ),
+        INVALID_REQUEST,
+        NOTHING_MADE,
+    ),
+    (
+        "two secrets, and a header that is unreadable",
+        (
+            "1020 POST /token !",
+            "grant_type=authorization_code&code=",
+            FREE_CODE,
+            "&client_secret=s3cret",
+        ),
+        INVALID_REQUEST,
+        NOTHING_MADE,
+    ),
+    (
+        "a wrong secret, and no grant type",
+        (
+            "1020 POST /token -",
+            "code=",
+            FREE_CODE,
+            "&client_id=c1-1&client_secret=0ther",
+        ),
+        INVALID_CLIENT,
+        NOTHING_MADE,
+    ),
+    (
+        "a wrong secret, and another grant type",
+        (
+            "1020 POST /token -",
+            "grant_type=password&code=",
+            FREE_CODE,
+            "&client_id=c1-1&client_secret=0ther",
+        ),
+        INVALID_CLIENT,
+        NOTHING_MADE,
+    ),
+    (
+        "a wrong secret, and a used code",
+        (
+            "1020 POST /token -",
+            "grant_type=authorization_code&code=",
+            USED_CODE,
+            "&client_id=c1-1&client_secret=0ther",
+        ),
+        INVALID_CLIENT,
+        NOTHING_MADE,
+    ),
+    (
+        "another grant type, and no code",
+        (
+            "1020 POST /token -",
+            "grant_type=password&refresh_token=",
+            REFRESH,
+            "&client_id=c1-1&client_secret=s3cret",
+        ),
+        UNSUPPORTED,
+        NOTHING_MADE,
+    ),
+    (
+        "another grant type, and a used code",
+        (
+            "1020 POST /token -",
+            "grant_type=password&code=",
+            USED_CODE,
+            "&client_id=c1-1&client_secret=s3cret",
+        ),
+        UNSUPPORTED,
+        NOTHING_MADE,
+    ),
+    (
+        "no refresh token, and a used code",
+        (
+            "1020 POST /token -",
+            "grant_type=refresh_token&code=",
+            USED_CODE,
+            "&client_id=c1-1&client_secret=s3cret",
+        ),
+        INVALID_REQUEST,
+        NOTHING_MADE,
+    ),
+    (
+        "a code as refresh token, and a scope beyond it",
+        (
+            "1020 POST /token -",
+            "grant_type=refresh_token&refresh_token=",
+            FREE_CODE,
+            "&client_id=c1-1&client_secret=s3cret&scope=admin",
+        ),
+        INVALID_GRANT,
+        NOTHING_MADE,
+    ),
+    (
+        "another client's refresh token, and a scope beyond it",
+        (
+            "1020 POST /token -",
+            "grant_type=refresh_token&refresh_token=",
+            REFRESH,
+            "&client_id=c1-2&client_secret=0ther&scope=admin",
+        ),
+        INVALID_GRANT,
+        NOTHING_MADE,
+    ),
+    // Nobody else can have a family killed.
+    (
+        "another client's used code",
+        (
+            "1020 POST /token -",
+            "grant_type=authorization_code&code=",
+            USED_CODE,
+            "&client_id=c1-2&client_secret=0ther",
+        ),
+        INVALID_GRANT,
+        NOTHING_MADE,
+    ),
+    (
+        "another client's used refresh token",
+        (
+            "1020 POST /token -",
+            "grant_type=refresh_token&refresh_token=",
+            USED_REFRESH,
+            "&client_id=c1-2&client_secret=0ther",
+        ),
+        INVALID_GRANT,
+        NOTHING_MADE,
+    ),
+    // A reuse is recorded whatever else is wrong with the request.
+    (
+        "a used code at its end",
+        (
+            "1060 POST /token -",
+            "grant_type=authorization_code&code=",
+            USED_CODE,
+            "&client_id=c1-1&client_secret=s3cret",
+        ),
+        INVALID_GRANT,
+        ONE_MADE,
+    ),
+    (
+        "a used code, and another URI",
+        (
+            "1020 POST /token -",
+            "grant_type=authorization_code&code=",
+            USED_CODE,
+            "&client_id=c1-1&client_secret=s3cret&redirect_uri=https%3A%2F%2Fapp.example%2Fcb%2F",
+        ),
+        INVALID_GRANT,
+        ONE_MADE,
+    ),
+    (
+        "a used code, and a verifier without a challenge",
+        (
+            "1020 POST /token -",
+            "grant_type=authorization_code&code=",
+            USED_CODE,
+            "&client_id=c1-1&client_secret=s3cret&code_verifier=aaaaaaaaaaaaaaaaaaaaaaaaaaaaaaaaaaaaaaaaaaa",
+        ),
+        INVALID_GRANT,
+        ONE_MADE,
+    ),
+    (
+        "a used refresh token at its end",
+        (
+            "87410 POST /token -",
+            "grant_type=refresh_token&refresh_token=",
+            USED_REFRESH,
+            "&client_id=c1-1&client_secret=s3cret",
+        ),
+        INVALID_GRANT,
+        ONE_MADE,
+    ),
+    (
+        "a used refresh token, and a scope beyond it",
+        (
+            "1020 POST /token -",
+            "grant_type=refresh_token&refresh_token=",
+            USED_REFRESH,
+            "&client_id=c1-1&client_secret=s3cret&scope=admin",
+        ),
+        INVALID_GRANT,
+        ONE_MADE,
+    ),
+    // But not once the family is over.
+    (
+        "a family that is over, and a used code",
+        (
+            "2593000 POST /token -",
+            "grant_type=authorization_code&code=",
+            USED_CODE,
+            "&client_id=c1-1&client_secret=s3cret",
+        ),
+        INVALID_GRANT,
+        NOTHING_MADE,
+    ),
+    (
+        "a family that is over, and a scope beyond it",
+        (
+            "2593000 POST /token -",
+            "grant_type=refresh_token&refresh_token=",
+            REFRESH,
+            "&client_id=c1-1&client_secret=s3cret&scope=admin",
+        ),
+        INVALID_GRANT,
+        NOTHING_MADE,
+    ),
+    (
+        "a refresh token at its end, and a scope beyond it",
+        (
+            "87415 POST /token -",
+            "grant_type=refresh_token&refresh_token=",
+            REFRESH,
+            "&client_id=c1-1&client_secret=s3cret&scope=admin",
+        ),
+        INVALID_GRANT,
+        NOTHING_MADE,
+    ),
+    (
+        "a question with a name twice, of an unknown client",
+        (
+            "1020 POST /introspect -",
+            "token=",
+            ACCESS,
+            "&token=x&client_id=c1-9&client_secret=s3cret",
+        ),
+        INVALID_REQUEST,
+        NOTHING_MADE,
+    ),
+    (
+        "a question with two secrets, of an unknown client",
+        (
+            "1020 POST /introspect YzEtOTpzM2NyZXQ=",
+            "token=",
+            ACCESS,
+            "&client_secret=s3cret",
+        ),
+        INVALID_REQUEST,
+        NOTHING_MADE,
+    ),
+    (
+        "a question with a name twice, of a public client",
+        (
+            "1020 POST /introspect -",
+            "token=",
+            ACCESS,
+            "&token=x&client_id=c1-3",
+        ),
+        INVALID_REQUEST,
+        NOTHING_MADE,
+    ),
+    (
+        "a question without token, of an unknown client",
+        (
+            "1020 POST /introspect -",
+            "code=",
+            ACCESS,
+            "&client_id=c1-9&client_secret=s3cret",
+        ),
+        INVALID_CLIENT,
+        NOTHING_MADE,
+    ),
+    (
+        "a question without token, of a public client",
+        (
+            "1020 POST /introspect -",
+            "code=",
+            ACCESS,
+            "&client_id=c1-3",
+        ),
+        INVALID_CLIENT,
+        NOTHING_MADE,
+    ),
+    (
+        "a revocation with a name twice, of an unknown client",
+        (
+            "1020 POST /revoke -",
+            "token=",
+            ACCESS,
+            "&token=x&client_id=c1-9&client_secret=s3cret",
+        ),
+        INVALID_REQUEST,
+        NOTHING_MADE,
+    ),
+    (
+        "a revocation with two secrets, of an unknown client",
+        (
+            "1020 POST /revoke YzEtOTpzM2NyZXQ=",
+            "token=",
+            ACCESS,
+            "&client_secret=s3cret",
+        ),
+        INVALID_REQUEST,
+        NOTHING_MADE,
+    ),
+    (
+        "a revocation without token, of an unknown client",
+        (
+            "1020 POST /revoke -",
+            "code=",
+            ACCESS,
+            "&client_id=c1-9&client_secret=s3cret",
+        ),
+        INVALID_CLIENT,
+        NOTHING_MADE,
+    ),
+    // A code can't be revoked, whoever asks.
+    (
+        "a code of another client, revoked",
+        (
+            "1020 POST /revoke -",
+            "token=",
+            FREE_CODE,
+            "&client_id=c1-2&client_secret=0ther",
+        ),
+        TAKEN,
+        NOTHING_MADE,
+    ),
+    // What has ended by itself is refused to nobody.
+    (
+        "an access token of another client, revoked at its end",
+        (
+            "4610 POST /revoke -",
+            "token=",
+            ACCESS,
+            "&client_id=c1-2&client_secret=0ther",
+        ),
+        TAKEN,
+        NOTHING_MADE,
+    ),
+    (
+        "a refresh token of another client, revoked at its end",
+        (
+            "87415 POST /revoke -",
+            "token=",
+            REFRESH,
+            "&client_id=c1-2&client_secret=0ther",
+        ),
+        TAKEN,
+        NOTHING_MADE,
+    ),
+];
+
+#[test]
+fn the_first_cause_is_told(rt: HostRuntime) -> Result<(), Fail> {
+    for (name, (to, before, token, behind), answer, held) in TWO_CAUSES {
+        let line = format!(in rt.alloc(); "req 1 {to} - {before}{token}{behind}")?;
+        run_request(&rt, name, line.as_str(), (answer, held))?;
+    }
+    Ok(())
+}
