@@ -35,6 +35,8 @@ reply 200 {"access_token":"AQIAAQAAAAAAAAAFAAAAAAAAADAAAAAAAAAAMQAAAAAAAAAy","ex
 const BY_ANOTHER: &str =
     "# Region 2 hasn't heard of the token, so it takes anybody's word and records it as that client's.
 req 2 1020 POST /revoke - - token=AQIAAQAAAAAAAAAFAAAAAAAAADAAAAAAAAAAMQAAAAAAAAAy&client_id=c1-2&client_secret=0ther
+# Again it makes no fact.
+req 2 1020 POST /revoke - - token=AQIAAQAAAAAAAAAFAAAAAAAAADAAAAAAAAAAMQAAAAAAAAAy&client_id=c1-2&client_secret=0ther
 pull 1 1:4 -
 deliver 1 2
 # The token came, and it is of another client: the revocation is without effect.
@@ -44,9 +46,14 @@ req 2 1030 POST /introspect - - token=AQMAAQAAAAAAAAAFAAAAAAAAADMAAAAAAAAANAAAAA
 req 2 1040 POST /revoke - - token=AQIAAQAAAAAAAAAFAAAAAAAAADAAAAAAAAAAMQAAAAAAAAAy&client_id=c1-2&client_secret=0ther
 req 2 1040 POST /introspect - - token=AQIAAQAAAAAAAAAFAAAAAAAAADAAAAAAAAAAMQAAAAAAAAAy&client_id=c1-1&client_secret=s3cret
 pull 2 - -
+# Its own client isn't hindered by what another one has said.
+req 2 1050 POST /revoke - - token=AQIAAQAAAAAAAAAFAAAAAAAAADAAAAAAAAAAMQAAAAAAAAAy&client_id=c1-1&client_secret=s3cret
+req 2 1050 POST /introspect - - token=AQIAAQAAAAAAAAAFAAAAAAAAADAAAAAAAAAAMQAAAAAAAAAy&client_id=c1-1&client_secret=s3cret
+pull 2 - -
 ";
 
 const BY_ANOTHER_TOLD: &str = r#"reply 200
+reply 200
 bundle 1 1 1:5 end
 took 1
 reply 200 {"active":true,"client_id":"c1-1","exp":4610,"iat":1010,"scope":"read write","sub":"ann","token_type":"Bearer"}
@@ -54,6 +61,9 @@ reply 200 {"active":true,"client_id":"c1-1","exp":87410,"iat":1010,"scope":"read
 reply 400 {"error":"invalid_grant"}
 reply 200 {"active":true,"client_id":"c1-1","exp":4610,"iat":1010,"scope":"read write","sub":"ann","token_type":"Bearer"}
 bundle 2 6 2:1 end
+reply 200
+reply 200 {"active":false}
+bundle 3 7 2:2 end
 "#;
 
 const BY_ITS_CLIENT: &str = "# The client of the token revokes it where it isn't known yet.

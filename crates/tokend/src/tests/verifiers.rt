@@ -52,8 +52,8 @@ const GRANTED: &str =
 
 const REFUSED: &str = r#"reply 400 {"error":"invalid_grant"}"#;
 
-// Challenges at their limits, without a method, which is plain; the verifier that comes; and what it is answered.
-const LIMITS: [(&str, &str, &str, &str); 6] = [
+// Challenges, plain where no method is named; the verifier that comes; and what it is answered.
+const LIMITS: [(&str, &str, &str, &str); 11] = [
     (
         "a challenge of 43 letters, and the same letters",
         "aaaaaaaaaaaaaaaaaaaaaaaaaaaaaaaaaaaaaaaaaaa",
@@ -90,10 +90,41 @@ const LIMITS: [(&str, &str, &str, &str); 6] = [
         "aaaaaaaaaaaaaaaaaaaaaaaaaaaaaaaaaaaaaaaaaaaaaaaaaaaaaaaaaaaaaaaaaaaaaaaaaaaaaaaaaaaaaaaaaaaaaaaaaaaaaaaaaaaaaaaaaaaaaaaaaaaaaaa",
         REFUSED,
     ),
+    // A verifier outside its limits meets nothing, whatever its digest is.
+    (
+        "a verifier of 42 letters, by its digest",
+        "elOGB_2quSlplZKfRRVlu7gULhhEEXMiqv0rPXawGv8&code_challenge_method=S256",
+        "aaaaaaaaaaaaaaaaaaaaaaaaaaaaaaaaaaaaaaaaaa",
+        REFUSED,
+    ),
+    (
+        "a verifier of 43 letters, by its digest",
+        "ZtNPunH49FD35FWYhT5Tv8I7vRKQJ8uxMaL0_9eHjNA&code_challenge_method=S256",
+        "aaaaaaaaaaaaaaaaaaaaaaaaaaaaaaaaaaaaaaaaaaa",
+        GRANTED,
+    ),
+    (
+        "a verifier of 128 letters, by its digest",
+        "aDbPE7rEAOkQUHHNavRwhN-srU5eMCyUv-0k4BOvtz4&code_challenge_method=S256",
+        "aaaaaaaaaaaaaaaaaaaaaaaaaaaaaaaaaaaaaaaaaaaaaaaaaaaaaaaaaaaaaaaaaaaaaaaaaaaaaaaaaaaaaaaaaaaaaaaaaaaaaaaaaaaaaaaaaaaaaaaaaaaaaaaa",
+        GRANTED,
+    ),
+    (
+        "a verifier of 129 letters, by its digest",
+        "wSywJKLlVRzKDgj86PHF4xRVXMP-9jKe6ZSj23UhZq4&code_challenge_method=S256",
+        "aaaaaaaaaaaaaaaaaaaaaaaaaaaaaaaaaaaaaaaaaaaaaaaaaaaaaaaaaaaaaaaaaaaaaaaaaaaaaaaaaaaaaaaaaaaaaaaaaaaaaaaaaaaaaaaaaaaaaaaaaaaaaaaaa",
+        REFUSED,
+    ),
+    (
+        "a verifier with another letter, by its digest",
+        "wKndM47rlC9NNlMoHfojTOcbWctYC-jOx5cIDYbikgg&code_challenge_method=S256",
+        "aaaaaaaaaaaaaaaaaaaaaaaaaaaaaaaaaaaaaaaaaa*",
+        REFUSED,
+    ),
 ];
 
 #[test]
-fn challenges_at_their_limits_are_met(rt: HostRuntime) -> Result<(), Fail> {
+fn challenges_and_verifiers_meet_within_their_limits(rt: HostRuntime) -> Result<(), Fail> {
     for (name, challenge, verifier, answer) in LIMITS {
         meet(&rt, name, challenge, verifier, answer)?;
     }
