@@ -1,6 +1,8 @@
 //! A family that is dead, withdrawn or revoked, and what its tokens are refused before the request is looked at.
 
-use super::*;
+use super::super::beginning::run_behind;
+use super::BEGUN;
+use std::test::Fail;
 
 const DEAD: &str =
     "req 1 1020 POST /token - - grant_type=authorization_code&code=AQEAAQAAAAAAAAAIAAAAAAAAADAAAAAAAAAAMQAAAAAAAAAy&client_id=c1-1&client_secret=s3cret

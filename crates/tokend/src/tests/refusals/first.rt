@@ -1,6 +1,10 @@
 //! Requests with two causes for a refusal, and which of them is told.
 
-use super::*;
+use super::{
+    ACCESS, FREE_CODE, INVALID_CLIENT, INVALID_GRANT, INVALID_REQUEST, NOTHING_MADE, ONE_MADE,
+    REFRESH, UNSUPPORTED, USED_CODE, USED_REFRESH, run_request,
+};
+use std::test::Fail;
 
 const TAKEN: &str = "reply 200";
 

@@ -1,6 +1,10 @@
 //! The refusals of `/introspect` in their order, and what it tells to whom (RFC 7662, 2).
 
-use super::*;
+use super::{
+    ACCESS, FREE_CODE, INVALID_CLIENT, INVALID_REQUEST, NOTHING_MADE, REFRESH, USED_REFRESH,
+    run_request,
+};
+use std::test::Fail;
 
 const ACCESS_ACTIVE: &str =
     r#"reply 200 {"active":true,"client_id":"c1-1","exp":4610,"iat":1010,"scope":"read write","sub":"ann","token_type":"Bearer"}"#;

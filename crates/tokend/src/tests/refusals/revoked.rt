@@ -1,6 +1,10 @@
 //! The refusals of `/revoke` in their order, and what makes no fact (RFC 7009, 2).
 
-use super::*;
+use super::{
+    ACCESS, FREE_CODE, INVALID_CLIENT, INVALID_GRANT, INVALID_REQUEST, NOTHING_MADE, ONE_MADE,
+    REFRESH, USED_REFRESH, run_request,
+};
+use std::test::Fail;
 
 const TAKEN: &str = "reply 200";
 

@@ -1,6 +1,10 @@
 //! The refusals of `/token` in their order, each of one request that is otherwise right (RFC 6749, 5.2).
 
-use super::*;
+use super::{
+    BOUND_CODE, FREE_CODE, INVALID_CLIENT, INVALID_GRANT, INVALID_REQUEST, INVALID_SCOPE,
+    NOTHING_MADE, ONE_MADE, UNSUPPORTED, run_request,
+};
+use std::test::Fail;
 
 const GRANTED: &str =
     r#"reply 200 {"access_token":"AQIAAQAAAAAAAAALAAAAAAAAAEIAAAAAAAAAQwAAAAAAAABE","expires_in":3600,"refresh_token":"AQMAAQAAAAAAAAALAAAAAAAAAEUAAAAAAAAARgAAAAAAAABH","scope":"read write","token_type":"Bearer"}"#;

@@ -1,6 +1,9 @@
 //! Codes and refresh tokens in each state, and what their use is answered.
 
-use super::*;
+use super::{
+    BROKEN, DEAD, ENDED, FREE_CODE, LIVE, REFRESH, State, USED, USED_CODE, WITHDRAWN, run_use,
+};
+use std::test::Fail;
 
 const REFUSED: &str = r#"reply 400 {"error":"invalid_grant"}"#;
 

@@ -1,6 +1,9 @@
 //! Access and refresh tokens in each state, and what is told of them.
 
-use super::*;
+use super::{
+    ACCESS, BROKEN, DEAD, ENDED, FREE_CODE, LIVE, REFRESH, State, USED, WITHDRAWN, run_use,
+};
+use std::test::Fail;
 
 const INACTIVE: &str = r#"reply 200 {"active":false}"#;
 

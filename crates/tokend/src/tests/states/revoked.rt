@@ -1,6 +1,9 @@
 //! Access and refresh tokens in each state, and whether their revocation is recorded.
 
-use super::*;
+use super::{
+    ACCESS, BROKEN, DEAD, ENDED, FREE_CODE, LIVE, REFRESH, State, USED, WITHDRAWN, run_use,
+};
+use std::test::Fail;
 
 // The tokens of 1:6, made for the refresh token of 1:5.
 const CHILD_ACCESS: &str = "AQIAAQAAAAAAAAAGAAAAAAAAADYAAAAAAAAANwAAAAAAAAA4";
