@@ -1,6 +1,7 @@
 //! Each refusal of the token endpoints, and which comes first.
 mod afterwards;
 mod first;
+mod first_asked;
 mod introspected;
 mod revoked;
 mod token;
@@ -81,4 +82,16 @@ fn run_request<R: AllocGlobal + Abort>(
     let lines = format!(in rt.alloc(); "{request}\npull 1 - -\n")?;
     let told = format!(in rt.alloc(); "{answer}\n{held}\n")?;
     run_behind(rt, &BEGUN, name, lines.as_str(), told.as_str())
+}
+
+// The same of a request whose moment, endpoint and header come first, then what stands before a token, the token, and what
+// stands behind it.
+fn run_parts<R: AllocGlobal + Abort>(
+    rt: &R,
+    name: &str,
+    (to, before, token, behind): (&str, &str, &str, &str),
+    told: (&str, &str),
+) -> Result<(), Fail> {
+    let request = format!(in rt.alloc(); "req 1 {to} - {before}{token}{behind}")?;
+    run_request(rt, name, request.as_str(), told)
 }
