@@ -1,12 +1,24 @@
 //! The program from its words and its input to its output, standard error and status.
+mod advance;
+mod beginning;
 mod command_line;
+mod cut_off;
 mod deliveries;
 mod devices;
 mod fakes;
+mod gone_elsewhere;
+mod header_credentials;
 mod lines;
 mod order;
+mod plain_path;
+mod public_client;
+mod refreshed_twice;
+mod refusals;
 mod replies;
 mod requests;
+mod rotation;
+mod states;
+mod verifiers;
 mod world;
 
 use crate::program::run_program;

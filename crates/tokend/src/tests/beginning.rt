@@ -1,0 +1,38 @@
+//! Scripts that begin alike.
+
+use super::{Row, run_row};
+use std::process::Abort;
+use std::test::Fail;
+
+/// How scripts begin: the program's words, the first lines, and what is printed of these. Each line ends with a line feed.
+#[derive(Clone, Copy)]
+pub(super) struct Beginning<'a> {
+    pub(super) words: &'a [&'a str],
+    pub(super) lines: &'a str,
+    pub(super) told: &'a str,
+}
+
+/// The words of a script without options.
+pub(super) const SCRIPT: [&str; 2] = ["tokend", "script"];
+
+/// Runs a script that begins so and goes on with these lines. What is printed goes on with `more_told`.
+pub(super) fn run_behind<R: AllocGlobal + Abort>(
+    rt: &R,
+    beginning: &Beginning<'_>,
+    name: &str,
+    more: &str,
+    more_told: &str,
+) -> Result<(), Fail> {
+    let (words, lines, told) = (beginning.words, beginning.lines, beginning.told);
+    let script = format!(in rt.alloc(); "{lines}{more}")?;
+    let output = format!(in rt.alloc(); "{told}{more_told}")?;
+    let row = Row {
+        name,
+        words,
+        input: script.as_bytes(),
+        output: output.as_str(),
+        faults: "",
+        status: 0,
+    };
+    run_row(rt, &row)
+}

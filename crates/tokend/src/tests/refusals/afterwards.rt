@@ -1,0 +1,79 @@
+//! A family that is dead, withdrawn or revoked, and what its tokens are refused before the request is looked at.
+
+use super::super::beginning::run_behind;
+use super::BEGUN;
+use std::test::Fail;
+
+const DEAD: &str =
+    "req 1 1020 POST /token - - grant_type=authorization_code&code=AQEAAQAAAAAAAAAIAAAAAAAAADAAAAAAAAAAMQAAAAAAAAAy&client_id=c1-1&client_secret=s3cret
+# The reuse is recorded, and the family is dead. From now on nothing of it makes a fact.
+req 1 1020 POST /token - - grant_type=authorization_code&code=AQEAAQAAAAAAAAAIAAAAAAAAADAAAAAAAAAAMQAAAAAAAAAy&client_id=c1-1&client_secret=s3cret
+req 1 1020 POST /token - - grant_type=refresh_token&refresh_token=AQMAAQAAAAAAAAAJAAAAAAAAADkAAAAAAAAAOgAAAAAAAAA7&client_id=c1-1&client_secret=s3cret
+req 1 1020 POST /token - - grant_type=refresh_token&refresh_token=AQMAAQAAAAAAAAAKAAAAAAAAAD8AAAAAAAAAQAAAAAAAAABB&client_id=c1-1&client_secret=s3cret&scope=admin
+req 1 1020 POST /revoke - - token=AQIAAQAAAAAAAAAJAAAAAAAAADYAAAAAAAAANwAAAAAAAAA4&client_id=c1-1&client_secret=s3cret
+# To revoke a dead token is no other client's affair.
+req 1 1020 POST /revoke - - token=AQIAAQAAAAAAAAAJAAAAAAAAADYAAAAAAAAANwAAAAAAAAA4&client_id=c1-2&client_secret=0ther
+pull 1 - -
+";
+
+const DEAD_TOLD: &str = r#"reply 400 {"error":"invalid_grant"}
+reply 400 {"error":"invalid_grant"}
+reply 400 {"error":"invalid_grant"}
+reply 400 {"error":"invalid_grant"}
+reply 200
+reply 200
+bundle 0 11 1:11 end
+"#;
+
+const WITHDRAWN: &str = "req 1 1020 POST /admin/withdraw - - consent_id=g1-5
+# A family without consent is refused before its reuse is seen, and before a scope is read.
+req 1 1020 POST /token - - grant_type=authorization_code&code=AQEAAQAAAAAAAAAIAAAAAAAAADAAAAAAAAAAMQAAAAAAAAAy&client_id=c1-1&client_secret=s3cret
+req 1 1020 POST /token - - grant_type=refresh_token&refresh_token=AQMAAQAAAAAAAAAJAAAAAAAAADkAAAAAAAAAOgAAAAAAAAA7&client_id=c1-1&client_secret=s3cret
+req 1 1020 POST /token - - grant_type=refresh_token&refresh_token=AQMAAQAAAAAAAAAKAAAAAAAAAD8AAAAAAAAAQAAAAAAAAABB&client_id=c1-1&client_secret=s3cret&scope=admin
+pull 1 - -
+# What it holds is still its client's, and nobody else's.
+req 1 1020 POST /revoke - - token=AQIAAQAAAAAAAAAJAAAAAAAAADYAAAAAAAAANwAAAAAAAAA4&client_id=c1-2&client_secret=0ther
+req 1 1020 POST /revoke - - token=AQIAAQAAAAAAAAAJAAAAAAAAADYAAAAAAAAANwAAAAAAAAA4&client_id=c1-1&client_secret=s3cret
+req 1 1020 POST /revoke - - token=AQIAAQAAAAAAAAAJAAAAAAAAADYAAAAAAAAANwAAAAAAAAA4&client_id=c1-1&client_secret=s3cret
+pull 1 - -
+";
+
+const WITHDRAWN_TOLD: &str = r#"reply 200 {"consent_id":"g1-5"}
+reply 400 {"error":"invalid_grant"}
+reply 400 {"error":"invalid_grant"}
+reply 400 {"error":"invalid_grant"}
+bundle 0 11 1:11 end
+reply 400 {"error":"invalid_grant"}
+reply 200
+reply 200
+bundle 1 12 1:12 end
+"#;
+
+const ENDED: &str =
+    "req 1 1020 POST /revoke - - token=AQIAAQAAAAAAAAAJAAAAAAAAADYAAAAAAAAANwAAAAAAAAA4&client_id=c1-1&client_secret=s3cret
+# It is revoked, and still of its client.
+req 1 1020 POST /revoke - - token=AQIAAQAAAAAAAAAJAAAAAAAAADYAAAAAAAAANwAAAAAAAAA4&client_id=c1-2&client_secret=0ther
+# Its client may say so again.
+req 1 1020 POST /revoke - - token=AQIAAQAAAAAAAAAJAAAAAAAAADYAAAAAAAAANwAAAAAAAAA4&client_id=c1-1&client_secret=s3cret
+pull 1 - -
+";
+
+const ENDED_TOLD: &str = r#"reply 200
+reply 400 {"error":"invalid_grant"}
+reply 200
+bundle 0 11 1:11 end
+"#;
+
+const AFTERWARDS: [(&str, &str, &str); 3] = [
+    ("a dead family", DEAD, DEAD_TOLD),
+    ("a family without consent", WITHDRAWN, WITHDRAWN_TOLD),
+    ("a revoked access token", ENDED, ENDED_TOLD),
+];
+
+#[test]
+fn a_state_comes_before_what_is_wrong_with_the_request(rt: HostRuntime) -> Result<(), Fail> {
+    for (name, lines, told) in AFTERWARDS {
+        run_behind(&rt, &BEGUN, name, lines, told)?;
+    }
+    Ok(())
+}
