@@ -1,5 +1,6 @@
 //! The program from its words and its input to its output, standard error and status.
 mod advance;
+mod afterwards;
 mod beginning;
 mod command_line;
 mod cut_off;
@@ -13,7 +14,6 @@ mod order;
 mod plain_path;
 mod public_client;
 mod refreshed_twice;
-mod refusals;
 mod replies;
 mod requests;
 mod rotation;

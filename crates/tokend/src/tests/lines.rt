@@ -45,14 +45,17 @@ static FORMS: [(&str, &[u8]); 31] = [
         b"req 1 1000 GET /admin/retire?client_id=c1-1 - - -",
     ),
     (
-        "a token request",
-        b"req 1 1000 POST /token - - grant_type=x",
+        "a token request by GET",
+        b"req 1 1000 GET /token?grant_type=x - - -",
     ),
     (
-        "an introspection",
-        b"req 1 1000 POST /introspect - - token=x",
+        "an introspection by GET",
+        b"req 1 1000 GET /introspect?token=x - - -",
     ),
-    ("a revocation", b"req 1 1000 POST /revoke - - token=x"),
+    (
+        "a revocation by GET",
+        b"req 1 1000 GET /revoke?token=x - - -",
+    ),
     ("client with too few fields", b"client 1 1000 public - read"),
     (
         "client with too many fields",

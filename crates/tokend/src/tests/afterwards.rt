@@ -1,8 +1,40 @@
 //! A family that is dead, withdrawn or revoked, and what its tokens are refused before the request is looked at.
 
-use super::super::beginning::run_behind;
-use super::BEGUN;
+use super::beginning::{Beginning, SCRIPT, run_behind};
 use std::test::Fail;
+
+// The clients c1-1 and c1-2, with secrets, the public client c1-3 and the resource server c1-4; and three codes of c1-1.
+const BEGUN: Beginning<'static> = Beginning {
+    words: &SCRIPT,
+    lines: BEGUN_LINES,
+    told: BEGUN_TOLD,
+};
+
+const BEGUN_LINES: &str = "open 1
+client 1 1000 confidential s3cret read+write https://app.example/cb
+client 1 1000 confidential 0ther read https://other.example/cb
+client 1 1000 public - read https://public.example/cb
+client 1 1000 resource s3rver read https://api.example/
+req 1 1000 POST /admin/consent - - client_id=c1-1&subject=ann&scope=read+write
+req 1 1000 GET /authorize?response_type=code&client_id=c1-1&redirect_uri=https%3A%2F%2Fapp.example%2Fcb&code_challenge=aaaaaaaaaaaaaaaaaaaaaaaaaaaaaaaaaaaaaaaaaaa - ann -
+req 1 1000 GET /authorize?response_type=code&client_id=c1-1 - ann -
+req 1 1000 GET /authorize?response_type=code&client_id=c1-1 - ann -
+req 1 1010 POST /token - - grant_type=authorization_code&code=AQEAAQAAAAAAAAAIAAAAAAAAADAAAAAAAAAAMQAAAAAAAAAy&client_id=c1-1&client_secret=s3cret
+req 1 1015 POST /token - - grant_type=refresh_token&refresh_token=AQMAAQAAAAAAAAAJAAAAAAAAADkAAAAAAAAAOgAAAAAAAAA7&client_id=c1-1&client_secret=s3cret
+";
+
+const BEGUN_TOLD: &str = r#"opened 1
+reply 201 {"client_id":"c1-1"}
+reply 201 {"client_id":"c1-2"}
+reply 201 {"client_id":"c1-3"}
+reply 201 {"client_id":"c1-4"}
+reply 201 {"consent_id":"g1-5"}
+reply 302 https://app.example/cb?code=AQEAAQAAAAAAAAAGAAAAAAAAACQAAAAAAAAAJQAAAAAAAAAm
+reply 302 https://app.example/cb?code=AQEAAQAAAAAAAAAHAAAAAAAAACoAAAAAAAAAKwAAAAAAAAAs
+reply 302 https://app.example/cb?code=AQEAAQAAAAAAAAAIAAAAAAAAADAAAAAAAAAAMQAAAAAAAAAy
+reply 200 {"access_token":"AQIAAQAAAAAAAAAJAAAAAAAAADYAAAAAAAAANwAAAAAAAAA4","expires_in":3600,"refresh_token":"AQMAAQAAAAAAAAAJAAAAAAAAADkAAAAAAAAAOgAAAAAAAAA7","scope":"read write","token_type":"Bearer"}
+reply 200 {"access_token":"AQIAAQAAAAAAAAAKAAAAAAAAADwAAAAAAAAAPQAAAAAAAAA-","expires_in":3600,"refresh_token":"AQMAAQAAAAAAAAAKAAAAAAAAAD8AAAAAAAAAQAAAAAAAAABB","scope":"read write","token_type":"Bearer"}
+"#;
 
 const DEAD: &str =
     "req 1 1020 POST /token - - grant_type=authorization_code&code=AQEAAQAAAAAAAAAIAAAAAAAAADAAAAAAAAAAMQAAAAAAAAAy&client_id=c1-1&client_secret=s3cret
