@@ -1,5 +1,5 @@
--- What `put` and `mark` do to look-ups, for the crates above: from a finite map and a finite set to what stands at each dot
--- and which tokens are marked.
+-- What the calls of a forest do to look-ups, for the crates above: from a finite map and a finite set to what stands at each
+-- dot and which tokens are marked.
 use Rattle.std.proofs.Common.{◌≡◌, ◌||◌, cond, Some, ap, ◌∙◌}
 use Rattle.std.specs.FinMap as map
 use Rattle.std.specs.FinSet as set
@@ -9,7 +9,12 @@ use Rattle.tk_handle.specs.declared.token_id.TokenId.{TokenId}
 use Rattle.tk_handle.specs.Dot.{dot_cmp, dot_cmp_total}
 use Rattle.tk_handle.specs.TokenId.{token_cmp}
 use Rattle.tk_family.specs.declared.link.Link.{Link}
+use Rattle.tk_family.specs.declared.top.Top.{Top}
+use Rattle.tk_family.specs.declared.top.Top.TheVariants.{Absent, Broken, Code, Dead}
 use Rattle.tk_family.specs.Dots.{dot_eq}
+use Rattle.tk_family.specs.Families.{Links, Marks, MarksWithin}
+use Rattle.tk_family.specs.Tops.{IsTop}
+use Rattle.tk_family.proofs.FamilyLaws.{IsDead-within}
 use Rattle.tk_family.proofs.Viewing.{tokens_total}
 
 -- the link that was put stands at its dot, and the others where they stood
@@ -19,3 +24,10 @@ link_put m n d l h q = ap (λ (x : map.FinMap dot_cmp Link). map.get x q) h ∙ 
 -- the token that was marked is marked, and so are those that were
 pub mark_put : (s t : set.FinSet token_cmp) (j : TokenId) → t ≡ set.insert s j → (k : TokenId) → set.contains t k ≡ (eq_by_cmp token_cmp k j || set.contains s k)
 mark_put s t j h k = ap (λ (x : set.FinSet token_cmp). set.contains x k) h ∙ set.contains-insert tokens_total s j k
+
+-- marks that say the same of each token give the same tops
+pub IsTop-marks : (f : Links) (m n : Marks) → MarksWithin m n → MarksWithin n m → (d : Dot) (t : Top) → IsTop f m d t → IsTop f n d t
+IsTop-marks f m n there back d Absent h = h
+IsTop-marks f m n there back d Broken h = h
+IsTop-marks f m n there back d (Code c) h = (h.0, λ dead. h.1 (IsDead-within f f n m (λ q l at. at) back c dead))
+IsTop-marks f m n there back d (Dead c) h = (h.0, IsDead-within f f m n (λ q l at. at) there c h.1)
