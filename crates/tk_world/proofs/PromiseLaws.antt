@@ -2,34 +2,29 @@
 --   tells_of_sets       each introspection reply of a run is told by the set that its region holds then
 --   introspect_alike    equal sets introspect alike
 --   revoked_inactive, families_inactive   what is never told again
-use Rattle.std.proofs.Common.{◌≡◌, ℕ, zero, suc, List, [], ◌∷◌, take, slice_get, Some, None, unwrap_or, refl, sym, ap, subst, ◌∙◌}
+use Rattle.std.proofs.Common.{◌≡◌, ℕ, zero, suc, List, [], ◌∷◌, take, slice_get, Some, unwrap_or, refl, sym, ap, subst, ◌∙◌}
 use Rattle.std.specs.FinMap as map
-use Rattle.tk_handle.specs.declared.dot.Dot.{Dot}
 use Rattle.tk_handle.specs.declared.handle.Handle.{Handle}
-use Rattle.tk_family.specs.Families.{IsUnder, IsBad}
-use Rattle.tk_store.specs.FactSet.{FactSet, Facts, IsSubset}
+use Rattle.tk_store.specs.FactSet.{FactSet, Facts}
 use Rattle.tk_store.specs.Store.{facts_of}
-use Rattle.tk_store.specs.Joining.{JoinsFacts}
 use Rattle.tk_store.proofs.PutLaws.{none_is_not_some, some_injective}
 use Rattle.tk_ledger.specs.Status.{IsActive}
-use Rattle.tk_ledger.specs.Tokens.{links_in, IsEnded, IsMarked}
 use Rattle.tk_ledger.proofs.FamilyEnds as ends
 use Rattle.tk_message.specs.declared.request.Endpoint.{Endpoint}
 use Rattle.tk_message.specs.declared.request.Endpoint.TheVariants.{Introspect}
-use Rattle.tk_message.specs.ReplyFields.{ReplyFields}
 use Rattle.tk_message.specs.RequestFields.{RequestFields}
 use Rattle.tk_query.specs.Introspection.{introspection_of}
 use Rattle.tk_query.proofs.ActiveLaws.{says_nothing}
-use Rattle.tk_region.specs.Decision.{decision_by, capped}
+use Rattle.tk_region.specs.Decision.{decision_by}
 use Rattle.tk_region.specs.RegionFields.{RegionFields, place_in}
 use Rattle.tk_region.specs.Step.{prepared_of, prepared_by}
 use Rattle.tk_world.specs.declared.event.Event.{Event}
-use Rattle.tk_world.specs.declared.event.Event.TheVariants.{Open, Request, Pull, Deliver}
+use Rattle.tk_world.specs.declared.event.Event.TheVariants.{Request}
 use Rattle.tk_world.specs.declared.event.Outcome.{Outcome}
-use Rattle.tk_world.specs.declared.event.Outcome.TheVariants.{Opened, NumberTaken, NoRegion, NoBundle, Reply, Bundle, Took, Memory}
-use Rattle.tk_world.specs.Promises.{held_before, IsIntrospected, TellsOfSets, IntrospectAlike, IsInactive, RevokedInactive, FamiliesInactive}
+use Rattle.tk_world.specs.declared.event.Outcome.TheVariants.{Reply}
+use Rattle.tk_world.specs.Promises.{held_before, TellsOfSets, IntrospectAlike, IsInactive, RevokedInactive, FamiliesInactive}
 use Rattle.tk_world.specs.State.{State, facts_in, region_with}
-use Rattle.tk_world.specs.World.{Step, Run, seen_by}
+use Rattle.tk_world.specs.World.{Step, Run}
 use Rattle.tk_world.proofs.RunLaws.{run_joins}
 
 -- ---- one event of a run
