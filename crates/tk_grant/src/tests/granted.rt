@@ -4,9 +4,8 @@ use super::{decided, is_reply, ledger};
 use std::process::Abort;
 use std::test::Fail;
 use tk_fact::Fact;
-use tk_handle::{Dot, RegionNumber};
 
-// What is sent, when, the status and the body of the reply, and the bytes of the fact at 1:7.
+// What is sent, when, the status and the body of the reply, and the bytes of the fact, as it would stand at 1:7.
 const MADE: [(&str, &str, u64, u16, &str, &[u8]); 5] = [
     (
         "a code with a challenge",
@@ -57,14 +56,9 @@ fn a_grant_makes_a_fact(rt: HostRuntime) -> Result<(), Fail> {
     for (name, form, now, status, body, bytes) in MADE {
         let decision = decided(alloc, &ledger, now, form)?;
         is_reply(&rt, name, &decision, status, body);
-        let region = RegionNumber::new(1).ok_or("a region")?;
-        let dot = Dot::new(region, 7).ok_or("a dot")?;
-        match decision.made {
-            Some(body) => {
-                let want = Fact::read(alloc, bytes)?;
-                let made = Fact { dot, body };
-                assert!(rt; made.same(&want), "fact of {name}");
-            }
+        let want = Fact::read(alloc, bytes)?;
+        match &decision.made {
+            Some(made) => assert!(rt; made.same(&want.body), "fact of {name}"),
             None => assert!(rt; false, "{name} makes a fact"),
         }
     }

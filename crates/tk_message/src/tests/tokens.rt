@@ -11,10 +11,10 @@ use tk_fact::Subject;
 use tk_handle::{Dot, Handle, Kind, Moment, RegionNumber, TokenId};
 use tk_scope::Scope;
 
-fn handle(kind: Kind, word: u64) -> Result<Handle, Fail> {
+fn handle(kind: Kind, words: [u64; 3]) -> Result<Handle, Fail> {
     let region = RegionNumber::new(1).ok_or("a region")?;
     let dot = Dot::new(region, 4).ok_or("a dot")?;
-    Ok(Handle::mint(TokenId { dot, kind }, [word, word + 1, word + 2]))
+    Ok(Handle::mint(TokenId { dot, kind }, words))
 }
 
 // How long the access token lasts, and the reply, with the texts of the handles as another program encodes them.
@@ -37,8 +37,8 @@ const GIVEN: [(u64, &str); 3] = [
 fn tokens_are_given_with_their_scope(rt: HostRuntime) -> Result<(), Fail> {
     let alloc = rt.alloc();
     let scope = Scope::read(alloc, b"write read")?;
-    let access = handle(Kind::Access, 24)?;
-    let refresh = handle(Kind::Refresh, 27)?;
+    let access = handle(Kind::Access, [24, 25, 26])?;
+    let refresh = handle(Kind::Refresh, [27, 28, 29])?;
     for (lifetime, body) in GIVEN {
         let reply = token_reply(alloc, &access, lifetime, &refresh, &scope)?;
         is_json(&rt, "tokens", &reply, 200, body);

@@ -6,7 +6,7 @@ use std::alloc::Global;
 use std::process::Abort;
 use std::test::Fail;
 use tk_fact::Fact;
-use tk_handle::{Dot, Moment, RegionNumber, Serial};
+use tk_handle::{Moment, RegionNumber, Serial};
 use tk_ledger::Ledger;
 use tk_message::{Decision, Endpoint, Lives, Place};
 
@@ -26,7 +26,7 @@ fn revoked(alloc: Global, ledger: &Ledger, now: u64, form: &str) -> Result<Decis
     Ok(decide_revoke(alloc, ledger, &place, now, &request)?)
 }
 
-// What is sent, when, and the bytes of the fact at 1:9.
+// What is sent, when, and the bytes of the fact, as it would stand at 1:9.
 const MADE: [(&str, &str, u64, &[u8]); 6] = [
     (
         "an access token",
@@ -73,14 +73,9 @@ fn a_revocation_makes_a_fact(rt: HostRuntime) -> Result<(), Fail> {
     for (name, form, now, bytes) in MADE {
         let decision = revoked(alloc, &ledger, now, form)?;
         is_reply(&rt, name, &decision, 200, "");
-        let region = RegionNumber::new(1).ok_or("a region")?;
-        let dot = Dot::new(region, 9).ok_or("a dot")?;
-        match decision.made {
-            Some(body) => {
-                let want = Fact::read(alloc, bytes)?;
-                let made = Fact { dot, body };
-                assert!(rt; made.same(&want), "fact of {name}");
-            }
+        let want = Fact::read(alloc, bytes)?;
+        match &decision.made {
+            Some(made) => assert!(rt; made.same(&want.body), "fact of {name}"),
             None => assert!(rt; false, "{name} makes a fact"),
         }
     }
