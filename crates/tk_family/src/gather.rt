@@ -48,7 +48,7 @@ fn link_with(rows: &BTreeMap<Dot, Row>, dot: Dot, link: &Link, at: Dot) -> Optio
 
 /// What will be under the code that a dot is under, once a link is put there: the dot, and all that hangs below it by
 /// fitting links. Nothing is changed.
-pub fn gather(
+pub(crate) fn gather(
     alloc: Global,
     rows: &BTreeMap<Dot, Row>,
     dot: Dot,

@@ -12,7 +12,7 @@ use std::collections::BTreeMap;
 use tk_handle::{Dot, Kind};
 
 /// The link at a dot.
-pub fn link_at(rows: &BTreeMap<Dot, Row>, dot: Dot) -> Option<Link>
+pub(crate) fn link_at(rows: &BTreeMap<Dot, Row>, dot: Dot) -> Option<Link>
     ensures { result ≡ link_in (table rows.now dot) }
 {
     match rows.get(&dot) {
@@ -22,7 +22,7 @@ pub fn link_at(rows: &BTreeMap<Dot, Row>, dot: Dot) -> Option<Link>
 }
 
 /// The code that a dot is under.
-pub fn code_at(rows: &BTreeMap<Dot, Row>, dot: Dot) -> Option<Dot>
+pub(crate) fn code_at(rows: &BTreeMap<Dot, Row>, dot: Dot) -> Option<Dot>
     ensures { result ≡ code_in (table rows.now dot) }
 {
     match rows.get(&dot) {
@@ -32,7 +32,7 @@ pub fn code_at(rows: &BTreeMap<Dot, Row>, dot: Dot) -> Option<Dot>
 }
 
 /// The first of the dots whose links name a dot.
-pub fn first_at(rows: &BTreeMap<Dot, Row>, dot: Dot) -> Option<Dot>
+pub(crate) fn first_at(rows: &BTreeMap<Dot, Row>, dot: Dot) -> Option<Dot>
     ensures { result ≡ first_in (table rows.now dot) }
 {
     match rows.get(&dot) {
@@ -42,7 +42,7 @@ pub fn first_at(rows: &BTreeMap<Dot, Row>, dot: Dot) -> Option<Dot>
 }
 
 /// The dot after a dot among those whose links name the same one.
-pub fn next_at(rows: &BTreeMap<Dot, Row>, dot: Dot) -> Option<Dot>
+pub(crate) fn next_at(rows: &BTreeMap<Dot, Row>, dot: Dot) -> Option<Dot>
     ensures { result ≡ next_in (table rows.now dot) }
 {
     match rows.get(&dot) {
@@ -52,7 +52,7 @@ pub fn next_at(rows: &BTreeMap<Dot, Row>, dot: Dot) -> Option<Dot>
 }
 
 /// The link at a dot, and the code that the dot is under.
-pub fn seen_at(rows: &BTreeMap<Dot, Row>, dot: Dot) -> (Option<Link>, Option<Dot>)
+pub(crate) fn seen_at(rows: &BTreeMap<Dot, Row>, dot: Dot) -> (Option<Link>, Option<Dot>)
     ensures link { result.0 ≡ link_in (table rows.now dot) }
     ensures code { result.1 ≡ code_in (table rows.now dot) }
 {
@@ -63,7 +63,7 @@ pub fn seen_at(rows: &BTreeMap<Dot, Row>, dot: Dot) -> (Option<Link>, Option<Dot
 }
 
 /// Whether the family of the code at a dot is dead.
-pub fn dead_at(rows: &BTreeMap<Dot, Row>, dot: Dot) -> bool
+pub(crate) fn dead_at(rows: &BTreeMap<Dot, Row>, dot: Dot) -> bool
     ensures { result ≡ dead_in (table rows.now dot) }
 {
     match rows.get(&dot) {
@@ -73,7 +73,7 @@ pub fn dead_at(rows: &BTreeMap<Dot, Row>, dot: Dot) -> bool
 }
 
 /// Whether a link uses the token of a kind at a dot.
-pub fn used_at(rows: &BTreeMap<Dot, Row>, dot: Dot, kind: Kind) -> bool
+pub(crate) fn used_at(rows: &BTreeMap<Dot, Row>, dot: Dot, kind: Kind) -> bool
     ensures { result ≡ used_in (table rows.now dot) kind }
 {
     match rows.get(&dot) {
@@ -87,7 +87,7 @@ pub fn used_at(rows: &BTreeMap<Dot, Row>, dot: Dot, kind: Kind) -> bool
 }
 
 /// Whether the code or refresh token of the link at a dot is marked, or used twice.
-pub fn is_bad(rows: &BTreeMap<Dot, Row>, at: Dot) -> bool
+pub(crate) fn is_bad(rows: &BTreeMap<Dot, Row>, at: Dot) -> bool
     ensures { result ≡ bad_in (table rows.now at) }
 {
     match rows.get(&at) {
@@ -101,14 +101,14 @@ pub fn is_bad(rows: &BTreeMap<Dot, Row>, at: Dot) -> bool
 }
 
 /// Whether that is so at a dot of a list.
-pub fn is_any_bad(rows: &BTreeMap<Dot, Row>, list: &[Dot]) -> bool
+pub(crate) fn is_any_bad(rows: &BTreeMap<Dot, Row>, list: &[Dot]) -> bool
     ensures { result ≡ list_any (λ q. bad_in (table rows.now q)) list.now }
 {
     list.iter().any(|at| is_bad(rows, *at))
 }
 
 /// Whether the link at a dot fits the link above it.
-pub fn fits_below(rows: &BTreeMap<Dot, Row>, dot: Dot, above: &Link) -> bool
+pub(crate) fn fits_below(rows: &BTreeMap<Dot, Row>, dot: Dot, above: &Link) -> bool
     ensures { result ≡ fits_at (link_in (table rows.now dot)) above.now }
 {
     match link_at(rows, dot) {
@@ -118,7 +118,7 @@ pub fn fits_below(rows: &BTreeMap<Dot, Row>, dot: Dot, above: &Link) -> bool
 }
 
 /// Whether a link fits the link at a dot.
-pub fn fits_above(rows: &BTreeMap<Dot, Row>, link: &Link, above: Dot) -> bool
+pub(crate) fn fits_above(rows: &BTreeMap<Dot, Row>, link: &Link, above: Dot) -> bool
     ensures { result ≡ fits_over link.now (link_in (table rows.now above)) }
 {
     match link_at(rows, above) {

@@ -12,7 +12,7 @@ use std::collections::BTreeMap;
 use tk_handle::{Dot, TokenId};
 
 /// Marks a token: it is bad.
-pub fn mark_token(rows: &mut BTreeMap<Dot, Row>, token: TokenId) -> Result<(), AllocError>
+pub(crate) fn mark_token(rows: &mut BTreeMap<Dot, Row>, token: TokenId) -> Result<(), AllocError>
     requires { IsForest (table rows.old) }
     ensures ok { OnOk result (MarksOne (table rows.old) (table rows.new) token) }
     ensures err { OnErr result (NothingSeen (table rows.old) (table rows.new)) }

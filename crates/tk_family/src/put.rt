@@ -93,7 +93,7 @@ fn write_put(rows: &mut BTreeMap<Dot, Row>, dot: Dot, link: &Link, code: Option<
 }
 
 /// Puts a link, and answers the dots that come under a code by that, in order.
-pub fn put_link(
+pub(crate) fn put_link(
     alloc: Global,
     rows: &mut BTreeMap<Dot, Row>,
     dot: Dot,

@@ -9,7 +9,7 @@ use tk_handle::{Dot, Kind};
 
 /// How many links use a token (own).
 #[derive(Clone, Copy, Debug, PartialEq, Eq)]
-pub enum Uses {
+pub(crate) enum Uses {
     /// None.
     Never,
     /// One.
@@ -20,7 +20,7 @@ pub enum Uses {
 
 impl Uses {
     /// One more.
-    pub fn more(self) -> Uses
+    pub(crate) fn more(self) -> Uses
         ensures { result ≡ once_more self }
     {
         match self {
@@ -31,7 +31,7 @@ impl Uses {
     }
 
     /// One or more.
-    pub fn is_some(self) -> bool
+    pub(crate) fn is_some(self) -> bool
         ensures { result ≡ is_some_use self }
     {
         match self {
@@ -42,7 +42,7 @@ impl Uses {
     }
 
     /// Two or more.
-    pub fn is_often(self) -> bool
+    pub(crate) fn is_often(self) -> bool
         ensures { result ≡ is_often self }
     {
         match self {
@@ -55,7 +55,7 @@ impl Uses {
 
 /// What is kept at a dot: its link, marks and uses, and what follows from all links and marks (own).
 #[derive(Clone, Copy, Debug)]
-pub struct Row {
+pub(crate) struct Row {
     /// What was put there.
     pub link: Option<Link>,
     /// The code that the dot is under.
@@ -82,7 +82,7 @@ impl Row {
     ghost use Rattle.tk_family.specs.Writes.{blank, with_code, with_dead, with_put, with_redeemer, with_rotator, with_marked};
 
     /// A row that says nothing but the link at its dot, if there is one.
-    pub fn new(link: Option<Link>) -> Row
+    pub(crate) fn new(link: Option<Link>) -> Row
         ensures { result ≡ record blank { link = link } }
     {
         Row {
@@ -100,7 +100,7 @@ impl Row {
     }
 
     /// The row under a code.
-    pub fn with_code(&self, code: Dot) -> Row
+    pub(crate) fn with_code(&self, code: Dot) -> Row
         ensures { with_code (Some self.now) code ≡ Some result }
     {
         let mut row = *self;
@@ -109,7 +109,7 @@ impl Row {
     }
 
     /// The row of a code whose family is dead.
-    pub fn with_dead(&self) -> Row
+    pub(crate) fn with_dead(&self) -> Row
         ensures { with_dead (Some self.now) ≡ Some result }
     {
         let mut row = *self;
@@ -118,7 +118,7 @@ impl Row {
     }
 
     /// The row with a link, before another dot whose link names the same one.
-    pub fn with_link(&self, link: Link, next: Option<Dot>) -> Row
+    pub(crate) fn with_link(&self, link: Link, next: Option<Dot>) -> Row
         ensures { with_put (Some self.now) link next ≡ Some result }
     {
         let mut row = *self;
@@ -128,7 +128,7 @@ impl Row {
     }
 
     /// The row whose code the link at a dot redeems.
-    pub fn redeemed_by(&self, dot: Dot) -> Row
+    pub(crate) fn redeemed_by(&self, dot: Dot) -> Row
         ensures { with_redeemer (Some self.now) dot ≡ Some result }
     {
         let mut row = *self;
@@ -138,7 +138,7 @@ impl Row {
     }
 
     /// The row whose refresh token the link at a dot rotates.
-    pub fn rotated_by(&self, dot: Dot) -> Row
+    pub(crate) fn rotated_by(&self, dot: Dot) -> Row
         ensures { with_rotator (Some self.now) dot ≡ Some result }
     {
         let mut row = *self;
@@ -148,7 +148,7 @@ impl Row {
     }
 
     /// The row with the token of a kind marked.
-    pub fn marked_as(&self, kind: Kind) -> Row
+    pub(crate) fn marked_as(&self, kind: Kind) -> Row
         ensures { with_marked (Some self.now) kind ≡ Some result }
     {
         let mut row = *self;

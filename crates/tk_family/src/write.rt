@@ -14,7 +14,7 @@ use std::collections::BTreeMap;
 use tk_handle::{Dot, Kind};
 
 /// Makes a row that says nothing, where there is none.
-pub fn add_row(rows: &mut BTreeMap<Dot, Row>, at: Dot) -> Result<(), AllocError>
+pub(crate) fn add_row(rows: &mut BTreeMap<Dot, Row>, at: Dot) -> Result<(), AllocError>
     ensures ok { OnOk result ((q : the_dot) → table rows.new q ≡ (if dot_eq at q then or_blank (table rows.old q) else table rows.old q)) }
     ensures err { OnErr result ((q : the_dot) → table rows.new q ≡ table rows.old q) }
     ensures present { IsSome (table rows.old at) → IsOk result }
@@ -86,7 +86,7 @@ fn set_rotator(rows: &mut BTreeMap<Dot, Row>, at: Dot, dot: Dot)
 }
 
 /// Writes that the token of a kind is marked.
-pub fn set_marked(rows: &mut BTreeMap<Dot, Row>, at: Dot, kind: Kind)
+pub(crate) fn set_marked(rows: &mut BTreeMap<Dot, Row>, at: Dot, kind: Kind)
     ensures { (q : the_dot) → table rows.new q ≡ (if dot_eq at q then with_marked (table rows.old q) kind else table rows.old q) }
 {
     if let Some(row) = rows.get(&at) {
@@ -96,7 +96,7 @@ pub fn set_marked(rows: &mut BTreeMap<Dot, Row>, at: Dot, kind: Kind)
 }
 
 /// Kills the family that a dot is in, if its token is bad.
-pub fn bury(rows: &mut BTreeMap<Dot, Row>, at: Dot)
+pub(crate) fn bury(rows: &mut BTreeMap<Dot, Row>, at: Dot)
     ensures { (q : the_dot) → table rows.new q ≡ buried (table rows.old) at q }
 {
     if is_bad(rows, at) {
@@ -107,7 +107,7 @@ pub fn bury(rows: &mut BTreeMap<Dot, Row>, at: Dot)
 }
 
 /// Writes the code at each dot of a list.
-pub fn settle(rows: &mut BTreeMap<Dot, Row>, list: &[Dot], code: Dot)
+pub(crate) fn settle(rows: &mut BTreeMap<Dot, Row>, list: &[Dot], code: Dot)
     ensures { (q : the_dot) → table rows.new q ≡ settled (table rows.old) list.now code q }
 {
     for at in list {
@@ -116,7 +116,7 @@ pub fn settle(rows: &mut BTreeMap<Dot, Row>, list: &[Dot], code: Dot)
 }
 
 /// Writes the code at each dot of a list, and the tombstone at the code if one of their tokens is bad.
-pub fn raise(rows: &mut BTreeMap<Dot, Row>, list: &[Dot], code: Dot)
+pub(crate) fn raise(rows: &mut BTreeMap<Dot, Row>, list: &[Dot], code: Dot)
     ensures { (q : the_dot) → table rows.new q ≡ raised (table rows.old) list.now code q }
 {
     settle(rows, list, code);
@@ -126,7 +126,7 @@ pub fn raise(rows: &mut BTreeMap<Dot, Row>, list: &[Dot], code: Dot)
 }
 
 /// Writes a link, and hangs it below the dot that it names.
-pub fn hang(rows: &mut BTreeMap<Dot, Row>, dot: Dot, link: &Link)
+pub(crate) fn hang(rows: &mut BTreeMap<Dot, Row>, dot: Dot, link: &Link)
     ensures { (q : the_dot) → table rows.new q ≡ hung (table rows.old) dot link.now q }
 {
     match link {
