@@ -9,6 +9,7 @@ ghost use Rattle.tk_grant.specs.Gate as spec;
 ghost use Rattle.tk_grant.specs.SoundGate.{IsSoundGate};
 
 use crate::refusal::Refusal;
+use tk_family::Steps;
 use tk_handle::{Dot, Handle, Kind, Moment, TokenId};
 use tk_ledger::{Ledger, Standing, State, Status};
 
@@ -76,7 +77,8 @@ fn gate_by_handle<'a>(
         dot: handle.id.dot,
         kind,
     };
-    gate_by_status(now, id, client, ledger.status(now, handle))
+    let status = ledger.status(now, handle, &mut Steps::new());
+    gate_by_status(now, id, client, status)
 }
 
 fn gate_by_status<'a>(now: Moment, id: TokenId, client: Dot, status: Status<'a>) -> Gate<'a>

@@ -25,7 +25,7 @@ use Rattle.tk_ledger.proofs.ClientLaws.{gives_parts, gives_from, unwithdrawn_of,
 -- ---- one fact
 
 -- a fact that passes the test is a consent for the scope
-consents_sound : (F : FactSet) (client : Dot) (subject scope : List ℕ) (d : Dot) (b : Body) → map.get F d ≡ Some b → consents F client subject scope (d, b) ≡ true → IsConsentFor (map.get F) client subject scope d
+pub consents_sound : (F : FactSet) (client : Dot) (subject scope : List ℕ) (d : Dot) (b : Body) → map.get F d ≡ Some b → consents F client subject scope (d, b) ≡ true → IsConsentFor (map.get F) client subject scope d
 consents_sound F client subject scope d (ConsentGiven c) held h =
     let p = and_parts (grants client subject scope (Some c)) (not (is_withdrawn F d)) h in
     let q = and_parts (gives client subject (Some c)) (is_within scope c.scope) p.0 in
@@ -37,7 +37,7 @@ consents_sound F client subject scope d (ConsentGiven c) held h =
 consents_sound F client subject scope d body held h = absurd (true≢false (sym h))
 
 -- a consent for the scope passes the test
-consents_complete : (F : FactSet) (client : Dot) (subject scope : List ℕ) (d : Dot) (x : IsConsentFor (map.get F) client subject scope d) → consents F client subject scope (d, ConsentGiven x.live.consent) ≡ true
+pub consents_complete : (F : FactSet) (client : Dot) (subject scope : List ℕ) (d : Dot) (x : IsConsentFor (map.get F) client subject scope d) → consents F client subject scope (d, ConsentGiven x.live.consent) ≡ true
 consents_complete F client subject scope d x = and_from _ _
     (and_from _ _
     (gives_from client subject x.live.consent x.live.client_is x.live.subject_is)

@@ -1,8 +1,16 @@
+pub mod BeginningLaws
+pub mod ChangeLaws
 pub mod ClientLaws
 pub mod ConsentLaws
+pub mod EndingLaws
 pub mod FamilyEnds
+pub mod ForestLaws
+pub mod KeyLaws
 pub mod SameLaws
+pub mod SpanLaws
 pub mod StandingLaws
 pub mod StatusCases
 pub mod StatusLaws
+pub mod TableLaws
 pub mod TokenLaws
+pub mod TopLaws

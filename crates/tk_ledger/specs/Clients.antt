@@ -138,6 +138,10 @@ grants client subject scope (Some consent) = gives client subject (Some consent)
 abbrev pub consents : FactSet → Dot → List ℕ → List ℕ → Dot × Body → Bool
 consents F client subject scope f = grants client subject scope (given_in f.1) && not (is_withdrawn F f.0)
 
+-- such a consent was given at the dot
+abbrev pub serves : FactSet → Dot → List ℕ → List ℕ → Dot → Bool
+serves F client subject scope d = grants client subject scope (consent_at F d) && not (is_withdrawn F d)
+
 -- the first of these, by dot
 abbrev pub consent_for : FactSet → Dot → List ℕ → List ℕ → Option Dot
 consent_for F client subject scope = option_map dot_of (find (consents F client subject scope) (map.entries F))

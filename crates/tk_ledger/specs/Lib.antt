@@ -7,9 +7,15 @@
 --   Standings        what holds of every standing
 --   Ends             what ends a whole family
 --   Laws             what holds of all sets of facts
+--   Changes          what one fact changes in the tables
+--   Index            the tables beside the facts, which answer as the set does
+--   ByTop            where a token stands, by what a forest's top says
 pub mod Bodies
+pub mod ByTop
+pub mod Changes
 pub mod Clients
 pub mod Ends
+pub mod Index
 pub mod Laws
 pub mod StandingFields
 pub mod Standings

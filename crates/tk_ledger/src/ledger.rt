@@ -1,26 +1,38 @@
 //! The ledger: its facts, and what they are asked.
 
+use crate::index::Index;
+use std::alloc::Global;
 use std::marker::Model;
 use tk_store::FactStore;
 
 /// A set of facts, and what it says of clients, consents and tokens. Contracts see the set alone.
+///
+/// With n facts, `add` costs O(log n) for each dot that comes under a code by the fact and for each link that names one
+/// of these. `client`, `consent`, `revoked` and `status` make a fixed number of look-ups, of O(log n) each, and
+/// `consent_for` one for each consent of the subject to the client. None of them takes memory.
 #[derive(Debug, Drop)]
 pub struct Ledger {
-    store: FactStore,
+    pub(crate) store: FactStore,
+    pub(crate) index: Index,
+    // Where copies for a join are made.
+    pub(crate) alloc: Global,
 }
 
 impl Model for Ledger {
     ghost use Rattle.tk_store.specs.FactSet.{coded_facts};
-    ghost use Rattle.tk_store.specs.Store.{Store};
+    ghost use Rattle.tk_store.specs.Store.{Store, facts_of};
+    ghost use Rattle.tk_ledger.specs.Index.{IsIndexed};
 
     ghost Value = { Store };
 
     ghost coded = { coded_facts };
 
     ghost view = { λ l. l.store };
+
+    ghost invariant = { λ l. IsIndexed (facts_of l.store) l.index };
 }
 
-ghost use Rattle.std.specs.Prelude.{◌≡◌, ◌≢◌, ◌↔◌, None, IsTrue};
+ghost use Rattle.std.specs.Prelude.{◌≡◌, ◌≢◌, ◌↔◌, ◌+◌, ◌^◌, ◌<◌, ◌≤◌, None, IsTrue};
 ghost use Rattle.std.specs.FinMap as map;
 ghost use Rattle.tk_handle.specs.declared.kind.Kind.TheVariants as kind;
 ghost use Rattle.tk_fact.specs.Check.{refusal_of};
@@ -28,19 +40,20 @@ ghost use Rattle.tk_store.specs.Adding.{Adds};
 ghost use Rattle.tk_store.specs.Store.{facts_of};
 ghost use Rattle.tk_ledger.specs.Clients as clients_of;
 ghost use Rattle.tk_ledger.specs.Ends.{FamilyEnds};
+ghost use Rattle.tk_ledger.specs.Index.{IsIndexed};
 ghost use Rattle.tk_ledger.specs.Standings.{IsSound};
 ghost use Rattle.tk_ledger.specs.Status.{status_in, IsActive, IsKnown, IsKnownToken, IsLive, Says};
 ghost use Rattle.tk_ledger.specs.Tokens.{is_revoked, IsEnded, IsRevoked};
 ghost use Rattle.tk_ledger.specs.Views.{client_view, consent_view};
 
+use crate::change::change_of;
 use crate::client_view::ClientView;
 use crate::consent_view::ConsentView;
-use crate::plain::{
-    find_consent, is_revoked as is_revoked_by, of_handle, view_client, view_consent,
-};
+use crate::index::follow;
+use crate::revocations;
 use crate::status::Status;
-use std::alloc::Global;
 use tk_fact::{Fact, Subject};
+use tk_family::Steps;
 use tk_handle::{Dot, Handle, Moment, TokenId};
 use tk_scope::Scope;
 use tk_store::{AddError, Added};
@@ -52,6 +65,8 @@ impl Ledger {
     {
         Ledger {
             store: FactStore::new(alloc),
+            index: Index::new(alloc),
+            alloc,
         }
     }
 
@@ -60,7 +75,10 @@ impl Ledger {
         requires { refusal_of fact.1 ≡ None }
         ensures { Adds self.old fact result self.new }
     {
-        self.store.add(fact)
+        if self.store.get(fact.dot).is_some() {
+            return self.store.add(fact);
+        }
+        add_new(&mut self.store, &mut self.index, fact)
     }
 
     /// The facts themselves.
@@ -74,14 +92,30 @@ impl Ledger {
     pub fn client(&self, dot: Dot) -> Option<ClientView<'_>>
         ensures { result ≡ client_view (facts_of self.now) dot }
     {
-        view_client(&self.store, dot)
+        match self.added_at(dot) {
+            Some(client) => Some(ClientView {
+                sort: &client.sort,
+                scope: &client.scope,
+                redirects: &client.redirects,
+                live: self.has_live_client(dot),
+            }),
+            None => None,
+        }
     }
 
     /// The consent that was given at the dot, withdrawn or not (RFC 6749, 4.1).
     pub fn consent(&self, dot: Dot) -> Option<ConsentView<'_>>
         ensures { result ≡ consent_view (facts_of self.now) dot }
     {
-        view_consent(&self.store, dot)
+        match self.given_at(dot) {
+            Some(consent) => Some(ConsentView {
+                client: consent.client,
+                subject: &consent.subject,
+                scope: &consent.scope,
+                live: !self.has_withdrawn(dot),
+            }),
+            None => None,
+        }
     }
 
     /// The least dot of a live consent of the client and subject whose scope includes the scope, if any.
@@ -89,7 +123,7 @@ impl Ledger {
         ensures value { result ≡ clients_of.consent_for (facts_of self.now) client subject.now scope.now }
         ensures least { clients_of.IsLeastConsent (map.get (facts_of self.now)) client subject.now scope.now result }
     {
-        find_consent(&self.store, client, subject, scope)
+        self.first_consent(client, subject, scope)
     }
 
     /// Whether a fact says that the client revoked the token of this digest, SHA-256 of a handle (RFC 7009, 2.1). Whether
@@ -98,11 +132,12 @@ impl Ledger {
         ensures value { result ≡ is_revoked (facts_of self.now) token.now digest.now client }
         ensures meaning { IsTrue result ↔ IsRevoked (map.get (facts_of self.now)) token.now digest.now client }
     {
-        is_revoked_by(&self.store, token, digest, client)
+        revocations::is_revoked(&self.index.revocations, token, digest, client)
     }
 
-    /// Where the token of a handle stands at the moment. From its end on a token is past, and a family over.
-    pub fn status(&self, now: Moment, handle: &Handle) -> Status<'_>
+    /// Where the token of a handle stands at the moment, by one to eight look-ups, which are counted. From its end on a
+    /// token is past, and a family over.
+    pub fn status(&self, now: Moment, handle: &Handle, steps: &mut Steps) -> Status<'_>
         ensures value { result ≡ status_in (facts_of self.now) now handle.now }
 
         // What each of the four says. Known is said of exactly the tokens that are minted, with the handle's digest, and
@@ -123,8 +158,35 @@ impl Ledger {
 
         // The subject of a standing is one, and the family of a live token ends after the moment.
         ensures sound { IsSound now result }
+
+        // At every generation, however many facts are held. Near its greatest number a count may stay.
+        ensures at_least { steps.old + 8 < 2 ^ 64 → steps.old + 1 ≤ steps.new }
+        ensures at_most { steps.new ≤ steps.old + 8 }
     {
         self.store.known();
-        of_handle(&self.store, now, handle)
+        self.of_handle(now, handle, steps)
+    }
+}
+
+// Adds a fact at a dot that is free: to the facts first, then where they are kept by what is asked. Where memory is refused
+// there, it comes out of the facts again.
+fn add_new(store: &mut FactStore, index: &mut Index, fact: Fact) -> Result<Added, AddError>
+    requires free { map.get (facts_of store.old) fact.0 ≡ None }
+    requires passes { refusal_of fact.1 ≡ None }
+    requires indexed { IsIndexed (facts_of store.old) index.old }
+    ensures adds { Adds store.old fact result store.new }
+    ensures indexed { IsIndexed (facts_of store.new) index.new }
+{
+    let dot = fact.dot;
+    let change = change_of(&fact.body);
+    match store.add(fact) {
+        Ok(added) => match follow(store, index, dot, &change) {
+            Ok(()) => Ok(added),
+            Err(_) => {
+                store.take_back(dot);
+                Err(AddError::Memory)
+            }
+        },
+        Err(error) => Err(error),
     }
 }

@@ -11,12 +11,24 @@
 //! them. The functions of `laws` have empty bodies: they are laws of these definitions, stated in specs/Laws.antt.
 #![tactic(auto)]
 
+mod change;
+mod client_rows;
 mod client_view;
+mod clients;
+mod compare;
+mod consent_keys;
 mod consent_view;
+mod consents;
+mod index;
+mod join;
 mod laws;
 mod ledger;
-mod plain;
+mod looks;
+mod revocations;
+mod root;
+mod standing;
 mod status;
+mod wake;
 
 pub use client_view::ClientView;
 pub use consent_view::ConsentView;
@@ -26,6 +38,9 @@ pub use laws::{
 };
 pub use ledger::Ledger;
 pub use status::{Standing, State, Status};
+
+#[cfg(test)]
+mod plain;
 
 #[cfg(test)]
 mod tests;

@@ -1,17 +1,20 @@
 //! What is said of the tokens of a family, whatever the order in which its facts come.
 
 mod facts;
+mod generated;
+mod long;
 mod orders;
 mod views;
 
-use crate::{Ledger, Standing, State, Status};
+use crate::{Standing, State, Status};
 use facts::{
     Place, client_added, client_retired, code_issued, code_redeemed, consent_given,
     consent_withdrawn, dot, handle, moment, refresh_rotated, reuse_seen, token_revoked,
 };
-use orders::{Said, add, first_miss, in_order, in_short};
+use orders::{Both, Said, add, first_miss, in_order, in_short};
 use std::alloc::Global;
 use std::test::Fail;
+use tk_family::Steps;
 use tk_handle::{Dot, Handle, Kind};
 
 const DEAD: Said = Said::Known(State::Dead);
@@ -226,20 +229,20 @@ fn a_reuse_that_was_seen_kills_its_family(rt: HostRuntime) -> Result<(), Fail> {
 }
 
 // The ledger of a family with one rotation, and one fact more.
-fn after(alloc: Global, last: &[u8]) -> Result<Ledger, Fail> {
+fn after(alloc: Global, last: &[u8]) -> Result<Both, Fail> {
     let mut facts = before_grants(alloc)?;
     facts.push(code_redeemed(alloc, (1, 4), (1, 3), (42, 45))?)?;
     facts.push(refresh_rotated(alloc, (1, 5), ((1, 4), 1), (54, 57))?)?;
-    let mut ledger = in_order(alloc, &facts, 0)?;
-    add(alloc, &mut ledger, last)?;
-    Ok(ledger)
+    let mut both = in_order(alloc, &facts, 0)?;
+    add(alloc, &mut both, last)?;
+    Ok(both)
 }
 
 // What is said of the family's last access token once that fact is held too.
 fn said_after(alloc: Global, last: &[u8]) -> Result<Said, Fail> {
     let token = handle((1, 5), Kind::Access, 54)?;
-    let ledger = after(alloc, last)?;
-    in_short(&ledger, 1_020, &token)
+    let both = after(alloc, last)?;
+    in_short(&both, 1_020, &token)
 }
 
 #[test]
@@ -284,9 +287,9 @@ fn ends_begin_at_their_moment(rt: HostRuntime) -> Result<(), Fail> {
         ("used", used, 90_000, OVER),
         ("access", access, 253_402_300_799, OVER),
     ];
-    let ledger = after(alloc, &client_added(alloc, (2, 1))?)?;
+    let both = after(alloc, &client_added(alloc, (2, 1))?)?;
     for (row, token, now, want) in rows {
-        assert!(rt; in_short(&ledger, now, &token)? == want, "{row} at {now}");
+        assert!(rt; in_short(&both, now, &token)? == want, "{row} at {now}");
     }
     Ok(())
 }
@@ -308,8 +311,8 @@ fn a_standing_tells_what_was_minted(rt: HostRuntime) -> Result<(), Fail> {
     let alloc = rt.alloc();
     let (now, token) = (moment(1_020)?, handle((1, 5), Kind::Access, 54)?);
     let (client, code) = (dot(CLIENT)?, dot((1, 3))?);
-    let ledger = after(alloc, &client_added(alloc, (2, 1))?)?;
-    let is_known = match ledger.status(now, &token) {
+    let both = after(alloc, &client_added(alloc, (2, 1))?)?;
+    let is_known = match both.ledger.status(now, &token, &mut Steps::new()) {
         Status::Known(standing) => is_as_minted(&standing, client, code),
         _ => false,
     };
@@ -320,7 +323,7 @@ fn a_standing_tells_what_was_minted(rt: HostRuntime) -> Result<(), Fail> {
 #[test]
 fn a_handle_is_wrong_by_its_kind_or_its_digest(rt: HostRuntime) -> Result<(), Fail> {
     let alloc = rt.alloc();
-    let ledger = after(alloc, &client_added(alloc, (2, 1))?)?;
+    let both = after(alloc, &client_added(alloc, (2, 1))?)?;
     for (place, kind, word, want) in [
         ((1, 4), Kind::Access, 42, LIVE),
         ((1, 4), Kind::Access, 43, Said::Wrong),
@@ -332,7 +335,7 @@ fn a_handle_is_wrong_by_its_kind_or_its_digest(rt: HostRuntime) -> Result<(), Fa
         ((9, 9), Kind::Code, 24, Said::Unseen),
     ] {
         let handle = handle(place, kind, word)?;
-        assert_eq!(rt; in_short(&ledger, 1_020, &handle)?, want, "{handle:?}");
+        assert_eq!(rt; in_short(&both, 1_020, &handle)?, want, "{handle:?}");
     }
     Ok(())
 }

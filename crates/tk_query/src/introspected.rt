@@ -21,6 +21,7 @@ ghost use Rattle.tk_query.specs.Introspected as spec;
 
 use crate::refusal::Refusal;
 use tk_fact::Sort;
+use tk_family::Steps;
 use tk_handle::{Dot, Handle, Kind, Moment};
 use tk_ledger::{Ledger, State, Status};
 use tk_message::{Caller, Params};
@@ -90,8 +91,14 @@ fn introspect_handle<'a>(
 {
     match handle.id.kind {
         Kind::Code => Introspected::Inactive,
-        Kind::Access => by_status(sort, asker, Kind::Access, ledger.status(now, handle)),
-        Kind::Refresh => by_status(sort, asker, Kind::Refresh, ledger.status(now, handle)),
+        Kind::Access => {
+            let status = ledger.status(now, handle, &mut Steps::new());
+            by_status(sort, asker, Kind::Access, status)
+        }
+        Kind::Refresh => {
+            let status = ledger.status(now, handle, &mut Steps::new());
+            by_status(sort, asker, Kind::Refresh, status)
+        }
     }
 }
 

@@ -21,6 +21,7 @@ ghost use Rattle.tk_query.specs.SoundRevocation.{IsSoundRevocation};
 
 use crate::idle::Idle;
 use crate::refusal::Refusal;
+use tk_family::Steps;
 use tk_handle::{Dot, Handle, Kind, Moment, RegionNumber, TokenId};
 use tk_ledger::{Ledger, Standing, State, Status};
 use tk_message::{Caller, Params};
@@ -78,11 +79,13 @@ fn revoke_handle(
         Kind::Code => Revocation::Done(Idle::Code),
         Kind::Access => {
             let fact = revocation_of(handle, Kind::Access, client);
-            revoke_by_status(ledger, is_own, now, fact, ledger.status(now, handle))
+            let status = ledger.status(now, handle, &mut Steps::new());
+            revoke_by_status(ledger, is_own, now, fact, status)
         }
         Kind::Refresh => {
             let fact = revocation_of(handle, Kind::Refresh, client);
-            revoke_by_status(ledger, is_own, now, fact, ledger.status(now, handle))
+            let status = ledger.status(now, handle, &mut Steps::new());
+            revoke_by_status(ledger, is_own, now, fact, status)
         }
     }
 }

@@ -23,8 +23,8 @@ impl FactStore {
         }
     }
 
-    // Whether the two have one body at each dot that both hold.
-    fn agrees(&self, other: &FactStore) -> bool
+    /// Whether the two have one body at each dot that both hold (own). It walks over the facts of the other.
+    pub fn agrees(&self, other: &FactStore) -> bool
         ensures { IsTrue result ↔ Agree self.now other.now }
     {
         for fact in other.facts() {

@@ -6,7 +6,7 @@ ghost use Rattle.tk_store.specs.Store.{facts_of};
 ghost use Rattle.tk_ledger.specs.Clients as spec;
 ghost use Rattle.tk_ledger.specs.Views.{client_view};
 
-use super::compare::same_dots;
+use crate::compare::same_dots;
 use crate::client_view::ClientView;
 use tk_fact::{Body, ClientAdded, Fact};
 use tk_handle::Dot;

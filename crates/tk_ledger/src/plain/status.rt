@@ -7,10 +7,10 @@ ghost use Rattle.tk_store.specs.Store.{facts_of};
 ghost use Rattle.tk_ledger.specs.Status as spec;
 
 use super::clients::is_live_client;
-use super::compare::same_digests;
+use crate::compare::same_digests;
 use super::consents::is_live_consent;
 use super::families::{is_dead, is_ended};
-use super::root::Root;
+use crate::root::Root;
 use super::tokens::{is_used, root_above};
 use crate::status::{Standing, State, Status};
 use tk_fact::{Body, Fact, Minted};

@@ -1,28 +1,79 @@
-//! Ledgers of facts that came in any order, and what they say.
+//! Ledgers of facts that came in any order, and what they say: each beside a plain one, that says the same.
 
 use super::facts::moment;
+use crate::plain::PlainLedger;
 use crate::{Ledger, State, Status};
 use std::alloc::Global;
 use std::test::Fail;
 use tk_fact::Fact;
+use tk_family::Steps;
 use tk_handle::Handle;
 use tk_store::{AddError, Added};
 
-pub(super) fn add(alloc: Global, ledger: &mut Ledger, bytes: &[u8]) -> Result<Added, Fail> {
+/// The same facts in both.
+#[derive(Drop)]
+pub(super) struct Both {
+    pub(super) ledger: Ledger,
+    pub(super) plain: PlainLedger,
+}
+
+impl Both {
+    pub(super) fn new(alloc: Global) -> Both {
+        Both {
+            ledger: Ledger::new(alloc),
+            plain: PlainLedger::new(alloc),
+        }
+    }
+}
+
+pub(super) fn add_to_ledger(
+    alloc: Global,
+    ledger: &mut Ledger,
+    bytes: &[u8],
+) -> Result<Result<Added, AddError>, Fail> {
     let fact = Fact::read(alloc, bytes)?;
     match fact.check() {
-        Ok(()) => match ledger.add(fact) {
-            Ok(added) => Ok(added),
-            Err(AddError::Conflict) => Err("another body is there")?,
-            Err(AddError::Memory) => Err("no memory")?,
-        },
+        Ok(()) => Ok(ledger.add(fact)),
         Err(_) => Err("a fact that was read breaks a rule")?,
     }
 }
 
+fn add_to_plain(
+    alloc: Global,
+    plain: &mut PlainLedger,
+    bytes: &[u8],
+) -> Result<Result<Added, AddError>, Fail> {
+    let fact = Fact::read(alloc, bytes)?;
+    match fact.check() {
+        Ok(()) => Ok(plain.add(fact)),
+        Err(_) => Err("a fact that was read breaks a rule")?,
+    }
+}
+
+// How an addition to both ended. Both end alike.
+pub(super) fn add_to_both(
+    alloc: Global,
+    both: &mut Both,
+    bytes: &[u8],
+) -> Result<Result<Added, AddError>, Fail> {
+    let added = add_to_ledger(alloc, &mut both.ledger, bytes)?;
+    if added != add_to_plain(alloc, &mut both.plain, bytes)? {
+        Err("the ledgers take facts differently")?;
+    }
+    Ok(added)
+}
+
+pub(super) fn add(alloc: Global, both: &mut Both, bytes: &[u8]) -> Result<Added, Fail> {
+    match add_to_both(alloc, both, bytes)? {
+        Ok(added) => Ok(added),
+        Err(AddError::Conflict) => Err("another body is there")?,
+        Err(AddError::Memory) => Err("no memory")?,
+    }
+}
+
 // The facts, added in the order that has this number: each is one of those left, told by a remainder.
-pub(super) fn in_order(alloc: Global, facts: &[Vec<u8>], order: usize) -> Result<Ledger, Fail> {
-    let mut ledger = Ledger::new(alloc);
+pub(super) fn in_order(alloc: Global, facts: &[Vec<u8>], order: usize) -> Result<Both, Fail> {
+    let mut both = Both::new(alloc);
     let mut left: Vec<&[u8]> = Vec::new(alloc);
     for fact in facts {
         left.push(fact.as_slice())?;
@@ -33,10 +84,10 @@ pub(super) fn in_order(alloc: Global, facts: &[Vec<u8>], order: usize) -> Result
         order /= count;
         if at < left.len() {
             let fact = left.remove(at);
-            add(alloc, &mut ledger, fact)?;
+            add(alloc, &mut both, fact)?;
         }
     }
-    Ok(ledger)
+    Ok(both)
 }
 
 // What a status says in short.
@@ -48,14 +99,27 @@ pub(super) enum Said {
     Known(State),
 }
 
-pub(super) fn in_short(ledger: &Ledger, now: u64, handle: &Handle) -> Result<Said, Fail> {
-    let now = moment(now)?;
-    Ok(match ledger.status(now, handle) {
+fn short(status: &Status<'_>) -> Said {
+    match status {
         Status::Unseen => Said::Unseen,
         Status::Wrong => Said::Wrong,
         Status::Broken(end) => Said::Broken(end.seconds()),
         Status::Known(standing) => Said::Known(standing.state),
-    })
+    }
+}
+
+// What both say, by one to eight look-ups.
+pub(super) fn in_short(both: &Both, now: u64, handle: &Handle) -> Result<Said, Fail> {
+    let now = moment(now)?;
+    let mut steps = Steps::new();
+    let said = short(&both.ledger.status(now, handle, &mut steps));
+    if said != short(&both.plain.status(now, handle)) {
+        Err("the ledgers differ")?;
+    }
+    if steps.count() == 0 || steps.count() > 8 {
+        Err("a look-up too many")?;
+    }
+    Ok(said)
 }
 
 /// A row of a table: its name, a handle, and what is to be said of it.
@@ -69,9 +133,9 @@ pub(super) struct Miss {
     said: Said,
 }
 
-fn missed(ledger: &Ledger, order: usize, rows: &[Row]) -> Result<Option<Miss>, Fail> {
+fn missed(both: &Both, order: usize, rows: &[Row]) -> Result<Option<Miss>, Fail> {
     for (row, handle, want) in rows {
-        let said = in_short(ledger, 1_020, handle)?;
+        let said = in_short(both, 1_020, handle)?;
         if said != *want {
             return Ok(Some(Miss { order, row, said }));
         }
@@ -87,11 +151,11 @@ pub(super) fn first_miss(
     rows: &[Row],
 ) -> Result<Option<Miss>, Fail> {
     for order in 0..orders {
-        let ledger = in_order(alloc, facts, order)?;
-        if ledger.store().len() != facts.len() as u64 {
+        let both = in_order(alloc, facts, order)?;
+        if both.ledger.store().len() != facts.len() as u64 {
             Err("a fact isn't held")?;
         }
-        if let Some(miss) = missed(&ledger, order, rows)? {
+        if let Some(miss) = missed(&both, order, rows)? {
             return Ok(Some(miss));
         }
     }

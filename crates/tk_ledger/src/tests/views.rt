@@ -3,12 +3,12 @@
 use super::facts::{
     client_added, client_retired, consent_given, consent_withdrawn, dot, handle, read_consent_given,
 };
-use super::orders::{add, in_order};
+use super::orders::{Both, add, add_to_both, in_order};
 use super::{CLIENT, CONSENT, after, before_grants, revoked_in_advance};
-use crate::{ClientView, ConsentView, Ledger};
+use crate::{ClientView, ConsentView};
 use std::alloc::Global;
 use std::test::Fail;
-use tk_fact::{Fact, Sort, Subject};
+use tk_fact::{Sort, Subject};
 use tk_handle::{Dot, Kind};
 use tk_scope::Scope;
 use tk_store::{AddError, Added};
@@ -31,7 +31,8 @@ fn is_consent_of_ann(consent: &ConsentView<'_>, client: Dot) -> bool {
 fn a_client_and_a_consent_are_shown(rt: HostRuntime) -> Result<(), Fail> {
     let alloc = rt.alloc();
     let (client, consent) = (dot(CLIENT)?, dot(CONSENT)?);
-    let ledger = after(alloc, &client_retired(alloc, (2, 1), CLIENT)?)?;
+    let both = after(alloc, &client_retired(alloc, (2, 1), CLIENT)?)?;
+    let ledger = &both.ledger;
     let is_client_shown = match ledger.client(client) {
         Some(shown) => is_retired_client(&shown),
         None => false,
@@ -48,7 +49,7 @@ fn a_client_and_a_consent_are_shown(rt: HostRuntime) -> Result<(), Fail> {
 }
 
 // Consents at 1:2 for `read`, at 1:3 and 1:5 for `read write`; that at 1:3 is withdrawn.
-fn consents(alloc: Global) -> Result<Ledger, Fail> {
+fn consents(alloc: Global) -> Result<Both, Fail> {
     let mut facts = Vec::new(alloc);
     facts.push(client_added(alloc, CLIENT)?)?;
     facts.push(consent_given(alloc, (1, 5), CLIENT)?)?;
@@ -60,21 +61,25 @@ fn consents(alloc: Global) -> Result<Ledger, Fail> {
 
 fn found(
     alloc: Global,
-    ledger: &Ledger,
+    both: &Both,
     client: Dot,
     subject: &[u8],
     scope: &[u8],
 ) -> Result<Option<Dot>, Fail> {
     let subject = Subject::read(alloc, subject)?;
     let scope = Scope::read(alloc, scope)?;
-    Ok(ledger.consent_for(client, &subject, &scope))
+    let found = both.ledger.consent_for(client, &subject, &scope);
+    if found != both.plain.consent_for(client, &subject, &scope) {
+        Err("the ledgers differ")?;
+    }
+    Ok(found)
 }
 
 #[test]
 fn the_least_consent_that_includes_the_scope_is_found(rt: HostRuntime) -> Result<(), Fail> {
     let alloc = rt.alloc();
     let (client, first, last) = (dot(CLIENT)?, dot((1, 2))?, dot((1, 5))?);
-    let ledger = consents(alloc)?;
+    let both = consents(alloc)?;
     let ann = b"ann".as_slice();
     for (row, client, subject, scope, want) in [
         ("the least", client, ann, b"read".as_slice(), Some(first)),
@@ -84,7 +89,7 @@ fn the_least_consent_that_includes_the_scope_is_found(rt: HostRuntime) -> Result
         ("another subject", client, b"bob", b"read", None),
         ("another client", first, ann, b"read", None),
     ] {
-        let found = found(alloc, &ledger, client, subject, scope)?;
+        let found = found(alloc, &both, client, subject, scope)?;
         assert!(rt; found == want, "{row}: {found:?}");
     }
     Ok(())
@@ -97,7 +102,7 @@ fn a_revocation_is_told_by_token_digest_and_client(rt: HostRuntime) -> Result<()
     let other = handle((1, 5), Kind::Access, 49)?;
     let (client, another) = (dot(CLIENT)?, dot((1, 4))?);
     let facts = revoked_in_advance(alloc, &token, CLIENT)?;
-    let ledger = in_order(alloc, &facts, 0)?;
+    let both = in_order(alloc, &facts, 0)?;
     let refresh = handle((1, 5), Kind::Refresh, 48)?;
     for (row, id, digest, client, want) in [
         ("as it was revoked", token.id, token.digest(), client, true),
@@ -105,7 +110,8 @@ fn a_revocation_is_told_by_token_digest_and_client(rt: HostRuntime) -> Result<()
         ("another digest", token.id, other.digest(), client, false),
         ("another kind", refresh.id, token.digest(), client, false),
     ] {
-        assert!(rt; ledger.revoked(&id, &digest, client) == want, "{row}");
+        assert!(rt; both.ledger.revoked(&id, &digest, client) == want, "{row}");
+        assert!(rt; both.plain.revoked(&id, &digest, client) == want, "{row}");
     }
     Ok(())
 }
@@ -114,17 +120,12 @@ fn a_revocation_is_told_by_token_digest_and_client(rt: HostRuntime) -> Result<()
 fn a_dot_holds_one_body(rt: HostRuntime) -> Result<(), Fail> {
     let alloc = rt.alloc();
     let facts = before_grants(alloc)?;
-    let mut ledger = in_order(alloc, &facts, 0)?;
+    let mut both = in_order(alloc, &facts, 0)?;
     let again = client_added(alloc, CLIENT)?;
-    assert!(rt; matches!(add(alloc, &mut ledger, &again)?, Added::Held));
-    let other = Fact::read(alloc, &client_retired(alloc, CLIENT, CLIENT)?)?;
-    match other.check() {
-        Ok(()) => {
-            let added = ledger.add(other);
-            assert!(rt; matches!(added, Err(AddError::Conflict)));
-        }
-        Err(_) => assert!(rt; false, "a fact that keeps the rules"),
-    }
-    assert_eq!(rt; ledger.store().len(), 3);
+    assert!(rt; matches!(add(alloc, &mut both, &again)?, Added::Held));
+    let other = client_retired(alloc, CLIENT, CLIENT)?;
+    let added = add_to_both(alloc, &mut both, &other)?;
+    assert!(rt; matches!(added, Err(AddError::Conflict)));
+    assert_eq!(rt; both.ledger.store().len(), 3);
     Ok(())
 }

@@ -1,0 +1,62 @@
+-- Empty tables are those of no fact. Key result: `empty_indexed`.
+use Rattle.std.proofs.Common.{◌≡◌, inl, inr, Bool, true, false, ◌&&◌, List, [], Some, None, is_some, refl, sym, ap, subst, ◌∙◌}
+use Rattle.std.proofs.lemmas.Bool.{true≢false, or_cases, and_parts, false_from_ne_true}
+use Rattle.std.specs.Option.{option_and_then}
+use Rattle.std.specs.List.{list_any}
+use Rattle.std.specs.Map.{lookup}
+use Rattle.std.specs.BTreeMap.{is_at}
+use Rattle.std.specs.FinMap as map
+use Rattle.std.specs.FinSet as set
+use Rattle.tk_handle.specs.declared.dot.Dot.{Dot}
+use Rattle.tk_handle.specs.declared.token_id.TokenId.{TokenId}
+use Rattle.tk_handle.specs.Dot.{dot_cmp}
+use Rattle.tk_handle.specs.TokenId.{token_cmp}
+use Rattle.tk_fact.specs.declared.body.Body.{Body}
+use Rattle.tk_fact.specs.Tokens.{minted_of}
+use Rattle.tk_store.specs.FactSet.{FactSet, any_fact}
+use Rattle.tk_store.proofs.PutLaws.{none_is_not_some}
+use Rattle.tk_store.proofs.EntryLaws.{Passing, any_fact-held}
+use Rattle.tk_ledger.specs.Clients.{added_in, given_in, retires, withdraws}
+use Rattle.tk_ledger.specs.Tokens.{link_of, revokes, sees_reuse, is_reused, is_refresh, is_ended, IsEnded, is_marked}
+use Rattle.tk_ledger.specs.Index.{row_added, row_retired, consent_cmp, consent_key, revocation_cmp, revocation_key, is_from, IsIndexed}
+use Rattle.tk_ledger.specs.declared.client_rows.ClientRow.{ClientRow}
+use Rattle.tk_ledger.specs.declared.consent_keys.ConsentKey.{ConsentKey}
+use Rattle.tk_ledger.specs.declared.index.Index.{Index}
+use Rattle.tk_ledger.specs.declared.revocations.Revocation.{Revocation}
+use Rattle.tk_ledger.proofs.TokenLaws.{from_some, is_ended-sound}
+
+none_held : (d : Dot) (b : Body) → ¬ (map.get (map.empty {R = dot_cmp}) d ≡ Some b)
+none_held d b h = none_is_not_some b (sym (map.get-empty dot_cmp d) ∙ h)
+
+any_fact-empty : (p : Dot × Body → Bool) → any_fact p map.empty ≡ false
+any_fact-empty p = false_from_ne_true (any_fact p map.empty) (λ h. (let x : Passing p map.empty = any_fact-held p map.empty h in none_held x.dot x.body x.held))
+
+marks-empty : (k : TokenId) → is_marked map.empty k ≡ false
+marks-empty k = false_from_ne_true (is_marked map.empty k) (λ h. elim (or_cases (is_reused map.empty k) (is_refresh k.kind && is_ended map.empty k) h) [
+  | inl seen ↦ true≢false (sym seen ∙ any_fact-empty (sees_reuse k))
+  | inr over ↦
+      let e : IsEnded (map.get map.empty) k = is_ended-sound map.empty k (and_parts _ _ over).1 in
+      let x : (b : Body) × (map.get map.empty k.dot ≡ Some b) × (minted_of b k.kind ≡ Some e.minted) = from_some (λ b. minted_of b k.kind) (map.get map.empty k.dot) e.minted e.mints in
+      none_held k.dot x.0 x.1
+])
+
+pub empty_indexed : (x : Index) → x.clients.entries ≡ [] → x.consents.keys ≡ [] → x.withdrawn.keys ≡ [] → x.revocations.keys ≡ [] → x.forest.links ≡ map.empty → x.forest.marks ≡ set.empty → IsIndexed map.empty x
+empty_indexed x te ce we re le me = record {
+  clients_are = record {
+    added = λ q. ap (λ (es : List (Dot × ClientRow)). row_added (lookup (is_at (dot_cmp q)) es)) te ∙ sym (ap (λ o. is_some (option_and_then added_in o)) (map.get-empty dot_cmp q));
+    retired = λ q. ap (λ (es : List (Dot × ClientRow)). row_retired (lookup (is_at (dot_cmp q)) es)) te ∙ sym (any_fact-empty (retires q));
+  };
+  consents_are = record {
+    listed = λ c s q. none_listed c s q ∙ sym (ap (λ o. is_from c s (option_and_then given_in o)) (map.get-empty dot_cmp q));
+    ranged = λ c s q h. absurd (true≢false (sym h ∙ none_listed c s q));
+  };
+  withdrawn_are = λ q. ap (λ (es : List Dot). list_any (is_at (dot_cmp q)) es) we ∙ sym (any_fact-empty (withdraws q));
+  revocations_are = λ k g c. ap (λ (es : List Revocation). list_any (is_at (revocation_cmp (revocation_key k g c))) es) re ∙ sym (any_fact-empty (revokes k g c));
+  tied = record {
+    links = λ q. ap (λ s. map.get s q) le ∙ map.get-empty dot_cmp q ∙ sym (ap (option_and_then link_of) (map.get-empty dot_cmp q));
+    marks = λ k. ap (λ s. set.contains s k) me ∙ set.contains-empty token_cmp k ∙ sym (marks-empty k);
+  };
+}
+  where
+    none_listed : (c : Dot) (s : List _) (q : Dot) → list_any (is_at (consent_cmp (consent_key c s q))) x.consents.keys ≡ false
+    none_listed c s q = ap (λ (es : List ConsentKey). list_any (is_at (consent_cmp (consent_key c s q))) es) ce

@@ -1,0 +1,272 @@
+-- Each kind of change, in the form in which the functions need it: over the set that has the fact already, and that set
+-- without it. Key results:
+--   put_ties, mark_ties, revoke_ties      the forest after a link, a reuse and a revocation
+--   index_add .. index_mark               all tables, for each kind of change
+--   stored, stored_change, stored_back    a fact at a free dot
+use Rattle.std.proofs.Common.{◌≡◌, ℕ, Bool, true, false, ◌&&◌, ◌||◌, cond, List, Option, Some, None, Result, Ok, Err, OnOk, is_some, refl, sym, ap, subst, ◌∙◌}
+use Rattle.std.specs.Option.{option_and_then, option_map}
+use Rattle.std.specs.Ordering.{eq_by_cmp}
+use Rattle.std.specs.Str.{bytes_eq}
+use Rattle.std.specs.BTreeMap.{BTreeMap}
+use Rattle.std.specs.BTreeSet.{BTreeSet, contains}
+use Rattle.std.specs.FinMap as map
+use Rattle.std.specs.FinSet as set
+use Rattle.tk_handle.specs.declared.dot.Dot.{Dot}
+use Rattle.tk_handle.specs.declared.token_id.TokenId.{TokenId}
+use Rattle.tk_handle.specs.Dot.{IsDot, dot_cmp}
+use Rattle.tk_family.specs.declared.link.Link.{Link}
+use Rattle.tk_family.specs.Dots.{dot_eq, has}
+use Rattle.tk_family.specs.ForestFacts.{ForestFacts, links_at}
+use Rattle.tk_family.specs.Tops.{IsRaised}
+use Rattle.tk_family.proofs.LookUps.{link_put, mark_put}
+use Rattle.tk_fact.specs.declared.body.Body.{Body}
+use Rattle.tk_fact.specs.declared.token_revoked.TokenRevoked as revoked
+use Rattle.tk_store.specs.FactSet.{FactSet}
+use Rattle.tk_store.specs.Adding.{Adds}
+use Rattle.tk_store.specs.declared.store.Added.{Added}
+use Rattle.tk_store.specs.declared.store.Added.TheVariants.{New, Held}
+use Rattle.tk_store.proofs.PutLaws.{some_injective, none_is_not_some, get_here, taken_back}
+use Rattle.tk_store.proofs.OneMoreLaws.{OneMore, more_remove}
+use Rattle.tk_ledger.specs.Bodies.{is_same_dot, is_same_token}
+use Rattle.tk_ledger.specs.Tokens.{link_of, links_in}
+use Rattle.tk_ledger.specs.Changes.{change_in, adds, retires_of, gives_to, withdraws_of, revokes_of, puts, reuses_of}
+use Rattle.tk_ledger.specs.Index.{row_at, row_added, row_retired, is_at, IsClients, consent_cmp, consent_key, is_listed, IsConsents, IsWithdrawals, revocation_cmp, revocation_key, is_listed_revoked, IsRevocations, IsTied, IsIndexed, woken, any_woken}
+use Rattle.tk_ledger.specs.declared.change.Change.{Change}
+use Rattle.tk_ledger.specs.declared.change.Change.TheVariants as change
+use Rattle.tk_ledger.specs.declared.client_rows.ClientRow.{ClientRow}
+use Rattle.tk_ledger.specs.declared.consent_keys.ConsentKey.{ConsentKey}
+use Rattle.tk_ledger.specs.declared.index.Index.{Index}
+use Rattle.tk_ledger.specs.declared.revocations.Revocation.{Revocation}
+use Rattle.tk_ledger.proofs.KeyLaws.{at_is_same, token_tied, consent_tied, revocation_tied}
+use Rattle.tk_ledger.proofs.TableLaws.{clients_on, consents_on, Ranged, ranged_on, withdrawals_on, revocations_on}
+use Rattle.tk_ledger.proofs.ForestLaws.{revoking, links_still, links_put, tied_still, tied_put, tied_mark, tied_revoke}
+
+pub on_ok : {A E : Type 0} (r : Result A E) (P Q : Type 0) → OnOk r P → (P → Q) → OnOk r Q
+on_ok (Ok x) P Q h f = f h
+on_ok (Err e) P Q h f = tt
+
+pub on_ok2 : {A E : Type 0} (r : Result A E) (P Q R : Type 0) → OnOk r P → OnOk r Q → (P → Q → R) → OnOk r R
+on_ok2 (Ok x) P Q R h i f = f h i
+on_ok2 (Err e) P Q R h i f = tt
+
+or_cond : (a b : Bool) → cond a true b ≡ (a || b)
+or_cond true b = refl
+or_cond false b = refl
+
+-- the body at a dot whose change is known
+record Changed (G : FactSet) (d : Dot) (x : Change) : Type 0 where
+  pub body : Body
+  pub held : map.get G d ≡ Some body
+  pub is : change_in body ≡ x
+  pub more : OneMore (map.remove G d) G d body
+
+changed_by : (G : FactSet) (d : Dot) (x : Change) (o : Option Body) → map.get G d ≡ o → option_map change_in o ≡ Some x → Changed G d x
+changed_by G d x None at h = absurd (none_is_not_some x h)
+changed_by G d x (Some b) at h = record { body = b; held = at; is = some_injective (change_in b) x h; more = more_remove G d b at }
+
+changed : (G : FactSet) (d : Dot) (x : Change) → option_map change_in (map.get G d) ≡ Some x → Changed G d x
+changed G d x h = changed_by G d x (map.get G d) refl h
+
+-- ---- the forest
+
+pub put_free : (G : FactSet) (d : Dot) (l : Link) (x : ForestFacts) → option_map change_in (map.get G d) ≡ Some (change.Put l) → IsTied (map.remove G d) x → map.get x.links d ≡ None
+put_free G d l x h t = t.links d ∙ ap (option_and_then link_of) (changed G d (change.Put l) h).more.free
+
+pub put_links : (G : FactSet) (d : Dot) (l : Link) (x y : ForestFacts) → option_map change_in (map.get G d) ≡ Some (change.Put l) → IsTied (map.remove G d) x
+    → y.links ≡ map.insert x.links d l → (q : Dot) → map.get y.links q ≡ links_in (map.get G) q
+put_links G d l x y h t new = let c = changed G d (change.Put l) h in
+    links_put (map.remove G d) G d c.body l (links_at x) (links_at y) c.more (ap puts c.is) t.links (link_put x.links y.links d l new)
+
+pub put_ties : (G : FactSet) (d : Dot) (l : Link) (x y z : ForestFacts) (ds : List Dot) → option_map change_in (map.get G d) ≡ Some (change.Put l) → IsTied (map.remove G d) x
+    → y.links ≡ map.insert x.links d l → y.marks ≡ x.marks → ((q : Dot) → IsRaised (links_at x) (links_at y) q → has ds q ≡ true)
+    → z.links ≡ y.links → ((k : TokenId) → set.contains z.marks k ≡ (any_woken G k ds || set.contains y.marks k)) → IsTied G z
+put_ties G d l x y z ds h t new same all still woke =
+    let c = changed G d (change.Put l) h in
+    tied_put (map.remove G d) G d c.body l x y z ds c.more c.is t (put_links G d l x y h t new) same all still woke
+
+pub mark_ties : (G : FactSet) (d : Dot) (j : TokenId) (x y : ForestFacts) → option_map change_in (map.get G d) ≡ Some (change.Mark j) → IsTied (map.remove G d) x
+    → y.links ≡ x.links → y.marks ≡ set.insert x.marks j → IsTied G y
+mark_ties G d j x y h t still new = let c = changed G d (change.Mark j) h in
+    tied_mark (map.remove G d) G d c.body j x y c.more c.is t still
+    (λ k. mark_put x.marks y.marks j new k ∙ ap (λ b. b || set.contains x.marks k) (token_tied j k))
+
+pub revoke_ties : (G : FactSet) (d : Dot) (f : revoked.TokenRevoked) (x y : ForestFacts) → option_map change_in (map.get G d) ≡ Some (change.Revoke f) → IsTied (map.remove G d) x
+    → y.links ≡ x.links → ((k : TokenId) → set.contains y.marks k ≡ (woken G k f.token.dot || set.contains x.marks k)) → IsTied G y
+revoke_ties G d f x y h t still new = let c = changed G d (change.Revoke f) h in tied_revoke (map.remove G d) G d c.body f x y c.more c.is t still new
+
+-- before the marks, the links are those of the set already
+pub revoke_links : (G : FactSet) (d : Dot) (f : revoked.TokenRevoked) (x : ForestFacts) → option_map change_in (map.get G d) ≡ Some (change.Revoke f) → IsTied (map.remove G d) x → (q : Dot) → map.get x.links q ≡ links_in (map.get G) q
+revoke_links G d f x h t q = still (changed G d (change.Revoke f) h)
+  where
+    still : Changed G d (change.Revoke f) → map.get x.links q ≡ links_in (map.get G) q
+    still c = t.links q ∙ links_still (map.remove G d) G d c.body c.more (ap puts c.is) q
+
+quiet_ties : (G : FactSet) (d : Dot) (y : Change) (x : ForestFacts) → option_map change_in (map.get G d) ≡ Some y → puts y ≡ None → revoking y ≡ None → ((k : TokenId) → reuses_of k y ≡ false) → IsTied (map.remove G d) x → IsTied G x
+quiet_ties G d y x h p r m t = let c = changed G d y h in tied_still (map.remove G d) G d c.body x c.more (ap puts c.is ∙ p) (ap revoking c.is ∙ r) (λ k. ap (reuses_of k) c.is ∙ m k) t
+
+-- ---- the tables
+
+clients_by : (G : FactSet) (d : Dot) (y : Change) (t u : BTreeMap Dot ClientRow) → option_map change_in (map.get G d) ≡ Some y → IsClients (map.remove G d) t
+    → ((q : Dot) → row_added (row_at u q) ≡ ((adds y && is_at d q) || row_added (row_at t q)))
+    → ((q : Dot) → row_retired (row_at u q) ≡ (retires_of q y || row_retired (row_at t q)))
+    → IsClients G u
+clients_by G d y t u h i a r =
+    let x = changed G d y h in
+    clients_on (map.remove G d) G d x.body t u x.more i
+    (λ q. a q ∙ ap (λ z. (adds z && is_at d q) || row_added (row_at t q)) (sym x.is))
+    (λ q. r q ∙ ap (λ z. retires_of q z || row_retired (row_at t q)) (sym x.is))
+
+consents_by : (G : FactSet) (d : Dot) (y : Change) (t u : BTreeSet ConsentKey) → option_map change_in (map.get G d) ≡ Some y → IsConsents (map.remove G d) t → Ranged u
+    → ((client : Dot) (subject : List ℕ) (q : Dot) → is_listed u client subject q ≡ ((gives_to client subject y && is_at d q) || is_listed t client subject q))
+    → IsConsents G u
+consents_by G d y t u h i ranged l =
+    let x = changed G d y h in
+    consents_on (map.remove G d) G d x.body t u x.more i ranged
+    (λ client subject q. l client subject q ∙ ap (λ z. (gives_to client subject z && is_at d q) || is_listed t client subject q) (sym x.is))
+
+same_consents : (G : FactSet) (d : Dot) (y : Change) (t : BTreeSet ConsentKey) → option_map change_in (map.get G d) ≡ Some y → ((client : Dot) (subject : List ℕ) → gives_to client subject y ≡ false) → IsConsents (map.remove G d) t → IsConsents G t
+same_consents G d y t h none i = consents_by G d y t t h i i.ranged (λ client subject q. sym (ap (λ b. (b && is_at d q) || is_listed t client subject q) (none client subject)))
+
+withdrawals_by : (G : FactSet) (d : Dot) (y : Change) (t u : BTreeSet Dot) → option_map change_in (map.get G d) ≡ Some y → IsWithdrawals (map.remove G d) t
+    → ((q : Dot) → contains dot_cmp u q ≡ (withdraws_of q y || contains dot_cmp t q))
+    → IsWithdrawals G u
+withdrawals_by G d y t u h i w = let x = changed G d y h in withdrawals_on (map.remove G d) G d x.body t u x.more i (λ q. w q ∙ ap (λ z. withdraws_of q z || contains dot_cmp t q) (sym x.is))
+
+revocations_by : (G : FactSet) (d : Dot) (y : Change) (t u : BTreeSet Revocation) → option_map change_in (map.get G d) ≡ Some y → IsRevocations (map.remove G d) t
+    → ((k : TokenId) (digest : List ℕ) (client : Dot) → is_listed_revoked u k digest client ≡ (revokes_of k digest client y || is_listed_revoked t k digest client))
+    → IsRevocations G u
+revocations_by G d y t u h i r = let x = changed G d y h in revocations_on (map.remove G d) G d x.body t u x.more i (λ k g c. r k g c ∙ ap (λ z. revokes_of k g c z || is_listed_revoked t k g c) (sym x.is))
+
+-- a consent's key
+give_row : (client : Dot) (subject : List ℕ) (d : Dot) (t u : BTreeSet ConsentKey)
+    → ((k : ConsentKey) → contains consent_cmp u k ≡ cond (eq_by_cmp consent_cmp (consent_key client subject d) k) true (contains consent_cmp t k))
+    → (e : Dot) (h : List ℕ) (q : Dot) → is_listed u e h q ≡ ((gives_to e h (change.Give client subject) && is_same_dot d q) || is_listed t e h q)
+give_row client subject d t u r e h q =
+    r (consent_key e h q)
+    ∙ or_cond (eq_by_cmp consent_cmp (consent_key client subject d) (consent_key e h q)) (is_listed t e h q)
+    ∙ ap (λ x. x || is_listed t e h q) (consent_tied client e subject h d q ∙ regroup (is_same_dot client e) (bytes_eq subject h) (is_same_dot d q))
+  where
+    regroup : (a b c : Bool) → (a && (b && c)) ≡ ((a && b) && c)
+    regroup true b c = refl
+    regroup false b c = refl
+
+-- a revocation's key
+pub revoke_row : (G : FactSet) (d : Dot) (f : revoked.TokenRevoked) (t u : BTreeSet Revocation) → option_map change_in (map.get G d) ≡ Some (change.Revoke f) → IsRevocations (map.remove G d) t
+    → ((q : Revocation) → contains revocation_cmp u q ≡ cond (eq_by_cmp revocation_cmp (revocation_key f.token f.digest f.client) q) true (contains revocation_cmp t q))
+    → IsRevocations G u
+revoke_row G d f t u h i r = revocations_by G d (change.Revoke f) t u h i (λ k g c.
+    r (revocation_key k g c)
+    ∙ or_cond (eq_by_cmp revocation_cmp (revocation_key f.token f.digest f.client) (revocation_key k g c)) (is_listed_revoked t k g c)
+    ∙ ap (λ x. x || is_listed_revoked t k g c) (revocation_tied f.token k f.digest g f.client c))
+
+-- a link leaves the revocations
+pub put_revocations : (G : FactSet) (d : Dot) (l : Link) (t : BTreeSet Revocation) → option_map change_in (map.get G d) ≡ Some (change.Put l) → IsRevocations (map.remove G d) t → IsRevocations G t
+put_revocations G d l t h i = revocations_by G d (change.Put l) t t h i (λ k g c. refl)
+
+-- ---- all of it, for each change
+
+pub index_add : (G : FactSet) (d : Dot) (x : Index) (u : BTreeMap Dot ClientRow)
+    → option_map change_in (map.get G d) ≡ Some change.Add → IsIndexed (map.remove G d) x
+    → ((q : Dot) → row_added (row_at u q) ≡ (is_at d q || row_added (row_at x.clients q))) → ((q : Dot) → row_retired (row_at u q) ≡ row_retired (row_at x.clients q))
+    → IsIndexed G (record { clients = u; consents = x.consents; withdrawn = x.withdrawn; revocations = x.revocations; forest = x.forest })
+index_add G d x u h i a e = record {
+  clients_are = clients_by G d change.Add x.clients u h i.clients_are a e;
+  consents_are = same_consents G d change.Add x.consents h (λ _ _. refl) i.consents_are;
+  withdrawn_are = withdrawals_by G d change.Add x.withdrawn x.withdrawn h i.withdrawn_are (λ q. refl);
+  revocations_are = revocations_by G d change.Add x.revocations x.revocations h i.revocations_are (λ k g c. refl);
+  tied = quiet_ties G d change.Add x.forest h refl refl (λ k. refl) i.tied;
+}
+
+pub index_retire : (G : FactSet) (d c : Dot) (x : Index) (u : BTreeMap Dot ClientRow)
+    → option_map change_in (map.get G d) ≡ Some (change.Retire c) → IsIndexed (map.remove G d) x
+    → ((q : Dot) → row_retired (row_at u q) ≡ (is_at c q || row_retired (row_at x.clients q))) → ((q : Dot) → row_added (row_at u q) ≡ row_added (row_at x.clients q))
+    → IsIndexed G (record { clients = u; consents = x.consents; withdrawn = x.withdrawn; revocations = x.revocations; forest = x.forest })
+index_retire G d c x u h i e a = record {
+  clients_are = clients_by G d (change.Retire c) x.clients u h i.clients_are a (λ q. e q ∙ ap (λ z. z || row_retired (row_at x.clients q)) (at_is_same c q));
+  consents_are = same_consents G d (change.Retire c) x.consents h (λ _ _. refl) i.consents_are;
+  withdrawn_are = withdrawals_by G d (change.Retire c) x.withdrawn x.withdrawn h i.withdrawn_are (λ q. refl);
+  revocations_are = revocations_by G d (change.Retire c) x.revocations x.revocations h i.revocations_are (λ k g z. refl);
+  tied = quiet_ties G d (change.Retire c) x.forest h refl refl (λ k. refl) i.tied;
+}
+
+pub index_give : (G : FactSet) (d client : Dot) (subject : List ℕ) (x : Index) (u : BTreeSet ConsentKey)
+    → option_map change_in (map.get G d) ≡ Some (change.Give client subject) → IsIndexed (map.remove G d) x
+    → IsDot d
+    → ((k : ConsentKey) → contains consent_cmp u k ≡ cond (eq_by_cmp consent_cmp (consent_key client subject d) k) true (contains consent_cmp x.consents k))
+    → IsIndexed G (record { clients = x.clients; consents = u; withdrawn = x.withdrawn; revocations = x.revocations; forest = x.forest })
+index_give G d client subject x u h i here r =
+    let y = change.Give client subject in
+    let rows = give_row client subject d x.consents u r in
+    record {
+      clients_are = clients_by G d y x.clients x.clients h i.clients_are (λ q. refl) (λ q. refl);
+      consents_are = consents_by G d y x.consents u h i.consents_are
+          (ranged_on x.consents u d (λ e s. gives_to e s y) here i.consents_are.ranged rows)
+          (λ e s q. rows e s q ∙ ap (λ b. (gives_to e s y && b) || is_listed x.consents e s q) (sym (at_is_same d q)));
+      withdrawn_are = withdrawals_by G d y x.withdrawn x.withdrawn h i.withdrawn_are (λ q. refl);
+      revocations_are = revocations_by G d y x.revocations x.revocations h i.revocations_are (λ k g z. refl);
+      tied = quiet_ties G d y x.forest h refl refl (λ k. refl) i.tied;
+    }
+
+pub index_withdraw : (G : FactSet) (d c : Dot) (x : Index) (u : BTreeSet Dot)
+    → option_map change_in (map.get G d) ≡ Some (change.Withdraw c) → IsIndexed (map.remove G d) x
+    → ((q : Dot) → contains dot_cmp u q ≡ cond (is_at c q) true (contains dot_cmp x.withdrawn q))
+    → IsIndexed G (record { clients = x.clients; consents = x.consents; withdrawn = u; revocations = x.revocations; forest = x.forest })
+index_withdraw G d c x u h i e = record {
+  clients_are = clients_by G d (change.Withdraw c) x.clients x.clients h i.clients_are (λ q. refl) (λ q. refl);
+  consents_are = same_consents G d (change.Withdraw c) x.consents h (λ _ _. refl) i.consents_are;
+  withdrawn_are = withdrawals_by G d (change.Withdraw c) x.withdrawn u h i.withdrawn_are (λ q. e q ∙ or_cond (is_at c q) (contains dot_cmp x.withdrawn q) ∙ ap (λ z. z || contains dot_cmp x.withdrawn q) (at_is_same c q));
+  revocations_are = revocations_by G d (change.Withdraw c) x.revocations x.revocations h i.revocations_are (λ k g z. refl);
+  tied = quiet_ties G d (change.Withdraw c) x.forest h refl refl (λ k. refl) i.tied;
+}
+
+pub index_put : (G : FactSet) (d : Dot) (l : Link) (x : Index) (z : ForestFacts)
+    → option_map change_in (map.get G d) ≡ Some (change.Put l) → IsIndexed (map.remove G d) x → IsTied G z
+    → IsIndexed G (record { clients = x.clients; consents = x.consents; withdrawn = x.withdrawn; revocations = x.revocations; forest = z })
+index_put G d l x z h i tied = record {
+  clients_are = clients_by G d (change.Put l) x.clients x.clients h i.clients_are (λ q. refl) (λ q. refl);
+  consents_are = same_consents G d (change.Put l) x.consents h (λ _ _. refl) i.consents_are;
+  withdrawn_are = withdrawals_by G d (change.Put l) x.withdrawn x.withdrawn h i.withdrawn_are (λ q. refl);
+  revocations_are = put_revocations G d l x.revocations h i.revocations_are;
+  tied = tied;
+}
+
+pub index_revoke : (G : FactSet) (d : Dot) (f : revoked.TokenRevoked) (x : Index) (s : BTreeSet Revocation) (z : ForestFacts)
+    → option_map change_in (map.get G d) ≡ Some (change.Revoke f) → IsIndexed (map.remove G d) x → IsRevocations G s → IsTied G z
+    → IsIndexed G (record { clients = x.clients; consents = x.consents; withdrawn = x.withdrawn; revocations = s; forest = z })
+index_revoke G d f x s z h i rows tied = record {
+  clients_are = clients_by G d (change.Revoke f) x.clients x.clients h i.clients_are (λ q. refl) (λ q. refl);
+  consents_are = same_consents G d (change.Revoke f) x.consents h (λ _ _. refl) i.consents_are;
+  withdrawn_are = withdrawals_by G d (change.Revoke f) x.withdrawn x.withdrawn h i.withdrawn_are (λ q. refl);
+  revocations_are = rows;
+  tied = tied;
+}
+
+pub index_mark : (G : FactSet) (d : Dot) (j : TokenId) (x : Index) (z : ForestFacts)
+    → option_map change_in (map.get G d) ≡ Some (change.Mark j) → IsIndexed (map.remove G d) x → IsTied G z
+    → IsIndexed G (record { clients = x.clients; consents = x.consents; withdrawn = x.withdrawn; revocations = x.revocations; forest = z })
+index_mark G d j x z h i tied = record {
+  clients_are = clients_by G d (change.Mark j) x.clients x.clients h i.clients_are (λ q. refl) (λ q. refl);
+  consents_are = same_consents G d (change.Mark j) x.consents h (λ _ _. refl) i.consents_are;
+  withdrawn_are = withdrawals_by G d (change.Mark j) x.withdrawn x.withdrawn h i.withdrawn_are (λ q. refl);
+  revocations_are = revocations_by G d (change.Mark j) x.revocations x.revocations h i.revocations_are (λ k g c. refl);
+  tied = tied;
+}
+
+-- ---- a fact at a free dot
+
+pub record Stored (F G : FactSet) (d : Dot) (b : Body) : Type 0 where
+  pub set : G ≡ map.insert F d b
+  pub free : map.get F d ≡ None
+
+stored_by : (F G : FactSet) (d : Dot) (b : Body) (a : Added) → map.get F d ≡ None → Adds F (d, b) (Ok a) G → Stored F G d b
+stored_by F G d b New free adds = record { set = adds.1; free = free }
+stored_by F G d b Held free adds = absurd (none_is_not_some b (sym free ∙ adds.0))
+
+pub stored : (F G : FactSet) (f : Dot × Body) (d : Dot) (b : Body) (a : Added) → (d, b) ≡ f → map.get F f.0 ≡ None → Adds F f (Ok a) G → Stored F G d b
+stored F G f d b a same free adds = stored_by F G d b a (ap (λ (p : Dot × Body). map.get F p.0) same ∙ free) (subst (λ (p : Dot × Body). Adds F p (Ok a) G) (sym same) adds)
+
+pub stored_change : (F G : FactSet) (d : Dot) (b : Body) (x : Change) → Stored F G d b → x ≡ change_in b → option_map change_in (map.get G d) ≡ Some x
+stored_change F G d b x s is = ap (λ (S : FactSet). option_map change_in (map.get S d)) s.set ∙ ap (option_map change_in) (get_here F d b) ∙ ap (λ (y : Change). Some y) (sym is)
+
+pub stored_back : (F G : FactSet) (d : Dot) (b : Body) → Stored F G d b → map.remove G d ≡ F
+stored_back F G d b s = ap (λ (S : FactSet). map.remove S d) s.set ∙ taken_back F d b s.free

@@ -1,0 +1,99 @@
+-- One more fact ends no token but the one that it revokes, and those at dots that come under a code by it. Key result:
+--   marks_by_one   the marks after one more fact
+use Rattle.std.proofs.Common.{◌≡◌, ◌≢◌, ◌⊎◌, inl, inr, true, ◌&&◌, Option, Some, None, List, [], ◌∷◌, refl, sym, ap, subst, ◌∙◌}
+use Rattle.std.proofs.lemmas.Bool.{or_cases, or_left, or_right, and_parts, and_from}
+use Rattle.std.specs.Option.{option_and_then}
+use Rattle.std.specs.FinMap as map
+use Rattle.tk_handle.specs.declared.dot.Dot.{Dot}
+use Rattle.tk_handle.specs.declared.token_id.TokenId.{TokenId}
+use Rattle.tk_family.specs.declared.link.Link.{Link}
+use Rattle.tk_family.specs.declared.link.Link.TheVariants.{Code}
+use Rattle.tk_family.specs.Families.{Links, IsUnder, IsPath}
+use Rattle.tk_family.specs.Tops.{IsRaised}
+use Rattle.tk_family.specs.Walks.{code_of}
+use Rattle.tk_family.proofs.FamilyLaws.{IsUnder-within, IsUnder-one}
+use Rattle.tk_family.proofs.WalkLaws.{code_of-sound, code_of-complete}
+use Rattle.tk_fact.specs.declared.body.Body.{Body}
+use Rattle.tk_fact.specs.declared.body.Body.TheVariants.{TokenRevoked}
+use Rattle.tk_fact.specs.declared.token_revoked.TokenRevoked as revoked
+use Rattle.tk_fact.specs.Tokens.{minted_of}
+use Rattle.tk_store.specs.FactSet.{FactSet, IsSubset}
+use Rattle.tk_store.proofs.PutLaws.{some_injective, none_is_not_some}
+use Rattle.tk_store.proofs.OneMoreLaws.{OneMore, more_subset, any_fact-more, cases_dots}
+use Rattle.tk_ledger.specs.Tokens.{link_of, links_in, issued_in, sees_reuse, is_reused, is_refresh, is_ended, is_marked, IsEnded}
+use Rattle.tk_ledger.proofs.TokenLaws.{from_some, links-below, is_ended-sound, is_ended-complete}
+
+-- the body revokes the token
+pub record Revokes (b : Body) (k : TokenId) : Type 0 where
+  pub revocation : revoked.TokenRevoked
+  pub body : b ≡ TokenRevoked revocation
+  pub token : revocation.token ≡ k
+
+-- where a dot is under a code, a link stands
+pub link_under : (f : Links) (q c : Dot) → IsUnder f q c → (l : Link) × (f q ≡ Some l)
+link_under f q c u = by_path u.path u.leads
+  where
+    by_path : (ps : List Dot) → IsPath f q ps c → (l : Link) × (f q ≡ Some l)
+    by_path [] m = (Code, ap f m.0 ∙ m.1)
+    by_path (p ∷ ps) m = (m.0.0.link, m.0.0.here)
+
+-- a set that holds something at a dot says of it what a greater set does
+same_at : {B : Type 0} (g : Body → Option B) (F G : FactSet) → IsSubset F G → (q : Dot) (l : Link) (y : B) → links_in (map.get F) q ≡ Some l → option_and_then g (map.get G q) ≡ Some y → option_and_then g (map.get F q) ≡ Some y
+same_at g F G w q l y at h =
+    let x : (b : Body) × (map.get F q ≡ Some b) × (link_of b ≡ Some l) = from_some link_of (map.get F q) l at in
+    ap (option_and_then g) (x.1 ∙ sym (w q x.0 x.1)) ∙ h
+
+ended_before : (F G : FactSet) (d : Dot) (b : Body) (k : TokenId) (c : Dot) → OneMore F G d b → (e : IsEnded (map.get G) k) → e.by_client.place ≢ d → IsUnder (links_in (map.get F)) k.dot c → IsEnded (map.get F) k
+ended_before F G d b k c m e apart under =
+    let w : IsSubset F G = more_subset F G d b m in
+    let after : IsUnder (links_in (map.get G)) k.dot c = IsUnder-within (links_in (map.get F)) (links_in (map.get G)) (links-below F G w) k.dot c under in
+    let one : c ≡ e.code = IsUnder-one (links_in (map.get G)) k.dot c e.code after e.under in
+    let l : (l : Link) × (links_in (map.get F) k.dot ≡ Some l) = link_under (links_in (map.get F)) k.dot c under in
+    let code : links_in (map.get F) e.code ≡ Some Code = ap (links_in (map.get F)) (sym one) ∙ under.leads.1 in
+    record {
+      minted = e.minted;
+      code = e.code;
+      issued = e.issued;
+      mints = same_at (λ x. minted_of x k.kind) F G w k.dot l.0 e.minted l.1 e.mints;
+      under = subst (λ (x : Dot). IsUnder (links_in (map.get F)) k.dot x) one under;
+      issues = same_at issued_in F G w e.code Code e.issued code e.issues;
+      by_client = record {
+        place = e.by_client.place;
+        revocation = e.by_client.revocation;
+        held = sym (m.there e.by_client.place apart) ∙ e.by_client.held;
+        token = e.by_client.token;
+        digest_is = e.by_client.digest_is;
+        client_is = e.by_client.client_is;
+      };
+    }
+
+-- a token that one more fact ends is the one that it revokes, or stands at a dot that has come under a code
+ended_by_one : (F G : FactSet) (d : Dot) (b : Body) (k : TokenId) → OneMore F G d b → IsEnded (map.get G) k → IsEnded (map.get F) k ⊎ (Revokes b k ⊎ IsRaised (links_in (map.get F)) (links_in (map.get G)) k.dot)
+ended_by_one F G d b k m e = elim (cases_dots e.by_client.place d) [
+  | inl same ↦ inr (inl (record {
+    revocation = e.by_client.revocation;
+    body = some_injective b (TokenRevoked e.by_client.revocation) (sym m.here ∙ ap (map.get G) (sym same) ∙ e.by_client.held);
+    token = e.by_client.token;
+  }))
+  | inr apart ↦ by_code (code_of (links_in (map.get F)) k.dot) refl apart
+]
+  where
+    by_code : (o : Option Dot) → code_of (links_in (map.get F)) k.dot ≡ o → e.by_client.place ≢ d → IsEnded (map.get F) k ⊎ (Revokes b k ⊎ IsRaised (links_in (map.get F)) (links_in (map.get G)) k.dot)
+    by_code None none apart = inr (inr (record { code = e.code; now = e.under; before = λ c u. none_is_not_some c (sym none ∙ code_of-complete (links_in (map.get F)) k.dot c u) }))
+    by_code (Some c) at apart = inl (ended_before F G d b k c m e apart (code_of-sound (links_in (map.get F)) k.dot c at))
+
+-- the marks after one more fact: the old ones, one that the fact is or makes, and refresh tokens that waited at dots that have come
+-- under a code
+pub marks_by_one : (F G : FactSet) (d : Dot) (b : Body) (k : TokenId) → OneMore F G d b → is_marked G k ≡ true → (is_marked F k ≡ true) ⊎ ((sees_reuse k (d, b) ≡ true) ⊎ ((is_refresh k.kind ≡ true) × (is_ended G k ≡ true) × (Revokes b k ⊎ IsRaised (links_in (map.get F)) (links_in (map.get G)) k.dot)))
+marks_by_one F G d b k m h = elim (or_cases (is_reused G k) (is_refresh k.kind && is_ended G k) h) [
+  | inl seen ↦ elim (or_cases (sees_reuse k (d, b)) (is_reused F k) (sym (any_fact-more (sees_reuse k) F G d b m) ∙ seen)) [
+    | inl new ↦ inr (inl new)
+    | inr old ↦ inl (or_left (is_reused F k) (is_refresh k.kind && is_ended F k) old)
+  ]
+  | inr over ↦
+      let p = and_parts _ _ over in
+      elim (ended_by_one F G d b k m (is_ended-sound G k p.1)) [
+        | inl old ↦ inl (or_right (is_reused F k) (is_refresh k.kind && is_ended F k) (and_from _ _ p.0 (is_ended-complete F k old)))
+        | inr new ↦ inr (inr (p.0, p.1, new))
+      ]
+]

@@ -1,0 +1,94 @@
+-- Keys tie exactly where what they are made of is the same. Key results:
+--   at_is_same        dots, by their order and by their numbers
+--   token_tied        tokens
+--   consent_tied, revocation_tied   the keys of consents and revocations
+use Rattle.std.proofs.Common.{◌≡◌, ℕ, Bool, true, false, ◌&&◌, ◌==◌, List, refl, sym, ap, ◌∙◌, eq-eqb}
+use Rattle.std.proofs.lemmas.Bool.{true≢false, eqb-true}
+use Rattle.std.proofs.lemmas.Cmp.{tied_itself}
+use Rattle.std.proofs.lemmas.Map.Lookups.{exact_bytes, exact_unsigned}
+use Rattle.std.proofs.lemmas.Slice.Eq.{bytes_eq-Decides}
+use Rattle.std.specs.Cmp.{nat_cmp_total}
+use Rattle.std.specs.Cmp.Lexicographic.{slice_cmp, nat_list_cmp_total}
+use Rattle.std.specs.Ordering.{nat_cmp, eq_by_cmp, ordering_then, is_eq}
+use Rattle.std.specs.Str.{bytes_eq}
+use Rattle.std.specs.declared.cmp.Ordering.{Ordering}
+use Rattle.std.specs.declared.cmp.Ordering.TheVariants.{Less, Equal, Greater}
+use Rattle.tk_handle.specs.declared.dot.Dot.{Dot}
+use Rattle.tk_handle.specs.declared.token_id.TokenId.{TokenId}
+use Rattle.tk_handle.specs.Dot.{dot_cmp, dot_cmp_total}
+use Rattle.tk_handle.specs.Kind.{kind_number}
+use Rattle.tk_handle.specs.TokenId.{token_cmp}
+use Rattle.tk_store.proofs.FactSetLaws.{tied}
+use Rattle.tk_ledger.specs.Bodies.{is_same_dot, is_same_token}
+use Rattle.tk_ledger.specs.Index.{consent_cmp, consent_key, revocation_cmp, revocation_key}
+use Rattle.tk_ledger.proofs.SameLaws.{same_dot-true, same_dot-itself, same_token-true, same_token-itself}
+
+-- two tests that imply each other are one
+pub same_tests : (a b : Bool) → (a ≡ true → b ≡ true) → (b ≡ true → a ≡ true) → a ≡ b
+same_tests true b h i = sym (h refl)
+same_tests false true h i = i refl
+same_tests false false h i = refl
+
+pub at_itself : (d : Dot) → eq_by_cmp dot_cmp d d ≡ true
+at_itself d = ap is_eq (tied_itself dot_cmp_total d)
+
+-- the test by order is the test by numbers
+pub at_is_same : (a b : Dot) → eq_by_cmp dot_cmp a b ≡ is_same_dot a b
+at_is_same a b = same_tests (eq_by_cmp dot_cmp a b) (is_same_dot a b)
+    (λ h. ap (is_same_dot a) (sym (tied a b h)) ∙ same_dot-itself a)
+    (λ h. ap (eq_by_cmp dot_cmp a) (sym (same_dot-true a b h)) ∙ at_itself a)
+
+both_tied : (r s : Ordering) → is_eq (ordering_then r s) ≡ (is_eq r && is_eq s)
+both_tied Less s = refl
+both_tied Equal s = refl
+both_tied Greater s = refl
+
+equal_of : (o : Ordering) → is_eq o ≡ true → o ≡ Equal
+equal_of Less h = absurd (true≢false (sym h))
+equal_of Equal h = refl
+equal_of Greater h = absurd (true≢false (sym h))
+
+number_tied : (a b : ℕ) → is_eq (nat_cmp a b) ≡ (a == b)
+number_tied a b = same_tests (is_eq (nat_cmp a b)) (a == b)
+    (λ h. eq-eqb a b (exact_unsigned a b (equal_of (nat_cmp a b) h)))
+    (λ h. ap is_eq (ap (nat_cmp a) (sym (eqb-true a b h)) ∙ tied_itself nat_cmp_total a))
+
+bytes_tied : (xs ys : List ℕ) → is_eq (slice_cmp nat_cmp xs ys) ≡ bytes_eq xs ys
+bytes_tied xs ys = same_tests (is_eq (slice_cmp nat_cmp xs ys)) (bytes_eq xs ys)
+    (λ h. (bytes_eq-Decides xs ys).1 (exact_bytes xs ys (equal_of (slice_cmp nat_cmp xs ys) h)))
+    (λ h. ap is_eq (ap (slice_cmp nat_cmp xs) (sym ((bytes_eq-Decides xs ys).0 h)) ∙ tied_itself nat_list_cmp_total xs))
+
+-- tokens tie exactly where they are the same, either way round
+pub token_tied : (j k : TokenId) → eq_by_cmp token_cmp k j ≡ is_same_token j k
+token_tied j k =
+    both_tied (dot_cmp k.dot j.dot) _
+    ∙ ap (λ x. x && is_eq (nat_cmp (kind_number k.kind) (kind_number j.kind))) (at_is_same k.dot j.dot)
+    ∙ ap (λ x. is_same_dot k.dot j.dot && x) (number_tied (kind_number k.kind) (kind_number j.kind))
+    ∙ same_tests (is_same_token k j) (is_same_token j k)
+        (λ h. ap (is_same_token j) (same_token-true k j h) ∙ same_token-itself j)
+        (λ h. ap (is_same_token k) (same_token-true j k h) ∙ same_token-itself k)
+
+-- the keys of consents tie exactly where client, digest and dot are the same
+pub consent_tied : (c e : Dot) (g h : List ℕ) (d q : Dot) → eq_by_cmp consent_cmp (consent_key c g d) (consent_key e h q) ≡ (is_same_dot c e && (bytes_eq g h && is_same_dot d q))
+consent_tied c e g h d q =
+    both_tied (dot_cmp c e) _
+    ∙ ap (λ x. is_eq (dot_cmp c e) && x) (both_tied (slice_cmp nat_cmp g h) (dot_cmp d q))
+    ∙ ap (λ x. x && (is_eq (slice_cmp nat_cmp g h) && is_eq (dot_cmp d q))) (at_is_same c e)
+    ∙ ap (λ x. is_same_dot c e && (x && is_eq (dot_cmp d q))) (bytes_tied g h)
+    ∙ ap (λ x. is_same_dot c e && (bytes_eq g h && x)) (at_is_same d q)
+
+regroup : (a b c : Bool) → (a && (b && c)) ≡ ((a && b) && c)
+regroup true b c = refl
+regroup false b c = refl
+
+-- those of revocations exactly where token, digest and client are
+pub revocation_tied : (j k : TokenId) (g h : List ℕ) (c e : Dot) → eq_by_cmp revocation_cmp (revocation_key j g c) (revocation_key k h e) ≡ (is_same_token j k && (bytes_eq g h && is_same_dot c e))
+revocation_tied j k g h c e =
+    both_tied (dot_cmp j.dot k.dot) _
+    ∙ ap (λ x. is_eq (dot_cmp j.dot k.dot) && x) (both_tied (nat_cmp (kind_number j.kind) (kind_number k.kind)) _)
+    ∙ ap (λ x. is_eq (dot_cmp j.dot k.dot) && (is_eq (nat_cmp (kind_number j.kind) (kind_number k.kind)) && x)) (both_tied (slice_cmp nat_cmp g h) (dot_cmp c e))
+    ∙ ap (λ x. x && (is_eq (nat_cmp (kind_number j.kind) (kind_number k.kind)) && (is_eq (slice_cmp nat_cmp g h) && is_eq (dot_cmp c e)))) (at_is_same j.dot k.dot)
+    ∙ ap (λ x. is_same_dot j.dot k.dot && (x && (is_eq (slice_cmp nat_cmp g h) && is_eq (dot_cmp c e)))) (number_tied (kind_number j.kind) (kind_number k.kind))
+    ∙ ap (λ x. is_same_dot j.dot k.dot && ((kind_number j.kind == kind_number k.kind) && (x && is_eq (dot_cmp c e)))) (bytes_tied g h)
+    ∙ ap (λ x. is_same_dot j.dot k.dot && ((kind_number j.kind == kind_number k.kind) && (bytes_eq g h && x))) (at_is_same c e)
+    ∙ regroup (is_same_dot j.dot k.dot) (kind_number j.kind == kind_number k.kind) (bytes_eq g h && is_same_dot c e)

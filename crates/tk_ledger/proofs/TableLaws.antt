@@ -1,0 +1,135 @@
+-- How each table follows the set, when it has one fact more. Key results:
+--   clients_on, consents_on, withdrawals_on, revocations_on
+use Rattle.std.proofs.Common.{◌≡◌, inl, inr, ℕ, Bool, true, false, ◌&&◌, ◌||◌, cond, List, is_some, refl, sym, ap, subst, ◌∙◌}
+use Rattle.std.proofs.lemmas.Bool.{cases_Bool, or_cases, and_parts}
+use Rattle.std.specs.Option.{option_and_then}
+use Rattle.std.specs.Str.{bytes_eq}
+use Rattle.std.specs.BTreeMap.{BTreeMap}
+use Rattle.std.specs.BTreeSet.{BTreeSet, contains}
+use Rattle.std.specs.FinMap as map
+use Rattle.sha2.specs.Sha256.{sha256}
+use Rattle.tk_handle.specs.declared.dot.Dot.{Dot}
+use Rattle.tk_handle.specs.declared.token_id.TokenId.{TokenId}
+use Rattle.tk_handle.specs.Dot.{IsDot, dot_cmp}
+use Rattle.tk_fact.specs.declared.body.Body.{Body}
+use Rattle.tk_fact.specs.declared.body.Body.TheVariants.{ClientAdded, ClientRetired, ConsentGiven, ConsentWithdrawn, TokenRevoked}
+use Rattle.tk_store.specs.FactSet.{FactSet}
+use Rattle.tk_store.proofs.OneMoreLaws.{OneMore, cases_dots, apart_at, any_fact-more}
+use Rattle.tk_ledger.specs.Bodies.{is_same_dot}
+use Rattle.tk_ledger.specs.Clients.{added_in, client_at, retires_in, retires, is_retired, given_in, consent_at, withdraws_in, withdraws, is_withdrawn}
+use Rattle.tk_ledger.specs.Tokens.{revoked_by, revokes, is_revoked}
+use Rattle.tk_ledger.specs.Changes.{change_in, adds, retires_of, gives_to, withdraws_of, revokes_of}
+use Rattle.tk_ledger.specs.Index.{row_at, row_added, row_retired, is_at, IsClients, is_from, is_listed, IsConsents, IsWithdrawals, is_listed_revoked, IsRevocations}
+use Rattle.tk_ledger.specs.declared.client_rows.ClientRow.{ClientRow}
+use Rattle.tk_ledger.specs.declared.consent_keys.ConsentKey.{ConsentKey}
+use Rattle.tk_ledger.specs.declared.revocations.Revocation.{Revocation}
+use Rattle.tk_ledger.proofs.KeyLaws.{at_itself, same_tests}
+use Rattle.tk_ledger.proofs.SameLaws.{same_dot-true}
+
+-- ---- what a change says is what its body says
+
+adds-change : (b : Body) → is_some (added_in b) ≡ adds (change_in b)
+adds-change (ClientAdded f) = refl
+adds-change body = refl
+
+retires-change : (q : Dot) (b : Body) → retires_in q b ≡ retires_of q (change_in b)
+retires-change q (ClientRetired f) = refl
+retires-change q body = refl
+
+gives-change : (client : Dot) (subject : List ℕ) (b : Body) → is_from client subject (given_in b) ≡ gives_to client subject (change_in b)
+gives-change client subject (ConsentGiven f) = refl
+gives-change client subject body = refl
+
+withdraws-change : (q : Dot) (b : Body) → withdraws_in q b ≡ withdraws_of q (change_in b)
+withdraws-change q (ConsentWithdrawn f) = refl
+withdraws-change q body = refl
+
+revokes-change : (k : TokenId) (digest : List ℕ) (client : Dot) (b : Body) → revoked_by k digest client b ≡ revokes_of k digest client (change_in b)
+revokes-change k digest client (TokenRevoked f) = refl
+revokes-change k digest client body = refl
+
+-- ---- what a fact says of its own dot
+
+here_or : (a x : Bool) → x ≡ false → a ≡ ((a && true) || x)
+here_or true x h = refl
+here_or false x h = sym h
+
+there_or : (a x : Bool) → x ≡ ((a && false) || x)
+there_or true x = refl
+there_or false x = refl
+
+-- a test of what stands at a dot, which nothing doesn't pass: it passes at the dot of the new fact if the new fact does, and
+-- elsewhere as before
+own_on : (d q : Dot) (a x at_f at_g : Bool)
+    → (q ≡ d → at_f ≡ false) → (q ≡ d → at_g ≡ a) → (¬ (q ≡ d) → at_g ≡ at_f) → x ≡ at_f → ((a && is_at d q) || x) ≡ at_g
+own_on d q a x at_f at_g free here there i = elim (cases_dots q d) [
+  | inl same ↦
+      ap (λ t. (a && t) || x) (ap (is_at d) same ∙ at_itself d)
+      ∙ sym (here_or a x (i ∙ free same))
+      ∙ sym (here same)
+  | inr ne ↦
+      ap (λ t. (a && t) || x) (apart_at d q (λ e. ne (sym e)))
+      ∙ sym (there_or a x)
+      ∙ i ∙ sym (there ne)
+]
+
+-- ---- clients
+
+added_on : (F G : FactSet) (d : Dot) (b : Body) (q : Dot) (x : Bool) → OneMore F G d b → x ≡ is_some (client_at F q) → ((adds (change_in b) && is_at d q) || x) ≡ is_some (client_at G q)
+added_on F G d b q x m i = own_on d q (adds (change_in b)) x (is_some (client_at F q)) (is_some (client_at G q))
+    (λ same. ap (λ e. is_some (option_and_then added_in e)) (ap (map.get F) same ∙ m.free))
+    (λ same. ap (λ e. is_some (option_and_then added_in e)) (ap (map.get G) same ∙ m.here) ∙ adds-change b)
+    (λ ne. ap (λ e. is_some (option_and_then added_in e)) (m.there q ne))
+    i
+
+pub clients_on : (F G : FactSet) (d : Dot) (b : Body) (t u : BTreeMap Dot ClientRow) → OneMore F G d b → IsClients F t
+    → ((q : Dot) → row_added (row_at u q) ≡ ((adds (change_in b) && is_at d q) || row_added (row_at t q)))
+    → ((q : Dot) → row_retired (row_at u q) ≡ (retires_of q (change_in b) || row_retired (row_at t q)))
+    → IsClients G u
+clients_on F G d b t u m i a r = record {
+  added = λ q. a q ∙ added_on F G d b q (row_added (row_at t q)) m (i.added q);
+  retired = λ q. r q ∙ ap (λ x. retires_of q (change_in b) || x) (i.retired q) ∙ ap (λ x. x || is_retired F q) (sym (retires-change q b)) ∙ sym (any_fact-more (retires q) F G d b m);
+}
+
+-- ---- consents
+
+given_on : (F G : FactSet) (d : Dot) (b : Body) (client : Dot) (subject : List ℕ) (q : Dot) (x : Bool) → OneMore F G d b → x ≡ is_from client subject (consent_at F q) → ((gives_to client subject (change_in b) && is_at d q) || x) ≡ is_from client subject (consent_at G q)
+given_on F G d b client subject q x m i = own_on d q (gives_to client subject (change_in b)) x (is_from client subject (consent_at F q)) (is_from client subject (consent_at G q))
+    (λ same. ap (λ e. is_from client subject (option_and_then given_in e)) (ap (map.get F) same ∙ m.free))
+    (λ same. ap (λ e. is_from client subject (option_and_then given_in e)) (ap (map.get G) same ∙ m.here) ∙ gives-change client subject b)
+    (λ ne. ap (λ e. is_from client subject (option_and_then given_in e)) (m.there q ne))
+    i
+
+-- each dot that is listed is in range
+abbrev pub Ranged : BTreeSet ConsentKey → Type 0
+Ranged t = (client : Dot) (subject : List ℕ) (d : Dot) → is_listed t client subject d ≡ true → IsDot d
+
+pub consents_on : (F G : FactSet) (d : Dot) (b : Body) (t u : BTreeSet ConsentKey) → OneMore F G d b → IsConsents F t → Ranged u
+    → ((client : Dot) (subject : List ℕ) (q : Dot) → is_listed u client subject q ≡ ((gives_to client subject (change_in b) && is_at d q) || is_listed t client subject q))
+    → IsConsents G u
+consents_on F G d b t u m i ranged l = record {
+  listed = λ client subject q. l client subject q ∙ given_on F G d b client subject q (is_listed t client subject q) m (i.listed client subject q);
+  ranged = ranged;
+}
+
+-- what is listed new is in range where its dot is
+pub ranged_on : (t u : BTreeSet ConsentKey) (d : Dot) (n : Dot → List ℕ → Bool) → IsDot d → Ranged t
+    → ((client : Dot) (subject : List ℕ) (q : Dot) → is_listed u client subject q ≡ ((n client subject && is_same_dot d q) || is_listed t client subject q))
+    → Ranged u
+ranged_on t u d n here before l client subject q h = elim (or_cases (n client subject && is_same_dot d q) (is_listed t client subject q) (sym (l client subject q) ∙ h)) [
+  | inl new ↦ subst (λ (x : Dot). IsDot x) (same_dot-true d q (and_parts (n client subject) (is_same_dot d q) new).1) here
+  | inr old ↦ before client subject q old
+]
+
+pub withdrawals_on : (F G : FactSet) (d : Dot) (b : Body) (t u : BTreeSet Dot) → OneMore F G d b → IsWithdrawals F t
+    → ((q : Dot) → contains dot_cmp u q ≡ (withdraws_of q (change_in b) || contains dot_cmp t q))
+    → IsWithdrawals G u
+withdrawals_on F G d b t u m i w q = w q ∙ ap (λ x. withdraws_of q (change_in b) || x) (i q) ∙ ap (λ x. x || is_withdrawn F q) (sym (withdraws-change q b)) ∙ sym (any_fact-more (withdraws q) F G d b m)
+
+-- ---- revocations
+
+pub revocations_on : (F G : FactSet) (d : Dot) (b : Body) (t u : BTreeSet Revocation) → OneMore F G d b → IsRevocations F t
+    → ((k : TokenId) (digest : List ℕ) (client : Dot) → is_listed_revoked u k digest client ≡ (revokes_of k digest client (change_in b) || is_listed_revoked t k digest client))
+    → IsRevocations G u
+revocations_on F G d b t u m i r k digest client = r k digest client ∙ ap (λ x. revokes_of k digest client (change_in b) || x) (i k digest client)
+    ∙ ap (λ x. x || is_revoked F k digest client) (sym (revokes-change k digest client b)) ∙ sym (any_fact-more (revokes k digest client) F G d b m)

@@ -1,0 +1,35 @@
+use Rattle.std.proofs.Common.{ap, ◌∙◌, Some}
+use Rattle.tk_ledger.specs.declared.change.Change.{Change}
+use Rattle.tk_ledger.proofs.ChangeLaws.{on_ok, on_ok2, put_revocations, index_add, index_retire, index_give, index_withdraw, index_put, index_revoke, index_mark}
+use Rattle.tk_ledger.proofs.index.follow.Goals as goal
+
+pub put_link-requires-clause-revocations : goal.put_link-requires-clause-revocations
+put_link-requires-clause-revocations c = put_revocations c.args.facts.now c.args.dot c.in-Put.link c.args.index.now.revocations (c.requires.change ∙ ap (λ (x : Change). Some x) c.in-Put.is) c.requires.indexed.revocations_are
+
+pub returns-in-Add-clause-ok : goal.returns-in-Add-clause-ok
+returns-in-Add-clause-ok c = on_ok2 c.add_client.result _ _ _ c.add_client.ensures.added c.add_client.ensures.retired
+    (λ a r. index_add c.args.facts.now c.args.dot c.args.index.now c.add_client.new.clients (c.requires.change ∙ ap (λ (x : Change). Some x) c.in-Add.is) c.requires.indexed a r)
+
+pub returns-in-Retire-clause-ok : goal.returns-in-Retire-clause-ok
+returns-in-Retire-clause-ok c = on_ok2 c.retire_client.result _ _ _ c.retire_client.ensures.retired c.retire_client.ensures.added
+    (λ r a. index_retire c.args.facts.now c.args.dot c.in-Retire.client c.args.index.now c.retire_client.new.clients (c.requires.change ∙ ap (λ (x : Change). Some x) c.in-Retire.is) c.requires.indexed r a)
+
+pub returns-in-Give-clause-ok : goal.returns-in-Give-clause-ok
+returns-in-Give-clause-ok c = on_ok c.give.result _ _ c.give.ensures.ok
+    (λ g. index_give c.args.facts.now c.args.dot c.in-Give.client c.in-Give.subject c.args.index.now c.give.new.consents (c.requires.change ∙ ap (λ (x : Change). Some x) c.in-Give.is) c.requires.indexed c.give.ensures.ranged g)
+
+pub returns-in-Withdraw-clause-ok : goal.returns-in-Withdraw-clause-ok
+returns-in-Withdraw-clause-ok c = on_ok c.withdraw.result _ _ c.withdraw.ensures.ok
+    (λ w. index_withdraw c.args.facts.now c.args.dot c.in-Withdraw.consent c.args.index.now c.withdraw.new.withdrawn (c.requires.change ∙ ap (λ (x : Change). Some x) c.in-Withdraw.is) c.requires.indexed w)
+
+pub returns-in-Put-clause-ok : goal.returns-in-Put-clause-ok
+returns-in-Put-clause-ok c = on_ok c.put_link.result _ _ c.put_link.ensures.ok
+    (λ t. index_put c.args.facts.now c.args.dot c.in-Put.link c.args.index.now c.put_link.new.forest (c.requires.change ∙ ap (λ (x : Change). Some x) c.in-Put.is) c.requires.indexed t)
+
+pub returns-in-Revoke-clause-ok : goal.returns-in-Revoke-clause-ok
+returns-in-Revoke-clause-ok c = on_ok2 c.revoke_token.result _ _ _ c.revoke_token.ensures.revocations c.revoke_token.ensures.ok
+    (λ r t. index_revoke c.args.facts.now c.args.dot c.in-Revoke.fact c.args.index.now c.revoke_token.new.revocations c.revoke_token.new.forest (c.requires.change ∙ ap (λ (x : Change). Some x) c.in-Revoke.is) c.requires.indexed r t)
+
+pub returns-in-Mark-clause-ok : goal.returns-in-Mark-clause-ok
+returns-in-Mark-clause-ok c = on_ok c.mark_token.result _ _ c.mark_token.ensures.ok
+    (λ t. index_mark c.args.facts.now c.args.dot c.in-Mark.token c.args.index.now c.mark_token.new.forest (c.requires.change ∙ ap (λ (x : Change). Some x) c.in-Mark.is) c.requires.indexed t)

@@ -1,0 +1,14 @@
+use Rattle.tk_ledger.proofs.ChangeLaws.{revoke_ties, revoke_links, revoke_row}
+use Rattle.tk_ledger.proofs.index.revoke_token.Goals as goal
+
+pub wake-requires-clause-revocations : goal.wake-requires-clause-revocations
+wake-requires-clause-revocations c = revoke_row c.args.facts.now c.args.dot c.args.fact.now c.args.revocations.now c.revoke.new.revocations c.requires.change c.requires.revocations c.in-Ok.ensures.ok
+
+pub wake-requires-clause-links : goal.wake-requires-clause-links
+wake-requires-clause-links c = revoke_links c.args.facts.now c.args.dot c.args.fact.now c.args.forest.now c.requires.change c.requires.tied
+
+pub returns-in-Ok-clause-revocations : goal.returns-in-Ok-clause-revocations
+returns-in-Ok-clause-revocations c = revoke_row c.args.facts.now c.args.dot c.args.fact.now c.args.revocations.now c.revoke.new.revocations c.requires.change c.requires.revocations c.in-Ok.ensures.ok
+
+pub returns-in-Ok-clause-ok : goal.returns-in-Ok-clause-ok
+returns-in-Ok-clause-ok c = revoke_ties c.args.facts.now c.args.dot c.args.fact.now c.args.forest.now c.wake.new.forest c.requires.change c.requires.tied c.wake.ensures.links c.wake.ensures.marks

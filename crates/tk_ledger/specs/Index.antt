@@ -1,0 +1,145 @@
+-- The tables of a ledger beside its facts (own): what they answer is what the set of facts says.
+--   row_added, row_retired                        what a client's row says
+--   consent_cmp, consent_key, revocation_cmp, revocation_key   the keys of consents and revocations, and their orders
+--   IsClients, IsConsents, IsWithdrawals, IsRevocations        each table answers as the set does
+--   IsTied                                        a forest's links and marks are those of the set
+--   woken, any_woken                              a refresh token whose client revoked it
+--   IsIndexed                                     all of these
+use Rattle.std.specs.Prelude.{◌≡◌, ℕ, Bool, true, false, ◌&&◌, List, Option, Some, None, is_some}
+use Rattle.std.specs.List.{list_any}
+use Rattle.std.specs.Ordering.{nat_cmp, ordering_then, eq_by_cmp}
+use Rattle.std.specs.declared.cmp.Ordering.{Ordering}
+use Rattle.std.specs.declared.ops.Bound.TheVariants.{Included}
+use Rattle.std.specs.Cmp.Lexicographic.{slice_cmp}
+use Rattle.std.specs.Str.{bytes_eq}
+use Rattle.std.specs.BTreeMap as rows
+use Rattle.std.specs.BTreeMap.{BTreeMap}
+use Rattle.std.specs.BTreeSet as keys
+use Rattle.std.specs.BTreeSet.{BTreeSet}
+use Rattle.std.specs.FinMap as map
+use Rattle.std.specs.FinSet as set
+use Rattle.sha2.specs.Sha256.{sha256}
+use Rattle.tk_handle.specs.declared.dot.Dot.{Dot}
+use Rattle.tk_handle.specs.declared.kind.Kind.TheVariants as kind
+use Rattle.tk_handle.specs.declared.token_id.TokenId.{TokenId}
+use Rattle.tk_handle.specs.Dot.{IsDot, dot_cmp}
+use Rattle.tk_handle.specs.Kind.{kind_number}
+use Rattle.tk_handle.specs.Ranges.{greatest_region, greatest_serial}
+use Rattle.tk_family.specs.ForestFacts.{ForestFacts}
+use Rattle.tk_fact.specs.declared.consent_given.ConsentGiven as given
+use Rattle.tk_store.specs.FactSet.{FactSet}
+use Rattle.tk_ledger.specs.Bodies.{is_same_dot, is_same_token}
+use Rattle.tk_ledger.specs.Clients.{client_at, is_retired, consent_at, is_withdrawn}
+use Rattle.tk_ledger.specs.Tokens.{links_in, is_revoked, is_ended, is_marked}
+use Rattle.tk_ledger.specs.declared.client_rows.ClientRow.{ClientRow}
+use Rattle.tk_ledger.specs.declared.consent_keys.ConsentKey.{ConsentKey}
+use Rattle.tk_ledger.specs.declared.revocations.Revocation.{Revocation}
+use Rattle.tk_ledger.specs.declared.index.Index.{Index}
+
+-- ---- clients
+
+-- the row says that the client was added
+abbrev pub row_added : Option ClientRow → Bool
+row_added None = false
+row_added (Some row) = row.added
+
+-- the row says that it was retired
+abbrev pub row_retired : Option ClientRow → Bool
+row_retired None = false
+row_retired (Some row) = row.retired
+
+-- the row at a dot
+abbrev pub row_at : BTreeMap Dot ClientRow → Dot → Option ClientRow
+row_at t q = rows.get dot_cmp t q
+
+-- two dots are one, by their order
+abbrev pub is_at : Dot → Dot → Bool
+is_at d q = eq_by_cmp dot_cmp d q
+
+-- rows say which clients were added, and which retired
+pub record IsClients (F : FactSet) (t : BTreeMap Dot ClientRow) : Type 0 where
+  pub added : (q : Dot) → row_added (row_at t q) ≡ is_some (client_at F q)
+  pub retired : (q : Dot) → row_retired (row_at t q) ≡ is_retired F q
+
+-- ---- consents
+
+-- by client, then by the digest of the subject, then by dot
+abbrev pub consent_cmp : ConsentKey → ConsentKey → Ordering
+consent_cmp a b = ordering_then (dot_cmp a.client b.client) (ordering_then (slice_cmp nat_cmp a.subject b.subject) (dot_cmp a.consent b.consent))
+
+abbrev pub consent_key : Dot → List ℕ → Dot → ConsentKey
+consent_key client subject d = record { client = client; subject = subject; consent = d }
+
+-- the first dot of all, and the last
+abbrev pub least_dot : Dot
+least_dot = record { region = 1; serial = 1 }
+
+abbrev pub greatest_dot : Dot
+greatest_dot = record { region = greatest_region; serial = greatest_serial }
+
+-- the consent was given to the client, by a subject of the digest
+abbrev pub is_from : Dot → List ℕ → Option given.ConsentGiven → Bool
+is_from client subject None = false
+is_from client subject (Some consent) = is_same_dot consent.client client && bytes_eq (sha256 consent.subject) subject
+
+-- the table has the consent under client and digest
+abbrev pub is_listed : BTreeSet ConsentKey → Dot → List ℕ → Dot → Bool
+is_listed t client subject d = keys.contains consent_cmp t (consent_key client subject d)
+
+-- the keys of the consents that a subject of the digest gave the client
+abbrev pub span_of : BTreeSet ConsentKey → Dot → List ℕ → List ConsentKey
+span_of t client subject = keys.keys_between consent_cmp (Included (consent_key client subject least_dot)) (Included (consent_key client subject greatest_dot)) t
+
+-- each consent that was given is listed, and no other
+pub record IsConsents (F : FactSet) (t : BTreeSet ConsentKey) : Type 0 where
+  pub listed : (client : Dot) (subject : List ℕ) (d : Dot) → is_listed t client subject d ≡ is_from client subject (consent_at F d)
+  pub ranged : (client : Dot) (subject : List ℕ) (d : Dot) → is_listed t client subject d ≡ true → IsDot d
+
+-- each consent that was withdrawn is there, and no other
+abbrev pub IsWithdrawals : FactSet → BTreeSet Dot → Type 0
+IsWithdrawals F t = (q : Dot) → keys.contains dot_cmp t q ≡ is_withdrawn F q
+
+-- ---- revocations
+
+-- by token, then by its digest, then by the client
+abbrev pub revocation_cmp : Revocation → Revocation → Ordering
+revocation_cmp a b = ordering_then (dot_cmp a.dot b.dot) (ordering_then (nat_cmp a.kind b.kind) (ordering_then (slice_cmp nat_cmp a.digest b.digest) (dot_cmp a.client b.client)))
+
+abbrev pub revocation_key : TokenId → List ℕ → Dot → Revocation
+revocation_key k digest client = record { dot = k.dot; kind = kind_number k.kind; digest = digest; client = client }
+
+-- the table says that the client revoked the token of the digest
+abbrev pub is_listed_revoked : BTreeSet Revocation → TokenId → List ℕ → Dot → Bool
+is_listed_revoked t k digest client = keys.contains revocation_cmp t (revocation_key k digest client)
+
+-- each revocation is there, and no other
+abbrev pub IsRevocations : FactSet → BTreeSet Revocation → Type 0
+IsRevocations F t = (k : TokenId) (digest : List ℕ) (client : Dot) → is_listed_revoked t k digest client ≡ is_revoked F k digest client
+
+-- ---- the forest
+
+-- a forest has the links and the marks of the set
+pub record IsTied (F : FactSet) (x : ForestFacts) : Type 0 where
+  pub links : (q : Dot) → map.get x.links q ≡ links_in (map.get F) q
+  pub marks : (k : TokenId) → set.contains x.marks k ≡ is_marked F k
+
+abbrev pub refresh_at : Dot → TokenId
+refresh_at d = record { dot = d; kind = kind.Refresh }
+
+-- the token is the refresh token of the dot, and its client revoked it
+abbrev pub woken : FactSet → TokenId → Dot → Bool
+woken F k d = is_same_token (refresh_at d) k && is_ended F (refresh_at d)
+
+-- it is one of the dots
+abbrev pub any_woken : FactSet → TokenId → List Dot → Bool
+any_woken F k ds = list_any (woken F k) ds
+
+-- ---- all of it
+
+-- each table, and the forest, are those of the set
+pub record IsIndexed (F : FactSet) (x : Index) : Type 0 where
+  pub clients_are : IsClients F x.clients
+  pub consents_are : IsConsents F x.consents
+  pub withdrawn_are : IsWithdrawals F x.withdrawn
+  pub revocations_are : IsRevocations F x.revocations
+  pub tied : IsTied F x.forest

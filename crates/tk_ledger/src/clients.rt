@@ -1,0 +1,39 @@
+//! Clients: what was added at a dot, and whether it was retired.
+
+ghost use Rattle.std.specs.Prelude.{◌≡◌};
+ghost use Rattle.std.specs.Option.{option_copied};
+ghost use Rattle.tk_store.specs.Store.{facts_of};
+ghost use Rattle.tk_ledger.specs.Clients as spec;
+
+use crate::client_rows;
+use crate::ledger::Ledger;
+use tk_fact::{Body, ClientAdded};
+use tk_handle::Dot;
+
+fn added_in(body: &Body) -> Option<&ClientAdded>
+    ensures { option_copied result ≡ spec.added_in body.now }
+{
+    match body {
+        Body::ClientAdded(client) => Some(client),
+        _ => None,
+    }
+}
+
+impl Ledger {
+    // The client that was added at the dot.
+    pub(crate) fn added_at(&self, at: Dot) -> Option<&ClientAdded>
+        ensures { option_copied result ≡ spec.client_at (facts_of self.now) at }
+    {
+        match self.store.get(at) {
+            Some(fact) => added_in(&fact.body),
+            None => None,
+        }
+    }
+
+    // Whether a client was added at the dot and no retirement of it is held, by one look-up.
+    pub(crate) fn has_live_client(&self, client: Dot) -> bool
+        ensures { result ≡ spec.is_live_client (facts_of self.now) client }
+    {
+        client_rows::is_live(&self.index.clients, client)
+    }
+}

@@ -1,0 +1,133 @@
+//! Consents: what was given at a dot, whether it was withdrawn, and the first for a scope.
+
+ghost use Rattle.std.specs.Prelude.{◌≡◌};
+ghost use Rattle.std.specs.BTreeSet.{IsOrdered};
+ghost use Rattle.std.specs.FinMap as map;
+ghost use Rattle.std.specs.List.{find};
+ghost use Rattle.std.specs.Option.{option_copied};
+ghost use Rattle.sha2.specs.Sha256.{sha256};
+ghost use Rattle.tk_store.specs.Store.{facts_of};
+ghost use Rattle.tk_ledger.specs.Clients as spec;
+ghost use Rattle.tk_ledger.specs.Index.{consent_cmp, consent_key, least_dot, greatest_dot, span_of};
+
+use crate::change::subject_digest;
+use crate::compare::{same_bytes, same_dots};
+use crate::consent_keys::{self, ConsentKey};
+use crate::ledger::Ledger;
+use std::collections::BTreeSet;
+use std::ops::Bound;
+use tk_fact::{Body, ConsentGiven, Subject};
+use tk_handle::{Dot, RegionNumber, Serial};
+use tk_scope::Scope;
+
+pub(crate) fn given_in(body: &Body) -> Option<&ConsentGiven>
+    ensures { option_copied result ≡ spec.given_in body.now }
+{
+    match body {
+        Body::ConsentGiven(consent) => Some(consent),
+        _ => None,
+    }
+}
+
+// Whether the subject gave the consent to the client.
+pub(crate) fn gives(consent: Option<&ConsentGiven>, client: Dot, subject: &Subject) -> bool
+    ensures { result ≡ spec.gives client subject.now (option_copied consent.entry) }
+{
+    match consent {
+        Some(consent) => {
+            same_dots(consent.client, client)
+                && same_bytes(consent.subject.as_bytes(), subject.as_bytes())
+        }
+        None => false,
+    }
+}
+
+fn grants(consent: Option<&ConsentGiven>, client: Dot, subject: &Subject, scope: &Scope) -> bool
+    ensures { result ≡ spec.grants client subject.now scope.now (option_copied consent.entry) }
+{
+    match consent {
+        Some(given) => gives(Some(given), client, subject) && scope.within(&given.scope),
+        None => false,
+    }
+}
+
+// The least key that a consent of the subject's to the client can have, and the greatest.
+fn span(client: Dot, subject: &[u8; 32]) -> (ConsentKey, ConsentKey)
+    ensures first { result.0 ≡ consent_key client subject.now least_dot }
+    ensures last { result.1 ≡ consent_key client subject.now greatest_dot }
+{
+    let (Some(least), Some(greatest)) = (RegionNumber::new(1), RegionNumber::new(u16::MAX)) else {
+        unreachable!()
+    };
+    let (Some(least), Some(greatest)) = (
+        Dot::new(least, 1),
+        Dot::new(greatest, Serial::GREATEST),
+    ) else {
+        unreachable!()
+    };
+    let key = |consent: Dot| ConsentKey {
+        client,
+        subject: *subject,
+        consent,
+    };
+    (key(least), key(greatest))
+}
+
+impl Ledger {
+    // The consent that was given at the dot.
+    pub(crate) fn given_at(&self, at: Dot) -> Option<&ConsentGiven>
+        ensures { option_copied result ≡ spec.consent_at (facts_of self.now) at }
+    {
+        match self.store.get(at) {
+            Some(fact) => given_in(&fact.body),
+            None => None,
+        }
+    }
+
+    // Whether a withdrawal of the consent is held, by one look-up.
+    pub(crate) fn has_withdrawn(&self, consent: Dot) -> bool
+        ensures { result ≡ spec.is_withdrawn (facts_of self.now) consent }
+    {
+        consent_keys::is_withdrawn(&self.index.withdrawn, consent)
+    }
+
+    // Whether a live consent of the client and subject for the scope was given at the dot.
+    fn serves(&self, client: Dot, subject: &Subject, scope: &Scope, consent: Dot) -> bool
+        ensures { result ≡ spec.serves (facts_of self.now) client subject.now scope.now consent }
+    {
+        grants(self.given_at(consent), client, subject, scope) && !self.has_withdrawn(consent)
+    }
+
+    // The first key of the subject's consents to the client whose consent serves.
+    fn first_key<'a>(
+        &self,
+        consents: &'a BTreeSet<ConsentKey>,
+        client: Dot,
+        subject: &Subject,
+        scope: &Scope,
+    ) -> Option<&'a ConsentKey>
+        ensures first { option_copied result ≡ find (λ k. spec.serves (facts_of self.now) client subject.now scope.now k.consent) (span_of consents.now client (sha256 subject.now)) }
+        ensures sorted { IsOrdered consent_cmp consents.now }
+    {
+        let (first, last) = span(client, &subject_digest(subject));
+        consents
+            .range((Bound::Included(first), Bound::Included(last)))
+            .find(|key| self.serves(client, subject, scope, key.consent))
+    }
+
+    // The least dot of such a one, among those of the subject to the client alone.
+    pub(crate) fn first_consent(
+        &self,
+        client: Dot,
+        subject: &Subject,
+        scope: &Scope,
+    ) -> Option<Dot>
+        ensures value { result ≡ spec.consent_for (facts_of self.now) client subject.now scope.now }
+        ensures least { spec.IsLeastConsent (map.get (facts_of self.now)) client subject.now scope.now result }
+    {
+        match self.first_key(&self.index.consents, client, subject, scope) {
+            Some(key) => Some(key.consent),
+            None => None,
+        }
+    }
+}

@@ -1,0 +1,84 @@
+//! Look-ups among the facts and in the forest.
+
+ghost use Rattle.std.specs.Prelude.{◌≡◌};
+ghost use Rattle.std.specs.Option.{option_copied, option_map};
+ghost use Rattle.std.specs.FinMap as map;
+ghost use Rattle.tk_family.specs.ForestFacts.{links_at};
+ghost use Rattle.tk_family.specs.Walks.{code_of};
+ghost use Rattle.tk_fact.specs.Tokens.{shown_minted};
+ghost use Rattle.tk_store.specs.Store.{facts_of};
+ghost use Rattle.tk_ledger.specs.ByTop.{code_in_top, root_by};
+ghost use Rattle.tk_ledger.specs.Tokens as spec;
+
+use crate::root::Root;
+use tk_fact::{Body, CodeIssued, Minted};
+use tk_family::{Forest, Steps, Top};
+use tk_handle::{Dot, TokenId};
+use tk_store::FactStore;
+
+pub(crate) fn issued_in(body: &Body) -> Option<&CodeIssued>
+    ensures { option_copied result ≡ spec.issued_in body.now }
+{
+    match body {
+        Body::CodeIssued(fact) => Some(fact),
+        _ => None,
+    }
+}
+
+// The fact that issued the code.
+fn issued_at(facts: &FactStore, code: Dot) -> Option<&CodeIssued>
+    ensures { option_copied result ≡ spec.issued_at (map.get (facts_of facts.now)) code }
+{
+    match facts.get(code) {
+        Some(fact) => issued_in(&fact.body),
+        None => None,
+    }
+}
+
+// The root that is this code.
+pub(crate) fn root_of(facts: &FactStore, code: Dot) -> Option<Root<'_>>
+    ensures { result ≡ spec.root_of (map.get (facts_of facts.now)) code }
+{
+    match issued_at(facts, code) {
+        Some(issued) => Some(Root { code, issued }),
+        None => None,
+    }
+}
+
+fn code_of_top(top: Top) -> Option<Dot>
+    ensures { result ≡ code_in_top top }
+{
+    match top {
+        Top::Absent => None,
+        Top::Broken => None,
+        Top::Code(code) => Some(code),
+        Top::Dead(code) => Some(code),
+    }
+}
+
+// The code that the dot is under.
+fn code_above(forest: &Forest, dot: Dot) -> Option<Dot>
+    ensures { result ≡ code_of (links_at forest.now) dot }
+{
+    code_of_top(forest.top(dot, &mut Steps::new()))
+}
+
+// The root of the family that the dot is in.
+pub(crate) fn root_above<'a>(facts: &'a FactStore, forest: &Forest, dot: Dot) -> Option<Root<'a>>
+    ensures { result ≡ root_by (map.get (facts_of facts.now)) (code_of (links_at forest.now) dot) }
+{
+    match code_above(forest, dot) {
+        Some(code) => root_of(facts, code),
+        None => None,
+    }
+}
+
+// What the fact at the token's dot says of it.
+pub(crate) fn minted_at<'a>(facts: &'a FactStore, token: &TokenId) -> Option<Minted<'a>>
+    ensures { option_map shown_minted result ≡ spec.minted_in (map.get (facts_of facts.now)) token.now }
+{
+    match facts.get(token.dot) {
+        Some(fact) => fact.minted(token.kind),
+        None => None,
+    }
+}

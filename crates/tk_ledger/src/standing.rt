@@ -1,0 +1,266 @@
+//! Where a token stands, by at most eight look-ups.
+
+ghost use Rattle.std.specs.Prelude.{◌≡◌, ◌+◌, ◌^◌, ◌<◌, ◌≤◌};
+ghost use Rattle.std.specs.Option.{option_copied, option_map};
+ghost use Rattle.std.specs.FinMap as map;
+ghost use Rattle.tk_fact.specs.Tokens.{minted_of, shown_minted};
+ghost use Rattle.tk_store.specs.Store.{facts_of};
+ghost use Rattle.tk_ledger.specs.ByTop as by;
+ghost use Rattle.tk_ledger.specs.Clients as clients_of;
+ghost use Rattle.tk_ledger.specs.Status as spec;
+ghost use Rattle.tk_ledger.specs.Tokens as tokens_of;
+
+use crate::compare::same_digests;
+use crate::consents::{gives, given_in};
+use crate::ledger::Ledger;
+use crate::looks::issued_in;
+use crate::revocations;
+use crate::root::Root;
+use crate::status::{Standing, State, Status};
+use tk_fact::{Body, CodeIssued, ConsentGiven, Fact, Minted};
+use tk_family::{Steps, Top};
+use tk_handle::{Dot, Handle, Kind, Moment, TokenId};
+
+// What the fact says of the token of the handle, where it minted one of that kind and digest.
+fn minted_as<'a>(fact: &'a Fact, handle: &Handle) -> Option<Minted<'a>>
+    ensures { option_map shown_minted result ≡ spec.with_digest (spec.digest_of handle.now) (minted_of fact.now.1 handle.now.id.kind) }
+{
+    match fact.minted(handle.id.kind) {
+        Some(minted) => {
+            if same_digests(minted.digest, &handle.digest()) {
+                Some(minted)
+            } else {
+                None
+            }
+        }
+        None => None,
+    }
+}
+
+// How many rotations lie between the code and the tokens of the fact.
+fn generation(body: &Body) -> u16
+    ensures { result ≡ spec.generation_of body.now }
+{
+    match body {
+        Body::RefreshRotated(fact) => fact.generation,
+        _ => 0,
+    }
+}
+
+fn is_access(kind: Kind) -> bool
+    ensures { result ≡ spec.is_access kind }
+{
+    matches!(kind, Kind::Access)
+}
+
+// ---- single look-ups, each counted
+
+impl Ledger {
+    fn look(&self, dot: Dot, steps: &mut Steps) -> Option<&Fact>
+        ensures value { option_copied result ≡ option_map (λ body. (dot, body)) (map.get (facts_of self.now) dot) }
+        ensures first { steps.old + 1 < 2 ^ 64 → steps.new ≡ steps.old + 1 }
+        ensures more { steps.old ≤ steps.new }
+        ensures at_most { steps.new ≤ steps.old + 1 }
+    {
+        steps.tick();
+        self.store.get(dot)
+    }
+
+    fn top(&self, dot: Dot, steps: &mut Steps) -> Top
+        ensures value { by.TopSays (facts_of self.now) dot result }
+        ensures more { steps.old ≤ steps.new }
+        ensures at_most { steps.new ≤ steps.old + 2 }
+    {
+        self.index.forest.top(dot, steps)
+    }
+
+    fn is_live_client(&self, client: Dot, steps: &mut Steps) -> bool
+        ensures value { result ≡ clients_of.is_live_client (facts_of self.now) client }
+        ensures more { steps.old ≤ steps.new }
+        ensures at_most { steps.new ≤ steps.old + 1 }
+    {
+        steps.tick();
+        self.has_live_client(client)
+    }
+
+    fn is_withdrawn(&self, consent: Dot, steps: &mut Steps) -> bool
+        ensures value { result ≡ clients_of.is_withdrawn (facts_of self.now) consent }
+        ensures more { steps.old ≤ steps.new }
+        ensures at_most { steps.new ≤ steps.old + 1 }
+    {
+        steps.tick();
+        self.has_withdrawn(consent)
+    }
+
+    fn is_used(&self, token: TokenId, steps: &mut Steps) -> bool
+        ensures value { result ≡ tokens_of.is_used (facts_of self.now) token }
+        ensures more { steps.old ≤ steps.new }
+        ensures at_most { steps.new ≤ steps.old + 1 }
+    {
+        self.index.forest.used(token, steps)
+    }
+
+    fn is_revoked(&self, token: &TokenId, digest: &[u8; 32], client: Dot, steps: &mut Steps) -> bool
+        ensures value { result ≡ tokens_of.is_revoked (facts_of self.now) token.now digest.now client }
+        ensures more { steps.old ≤ steps.new }
+        ensures at_most { steps.new ≤ steps.old + 1 }
+    {
+        steps.tick();
+        revocations::is_revoked(&self.index.revocations, token, digest, client)
+    }
+}
+
+// ---- what they tell together
+
+impl Ledger {
+    fn issued_at(&self, code: Dot, steps: &mut Steps) -> Option<&CodeIssued>
+        ensures value { option_copied result ≡ tokens_of.issued_at (map.get (facts_of self.now)) code }
+        ensures more { steps.old ≤ steps.new }
+        ensures at_most { steps.new ≤ steps.old + 1 }
+    {
+        match self.look(code, steps) {
+            Some(fact) => issued_in(&fact.body),
+            None => None,
+        }
+    }
+
+    // The root that is this code.
+    fn root_of(&self, code: Dot, steps: &mut Steps) -> Option<Root<'_>>
+        ensures value { result ≡ tokens_of.root_of (map.get (facts_of self.now)) code }
+        ensures more { steps.old ≤ steps.new }
+        ensures at_most { steps.new ≤ steps.old + 1 }
+    {
+        match self.issued_at(code, steps) {
+            Some(issued) => Some(Root { code, issued }),
+            None => None,
+        }
+    }
+
+    fn consent_at(&self, at: Dot, steps: &mut Steps) -> Option<&ConsentGiven>
+        ensures value { option_copied result ≡ clients_of.consent_at (facts_of self.now) at }
+        ensures more { steps.old ≤ steps.new }
+        ensures at_most { steps.new ≤ steps.old + 1 }
+    {
+        match self.look(at, steps) {
+            Some(fact) => given_in(&fact.body),
+            None => None,
+        }
+    }
+
+    // Whether the consent of a code is live.
+    fn is_live_consent(&self, code: &CodeIssued, steps: &mut Steps) -> bool
+        ensures value { result ≡ clients_of.is_live_consent (facts_of self.now) code.now }
+        ensures more { steps.old ≤ steps.new }
+        ensures at_most { steps.new ≤ steps.old + 2 }
+    {
+        gives(
+            self.consent_at(code.consent, steps),
+            code.client,
+            &code.subject,
+        ) && !self.is_withdrawn(code.consent, steps)
+    }
+
+    // The first state that holds, by at most four look-ups.
+    fn state(
+        &self,
+        now: Moment,
+        token: &TokenId,
+        minted: &Minted<'_>,
+        dead: bool,
+        issued: &CodeIssued,
+        steps: &mut Steps,
+    ) -> State
+        ensures value { result ≡ by.state_by dead (facts_of self.now) now token.now (shown_minted minted.now) issued.now }
+        ensures more { steps.old ≤ steps.new }
+        ensures at_most { steps.new ≤ steps.old + 4 }
+    {
+        if dead {
+            State::Dead
+        } else if !(self.is_live_client(issued.client, steps)
+            && self.is_live_consent(issued, steps))
+        {
+            State::Withdrawn
+        } else if issued.family_end.seconds() <= now.seconds() {
+            State::Over
+        } else if !is_access(token.kind) && self.is_used(*token, steps) {
+            State::Used
+        } else if minted.expiry.seconds() <= now.seconds() {
+            State::Past
+        } else if is_access(token.kind)
+            && self.is_revoked(token, minted.digest, issued.client, steps)
+        {
+            State::Ended
+        } else {
+            State::Live
+        }
+    }
+
+    // Of a token under the code, where it is known whether its family is dead.
+    fn under<'a>(
+        &'a self,
+        now: Moment,
+        token: &TokenId,
+        body: &Body,
+        minted: &Minted<'a>,
+        dead: bool,
+        code: Dot,
+        steps: &mut Steps,
+    ) -> Status<'a>
+        ensures value { result ≡ by.by_root dead (facts_of self.now) now token.now body.now (shown_minted minted.now) (tokens_of.root_of (map.get (facts_of self.now)) code) }
+        ensures more { steps.old ≤ steps.new }
+        ensures at_most { steps.new ≤ steps.old + 5 }
+    {
+        match self.root_of(code, steps) {
+            Some(root) => Status::Known(Standing {
+                client: root.issued.client,
+                subject: &root.issued.subject,
+                code: root.code,
+                scope: minted.scope,
+                start: minted.start,
+                expiry: minted.expiry,
+                family_end: root.issued.family_end,
+                generation: generation(body),
+                state: self.state(now, token, minted, dead, root.issued, steps),
+            }),
+            None => Status::Broken(minted.expiry),
+        }
+    }
+
+    // Of a token that the fact minted so, by where its dot stands.
+    fn of_top<'a>(
+        &'a self,
+        now: Moment,
+        token: &TokenId,
+        body: &Body,
+        minted: &Minted<'a>,
+        top: Top,
+        steps: &mut Steps,
+    ) -> Status<'a>
+        ensures value { result ≡ by.by_top (facts_of self.now) now token.now body.now (shown_minted minted.now) top }
+        ensures more { steps.old ≤ steps.new }
+        ensures at_most { steps.new ≤ steps.old + 5 }
+    {
+        match top {
+            Top::Absent => Status::Broken(minted.expiry),
+            Top::Broken => Status::Broken(minted.expiry),
+            Top::Code(code) => self.under(now, token, body, minted, false, code, steps),
+            Top::Dead(code) => self.under(now, token, body, minted, true, code, steps),
+        }
+    }
+
+    // Where the token of a handle stands.
+    pub(crate) fn of_handle(&self, now: Moment, handle: &Handle, steps: &mut Steps) -> Status<'_>
+        ensures value { result ≡ spec.status_in (facts_of self.now) now handle.now }
+        ensures at_least { steps.old + 8 < 2 ^ 64 → steps.old + 1 ≤ steps.new }
+        ensures at_most { steps.new ≤ steps.old + 8 }
+    {
+        let Some(fact) = self.look(handle.id.dot, steps) else {
+            return Status::Unseen;
+        };
+        let Some(minted) = minted_as(fact, handle) else {
+            return Status::Wrong;
+        };
+        let top = self.top(handle.id.dot, steps);
+        self.of_top(now, &handle.id, &fact.body, &minted, top, steps)
+    }
+}

@@ -1,0 +1,99 @@
+//! Revocations of refresh tokens, and the marks that they make once their token is under a code.
+
+ghost use Rattle.std.specs.Prelude.{◌≡◌, ◌||◌};
+ghost use Rattle.std.specs.Option.{option_map};
+ghost use Rattle.std.specs.FinMap as map;
+ghost use Rattle.std.specs.FinSet as set;
+ghost use Rattle.tk_handle.specs.declared.dot.Dot.{Dot as the_dot};
+ghost use Rattle.tk_handle.specs.declared.token_id.TokenId.{TokenId as the_token};
+ghost use Rattle.tk_fact.specs.Tokens.{shown_minted};
+ghost use Rattle.tk_store.specs.Store.{facts_of};
+ghost use Rattle.tk_ledger.specs.Tokens.{links_in, is_ended as ended};
+ghost use Rattle.tk_ledger.specs.Index.{IsRevocations, woken, any_woken};
+ghost use Rattle.tk_ledger.specs.ByTop.{ended_in};
+
+use crate::looks::{minted_at, root_above};
+use crate::revocations::{Revocation, is_revoked};
+use crate::root::Root;
+use std::alloc::AllocError;
+use std::collections::BTreeSet;
+use tk_fact::Minted;
+use tk_family::Forest;
+use tk_handle::{Dot, Kind, TokenId};
+use tk_store::FactStore;
+
+fn is_ended_by(
+    revocations: &BTreeSet<Revocation>,
+    token: &TokenId,
+    minted: &Option<Minted<'_>>,
+    root: &Option<Root<'_>>,
+) -> bool
+    ensures { result ≡ ended_in revocations.now token.now (option_map shown_minted minted.now) root.now }
+{
+    match (minted, root) {
+        (Some(minted), Some(root)) => {
+            is_revoked(revocations, token, minted.digest, root.issued.client)
+        }
+        (Some(_), None) => false,
+        (None, _) => false,
+    }
+}
+
+// Whether the client of the code that it is under revoked the token.
+fn is_ended(
+    facts: &FactStore,
+    revocations: &BTreeSet<Revocation>,
+    forest: &Forest,
+    token: &TokenId,
+) -> bool
+    requires revocations { IsRevocations (facts_of facts.now) revocations.now }
+    requires links { (q : the_dot) → map.get forest.now.links q ≡ links_in (map.get (facts_of facts.now)) q }
+    ensures { result ≡ ended (facts_of facts.now) token.now }
+{
+    is_ended_by(
+        revocations,
+        token,
+        &minted_at(facts, token),
+        &root_above(facts, forest, token.dot),
+    )
+}
+
+// Marks the refresh token of the dot, if its client revoked it. A token that is ended stands at a dot that has a link, so
+// this takes no memory.
+pub(crate) fn wake(
+    facts: &FactStore,
+    revocations: &BTreeSet<Revocation>,
+    forest: &mut Forest,
+    at: Dot,
+)
+    requires revocations { IsRevocations (facts_of facts.now) revocations.now }
+    requires links { (q : the_dot) → map.get forest.old.links q ≡ links_in (map.get (facts_of facts.now)) q }
+    ensures links { forest.new.links ≡ forest.old.links }
+    ensures marks { (k : the_token) → set.contains forest.new.marks k ≡ (woken (facts_of facts.now) k at || set.contains forest.old.marks k) }
+{
+    let token = TokenId {
+        dot: at,
+        kind: Kind::Refresh,
+    };
+    if is_ended(facts, revocations, forest, &token) {
+        let done: Result<(), AllocError> = forest.mark(token);
+        done.unwrap();
+    }
+}
+
+// Marks the refresh tokens of the dots whose client revoked them.
+pub(crate) fn wake_all(
+    facts: &FactStore,
+    revocations: &BTreeSet<Revocation>,
+    forest: &mut Forest,
+    dots: &[Dot],
+)
+    requires revocations { IsRevocations (facts_of facts.now) revocations.now }
+    requires links { (q : the_dot) → map.get forest.old.links q ≡ links_in (map.get (facts_of facts.now)) q }
+    ensures links { forest.new.links ≡ forest.old.links }
+    ensures marks { (k : the_token) → set.contains forest.new.marks k ≡ (any_woken (facts_of facts.now) k dots.now || set.contains forest.old.marks k) }
+{
+    for at in dots {
+        wake(facts, revocations, forest, *at);
+    }
+}
