@@ -2,13 +2,19 @@
 //!
 //! A `Ledger` holds the facts of one region, in a `FactStore`. `add` joins a fact to the set or refuses it. `client` and
 //! `consent` show what was registered and granted, `consent_for` finds the consent for a scope, `revoked` asks for a
-//! revocation, and `status` says where the token of a handle stands at a moment. Every answer is computed afresh from the
-//! facts, by walks over the store, and takes no memory. Facts may come from anyone, in any order: all of these answer for
-//! every set.
+//! revocation, and `status` says where the token of a handle stands at a moment, by one to eight look-ups. None of these
+//! questions takes memory. Facts may come from anyone, in any order: all of these answer for every set. Two ledgers are
+//! joined by `Join`, as their stores are.
 //!
-//! Contracts see a ledger as its set of facts alone. In reading order: `Ledger`, `ClientView`, `ConsentView`, `Status`,
-//! `Standing`, `State`. The definitions are in specs/: `Clients`, `Tokens`, `Status`, `Standings`, `Ends`; `plain` computes
-//! them. The functions of `laws` have empty bodies: they are laws of these definitions, stated in specs/Laws.antt.
+//! Contracts see a ledger as its set of facts alone. Beside the facts it keeps an `Index`, of which nothing above this crate
+//! knows: rows and keys by what is asked (`client_rows`, `consent_keys`, `revocations`), and a forest of families. `change`
+//! says what a fact changes in it, `index` makes the change, and `wake` marks refresh tokens whose revocation came before
+//! their family. `looks`, `clients`, `consents` and `standing` ask.
+//!
+//! In reading order: `Ledger`, `ClientView`, `ConsentView`, `Status`, `Standing`, `State`. The definitions are in specs/:
+//! `Clients`, `Tokens`, `Status`, `Standings`, `Ends`; then `Changes`, `Index` and `ByTop` for the index. The functions of
+//! `laws` have empty bodies: they are laws of these definitions, stated in specs/Laws.antt. `plain` computes the definitions
+//! by walks over the facts, for the tests to compare with.
 #![tactic(auto)]
 
 mod change;

@@ -4,6 +4,7 @@ mod facts;
 mod generated;
 mod long;
 mod orders;
+mod refused;
 mod views;
 
 use crate::{Standing, State, Status};

@@ -4,11 +4,11 @@ use super::facts::{
     Place, client_added, client_retired, code_issued, code_redeemed, consent_given,
     consent_withdrawn, dot, handle, refresh_rotated, reuse_seen, token_revoked,
 };
-use super::orders::{Both, add_to_both, in_short};
+use super::orders::{Both, add_to_both, in_short, live_client, live_consent};
 use std::alloc::Global;
 use std::test::Fail;
 use tk_fact::Subject;
-use tk_handle::Kind;
+use tk_handle::{Handle, Kind};
 use tk_scope::Scope;
 
 const PLACES: [Place; 8] = [
@@ -92,33 +92,37 @@ fn filled(alloc: Global, seed: u64) -> Result<Both, Fail> {
     Ok(both)
 }
 
-// Of each token, with its digest and with another: its status in both, which `in_short` compares, and its revocations.
+// Of a token: its status in both, which `in_short` compares, and its revocation by the client at 1:1.
+fn compare_token(both: &Both, token: &Handle) -> Result<(), Fail> {
+    let _ = in_short(both, 1_020, token)?;
+    let (digest, client) = (token.digest(), dot((1, 1))?);
+    let revoked = both.ledger.revoked(&token.id, &digest, client);
+    if revoked != both.plain.revoked(&token.id, &digest, client) {
+        Err("a revocation is told differently")?;
+    }
+    Ok(())
+}
+
+// Of each token, with its digest and with another.
 fn compare_tokens(both: &Both) -> Result<(), Fail> {
     for at in PLACES {
         for kind in KINDS {
             for word in [7, 8, 9] {
-                let token = handle(at, kind, word)?;
-                let _ = in_short(both, 1_020, &token)?;
-                let (digest, client) = (token.digest(), dot(PLACES[0])?);
-                if both.ledger.revoked(&token.id, &digest, client)
-                    != both.plain.revoked(&token.id, &digest, client)
-                {
-                    Err("a revocation is told differently")?;
-                }
+                compare_token(both, &handle(at, kind, word)?)?;
             }
         }
     }
     Ok(())
 }
 
-fn compare_clients(both: &Both) -> Result<(), Fail> {
+// Of each place: the client and the consent there, if any.
+fn compare_views(both: &Both) -> Result<(), Fail> {
     for at in PLACES {
-        let live = both.ledger.client(dot(at)?).map(|client| client.live);
-        if live != both.plain.client(dot(at)?).map(|client| client.live) {
+        let dot = dot(at)?;
+        if live_client(both.ledger.client(dot)) != live_client(both.plain.client(dot)) {
             Err("a client is told differently")?;
         }
-        let live = both.ledger.consent(dot(at)?).map(|consent| consent.live);
-        if live != both.plain.consent(dot(at)?).map(|consent| consent.live) {
+        if live_consent(both.ledger.consent(dot)) != live_consent(both.plain.consent(dot)) {
             Err("a consent is told differently")?;
         }
     }
@@ -144,7 +148,7 @@ fn both_ledgers_say_the_same_of_generated_facts(rt: HostRuntime) -> Result<(), F
     for seed in 0..400 {
         let both = filled(alloc, seed)?;
         compare_tokens(&both)?;
-        compare_clients(&both)?;
+        compare_views(&both)?;
         compare_consents(alloc, &both)?;
         held += both.ledger.store().len();
     }

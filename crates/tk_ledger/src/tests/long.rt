@@ -5,6 +5,7 @@ use super::facts::{code_redeemed, handle, moment, refresh_rotated};
 use super::orders::add_to_ledger;
 use crate::{Ledger, State, Status};
 use std::alloc::Global;
+use std::rt::Clock;
 use std::test::Fail;
 use std::time::{Duration, Instant};
 use tk_family::Steps;

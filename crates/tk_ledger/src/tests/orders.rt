@@ -2,7 +2,7 @@
 
 use super::facts::moment;
 use crate::plain::PlainLedger;
-use crate::{Ledger, State, Status};
+use crate::{ClientView, ConsentView, Ledger, State, Status};
 use std::alloc::Global;
 use std::test::Fail;
 use tk_fact::Fact;
@@ -99,12 +99,28 @@ pub(super) enum Said {
     Known(State),
 }
 
-fn short(status: &Status<'_>) -> Said {
+pub(super) fn short(status: &Status<'_>) -> Said {
     match status {
         Status::Unseen => Said::Unseen,
         Status::Wrong => Said::Wrong,
         Status::Broken(end) => Said::Broken(end.seconds()),
         Status::Known(standing) => Said::Known(standing.state),
+    }
+}
+
+// Whether the client that is shown is live.
+pub(super) fn live_client(client: Option<ClientView<'_>>) -> Option<bool> {
+    match client {
+        Some(client) => Some(client.live),
+        None => None,
+    }
+}
+
+// Whether the consent that is shown is live.
+pub(super) fn live_consent(consent: Option<ConsentView<'_>>) -> Option<bool> {
+    match consent {
+        Some(consent) => Some(consent.live),
+        None => None,
     }
 }
 
