@@ -144,13 +144,13 @@ fn compare_consents(alloc: Global, both: &Both) -> Result<(), Fail> {
 #[test]
 fn both_ledgers_say_the_same_of_generated_facts(rt: HostRuntime) -> Result<(), Fail> {
     let alloc = rt.alloc();
-    let mut held = 0;
+    let mut held: u64 = 0;
     for seed in 0..400 {
         let both = filled(alloc, seed)?;
         compare_tokens(&both)?;
         compare_views(&both)?;
         compare_consents(alloc, &both)?;
-        held += both.ledger.store().len();
+        held = held.saturating_add(both.ledger.store().len());
     }
     assert!(rt; held > 2_400, "{held} facts");
     Ok(())
