@@ -89,24 +89,41 @@ fn fresh(alloc: Global, facts: &[Vec<u8>]) -> Result<Ledger, Fail> {
     Ok(ledger)
 }
 
+// Whether the fact was added, and where memory was refused for it, whether the ledger answered as before and then took it.
+fn is_taken(alloc: Global, ledger: &mut Ledger, before: &Ledger, fact: &[u8]) -> Result<bool, Fail> {
+    match add_to_ledger(alloc, ledger, fact)? {
+        Ok(_) => Ok(true),
+        Err(AddError::Conflict) => Ok(false),
+        Err(AddError::Memory) => {
+            if !agree(ledger, before)? {
+                return Ok(false);
+            }
+            match add_to_ledger(alloc, ledger, fact)? {
+                Ok(_) => Ok(true),
+                Err(_) => Err("no memory for a fact")?,
+            }
+        }
+    }
+}
+
+// The ledger of the first facts is made before the next is added, so that it is there where all later memory is refused.
+fn are_taken(alloc: Global, ledger: &mut Ledger, facts: &[Vec<u8>]) -> Result<bool, Fail> {
+    for (count, fact) in facts.iter().enumerate() {
+        let before = fresh(alloc, &facts[..count])?;
+        if !is_taken(alloc, ledger, &before, fact)? {
+            return Ok(false);
+        }
+    }
+    let all = fresh(alloc, facts)?;
+    agree(ledger, &all)
+}
+
 #[test]
 fn a_fact_that_is_refused_memory_changes_no_answer(rt: HostRuntime) -> Result<(), Fail> {
     let alloc = rt.alloc();
     let facts = facts(alloc)?;
     let mut ledger = Ledger::new(alloc);
-    for (count, fact) in facts.iter().enumerate() {
-        // Once more where memory is refused, after the answers were compared.
-        let mut added = add_to_ledger(alloc, &mut ledger, fact)?;
-        if let Err(AddError::Memory) = added {
-            let before = fresh(alloc, &facts[..count])?;
-            assert!(rt; agree(&ledger, &before)?, "after fact {count}");
-            added = add_to_ledger(alloc, &mut ledger, fact)?;
-        }
-        if added.is_err() {
-            Err("no memory for a fact")?;
-        }
-    }
-    assert!(rt; agree(&ledger, &fresh(alloc, &facts)?)?, "at the end");
+    assert!(rt; are_taken(alloc, &mut ledger, facts.as_slice())?);
     assert_eq!(rt; ledger.store().len(), 10);
     Ok(())
 }
