@@ -1,5 +1,5 @@
 -- Empty tables are those of no fact. Key result: `empty_indexed`.
-use Rattle.std.proofs.Common.{◌≡◌, inl, inr, Bool, true, false, ◌&&◌, List, [], Some, None, is_some, refl, sym, ap, subst, ◌∙◌}
+use Rattle.std.proofs.Common.{◌≡◌, inl, inr, Bool, false, ◌&&◌, List, [], Some, is_some, sym, ap, ◌∙◌}
 use Rattle.std.proofs.lemmas.Bool.{true≢false, or_cases, and_parts, false_from_ne_true}
 use Rattle.std.specs.Option.{option_and_then}
 use Rattle.std.specs.List.{list_any}
@@ -13,7 +13,7 @@ use Rattle.tk_handle.specs.Dot.{dot_cmp}
 use Rattle.tk_handle.specs.TokenId.{token_cmp}
 use Rattle.tk_fact.specs.declared.body.Body.{Body}
 use Rattle.tk_fact.specs.Tokens.{minted_of}
-use Rattle.tk_store.specs.FactSet.{FactSet, any_fact}
+use Rattle.tk_store.specs.FactSet.{any_fact}
 use Rattle.tk_store.proofs.PutLaws.{none_is_not_some}
 use Rattle.tk_store.proofs.EntryLaws.{Passing, any_fact-held}
 use Rattle.tk_ledger.specs.Clients.{added_in, given_in, retires, withdraws}

@@ -3,7 +3,7 @@
 --   put_ties, mark_ties, revoke_ties      the forest after a link, a reuse and a revocation
 --   index_add .. index_mark               all tables, for each kind of change
 --   stored, stored_change, stored_back    a fact at a free dot
-use Rattle.std.proofs.Common.{◌≡◌, ℕ, Bool, true, false, ◌&&◌, ◌||◌, cond, List, Option, Some, None, Result, Ok, Err, OnOk, is_some, refl, sym, ap, subst, ◌∙◌}
+use Rattle.std.proofs.Common.{◌≡◌, ℕ, Bool, true, false, ◌&&◌, ◌||◌, cond, List, Option, Some, None, Result, Ok, Err, OnOk, refl, sym, ap, subst, ◌∙◌}
 use Rattle.std.specs.Option.{option_and_then, option_map}
 use Rattle.std.specs.Ordering.{eq_by_cmp}
 use Rattle.std.specs.Str.{bytes_eq}
@@ -15,7 +15,7 @@ use Rattle.tk_handle.specs.declared.dot.Dot.{Dot}
 use Rattle.tk_handle.specs.declared.token_id.TokenId.{TokenId}
 use Rattle.tk_handle.specs.Dot.{IsDot, dot_cmp}
 use Rattle.tk_family.specs.declared.link.Link.{Link}
-use Rattle.tk_family.specs.Dots.{dot_eq, has}
+use Rattle.tk_family.specs.Dots.{has}
 use Rattle.tk_family.specs.ForestFacts.{ForestFacts, links_at}
 use Rattle.tk_family.specs.Tops.{IsRaised}
 use Rattle.tk_family.proofs.LookUps.{link_put, mark_put}
@@ -27,7 +27,7 @@ use Rattle.tk_store.specs.declared.store.Added.{Added}
 use Rattle.tk_store.specs.declared.store.Added.TheVariants.{New, Held}
 use Rattle.tk_store.proofs.PutLaws.{some_injective, none_is_not_some, get_here, taken_back}
 use Rattle.tk_store.proofs.OneMoreLaws.{OneMore, more_remove}
-use Rattle.tk_ledger.specs.Bodies.{is_same_dot, is_same_token}
+use Rattle.tk_ledger.specs.Bodies.{is_same_dot}
 use Rattle.tk_ledger.specs.Tokens.{link_of, links_in}
 use Rattle.tk_ledger.specs.Changes.{change_in, adds, retires_of, gives_to, withdraws_of, revokes_of, puts, reuses_of}
 use Rattle.tk_ledger.specs.Index.{row_at, row_added, row_retired, is_at, IsClients, consent_cmp, consent_key, is_listed, IsConsents, IsWithdrawals, revocation_cmp, revocation_key, is_listed_revoked, IsRevocations, IsTied, IsIndexed, woken, any_woken}

@@ -65,8 +65,8 @@ token_tied j k =
     ∙ ap (λ x. x && is_eq (nat_cmp (kind_number k.kind) (kind_number j.kind))) (at_is_same k.dot j.dot)
     ∙ ap (λ x. is_same_dot k.dot j.dot && x) (number_tied (kind_number k.kind) (kind_number j.kind))
     ∙ same_tests (is_same_token k j) (is_same_token j k)
-        (λ h. ap (is_same_token j) (same_token-true k j h) ∙ same_token-itself j)
-        (λ h. ap (is_same_token k) (same_token-true j k h) ∙ same_token-itself k)
+    (λ h. ap (is_same_token j) (same_token-true k j h) ∙ same_token-itself j)
+    (λ h. ap (is_same_token k) (same_token-true j k h) ∙ same_token-itself k)
 
 -- the keys of consents tie exactly where client, digest and dot are the same
 pub consent_tied : (c e : Dot) (g h : List ℕ) (d q : Dot) → eq_by_cmp consent_cmp (consent_key c g d) (consent_key e h q) ≡ (is_same_dot c e && (bytes_eq g h && is_same_dot d q))

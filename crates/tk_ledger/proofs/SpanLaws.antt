@@ -24,12 +24,11 @@ use Rattle.sha2.specs.Sha256.{sha256}
 use Rattle.tk_handle.specs.declared.dot.Dot.{Dot}
 use Rattle.tk_handle.specs.Dot.{IsDot, dot_cmp, dot_cmp_total}
 use Rattle.tk_fact.specs.declared.body.Body.{Body}
-use Rattle.tk_fact.specs.declared.consent_given.ConsentGiven as given
 use Rattle.tk_store.specs.FactSet.{FactSet}
 use Rattle.tk_store.proofs.FactSetLaws.{tied}
 use Rattle.tk_store.proofs.PutLaws.{some_injective, none_is_not_some}
 use Rattle.tk_ledger.specs.Bodies.{is_same_dot}
-use Rattle.tk_ledger.specs.Clients.{given_in, consent_at, is_withdrawn, grants, serves, consent_for, IsConsentFor, IsLeastConsent}
+use Rattle.tk_ledger.specs.Clients.{given_in, is_withdrawn, grants, serves, consent_for, IsConsentFor, IsLeastConsent}
 use Rattle.tk_ledger.specs.Index.{consent_cmp, consent_key, least_dot, greatest_dot, is_from, is_listed, IsConsents, span_of}
 use Rattle.tk_ledger.specs.declared.consent_keys.ConsentKey.{ConsentKey}
 use Rattle.tk_ledger.proofs.ConsentLaws.{consents_sound, consents_complete, least_consent}
@@ -227,8 +226,8 @@ first_found F t client subject scope (Some e) i sorted h =
     let here = serves_sound F client subject scope e.consent found.0 in (
       here,
       λ q x below. (let at = listed_of F t client subject scope q i x in
-      first_least (serving F client subject scope) _ t.keys sorted e h (consent_key client (sha256 subject) q) at (in_span client (sha256 subject) q (i.ranged client (sha256 subject) q at)) (serves_complete F client subject scope q x)
-      (ap (consent_cmp (consent_key client (sha256 subject) q)) (key_of_served F t client subject scope e i found.1 here) ∙ key_order client (sha256 subject) q e.consent ∙ below)),
+          first_least (serving F client subject scope) _ t.keys sorted e h (consent_key client (sha256 subject) q) at (in_span client (sha256 subject) q (i.ranged client (sha256 subject) q at)) (serves_complete F client subject scope q x)
+          (ap (consent_cmp (consent_key client (sha256 subject) q)) (key_of_served F t client subject scope e i found.1 here) ∙ key_order client (sha256 subject) q e.consent ∙ below)),
     )
 
 -- there is one least consent

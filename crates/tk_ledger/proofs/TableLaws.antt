@@ -1,13 +1,11 @@
 -- How each table follows the set, when it has one fact more. Key results:
 --   clients_on, consents_on, withdrawals_on, revocations_on
-use Rattle.std.proofs.Common.{◌≡◌, inl, inr, ℕ, Bool, true, false, ◌&&◌, ◌||◌, cond, List, is_some, refl, sym, ap, subst, ◌∙◌}
-use Rattle.std.proofs.lemmas.Bool.{cases_Bool, or_cases, and_parts}
+use Rattle.std.proofs.Common.{◌≡◌, inl, inr, ℕ, Bool, true, false, ◌&&◌, ◌||◌, List, is_some, refl, sym, ap, subst, ◌∙◌}
+use Rattle.std.proofs.lemmas.Bool.{or_cases, and_parts}
 use Rattle.std.specs.Option.{option_and_then}
-use Rattle.std.specs.Str.{bytes_eq}
 use Rattle.std.specs.BTreeMap.{BTreeMap}
 use Rattle.std.specs.BTreeSet.{BTreeSet, contains}
 use Rattle.std.specs.FinMap as map
-use Rattle.sha2.specs.Sha256.{sha256}
 use Rattle.tk_handle.specs.declared.dot.Dot.{Dot}
 use Rattle.tk_handle.specs.declared.token_id.TokenId.{TokenId}
 use Rattle.tk_handle.specs.Dot.{IsDot, dot_cmp}
@@ -23,7 +21,7 @@ use Rattle.tk_ledger.specs.Index.{row_at, row_added, row_retired, is_at, IsClien
 use Rattle.tk_ledger.specs.declared.client_rows.ClientRow.{ClientRow}
 use Rattle.tk_ledger.specs.declared.consent_keys.ConsentKey.{ConsentKey}
 use Rattle.tk_ledger.specs.declared.revocations.Revocation.{Revocation}
-use Rattle.tk_ledger.proofs.KeyLaws.{at_itself, same_tests}
+use Rattle.tk_ledger.proofs.KeyLaws.{at_itself}
 use Rattle.tk_ledger.proofs.SameLaws.{same_dot-true}
 
 -- ---- what a change says is what its body says

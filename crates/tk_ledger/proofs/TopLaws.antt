@@ -2,12 +2,11 @@
 --   top_says, used_says   what the forest's look-ups say of the set
 --   found_body            the body of the fact that a look-up finds
 --   status_by_top         the status by the top is the status of the handle
-use Rattle.std.proofs.Common.{◌≡◌, ℕ, Bool, true, false, List, Option, Some, None, IsTrue, if◌then◌else◌, refl, sym, ap, subst, ◌∙◌}
+use Rattle.std.proofs.Common.{◌≡◌, ℕ, Bool, true, false, List, Option, Some, None, if◌then◌else◌, refl, sym, ap, subst, ◌∙◌}
 use Rattle.std.proofs.lemmas.Bool.{false_from_ne_true}
 use Rattle.std.specs.Option.{option_and_then, option_map}
 use Rattle.std.specs.Str.{bytes_eq}
 use Rattle.std.specs.FinMap as map
-use Rattle.std.specs.FinSet as set
 use Rattle.tk_handle.specs.declared.dot.Dot.{Dot}
 use Rattle.tk_handle.specs.declared.token_id.TokenId.{TokenId}
 use Rattle.tk_handle.specs.declared.handle.Handle.{Handle}
@@ -24,10 +23,9 @@ use Rattle.tk_store.specs.FactSet.{FactSet}
 use Rattle.tk_ledger.specs.ByTop.{TopSays, state_by, by_root, by_top}
 use Rattle.tk_ledger.specs.Index.{IsTied}
 use Rattle.tk_ledger.specs.Status.{state_in, standing_in, with_digest, digest_of, minted_as, status_by, status_in}
-use Rattle.tk_ledger.specs.Tokens.{links_in, code_in, Root, root_of, root_in, minted_in, is_dead, is_used, is_revoked, is_ended, is_ended_by, is_marked, IsMarked}
+use Rattle.tk_ledger.specs.Tokens.{links_in, code_in, Root, root_of, root_in, minted_in, is_dead, is_used, is_revoked, is_ended, is_ended_by, IsMarked}
 use Rattle.tk_ledger.specs.declared.status.State.{State}
-use Rattle.tk_ledger.specs.declared.status.Status.{Status}
-use Rattle.tk_ledger.specs.declared.status.Status.TheVariants.{Broken, Known}
+use Rattle.tk_ledger.specs.declared.status.Status.TheVariants.{Known}
 use Rattle.tk_ledger.proofs.TokenLaws.{is_marked-sound, is_marked-complete, is_dead-sound, is_dead-complete, is_used-sound, is_used-complete, root_at}
 use Rattle.tk_ledger.proofs.KeyLaws.{same_tests}
 use Rattle.tk_ledger.proofs.ForestLaws.{top_code}

@@ -59,10 +59,8 @@ fn span(client: Dot, subject: &[u8; 32]) -> (ConsentKey, ConsentKey)
     let (Some(least), Some(greatest)) = (RegionNumber::new(1), RegionNumber::new(u16::MAX)) else {
         unreachable!()
     };
-    let (Some(least), Some(greatest)) = (
-        Dot::new(least, 1),
-        Dot::new(greatest, Serial::GREATEST),
-    ) else {
+    let (Some(least), Some(greatest)) = (Dot::new(least, 1), Dot::new(greatest, Serial::GREATEST))
+    else {
         unreachable!()
     };
     let key = |consent: Dot| ConsentKey {
@@ -116,12 +114,7 @@ impl Ledger {
     }
 
     // The least dot of such a one, among those of the subject to the client alone.
-    pub(crate) fn first_consent(
-        &self,
-        client: Dot,
-        subject: &Subject,
-        scope: &Scope,
-    ) -> Option<Dot>
+    pub(crate) fn first_consent(&self, client: Dot, subject: &Subject, scope: &Scope) -> Option<Dot>
         ensures value { result ≡ spec.consent_for (facts_of self.now) client subject.now scope.now }
         ensures least { spec.IsLeastConsent (map.get (facts_of self.now)) client subject.now scope.now result }
     {

@@ -47,6 +47,5 @@ pub use status::{Standing, State, Status};
 
 #[cfg(test)]
 mod plain;
-
 #[cfg(test)]
 mod tests;

@@ -11,7 +11,7 @@ ghost use Rattle.tk_ledger.specs.Status as spec;
 ghost use Rattle.tk_ledger.specs.Tokens as tokens_of;
 
 use crate::compare::same_digests;
-use crate::consents::{gives, given_in};
+use crate::consents::{given_in, gives};
 use crate::ledger::Ledger;
 use crate::looks::issued_in;
 use crate::revocations;

@@ -6,8 +6,8 @@ ghost use Rattle.tk_store.specs.Store.{facts_of};
 ghost use Rattle.tk_ledger.specs.Clients as spec;
 ghost use Rattle.tk_ledger.specs.Views.{client_view};
 
-use crate::compare::same_dots;
 use crate::client_view::ClientView;
+use crate::compare::same_dots;
 use tk_fact::{Body, ClientAdded, Fact};
 use tk_handle::Dot;
 use tk_store::FactStore;

@@ -37,7 +37,11 @@ fn place(number: u64) -> Place {
 
 // The kind of fact at a place: in most sets that of the family's story, and in some another.
 fn kind_at(index: u64, number: u64) -> u64 {
-    if number % 4 == 0 { number / 4 % 9 } else { index % 9 }
+    if number % 4 == 0 {
+        number / 4 % 9
+    } else {
+        index % 9
+    }
 }
 
 // The place that a fact names: mostly that of the story, and else any.

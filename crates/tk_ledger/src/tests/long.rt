@@ -24,7 +24,11 @@ fn rotated(alloc: Global, rotations: u16) -> Result<Ledger, Fail> {
     for fact in &before_grants(alloc)? {
         take(alloc, &mut ledger, fact)?;
     }
-    take(alloc, &mut ledger, &code_redeemed(alloc, (1, 4), (1, 3), (7, 8))?)?;
+    take(
+        alloc,
+        &mut ledger,
+        &code_redeemed(alloc, (1, 4), (1, 3), (7, 8))?,
+    )?;
     for generation in 1..=rotations {
         let parent = ((1, 3 + u64::from(generation)), generation);
         let fact = refresh_rotated(alloc, (1, 4 + u64::from(generation)), parent, (7, 8))?;

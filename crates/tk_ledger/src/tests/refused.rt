@@ -90,7 +90,12 @@ fn fresh(alloc: Global, facts: &[Vec<u8>]) -> Result<Ledger, Fail> {
 }
 
 // Whether the fact was added, and where memory was refused for it, whether the ledger answered as before and then took it.
-fn is_taken(alloc: Global, ledger: &mut Ledger, before: &Ledger, fact: &[u8]) -> Result<bool, Fail> {
+fn is_taken(
+    alloc: Global,
+    ledger: &mut Ledger,
+    before: &Ledger,
+    fact: &[u8],
+) -> Result<bool, Fail> {
     match add_to_ledger(alloc, ledger, fact)? {
         Ok(_) => Ok(true),
         Err(AddError::Conflict) => Ok(false),
