@@ -1,5 +1,5 @@
 -- Introspection tells of exactly the active tokens. Key results: says_active, says_nothing.
-use Rattle.std.proofs.Common.{◌≡◌, ◌≢◌, ℕ, Bool, true, false, ◌||◌, not, cond, Some, refl, sym, ap, subst, ◌∙◌}
+use Rattle.std.proofs.Common.{◌≡◌, ◌≢◌, ℕ, Bool, true, false, ◌||◌, not, cond, refl, sym, ap, ◌∙◌}
 use Rattle.std.proofs.lemmas.Bool.{false_from_ne_true}
 use Rattle.std.specs.FinMap as map
 use Rattle.tk_handle.specs.declared.dot.Dot.{Dot}
@@ -22,7 +22,6 @@ use Rattle.tk_ledger.specs.Status.{status_in, IsActive}
 use Rattle.tk_ledger.proofs.StatusCases.{Knows, known_parts}
 use Rattle.tk_ledger.proofs.StatusLaws.{live_is_active, active_is_live}
 use Rattle.tk_message.specs.Reply.{inactive_reply}
-use Rattle.tk_message.specs.ReplyFields.{ReplyFields}
 use Rattle.tk_query.specs.declared.introspected.Introspected.{Introspected}
 use Rattle.tk_query.specs.declared.introspected.Introspected.TheVariants.{Inactive}
 use Rattle.tk_query.specs.Introspected.{sees, is_live, active, introspected_by_status, introspected_by_kind}
