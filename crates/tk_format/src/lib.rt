@@ -12,7 +12,8 @@
 //! - [`ReadError`], malformed or out of memory;
 //! - [`FromBytes`] and [`read_many`], several values of one type;
 //! - [`Spelled`] and [`read_all`], a value that takes all of the bytes;
-//! - [`read_decimal`], a number that is written in decimal digits.
+//! - [`read_decimal`], a number that is written in decimal digits;
+//! - [`read_numeral`], a number of any length, up to a limit.
 //!
 //! `specs/Format.antt` defines formats, `specs/Reading.antt` says what a reader may return, and `specs/Exact.antt`,
 //! `specs/Laws.antt` and `specs/KindLaws.antt` have the laws.
@@ -21,6 +22,7 @@
 mod decimal;
 mod error;
 mod many;
+mod numeral;
 mod reader;
 mod spelled;
 mod writer;
@@ -28,6 +30,7 @@ mod writer;
 pub use decimal::read_decimal;
 pub use error::ReadError;
 pub use many::{FromBytes, read_many};
+pub use numeral::{Numeral, read_numeral};
 pub use reader::Reader;
 pub use spelled::{Spelled, read_all};
 pub use writer::Writer;

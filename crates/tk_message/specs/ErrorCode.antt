@@ -1,10 +1,10 @@
--- The codes of errors (RFC 6749, 4.1.2.1 and 5.2; `not_found` is own).
+-- The codes of errors (RFC 6749, 4.1.2.1 and 5.2; `not_found` and the last four, of requests that aren't read, are own).
 --   error_row      the status and the name of each; error_status, error_name, the one and the other
 use Rattle.std.specs.Prelude.{ℕ, List, codes}
 use Rattle.tk_message.specs.declared.status.Status.{Status}
 use Rattle.tk_message.specs.declared.status.Status.TheVariants as status
 use Rattle.tk_message.specs.declared.error_code.ErrorCode.{ErrorCode}
-use Rattle.tk_message.specs.declared.error_code.ErrorCode.TheVariants.{InvalidRequest, InvalidClient, InvalidGrant, InvalidScope, UnsupportedGrantType, UnsupportedResponseType, AccessDenied, NotFound, TemporarilyUnavailable}
+use Rattle.tk_message.specs.declared.error_code.ErrorCode.TheVariants.{InvalidRequest, InvalidClient, InvalidGrant, InvalidScope, UnsupportedGrantType, UnsupportedResponseType, AccessDenied, NotFound, TemporarilyUnavailable, BadRequest, MethodNotAllowed, LengthRequired, TooLarge}
 
 -- an unknown client is 401, what RFC 6749 names else is 400 (RFC 6749, 5.2), but for a server that can't answer
 abbrev pub error_row : ErrorCode → Status × List ℕ
@@ -17,6 +17,10 @@ error_row UnsupportedResponseType = (status.BadRequest, codes "unsupported_respo
 error_row AccessDenied = (status.BadRequest, codes "access_denied")
 error_row NotFound = (status.NotFound, codes "not_found")
 error_row TemporarilyUnavailable = (status.ServiceUnavailable, codes "temporarily_unavailable")
+error_row BadRequest = (status.BadRequest, codes "bad_request")
+error_row MethodNotAllowed = (status.MethodNotAllowed, codes "method_not_allowed")
+error_row LengthRequired = (status.LengthRequired, codes "length_required")
+error_row TooLarge = (status.ContentTooLarge, codes "too_large")
 
 abbrev pub error_status : ErrorCode → Status
 error_status code = (error_row code).0

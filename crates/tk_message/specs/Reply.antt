@@ -18,7 +18,7 @@ use Rattle.tk_handle.specs.declared.handle.Handle.{Handle}
 use Rattle.tk_match.specs.ReplyUri.{reply_of}
 use Rattle.tk_fact.specs.declared.sort.Sort.{Sort}
 use Rattle.tk_message.specs.declared.status.Status.{Status}
-use Rattle.tk_message.specs.declared.status.Status.TheVariants.{Ok, Created, Found, BadRequest, Unauthorized, NotFound, ServiceUnavailable}
+use Rattle.tk_message.specs.declared.status.Status.TheVariants.{Ok, Created, Found, BadRequest, Unauthorized, NotFound, MethodNotAllowed, LengthRequired, ContentTooLarge, ServiceUnavailable}
 use Rattle.tk_message.specs.declared.error_code.ErrorCode.{ErrorCode}
 use Rattle.tk_message.specs.ErrorCode.{error_status, error_name}
 use Rattle.tk_message.specs.Bodies.{error_body, client_body, consent_body, shown_body, token_body, access_body, refresh_body, inactive_body}
@@ -32,6 +32,9 @@ asks_credentials Found = false
 asks_credentials BadRequest = false
 asks_credentials Unauthorized = true
 asks_credentials NotFound = false
+asks_credentials MethodNotAllowed = false
+asks_credentials LengthRequired = false
+asks_credentials ContentTooLarge = false
 asks_credentials ServiceUnavailable = false
 
 -- the body's text without spaces, and no place to be sent to

@@ -26,6 +26,14 @@ pub enum ErrorCode {
     NotFound,
     /// No fact may be made (the name is of RFC 6749, 4.1.2.1).
     TemporarilyUnavailable,
+    /// The request isn't one of HTTP, or breaks a rule of its fields (own; RFC 9110, 15.5.1).
+    BadRequest,
+    /// The path has another method (own; RFC 9110, 15.5.6).
+    MethodNotAllowed,
+    /// A body comes without its length (own; RFC 9110, 15.5.12).
+    LengthRequired,
+    /// The body is longer than is read (own; RFC 9110, 15.5.14).
+    TooLarge,
 }
 
 impl ErrorCode {
@@ -43,6 +51,10 @@ impl ErrorCode {
             ErrorCode::AccessDenied => "access_denied",
             ErrorCode::NotFound => "not_found",
             ErrorCode::TemporarilyUnavailable => "temporarily_unavailable",
+            ErrorCode::BadRequest => "bad_request",
+            ErrorCode::MethodNotAllowed => "method_not_allowed",
+            ErrorCode::LengthRequired => "length_required",
+            ErrorCode::TooLarge => "too_large",
         }
     }
 
@@ -56,10 +68,14 @@ impl ErrorCode {
             | ErrorCode::InvalidScope
             | ErrorCode::UnsupportedGrantType
             | ErrorCode::UnsupportedResponseType
-            | ErrorCode::AccessDenied => Status::BadRequest,
+            | ErrorCode::AccessDenied
+            | ErrorCode::BadRequest => Status::BadRequest,
             ErrorCode::InvalidClient => Status::Unauthorized,
             ErrorCode::NotFound => Status::NotFound,
             ErrorCode::TemporarilyUnavailable => Status::ServiceUnavailable,
+            ErrorCode::MethodNotAllowed => Status::MethodNotAllowed,
+            ErrorCode::LengthRequired => Status::LengthRequired,
+            ErrorCode::TooLarge => Status::ContentTooLarge,
         }
     }
 }

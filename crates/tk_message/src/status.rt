@@ -18,6 +18,12 @@ pub enum Status {
     Unauthorized,
     /// 404 Not Found.
     NotFound,
+    /// 405 Method Not Allowed.
+    MethodNotAllowed,
+    /// 411 Length Required.
+    LengthRequired,
+    /// 413 Content Too Large.
+    ContentTooLarge,
     /// 503 Service Unavailable.
     ServiceUnavailable,
 }
@@ -34,6 +40,9 @@ impl Status {
             Status::BadRequest => 400,
             Status::Unauthorized => 401,
             Status::NotFound => 404,
+            Status::MethodNotAllowed => 405,
+            Status::LengthRequired => 411,
+            Status::ContentTooLarge => 413,
             Status::ServiceUnavailable => 503,
         }
     }

@@ -31,8 +31,8 @@ fn is_json(rt: &impl Abort, name: &str, reply: &Reply, status: u16, body: &str) 
     }
 }
 
-// Each error code with its status (RFC 6749, 4.1.2.1 and 5.2), its name, and whether credentials are asked for.
-const ERRORS: [(ErrorCode, u16, &str, bool); 9] = [
+// Each error code with its status (RFC 6749, 4.1.2.1 and 5.2; RFC 9110, 15.5), its name, and whether credentials are asked for.
+const ERRORS: [(ErrorCode, u16, &str, bool); 13] = [
     (ErrorCode::InvalidRequest, 400, "invalid_request", false),
     (ErrorCode::InvalidClient, 401, "invalid_client", true),
     (ErrorCode::InvalidGrant, 400, "invalid_grant", false),
@@ -57,6 +57,15 @@ const ERRORS: [(ErrorCode, u16, &str, bool); 9] = [
         "temporarily_unavailable",
         false,
     ),
+    (ErrorCode::BadRequest, 400, "bad_request", false),
+    (
+        ErrorCode::MethodNotAllowed,
+        405,
+        "method_not_allowed",
+        false,
+    ),
+    (ErrorCode::LengthRequired, 411, "length_required", false),
+    (ErrorCode::TooLarge, 413, "too_large", false),
 ];
 
 #[test]

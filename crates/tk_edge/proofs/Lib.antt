@@ -1,0 +1,5 @@
+pub mod AnswerLaws
+pub mod BodyLaws
+pub mod HeadLaws
+pub mod PieceLaws
+pub mod StreamLaws

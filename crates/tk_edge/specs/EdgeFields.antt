@@ -1,0 +1,12 @@
+-- What contracts see of an edge: its region, and whether it is sealed (own).
+use Rattle.std.specs.Prelude.{ℕ, Bool, refl}
+use Rattle.std.specs.Coded.{Coded, code_by, coded×, coded_bool}
+use Rattle.tk_region.specs.RegionFields.{RegionFields, coded_region}
+
+pub record EdgeFields : Type 0 where
+  pub region : RegionFields
+  pub sealed : Bool
+
+-- as pairs
+abbrev pub coded_edge : Coded EdgeFields
+coded_edge = code_by (RegionFields × Bool) (coded× coded_region coded_bool) (λ e. (e.region, e.sealed)) (λ p. record { region = p.0; sealed = p.1 }) (λ _. refl)

@@ -1,0 +1,105 @@
+//! What is answered, and the fact that is added before it goes out.
+
+use std::marker::Model;
+use tk_message::Status;
+
+/// A reply as bytes, with the record of the fact that was made for it. Contracts see the bytes that its parts hold.
+#[derive(Debug, Drop)]
+pub struct Answer {
+    /// The status of the reply.
+    pub status: Status,
+    /// The whole reply: head and body.
+    pub bytes: Vec<u8>,
+    /// The record of the fact, the bundle of it alone; None where the request made none.
+    pub logged: Option<Vec<u8>>,
+}
+
+impl Model for Answer {
+    ghost use Rattle.std.specs.Option.{option_map};
+    ghost use Rattle.tk_edge.specs.Told.{AnswerFields};
+
+    ghost Value = { AnswerFields };
+
+    ghost view = { λ a. record { status = a.status; bytes = a.bytes.items; logged = option_map (λ v. v.items) a.logged } };
+}
+
+ghost use Rattle.std.specs.Prelude.{◌≡◌, IfOk, IfSome, None};
+ghost use Rattle.tk_region.specs.Step.{IsNextFact};
+ghost use Rattle.tk_edge.specs.Answers as spec;
+
+use crate::hear::Heard;
+use crate::refusal::Refusal;
+use crate::render::render;
+use std::alloc::{AllocError, Global};
+use tk_handle::Moment;
+use tk_message::{Request, error_reply};
+use tk_region::{Handled, Prepared, Region};
+
+// Answers what was heard, at the moment and with the six words. Where memory is refused nothing has changed.
+pub(crate) fn answer_heard(
+    alloc: Global,
+    region: &mut Region,
+    now: Moment,
+    words: &[u64; 6],
+    heard: &Heard,
+) -> Result<Answer, AllocError>
+    ensures { spec.Answers region.old now words.now heard.now result region.new }
+{
+    match heard {
+        Heard::Silence => Ok(silent(alloc)),
+        Heard::Refused(why) => refuse(alloc, *why),
+        Heard::Asked(request) => answer_request(alloc, region, now, words, request),
+    }
+}
+
+fn silent(alloc: Global) -> Answer
+    ensures { result ≡ spec.silent }
+{
+    Answer {
+        status: Status::BadRequest,
+        bytes: Vec::new(alloc),
+        logged: None,
+    }
+}
+
+// The answer to what isn't handed to the region.
+pub(crate) fn refuse(alloc: Global, why: Refusal) -> Result<Answer, AllocError>
+    ensures { IfOk result (λ answer. answer ≡ spec.refused_by why) }
+{
+    let reply = error_reply(alloc, why.code())?;
+    let bytes = render(alloc, &reply, why.allowed())?;
+    Ok(Answer {
+        status: reply.status,
+        bytes,
+        logged: None,
+    })
+}
+
+fn answer_request(
+    alloc: Global,
+    region: &mut Region,
+    now: Moment,
+    words: &[u64; 6],
+    request: &Request,
+) -> Result<Answer, AllocError>
+    ensures { spec.Answers region.old now words.now (Heard.Asked request.now) result region.new }
+{
+    let prepared = region.decide(alloc, now, words, request)?;
+    send(alloc, region, prepared)
+}
+
+// Renders and only then adds the fact: where memory is refused, no fact is without its reply.
+fn send(alloc: Global, region: &mut Region, prepared: Prepared) -> Result<Answer, AllocError>
+    requires { IfSome prepared.fact (IsNextFact region.old) }
+    ensures { spec.AnswersBy region.old (spec.rendered prepared.reply None prepared.logged) prepared.fact result region.new }
+{
+    let parts = &prepared;
+    let bytes = render(alloc, &parts.reply, None)?;
+    let Handled { reply, logged } = region.commit(prepared)?;
+    let status = reply.status;
+    Ok(Answer {
+        status,
+        bytes,
+        logged,
+    })
+}

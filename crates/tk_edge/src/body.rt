@@ -1,0 +1,37 @@
+//! The body of a request, behind a head that may have brought some of it.
+
+ghost use Rattle.std.specs.Prelude.{◌≡◌, ℕ, ◌≤◌, ◌++◌, List, length, take, Some, IfOk};
+ghost use Rattle.tk_edge.specs.Failures.{CountsFailure};
+
+use crate::device::{Failed, Source};
+use crate::head::take_more;
+
+// Fills the body from the bytes that came with the head, and then from the source. Answers how many bytes there were: fewer
+// than the body has room for, where the stream ended first.
+pub(crate) fn read_body<S: Source>(
+    source: &mut S,
+    front: &[u8],
+    body: &mut [u8],
+) -> Result<usize, Failed>
+    ensures within { IfOk result (λ n. n ≤ length body.new) }
+    ensures room { length body.new ≡ length body.old }
+    ensures taken { IfOk result (λ n. (rest : List ℕ) → S.coming source.old ≡ Some rest
+        → take n body.new ≡ take (length body.old) (front.now ++ rest)) }
+    ensures failures { CountsFailure result (S.failed source.old) (S.failed source.new) }
+{
+    let size = body.len();
+    if size <= front.len() {
+        body.copy_from_slice(&front[..size]);
+        return Ok(size);
+    }
+    let mut at = front.len();
+    body[..at].copy_from_slice(front);
+    'pieces: while at < body.len() {
+        let more = take_more(source, body, at)?;
+        if more == at {
+            return Ok(at);
+        }
+        at = more;
+    }
+    Ok(at)
+}

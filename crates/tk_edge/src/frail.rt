@@ -1,0 +1,167 @@
+//! A source and a sink in memory that fail when they are told to, for tests.
+
+ghost use Rattle.std.specs.Prelude.{◌≡◌, ◌<◌, ◌≤◌, []};
+ghost use Rattle.tk_edge.specs.Failures.{one_more};
+
+use crate::device::{Failed, Sink, Source};
+use std::alloc::Global;
+
+/// Which calls of a device fail, by their numbers from 0.
+#[derive(Clone, Copy, Debug, PartialEq, Eq)]
+pub enum Fails {
+    /// None.
+    Never,
+    /// One.
+    At(u64),
+    /// One, and all behind it.
+    From(u64),
+}
+
+impl Fails {
+    fn at(self, call: u64) -> bool {
+        match self {
+            Fails::Never => false,
+            Fails::At(number) => call == number,
+            Fails::From(number) => number <= call,
+        }
+    }
+}
+
+/// Memory as a source: a call gives at most `step` bytes, or fails.
+#[derive(Drop)]
+pub struct FrailSource<'a> {
+    /// What is still to come.
+    pub rest: &'a [u8],
+    /// The most that a call gives, at least 1.
+    pub step: usize,
+    /// How many calls there were.
+    pub calls: u64,
+    /// Which of them fail.
+    pub fails: Fails,
+    /// How many of them failed.
+    pub failures: u64,
+    ghost steps: { 0 < step },
+}
+
+impl<'a> FrailSource<'a> {
+    /// One that hasn't been called.
+    pub fn new(rest: &'a [u8], step: usize, fails: Fails) -> FrailSource<'a>
+        requires { 0 < step }
+        ensures bytes { result.rest.now ≡ rest.now }
+        ensures fresh { (result.calls ≡ 0) × (result.failures ≡ 0) }
+    {
+        FrailSource {
+            rest,
+            step,
+            calls: 0,
+            fails,
+            failures: 0,
+        }
+    }
+}
+
+impl<'a> Source for FrailSource<'a> {
+    ghost use Rattle.std.specs.Prelude.{Some};
+
+    ghost coming = { λ s. Some s.rest.now };
+
+    ghost failed = { λ s. s.failures };
+
+    fn take(&mut self, piece: &mut [u8]) -> Result<usize, Failed> {
+        let call = self.calls;
+        self.calls = call.saturating_add(1);
+        if self.fails.at(call) {
+            self.failures = self.failures.saturating_add(1);
+            return Err(Failed);
+        }
+        let rest = self.rest;
+        let n = rest.len().min(piece.len()).min(self.step);
+        piece[..n].copy_from_slice(&rest[..n]);
+        self.rest = &rest[n..];
+        Ok(n)
+    }
+
+    fn failures(&self) -> u64 {
+        self.failures
+    }
+}
+
+/// Memory as a sink: a call takes at most `step` bytes, or fails.
+#[derive(Drop)]
+pub struct FrailSink {
+    /// What was put.
+    pub bytes: Vec<u8>,
+    /// The most that a call takes, at least 1.
+    pub step: usize,
+    /// How many calls there were.
+    pub calls: u64,
+    /// Which of them fail.
+    pub fails: Fails,
+    /// How many of them failed, for want of memory among them.
+    pub failures: u64,
+    ghost steps: { 0 < step },
+}
+
+impl FrailSink {
+    /// One that holds nothing and hasn't been called.
+    pub fn new(alloc: Global, step: usize, fails: Fails) -> FrailSink
+        requires { 0 < step }
+        ensures empty { result.bytes.items ≡ [] }
+        ensures fresh { (result.calls ≡ 0) × (result.failures ≡ 0) }
+    {
+        FrailSink {
+            bytes: Vec::new(alloc),
+            step,
+            calls: 0,
+            fails,
+            failures: 0,
+        }
+    }
+
+    fn fail(&mut self) -> Failed
+        ensures bytes { self.new.bytes ≡ self.old.bytes }
+        ensures failures { self.new.failures ≡ one_more self.old.failures }
+    {
+        self.failures = self.failures.saturating_add(1);
+        Failed
+    }
+
+    // Counts a call, and answers whether it is to fail.
+    fn turn(&mut self) -> bool
+        ensures { self.new ≡ record self.old { calls = self.new.calls } }
+    {
+        let call = self.calls;
+        self.calls = call.saturating_add(1);
+        self.fails.at(call)
+    }
+}
+
+impl Sink for FrailSink {
+    ghost use Rattle.std.specs.Prelude.{Some};
+
+    ghost holds = { λ s. Some s.bytes.items };
+
+    ghost failed = { λ s. s.failures };
+
+    fn put(&mut self, piece: &[u8]) -> Result<usize, Failed> {
+        if self.turn() {
+            return Err(self.fail());
+        }
+        let n = piece.len().min(self.step);
+        match self.bytes.extend_from_slice(&piece[..n]) {
+            Ok(()) => Ok(n),
+            Err(_) => Err(self.fail()),
+        }
+    }
+
+    fn flush(&mut self) -> Result<(), Failed> {
+        if self.turn() {
+            return Err(self.fail());
+        }
+        Ok(())
+    }
+
+    fn failures(&self) -> u64 {
+        self.failures
+    }
+}

@@ -1,0 +1,45 @@
+//! Whole pieces put into any sink, and a sink that takes all.
+
+ghost use Rattle.std.specs.Prelude.{◌≡◌, ℕ, ◌≤◌, length, OnOk, OnErr};
+ghost use Rattle.std.specs.Io.KnownBytes.{Appends};
+ghost use Rattle.tk_edge.specs.Failures.{CountsFailure};
+ghost use Rattle.tk_edge.specs.Told.{AppendsFront};
+
+use crate::device::{Failed, Sink};
+
+// Puts all of the bytes, or the beginning of them where the sink fails.
+pub(crate) fn put_all<S: Sink>(sink: &mut S, bytes: &[u8]) -> Result<(), Failed>
+    ensures all { OnOk result (Appends (S.holds sink.old) (S.holds sink.new) bytes.now) }
+    ensures front { OnErr result (AppendsFront (S.holds sink.old) (S.holds sink.new) bytes.now) }
+    ensures failures { CountsFailure result (S.failed sink.old) (S.failed sink.new) }
+{
+    let mut at = 0;
+    'pieces: while at < bytes.len() {
+        at += sink.put(&bytes[at..])?;
+    }
+    Ok(())
+}
+
+/// A sink that takes all and keeps nothing: the log of who keeps none.
+#[derive(Drop)]
+pub struct Discard;
+
+impl Sink for Discard {
+    ghost use Rattle.std.specs.Prelude.{None};
+
+    ghost holds = { λ _. None };
+
+    ghost failed = { λ _. 0 };
+
+    fn put(&mut self, piece: &[u8]) -> Result<usize, Failed> {
+        Ok(piece.len())
+    }
+
+    fn flush(&mut self) -> Result<(), Failed> {
+        Ok(())
+    }
+
+    fn failures(&self) -> u64 {
+        0
+    }
+}

@@ -1,0 +1,165 @@
+//! The bytes of a reply.
+
+ghost use Rattle.std.specs.Prelude.{◌≡◌, map, IfOk};
+ghost use Rattle.std.specs.List.{concat};
+ghost use Rattle.std.specs.Option.{option_copied};
+ghost use Rattle.tk_message.specs.ReplyFields.{content_of};
+ghost use Rattle.tk_edge.specs.Rendering as spec;
+
+use itoa::Buffer;
+use std::alloc::{AllocError, Global};
+use tk_message::{Payload, Reply, Status};
+
+// The whole reply, with the methods allowed, if it names them.
+pub(crate) fn render(
+    alloc: Global,
+    reply: &Reply,
+    allowed: Option<&[u8]>,
+) -> Result<Vec<u8>, AllocError>
+    ensures { IfOk result (λ bytes. bytes.items ≡ spec.reply_bytes reply.now (option_copied allowed.entry)) }
+{
+    let body = body_of(&reply.body);
+    let (mut number, mut len) = (Buffer::new(), Buffer::new());
+    let location = location_of(reply);
+    let location = field_line(alloc, b"Location: ", location)?;
+    let allow = field_line(alloc, b"Allow: ", allowed)?;
+    assembled(
+        alloc,
+        number.format(reply.status.number()).as_bytes(),
+        reason_of(reply.status),
+        type_line(&reply.body),
+        len.format(body.len()).as_bytes(),
+        challenge_line(reply.www),
+        &location,
+        &allow,
+        body,
+    )
+}
+
+fn location_of(reply: &Reply) -> Option<&[u8]>
+    ensures { option_copied result ≡ reply.now.location }
+{
+    match &reply.location {
+        Some(uri) => Some(uri.as_bytes()),
+        None => None,
+    }
+}
+
+fn body_of(payload: &Payload) -> &[u8]
+    ensures { result.now ≡ spec.body_of (content_of payload.now) }
+{
+    match payload {
+        Payload::Empty => &[],
+        Payload::Json(bytes) | Payload::Bytes(bytes) => bytes,
+    }
+}
+
+fn type_line(payload: &Payload) -> &'static [u8]
+    ensures { result.now ≡ spec.type_line (content_of payload.now) }
+{
+    match payload {
+        Payload::Empty => b"",
+        Payload::Json(bytes) => where_any(bytes, b"Content-Type: application/json\r\n"),
+        Payload::Bytes(bytes) => where_any(bytes, b"Content-Type: application/octet-stream\r\n"),
+    }
+}
+
+fn where_any(body: &[u8], line: &'static [u8]) -> &'static [u8]
+    ensures { result.now ≡ spec.where_any body.now line.entry.now }
+{
+    if body.is_empty() { b"" } else { line }
+}
+
+fn reason_of(status: Status) -> &'static [u8]
+    ensures { result.now ≡ spec.reason_of status }
+{
+    match status {
+        Status::Ok => b"OK",
+        Status::Created => b"Created",
+        Status::Found => b"Found",
+        Status::BadRequest => b"Bad Request",
+        Status::Unauthorized => b"Unauthorized",
+        Status::NotFound => b"Not Found",
+        Status::MethodNotAllowed => b"Method Not Allowed",
+        Status::LengthRequired => b"Length Required",
+        Status::ContentTooLarge => b"Content Too Large",
+        Status::ServiceUnavailable => b"Service Unavailable",
+    }
+}
+
+fn challenge_line(www: bool) -> &'static [u8]
+    ensures { result.now ≡ spec.challenge_line www }
+{
+    if www {
+        b"WWW-Authenticate: Basic realm=\"tokend\"\r\n"
+    } else {
+        b""
+    }
+}
+
+// A field, where it has a value; no memory is taken where it has none.
+fn field_line(alloc: Global, name: &[u8], value: Option<&[u8]>) -> Result<Vec<u8>, AllocError>
+    ensures { IfOk result (λ line. line.items ≡ spec.field_line name.now (option_copied value.entry)) }
+{
+    match value {
+        Some(value) => joined(
+            alloc,
+            value.len().saturating_add(32),
+            &[name, value, b"\r\n"],
+        ),
+        None => Ok(Vec::new(alloc)),
+    }
+}
+
+// The reply out of its parts.
+fn assembled<'a>(
+    alloc: Global,
+    number: &'a [u8],
+    reason: &'a [u8],
+    type_line: &'a [u8],
+    len: &'a [u8],
+    challenge: &'a [u8],
+    location: &'a [u8],
+    allow: &'a [u8],
+    body: &'a [u8],
+) -> Result<Vec<u8>, AllocError>
+    ensures { IfOk result (λ bytes. bytes.items
+        ≡ spec.assembly number.now reason.now type_line.now len.now challenge.now location.now allow.now body.now) }
+{
+    let room = body
+        .len()
+        .saturating_add(location.len())
+        .saturating_add(256);
+    joined(
+        alloc,
+        room,
+        &[
+            b"HTTP/1.1 ",
+            number,
+            b" ",
+            reason,
+            b"\r\n",
+            type_line,
+            b"Content-Length: ",
+            len,
+            b"\r\nCache-Control: no-store\r\nPragma: no-cache\r\nConnection: close\r\n",
+            challenge,
+            location,
+            allow,
+            b"\r\n",
+            body,
+        ],
+    )
+}
+
+// The pieces in order, with room for so many bytes at first.
+#[tactic(auto, using(crate::proofs::PieceLaws::concat_take_more))]
+fn joined(alloc: Global, room: usize, pieces: &[&[u8]]) -> Result<Vec<u8>, AllocError>
+    ensures { IfOk result (λ bytes. bytes.items ≡ concat (map (λ p. p.now) pieces.now)) }
+{
+    let mut bytes = Vec::with_capacity(alloc, room)?;
+    for piece in pieces {
+        bytes.extend_from_slice(piece)?;
+    }
+    Ok(bytes)
+}

@@ -1,0 +1,58 @@
+//! A record, and then a reply.
+
+ghost use Rattle.std.specs.Prelude.{◌≡◌, false, OnOk, OnErr};
+ghost use Rattle.std.specs.Io.KnownBytes.{Appends};
+ghost use Rattle.tk_edge.specs.Failures.{CountsFailure};
+ghost use Rattle.tk_edge.specs.Told.{AppendsFront, IsFaultOfDevice, IsTold};
+
+use crate::answer::Answer;
+use crate::device::{Failed, Sink};
+use crate::put::put_all;
+use tk_message::Status;
+
+/// Why a connection wasn't served.
+#[derive(Clone, Copy, Debug, PartialEq, Eq)]
+pub enum Fault {
+    /// The request couldn't be read. Nothing has changed, and nothing was written.
+    Read,
+    /// The reply couldn't be written whole. The fact stands, and its record is in the log.
+    Write,
+    /// The record couldn't be written whole. The fact stands, nothing was replied, and the edge is sealed.
+    Log,
+    /// Memory was refused. Nothing has changed, and nothing was written.
+    Memory,
+}
+
+// Writes the record of the fact made, if any, and only then the reply. A log that fails seals.
+pub(crate) fn tell<W: Sink, L: Sink>(
+    answer: &Answer,
+    sealed: &mut bool,
+    log: &mut L,
+    writer: &mut W,
+) -> Result<Status, Fault>
+    requires { sealed.old ≡ false }
+    ensures told { IsTold answer.now (record { before = L.holds log.old; after = L.holds log.new })
+        (record { before = W.holds writer.old; after = W.holds writer.new }) sealed.new result }
+    ensures faults { IsFaultOfDevice result (L.failed log.old) (L.failed log.new) (W.failed writer.old) (W.failed writer.new) }
+{
+    if let Some(bytes) = &answer.logged {
+        if write_record(log, bytes).is_err() {
+            *sealed = true;
+            return Err(Fault::Log);
+        }
+    }
+    if put_all(writer, &answer.bytes).is_err() {
+        return Err(Fault::Write);
+    }
+    Ok(answer.status)
+}
+
+// Writes a record and flushes it.
+fn write_record<L: Sink>(log: &mut L, bytes: &[u8]) -> Result<(), Failed>
+    ensures all { OnOk result (Appends (L.holds log.old) (L.holds log.new) bytes.now) }
+    ensures front { OnErr result (AppendsFront (L.holds log.old) (L.holds log.new) bytes.now) }
+    ensures failures { CountsFailure result (L.failed log.old) (L.failed log.new) }
+{
+    put_all(log, bytes)?;
+    log.flush()
+}

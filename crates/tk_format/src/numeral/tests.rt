@@ -1,0 +1,31 @@
+//! Which texts are numbers, and which numbers are above a limit.
+
+use super::{Numeral, read_numeral};
+
+#[test]
+fn digits_are_read_up_to_the_limit(rt: HostRuntime) {
+    let rows = [
+        ("0", Numeral::Within(0)),
+        ("16384", Numeral::Within(16384)),
+        ("16385", Numeral::Above),
+        ("0000000000000000000000000000000000000016384", Numeral::Within(16384)),
+        ("99999999999999999999999", Numeral::Above),
+        ("18446744073709551616", Numeral::Above),
+        ("", Numeral::Malformed),
+        ("+5", Numeral::Malformed),
+        ("-5", Numeral::Malformed),
+        (" 5", Numeral::Malformed),
+        ("5 ", Numeral::Malformed),
+        ("0x5", Numeral::Malformed),
+        ("99999999999999999999999x", Numeral::Malformed),
+    ];
+    for (text, want) in rows {
+        assert_eq!(rt; read_numeral(text.as_bytes(), 16384), want, "{text}");
+    }
+}
+
+#[test]
+fn the_greatest_limit_is_a_number(rt: HostRuntime) {
+    assert_eq!(rt; read_numeral(b"4294967295", 4_294_967_295), Numeral::Within(4_294_967_295));
+    assert_eq!(rt; read_numeral(b"4294967296", 4_294_967_295), Numeral::Above);
+}
