@@ -1,5 +1,5 @@
 -- A step keeps a world consistent: there stays one set of all facts made. Key results:
---   step_keeps          what a step leaves is consistent
+--   step_keeps          what a step leaves is consistent; answer_keeps, of an answer
 --   new_is_consistent   so is a world with nothing
 use Rattle.std.proofs.Common.{◌≡◌, ℕ, zero, suc, ◌≤◌, true, false, cond, List, [], ◌∷◌, ◌++◌, length, take, slice_get, Option, Some, None, IfSome, refl, sym, ap, subst, ◌∙◌, arith}
 use Rattle.std.specs.Ordering.{nat_cmp, eq_by_cmp, is_eq}
@@ -21,14 +21,18 @@ use Rattle.tk_store.proofs.NextDotLaws.{next_is_free}
 use Rattle.tk_store.proofs.PutLaws.{by_dot, of_dot, get_here, some_injective, none_is_not_some, IsFactSet-empty, IsFactSet-insert}
 use Rattle.tk_store.proofs.SubsetLaws.{subset_itself, subset_trans, subset_with_facts, keeps_with_facts, AllIn-take, AllIn-subset}
 use Rattle.tk_region.specs.SettingsFields.{SettingsFields, greatest_cap}
-use Rattle.tk_region.specs.Step.{prepared_of, listed, IsNextFact}
+use Rattle.tk_region.specs.Step.{listed, IsNextFact}
+use Rattle.tk_edge.specs.Answers.{made_by}
+use Rattle.tk_edge.specs.Heard.{IsHeard}
+use Rattle.tk_edge.specs.declared.hear.Heard.{Heard}
+use Rattle.tk_world.specs.AskedFields.{AskedFields}
 use Rattle.tk_world.specs.State.{State, new_state, with_region, with_bundle, region_with, Consists, IsConsistent}
 use Rattle.tk_world.specs.declared.event.Event.{Event}
 use Rattle.tk_world.specs.declared.event.Event.TheVariants.{Open, Request, Pull, Deliver}
 use Rattle.tk_world.specs.declared.event.Outcome.{Outcome}
 use Rattle.tk_world.specs.declared.event.Outcome.TheVariants.{Opened, NumberTaken, NoRegion, NoBundle, Reply, Bundle, Took, Memory}
 use Rattle.tk_bundle.specs.Page.{page_of}
-use Rattle.tk_world.specs.World.{Grows, Step}
+use Rattle.tk_world.specs.World.{Grows, IsAnswer, Step}
 
 -- ---- pages
 
@@ -153,11 +157,24 @@ joined_keeps old new n F seen g k all =
     subst IsConsistent (sym (grown_to old new n F seen seen g refl))
     (k.0, consists_set old k.0 n F _ k.1 g.is_open (subset_with_facts F k.0 seen within all) (keeps_with_facts F k.0 seen within all))
 
--- a reply's fact, if there is one, is the region's next
+-- the fact made for a reply, if there is one, is the region's next
+abbrev pub IsNextMade : State → ℕ → AskedFields → Outcome → Type 0
+IsNextMade old n asked (Reply status bytes) = (F : FactSet) → map.get old.regions n ≡ Some F → (heard : Heard) → IsHeard asked.bytes heard
+    → IfSome (made_by (region_with old n F) asked.now asked.words heard) (IsNextFact (region_with old n F))
+IsNextMade old n asked o = Unit {0}
+
+pub answer_keeps : (old : State) (n : ℕ) (asked : AskedFields) (o : Outcome) (seen : Facts) (new : State) → IsAnswer old n asked o seen new → IsNextMade old n asked o → IsConsistent old → IsConsistent new
+answer_keeps old n asked (Reply status bytes) seen new step next k =
+    let F = step.0 in
+    let fact = made_by (region_with old n F) asked.now asked.words step.2 in
+    subst IsConsistent (sym (grown_to old new n F seen (listed fact) step.1 step.5))
+    (made_keeps old n F step.1.is_open fact (next F step.1.is_open step.2 step.3) k)
+answer_keeps old n asked NoRegion seen new step next k = subst IsConsistent (sym step.1.1) k
+answer_keeps old n asked Memory seen new step next k = subst IsConsistent (sym step.1.1) k
+answer_keeps old n asked o seen new step next k = absurd step
+
 abbrev pub IsNextOf : State → Event → Outcome → Type 0
-IsNextOf old (Request n now words q) (Reply reply) =
-    (F : FactSet) → map.get old.regions n ≡ Some F → IfSome (prepared_of (region_with old n F) now words q).fact (IsNextFact (region_with old n F))
-IsNextOf old (Request n now words q) o = Unit {0}
+IsNextOf old (Request n now words q) o = IsNextMade old n (record { now = now; words = words; bytes = q.items }) o
 IsNextOf old (Open n) o = Unit {0}
 IsNextOf old (Pull n v) o = Unit {0}
 IsNextOf old (Deliver i n) o = Unit {0}
@@ -166,13 +183,7 @@ pub step_keeps : (old : State) (e : Event) (o : Outcome) (seen : Facts) (new : S
 step_keeps old (Open n) Opened seen new step next k = subst IsConsistent (sym step.2) (k.0, consists_opened old k.0 n k.1 step.0)
 step_keeps old (Open n) NumberTaken seen new step next k = subst IsConsistent (sym step.1.1) k
 step_keeps old (Open n) Memory seen new step next k = subst IsConsistent (sym step.1.1) k
-step_keeps old (Request n now words q) (Reply reply) seen new step next k =
-    let F = step.0 in
-    let fact = (prepared_of (region_with old n F) now words q).fact in
-    subst IsConsistent (sym (grown_to old new n F seen (listed fact) step.1 step.2.1))
-    (made_keeps old n F step.1.is_open fact (next F step.1.is_open) k)
-step_keeps old (Request n now words q) NoRegion seen new step next k = subst IsConsistent (sym step.1.1) k
-step_keeps old (Request n now words q) Memory seen new step next k = subst IsConsistent (sym step.1.1) k
+step_keeps old (Request n now words q) o seen new step next k = answer_keeps old n (record { now = now; words = words; bytes = q.items }) o seen new step next k
 step_keeps old (Pull n v) (Bundle index count last more) seen new step next k =
     let F = step.0 in
     let fs = (page_of F v).facts in

@@ -1,8 +1,8 @@
 -- How a change of one part of a world's fields is a step of the world. Key results:
 --   open_step, request_step, pull_step, deliver_step   what each part ends with is a step
 --   held_at, region_at, sorted_after, settings_after, state_after   what stands at a place, and what a write there does to the fields
---   ended, ended_keeps                                 the end of each method of the world
-use Rattle.std.proofs.Common.{◌≡◌, ℕ, T, List, [], take, slice_get, get_or, set, Option, Some, None, IsSome, IfSome, is_some, cond, true, false, refl, sym, ap, subst, ◌∙◌}
+--   ended, ended_keeps                                 the end of each method of the world; answered, answered_keeps, of an answer
+use Rattle.std.proofs.Common.{◌≡◌, ℕ, T, List, [], take, slice_get, get_or, set, Option, Some, None, Ok, IsSome, IfSome, is_some, cond, true, false, refl, sym, ap, subst, ◌∙◌}
 use Rattle.std.specs.List.{insert}
 use Rattle.std.specs.Ordering.{nat_cmp, eq_by_cmp, is_eq}
 use Rattle.std.specs.declared.cmp.Ordering.{Ordering}
@@ -16,22 +16,33 @@ use Rattle.tk_vector.specs.VersionVector.{Vector}
 use Rattle.tk_store.specs.FactSet.{FactSet, Facts}
 use Rattle.tk_store.specs.Joining.{JoinsFacts}
 use Rattle.tk_store.proofs.PutLaws.{some_injective}
-use Rattle.tk_message.specs.ReplyFields.{ReplyFields}
-use Rattle.tk_region.specs.RegionFields.{RegionFields}
+use Rattle.tk_message.specs.declared.status.Status.{Status}
+use Rattle.tk_region.specs.RegionFields.{RegionFields, Gains}
 use Rattle.tk_region.specs.SettingsFields.{SettingsFields}
-use Rattle.tk_region.specs.Step.{prepared_of, listed, IsNextFact}
+use Rattle.tk_region.specs.Step.{listed, IsNextFact}
+use Rattle.tk_edge.specs.Answers as Told
+use Rattle.tk_edge.specs.Answers.{answer_by, made_by}
+use Rattle.tk_edge.specs.Told.{AnswerFields}
+use Rattle.tk_edge.specs.EdgeFields.{EdgeFields}
+use Rattle.tk_edge.specs.Heard.{IsHeard}
+use Rattle.tk_edge.specs.declared.hear.Heard.{Heard}
 use Rattle.tk_world.specs.AskedFields.{AskedFields}
 use Rattle.tk_world.specs.declared.event.Event.{Event}
 use Rattle.tk_world.specs.declared.event.Event.TheVariants.{Open, Request, Pull, Deliver}
 use Rattle.tk_world.specs.declared.event.Outcome.{Outcome}
 use Rattle.tk_world.specs.declared.event.Outcome.TheVariants.{Opened, Reply, Bundle, Took, Memory}
 use Rattle.tk_bundle.specs.Page.{page_of}
-use Rattle.tk_world.specs.Regions.{entry_of, entries_of, HaveSettings}
+use Rattle.tk_world.specs.Regions.{entry_of, entries_of, IsOpen, HaveSettings}
 use Rattle.tk_world.specs.State.{State, with_region, region_with, IsConsistent}
-use Rattle.tk_world.specs.World.{Grows, Step}
+use Rattle.tk_world.specs.World.{Grows, IsAnswer, IsReplied, Step}
 use Rattle.tk_world.specs.Parts.{Answers, Opens, Pages, TakesFacts}
-use Rattle.tk_world.proofs.ConsistencyLaws.{IsNextOf, step_keeps}
+use Rattle.tk_edge.proofs.StreamLaws.{has_one_meaning}
+use Rattle.tk_world.proofs.ConsistencyLaws.{IsNextMade, IsNextOf, answer_keeps, step_keeps}
 use Rattle.tk_world.proofs.RegionLaws.{entry_at, entries_set, entries_insert, settings_at, settings_set, settings_insert}
+
+-- an edge has the settings of another, and is sealed where that is
+abbrev IsAsOpen : EdgeFields → EdgeFields → Type 0
+IsAsOpen p q = (q.region.settings ≡ p.region.settings) × (q.sealed ≡ p.sealed)
 
 abbrev pub state : SettingsFields → List (ℕ × FactSet) → List Facts → State
 state settings rs bs = record { settings = settings; regions = map.from_sorted rs; bundles = bs }
@@ -62,26 +73,29 @@ some_is o x h = ap is_some h
 abbrev grows_to : (s : State) (r : ℕ) (F : FactSet) (q : RegionFields) (fs : Facts) → map.get s.regions r ≡ Some F → JoinsFacts F fs q.facts → Grows s r F fs (with_region s r q.facts)
 grows_to s r F q fs at joins = record { is_open = at; grown = q.facts; joins = joins; changes = refl }
 
--- what is prepared, by a region that is known by its number, its settings and its set
-prepared_as : (s : State) (r : ℕ) (p q : RegionFields) (asked : AskedFields) (reply : ReplyFields) → p ≡ region_with s r p.facts → reply ≡ (prepared_of p asked.now asked.words asked.request).reply
-    → JoinsFacts p.facts (listed (prepared_of p asked.now asked.words asked.request).fact) q.facts
-    → (let prepared = prepared_of (region_with s r p.facts) asked.now asked.words asked.request in (reply ≡ prepared.reply) × JoinsFacts p.facts (listed prepared.fact) q.facts)
-prepared_as s r p q asked reply is same joins =
-    subst (λ x. (reply ≡ (prepared_of x asked.now asked.words asked.request).reply) × JoinsFacts p.facts (listed (prepared_of x asked.now asked.words asked.request).fact) q.facts) is (same, joins)
+-- what is answered, by a region that is known by its number, its settings and its set
+answered_as : (s : State) (r : ℕ) (p q : RegionFields) (asked : AskedFields) (heard : Heard) (status : Status) (bytes : List ℕ) → p ≡ region_with s r p.facts
+    → IsReplied (answer_by p asked.now asked.words heard) status bytes → JoinsFacts p.facts (listed (made_by p asked.now asked.words heard)) q.facts
+    → IsReplied (answer_by (region_with s r p.facts) asked.now asked.words heard) status bytes
+    × JoinsFacts p.facts (listed (made_by (region_with s r p.facts) asked.now asked.words heard)) q.facts
+answered_as s r p q asked heard status bytes is same joins =
+    subst (λ x. IsReplied (answer_by x asked.now asked.words heard) status bytes × JoinsFacts p.facts (listed (made_by x asked.now asked.words heard)) q.facts) is (same, joins)
 
-pub request_step : (s : State) (r : ℕ) (p q : RegionFields) (asked : AskedFields) (o : Outcome) → p ≡ region_with s r p.facts → map.get s.regions r ≡ Some p.facts → Answers p asked o q → (seen : Facts) × Step s (Request r asked.now asked.words asked.request) o seen (with_region s r q.facts)
-request_step s r p q asked (Reply reply) is at a =
-    let both = prepared_as s r p q asked reply is a.0 a.1.joins in
-    let made = listed (prepared_of (region_with s r p.facts) asked.now asked.words asked.request).fact in
-    (made, (p.facts, grows_to s r p.facts q made at both.1, (both.0, refl)))
-request_step s r p q asked Memory is at a = ([], (some_is _ p.facts at, (refl, ap (λ (x : RegionFields). with_region s r x.facts) a ∙ same_region s r p.facts at)))
+pub request_step : (s : State) (r : ℕ) (p q : EdgeFields) (asked : AskedFields) (o : Outcome) → p.region ≡ region_with s r p.region.facts → map.get s.regions r ≡ Some p.region.facts → Answers p asked o q → (seen : Facts) × IsAnswer s r asked o seen (with_region s r q.region.facts)
+request_step s r p q asked (Reply status bytes) is at a =
+    let both = answered_as s r p.region q.region asked a.0 status bytes.items is a.2 a.3.joins in
+    let made = listed (made_by (region_with s r p.region.facts) asked.now asked.words a.0) in
+    (made, (p.region.facts, grows_to s r p.region.facts q.region made at both.1, a.0, a.1, both.0, refl))
+request_step s r p q asked Memory is at a = ([], (some_is _ p.region.facts at, (refl, ap (λ (x : EdgeFields). with_region s r x.region.facts) a ∙ same_region s r p.region.facts at)))
 request_step s r p q asked o is at a = absurd a
 
--- the fact of a reply is the region's next
-pub request_next : (s : State) (r : ℕ) (p q : RegionFields) (asked : AskedFields) (o : Outcome) → p ≡ region_with s r p.facts → map.get s.regions r ≡ Some p.facts → Answers p asked o q → IsNextOf s (Request r asked.now asked.words asked.request) o
-request_next s r p q asked (Reply reply) is at a = λ F there.
-    let same : p ≡ region_with s r F = is ∙ ap (region_with s r) (some_injective p.facts F (sym at ∙ there)) in
-    subst (λ x. IfSome (prepared_of x asked.now asked.words asked.request).fact (IsNextFact x)) same a.2
+-- the fact made for a reply is the region's next
+pub request_next : (s : State) (r : ℕ) (p q : EdgeFields) (asked : AskedFields) (o : Outcome) → p.region ≡ region_with s r p.region.facts → map.get s.regions r ≡ Some p.region.facts → Answers p asked o q → IsNextMade s r asked o
+request_next s r p q asked (Reply status bytes) is at a = λ F there heard hears.
+    let same : p.region ≡ region_with s r F = is ∙ ap (region_with s r) (some_injective p.region.facts F (sym at ∙ there)) in
+    let one : a.0 ≡ heard = has_one_meaning asked.bytes a.0 heard a.1 hears in
+    subst (λ h. IfSome (made_by (region_with s r F) asked.now asked.words h) (IsNextFact (region_with s r F))) one
+    (subst (λ x. IfSome (made_by x asked.now asked.words a.0) (IsNextFact x)) same a.4)
 request_next s r p q asked Memory is at a = tt
 request_next s r p q asked o is at a = absurd a
 
@@ -97,31 +111,31 @@ pull_step s r F v o bs at p = absurd p
 
 -- ---- the fields
 
-abbrev pub world : SettingsFields → List RegionFields → List Facts → State
+abbrev pub world : SettingsFields → List EdgeFields → List Facts → State
 world settings rs bs = state settings (entries_of rs) bs
 
-module _ (settings : SettingsFields) (rs : List RegionFields) (bs : List Facts) (sorted : T (map.is_sorted nat_cmp (entries_of rs))) (r i : ℕ) where
+module _ (settings : SettingsFields) (rs : List EdgeFields) (bs : List Facts) (sorted : T (map.is_sorted nat_cmp (entries_of rs))) (r i : ℕ) where
   pub absent_at : IsGap nat_cmp (entries_of rs) r i → map.get (world settings rs bs).regions r ≡ None
   absent_at gap = get_at_gap nat_cmp_total (entries_of rs) sorted r i gap
 
-  module _ (gap : IsGap nat_cmp (entries_of rs) r i) (p : RegionFields) (is : p ≡ record { number = r; settings = settings; facts = map.empty }) where
+  module _ (gap : IsGap nat_cmp (entries_of rs) r i) (p : EdgeFields) (is : p ≡ record { region = record { number = r; settings = settings; facts = map.empty }; sealed = false }) where
     -- the entries with one of a new region
-    opened_entries : (new : List RegionFields) → new ≡ insert rs i p → entries_of new ≡ insert (entries_of rs) i (r, map.empty)
+    opened_entries : (new : List EdgeFields) → new ≡ insert rs i p → entries_of new ≡ insert (entries_of rs) i (r, map.empty)
     opened_entries new h = ap entries_of h ∙ entries_insert rs i p ∙ ap (λ x. insert (entries_of rs) i (entry_of x)) is
 
-    pub open_step : (o : Outcome) (new : List RegionFields) → Opens rs i p o new → (seen : Facts) × Step (world settings rs bs) (Open r) o seen (world settings new bs)
+    pub open_step : (o : Outcome) (new : List EdgeFields) → Opens rs i p o new → (seen : Facts) × Step (world settings rs bs) (Open r) o seen (world settings new bs)
     open_step Opened new h =
         ([], (absent_at gap, refl, ap (λ es. state settings es bs) (opened_entries new h) ∙ ap (λ m. record { settings = settings; regions = m; bundles = bs }) (insert_at_gap nat_cmp_total (entries_of rs) sorted r i gap map.empty)))
     open_step Memory new h = ([], (absent_at gap, (refl, ap (λ xs. world settings xs bs) h)))
     open_step o new h = absurd h
 
-    pub sorted_new : (o : Outcome) (new : List RegionFields) → Opens rs i p o new → T (map.is_sorted nat_cmp (entries_of new))
+    pub sorted_new : (o : Outcome) (new : List EdgeFields) → Opens rs i p o new → T (map.is_sorted nat_cmp (entries_of new))
     sorted_new Opened new h = subst (λ es. T (map.is_sorted nat_cmp es)) (sym (opened_entries new h)) (sorted_at_gap nat_cmp_total (entries_of rs) sorted r i gap map.empty)
     sorted_new Memory new h = subst (λ xs. T (map.is_sorted nat_cmp (entries_of xs))) (sym h) sorted
     sorted_new o new h = absurd h
 
-    pub settings_new : (o : Outcome) (new : List RegionFields) → Opens rs i p o new → HaveSettings settings rs → HaveSettings settings new
-    settings_new Opened new h all = subst (HaveSettings settings) (sym h) (settings_insert settings rs i p (ap (λ (x : RegionFields). x.settings) is) all)
+    pub settings_new : (o : Outcome) (new : List EdgeFields) → Opens rs i p o new → HaveSettings settings rs → HaveSettings settings new
+    settings_new Opened new h all = subst (HaveSettings settings) (sym h) (settings_insert settings rs i p (subst (IsOpen settings) (sym is) (refl, refl)) all)
     settings_new Memory new h all = subst (HaveSettings settings) (sym h) all
     settings_new o new h all = absurd h
 
@@ -131,47 +145,63 @@ module _ (settings : SettingsFields) (rs : List RegionFields) (bs : List Facts) 
       found : (o : Option FactSet) → ((d : ℕ × FactSet) → o ≡ Some (get_or (entries_of rs) i d).1) → IsSome o
       found o h = ap is_some (h (0, map.empty))
 
-  module _ (at : IsAt nat_cmp (entries_of rs) r i) (all : HaveSettings settings rs) (p : RegionFields) (is : p ≡ get_or rs i p) where
+  module _ (at : IsAt nat_cmp (entries_of rs) r i) (all : HaveSettings settings rs) (p : EdgeFields) (is : p ≡ get_or rs i p) where
     entry_is : entry_of p ≡ get_or (entries_of rs) i (entry_of p)
     entry_is = entry_at rs i p at.in_range is
 
-    pub held_at : map.get (world settings rs bs).regions r ≡ Some p.facts
+    pub held_at : map.get (world settings rs bs).regions r ≡ Some p.region.facts
     held_at = get_at_place nat_cmp_total (entries_of rs) sorted r i at (entry_of p) ∙ ap (λ e. Some e.1) (sym entry_is)
 
-    number_at : p.number ≡ r
+    number_at : p.region.number ≡ r
     number_at = ap (λ (e : ℕ × FactSet). e.0) entry_is ∙ map.nat_cmp-IsAntisymmetric _ _ (at.tied (entry_of p))
 
     -- it is the region of that number, with the world's settings
-    pub region_at : p ≡ region_with (world settings rs bs) r p.facts
+    pub region_at : p.region ≡ region_with (world settings rs bs) r p.region.facts
     region_at =
-        ap (λ (n : ℕ). record { number = n; settings = p.settings; facts = p.facts }) number_at
-        ∙ ap (λ (x : SettingsFields). record { number = r; settings = x; facts = p.facts }) (settings_at settings rs i p at.in_range is all)
+        ap (λ (n : ℕ). record { number = n; settings = p.region.settings; facts = p.region.facts }) number_at
+        ∙ ap (λ (x : SettingsFields). record { number = r; settings = x; facts = p.region.facts }) (settings_at settings rs i p at.in_range is all).0
 
-    module _ (q : RegionFields) (number : q.number ≡ p.number) (same : q.settings ≡ p.settings) where
-      after : entries_of (set rs i q) ≡ set (entries_of rs) i ((get_or (entries_of rs) i (entry_of p)).0, q.facts)
-      after = entries_set rs i q ∙ ap (λ (n : ℕ). set (entries_of rs) i (n, q.facts)) (number ∙ ap (λ (e : ℕ × FactSet). e.0) entry_is)
+    -- and it isn't sealed
+    pub open_at : p.sealed ≡ false
+    open_at = (settings_at settings rs i p at.in_range is all).1
+
+    module _ (q : EdgeFields) (number : q.region.number ≡ p.region.number) (same : IsAsOpen p q) where
+      after : entries_of (set rs i q) ≡ set (entries_of rs) i ((get_or (entries_of rs) i (entry_of p)).0, q.region.facts)
+      after = entries_set rs i q ∙ ap (λ (n : ℕ). set (entries_of rs) i (n, q.region.facts)) (number ∙ ap (λ (e : ℕ × FactSet). e.0) entry_is)
 
       pub sorted_after : T (map.is_sorted nat_cmp (entries_of (set rs i q)))
-      sorted_after = subst (λ es. T (map.is_sorted nat_cmp es)) (sym after) (sorted_at_place nat_cmp_total (entries_of rs) sorted r i at q.facts (entry_of p))
+      sorted_after = subst (λ es. T (map.is_sorted nat_cmp es)) (sym after) (sorted_at_place nat_cmp_total (entries_of rs) sorted r i at q.region.facts (entry_of p))
 
       pub settings_after : HaveSettings settings (set rs i q)
-      settings_after = settings_set settings rs i q (same ∙ settings_at settings rs i p at.in_range is all) all
+      settings_after = settings_set settings rs i q (same.0 ∙ (settings_at settings rs i p at.in_range is all).0, same.1 ∙ open_at) all
 
-      pub state_after : world settings (set rs i q) bs ≡ with_region (world settings rs bs) r q.facts
+      pub state_after : world settings (set rs i q) bs ≡ with_region (world settings rs bs) r q.region.facts
       state_after =
           ap (λ es. state settings es bs) after
-          ∙ ap (λ m. record { settings = settings; regions = m; bundles = bs }) (insert_at_place nat_cmp_total (entries_of rs) sorted r i at q.facts (entry_of p))
+          ∙ ap (λ m. record { settings = settings; regions = m; bundles = bs }) (insert_at_place nat_cmp_total (entries_of rs) sorted r i at q.region.facts (entry_of p))
 
 -- what a part leaves of its region's number and settings
-pub answered_number : (p q : RegionFields) (asked : AskedFields) (o : Outcome) → Answers p asked o q → (q.number ≡ p.number) × (q.settings ≡ p.settings)
-answered_number p q asked (Reply reply) a = (a.1.number, a.1.settings)
-answered_number p q asked Memory a = (ap (λ (x : RegionFields). x.number) a, ap (λ (x : RegionFields). x.settings) a)
+pub answered_number : (p q : EdgeFields) (asked : AskedFields) (o : Outcome) → Answers p asked o q → (q.region.number ≡ p.region.number) × IsAsOpen p q
+answered_number p q asked (Reply status bytes) a = (a.3.number, (a.3.settings, a.5))
+answered_number p q asked Memory a = (ap (λ (x : EdgeFields). x.region.number) a, (ap (λ (x : EdgeFields). x.region.settings) a, ap (λ (x : EdgeFields). x.sealed) a))
 answered_number p q asked o a = absurd a
 
-pub taken_number : (p q : RegionFields) (fs : Facts) (o : Outcome) → TakesFacts p fs o q → (q.number ≡ p.number) × (q.settings ≡ p.settings)
-taken_number p q fs (Took n) t = (t.0.number, t.0.settings)
-taken_number p q fs Memory t = (t.1.number, t.1.settings)
-taken_number p q fs o t = absurd t
+-- what an edge answers, by what contracts see of what it is asked and of what it gives
+pub answered_part : (p q : EdgeFields) (given asked : AskedFields) (told seen : AnswerFields) → given ≡ asked → told ≡ seen → q.sealed ≡ p.sealed
+    → ((heard : Heard) × IsHeard given.bytes heard × Told.Answers p.region given.now given.words heard (Ok seen) q.region)
+    → (heard : Heard) × IsHeard asked.bytes heard × IsReplied (answer_by p.region asked.now asked.words heard) told.status told.bytes
+    × Gains p.region (listed (made_by p.region asked.now asked.words heard)) q.region
+    × IfSome (made_by p.region asked.now asked.words heard) (IsNextFact p.region) × (q.sealed ≡ p.sealed)
+answered_part p q given asked told seen same is sealed a =
+    subst (λ (x : AskedFields). (heard : Heard) × IsHeard x.bytes heard × IsReplied (answer_by p.region x.now x.words heard) told.status told.bytes
+        × Gains p.region (listed (made_by p.region x.now x.words heard)) q.region
+        × IfSome (made_by p.region x.now x.words heard) (IsNextFact p.region) × (q.sealed ≡ p.sealed)) same
+    (a.0, a.1, (ap (λ (x : AnswerFields). x.status) (is ∙ a.2.0), ap (λ (x : AnswerFields). x.bytes) (is ∙ a.2.0)), a.2.1, a.2.2, sealed)
+
+pub taken_number : (p q : EdgeFields) (fs : Facts) (o : Outcome) → TakesFacts p.region fs o q.region → q.sealed ≡ p.sealed → (q.region.number ≡ p.region.number) × IsAsOpen p q
+taken_number p q fs (Took n) t same = (t.0.number, (t.0.settings, same))
+taken_number p q fs Memory t same = (t.1.number, (t.1.settings, same))
+taken_number p q fs o t same = absurd t
 
 -- ---- the end of a call
 
@@ -179,6 +209,14 @@ taken_number p q fs o t = absurd t
 pub ended : (s : State) (e : Event) (o : Outcome) (new' : State) → ((seen : Facts) × Step s e o seen new') → (new : State) → new ≡ new' → (old : State) → s ≡ old → (seen : Facts) × Step old e o seen new
 ended s e o new' step new same old seen_as =
     (step.0, subst (λ w. Step w e o step.0 new) seen_as (subst (λ w. Step s e o step.0 w) (sym same) step.1))
+
+-- and so is an answer
+pub answered : (s : State) (r : ℕ) (asked : AskedFields) (o : Outcome) (new' : State) → ((seen : Facts) × IsAnswer s r asked o seen new') → (new : State) → new ≡ new' → (old : State) → s ≡ old → (seen : Facts) × IsAnswer old r asked o seen new
+answered s r asked o new' step new same old seen_as =
+    (step.0, subst (λ w. IsAnswer w r asked o step.0 new) seen_as (subst (λ w. IsAnswer s r asked o step.0 w) (sym same) step.1))
+
+pub answered_keeps : (s : State) (r : ℕ) (asked : AskedFields) (o : Outcome) (new' : State) → ((seen : Facts) × IsAnswer s r asked o seen new') → IsNextMade s r asked o → (new : State) → new ≡ new' → IsConsistent s → IsConsistent new
+answered_keeps s r asked o new' step next new same k = subst IsConsistent (sym same) (answer_keeps s r asked o step.0 new' step.1 next k)
 
 -- and keeps the invariant
 pub ended_keeps : (s : State) (e : Event) (o : Outcome) (new' : State) → ((seen : Facts) × Step s e o seen new') → IsNextOf s e o → (new : State) → new ≡ new' → IsConsistent s → IsConsistent new

@@ -2,7 +2,7 @@
 --   tells_of_sets       each introspection reply of a run is told by the set that its region holds then
 --   introspect_alike    equal sets introspect alike
 --   revoked_inactive, families_inactive   what is never told again
-use Rattle.std.proofs.Common.{◌≡◌, ℕ, zero, suc, List, [], ◌∷◌, take, slice_get, Some, unwrap_or, refl, sym, ap, subst, ◌∙◌}
+use Rattle.std.proofs.Common.{◌≡◌, ℕ, zero, suc, List, [], ◌∷◌, take, slice_get, Some, None, unwrap_or, refl, sym, ap, subst, ◌∙◌}
 use Rattle.std.specs.FinMap as map
 use Rattle.tk_handle.specs.declared.handle.Handle.{Handle}
 use Rattle.tk_store.specs.FactSet.{FactSet, Facts}
@@ -13,18 +13,24 @@ use Rattle.tk_ledger.proofs.FamilyEnds as ends
 use Rattle.tk_message.specs.declared.request.Endpoint.{Endpoint}
 use Rattle.tk_message.specs.declared.request.Endpoint.TheVariants.{Introspect}
 use Rattle.tk_message.specs.RequestFields.{RequestFields}
+use Rattle.tk_message.specs.declared.status.Status.{Status}
 use Rattle.tk_query.specs.Introspection.{introspection_of}
 use Rattle.tk_query.proofs.ActiveLaws.{says_nothing}
 use Rattle.tk_region.specs.Decision.{decision_by}
 use Rattle.tk_region.specs.RegionFields.{RegionFields, place_in}
 use Rattle.tk_region.specs.Step.{prepared_of, prepared_by}
+use Rattle.tk_edge.specs.Answers.{answer_by, rendered}
+use Rattle.tk_edge.specs.Heard.{IsHeard}
+use Rattle.tk_edge.specs.declared.hear.Heard.{Heard}
+use Rattle.tk_edge.specs.declared.hear.Heard.TheVariants.{Asked}
+use Rattle.tk_edge.proofs.StreamLaws.{has_one_meaning}
 use Rattle.tk_world.specs.declared.event.Event.{Event}
 use Rattle.tk_world.specs.declared.event.Event.TheVariants.{Request}
 use Rattle.tk_world.specs.declared.event.Outcome.{Outcome}
 use Rattle.tk_world.specs.declared.event.Outcome.TheVariants.{Reply}
 use Rattle.tk_world.specs.Promises.{held_before, TellsOfSets, IntrospectAlike, IsInactive, RevokedInactive, FamiliesInactive}
 use Rattle.tk_world.specs.State.{State, facts_in, region_with}
-use Rattle.tk_world.specs.World.{Step, Run}
+use Rattle.tk_world.specs.World.{IsReplied, Step, Run}
 use Rattle.tk_world.proofs.RunLaws.{run_joins}
 
 -- ---- one event of a run
@@ -54,22 +60,27 @@ run_at old es os ss new run i e o he ho = absurd run
 -- ---- equal facts introspect alike
 
 -- the cap is no matter, since no fact is made
-introspects : (r : RegionFields) (now : ℕ) (words : List ℕ) (request : RequestFields) → request.endpoint ≡ Introspect → (prepared_of r now words request).reply ≡ introspection_of (facts_of r.facts) now request
+introspects : (r : RegionFields) (now : ℕ) (words : List ℕ) (request : RequestFields) → request.endpoint ≡ Introspect
+    → answer_by r now words (Asked request) ≡ rendered (introspection_of (facts_of r.facts) now request) None None
 introspects r now words request h =
-    ap (λ (e : Endpoint). (prepared_by r.settings.cap (place_in r) (decision_by e (facts_of r.facts) (place_in r) now words request)).reply) h
+    ap (λ (e : Endpoint). let p = prepared_by r.settings.cap (place_in r) (decision_by e (facts_of r.facts) (place_in r) now words request) in rendered p.reply None p.logged) h
 
 pub tells_of_sets : (old : State) (es : List Event) (os : List Outcome) (ss : List Facts) (new : State) → Run old es os ss new → TellsOfSets old es os ss
-tells_of_sets old es os ss new run i r now request reply q =
-    let at : At old es os ss i (Request r now q.words request) (Reply reply) = run_at old es os ss new run i (Request r now q.words request) (Reply reply) q.asked q.answered in
+tells_of_sets old es os ss new run i r now request status reply q =
+    let at : At old es os ss i (Request r now q.words q.bytes) (Reply status q.written) = run_at old es os ss new run i (Request r now q.words q.bytes) (Reply status q.written) q.asked q.answered in
     let joins = run_joins old (take i es) (take i os) (take i ss) at.mid at.run r in
     let F = at.step.0 in
     let held : F ≡ held_before old es ss i r = ap (λ o. unwrap_or o map.empty) (sym at.step.1.is_open) ∙ joins.joins in
-    at.step.2.0 ∙ introspects (region_with at.mid r F) now q.words request q.introspects ∙ ap (λ G. introspection_of G now request) held
+    let one : at.step.2 ≡ Asked request = has_one_meaning q.bytes.items at.step.2 (Asked request) at.step.3 q.heard in
+    let told = ap (answer_by (region_with at.mid r F) now q.words) one ∙ introspects (region_with at.mid r F) now q.words request q.introspects
+    ∙ ap (λ G. rendered (introspection_of G now request) None None) held in
+    subst (λ a. IsReplied a status reply) told (at.step.4.0, sym q.replied ∙ at.step.4.1)
 
 pub introspect_alike : (old : State) (es : List Event) (os : List Outcome) (ss : List Facts) (new : State) → Run old es os ss new → IntrospectAlike old es os ss
-introspect_alike old es os ss new run i j q r now request one two a b same =
-    tells_of_sets old es os ss new run i q now request one a ∙ ap (λ G. introspection_of G now request) same
-    ∙ sym (tells_of_sets old es os ss new run j r now request two b)
+introspect_alike old es os ss new run i j q r now request s t one two a b same =
+    let here = tells_of_sets old es os ss new run i q now request s one a in
+    let there = subst (λ G. IsReplied (rendered (introspection_of G now request) None None) t two) (sym same) (tells_of_sets old es os ss new run j r now request t two b) in
+    (here.0 ∙ sym there.0, here.1 ∙ sym there.1)
 
 -- ---- what is never told again
 

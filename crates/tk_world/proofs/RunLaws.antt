@@ -66,7 +66,7 @@ pub step_shows : (old : State) (e : Event) (o : Outcome) (seen : Facts) (new : S
 step_shows old (Open n) Opened seen new step r = opened old new n seen step.0 step.1 step.2 r
 step_shows old (Open n) NumberTaken seen new step r = same_after old new (Open n) seen r step.1.0 step.1.1
 step_shows old (Open n) Memory seen new step r = same_after old new (Open n) seen r step.1.0 step.1.1
-step_shows old (Request n now words q) (Reply reply) seen new step r = grown old new n step.0 seen step.1 r
+step_shows old (Request n now words q) (Reply status bytes) seen new step r = grown old new n step.0 seen step.1 r
 step_shows old (Request n now words q) NoRegion seen new step r = same_after old new (Request n now words q) seen r step.1.0 step.1.1
 step_shows old (Request n now words q) Memory seen new step r = same_after old new (Request n now words q) seen r step.1.0 step.1.1
 step_shows old (Pull n v) (Bundle index count last more) seen new step r =

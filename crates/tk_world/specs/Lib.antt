@@ -15,7 +15,9 @@ pub mod State
 pub mod World
 pub use Rattle.tk_bundle.specs.Bundle
 pub use Rattle.tk_bundle.specs.Page
-pub use Rattle.tk_message.specs.ReplyFields
+pub use Rattle.tk_edge.specs.Answers
+pub use Rattle.tk_edge.specs.Heard
+pub use Rattle.tk_edge.specs.Rendering
 pub use Rattle.tk_message.specs.RequestFields
 pub use Rattle.tk_message.specs.Status
 pub use Rattle.tk_region.specs.SettingsFields

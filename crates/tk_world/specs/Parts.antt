@@ -5,22 +5,28 @@ use Rattle.tk_store.specs.FactSet.{Facts}
 use Rattle.tk_store.specs.Store.{facts_of}
 use Rattle.tk_bundle.specs.Page.{PageFields}
 use Rattle.tk_region.specs.RegionFields.{RegionFields, Gains}
-use Rattle.tk_region.specs.Step.{prepared_of, listed, IsNextFact}
+use Rattle.tk_region.specs.Step.{listed, IsNextFact}
+use Rattle.tk_edge.specs.Answers.{answer_by, made_by}
+use Rattle.tk_edge.specs.EdgeFields.{EdgeFields}
+use Rattle.tk_edge.specs.Heard.{IsHeard}
+use Rattle.tk_edge.specs.declared.hear.Heard.{Heard}
 use Rattle.tk_world.specs.declared.event.Outcome.{Outcome}
 use Rattle.tk_world.specs.declared.event.Outcome.TheVariants.{Opened, Reply, Bundle, Took, Memory}
 use Rattle.tk_world.specs.AskedFields.{AskedFields}
+use Rattle.tk_world.specs.World.{IsReplied}
 
 -- the region is in its place
-abbrev pub Opens : List RegionFields → ℕ → RegionFields → Outcome → List RegionFields → Type 0
-Opens old at region Opened new = new ≡ insert old at region
-Opens old at region Memory new = new ≡ old
-Opens old at region outcome new = ⊥
+abbrev pub Opens : List EdgeFields → ℕ → EdgeFields → Outcome → List EdgeFields → Type 0
+Opens old at edge Opened new = new ≡ insert old at edge
+Opens old at edge Memory new = new ≡ old
+Opens old at edge outcome new = ⊥
 
--- the reply comes where the fact that is prepared, if there is one, is in; it is the region's next
-abbrev pub Answers : RegionFields → AskedFields → Outcome → RegionFields → Type 0
-Answers old asked (Reply reply) new =
-    (let prepared = prepared_of old asked.now asked.words asked.request in
-    (reply ≡ prepared.reply) × Gains old (listed prepared.fact) new × IfSome prepared.fact (IsNextFact old))
+-- the reply is what the bytes' meaning is answered, and comes where the fact made, if there is one, is in; it is the region's next
+abbrev pub Answers : EdgeFields → AskedFields → Outcome → EdgeFields → Type 0
+Answers old asked (Reply status bytes) new =
+    (heard : Heard) × IsHeard asked.bytes heard × IsReplied (answer_by old.region asked.now asked.words heard) status bytes.items
+    × Gains old.region (listed (made_by old.region asked.now asked.words heard)) new.region
+    × IfSome (made_by old.region asked.now asked.words heard) (IsNextFact old.region) × (new.sealed ≡ old.sealed)
 Answers old asked Memory new = new ≡ old
 Answers old asked outcome new = ⊥
 

@@ -7,7 +7,8 @@
 --   IsInactive         a token is active at no moment, and told to nobody
 --   RevokedInactive    a token that its client revoked is inactive
 --   FamiliesInactive   so is each token of a family with a bad grant
-use Rattle.std.specs.Prelude.{◌≡◌, ℕ, List, take, slice_get, Some}
+use Rattle.std.specs.Prelude.{◌≡◌, ℕ, List, Vec, take, slice_get, Some, None}
+use Rattle.std.specs.declared.alloc.Global.{Global}
 use Rattle.std.specs.FinMap as map
 use Rattle.tk_handle.specs.declared.dot.Dot.{Dot}
 use Rattle.tk_handle.specs.declared.handle.Handle.{Handle}
@@ -18,7 +19,7 @@ use Rattle.tk_ledger.specs.Status.{IsActive}
 use Rattle.tk_ledger.specs.Tokens.{links_in, IsEnded, IsMarked}
 use Rattle.tk_message.specs.declared.request.Endpoint.TheVariants.{Introspect}
 use Rattle.tk_message.specs.Reply.{inactive_reply}
-use Rattle.tk_message.specs.ReplyFields.{ReplyFields}
+use Rattle.tk_message.specs.declared.status.Status.{Status}
 use Rattle.tk_message.specs.RequestFields.{RequestFields}
 use Rattle.tk_query.specs.Introspection.{introspection_of}
 use Rattle.tk_query.specs.Laws.{told_to}
@@ -27,7 +28,10 @@ use Rattle.tk_world.specs.declared.event.Event.TheVariants.{Request}
 use Rattle.tk_world.specs.declared.event.Outcome.{Outcome}
 use Rattle.tk_world.specs.declared.event.Outcome.TheVariants.{Reply}
 use Rattle.tk_world.specs.State.{State, facts_in}
-use Rattle.tk_world.specs.World.{seen_by}
+use Rattle.tk_edge.specs.Answers.{rendered}
+use Rattle.tk_edge.specs.Heard.{IsHeard}
+use Rattle.tk_edge.specs.declared.hear.Heard.TheVariants.{Asked}
+use Rattle.tk_world.specs.World.{seen_by, IsReplied}
 
 -- ---- equal facts introspect alike
 
@@ -35,23 +39,29 @@ use Rattle.tk_world.specs.World.{seen_by}
 abbrev pub held_before : State → List Event → List Facts → ℕ → ℕ → FactSet
 held_before old es ss i r = joined (facts_in old r) (set_of (seen_by r (take i es) (take i ss)))
 
--- the event of this place asks the region to introspect, at the moment and with some words, and this is the reply
-pub record IsIntrospected (es : List Event) (os : List Outcome) (i r now : ℕ) (request : RequestFields) (reply : ReplyFields) : Type 0 where
+-- the bytes of the event of this place ask the region to introspect, at the moment and with some words, and this is the reply
+pub record IsIntrospected (es : List Event) (os : List Outcome) (i r now : ℕ) (request : RequestFields) (status : Status) (reply : List ℕ) : Type 0 where
   pub words : List ℕ
-  pub asked : slice_get es i ≡ Some (Request r now words request)
-  pub answered : slice_get os i ≡ Some (Reply reply)
+  pub bytes : Vec ℕ Global
+  pub written : Vec ℕ Global
+  pub asked : slice_get es i ≡ Some (Request r now words bytes)
+  pub answered : slice_get os i ≡ Some (Reply status written)
+  pub heard : IsHeard bytes.items (Asked request)
   pub introspects : request.endpoint ≡ Introspect
+  pub replied : written.items ≡ reply
 
 -- the set, the moment and the request are all that a reply depends on
 abbrev pub TellsOfSets : State → List Event → List Outcome → List Facts → Type 0
-TellsOfSets old es os ss = (i r now : ℕ) (request : RequestFields) (reply : ReplyFields)
-    → IsIntrospected es os i r now request reply → reply ≡ introspection_of (held_before old es ss i r) now request
+TellsOfSets old es os ss = (i r now : ℕ) (request : RequestFields) (status : Status) (reply : List ℕ)
+    → IsIntrospected es os i r now request status reply
+    → IsReplied (rendered (introspection_of (held_before old es ss i r) now request) None None) status reply
 
--- two regions that hold equal sets, each when it is asked, give the same reply to the same request at the same moment
+-- two regions that hold equal sets, each when it is asked, give the same reply to the same request at the same moment: to the
+-- same bytes, whatever the regions' numbers, lives and words
 abbrev pub IntrospectAlike : State → List Event → List Outcome → List Facts → Type 0
-IntrospectAlike old es os ss = (i j q r now : ℕ) (request : RequestFields) (one two : ReplyFields)
-    → IsIntrospected es os i q now request one → IsIntrospected es os j r now request two
-    → held_before old es ss i q ≡ held_before old es ss j r → one ≡ two
+IntrospectAlike old es os ss = (i j q r now : ℕ) (request : RequestFields) (a b : Status) (one two : List ℕ)
+    → IsIntrospected es os i q now request a one → IsIntrospected es os j r now request b two
+    → held_before old es ss i q ≡ held_before old es ss j r → (a ≡ b) × (one ≡ two)
 
 -- ---- revoked and reused families are inactive
 

@@ -1,19 +1,22 @@
--- The regions of a world, as a list whose numbers rise (own).
+-- The regions of a world behind their edges, as a list whose numbers rise (own).
 --   entries_of    each number with its region's facts
---   HaveSettings  the regions have these settings
-use Rattle.std.specs.Prelude.{◌≡◌, ℕ, List, map}
+--   HaveSettings  the regions have these settings, and none is sealed
+use Rattle.std.specs.Prelude.{◌≡◌, ℕ, false, List, map}
 use Rattle.std.specs.List.{AllByRecursion}
 use Rattle.tk_store.specs.FactSet.{FactSet}
 use Rattle.tk_store.specs.Store.{facts_of}
-use Rattle.tk_region.specs.RegionFields.{RegionFields}
 use Rattle.tk_region.specs.SettingsFields.{SettingsFields}
+use Rattle.tk_edge.specs.EdgeFields.{EdgeFields}
 
 -- a region's number, and its facts
-abbrev pub entry_of : RegionFields → ℕ × FactSet
-entry_of region = (region.number, facts_of region.facts)
+abbrev pub entry_of : EdgeFields → ℕ × FactSet
+entry_of edge = (edge.region.number, facts_of edge.region.facts)
 
-abbrev pub entries_of : List RegionFields → List (ℕ × FactSet)
-entries_of regions = map entry_of regions
+abbrev pub entries_of : List EdgeFields → List (ℕ × FactSet)
+entries_of edges = map entry_of edges
 
-abbrev pub HaveSettings : SettingsFields → List RegionFields → Type 0
-HaveSettings settings regions = AllByRecursion (λ region. region.settings ≡ settings) regions
+abbrev pub IsOpen : SettingsFields → EdgeFields → Type 0
+IsOpen settings edge = (edge.region.settings ≡ settings) × (edge.sealed ≡ false)
+
+abbrev pub HaveSettings : SettingsFields → List EdgeFields → Type 0
+HaveSettings settings edges = AllByRecursion (IsOpen settings) edges

@@ -1,6 +1,7 @@
 -- What an event may do to a world, and what a run of events is (own).
 --   IsUnchanged   nothing was shown and nothing changed
 --   Grows         a region's set is joined with the facts that it was shown
+--   IsReplied     a reply has the status and the bytes of an answer
 --   IsOpening, IsAnswer, IsPull, IsDelivery   what each event may do
 --   Step          one event: its outcome, what it showed its region, and the new state
 --   Run           one step after another
@@ -12,7 +13,12 @@ use Rattle.tk_store.specs.FactSet.{FactSet}
 pub use Rattle.tk_store.specs.FactSet.{Facts}
 use Rattle.tk_store.specs.Joining.{JoinsFacts}
 use Rattle.tk_bundle.specs.Page.{page_of}
-use Rattle.tk_region.specs.Step.{prepared_of, listed}
+use Rattle.tk_message.specs.declared.status.Status.{Status}
+use Rattle.tk_region.specs.Step.{listed}
+use Rattle.tk_edge.specs.Answers.{answer_by, made_by}
+use Rattle.tk_edge.specs.Heard.{IsHeard}
+use Rattle.tk_edge.specs.Told.{AnswerFields}
+use Rattle.tk_edge.specs.declared.hear.Heard.{Heard}
 use Rattle.tk_world.specs.declared.event.Event.{Event}
 use Rattle.tk_world.specs.declared.event.Event.TheVariants.{Open, Request, Pull, Deliver}
 use Rattle.tk_world.specs.declared.event.Outcome.{Outcome}
@@ -33,17 +39,21 @@ pub record Grows (old : State) (r : ℕ) (F : FactSet) (seen : Facts) (new : Sta
 
 -- ---- what each event may do; no outcome but those that are named comes
 
+abbrev pub IsReplied : AnswerFields → Status → List ℕ → Type 0
+IsReplied answer status bytes = (status ≡ answer.status) × (bytes ≡ answer.bytes)
+
 abbrev pub IsOpening : State → ℕ → Outcome → Facts → State → Type 0
 IsOpening old n Opened seen new = (map.get old.regions n ≡ None) × (seen ≡ []) × (new ≡ with_region old n map.empty)
 IsOpening old n NumberTaken seen new = IsSome (map.get old.regions n) × IsUnchanged old seen new
 IsOpening old n Memory seen new = (map.get old.regions n ≡ None) × IsUnchanged old seen new
 IsOpening old n outcome seen new = ⊥
 
--- the reply is what the region prepares, and its fact, if there is one, joins the set
+-- the reply is what the region answers to what the bytes mean, and the fact made for it, if there is one, joins the set
 abbrev pub IsAnswer : State → ℕ → AskedFields → Outcome → Facts → State → Type 0
-IsAnswer old r asked (Reply reply) seen new =
-    (F : FactSet) × Grows old r F seen new
-    × (let prepared = prepared_of (region_with old r F) asked.now asked.words asked.request in (reply ≡ prepared.reply) × (seen ≡ listed prepared.fact))
+IsAnswer old r asked (Reply status bytes) seen new =
+    (F : FactSet) × Grows old r F seen new × (heard : Heard) × IsHeard asked.bytes heard
+    × IsReplied (answer_by (region_with old r F) asked.now asked.words heard) status bytes.items
+    × (seen ≡ listed (made_by (region_with old r F) asked.now asked.words heard))
 IsAnswer old r asked NoRegion seen new = (map.get old.regions r ≡ None) × IsUnchanged old seen new
 IsAnswer old r asked Memory seen new = IsSome (map.get old.regions r) × IsUnchanged old seen new
 IsAnswer old r asked outcome seen new = ⊥
@@ -73,7 +83,7 @@ IsDelivery old i r outcome seen new = ⊥
 -- From old, the event may have this outcome, show its region these facts, and go on to new.
 abbrev pub Step : State → Event → Outcome → Facts → State → Type 0
 Step old (Open n) outcome seen new = IsOpening old n outcome seen new
-Step old (Request r now words request) outcome seen new = IsAnswer old r (record { now = now; words = words; request = request }) outcome seen new
+Step old (Request r now words bytes) outcome seen new = IsAnswer old r (record { now = now; words = words; bytes = bytes.items }) outcome seen new
 Step old (Pull r v) outcome seen new = IsPull old r v outcome seen new
 Step old (Deliver i r) outcome seen new = IsDelivery old i r outcome seen new
 
@@ -85,7 +95,7 @@ Run old es os ss new = ⊥
 
 abbrev pub region_of : Event → ℕ
 region_of (Open n) = n
-region_of (Request r now words request) = r
+region_of (Request r now words bytes) = r
 region_of (Pull r v) = r
 region_of (Deliver i r) = r
 

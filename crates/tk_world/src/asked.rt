@@ -2,14 +2,13 @@
 
 use std::marker::Model;
 use tk_handle::Moment;
-use tk_message::Request;
 
-/// A request, and what comes with it: the moment, and six random words.
+/// The bytes of a stream, and what comes with them: the moment, and six random words.
 #[derive(Debug, Drop)]
 pub(crate) struct Asked<'a> {
     pub(crate) now: Moment,
     pub(crate) words: &'a [u64; 6],
-    pub(crate) request: &'a Request,
+    pub(crate) bytes: &'a [u8],
 }
 
 impl<'a> Model for Asked<'a> {
@@ -17,5 +16,5 @@ impl<'a> Model for Asked<'a> {
 
     ghost Value = { AskedFields };
 
-    ghost view = { λ a. record { now = a.now; words = a.words.now; request = a.request.now } };
+    ghost view = { λ a. record { now = a.now; words = a.words.now; bytes = a.bytes.now } };
 }

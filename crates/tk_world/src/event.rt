@@ -1,7 +1,7 @@
 //! What may happen to a world, and how it ends.
 
 use tk_handle::{Dot, Moment, RegionNumber};
-use tk_message::{Reply, Request};
+use tk_message::Status;
 use tk_vector::VersionVector;
 
 /// What may happen to a world.
@@ -9,12 +9,12 @@ use tk_vector::VersionVector;
 pub enum Event {
     /// A region opens under this number, with no fact.
     Open(RegionNumber),
-    /// A region is asked something at a moment, with six random words.
+    /// The bytes of a stream that then ends reach a region at a moment, with six random words.
     Request {
         region: RegionNumber,
         now: Moment,
         words: [u64; 6],
-        request: Request,
+        bytes: Vec<u8>,
     },
     /// A region makes a bundle of what the vector doesn't cover.
     Pull {
@@ -39,8 +39,9 @@ pub enum Outcome {
     NoRegion,
     /// No bundle of the number has been made.
     NoBundle,
-    /// What the region answers, with the fact that it made for it, if any, held.
-    Reply(Reply),
+    /// What the region answers, as the bytes of a reply of this status, with the fact that it made for it, if any, held. No
+    /// byte is answered with none.
+    Reply { status: Status, bytes: Vec<u8> },
     /// The bundle's number, how many facts it has, the dot of its last one, and whether more follow it.
     Bundle {
         index: u64,

@@ -1,4 +1,4 @@
-//! One region in a world: what a request, a pull and a delivery do to it.
+//! One region in a world: what a request, a pull and a delivery do to its edge.
 
 ghost use Rattle.std.specs.Prelude.{◌≡◌, false, IfOk, OnOk};
 ghost use Rattle.tk_bundle.specs.Bundle.{bundle as bundle_format};
@@ -14,15 +14,20 @@ use crate::bundle::MadeBundle;
 use crate::event::Outcome;
 use std::alloc::{AllocError, Global};
 use tk_bundle::{Page, make};
+use tk_edge::Edge;
 use tk_region::{Region, TakeError};
 use tk_vector::VersionVector;
 
-// Answers the request over the region's facts, and adds the fact made.
-pub(crate) fn answer(alloc: Global, region: &mut Region, asked: &Asked<'_>) -> Outcome
-    ensures { Answers region.old asked.entry.now result region.new }
+// Answers the bytes over the region's facts, and adds the fact made.
+pub(crate) fn answer(alloc: Global, edge: &mut Edge, asked: &Asked<'_>) -> Outcome
+    requires { edge.old.sealed ≡ false }
+    ensures { Answers edge.old asked.entry.now result edge.new }
 {
-    match region.handle(alloc, asked.now, asked.words, asked.request) {
-        Ok(handled) => Outcome::Reply(handled.reply),
+    match edge.answer(alloc, asked.now, asked.words, asked.bytes) {
+        Ok(answer) => Outcome::Reply {
+            status: answer.status,
+            bytes: answer.bytes,
+        },
         Err(_) => Outcome::Memory,
     }
 }
@@ -40,12 +45,13 @@ pub(crate) fn pull(
 }
 
 // Takes the bundle in, which holds nothing that the region may refuse.
-pub(crate) fn deliver(alloc: Global, region: &mut Region, bundle: &MadeBundle) -> Outcome
-    requires agree { AgreesWith (facts_of region.old.facts) bundle.now }
-    requires made { has_unmade (next_in (place_in region.old)) bundle.now ≡ false }
-    ensures { TakesFacts region.old bundle.now result region.new }
+pub(crate) fn deliver(alloc: Global, edge: &mut Edge, bundle: &MadeBundle) -> Outcome
+    requires agree { AgreesWith (facts_of edge.old.region.facts) bundle.now }
+    requires made { has_unmade (next_in (place_in edge.old.region)) bundle.now ≡ false }
+    ensures takes { TakesFacts edge.old.region bundle.now result edge.new.region }
+    ensures sealed { edge.new.sealed ≡ edge.old.sealed }
 {
-    match region.take_in(alloc, bundle.bytes()) {
+    match edge.region_mut().take_in(alloc, bundle.bytes()) {
         Ok(new) => Outcome::Took(new),
         Err(TakeError::Memory) => Outcome::Memory,
         Err(TakeError::Malformed) => unreachable!(),

@@ -4,32 +4,24 @@ use crate::{Event, Outcome, Settings, World};
 use std::alloc::Global;
 use std::test::Fail;
 use tk_handle::{Moment, RegionNumber};
-use tk_message::{Endpoint, Params, Payload, Request};
 use tk_vector::VersionVector;
 
-fn ask(alloc: Global, region: RegionNumber, endpoint: Endpoint, form: &str) -> Result<Event, Fail> {
-    let request = Request {
-        endpoint,
-        params: Params::read(alloc, form.as_bytes())?,
-        authorization: None,
-        subject: None,
-    };
+// The bytes reach a region.
+fn ask(alloc: Global, region: RegionNumber, bytes: &[u8]) -> Result<Event, Fail> {
     Ok(Event::Request {
         region,
         now: Moment::new(1000).ok_or("a moment")?,
         words: [0; 6],
-        request,
+        bytes: Vec::from_slice(alloc, bytes)?,
     })
 }
 
-fn is_reply(outcome: Option<&Outcome>, status: u16, body: &str) -> bool {
+// A reply of this status, whose bytes end so.
+fn is_reply(outcome: Option<&Outcome>, number: u16, end: &str) -> bool {
     match outcome {
-        Some(Outcome::Reply(reply)) => match &reply.body {
-            Payload::Json(bytes) => {
-                reply.status.number() == status && bytes.as_slice() == body.as_bytes()
-            }
-            _ => false,
-        },
+        Some(Outcome::Reply { status, bytes }) => {
+            status.number() == number && bytes.ends_with(end.as_bytes())
+        }
         _ => false,
     }
 }
@@ -40,7 +32,8 @@ fn new_world(alloc: Global) -> Result<World, Fail> {
     Ok(World::new(alloc, settings))
 }
 
-const CLIENT: &str = "kind=public&scope=read&redirects=https://app.example/cb";
+const CLIENT: &[u8] =
+    b"POST /admin/client HTTP/1.1\r\nContent-Length: 55\r\n\r\nkind=public&scope=read&redirects=https://app.example/cb";
 
 #[test]
 fn a_registration_is_shown(rt: HostRuntime) -> Result<(), Fail> {
@@ -49,16 +42,21 @@ fn a_registration_is_shown(rt: HostRuntime) -> Result<(), Fail> {
     let mut world = new_world(alloc)?;
     let mut events = Vec::new(alloc);
     events.push(Event::Open(one))?;
-    events.push(ask(alloc, one, Endpoint::AddClient, CLIENT)?)?;
-    events.push(ask(alloc, one, Endpoint::ShowClient, "client_id=c1-1")?)?;
+    events.push(ask(alloc, one, CLIENT)?)?;
+    let show = b"GET /admin/client?client_id=c1-1 HTTP/1.1\r\n\r\n";
+    events.push(ask(alloc, one, show)?)?;
+    events.push(ask(alloc, one, b"GET /sync/vector HTTP/1.1\r\n\r\n")?)?;
+    events.push(ask(alloc, one, b"")?)?;
     let outcomes = world.run(events.as_slice())?;
-    assert_eq!(rt; outcomes.len(), 3);
+    assert_eq!(rt; outcomes.len(), 5);
     assert!(rt;
-        is_reply(outcomes.get(1), 201, "{\"client_id\":\"c1-1\"}"),
+        is_reply(outcomes.get(1), 201, "\r\n\r\n{\"client_id\":\"c1-1\"}"),
         "added"
     );
     let shown = "{\"client_id\":\"c1-1\",\"kind\":\"public\",\"live\":true,\"scope\":\"read\"}";
     assert!(rt; is_reply(outcomes.get(2), 200, shown), "shown");
+    assert!(rt; is_reply(outcomes.get(3), 404, "{\"error\":\"not_found\"}"), "no path");
+    assert!(rt; is_reply(outcomes.get(4), 400, ""), "no byte");
     Ok(())
 }
 
@@ -73,7 +71,7 @@ fn a_bundle_is_shown_under_its_number(rt: HostRuntime) -> Result<(), Fail> {
     let mut world = new_world(alloc)?;
     let mut events = Vec::new(alloc);
     events.push(Event::Open(one))?;
-    events.push(ask(alloc, one, Endpoint::AddClient, CLIENT)?)?;
+    events.push(ask(alloc, one, CLIENT)?)?;
     let vector = VersionVector::new(alloc);
     events.push(Event::Pull {
         region: one,

@@ -3,6 +3,7 @@
 use crate::bundle::MadeBundle;
 use std::alloc::Global;
 use std::marker::Model;
+use tk_edge::Edge;
 use tk_region::{Region, Settings};
 
 /// Regions under their numbers, and the bundles that they made, which any of them may be handed in any order.
@@ -10,8 +11,8 @@ use tk_region::{Region, Settings};
 pub struct World {
     alloc: Global,
     settings: Settings,
-    // Ascending by number, each with these settings.
-    regions: Vec<Region>,
+    // Ascending by number, each with these settings and none of them sealed.
+    regions: Vec<Edge>,
     // In the order of making. All facts that regions hold or bundles carry are one set.
     bundles: Vec<MadeBundle>,
 }
@@ -44,7 +45,7 @@ ghost use Rattle.tk_store.specs.Store.{known_in};
 ghost use Rattle.tk_bundle.specs.Bundle.{bundle, bundle_bytes};
 ghost use Rattle.tk_bundle.specs.Page as pages;
 ghost use Rattle.tk_world.specs.State.{facts_in, new_state, IsConsistent};
-ghost use Rattle.tk_world.specs.World.{Step, Run, seen_by};
+ghost use Rattle.tk_world.specs.World.{Step, Run, IsAnswer, seen_by};
 ghost use Rattle.tk_world.specs.Parts.{Opens, Pages};
 ghost use Rattle.tk_world.specs.Promises.{TellsOfSets, IntrospectAlike, RevokedInactive, FamiliesInactive};
 ghost use Rattle.tk_world.specs.Regions.{entries_of};
@@ -128,13 +129,13 @@ impl World {
                 region,
                 now,
                 words,
-                request,
+                bytes,
             } => {
                 let now = *now;
                 let asked = Asked {
                     now,
                     words,
-                    request,
+                    bytes,
                 };
                 self.request(*region, &asked)
             }
@@ -149,14 +150,14 @@ impl World {
         match find_region(&self.regions, number) {
             Ok(_) => Outcome::NumberTaken,
             Err(at) => {
-                let region = Region::new(self.alloc, number, self.settings);
-                open_region(&mut self.regions, at, region)
+                let edge = Edge::new(Region::new(self.alloc, number, self.settings));
+                open_region(&mut self.regions, at, edge)
             }
         }
     }
 
     fn request(&mut self, region: RegionNumber, asked: &Asked<'_>) -> Outcome
-        ensures { (seen : Facts) × Step self.old (Event.Request region asked.entry.now.now asked.entry.now.words asked.entry.now.request) result seen self.new }
+        ensures { (seen : Facts) × IsAnswer self.old region asked.entry.now result seen self.new }
     {
         match find_region(&self.regions, region) {
             Ok(at) => answer(self.alloc, &mut self.regions[at], asked),
@@ -168,7 +169,12 @@ impl World {
         ensures { (seen : Facts) × Step self.old (Event.Pull region vector.now) result seen self.new }
     {
         match find_region(&self.regions, region) {
-            Ok(at) => pull_page(self.alloc, &self.regions[at], &mut self.bundles, vector),
+            Ok(at) => pull_page(
+                self.alloc,
+                self.regions[at].region(),
+                &mut self.bundles,
+                vector,
+            ),
             Err(_) => Outcome::NoRegion,
         }
     }
@@ -206,29 +212,29 @@ fn bundle_at(bundles: &[MadeBundle], index: u64) -> Option<&MadeBundle>
 }
 
 // Where the region of the number stands, or where it would go.
-fn find_region(regions: &[Region], number: RegionNumber) -> Result<usize, usize>
+fn find_region(regions: &[Edge], number: RegionNumber) -> Result<usize, usize>
     requires { T (map.is_sorted nat_cmp (entries_of regions.now)) }
     ensures { MatchResult result (IsAt nat_cmp (entries_of regions.now) number) (IsGap nat_cmp (entries_of regions.now) number) }
 {
-    regions.binary_search_by_key(&number, |region| region.number())
+    regions.binary_search_by_key(&number, |edge| edge.region().number())
 }
 
-fn open_region(regions: &mut Vec<Region>, at: usize, region: Region) -> Outcome
+fn open_region(regions: &mut Vec<Edge>, at: usize, edge: Edge) -> Outcome
     requires { at ≤ length regions.old.items }
-    ensures { Opens regions.old.items at region result regions.new.items }
+    ensures { Opens regions.old.items at edge result regions.new.items }
 {
-    match insert_region(regions, at, region) {
+    match insert_region(regions, at, edge) {
         Ok(()) => Outcome::Opened,
         Err(_) => Outcome::Memory,
     }
 }
 
-fn insert_region(regions: &mut Vec<Region>, at: usize, region: Region) -> Result<(), AllocError>
+fn insert_region(regions: &mut Vec<Edge>, at: usize, edge: Edge) -> Result<(), AllocError>
     requires { at ≤ length regions.old.items }
-    ensures ok { OnOk result (regions.new.items ≡ insert regions.old.items at region) }
+    ensures ok { OnOk result (regions.new.items ≡ insert regions.old.items at edge) }
     ensures err { OnErr result (regions.new.items ≡ regions.old.items) }
 {
-    regions.insert(at, region)?;
+    regions.insert(at, edge)?;
     Ok(())
 }
 

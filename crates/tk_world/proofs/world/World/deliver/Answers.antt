@@ -28,7 +28,7 @@ deliver-requires-clause-agree c =
     let held = held_at w.settings w.regions.items w.bundles.items c.self.invariant.0 c.args.region c.in-Ok.at at c.self.invariant.1 p is in
     let there = rw c.deref-in-Ok.ensures.value at c.in-Some.ensures in
     let k = c.self.invariant.2 in
-    agrees_within p.facts k.0 c.in-Some.bundle.now (k.1.held c.args.region p.facts held) (k.1.carried c.args.bundle c.in-Some.bundle.now (sym there)).0
+    agrees_within p.region.facts k.0 c.in-Some.bundle.now (k.1.held c.args.region p.region.facts held) (k.1.carried c.args.bundle c.in-Some.bundle.now (sym there)).0
 
 pub deliver-requires-clause-made : goal.deliver-requires-clause-made
 deliver-requires-clause-made c =
@@ -42,7 +42,7 @@ deliver-requires-clause-made c =
     let there = rw c.deref-in-Ok.ensures.value at c.in-Some.ensures in
     let k = c.self.invariant.2 in
     subst (λ (x : RegionFields). has_unmade (next_in (place_in x)) c.in-Some.bundle.now ≡ false) (sym same)
-    (all_made s k.0 k.1 c.args.region p.facts held c.in-Some.bundle.now (k.1.carried c.args.bundle c.in-Some.bundle.now (sym there)).0)
+    (all_made s k.0 k.1 c.args.region p.region.facts held c.in-Some.bundle.now (k.1.carried c.args.bundle c.in-Some.bundle.now (sym there)).0)
 
 pub invariant_of-self : goal.invariant_of-self
 invariant_of-self c =
@@ -53,9 +53,9 @@ invariant_of-self c =
     let s = world w.settings w.regions.items w.bundles.items in
     let held = held_at w.settings w.regions.items w.bundles.items c.self.invariant.0 c.args.region c.in-Ok.at at c.self.invariant.1 p is in
     let there = rw c.deref-in-Ok.ensures.value at c.in-Some.ensures in
-    let q = c.deliver.new.region in
-    let kept = taken_number p q c.in-Some.bundle.now c.deliver.result c.deliver.ensures in
-    let step = deliver_step s c.args.bundle c.args.region p q c.in-Some.bundle.now c.deliver.result held (sym there) c.deliver.ensures in (
+    let q = c.deliver.new.edge in
+    let kept = taken_number p q c.in-Some.bundle.now c.deliver.result c.deliver.ensures.takes c.deliver.ensures.sealed in
+    let step = deliver_step s c.args.bundle c.args.region p.region q.region c.in-Some.bundle.now c.deliver.result held (sym there) c.deliver.ensures.takes in (
       sorted_after w.settings w.regions.items w.bundles.items c.self.invariant.0 c.args.region c.in-Ok.at at c.self.invariant.1 p is q kept.0 kept.1,
       settings_after w.settings w.regions.items w.bundles.items c.self.invariant.0 c.args.region c.in-Ok.at at c.self.invariant.1 p is q kept.0 kept.1,
       ended_keeps s (Deliver c.args.bundle c.args.region) c.deliver.result _ step tt _
@@ -71,9 +71,9 @@ returns-in-Some c =
     let s = world w.settings w.regions.items w.bundles.items in
     let held = held_at w.settings w.regions.items w.bundles.items c.self.invariant.0 c.args.region c.in-Ok.at at c.self.invariant.1 p is in
     let there = rw c.deref-in-Ok.ensures.value at c.in-Some.ensures in
-    let q = c.deliver.new.region in
-    let kept = taken_number p q c.in-Some.bundle.now c.deliver.result c.deliver.ensures in
-    let step = deliver_step s c.args.bundle c.args.region p q c.in-Some.bundle.now c.deliver.result held (sym there) c.deliver.ensures in
+    let q = c.deliver.new.edge in
+    let kept = taken_number p q c.in-Some.bundle.now c.deliver.result c.deliver.ensures.takes c.deliver.ensures.sealed in
+    let step = deliver_step s c.args.bundle c.args.region p.region q.region c.in-Some.bundle.now c.deliver.result held (sym there) c.deliver.ensures.takes in
     ended s (Deliver c.args.bundle c.args.region) c.deliver.result _ step _
     (state_after w.settings w.regions.items w.bundles.items c.self.invariant.0 c.args.region c.in-Ok.at at c.self.invariant.1 p is q kept.0 kept.1) _ c.self.view_is
 

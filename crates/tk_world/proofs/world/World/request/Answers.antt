@@ -1,7 +1,6 @@
 use Rattle.std.proofs.Common.{[], ap, sym, ◌∙◌, refl}
 use Rattle.std.specs.FinMap as map
-use Rattle.tk_world.specs.declared.event.Event.TheVariants.{Request}
-use Rattle.tk_world.proofs.PartLaws.{world, absent_at, held_at, region_at, sorted_after, settings_after, state_after, request_step, request_next, answered_number, ended, ended_keeps}
+use Rattle.tk_world.proofs.PartLaws.{world, absent_at, held_at, region_at, sorted_after, settings_after, state_after, request_step, request_next, answered_number, answered, answered_keeps}
 use Rattle.tk_world.proofs.world.World.request.Goals as goal
 
 pub returns-in-Err : goal.returns-in-Err
@@ -24,14 +23,14 @@ invariant_of-self c =
     let s = world w.settings w.regions.items w.bundles.items in
     let held = held_at w.settings w.regions.items w.bundles.items c.self.invariant.0 c.args.region c.in-Ok.at at c.self.invariant.1 p is in
     let same = region_at w.settings w.regions.items w.bundles.items c.self.invariant.0 c.args.region c.in-Ok.at at c.self.invariant.1 p is in
-    let q = c.answer.new.region in
+    let q = c.answer.new.edge in
     let asked = c.args.asked.now in
     let kept = answered_number p q asked c.answer.result c.answer.ensures in
     let step = request_step s c.args.region p q asked c.answer.result same held c.answer.ensures in
     let next = request_next s c.args.region p q asked c.answer.result same held c.answer.ensures in (
       sorted_after w.settings w.regions.items w.bundles.items c.self.invariant.0 c.args.region c.in-Ok.at at c.self.invariant.1 p is q kept.0 kept.1,
       settings_after w.settings w.regions.items w.bundles.items c.self.invariant.0 c.args.region c.in-Ok.at at c.self.invariant.1 p is q kept.0 kept.1,
-      ended_keeps s (Request c.args.region asked.now asked.words asked.request) c.answer.result _ step next _
+      answered_keeps s c.args.region asked c.answer.result _ step next _
           (state_after w.settings w.regions.items w.bundles.items c.self.invariant.0 c.args.region c.in-Ok.at at c.self.invariant.1 p is q kept.0 kept.1) c.self.invariant.2,
     )
 
@@ -44,9 +43,9 @@ returns-in-Ok c =
     let s = world w.settings w.regions.items w.bundles.items in
     let held = held_at w.settings w.regions.items w.bundles.items c.self.invariant.0 c.args.region c.in-Ok.at at c.self.invariant.1 p is in
     let same = region_at w.settings w.regions.items w.bundles.items c.self.invariant.0 c.args.region c.in-Ok.at at c.self.invariant.1 p is in
-    let q = c.answer.new.region in
+    let q = c.answer.new.edge in
     let asked = c.args.asked.now in
     let kept = answered_number p q asked c.answer.result c.answer.ensures in
     let step = request_step s c.args.region p q asked c.answer.result same held c.answer.ensures in
-    ended s (Request c.args.region asked.now asked.words asked.request) c.answer.result _ step _
+    answered s c.args.region asked c.answer.result _ step _
     (state_after w.settings w.regions.items w.bundles.items c.self.invariant.0 c.args.region c.in-Ok.at at c.self.invariant.1 p is q kept.0 kept.1) _ c.self.view_is

@@ -1,0 +1,6 @@
+use Rattle.tk_world.proofs.PartLaws.{answered_part}
+use Rattle.tk_world.proofs.region.answer.Goals as goal
+
+pub returns-in-Ok : goal.returns-in-Ok
+returns-in-Ok c =
+    answered_part c.args.edge.now c.answer.new.self _ _ _ _ c.asked.view_is c.answer-in-Ok.view_is c.in-Ok.ensures.sealed (c.in-Ok.ensures.answers c.requires)
