@@ -194,8 +194,8 @@ pub answered_part : (p q : EdgeFields) (given asked : AskedFields) (told seen : 
     × IfSome (made_by p.region asked.now asked.words heard) (IsNextFact p.region) × (q.sealed ≡ p.sealed)
 answered_part p q given asked told seen same is sealed a =
     subst (λ (x : AskedFields). (heard : Heard) × IsHeard x.bytes heard × IsReplied (answer_by p.region x.now x.words heard) told.status told.bytes
-        × Gains p.region (listed (made_by p.region x.now x.words heard)) q.region
-        × IfSome (made_by p.region x.now x.words heard) (IsNextFact p.region) × (q.sealed ≡ p.sealed)) same
+    × Gains p.region (listed (made_by p.region x.now x.words heard)) q.region
+    × IfSome (made_by p.region x.now x.words heard) (IsNextFact p.region) × (q.sealed ≡ p.sealed)) same
     (a.0, a.1, (ap (λ (x : AnswerFields). x.status) (is ∙ a.2.0), ap (λ (x : AnswerFields). x.bytes) (is ∙ a.2.0)), a.2.1, a.2.2, sealed)
 
 pub taken_number : (p q : EdgeFields) (fs : Facts) (o : Outcome) → TakesFacts p.region fs o q.region → q.sealed ≡ p.sealed → (q.region.number ≡ p.region.number) × IsAsOpen p q

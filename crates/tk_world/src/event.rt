@@ -41,7 +41,10 @@ pub enum Outcome {
     NoBundle,
     /// What the region answers, as the bytes of a reply of this status, with the fact that it made for it, if any, held. No
     /// byte is answered with none.
-    Reply { status: Status, bytes: Vec<u8> },
+    Reply {
+        status: Status,
+        bytes: Vec<u8>,
+    },
     /// The bundle's number, how many facts it has, the dot of its last one, and whether more follow it.
     Bundle {
         index: u64,

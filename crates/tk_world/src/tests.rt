@@ -55,7 +55,10 @@ fn a_registration_is_shown(rt: HostRuntime) -> Result<(), Fail> {
     );
     let shown = "{\"client_id\":\"c1-1\",\"kind\":\"public\",\"live\":true,\"scope\":\"read\"}";
     assert!(rt; is_reply(outcomes.get(2), 200, shown), "shown");
-    assert!(rt; is_reply(outcomes.get(3), 404, "{\"error\":\"not_found\"}"), "no path");
+    assert!(rt;
+        is_reply(outcomes.get(3), 404, "{\"error\":\"not_found\"}"),
+        "no path"
+    );
     assert!(rt; is_reply(outcomes.get(4), 400, ""), "no byte");
     Ok(())
 }

@@ -132,11 +132,7 @@ impl World {
                 bytes,
             } => {
                 let now = *now;
-                let asked = Asked {
-                    now,
-                    words,
-                    bytes,
-                };
+                let asked = Asked { now, words, bytes };
                 self.request(*region, &asked)
             }
             Event::Pull { region, vector } => self.pull(*region, vector),

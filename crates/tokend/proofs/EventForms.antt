@@ -10,7 +10,8 @@ use Rattle.tk_vector.specs.VersionVector.{Vector}
 use Rattle.tk_vector.specs.VectorText.{IsVectorText, IsNoVectorText}
 use Rattle.tk_world.specs.declared.event.Event.{Event}
 use Rattle.tk_world.specs.declared.event.Event.TheVariants.{Open, Request, Pull, Deliver}
-use Rattle.tk_message.specs.RequestFields.{RequestFields}
+use Rattle.std.specs.Prelude.{Vec}
+use Rattle.std.specs.declared.alloc.Global.{Global}
 use Rattle.tokend.specs.Fields.{is_space, region_in, moment_in}
 use Rattle.tokend.specs.RequestLine.{asked_of}
 use Rattle.tokend.specs.Line.{texts, IsPrintable, IsEventForm, IsNoEventForm, IsEventLine, IsNoEventLine}
@@ -22,7 +23,7 @@ text_at fields i = (slice_index_or fields i (record { ref_ptr = (0, 0); now = []
 
 -- ---- between the two ways to give fields
 
-one : (fs : List (Bor (List ℕ))) → length fs ≡ 1 → texts fs ≡ text_at fs 0 ∷ []
+pub one : (fs : List (Bor (List ℕ))) → length fs ≡ 1 → texts fs ≡ text_at fs 0 ∷ []
 one [] e = absurd (omega (arith, e))
 one (x ∷ []) e = refl
 one (x ∷ y ∷ fs) e = absurd (omega (arith, e))
@@ -35,7 +36,7 @@ three : (fs : List (Bor (List ℕ))) → length fs ≡ 3 → texts fs ≡ text_a
 three [] e = absurd (omega (arith, e))
 three (x ∷ fs) e = ap (λ l. x.now ∷ l) (two fs (omega (arith, e)))
 
-four : (fs : List (Bor (List ℕ))) → length fs ≡ 4 → texts fs ≡ text_at fs 0 ∷ text_at fs 1 ∷ text_at fs 2 ∷ text_at fs 3 ∷ []
+pub four : (fs : List (Bor (List ℕ))) → length fs ≡ 4 → texts fs ≡ text_at fs 0 ∷ text_at fs 1 ∷ text_at fs 2 ∷ text_at fs 3 ∷ []
 four [] e = absurd (omega (arith, e))
 four (x ∷ fs) e = ap (λ l. x.now ∷ l) (three fs (omega (arith, e)))
 
@@ -57,10 +58,10 @@ first_letter : {a b : ℕ} {s t : List ℕ} → a ∷ s ≡ b ∷ t → a ≡ b
 first_letter e = cc
 
 -- no request's first field is that of another event
-no_request_named : (name other : List ℕ) (form : List (List ℕ)) (request : RequestFields) → asked_of name form ≡ Some request → asked_of other form ≡ None → name ≢ other
+no_request_named : (name other : List ℕ) (form : List (List ℕ)) (request : List ℕ) → asked_of name form ≡ Some request → asked_of other form ≡ None → name ≢ other
 no_request_named name other form request h none same = some_is_not_none request (sym h ∙ ap (λ n. asked_of n form) same ∙ none)
   where
-    some_is_not_none : (q : RequestFields) → ¬ (Some q ≡ None)
+    some_is_not_none : (q : List ℕ) → ¬ (Some q ≡ None)
     some_is_not_none q h = cc
 
 -- ---- fields of an event
@@ -82,7 +83,7 @@ module _ (fs : List (Bor (List ℕ))) where
       let at_region = region_found (text_at fs 1) region at in
       (text_at fs 2, rw (four fs long, name, last, at_region.1) refl, at_region.0, is)
 
-  pub request_there : (region now : ℕ) (words : List ℕ) (request : RequestFields) → 3 ≤ length fs → region_in (text_at fs 1) ≡ Some region → moment_in (text_at fs 2) ≡ Some now → asked_of (text_at fs 0) (texts (drop 3 fs)) ≡ Some request → IsEventForm (texts fs) (Request region now words request)
+  pub request_there : (region now : ℕ) (words : List ℕ) (request : Vec ℕ Global) → 3 ≤ length fs → region_in (text_at fs 1) ≡ Some region → moment_in (text_at fs 2) ≡ Some now → asked_of (text_at fs 0) (texts (drop 3 fs)) ≡ Some request.items → IsEventForm (texts fs) (Request region now words request)
   request_there region now words request long at then is =
       let at_region = region_found (text_at fs 1) region at in
       let at_moment = moment_found (text_at fs 2) now then in
@@ -107,7 +108,7 @@ module _ (fs : List (Bor (List ℕ))) where
   deliver_only long name none (Request region now words request) h =
       let parts = sym (three_up fs (omega arith)) ∙ h.2 in
       let same : h.0 ≡ codes "deliver" = cc in
-      no_request_named h.0 (codes "deliver") h.1 request h.5 refl same
+      no_request_named h.0 (codes "deliver") h.1 request.items h.5 refl same
   deliver_only long name none (Pull region vector) h = absurd (omega (arith, count fs _ h.1))
   deliver_only long name none (Deliver bundle region) h =
       let parts = sym (three fs long) ∙ h.0 in
@@ -125,7 +126,7 @@ module _ (fs : List (Bor (List ℕ))) where
   pull_only long name none (Request region now words request) h =
       let parts = sym (three_up fs (omega arith)) ∙ h.2 in
       let same : h.0 ≡ codes "pull" = cc in
-      no_request_named h.0 (codes "pull") h.1 request h.5 refl same
+      no_request_named h.0 (codes "pull") h.1 request.items h.5 refl same
   pull_only long name none (Pull region vector) h =
       let parts = sym (four fs long) ∙ h.1 in
       let entries : h.0 ≡ text_at fs 2 = cc in
@@ -144,13 +145,13 @@ module _ (fs : List (Bor (List ℕ))) where
     pub deliver : length fs ≡ 3 → text_at fs 0 ≢ codes "deliver"
     pub pull : length fs ≡ 4 → text_at fs 3 ≡ codes "-" → text_at fs 0 ≢ codes "pull"
 
-  request_only : IsOther → ((region now : ℕ) (request : RequestFields) → text_at fs 1 ≡ decimal region → IsRegion region → text_at fs 2 ≡ decimal now → IsMoment now → asked_of (text_at fs 0) (texts (drop 3 fs)) ≡ Some request → ⊥) → IsNoEventForm (texts fs)
+  request_only : IsOther → ((region now : ℕ) (request : List ℕ) → text_at fs 1 ≡ decimal region → IsRegion region → text_at fs 2 ≡ decimal now → IsMoment now → asked_of (text_at fs 0) (texts (drop 3 fs)) ≡ Some request → ⊥) → IsNoEventForm (texts fs)
   request_only other none (Open region) h = let long = other.long in absurd (omega (arith, count fs _ h.0))
   request_only other none (Request region now words request) h =
       let parts = sym (three_up fs other.long) ∙ h.2 in
       let name : h.0 ≡ text_at fs 0 = cc in
       let form : h.1 ≡ texts (drop 3 fs) = cc in
-      none region now request (cc) h.3 (cc) h.4 (subst (λ t. asked_of (text_at fs 0) t ≡ Some request) form (subst (λ t. asked_of t h.1 ≡ Some request) name h.5))
+      none region now request.items (cc) h.3 (cc) h.4 (subst (λ t. asked_of (text_at fs 0) t ≡ Some request.items) form (subst (λ t. asked_of t h.1 ≡ Some request.items) name h.5))
   request_only other none (Pull region vector) h =
       let long = count fs _ h.1 in
       let parts = sym (four fs long) ∙ h.1 in

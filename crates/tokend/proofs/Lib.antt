@@ -1,9 +1,10 @@
-pub mod TypedNumber
-pub mod NumberTexts
-pub mod EventWords
 pub mod EventForms
-pub mod ScriptEvents
-pub mod Putting
-pub mod Tasks
-pub mod Runs
+pub mod EventWords
+pub mod NumberTexts
 pub mod OneSet
+pub mod Putting
+pub mod ReplyParts
+pub mod Runs
+pub mod ScriptEvents
+pub mod Tasks
+pub mod TypedNumber

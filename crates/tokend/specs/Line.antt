@@ -2,7 +2,9 @@
 --   IsEventForm     the event of a line's fields
 --   IsEventLine     the event of a line
 --   HasWords        the words of a request; words_at, those of an event by its place
-use Rattle.std.specs.Prelude.{◌≡◌, ◌≤◌, ◌<◌, ◌+◌, ◌*◌, ◌^◌, ⊤, ℕ, List, [], ◌∷◌, map, length, codes, decimal, Some}
+use Rattle.std.specs.Prelude.{◌≡◌, ◌≤◌, ◌<◌, ◌+◌, ◌*◌, ◌^◌, ⊤, ℕ, List, [], ◌∷◌, map, length, codes, decimal, Vec, Option, Some}
+use Rattle.std.specs.declared.alloc.Global.{Global}
+use Rattle.std.specs.Option.{option_map}
 use Rattle.std.specs.Borrow.{Bor}
 use Rattle.std.specs.List.{All, slice_split}
 use Rattle.tk_handle.specs.Ranges.{IsRegion, IsMoment}
@@ -20,12 +22,16 @@ IsPrintable line = All (λ b. (32 ≤ b) × (b ≤ 126)) line
 abbrev pub texts : List (Bor (List ℕ)) → List (List ℕ)
 texts fields = map (λ field. field.now) fields
 
+-- the bytes of what may be there
+abbrev pub bytes_in : Option (Vec ℕ Global) → Option (List ℕ)
+bytes_in bytes = option_map (λ v. v.items) bytes
+
 -- `open R`, NAME R NOW and a request's form, `pull R VECTOR -`, and `deliver B R`
 abbrev pub IsEventForm : List (List ℕ) → Event → Type 0
 IsEventForm fields (Open region) = (fields ≡ codes "open" ∷ decimal region ∷ []) × IsRegion region
-IsEventForm fields (Request region now words request) =
+IsEventForm fields (Request region now words bytes) =
     (name : List ℕ) × (form : List (List ℕ)) × (fields ≡ name ∷ decimal region ∷ decimal now ∷ form)
-    × IsRegion region × IsMoment now × (asked_of name form ≡ Some request)
+    × IsRegion region × IsMoment now × (asked_of name form ≡ Some bytes.items)
 IsEventForm fields (Pull region vector) =
     (entries : List ℕ) × (fields ≡ codes "pull" ∷ decimal region ∷ entries ∷ codes "-" ∷ [])
     × IsRegion region × IsVectorText entries vector
@@ -49,7 +55,7 @@ IsNoEventLine line = (event : Event) → ¬ (IsEventLine line event)
 -- a request has these words, and other events have none
 abbrev pub HasWords : List ℕ → Event → Type 0
 HasWords words (Open region) = ⊤
-HasWords words (Request region now drawn request) = drawn ≡ words
+HasWords words (Request region now drawn bytes) = drawn ≡ words
 HasWords words (Pull region vector) = ⊤
 HasWords words (Deliver bundle region) = ⊤
 

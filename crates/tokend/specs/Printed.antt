@@ -1,13 +1,14 @@
 -- What is printed of an event.
+--   location_in    where a reply sends the client; body_in, the body of a reply
 --   outcome_line   the line of an outcome, for an event of a region
 --   line_text      the line of an event and its outcome
 --   lines_text     a line for each event, as far as there are outcomes
-use Rattle.std.specs.Prelude.{ℕ, Bool, if◌then◌else◌, List, [], ◌∷◌, ◌++◌, codes, decimal, Option, Some, None}
-use Rattle.std.specs.List.{flat_map, zip}
+use Rattle.std.specs.Prelude.{ℕ, ◌+◌, Bool, nat_eq, nat_lt, if◌then◌else◌, List, [], ◌∷◌, ◌++◌, length, take, drop, codes, decimal, Option, Some, None, unwrap_or}
+use Rattle.std.specs.List.{flat_map, starts_with, zip}
+use Rattle.std.specs.Option.{option_map}
 use Rattle.tk_handle.specs.declared.dot.Dot.{Dot}
 use Rattle.tk_handle.specs.DotText.{dot_text}
 use Rattle.tk_message.specs.Status.{status_number}
-use Rattle.tk_message.specs.ReplyFields.{ReplyFields, Content, Nothing, JsonText, OtherBytes}
 use Rattle.tk_world.specs.declared.event.Event.{Event}
 use Rattle.tk_world.specs.World.{region_of}
 use Rattle.tk_world.specs.declared.event.Outcome.{Outcome}
@@ -31,18 +32,31 @@ abbrev pub location_text : Option (List ℕ) → List ℕ
 location_text None = []
 location_text (Some uri) = codes " " ++ uri
 
--- the bytes of a content, as far as there are any
-abbrev pub bytes_of : Content → List ℕ
-bytes_of Nothing = []
-bytes_of (JsonText bytes) = bytes
-bytes_of (OtherBytes bytes) = bytes
+-- where a mark first stands, or the length
+abbrev pub place_of : List ℕ → List ℕ → ℕ
+place_of mark [] = 0
+place_of mark (b ∷ bytes) = if starts_with nat_eq (b ∷ bytes) mark then 0 else 1 + place_of mark bytes
+
+-- what stands before the first of a mark
+abbrev pub before : List ℕ → List ℕ → List ℕ
+before mark bytes = take (place_of mark bytes) bytes
+
+-- what stands behind it, if it is there
+abbrev pub behind : List ℕ → List ℕ → Option (List ℕ)
+behind mark bytes =
+    if nat_lt (place_of mark bytes) (length bytes) then Some (drop (place_of mark bytes + length mark) bytes) else None
+
+-- the line of a reply that says where the client is sent (RFC 9110, 10.2.2)
+abbrev pub location_in : List ℕ → Option (List ℕ)
+location_in bytes = option_map (before (codes "\r\n")) (behind (codes "\r\nLocation: ") (before (codes "\r\n\r\n") bytes))
+
+-- what stands behind the empty line
+abbrev pub body_in : List ℕ → List ℕ
+body_in bytes = unwrap_or (behind (codes "\r\n\r\n") bytes) []
 
 -- status, location and content, as far as there are any
 abbrev pub reply_line : ℕ → Option (List ℕ) → List ℕ → List ℕ
 reply_line status location bytes = codes "reply " ++ (decimal status ++ (location_text location ++ (part_text bytes ++ newline)))
-
-abbrev pub number_of : ReplyFields → ℕ
-number_of reply = status_number reply.status
 
 -- a word and a number
 abbrev pub numbered_line : List ℕ → ℕ → List ℕ
@@ -58,7 +72,7 @@ outcome_line region Opened = numbered_line (codes "opened ") region
 outcome_line region NumberTaken = codes "number taken" ++ newline
 outcome_line region NoRegion = codes "no region" ++ newline
 outcome_line region NoBundle = codes "no bundle" ++ newline
-outcome_line region (Reply reply) = reply_line (number_of reply) reply.location (bytes_of reply.content)
+outcome_line region (Reply status bytes) = reply_line (status_number status) (location_in bytes.items) (body_in bytes.items)
 outcome_line region (Bundle index count last more) = bundle_line index count last more
 outcome_line region (Took count) = numbered_line (codes "took ") count
 outcome_line region Memory = codes "memory" ++ newline

@@ -1,98 +1,59 @@
--- The requests of a script's lines: a whole one, and short ones that stand for a whole one (own; RFC 9110, 9 and 7.1).
---   endpoint_of   what a method and a path name
---   request_of    the request of a whole line, by the fields behind the moment
---   asked_of      the request of any line, by its first field and by those behind the moment
-use Rattle.std.specs.Prelude.{ℕ, ◌+◌, ◌==◌, List, [], ◌∷◌, ◌++◌, take, drop, position, codes, Option, Some, None, if◌then◌else◌}
-use Rattle.std.specs.Option.{option_map}
+-- The requests of a script's lines, as bytes: a whole one, and short ones that stand for a whole one (own; RFC 9112, 3 and 5;
+-- RFC 7617, 2, for AUTH).
+--   request_bytes   the bytes of a whole line, by its fields
+--   request_of      those, where METHOD is one
+--   asked_of        the request of any line, by its first field and by those behind the moment
+use Rattle.std.specs.Prelude.{ℕ, Bool, nat_le, ◌&&◌, List, [], ◌∷◌, ◌++◌, length, codes, decimal, Option, Some, None, if◌then◌else◌}
+use Rattle.std.specs.List.{list_all}
 use Rattle.std.specs.Str.{bytes_eq}
-use Rattle.tk_params.specs.Params.{params_of}
-use Rattle.tk_message.specs.declared.request.Endpoint.{Endpoint}
-use Rattle.tk_message.specs.declared.request.Endpoint.TheVariants.{Authorize, Token, Introspect, Revoke, AddClient, ShowClient, Retire, Consent, Withdraw}
-use Rattle.tk_message.specs.RequestFields.{RequestFields}
-
--- ---- what is asked
-
-abbrev pub get_endpoint : List ℕ → Option Endpoint
-get_endpoint path =
-    if bytes_eq path (codes "/authorize") then Some Authorize
-    else if bytes_eq path (codes "/admin/client") then Some ShowClient
-    else None
-
-abbrev pub post_endpoint : List ℕ → Option Endpoint
-post_endpoint path =
-    if bytes_eq path (codes "/token") then Some Token
-    else if bytes_eq path (codes "/introspect") then Some Introspect
-    else if bytes_eq path (codes "/revoke") then Some Revoke
-    else if bytes_eq path (codes "/admin/client") then Some AddClient
-    else if bytes_eq path (codes "/admin/retire") then Some Retire
-    else if bytes_eq path (codes "/admin/consent") then Some Consent
-    else if bytes_eq path (codes "/admin/withdraw") then Some Withdraw
-    else None
-
--- byte for byte; another method has none
-abbrev pub endpoint_of : List ℕ → List ℕ → Option Endpoint
-endpoint_of method path =
-    if bytes_eq method (codes "GET") then get_endpoint path
-    else if bytes_eq method (codes "POST") then post_endpoint path
-    else None
-
--- ---- the target
-
--- where its query begins: at the first `?`
-abbrev pub mark_in : List ℕ → Option ℕ
-mark_in target = position (λ b. b == 63) target
-
-abbrev pub path_until : List ℕ → Option ℕ → List ℕ
-path_until target None = target
-path_until target (Some i) = take i target
-
-abbrev pub query_from : List ℕ → Option ℕ → List ℕ
-query_from target None = []
-query_from target (Some i) = drop (i + 1) target
 
 -- ---- what a field gives, where `-` means none
 
 abbrev pub none_text : List ℕ
 none_text = codes "-"
 
-abbrev pub given : List ℕ → Option (List ℕ)
-given text = if bytes_eq text none_text then None else Some text
-
--- the credentials of the Basic scheme (RFC 7617, 2)
-abbrev pub authorization_in : List ℕ → Option (List ℕ)
-authorization_in text = if bytes_eq text none_text then None else Some (codes "Basic " ++ text)
-
 abbrev pub body_in : List ℕ → List ℕ
 body_in text = if bytes_eq text none_text then [] else text
 
 -- ---- whole lines
 
--- the query of a GET, the body of a POST
-abbrev pub form_in : Endpoint → List ℕ → List ℕ → List ℕ
-form_in Authorize query body = query
-form_in ShowClient query body = query
-form_in Token query body = body
-form_in Introspect query body = body
-form_in Revoke query body = body
-form_in AddClient query body = body
-form_in Retire query body = body
-form_in Consent query body = body
-form_in Withdraw query body = body
+abbrev pub line_end : List ℕ
+line_end = codes "\r\n"
 
-abbrev pub request_at : List ℕ → List ℕ → List ℕ → List ℕ → Endpoint → RequestFields
-request_at query auth subject body endpoint = record {
-  endpoint = endpoint;
-  params = params_of (form_in endpoint query (body_in body));
-  authorization = authorization_in auth;
-  subject = given subject;
-}
+-- a field of the head, where it is given
+abbrev pub field_line : List ℕ → List ℕ → List ℕ
+field_line name value = if bytes_eq value none_text then [] else name ++ (value ++ line_end)
+
+-- what a POST says of its body
+abbrev pub post_lines : List ℕ → List ℕ → List ℕ
+post_lines method body =
+    if bytes_eq method (codes "POST") then codes "Content-Type: application/x-www-form-urlencoded\r\nContent-Length: " ++ (decimal (length body) ++ line_end)
+    else []
+
+-- the head, an empty line, and the body
+abbrev pub assembly : List ℕ → List ℕ → List ℕ → List ℕ → List ℕ → List ℕ
+assembly first auth subject post body = first ++ (auth ++ (subject ++ (post ++ (line_end ++ body))))
+
+abbrev pub with_host : List ℕ → List ℕ
+with_host target = target ++ codes " HTTP/1.1\r\nHost: tokend\r\n"
+
+abbrev pub first_lines : List ℕ → List ℕ → List ℕ
+first_lines method target = method ++ (codes " " ++ with_host target)
+
+abbrev pub request_bytes : List ℕ → List ℕ → List ℕ → List ℕ → List ℕ → List ℕ
+request_bytes method target auth subject body =
+    assembly (first_lines method target) (field_line (codes "Authorization: Basic ") auth) (field_line (codes "X-Subject: ") subject) (post_lines method body) body
+
+-- a method is capital letters
+abbrev pub is_capital : ℕ → Bool
+is_capital b = nat_le 65 b && nat_le b 90
 
 -- METHOD TARGET AUTH SUBJECT BODY
-abbrev pub request_of : List ℕ → List ℕ → List ℕ → List ℕ → List ℕ → Option RequestFields
+abbrev pub request_of : List ℕ → List ℕ → List ℕ → List ℕ → List ℕ → Option (List ℕ)
 request_of method target auth subject body =
-    option_map (request_at (query_from target (mark_in target)) auth subject body) (endpoint_of method (path_until target (mark_in target)))
+    if list_all is_capital method then Some (request_bytes method target auth subject (body_in body)) else None
 
-abbrev pub whole_of : List (List ℕ) → Option RequestFields
+abbrev pub whole_of : List (List ℕ) → Option (List ℕ)
 whole_of (method ∷ target ∷ auth ∷ subject ∷ body ∷ []) = request_of method target auth subject body
 whole_of form = None
 
@@ -106,22 +67,22 @@ client_form kind secret scope uris =
     codes "kind=" ++ (kind ++ (secret_pair secret ++ (codes "&scope=" ++ (scope ++ (codes "&redirects=" ++ uris)))))
 
 -- KIND SECRET SCOPE URIS
-abbrev pub client_of : List (List ℕ) → Option RequestFields
+abbrev pub client_of : List (List ℕ) → Option (List ℕ)
 client_of (kind ∷ secret ∷ scope ∷ uris ∷ []) = request_of (codes "POST") (codes "/admin/client") none_text none_text (client_form kind secret scope uris)
 client_of form = None
 
 -- ID
-abbrev pub retire_of : List (List ℕ) → Option RequestFields
+abbrev pub retire_of : List (List ℕ) → Option (List ℕ)
 retire_of (id ∷ []) = request_of (codes "POST") (codes "/admin/retire") none_text none_text (codes "client_id=" ++ id)
 retire_of form = None
 
 -- ID
-abbrev pub look_of : List (List ℕ) → Option RequestFields
+abbrev pub look_of : List (List ℕ) → Option (List ℕ)
 look_of (id ∷ []) = request_of (codes "GET") (codes "/admin/client?client_id=" ++ id) none_text none_text none_text
 look_of form = None
 
 -- by the first field
-abbrev pub asked_of : List ℕ → List (List ℕ) → Option RequestFields
+abbrev pub asked_of : List ℕ → List (List ℕ) → Option (List ℕ)
 asked_of name form =
     if bytes_eq name (codes "req") then whole_of form
     else if bytes_eq name (codes "client") then client_of form

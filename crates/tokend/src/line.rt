@@ -50,7 +50,7 @@ fn event_of(alloc: Global, fields: &[&str], words: [u64; 6]) -> Result<Event, Li
             region: region(at).ok_or(LineError::Bad)?,
             now: moment(now).ok_or(LineError::Bad)?,
             words,
-            request: asked(alloc, name, form)?.ok_or(LineError::Bad)?,
+            bytes: asked(alloc, name, form)?.ok_or(LineError::Bad)?,
         }),
         _ => Err(LineError::Bad),
     }

@@ -20,6 +20,7 @@ mod print;
 mod program;
 pub mod promises;
 mod put;
+mod reply_parts;
 mod request_line;
 mod script;
 #[cfg(test)]

@@ -2,15 +2,17 @@
 
 ghost use Rattle.std.specs.Prelude.{◌≡◌, ℕ, decimal};
 ghost use Rattle.std.specs.Option.{option_copied, option_map};
+ghost use Rattle.tk_message.specs.Status.{status_number};
 ghost use Rattle.tk_world.specs.World.{region_of as event_region};
 ghost use Rattle.tokend.specs.Printed as spec;
 ghost use Rattle.tokend.specs.Put.{Prints};
 
 use crate::put::put_all;
+use crate::reply_parts::{body_in, location_in};
 use itoa::Buffer;
 use std::io::{self, Write};
 use tk_handle::{Dot, RegionNumber};
-use tk_message::{Payload, Reply};
+use tk_message::Status;
 use tk_world::{Event, Outcome};
 
 /// Writes one line for each event, as far as there are outcomes.
@@ -60,7 +62,7 @@ fn print_outcome<O: Write>(
         Outcome::NumberTaken => put_all(output, &[b"number taken\n"]),
         Outcome::NoRegion => put_all(output, &[b"no region\n"]),
         Outcome::NoBundle => put_all(output, &[b"no bundle\n"]),
-        Outcome::Reply(reply) => print_reply(output, reply),
+        Outcome::Reply { status, bytes } => print_reply(output, *status, bytes),
         Outcome::Bundle {
             index,
             count,
@@ -110,24 +112,17 @@ fn print_bundle<O: Write>(
     }
 }
 
-fn print_reply<O: Write>(output: &mut O, reply: &Reply) -> io::Result<()>
-    ensures { Prints result (O.contents output.old) (O.contents output.new) (spec.reply_line (spec.number_of reply.now) reply.now.location (spec.bytes_of reply.now.content)) }
+fn print_reply<O: Write>(output: &mut O, status: Status, bytes: &[u8]) -> io::Result<()>
+    ensures { Prints result (O.contents output.old) (O.contents output.new)
+        (spec.reply_line (status_number status) (spec.location_in bytes.now) (spec.body_in bytes.now)) }
 {
-    let location = match &reply.location {
-        Some(location) => Some(location.as_str()),
-        None => None,
-    };
-    let body: &[u8] = match &reply.body {
-        Payload::Empty => &[],
-        Payload::Json(bytes) | Payload::Bytes(bytes) => bytes,
-    };
-    print_parts(output, reply.status.number(), location, body)
+    print_parts(output, status.number(), location_in(bytes), body_in(bytes))
 }
 
 fn print_parts<O: Write>(
     output: &mut O,
     status: u16,
-    location: Option<&str>,
+    location: Option<&[u8]>,
     body: &[u8],
 ) -> io::Result<()>
     ensures { Prints result (O.contents output.old) (O.contents output.new) (spec.reply_line status (option_copied location.entry) body.now) }
@@ -136,10 +131,7 @@ fn print_parts<O: Write>(
     let status = digits.format(status).as_bytes();
     let gap: &[u8] = if body.is_empty() { b"" } else { b" " };
     match location {
-        Some(uri) => put_all(
-            output,
-            &[b"reply ", status, b" ", uri.as_bytes(), gap, body, b"\n"],
-        ),
+        Some(uri) => put_all(output, &[b"reply ", status, b" ", uri, gap, body, b"\n"]),
         None => put_all(output, &[b"reply ", status, gap, body, b"\n"]),
     }
 }

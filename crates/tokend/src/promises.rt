@@ -49,8 +49,8 @@ pub fn regions_agree(world: &World)
     world.known()
 }
 
-/// Equal facts introspect alike: where two regions hold equal sets when they are asked, the same introspection request at the
-/// same moment has the same reply, whatever their numbers and the words (RFC 7662, 2.2).
+/// Equal facts introspect alike: where two regions hold equal sets when they are asked, bytes that mean the same introspection
+/// request get the same status and the same bytes at the same moment, whatever their numbers and the words (RFC 7662, 2.2).
 pub fn equal_facts_introspect_alike(
     world: &mut World,
     events: &[Event],

@@ -1,12 +1,12 @@
 //! The requests of lines: a whole one, and short ones that stand for a whole one.
 
-ghost use Rattle.std.specs.Prelude.{◌≡◌, ◌<◌, ◌+◌, ◌++◌, IfOk, IfSome, length, drop, string_bytes};
-ghost use Rattle.std.specs.Option.{option_map};
-ghost use Rattle.tokend.specs.Line.{texts};
+ghost use Rattle.std.specs.Prelude.{◌≡◌, ◌++◌, IfOk, string_bytes};
+ghost use Rattle.std.specs.List.{list_all};
+ghost use Rattle.tokend.specs.Line.{bytes_in, texts};
 ghost use Rattle.tokend.specs.RequestLine as spec;
 
+use itoa::Buffer;
 use std::alloc::{AllocError, Global};
-use tk_message::{Endpoint, Params, Request};
 
 /// The request of a line by its first field, and by those behind the moment; None where there is none. A line has one of
 /// these forms, and the last three stand for a whole one:
@@ -16,9 +16,10 @@ use tk_message::{Endpoint, Params, Request};
 /// - `retire R NOW ID`
 /// - `look R NOW ID`
 ///
-/// What is put into the body or the query of a whole line is put as it stands. An error where memory is refused.
-pub(crate) fn asked(alloc: Global, name: &str, form: &[&str]) -> Result<Option<Request>, AllocError>
-    ensures { IfOk result (λ request. request ≡ spec.asked_of name.now (texts form.now)) }
+/// METHOD is capital letters. The request is the bytes of a head of HTTP/1.1, an empty line and the body; a POST says how long
+/// its body is. What is put into the body or the query of a whole line is put as it stands. An error where memory is refused.
+pub(crate) fn asked(alloc: Global, name: &str, form: &[&str]) -> Result<Option<Vec<u8>>, AllocError>
+    ensures { IfOk result (λ request. bytes_in request ≡ spec.asked_of name.now (texts form.now)) }
 {
     if name == "req" {
         return whole(alloc, form);
@@ -37,8 +38,8 @@ pub(crate) fn asked(alloc: Global, name: &str, form: &[&str]) -> Result<Option<R
 
 // ---- the forms
 
-fn whole(alloc: Global, form: &[&str]) -> Result<Option<Request>, AllocError>
-    ensures { IfOk result (λ request. request ≡ spec.whole_of (texts form.now)) }
+fn whole(alloc: Global, form: &[&str]) -> Result<Option<Vec<u8>>, AllocError>
+    ensures { IfOk result (λ request. bytes_in request ≡ spec.whole_of (texts form.now)) }
 {
     match form {
         [method, target, auth, subject, body] => {
@@ -48,8 +49,8 @@ fn whole(alloc: Global, form: &[&str]) -> Result<Option<Request>, AllocError>
     }
 }
 
-fn client(alloc: Global, form: &[&str]) -> Result<Option<Request>, AllocError>
-    ensures { IfOk result (λ request. request ≡ spec.client_of (texts form.now)) }
+fn client(alloc: Global, form: &[&str]) -> Result<Option<Vec<u8>>, AllocError>
+    ensures { IfOk result (λ request. bytes_in request ≡ spec.client_of (texts form.now)) }
 {
     match form {
         [kind, secret, scope, uris] => {
@@ -82,8 +83,8 @@ fn client_form(
     Ok(form)
 }
 
-fn retire(alloc: Global, form: &[&str]) -> Result<Option<Request>, AllocError>
-    ensures { IfOk result (λ request. request ≡ spec.retire_of (texts form.now)) }
+fn retire(alloc: Global, form: &[&str]) -> Result<Option<Vec<u8>>, AllocError>
+    ensures { IfOk result (λ request. bytes_in request ≡ spec.retire_of (texts form.now)) }
 {
     match form {
         [id] => {
@@ -94,8 +95,8 @@ fn retire(alloc: Global, form: &[&str]) -> Result<Option<Request>, AllocError>
     }
 }
 
-fn look(alloc: Global, form: &[&str]) -> Result<Option<Request>, AllocError>
-    ensures { IfOk result (λ request. request ≡ spec.look_of (texts form.now)) }
+fn look(alloc: Global, form: &[&str]) -> Result<Option<Vec<u8>>, AllocError>
+    ensures { IfOk result (λ request. bytes_in request ≡ spec.look_of (texts form.now)) }
 {
     match form {
         [id] => {
@@ -123,56 +124,21 @@ fn request_of(
     auth: &str,
     subject: &str,
     body: &str,
-) -> Result<Option<Request>, AllocError>
-    ensures { IfOk result (λ request. request ≡ spec.request_of method.now target.now auth.now subject.now body.now) }
+) -> Result<Option<Vec<u8>>, AllocError>
+    ensures { IfOk result (λ request. bytes_in request ≡ spec.request_of method.now target.now auth.now subject.now body.now) }
 {
-    let target = target.as_bytes();
-    let mark = mark_in(target);
-    match endpoint_of(method, path_until(target, mark)) {
-        Some(endpoint) => {
-            let query = query_from(target, mark);
-            let request = request_at(alloc, query, auth, subject, body, endpoint)?;
-            Ok(Some(request))
-        }
-        None => Ok(None),
+    if !is_method(method.as_bytes()) {
+        return Ok(None);
     }
+    let body = body_in(body);
+    let bytes = request_bytes(alloc, method, target, auth, subject, body)?;
+    Ok(Some(bytes))
 }
 
-fn request_at(
-    alloc: Global,
-    query: &[u8],
-    auth: &str,
-    subject: &str,
-    body: &str,
-    endpoint: Endpoint,
-) -> Result<Request, AllocError>
-    ensures { IfOk result (λ request. request ≡ spec.request_at query.now auth.now subject.now body.now endpoint) }
+fn is_method(name: &[u8]) -> bool
+    ensures { result ≡ list_all spec.is_capital name.now }
 {
-    let params = Params::read(alloc, form_in(endpoint, query, body_in(body)))?;
-    let authorization = authorization_in(alloc, auth)?;
-    let subject = given(alloc, subject)?;
-    Ok(Request {
-        endpoint,
-        params,
-        authorization,
-        subject,
-    })
-}
-
-fn form_in<'a>(endpoint: Endpoint, query: &'a [u8], body: &'a [u8]) -> &'a [u8]
-    ensures { result.now ≡ spec.form_in endpoint query.now body.now }
-{
-    match endpoint {
-        Endpoint::Authorize => query,
-        Endpoint::ShowClient => query,
-        Endpoint::Token => body,
-        Endpoint::Introspect => body,
-        Endpoint::Revoke => body,
-        Endpoint::AddClient => body,
-        Endpoint::Retire => body,
-        Endpoint::Consent => body,
-        Endpoint::Withdraw => body,
-    }
+    name.iter().all(|b| b'A' <= *b && *b <= b'Z')
 }
 
 fn body_in(text: &str) -> &[u8]
@@ -184,113 +150,84 @@ fn body_in(text: &str) -> &[u8]
     text.as_bytes()
 }
 
-fn given(alloc: Global, text: &str) -> Result<Option<Vec<u8>>, AllocError>
-    ensures { IfOk result (λ value. option_map (λ v. v.items) value ≡ spec.given text.now) }
+fn request_bytes(
+    alloc: Global,
+    method: &str,
+    target: &str,
+    auth: &str,
+    subject: &str,
+    body: &[u8],
+) -> Result<Vec<u8>, AllocError>
+    ensures { IfOk result (λ bytes. bytes.items ≡ spec.request_bytes method.now target.now auth.now subject.now body.now) }
 {
-    if text == "-" {
-        return Ok(None);
-    }
-    let mut value = Vec::new(alloc);
-    value.extend_from_slice(text.as_bytes())?;
-    Ok(Some(value))
+    let first = first_lines(alloc, method.as_bytes(), target.as_bytes())?;
+    let auth = field_line(alloc, "Authorization: Basic ", auth)?;
+    let subject = field_line(alloc, "X-Subject: ", subject)?;
+    let post = post_lines(alloc, method, body)?;
+    assembled(first, &auth, &subject, &post, body)
 }
 
-fn authorization_in(alloc: Global, text: &str) -> Result<Option<Vec<u8>>, AllocError>
-    ensures { IfOk result (λ value. option_map (λ v. v.items) value ≡ spec.authorization_in text.now) }
+fn first_lines(alloc: Global, method: &[u8], target: &[u8]) -> Result<Vec<u8>, AllocError>
+    ensures { IfOk result (λ bytes. bytes.items ≡ spec.first_lines method.now target.now) }
 {
-    if text == "-" {
-        return Ok(None);
-    }
-    let mut value = Vec::new(alloc);
-    value.extend_from_slice(b"Basic ")?;
-    value.extend_from_slice(text.as_bytes())?;
-    Ok(Some(value))
+    let rest = with_host(alloc, target)?;
+    let mut bytes = Vec::from_slice(alloc, method)?;
+    bytes.extend_from_slice(b" ")?;
+    bytes.extend_from_slice(&rest)?;
+    Ok(bytes)
 }
 
-// ---- the target and its endpoint
-
-fn mark_in(target: &[u8]) -> Option<usize>
-    ensures value { result ≡ spec.mark_in target.now }
-    ensures within { IfSome result (λ i. i < length target.now) }
+fn with_host(alloc: Global, target: &[u8]) -> Result<Vec<u8>, AllocError>
+    ensures { IfOk result (λ bytes. bytes.items ≡ spec.with_host target.now) }
 {
-    target.iter().position(|b| *b == b'?')
+    let mut bytes = Vec::from_slice(alloc, target)?;
+    bytes.extend_from_slice(b" HTTP/1.1\r\nHost: tokend\r\n")?;
+    Ok(bytes)
 }
 
-fn path_until(target: &[u8], mark: Option<usize>) -> &[u8]
-    requires { IfSome mark (λ i. i < length target.now) }
-    ensures { result.now ≡ spec.path_until target.now mark }
+// What stands behind the first lines.
+fn assembled(
+    first: Vec<u8>,
+    auth: &[u8],
+    subject: &[u8],
+    post: &[u8],
+    body: &[u8],
+) -> Result<Vec<u8>, AllocError>
+    ensures { IfOk result (λ bytes. bytes.items ≡ spec.assembly first.items auth.now subject.now post.now body.now) }
 {
-    match mark {
-        Some(at) => &target[..at],
-        None => target,
-    }
+    let mut bytes = first;
+    bytes.extend_from_slice(auth)?;
+    bytes.extend_from_slice(subject)?;
+    bytes.extend_from_slice(post)?;
+    bytes.extend_from_slice(b"\r\n")?;
+    bytes.extend_from_slice(body)?;
+    Ok(bytes)
 }
 
-fn query_from(target: &[u8], mark: Option<usize>) -> &[u8]
-    requires { IfSome mark (λ i. i < length target.now) }
-    ensures { result.now ≡ spec.query_from target.now mark }
+// A field of the head, where it is given.
+fn field_line(alloc: Global, name: &str, value: &str) -> Result<Vec<u8>, AllocError>
+    ensures { IfOk result (λ line. line.items ≡ spec.field_line name.now value.now) }
 {
-    match mark {
-        Some(at) => behind(target, at),
-        None => &[],
+    if value == "-" {
+        return Ok(Vec::new(alloc));
     }
+    let mut line = Vec::from_slice(alloc, name.as_bytes())?;
+    line.extend_from_slice(value.as_bytes())?;
+    line.extend_from_slice(b"\r\n")?;
+    Ok(line)
 }
 
-#[tactic(auto, using(std::proofs::lemmas::List::take_rest))]
-fn behind(target: &[u8], at: usize) -> &[u8]
-    requires { at < length target.now }
-    ensures { result.now ≡ drop (at + 1) target.now }
+// What a POST says of its body.
+fn post_lines(alloc: Global, method: &str, body: &[u8]) -> Result<Vec<u8>, AllocError>
+    ensures { IfOk result (λ lines. lines.items ≡ spec.post_lines method.now body.now) }
 {
-    &target[at + 1..]
-}
-
-fn endpoint_of(method: &str, path: &[u8]) -> Option<Endpoint>
-    ensures { result ≡ spec.endpoint_of method.now path.now }
-{
-    if method == "GET" {
-        return get_endpoint(path);
+    if method != "POST" {
+        return Ok(Vec::new(alloc));
     }
-    if method == "POST" {
-        return post_endpoint(path);
-    }
-    None
-}
-
-fn get_endpoint(path: &[u8]) -> Option<Endpoint>
-    ensures { result ≡ spec.get_endpoint path.now }
-{
-    if path == b"/authorize".as_slice() {
-        return Some(Endpoint::Authorize);
-    }
-    if path == b"/admin/client".as_slice() {
-        return Some(Endpoint::ShowClient);
-    }
-    None
-}
-
-fn post_endpoint(path: &[u8]) -> Option<Endpoint>
-    ensures { result ≡ spec.post_endpoint path.now }
-{
-    if path == b"/token".as_slice() {
-        return Some(Endpoint::Token);
-    }
-    if path == b"/introspect".as_slice() {
-        return Some(Endpoint::Introspect);
-    }
-    if path == b"/revoke".as_slice() {
-        return Some(Endpoint::Revoke);
-    }
-    if path == b"/admin/client".as_slice() {
-        return Some(Endpoint::AddClient);
-    }
-    if path == b"/admin/retire".as_slice() {
-        return Some(Endpoint::Retire);
-    }
-    if path == b"/admin/consent".as_slice() {
-        return Some(Endpoint::Consent);
-    }
-    if path == b"/admin/withdraw".as_slice() {
-        return Some(Endpoint::Withdraw);
-    }
-    None
+    let mut digits = Buffer::new();
+    let fixed = b"Content-Type: application/x-www-form-urlencoded\r\nContent-Length: ";
+    let mut lines = Vec::from_slice(alloc, fixed)?;
+    lines.extend_from_slice(digits.format(body.len()).as_bytes())?;
+    lines.extend_from_slice(b"\r\n")?;
+    Ok(lines)
 }

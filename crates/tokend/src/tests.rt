@@ -18,6 +18,7 @@ mod replies;
 mod requests;
 mod rotation;
 mod states;
+mod unserved;
 mod verifiers;
 mod world;
 

@@ -8,7 +8,10 @@ fn digits_are_read_up_to_the_limit(rt: HostRuntime) {
         ("0", Numeral::Within(0)),
         ("16384", Numeral::Within(16384)),
         ("16385", Numeral::Above),
-        ("0000000000000000000000000000000000000016384", Numeral::Within(16384)),
+        (
+            "0000000000000000000000000000000000000016384",
+            Numeral::Within(16384),
+        ),
         ("99999999999999999999999", Numeral::Above),
         ("18446744073709551616", Numeral::Above),
         ("", Numeral::Malformed),
@@ -26,6 +29,9 @@ fn digits_are_read_up_to_the_limit(rt: HostRuntime) {
 
 #[test]
 fn the_greatest_limit_is_a_number(rt: HostRuntime) {
-    assert_eq!(rt; read_numeral(b"4294967295", 4_294_967_295), Numeral::Within(4_294_967_295));
+    assert_eq!(rt;
+        read_numeral(b"4294967295", 4_294_967_295),
+        Numeral::Within(4_294_967_295)
+    );
     assert_eq!(rt; read_numeral(b"4294967296", 4_294_967_295), Numeral::Above);
 }

@@ -29,6 +29,13 @@ pub(super) fn handle(place: Place, kind: Kind, word: u64) -> Result<Handle, Fail
     Ok(Handle::mint(id, [word; 3]))
 }
 
+/// Where a token is minted, its kind, and its words.
+pub(super) type Token = (Place, Kind, u64);
+
+pub(super) fn handle_of(token: Token) -> Result<Handle, Fail> {
+    handle(token.0, token.1, token.2)
+}
+
 // The dot of a fact, and the number of its kind.
 fn fact_of_kind(alloc: Global, at: Place, number: u8) -> Result<Writer, Fail> {
     let at = dot(at)?;

@@ -145,16 +145,21 @@ fn compare_consents(alloc: Global, both: &Both) -> Result<(), Fail> {
     Ok(())
 }
 
+// How many facts both hold, which say the same of all.
+fn compared(alloc: Global, seed: u64) -> Result<u64, Fail> {
+    let both = filled(alloc, seed)?;
+    compare_tokens(&both)?;
+    compare_views(&both)?;
+    compare_consents(alloc, &both)?;
+    Ok(both.ledger.store().len())
+}
+
 #[test]
 fn both_ledgers_say_the_same_of_generated_facts(rt: HostRuntime) -> Result<(), Fail> {
     let alloc = rt.alloc();
     let mut held: u64 = 0;
     for seed in 0..400 {
-        let both = filled(alloc, seed)?;
-        compare_tokens(&both)?;
-        compare_views(&both)?;
-        compare_consents(alloc, &both)?;
-        held = held.saturating_add(both.ledger.store().len());
+        held = held.saturating_add(compared(alloc, seed)?);
     }
     assert!(rt; held > 2_400, "{held} facts");
     Ok(())

@@ -18,22 +18,33 @@ fn take(alloc: Global, ledger: &mut Ledger, fact: &[u8]) -> Result<(), Fail> {
     }
 }
 
+// A code, and its redemption.
+fn issue(alloc: Global, ledger: &mut Ledger) -> Result<(), Fail> {
+    for fact in &before_grants(alloc)? {
+        take(alloc, ledger, fact)?;
+    }
+    let redeemed = code_redeemed(alloc, (1, 4), (1, 3), (7, 8))?;
+    take(alloc, ledger, &redeemed)
+}
+
+fn rotate(alloc: Global, ledger: &mut Ledger, generation: u16) -> Result<(), Fail> {
+    let parent = ((1, 3 + u64::from(generation)), generation);
+    let fact = refresh_rotated(alloc, (1, 4 + u64::from(generation)), parent, (7, 8))?;
+    take(alloc, ledger, &fact)
+}
+
+fn rotate_all(alloc: Global, ledger: &mut Ledger, rotations: u16) -> Result<(), Fail> {
+    for generation in 1..=rotations {
+        rotate(alloc, ledger, generation)?;
+    }
+    Ok(())
+}
+
 // The ledger of a family with so many rotations.
 fn rotated(alloc: Global, rotations: u16) -> Result<Ledger, Fail> {
     let mut ledger = Ledger::new(alloc);
-    for fact in &before_grants(alloc)? {
-        take(alloc, &mut ledger, fact)?;
-    }
-    take(
-        alloc,
-        &mut ledger,
-        &code_redeemed(alloc, (1, 4), (1, 3), (7, 8))?,
-    )?;
-    for generation in 1..=rotations {
-        let parent = ((1, 3 + u64::from(generation)), generation);
-        let fact = refresh_rotated(alloc, (1, 4 + u64::from(generation)), parent, (7, 8))?;
-        take(alloc, &mut ledger, &fact)?;
-    }
+    issue(alloc, &mut ledger)?;
+    rotate_all(alloc, &mut ledger, rotations)?;
     Ok(ledger)
 }
 
@@ -52,12 +63,17 @@ fn told(ledger: &Ledger, token: &Handle) -> Result<(bool, u64), Fail> {
     Ok((is_live, steps.count()))
 }
 
+fn told_after(alloc: Global, rotations: u16) -> Result<(bool, u64), Fail> {
+    let token = last(rotations)?;
+    let ledger = rotated(alloc, rotations)?;
+    told(&ledger, &token)
+}
+
 #[test]
 fn look_ups_are_as_many_at_every_generation(rt: HostRuntime) -> Result<(), Fail> {
     let alloc = rt.alloc();
     for rotations in [1, 10_000] {
-        let ledger = rotated(alloc, rotations)?;
-        let (is_live, count) = told(&ledger, &last(rotations)?)?;
+        let (is_live, count) = told_after(alloc, rotations)?;
         assert!(rt; is_live && count == 8, "{rotations}: {count}");
     }
     Ok(())
@@ -74,12 +90,18 @@ fn timed<C: Clock>(rt: &C, ledger: &Ledger, token: &Handle) -> Result<Duration, 
     Ok(start.elapsed(rt)?)
 }
 
+fn timed_after<C: Clock>(rt: &C, alloc: Global, rotations: u16) -> Result<Duration, Fail> {
+    let token = last(rotations)?;
+    let ledger = rotated(alloc, rotations)?;
+    timed(rt, &ledger, &token)
+}
+
 // A walk from parent to parent would take 10,001 steps in place of 2.
 #[test]
 fn a_status_takes_as_long_at_every_generation(rt: HostRuntime) -> Result<(), Fail> {
     let alloc = rt.alloc();
-    let short = timed(&rt, &rotated(alloc, 1)?, &last(1)?)?;
-    let long = timed(&rt, &rotated(alloc, 10_000)?, &last(10_000)?)?;
+    let short = timed_after(&rt, alloc, 1)?;
+    let long = timed_after(&rt, alloc, 10_000)?;
     assert!(rt;
         long.as_micros() <= 50 * short.as_micros(),
         "{long:?} after {short:?}"

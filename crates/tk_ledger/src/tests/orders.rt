@@ -1,6 +1,6 @@
 //! Ledgers of facts that came in any order, and what they say: each beside a plain one, that says the same.
 
-use super::facts::moment;
+use super::facts::{Token, handle_of, moment};
 use crate::plain::PlainLedger;
 use crate::{ClientView, ConsentView, Ledger, State, Status};
 use std::alloc::Global;
@@ -71,22 +71,38 @@ pub(super) fn add(alloc: Global, both: &mut Both, bytes: &[u8]) -> Result<Added,
     }
 }
 
-// The facts, added in the order that has this number: each is one of those left, told by a remainder.
-pub(super) fn in_order(alloc: Global, facts: &[Vec<u8>], order: usize) -> Result<Both, Fail> {
-    let mut both = Both::new(alloc);
-    let mut left: Vec<&[u8]> = Vec::new(alloc);
+fn slices(alloc: Global, facts: &[Vec<u8>]) -> Result<Vec<&[u8]>, Fail> {
+    let mut slices = Vec::new(alloc);
     for fact in facts {
-        left.push(fact.as_slice())?;
+        slices.push(fact.as_slice())?;
     }
+    Ok(slices)
+}
+
+// Those left are added: each time one of them, told by a remainder.
+fn add_in_order(
+    alloc: Global,
+    both: &mut Both,
+    left: &mut Vec<&[u8]>,
+    order: usize,
+) -> Result<(), Fail> {
     let mut order = order;
-    for count in (1..=facts.len()).rev() {
+    for count in (1..=left.len()).rev() {
         let at = order % count;
         order /= count;
         if at < left.len() {
             let fact = left.remove(at);
-            add(alloc, &mut both, fact)?;
+            add(alloc, both, fact)?;
         }
     }
+    Ok(())
+}
+
+// The facts, added in the order that has this number.
+pub(super) fn in_order(alloc: Global, facts: &[Vec<u8>], order: usize) -> Result<Both, Fail> {
+    let mut left = slices(alloc, facts)?;
+    let mut both = Both::new(alloc);
+    add_in_order(alloc, &mut both, &mut left, order)?;
     Ok(both)
 }
 
@@ -138,8 +154,8 @@ pub(super) fn in_short(both: &Both, now: u64, handle: &Handle) -> Result<Said, F
     Ok(said)
 }
 
-/// A row of a table: its name, a handle, and what is to be said of it.
-pub(super) type Row = (&'static str, Handle, Said);
+/// A row of a table: its name, a token, and what is to be said of it.
+pub(super) type Row = (&'static str, Token, Said);
 
 /// What was said of a row, in the order that has this number, in place of what was to be said.
 #[derive(Debug, Drop)]
@@ -149,9 +165,11 @@ pub(super) struct Miss {
     said: Said,
 }
 
-fn missed(both: &Both, order: usize, rows: &[Row]) -> Result<Option<Miss>, Fail> {
-    for (row, handle, want) in rows {
-        let said = in_short(both, 1_020, handle)?;
+// The first row of which another thing is said, at 1,020.
+pub(super) fn missed(both: &Both, order: usize, rows: &[Row]) -> Result<Option<Miss>, Fail> {
+    for (row, token, want) in rows {
+        let handle = handle_of(*token)?;
+        let said = in_short(both, 1_020, &handle)?;
         if said != *want {
             return Ok(Some(Miss { order, row, said }));
         }

@@ -1,15 +1,16 @@
 //! What a ledger shows of clients, consents and revocations, and which facts it takes.
 
 use super::facts::{
-    client_added, client_retired, consent_given, consent_withdrawn, dot, handle, read_consent_given,
+    client_added, client_retired, consent_given, consent_withdrawn, dot, handle, handle_of,
+    read_consent_given,
 };
-use super::orders::{Both, add, add_to_both, in_order};
-use super::{CLIENT, CONSENT, after, before_grants, revoked_in_advance};
+use super::orders::{Both, add_to_both, in_order};
+use super::{ACCESS, ANOTHER_CLIENT, CLIENT, CONSENT, after, before_grants, revoked_in_advance};
 use crate::{ClientView, ConsentView};
 use std::alloc::Global;
 use std::test::Fail;
 use tk_fact::{Sort, Subject};
-use tk_handle::{Dot, Kind};
+use tk_handle::{Dot, Kind, TokenId};
 use tk_scope::Scope;
 use tk_store::{AddError, Added};
 
@@ -75,57 +76,112 @@ fn found(
     Ok(found)
 }
 
+// A consent that is sought: the row's name, the client, the subject, the scope, and what is to be found.
+type Sought = (&'static str, Dot, &'static [u8], &'static [u8], Option<Dot>);
+
+// The first row for which another consent is found.
+fn first_found_otherwise(
+    alloc: Global,
+    both: &Both,
+    rows: &[Sought],
+) -> Result<Option<&'static str>, Fail> {
+    for (row, client, subject, scope, want) in rows {
+        if found(alloc, both, *client, subject, scope)? != *want {
+            return Ok(Some(row));
+        }
+    }
+    Ok(None)
+}
+
+// The same, among these consents.
+fn found_otherwise(alloc: Global, rows: &[Sought]) -> Result<Option<&'static str>, Fail> {
+    let both = consents(alloc)?;
+    first_found_otherwise(alloc, &both, rows)
+}
+
 #[test]
 fn the_least_consent_that_includes_the_scope_is_found(rt: HostRuntime) -> Result<(), Fail> {
-    let alloc = rt.alloc();
     let (client, first, last) = (dot(CLIENT)?, dot((1, 2))?, dot((1, 5))?);
-    let both = consents(alloc)?;
     let ann = b"ann".as_slice();
-    for (row, client, subject, scope, want) in [
+    let rows: [Sought; 5] = [
         ("the least", client, ann, b"read".as_slice(), Some(first)),
         // That at 1:3 includes the scope and is less, but was withdrawn.
         ("the only", client, ann, b"write read", Some(last)),
         ("a wider scope", client, ann, b"admin read", None),
         ("another subject", client, b"bob", b"read", None),
         ("another client", first, ann, b"read", None),
-    ] {
-        let found = found(alloc, &both, client, subject, scope)?;
-        assert!(rt; found == want, "{row}: {found:?}");
-    }
+    ];
+    let wrong = found_otherwise(rt.alloc(), &rows)?;
+    assert!(rt; wrong.is_none(), "{wrong:?}");
     Ok(())
+}
+
+// A question whether a token was revoked: its name, the token, a digest, a client, and the answer.
+type Question = (&'static str, TokenId, [u8; 32], Dot, bool);
+
+// The first question that one of the ledgers answers otherwise.
+fn first_wrong(both: &Both, questions: &[Question]) -> Option<&'static str> {
+    for (row, id, digest, client, want) in questions {
+        if both.ledger.revoked(id, digest, *client) != *want
+            || both.plain.revoked(id, digest, *client) != *want
+        {
+            return Some(row);
+        }
+    }
+    None
+}
+
+fn with_revocation(alloc: Global) -> Result<Both, Fail> {
+    let facts = revoked_in_advance(alloc, ACCESS, CLIENT)?;
+    in_order(alloc, &facts, 0)
 }
 
 #[test]
 fn a_revocation_is_told_by_token_digest_and_client(rt: HostRuntime) -> Result<(), Fail> {
-    let alloc = rt.alloc();
-    let token = handle((1, 5), Kind::Access, 48)?;
+    let token = handle_of(ACCESS)?;
     let other = handle((1, 5), Kind::Access, 49)?;
-    let (client, another) = (dot(CLIENT)?, dot((1, 4))?);
-    let facts = revoked_in_advance(alloc, &token, CLIENT)?;
-    let both = in_order(alloc, &facts, 0)?;
     let refresh = handle((1, 5), Kind::Refresh, 48)?;
-    for (row, id, digest, client, want) in [
+    let (client, another) = (dot(CLIENT)?, dot(ANOTHER_CLIENT)?);
+    let questions = [
         ("as it was revoked", token.id, token.digest(), client, true),
         ("another client", token.id, token.digest(), another, false),
         ("another digest", token.id, other.digest(), client, false),
         ("another kind", refresh.id, token.digest(), client, false),
-    ] {
-        assert!(rt; both.ledger.revoked(&id, &digest, client) == want, "{row}");
-        assert!(rt; both.plain.revoked(&id, &digest, client) == want, "{row}");
-    }
+    ];
+    let wrong = first_wrong(&with_revocation(rt.alloc())?, &questions);
+    assert!(rt; wrong.is_none(), "{wrong:?}");
     Ok(())
+}
+
+// A client's fact, added once more.
+fn is_held(alloc: Global, both: &mut Both) -> Result<bool, Fail> {
+    let again = client_added(alloc, CLIENT)?;
+    Ok(matches!(add_to_both(alloc, both, &again)?, Ok(Added::Held)))
+}
+
+// Another fact at the client's dot.
+fn is_conflict(alloc: Global, both: &mut Both) -> Result<bool, Fail> {
+    let other = client_retired(alloc, CLIENT, CLIENT)?;
+    let added = add_to_both(alloc, both, &other)?;
+    Ok(matches!(added, Err(AddError::Conflict)))
+}
+
+fn without_grants(alloc: Global) -> Result<Both, Fail> {
+    let facts = before_grants(alloc)?;
+    in_order(alloc, &facts, 0)
+}
+
+// Whether the client's fact is held, whether another at its dot conflicts with it, and how many facts there are then.
+fn added_at_the_client(alloc: Global) -> Result<(bool, bool, u64), Fail> {
+    let mut both = without_grants(alloc)?;
+    let held = is_held(alloc, &mut both)?;
+    let conflict = is_conflict(alloc, &mut both)?;
+    Ok((held, conflict, both.ledger.store().len()))
 }
 
 #[test]
 fn a_dot_holds_one_body(rt: HostRuntime) -> Result<(), Fail> {
-    let alloc = rt.alloc();
-    let facts = before_grants(alloc)?;
-    let mut both = in_order(alloc, &facts, 0)?;
-    let again = client_added(alloc, CLIENT)?;
-    assert!(rt; matches!(add(alloc, &mut both, &again)?, Added::Held));
-    let other = client_retired(alloc, CLIENT, CLIENT)?;
-    let added = add_to_both(alloc, &mut both, &other)?;
-    assert!(rt; matches!(added, Err(AddError::Conflict)));
-    assert_eq!(rt; both.ledger.store().len(), 3);
+    let told = added_at_the_client(rt.alloc())?;
+    assert_eq!(rt; told, (true, true, 3));
     Ok(())
 }

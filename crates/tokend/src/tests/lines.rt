@@ -5,7 +5,7 @@ use std::process::Abort;
 use std::test::Fail;
 
 // Lines that have none of the forms.
-static FORMS: [(&str, &[u8]); 31] = [
+static FORMS: [(&str, &[u8]); 20] = [
     ("an unknown name", b"close 1"),
     ("a name in capitals", b"OPEN 1"),
     ("a prune", b"prune 1 1000"),
@@ -16,46 +16,11 @@ static FORMS: [(&str, &[u8]); 31] = [
         "a request with one field more",
         b"req 1 1000 GET /authorize - - - -",
     ),
-    ("another path", b"req 1 1000 GET /nothing - - -"),
-    (
-        "a path with a slash behind",
-        b"req 1 1000 GET /authorize/ - - -",
-    ),
-    ("a path in capitals", b"req 1 1000 GET /Authorize - - -"),
-    (
-        "a path with an escape",
-        b"req 1 1000 GET /%61uthorize - - -",
-    ),
-    ("no path", b"req 1 1000 GET ?client_id=c1-1 - - -"),
-    ("a target that is a dash", b"req 1 1000 GET - - - -"),
     (
         "a method in small letters",
         b"req 1 1000 get /authorize - - -",
     ),
-    (
-        "another method",
-        b"req 1 1000 PUT /admin/client - - kind=public",
-    ),
-    (
-        "an authorisation by POST",
-        b"req 1 1000 POST /authorize - - client_id=c1-1",
-    ),
-    (
-        "a retirement by GET",
-        b"req 1 1000 GET /admin/retire?client_id=c1-1 - - -",
-    ),
-    (
-        "a token request by GET",
-        b"req 1 1000 GET /token?grant_type=x - - -",
-    ),
-    (
-        "an introspection by GET",
-        b"req 1 1000 GET /introspect?token=x - - -",
-    ),
-    (
-        "a revocation by GET",
-        b"req 1 1000 GET /revoke?token=x - - -",
-    ),
+    ("a method with a digit", b"req 1 1000 GE7 /authorize - - -"),
     ("client with too few fields", b"client 1 1000 public - read"),
     (
         "client with too many fields",

@@ -1,52 +1,54 @@
-//! Replies that no request gives yet, printed.
+//! Replies as bytes, printed: the status, where the client is sent, and the body.
 
 use crate::print::print_outcomes;
 use std::alloc::Global;
 use std::test::Fail;
 use tk_handle::RegionNumber;
-use tk_message::{Payload, Reply, Status};
+use tk_message::Status;
 use tk_world::{Event, Outcome};
 
 // What is printed of a reply to region 1.
-fn printed(alloc: Global, reply: Reply) -> Result<Vec<u8>, Fail> {
+fn printed(alloc: Global, status: Status, reply: &str) -> Result<Vec<u8>, Fail> {
     let mut output = Vec::new(alloc);
     let event = Event::Open(RegionNumber::new(1).ok_or("a region")?);
-    print_outcomes(&mut output, &[event], &[Outcome::Reply(reply)])?;
+    let bytes = Vec::from_slice(alloc, reply.as_bytes())?;
+    print_outcomes(&mut output, &[event], &[Outcome::Reply { status, bytes }])?;
     Ok(output)
 }
 
-#[test]
-fn a_location_stands_behind_the_status(rt: HostRuntime) -> Result<(), Fail> {
-    let alloc = rt.alloc();
-    let reply = Reply {
-        status: Status::Found,
-        location: Some(String::from_str(alloc, "https://app.example/cb?state=x")?),
-        www: false,
-        body: Payload::Empty,
-    };
-    let output = printed(alloc, reply)?;
-    assert_eq!(rt;
-        str::from_utf8(output.as_slice())?,
-        "reply 302 https://app.example/cb?state=x\n"
-    );
-    Ok(())
-}
+// The status, the bytes of the reply, and the line.
+const ROWS: [(Status, &str, &str); 7] = [
+    (
+        Status::Found,
+        "HTTP/1.1 302 Found\r\nContent-Length: 0\r\nLocation: https://app.example/cb?state=x\r\n\r\n",
+        "reply 302 https://app.example/cb?state=x\n",
+    ),
+    (
+        Status::Found,
+        "HTTP/1.1 302 Found\r\nLocation: a\r\nX: b\r\n\r\nc",
+        "reply 302 a c\n",
+    ),
+    (Status::Ok, "HTTP/1.1 200 OK\r\n\r\nab", "reply 200 ab\n"),
+    (Status::Ok, "HTTP/1.1 200 OK\r\n\r\n", "reply 200\n"),
+    (
+        Status::Ok,
+        "HTTP/1.1 200 OK\r\n\r\na\r\nLocation: b\r\n\r\nc",
+        "reply 200 a\r\nLocation: b\r\n\r\nc\n",
+    ),
+    (
+        Status::Ok,
+        "HTTP/1.1 200 OK\r\nLocation: b",
+        "reply 200 b\n",
+    ),
+    (Status::BadRequest, "", "reply 400\n"),
+];
 
 #[test]
-fn other_bytes_are_printed_as_they_are(rt: HostRuntime) -> Result<(), Fail> {
+fn a_reply_is_its_status_its_location_and_its_body(rt: HostRuntime) -> Result<(), Fail> {
     let alloc = rt.alloc();
-    for (bytes, want) in [
-        (b"ab".as_slice(), "reply 200 ab\n"),
-        (b"".as_slice(), "reply 200\n"),
-    ] {
-        let reply = Reply {
-            status: Status::Ok,
-            location: None,
-            www: false,
-            body: Payload::Bytes(Vec::from_slice(alloc, bytes)?),
-        };
-        let output = printed(alloc, reply)?;
-        assert_eq!(rt; str::from_utf8(output.as_slice())?, want);
+    for (status, reply, want) in ROWS {
+        let output = printed(alloc, status, reply)?;
+        assert_eq!(rt; str::from_utf8(output.as_slice())?, want, "{reply}");
     }
     Ok(())
 }

@@ -66,6 +66,6 @@ returns-in_ok-ok_or-in-len3-up-3-clause-found c =
     let now : c.moment.result ≡ Some c.in_ok-ok_or-in-len3-up-2.field-0 = grind arith in
     let fields = c.args.fields.now in
     let asked = c.in_ok-ok_or-in-len3-up-3.field-0 in
-    let form : asked_of (text_at fields 0) (texts (take (length fields - 3) (drop 3 fields))) ≡ Some asked = search rules in
+    let form : asked_of (text_at fields 0) (texts (take (length fields - 3) (drop 3 fields))) ≡ Some asked.items = search rules in
     request_there fields _ _ c.args.words asked (grind arith) (sym c.region-in-len3-up.ensures ∙ region) (sym c.moment.ensures ∙ now)
-    (subst (λ rest. asked_of (text_at fields 0) (texts rest) ≡ Some asked) (take_rest fields 3) form)
+    (subst (λ rest. asked_of (text_at fields 0) (texts rest) ≡ Some asked.items) (take_rest fields 3) form)
