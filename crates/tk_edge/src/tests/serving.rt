@@ -245,7 +245,8 @@ fn cut(alloc: Global, length: usize, step: usize) -> Result<(u64, bool), Fail> {
     let mut edge = new_edge(alloc)?;
     let mut writer = FrailSink::new(alloc, 1_000, Fails::Never);
     let mut log = FrailSink::new(alloc, 1_000, Fails::Never);
-    let mut reader = FrailSource::new(&REQUEST[..length], step.max(1), Fails::Never);
+    let front = REQUEST.get(..length).ok_or("a length")?;
+    let mut reader = FrailSource::new(front, step.max(1), Fails::Never);
     let result = serve(alloc, &mut edge, &mut reader, &mut writer, &mut log)?;
     Ok((edge.region().len(), result == DONE))
 }
