@@ -12,7 +12,7 @@ use Rattle.tk_region.specs.RegionFields.{RegionFields, Gains}
 use Rattle.tk_region.specs.Step.{PreparedFields, prepared_of}
 use Rattle.tk_edge.specs.Answers.{rendered, Answers, AnswersBy}
 use Rattle.tk_edge.specs.Heard.{Hears}
-use Rattle.tk_edge.specs.Served.{Step, Replies, IsServed}
+use Rattle.tk_edge.specs.Served.{Replies, IsServed}
 use Rattle.tk_edge.specs.Told.{AnswerFields, Change}
 use Rattle.tk_edge.specs.declared.edge.Served.TheVariants.{Done}
 use Rattle.tk_edge.specs.declared.hear.Heard.{Heard}

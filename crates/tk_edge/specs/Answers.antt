@@ -3,7 +3,7 @@
 --   made_by      the fact that the region makes for it, if any
 --   AnswersBy    what answering so, with such a fact, may end with; Answers, what was heard
 --   answer_of    the answer to a head and the bytes behind it
-use Rattle.std.specs.Prelude.{◌≡◌, ℕ, List, [], Option, Some, None, IfSome, Result, Ok, Err}
+use Rattle.std.specs.Prelude.{◌≡◌, ℕ, List, [], Option, None, IfSome, Result, Ok, Err}
 use Rattle.std.specs.declared.alloc.AllocError.{AllocError}
 use Rattle.httparse.specs.Grammar.{RequestHead}
 use Rattle.tk_handle.specs.declared.dot.Dot.{Dot}

@@ -1,5 +1,5 @@
 -- What contracts see of an edge: its region, and whether it is sealed (own).
-use Rattle.std.specs.Prelude.{ℕ, Bool, refl}
+use Rattle.std.specs.Prelude.{Bool, refl}
 use Rattle.std.specs.Coded.{Coded, code_by, coded×, coded_bool}
 use Rattle.tk_region.specs.RegionFields.{RegionFields, coded_region}
 

@@ -20,9 +20,9 @@ use Rattle.tk_edge.specs.MediaType.{is_form}
 use Rattle.tk_edge.specs.Paths.{path_of, path_named, method_named, endpoint_at, allowed_at}
 use Rattle.tk_edge.specs.declared.path.Path.{Path}
 use Rattle.tk_edge.specs.declared.path.Method.{Method}
-use Rattle.tk_edge.specs.declared.path.Method.TheVariants.{Get, Post}
+use Rattle.tk_edge.specs.declared.path.Method.TheVariants.{Post}
 use Rattle.tk_edge.specs.declared.refusal.Refusal.{Refusal}
-use Rattle.tk_edge.specs.declared.refusal.Refusal.TheVariants.{Sealed, NoHead, UnknownPath, WrongMethod, DuplicateField, LengthRequired, BadLength, TooLarge, WrongType, ShortBody}
+use Rattle.tk_edge.specs.declared.refusal.Refusal.TheVariants.{Sealed, UnknownPath, WrongMethod, DuplicateField, LengthRequired, BadLength, TooLarge, WrongType}
 use Rattle.tk_edge.specs.declared.judge.Judged.{Judged}
 use Rattle.tk_edge.specs.declared.judge.Judged.TheVariants.{Refused, Query, Body}
 

@@ -28,7 +28,7 @@ use Rattle.tk_edge.specs.Heard.{IsHeard}
 use Rattle.tk_edge.specs.declared.hear.Heard.{Heard}
 use Rattle.tk_world.specs.AskedFields.{AskedFields}
 use Rattle.tk_world.specs.declared.event.Event.{Event}
-use Rattle.tk_world.specs.declared.event.Event.TheVariants.{Open, Request, Pull, Deliver}
+use Rattle.tk_world.specs.declared.event.Event.TheVariants.{Open, Pull, Deliver}
 use Rattle.tk_world.specs.declared.event.Outcome.{Outcome}
 use Rattle.tk_world.specs.declared.event.Outcome.TheVariants.{Opened, Reply, Bundle, Took, Memory}
 use Rattle.tk_bundle.specs.Page.{page_of}

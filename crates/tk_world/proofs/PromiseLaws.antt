@@ -13,15 +13,12 @@ use Rattle.tk_ledger.proofs.FamilyEnds as ends
 use Rattle.tk_message.specs.declared.request.Endpoint.{Endpoint}
 use Rattle.tk_message.specs.declared.request.Endpoint.TheVariants.{Introspect}
 use Rattle.tk_message.specs.RequestFields.{RequestFields}
-use Rattle.tk_message.specs.declared.status.Status.{Status}
 use Rattle.tk_query.specs.Introspection.{introspection_of}
 use Rattle.tk_query.proofs.ActiveLaws.{says_nothing}
 use Rattle.tk_region.specs.Decision.{decision_by}
 use Rattle.tk_region.specs.RegionFields.{RegionFields, place_in}
-use Rattle.tk_region.specs.Step.{prepared_of, prepared_by}
+use Rattle.tk_region.specs.Step.{prepared_by}
 use Rattle.tk_edge.specs.Answers.{answer_by, rendered}
-use Rattle.tk_edge.specs.Heard.{IsHeard}
-use Rattle.tk_edge.specs.declared.hear.Heard.{Heard}
 use Rattle.tk_edge.specs.declared.hear.Heard.TheVariants.{Asked}
 use Rattle.tk_edge.proofs.StreamLaws.{has_one_meaning}
 use Rattle.tk_world.specs.declared.event.Event.{Event}
