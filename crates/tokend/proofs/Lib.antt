@@ -3,7 +3,6 @@ pub mod EventWords
 pub mod NumberTexts
 pub mod OneSet
 pub mod Putting
-pub mod ReplyParts
 pub mod Runs
 pub mod ScriptEvents
 pub mod Tasks

@@ -44,7 +44,7 @@ fn put<O: Write>(output: &mut O, bytes: &[u8]) -> io::Result<()>
 
 // The bytes behind the first so many.
 #[tactic(auto, using(std::proofs::lemmas::List::take_rest))]
-fn rest_of(bytes: &[u8], written: usize) -> &[u8]
+pub(crate) fn rest_of(bytes: &[u8], written: usize) -> &[u8]
     requires { written ≤ length bytes.now }
     ensures { result.now ≡ drop written bytes.now }
 {

@@ -4,6 +4,8 @@ ghost use Rattle.std.specs.Prelude.{◌≡◌, ◌≤◌, drop, length};
 ghost use Rattle.std.specs.Option.{option_copied};
 ghost use Rattle.tokend.specs.Printed as spec;
 
+use crate::put::rest_of;
+
 /// The value of the reply's `Location`.
 pub(crate) fn location_in(bytes: &[u8]) -> Option<&[u8]>
     ensures { option_copied result ≡ spec.location_in bytes.now }
@@ -44,7 +46,7 @@ fn behind<'a>(bytes: &'a [u8], mark: &[u8]) -> Option<&'a [u8]>
 }
 
 // The bytes from a place on.
-#[tactic(auto, using(crate::proofs::ReplyParts::drop_beyond))]
+#[tactic(auto, using(std::proofs::lemmas::List::drop_all))]
 fn rest_from(bytes: &[u8], at: usize) -> &[u8]
     ensures { result.now ≡ drop at bytes.now }
 {
@@ -52,14 +54,6 @@ fn rest_from(bytes: &[u8], at: usize) -> &[u8]
         return rest_of(bytes, at);
     }
     &[]
-}
-
-#[tactic(auto, using(std::proofs::lemmas::List::take_rest))]
-fn rest_of(bytes: &[u8], at: usize) -> &[u8]
-    requires { at ≤ length bytes.now }
-    ensures { result.now ≡ drop at bytes.now }
-{
-    &bytes[at..]
 }
 
 // Where a mark first stands, or the length.
