@@ -2,10 +2,8 @@
 --   answer_by    the answer to what was heard; refused_by, to what isn't handed to the region
 --   made_by      the fact that the region makes for it, if any
 --   AnswersBy    what answering so, with such a fact, may end with; Answers, what was heard
---   answer_of    the answer to a head and the bytes behind it
 use Rattle.std.specs.Prelude.{◌≡◌, ℕ, List, [], Option, None, IfSome, Result, Ok, Err}
 use Rattle.std.specs.declared.alloc.AllocError.{AllocError}
-use Rattle.httparse.specs.Grammar.{RequestHead}
 use Rattle.tk_handle.specs.declared.dot.Dot.{Dot}
 use Rattle.tk_fact.specs.declared.body.Body.{Body}
 use Rattle.tk_message.specs.Reply.{error_reply}
@@ -13,7 +11,6 @@ use Rattle.tk_message.specs.ReplyFields.{ReplyFields}
 use Rattle.tk_message.specs.declared.status.Status.TheVariants as status
 use Rattle.tk_region.specs.RegionFields.{RegionFields, Gains}
 use Rattle.tk_region.specs.Step.{prepared_of, listed, IsNextFact}
-use Rattle.tk_edge.specs.Heard.{heard_of}
 use Rattle.tk_edge.specs.Judged.{code_of, allowed_by}
 use Rattle.tk_edge.specs.Rendering.{reply_bytes}
 use Rattle.tk_edge.specs.Told.{AnswerFields}
@@ -50,6 +47,3 @@ AnswersBy old told made (Err e) new = new ≡ old
 
 abbrev pub Answers : RegionFields → ℕ → List ℕ → Heard → Result AnswerFields AllocError → RegionFields → Type 0
 Answers old now words heard result new = AnswersBy old (answer_by old now words heard) (made_by old now words heard) result new
-
-abbrev pub answer_of : RegionFields → ℕ → List ℕ → RequestHead → List ℕ → AnswerFields
-answer_of r now words h rest = answer_by r now words (heard_of h rest)
