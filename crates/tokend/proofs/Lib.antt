@@ -1,5 +1,8 @@
+pub mod Commands
+pub mod Connections
 pub mod EventForms
 pub mod EventWords
+pub mod Loads
 pub mod NumberTexts
 pub mod OneSet
 pub mod Putting

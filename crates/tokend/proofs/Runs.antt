@@ -1,17 +1,20 @@
 -- What a run of the program comes to, by what its pieces do.
-use Rattle.std.proofs.Common.{◌≡◌, ℕ, List, Option, Some, None, Result, Ok, Err, subst}
-use Rattle.std.specs.Prelude.{IfSome, IfErr}
-use Rattle.std.specs.Io.KnownBytes.{Appends}
+use Rattle.std.proofs.Common.{◌≡◌, ℕ, List, Option, Some, None, Result, Ok, Err, subst, sym, ap, refl, inl, inr, arith, ◌<◌, ◌∙◌, ◌++◌}
+use Rattle.std.specs.Prelude.{◌⊎◌, IfSome, IfErr, OnOk, OnErr, MatchResult}
+use Rattle.std.specs.Io.KnownBytes.{Appends, Keeps}
 use Rattle.clap.specs.Words.{Text}
 use Rattle.tk_region.specs.SettingsFields.{SettingsFields}
 use Rattle.tokend.specs.Put.{AppendsFront}
-use Rattle.tokend.specs.Task.{script_task, Asks}
-use Rattle.tokend.specs.ScriptRun.{IsScriptRun, PrintsScript, BeginsScript, IsScriptFault}
-use Rattle.tokend.specs.ProgramRun.{IsFaultFor}
-use Rattle.tokend.specs.declared.options.Task.{Task}
+use Rattle.tokend.specs.Serving.{Announces, BeginsAnnouncement, IsFileFault, IsServiceFault, LeavesService}
+use Rattle.tokend.specs.Task.{script_task, Asks, AsksToServe}
+use Rattle.tokend.specs.ScriptRun.{IsScriptRun, PrintsScript, BeginsScript, IsScriptFault, LeavesScript}
+use Rattle.tokend.specs.ProgramRun.{IsDone, IsFaultFor, IsQuiet, Leaves, Tells}
+use Rattle.tokend.specs.Status.{fault_text, status_of}
+use Rattle.tokend.specs.CommandLine.{settings_of}
+use Rattle.tokend.specs.declared.options.Numbers.{Numbers}
 use Rattle.tokend.specs.declared.options.Task.TheVariants.{Script}
 use Rattle.tokend.specs.declared.fault.Fault.{Fault}
-use Rattle.tokend.specs.declared.fault.Fault.TheVariants.{Words, CannotRead, ScriptTooLong, BadLine, Memory, Output}
+use Rattle.tokend.specs.declared.fault.Fault.TheVariants.{BadLine, BadLogFile, BadSeedFile, CannotListen, CannotOpen, CannotRead, CannotReadFile, Memory, Output, ScriptTooLong, Words}
 
 -- where the input's bytes are known, they are the script
 pub script_printed : (settings : SettingsFields) (input : Option (List ℕ)) (script lines : List ℕ) (old new : Option (List ℕ))
@@ -32,11 +35,209 @@ script_fault words input settings asks (Words error) h = absurd h
 script_fault words input settings asks CannotRead h = ((settings, asks), h)
 script_fault words input settings asks ScriptTooLong h = ((settings, asks), h)
 script_fault words input settings asks (BadLine number) h = ((settings, asks), h)
+script_fault words input settings asks (CannotReadFile name) h = absurd h
+script_fault words input settings asks (CannotOpen name) h = absurd h
+script_fault words input settings asks CannotListen h = absurd h
+script_fault words input settings asks BadSeedFile h = absurd h
+script_fault words input settings asks BadLogFile h = absurd h
 script_fault words input settings asks Memory h = tt
 script_fault words input settings asks Output h = tt
 
-pub faults_of_script : {T : Type 0} (words : List Text) (input : Option (List ℕ)) (task : Task) (r : Result T Fault) → Asks words task
-    → IfErr r (IsScriptFault input) → IfErr r (IsFaultFor words input)
-faults_of_script words input task (Ok x) asks h = tt
-faults_of_script words input (Script code access refresh family cap) (Err fault) asks h =
-    script_fault words input (record { code = code; access = access; refresh = refresh; family = family; cap = cap }) asks fault h
+pub faults_of_script : {T : Type 0} (words : List Text) (input : Option (List ℕ)) (n : Numbers) (r : Result T Fault)
+    → Asks words (Script n) → IfErr r (IsScriptFault input) → IfErr r (IsFaultFor words input)
+faults_of_script words input n (Ok x) asks h = tt
+faults_of_script words input n (Err fault) asks h = script_fault words input (settings_of n) asks fault h
+
+-- and what it printed, and left, is the program's
+pub script_done : {T : Type 0} (words : List Text) (input old new : Option (List ℕ)) (n : Numbers) (settings : SettingsFields) (r : Result T Fault)
+    → Asks words (Script n) → settings ≡ settings_of n → OnOk r (PrintsScript settings input old new) → OnOk r (IsDone words input old new)
+script_done words input old new n settings (Ok x) asks e h = inl (settings, subst (λ s. Asks words (script_task s)) (sym e) asks, h)
+script_done words input old new n settings (Err fault) asks e h = tt
+
+script_leaves : (words : List Text) (input old new : Option (List ℕ)) (settings : SettingsFields) (fault : Fault)
+    → Asks words (script_task settings) → LeavesScript settings input fault old new → Leaves words input fault old new
+script_leaves words input old new settings (Words error) asks h = h
+script_leaves words input old new settings CannotRead asks h = h
+script_leaves words input old new settings (CannotReadFile name) asks h = h
+script_leaves words input old new settings (CannotOpen name) asks h = h
+script_leaves words input old new settings CannotListen asks h = h
+script_leaves words input old new settings BadSeedFile asks h = h
+script_leaves words input old new settings BadLogFile asks h = h
+script_leaves words input old new settings ScriptTooLong asks h = h
+script_leaves words input old new settings (BadLine number) asks h = h
+script_leaves words input old new settings Memory asks h = h
+script_leaves words input old new settings Output asks h = inl (settings, asks, h)
+
+pub left_by_script : {T : Type 0} (words : List Text) (input old new : Option (List ℕ)) (n : Numbers) (settings : SettingsFields) (r : Result T Fault)
+    → Asks words (Script n) → settings ≡ settings_of n → IfErr r (λ fault. LeavesScript settings input fault old new)
+    → IfErr r (λ fault. Leaves words input fault old new)
+left_by_script words input old new n settings (Ok x) asks e h = tt
+left_by_script words input old new n settings (Err fault) asks e h =
+    script_leaves words input old new settings fault (subst (λ s. Asks words (script_task s)) (sym e) asks) h
+
+-- a service that was announced is the program's end, whatever its connections made it tell
+pub service_done : {T : Type 0} (words : List Text) (input old new : Option (List ℕ)) (r : Result T Fault) → AsksToServe words
+    → OnOk r (Announces old new) → OnOk r (IsDone words input old new)
+service_done words input old new (Ok x) asks h = inr (inl (asks, h))
+service_done words input old new (Err fault) asks h = tt
+
+pub service_quiet : {T : Type 0} (words : List Text) (old new : Option (List ℕ)) (r : Result T Fault) → AsksToServe words
+    → OnOk r (IsQuiet words old new)
+service_quiet words old new (Ok x) asks = inr asks
+service_quiet words old new (Err fault) asks = tt
+
+-- what is written behind what was kept
+appends_behind : (a b c : Option (List ℕ)) (text : List ℕ) → Keeps a b → Appends b c text → Appends a c text
+appends_behind None b c text kept h = tt
+appends_behind (Some xs) None c text kept h = absurd kept
+appends_behind (Some xs) (Some ys) None text kept h = absurd h
+appends_behind (Some xs) (Some ys) (Some zs) text kept h = h ∙ ap (λ l. l ++ text) kept
+
+pub keeps_twice : (a b c : Option (List ℕ)) → Keeps a b → Keeps b c → Keeps a c
+keeps_twice None b c kept h = tt
+keeps_twice (Some xs) None c kept h = absurd kept
+keeps_twice (Some xs) (Some ys) None kept h = absurd h
+keeps_twice (Some xs) (Some ys) (Some zs) kept h = h ∙ kept
+
+-- a fault is told behind what was kept
+pub tells_behind : (fault : Fault) (a b c : Option (List ℕ)) → Keeps a b → Tells fault b c → Tells fault a c
+tells_behind fault a b c kept = of (fault_text fault)
+  where
+    of : (told : Option (List ℕ)) → IfSome told (AppendsFront b c) → IfSome told (AppendsFront a c)
+    of None h = tt
+    of (Some text) h = record { front = h.front; rest = h.rest; parts = h.parts; appended = appends_behind a b c h.front kept h.appended }
+
+-- what is wrong with files is wrong with the service, and leaves the output
+pub file_fault : (fault : Fault) → IsFileFault fault → IsServiceFault fault
+file_fault (Words error) h = absurd h
+file_fault CannotRead h = absurd h
+file_fault (CannotReadFile name) h = tt
+file_fault (CannotOpen name) h = tt
+file_fault CannotListen h = absurd h
+file_fault BadSeedFile h = tt
+file_fault BadLogFile h = tt
+file_fault ScriptTooLong h = absurd h
+file_fault (BadLine number) h = absurd h
+file_fault Memory h = tt
+file_fault Output h = absurd h
+
+pub file_fault_leaves : (fault : Fault) (output : Option (List ℕ)) → IsFileFault fault → LeavesService fault output output
+file_fault_leaves fault output = of fault output
+  where
+    kept : (output : Option (List ℕ)) → Keeps output output
+    kept None = tt
+    kept (Some bytes) = refl
+
+    of : (fault : Fault) (output : Option (List ℕ)) → IsFileFault fault → LeavesService fault output output
+    of (Words error) output h = absurd h
+    of CannotRead output h = absurd h
+    of (CannotReadFile name) output h = kept output
+    of (CannotOpen name) output h = kept output
+    of CannotListen output h = absurd h
+    of BadSeedFile output h = kept output
+    of BadLogFile output h = kept output
+    of ScriptTooLong output h = absurd h
+    of (BadLine number) output h = absurd h
+    of Memory output h = kept output
+    of Output output h = absurd h
+
+-- a service's fault is the program's, where the words ask for a service
+pub service_fault : (words : List Text) (input : Option (List ℕ)) → AsksToServe words → (fault : Fault) → IsServiceFault fault
+    → IsFaultFor words input fault
+service_fault words input asks (Words error) h = absurd h
+service_fault words input asks CannotRead h = absurd h
+service_fault words input asks (CannotReadFile name) h = asks
+service_fault words input asks (CannotOpen name) h = asks
+service_fault words input asks CannotListen h = asks
+service_fault words input asks BadSeedFile h = asks
+service_fault words input asks BadLogFile h = asks
+service_fault words input asks ScriptTooLong h = absurd h
+service_fault words input asks (BadLine number) h = absurd h
+service_fault words input asks Memory h = tt
+service_fault words input asks Output h = tt
+
+pub faults_of_service : {T : Type 0} (words : List Text) (input : Option (List ℕ)) (r : Result T Fault) → AsksToServe words
+    → IfErr r IsServiceFault → IfErr r (IsFaultFor words input)
+faults_of_service words input (Ok x) asks h = tt
+faults_of_service words input (Err fault) asks h = service_fault words input asks fault h
+
+service_leaves : (words : List Text) (input : Option (List ℕ)) → AsksToServe words → (fault : Fault) (old new : Option (List ℕ))
+    → LeavesService fault old new → Leaves words input fault old new
+service_leaves words input asks (Words error) old new h = h
+service_leaves words input asks CannotRead old new h = h
+service_leaves words input asks (CannotReadFile name) old new h = h
+service_leaves words input asks (CannotOpen name) old new h = h
+service_leaves words input asks CannotListen old new h = h
+service_leaves words input asks BadSeedFile old new h = h
+service_leaves words input asks BadLogFile old new h = h
+service_leaves words input asks ScriptTooLong old new h = h
+service_leaves words input asks (BadLine number) old new h = h
+service_leaves words input asks Memory old new h = h
+service_leaves words input asks Output old new h = inr (inl (asks, h))
+
+pub left_by_service : {T : Type 0} (words : List Text) (input : Option (List ℕ)) (r : Result T Fault) (old new : Option (List ℕ)) → AsksToServe words
+    → IfErr r (λ fault. LeavesService fault old new) → IfErr r (λ fault. Leaves words input fault old new)
+left_by_service words input (Ok x) old new asks h = tt
+left_by_service words input (Err fault) old new asks h = service_leaves words input asks fault old new h
+
+-- a fault's status is not 0
+no_status : (fault : Fault) → status_of fault ≡ 0 → ⊥
+no_status (Words error) e = absurd (cc)
+no_status CannotRead e = absurd (cc)
+no_status (CannotReadFile name) e = absurd (cc)
+no_status (CannotOpen name) e = absurd (cc)
+no_status CannotListen e = absurd (cc)
+no_status BadSeedFile e = absurd (cc)
+no_status BadLogFile e = absurd (cc)
+no_status ScriptTooLong e = absurd (cc)
+no_status (BadLine number) e = absurd (cc)
+no_status Memory e = absurd (cc)
+no_status Output e = absurd (cc)
+
+-- a refusal writes nothing
+keeps_by : (words : List Text) (input : Option (List ℕ)) (fault : Fault) (old new : Option (List ℕ)) → status_of fault ≡ 2
+    → Leaves words input fault old new → Keeps old new
+keeps_by words input (Words error) old new e h = h
+keeps_by words input CannotRead old new e h = h
+keeps_by words input (CannotReadFile name) old new e h = h
+keeps_by words input (CannotOpen name) old new e h = h
+keeps_by words input CannotListen old new e h = h
+keeps_by words input BadSeedFile old new e h = h
+keeps_by words input BadLogFile old new e h = h
+keeps_by words input ScriptTooLong old new e h = h
+keeps_by words input (BadLine number) old new e h = h
+keeps_by words input Memory old new e h = h
+keeps_by words input Output old new e h = absurd (cc)
+
+-- how a run ends: with its status, and what is told of it
+abbrev pub Ends : {T : Type 0} → Result T Fault → ℕ → Option (List ℕ) → Option (List ℕ) → Type 0
+Ends ran status old new = MatchResult ran (λ _. (status ≡ 0) × Keeps old new) (λ fault. (status ≡ status_of fault) × Tells fault old new)
+
+pub ended_well : {T P : Type 0} (ran : Result T Fault) (status : ℕ) (old new : Option (List ℕ)) → Ends ran status old new → OnOk ran P → status ≡ 0 → P
+ended_well (Ok x) status old new ends h e = h
+ended_well (Err fault) status old new ends h e = absurd (no_status fault (sym ends.0 ∙ e))
+
+pub ended_quietly : {T : Type 0} (words : List Text) (ran : Result T Fault) (status : ℕ) (a b c : Option (List ℕ)) → Ends ran status b c
+    → OnOk ran (IsQuiet words a b) → status ≡ 0 → IsQuiet words a c
+ended_quietly words (Ok x) status a b c ends h e = of h
+  where
+    of : IsQuiet words a b → IsQuiet words a c
+    of (inl kept) = inl (keeps_twice a b c kept ends.1)
+    of (inr asks) = inr asks
+ended_quietly words (Err fault) status a b c ends h e = absurd (no_status fault (sym ends.0 ∙ e))
+
+pub ended_badly : {T : Type 0} (words : List Text) (input : Option (List ℕ)) (old new : Option (List ℕ)) (ran : Result T Fault) (status k : ℕ)
+    (a b c : Option (List ℕ)) → Ends ran status b c → IfErr ran (IsFaultFor words input) → IfErr ran (λ fault. Leaves words input fault old new)
+    → OnErr ran (Keeps a b) → status ≡ k → 0 < k
+    → (fault : Fault) × (status_of fault ≡ k) × IsFaultFor words input fault × Leaves words input fault old new × Tells fault a c
+ended_badly words input old new (Ok x) status k a b c ends faults left silent e some = absurd (omega (arith, ends.0, e, some))
+ended_badly words input old new (Err fault) status k a b c ends faults left silent e some =
+    (fault, sym ends.0 ∙ e, faults, left, tells_behind fault a b c silent ends.1)
+
+pub ended_refused : {T : Type 0} (words : List Text) (input : Option (List ℕ)) (old new : Option (List ℕ)) (ran : Result T Fault) (status : ℕ)
+    (a b c : Option (List ℕ)) → Ends ran status b c → IfErr ran (IsFaultFor words input) → IfErr ran (λ fault. Leaves words input fault old new)
+    → OnErr ran (Keeps a b) → status ≡ 2
+    → (fault : Fault) × (status_of fault ≡ 2) × IsFaultFor words input fault × Keeps old new × Tells fault a c
+ended_refused words input old new ran status a b c ends faults left silent e =
+    let h = ended_badly words input old new ran status 2 a b c ends faults left silent e (omega (arith)) in
+    (h.0, h.1, h.2, keeps_by words input h.0 old new h.1 h.3, h.4)

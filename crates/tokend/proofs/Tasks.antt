@@ -1,66 +1,97 @@
 -- What the words of the command line ask for, by what clap says of them.
 use Rattle.std.proofs.Common.{◌≡◌, ℕ, true, List, Option, Some, None, option_map, Result, Ok, Err, inl, inr, refl, sym, ap, subst, ◌∙◌, codes}
+use Rattle.std.specs.Prelude.{string_bytes}
 use Rattle.std.specs.Prelude.{◌⊎◌, IfErr, IfNone, IsErrAnd}
-use Rattle.clap.specs.Words.{App, Row, Text, FailsBy, IsAmong, fault_of, is_simple_and_free, kind_of}
+use Rattle.clap.specs.Words.{App, HasMatchesOf, Row, Text, FailsBy, IsAmong, fault_of, first_of, is_simple_and_free, kind_of, subcommand_of, subcommand_rows_of}
+use Rattle.clap.specs.declared.parser.matches.ArgMatches.{ArgMatches}
 use Rattle.clap.specs.declared.error.Error.{Error}
 use Rattle.clap.specs.declared.error.kind.ErrorKind.TheVariants as kind
+use Rattle.tk_handle.specs.Ranges.{greatest_region}
 use Rattle.tk_region.specs.SettingsFields.{greatest_code, greatest_access, greatest_refresh, greatest_family, greatest_cap}
-use Rattle.tokend.specs.CommandLine.{HasNumber, tokend_app}
-use Rattle.tokend.specs.Task.{IsScript, IsNoTask, IsRefusalOf}
+use Rattle.tokend.specs.CommandLine.{HasNumber, HasNumbers, HasService, greatest_port, tokend_app}
+use Rattle.tokend.specs.Task.{IsNoService, IsNoTask, IsRefusalOf}
+use Rattle.tokend.specs.declared.options.Numbers.{Numbers}
+use Rattle.tokend.specs.declared.options.Service.{Service}
 use Rattle.tokend.specs.declared.options.Task.{Task}
-use Rattle.tokend.specs.declared.options.Task.TheVariants.{Script}
+use Rattle.tokend.specs.declared.options.Task.TheVariants.{Script, Serve}
 
-no_task_of : (found : Option (Text × List Row)) (rows : List Row) → option_map (λ p. p.1) found ≡ Some rows
-    → ((task : Task) → ¬ (IsScript rows task)) → IsNoTask found
-no_task_of found rows at none task h =
-    let both : Some rows ≡ Some h.0 = sym at ∙ ap (option_map (λ p. p.1)) h.1 in
-    let same : h.0 ≡ rows = cc in
-    none task (subst (λ r. IsScript r task) same h.2)
+-- the rows of a subcommand are one
+one_rows : (found : Option (Text × List Row)) (rows others : List Row) (name : Text) → option_map (λ p. p.1) found ≡ Some rows
+    → found ≡ Some (name, others) → rows ≡ others
+one_rows found rows others name at is =
+    let both : Some rows ≡ Some others = sym at ∙ ap (option_map (λ p. p.1)) is in
+    cc
 
--- a subcommand without its numbers is no task's
-pub no_task : (found : Option (Text × List Row)) (rows : List Row) (r : Option Task) → option_map (λ p. p.1) found ≡ Some rows
-    → IfNone r ((task : Task) → ¬ (IsScript rows task)) → IfNone r (IsNoTask found)
-no_task found rows (Some x) at none = tt
-no_task found rows None at none = no_task_of found rows at none
+-- and its name is
+other_name : (found : Option (Text × List Row)) (rows : List Row) (name other : Text) → option_map (λ p. p.0) found ≡ Some name
+    → found ≡ Some (other, rows) → name ≡ other
+other_name found rows name other at is =
+    let both : Some name ≡ Some other = sym at ∙ ap (option_map (λ p. p.0)) is in
+    cc
 
--- where one of the numbers is none, the rows are no script's
+-- a script without its numbers is no task
+pub no_script : (found : Option (Text × List Row)) (rows : List Row) → option_map (λ p. p.0) found ≡ Some (codes "script")
+    → option_map (λ p. p.1) found ≡ Some rows → ((n : Numbers) → ¬ (HasNumbers rows n)) → IsNoTask found
+no_script found rows named at none (Script numbers) h =
+    none numbers (subst (λ r. HasNumbers r numbers) (sym (one_rows found rows h.0 _ at h.1)) h.2)
+no_script found rows named at none (Serve service) h = not_serve (other_name found h.0 _ _ named h.1)
+  where
+    not_serve : codes "script" ≡ codes "serve" → ⊥
+    not_serve e = absurd (cc)
+
+-- nor is a service without its own
+pub no_service : (found : Option (Text × List Row)) (rows : List Row) → option_map (λ p. p.0) found ≡ Some (codes "serve")
+    → option_map (λ p. p.1) found ≡ Some rows → IsNoService rows → IsNoTask found
+no_service found rows named at none (Script numbers) h = not_script (other_name found h.0 _ _ named h.1)
+  where
+    not_script : codes "serve" ≡ codes "script" → ⊥
+    not_script e = absurd (cc)
+no_service found rows named at none (Serve service) h =
+    none service (subst (λ r. HasService r service) (sym (one_rows found rows h.0 _ at h.1)) h.2)
+
+-- where one of the numbers is none, the rows have no settings
 module _ {T : Type 0} (rows : List Row) (r : Option T) where
-  unless : ((task : Task) → ¬ (IsScript rows task)) → IfNone r ((task : Task) → ¬ (IsScript rows task))
+  unless : ((n : Numbers) → ¬ (HasNumbers rows n)) → IfNone r ((n : Numbers) → ¬ (HasNumbers rows n))
   unless none = of r none
     where
-      of : (r : Option T) → ((task : Task) → ¬ (IsScript rows task)) → IfNone r ((task : Task) → ¬ (IsScript rows task))
+      of : (r : Option T) → ((n : Numbers) → ¬ (HasNumbers rows n)) → IfNone r ((n : Numbers) → ¬ (HasNumbers rows n))
       of None none = none
       of (Some x) none = tt
 
-  no_code : ((n : ℕ) → ¬ (HasNumber rows (codes "code") greatest_code n)) → (task : Task) → ¬ (IsScript rows task)
-  no_code none (Script code access refresh family cap) h = none code h.code
+  pub without_code : ((n : ℕ) → ¬ (HasNumber rows (codes "code") 1 greatest_code n)) → IfNone r ((n : Numbers) → ¬ (HasNumbers rows n))
+  without_code none = unless (λ n h. none n.code h.code)
 
-  no_access : ((n : ℕ) → ¬ (HasNumber rows (codes "access") greatest_access n)) → (task : Task) → ¬ (IsScript rows task)
-  no_access none (Script code access refresh family cap) h = none access h.access
+  pub without_access : ((n : ℕ) → ¬ (HasNumber rows (codes "access") 1 greatest_access n)) → IfNone r ((n : Numbers) → ¬ (HasNumbers rows n))
+  without_access none = unless (λ n h. none n.access h.access)
 
-  no_refresh : ((n : ℕ) → ¬ (HasNumber rows (codes "refresh") greatest_refresh n)) → (task : Task) → ¬ (IsScript rows task)
-  no_refresh none (Script code access refresh family cap) h = none refresh h.refresh
+  pub without_refresh : ((n : ℕ) → ¬ (HasNumber rows (codes "refresh") 1 greatest_refresh n)) → IfNone r ((n : Numbers) → ¬ (HasNumbers rows n))
+  without_refresh none = unless (λ n h. none n.refresh h.refresh)
 
-  no_family : ((n : ℕ) → ¬ (HasNumber rows (codes "family") greatest_family n)) → (task : Task) → ¬ (IsScript rows task)
-  no_family none (Script code access refresh family cap) h = none family h.family
+  pub without_family : ((n : ℕ) → ¬ (HasNumber rows (codes "family") 1 greatest_family n)) → IfNone r ((n : Numbers) → ¬ (HasNumbers rows n))
+  without_family none = unless (λ n h. none n.family h.family)
 
-  no_cap : ((n : ℕ) → ¬ (HasNumber rows (codes "cap") greatest_cap n)) → (task : Task) → ¬ (IsScript rows task)
-  no_cap none (Script code access refresh family cap) h = none cap h.cap
+  pub without_cap : ((n : ℕ) → ¬ (HasNumber rows (codes "cap") 1 greatest_cap n)) → IfNone r ((n : Numbers) → ¬ (HasNumbers rows n))
+  without_cap none = unless (λ n h. none n.cap h.cap)
 
-  pub without_code : ((n : ℕ) → ¬ (HasNumber rows (codes "code") greatest_code n)) → IfNone r ((task : Task) → ¬ (IsScript rows task))
-  without_code none = unless (no_code none)
+-- and no service
+pub without_settings : (rows : List Row) → ((n : Numbers) → ¬ (HasNumbers rows n)) → IsNoService rows
+without_settings rows none service h = none service.numbers h.numbers
 
-  pub without_access : ((n : ℕ) → ¬ (HasNumber rows (codes "access") greatest_access n)) → IfNone r ((task : Task) → ¬ (IsScript rows task))
-  without_access none = unless (no_access none)
+pub without_region : (rows : List Row) → ((n : ℕ) → ¬ (HasNumber rows (codes "region") 1 greatest_region n)) → IsNoService rows
+without_region rows none service h = none service.region h.region
 
-  pub without_refresh : ((n : ℕ) → ¬ (HasNumber rows (codes "refresh") greatest_refresh n)) → IfNone r ((task : Task) → ¬ (IsScript rows task))
-  without_refresh none = unless (no_refresh none)
+pub without_port : (rows : List Row) → ((n : ℕ) → ¬ (HasNumber rows (codes "port") 0 greatest_port n)) → IsNoService rows
+without_port rows none service h = none service.port h.port
 
-  pub without_family : ((n : ℕ) → ¬ (HasNumber rows (codes "family") greatest_family n)) → IfNone r ((task : Task) → ¬ (IsScript rows task))
-  without_family none = unless (no_family none)
+pub without_seed : (rows : List Row) → first_of (codes "seed") rows ≡ None → IsNoService rows
+without_seed rows none service h =
+    let both : None ≡ Some (string_bytes service.seed) = sym none ∙ h.seed in
+    absurd (cc)
 
-  pub without_cap : ((n : ℕ) → ¬ (HasNumber rows (codes "cap") greatest_cap n)) → IfNone r ((task : Task) → ¬ (IsScript rows task))
-  without_cap none = unless (no_cap none)
+-- clap finds the subcommand of the program's words
+pub found_by : (app : App) (words : List Text) (m : ArgMatches) → app ≡ tokend_app → HasMatchesOf app words m
+    → subcommand_rows_of m ≡ subcommand_of tokend_app words
+found_by app words m is h = (subst (λ a. HasMatchesOf a words m) is h refl).1
 
 -- clap names its fault in the program's words, where there is one
 pub fails_by : {T : Type 0} (app : App) (words : List Text) (r : Result T Error) → app ≡ tokend_app

@@ -35,7 +35,7 @@ number_unread gives f id None digits value = λ n lt h.
     digits h.0 failed.0 n failed.1 lt h.2
 
 -- so none between the ends is under that id
-pub none_between : (rows : List Row) (id : List ℕ) (greatest : ℕ) (r : Option ℕ) → greatest < 2 ^ 64
-    → ((n : ℕ) → n < 2 ^ 64 → ¬ (ReadsNumber rows id n)) → IfNone r ((n : ℕ) → ¬ (HasNumber rows id greatest n))
-none_between rows id greatest (Some x) fits none = tt
-none_between rows id greatest None fits none = λ n h. none n (omega (h.2, fits, arith)) h.0
+pub none_between : (rows : List Row) (id : List ℕ) (least greatest : ℕ) (r : Option ℕ) → greatest < 2 ^ 64
+    → ((n : ℕ) → n < 2 ^ 64 → ¬ (ReadsNumber rows id n)) → IfNone r ((n : ℕ) → ¬ (HasNumber rows id least greatest n))
+none_between rows id least greatest (Some x) fits none = tt
+none_between rows id least greatest None fits none = λ n h. none n (omega (h.2, fits, arith)) h.0

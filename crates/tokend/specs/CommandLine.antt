@@ -1,29 +1,62 @@
 -- The command line, as clap's contracts see it.
-use Rattle.std.specs.Prelude.{◌≡◌, ℕ, ◌≤◌, List, [], ◌∷◌, Some, codes, true}
+use Rattle.std.specs.Prelude.{◌≡◌, ℕ, ◌≤◌, List, [], ◌∷◌, Option, Some, IfSome, IfNone, String, codes, option_map, string_bytes, Bool, true, false}
 use Rattle.std.specs.Str.Parse.{IsNumeral, digits_value, without_leading_plus}
-use Rattle.clap.specs.Words.{App, Row, Rule, Text, new_app, new_rule, one_of, with_rule, with_subcommand}
+use Rattle.clap.specs.Words.{App, Row, Rule, Text, first_of, new_app, new_rule, one_of, with_rule, with_subcommand}
 use Rattle.clap.specs.Simple.{on_top}
 use Rattle.tk_region.specs.SettingsFields.{SettingsFields, greatest_code, greatest_access, greatest_refresh, greatest_family, greatest_cap}
+use Rattle.tk_handle.specs.Ranges.{greatest_region}
 use Rattle.clap.specs.declared.builder.value_parser.ValueParser.TheVariants as parser
+use Rattle.tokend.specs.declared.options.Numbers.{Numbers}
+use Rattle.tokend.specs.declared.options.Service.{Service}
+
+-- the greatest port, and the most connections that can be asked for
+abbrev pub greatest_port : ℕ
+greatest_port = 65535
+
+abbrev pub greatest_requests : ℕ
+greatest_requests = 4294967295
 
 -- `--id N`, from 1 to the greatest, with a default
 abbrev pub number_rule : Text → Text → ℕ → Rule
 number_rule id default greatest =
     record (new_rule id) { long = Some id; value_names = 1; defaults = default ∷ []; parser = Some (parser.Unsigned 1 greatest) }
 
--- `script`, with a life of each sort in seconds, and the serial cap: a minute, an hour, a day, thirty days, the greatest
-abbrev pub script_app : App
-script_app =
-    with_rule (with_rule (with_rule (with_rule (with_rule (new_app (codes "script"))
+-- `--id N`, from the least to the greatest, that must be given or not
+abbrev pub range_rule : Text → ℕ → ℕ → Bool → Rule
+range_rule id least greatest is_wanted =
+    record (new_rule id) { long = Some id; value_names = 1; required = is_wanted; parser = Some (parser.Unsigned least greatest) }
+
+-- `--id FILE`, that must be given or not
+abbrev pub file_rule : Text → Bool → Rule
+file_rule id is_wanted = record (new_rule id) { long = Some id; value_names = 1; required = is_wanted }
+
+-- a life of each sort in seconds, and the serial cap: a minute, an hour, a day, thirty days, the greatest
+abbrev pub with_setting_rules : App → App
+with_setting_rules app =
+    with_rule (with_rule (with_rule (with_rule (with_rule app
     (number_rule (codes "code") (codes "60") greatest_code))
     (number_rule (codes "access") (codes "3600") greatest_access))
     (number_rule (codes "refresh") (codes "86400") greatest_refresh))
     (number_rule (codes "family") (codes "2592000") greatest_family))
     (number_rule (codes "cap") (codes "9223372036854775806") greatest_cap)
 
+abbrev pub script_app : App
+script_app = with_setting_rules (new_app (codes "script"))
+
+-- `serve`, with the region's number, the port and the seed, which must be given; the log, an old log, and how many connections
+abbrev pub serve_app : App
+serve_app = with_setting_rules (with_rule (with_rule (with_rule (with_rule (with_rule (with_rule (new_app (codes "serve"))
+    (range_rule (codes "region") 1 greatest_region true))
+    (range_rule (codes "port") 0 greatest_port true))
+    (file_rule (codes "seed") true))
+    (file_rule (codes "log") false))
+    (file_rule (codes "load") false))
+    (range_rule (codes "requests") 0 greatest_requests false))
+
 -- the program has a version, and wants a subcommand
 abbrev pub tokend_app : App
-tokend_app = with_subcommand (on_top (λ s. record s { has_version = true; subcommand_required = true }) (new_app (codes "tokend"))) script_app.top
+tokend_app = with_subcommand (with_subcommand (on_top (λ s. record s { has_version = true; subcommand_required = true }) (new_app (codes "tokend")))
+    script_app.top) serve_app.top
 
 -- the text is decimal digits, `+` before them or not, that stand for this number
 abbrev pub IsDecimal : Text → ℕ → Type 0
@@ -33,14 +66,33 @@ IsDecimal text n = IsNumeral 10 (without_leading_plus text) × (digits_value 10 
 abbrev pub ReadsNumber : List Row → Text → ℕ → Type 0
 ReadsNumber rows id n = (text : Text) × (one_of id rows ≡ Some text) × IsDecimal text n
 
--- the rows have this number under the id, and it is from 1 to the greatest
-abbrev pub HasNumber : List Row → Text → ℕ → ℕ → Type 0
-HasNumber rows id greatest n = ReadsNumber rows id n × (1 ≤ n) × (n ≤ greatest)
+-- the rows have this number under the id, and it is from the least to the greatest
+abbrev pub HasNumber : List Row → Text → ℕ → ℕ → ℕ → Type 0
+HasNumber rows id least greatest n = ReadsNumber rows id n × (least ≤ n) × (n ≤ greatest)
+
+-- the text under the id, or none where it wasn't given
+abbrev pub HasText : {A : Type 0} → List Row → Text → Option (String A) → Type 0
+HasText rows id text = first_of id rows ≡ option_map string_bytes text
 
 -- and so each of the settings
-pub record HasSettings (rows : List Row) (s : SettingsFields) : Type 0 where
-  pub code : HasNumber rows (codes "code") greatest_code s.code
-  pub access : HasNumber rows (codes "access") greatest_access s.access
-  pub refresh : HasNumber rows (codes "refresh") greatest_refresh s.refresh
-  pub family : HasNumber rows (codes "family") greatest_family s.family
-  pub cap : HasNumber rows (codes "cap") greatest_cap s.cap
+pub record HasNumbers (rows : List Row) (n : Numbers) : Type 0 where
+  pub code : HasNumber rows (codes "code") 1 greatest_code n.code
+  pub access : HasNumber rows (codes "access") 1 greatest_access n.access
+  pub refresh : HasNumber rows (codes "refresh") 1 greatest_refresh n.refresh
+  pub family : HasNumber rows (codes "family") 1 greatest_family n.family
+  pub cap : HasNumber rows (codes "cap") 1 greatest_cap n.cap
+
+-- and of a service
+pub record HasService (rows : List Row) (s : Service) : Type 0 where
+  pub numbers : HasNumbers rows s.numbers
+  pub region : HasNumber rows (codes "region") 1 greatest_region s.region
+  pub port : HasNumber rows (codes "port") 0 greatest_port s.port
+  pub requests : IfSome s.requests (HasNumber rows (codes "requests") 0 greatest_requests)
+  pub endless : IfNone s.requests ((n : ℕ) → ¬ (HasNumber rows (codes "requests") 0 greatest_requests n))
+  pub seed : HasText rows (codes "seed") (Some s.seed)
+  pub log : HasText rows (codes "log") s.log
+  pub load : HasText rows (codes "load") s.load
+
+-- the settings of these numbers
+abbrev pub settings_of : Numbers → SettingsFields
+settings_of n = record { code = n.code; access = n.access; refresh = n.refresh; family = n.family; cap = n.cap }

@@ -3,33 +3,46 @@
 --   IsFaultFor          one with a fault
 --   Leaves              what a fault leaves of the output
 --   Tells               what is told of it
+--   IsQuiet             nothing is told
 use Rattle.std.specs.Prelude.{◌⊎◌, ⊤, ℕ, List, Option, IfSome}
 use Rattle.std.specs.Io.KnownBytes.{Keeps}
 use Rattle.clap.specs.Words.{Text, kind_of}
 use Rattle.tk_region.specs.SettingsFields.{SettingsFields}
-use Rattle.tokend.specs.Task.{script_task, Asks, AsksToShow, IsNoShow, IsRefusalOf}
+use Rattle.tokend.specs.Serving.{Announces, BeginsAnnouncement}
+use Rattle.tokend.specs.Task.{script_task, Asks, AsksToServe, AsksToShow, IsNoShow, IsRefusalOf}
 use Rattle.tokend.specs.Put.{AppendsFront}
 use Rattle.tokend.specs.ScriptRun.{PrintsScript, BeginsScript, IsScriptFault}
 use Rattle.tokend.specs.Status.{fault_text}
 use Rattle.tokend.specs.declared.fault.Fault.{Fault}
-use Rattle.tokend.specs.declared.fault.Fault.TheVariants.{Words, Memory, Output}
+use Rattle.tokend.specs.declared.fault.Fault.TheVariants.{BadLogFile, BadSeedFile, CannotListen, CannotOpen, CannotReadFile, Memory, Output, Words}
 
--- the words asked for a script, and its lines were written; or they asked for help or the version
+-- the words asked for a script, and its lines were written; for a service, and it was announced; or for help or the version
 abbrev pub IsDone : List Text → Option (List ℕ) → Option (List ℕ) → Option (List ℕ) → Type 0
-IsDone words input old new = ((settings : SettingsFields) × Asks words (script_task settings) × PrintsScript settings input old new) ⊎ AsksToShow words
+IsDone words input old new = ((settings : SettingsFields) × Asks words (script_task settings) × PrintsScript settings input old new)
+    ⊎ ((AsksToServe words × Announces old new) ⊎ AsksToShow words)
 
--- the words are refused, or they ask for a script and it has the fault; memory and the output may fail in any run
+-- the words are refused; they ask for a script, and it has the fault; or they ask for a service; memory and the output may fail in any run
 abbrev pub IsFaultFor : List Text → Option (List ℕ) → Fault → Type 0
 IsFaultFor words input (Words error) = IsRefusalOf words (kind_of error) × IsNoShow (kind_of error)
 IsFaultFor words input Memory = ⊤
 IsFaultFor words input Output = ⊤
+IsFaultFor words input (CannotReadFile name) = AsksToServe words
+IsFaultFor words input (CannotOpen name) = AsksToServe words
+IsFaultFor words input CannotListen = AsksToServe words
+IsFaultFor words input BadSeedFile = AsksToServe words
+IsFaultFor words input BadLogFile = AsksToServe words
 IsFaultFor words input fault = ((settings : SettingsFields) × Asks words (script_task settings)) × IsScriptFault input fault
 
 -- nothing was written; or the output failed, and what was written is the beginning of what would have been printed
 abbrev pub Leaves : List Text → Option (List ℕ) → Fault → Option (List ℕ) → Option (List ℕ) → Type 0
-Leaves words input Output old new = ((settings : SettingsFields) × Asks words (script_task settings) × BeginsScript settings input old new) ⊎ AsksToShow words
+Leaves words input Output old new = ((settings : SettingsFields) × Asks words (script_task settings) × BeginsScript settings input old new)
+    ⊎ ((AsksToServe words × BeginsAnnouncement old new) ⊎ AsksToShow words)
 Leaves words input fault old new = Keeps old new
 
 -- the beginning of the fault's line was written, all of it where the writer took it; what is told of words is clap's
 abbrev pub Tells : Fault → Option (List ℕ) → Option (List ℕ) → Type 0
 Tells fault old new = IfSome (fault_text fault) (AppendsFront old new)
+
+-- nothing is told, unless a service has told of its connections
+abbrev pub IsQuiet : List Text → Option (List ℕ) → Option (List ℕ) → Type 0
+IsQuiet words old new = Keeps old new ⊎ AsksToServe words

@@ -3,22 +3,28 @@
 --   fault_text    what is told of it
 --   input_fault   the one of an input that fails
 --   line_fault    that of a line with a vector that isn't read
-use Rattle.std.specs.Prelude.{ℕ, List, [], ◌∷◌, ◌++◌, codes, decimal, Option, Some, None}
+--   IsUnread      that of a file that can't be read, by its name; IsUnopened, that can't be opened
+use Rattle.std.specs.Prelude.{◌≡◌, ⊤, ℕ, string_bytes, List, [], ◌∷◌, ◌++◌, codes, decimal, Option, Some, None}
 use Rattle.std.specs.declared.io.ErrorKind.{ErrorKind}
 use Rattle.std.specs.declared.io.ErrorKind.TheVariants.{OutOfMemory}
 use Rattle.tk_format.specs.declared.error.ReadError.{ReadError}
 use Rattle.tk_format.specs.declared.error.ReadError.TheVariants as read
 use Rattle.tokend.specs.declared.fault.Fault.{Fault}
-use Rattle.tokend.specs.declared.fault.Fault.TheVariants.{Words, CannotRead, ScriptTooLong, BadLine, Memory, Output}
+use Rattle.tokend.specs.declared.fault.Fault.TheVariants.{Words, CannotRead, CannotReadFile, CannotOpen, CannotListen, ScriptTooLong, BadLine, BadSeedFile, BadLogFile, Memory, Output}
 use Rattle.tokend.specs.declared.fault.LineError.{LineError}
 use Rattle.tokend.specs.declared.fault.LineError.TheVariants as line
 
--- 1 for memory and devices, 2 for words and scripts
+-- 1 for memory and devices, 2 for words, scripts, seeds and logs
 abbrev pub status_of : Fault → ℕ
 status_of (Words error) = 2
 status_of ScriptTooLong = 2
 status_of (BadLine number) = 2
+status_of BadSeedFile = 2
+status_of BadLogFile = 2
 status_of CannotRead = 1
+status_of (CannotReadFile name) = 1
+status_of (CannotOpen name) = 1
+status_of CannotListen = 1
 status_of Memory = 1
 status_of Output = 1
 
@@ -36,7 +42,23 @@ line_fault read.Memory = line.Memory
 abbrev pub fault_text : Fault → Option (List ℕ)
 fault_text (Words error) = None
 fault_text CannotRead = Some (codes "tokend: cannot read -" ++ 10 ∷ [])
+fault_text (CannotReadFile name) = Some (codes "tokend: cannot read " ++ (string_bytes name ++ 10 ∷ []))
+fault_text (CannotOpen name) = Some (codes "tokend: cannot open " ++ (string_bytes name ++ 10 ∷ []))
+fault_text CannotListen = Some (codes "tokend: cannot listen" ++ 10 ∷ [])
+fault_text BadSeedFile = Some (codes "tokend: bad seed file" ++ 10 ∷ [])
+fault_text BadLogFile = Some (codes "tokend: bad log file" ++ 10 ∷ [])
 fault_text ScriptTooLong = Some (codes "tokend: script too long" ++ 10 ∷ [])
 fault_text (BadLine number) = Some (codes "tokend: bad line " ++ (decimal number ++ 10 ∷ []))
 fault_text Memory = Some (codes "tokend: memory" ++ 10 ∷ [])
 fault_text Output = Some []
+
+-- the fault names the file, or there is no memory for that
+abbrev pub IsUnread : List ℕ → Fault → Type 0
+IsUnread name (CannotReadFile text) = string_bytes text ≡ name
+IsUnread name Memory = ⊤
+IsUnread name fault = ⊥
+
+abbrev pub IsUnopened : List ℕ → Fault → Type 0
+IsUnopened name (CannotOpen text) = string_bytes text ≡ name
+IsUnopened name Memory = ⊤
+IsUnopened name fault = ⊥

@@ -1,6 +1,7 @@
 -- What the words of the command line ask for.
---   IsScript       the numbers of a script; script_task, a script with settings
---   Asks           a task
+--   script_task    a script with settings
+--   IsTask         the subcommand and its values; IsNoTask, none's; IsNoService, no service's
+--   Asks           a task; AsksToServe, a service
 --   AsksToShow     help, or the version
 --   IsRefusalOf    the kind of a fault in the words
 --   IsNoText       the fault of words that are no UTF-8
@@ -9,24 +10,25 @@ use Rattle.clap.specs.Words.{Row, Text, IsAmong, fault_of, kind_of, subcommand_o
 use Rattle.clap.specs.declared.error.kind.ErrorKind.{ErrorKind}
 use Rattle.clap.specs.declared.error.kind.ErrorKind.TheVariants.{DisplayHelp, DisplayVersion, InvalidValue, MissingSubcommand}
 use Rattle.tk_region.specs.SettingsFields.{SettingsFields}
-use Rattle.tokend.specs.CommandLine.{HasSettings, tokend_app}
+use Rattle.tokend.specs.CommandLine.{HasNumbers, HasService, tokend_app}
 use Rattle.tokend.specs.declared.fault.Fault.{Fault}
 use Rattle.tokend.specs.declared.fault.Fault.TheVariants.{Memory, Words}
+use Rattle.tokend.specs.declared.options.Service.{Service}
 use Rattle.tokend.specs.declared.options.Task.{Task}
-use Rattle.tokend.specs.declared.options.Task.TheVariants.{Script}
-
--- the numbers of a script's settings
-abbrev pub IsScript : List Row → Task → Type 0
-IsScript rows (Script code access refresh family cap) =
-    HasSettings rows (record { code = code; access = access; refresh = refresh; family = family; cap = cap })
+use Rattle.tokend.specs.declared.options.Task.TheVariants.{Script, Serve}
 
 -- a script with these settings
 abbrev pub script_task : SettingsFields → Task
-script_task s = Script s.code s.access s.refresh s.family s.cap
+script_task s = Script (record { code = s.code; access = s.access; refresh = s.refresh; family = s.family; cap = s.cap })
+
+-- a number of a service isn't there, or no seed
+abbrev pub IsNoService : List Row → Type 0
+IsNoService rows = (service : Service) → ¬ (HasService rows service)
 
 -- the subcommand and its values
 abbrev pub IsTask : Option (Text × List Row) → Task → Type 0
-IsTask found task = (rows : List Row) × (found ≡ Some (codes "script", rows)) × IsScript rows task
+IsTask found (Script numbers) = (rows : List Row) × (found ≡ Some (codes "script", rows)) × HasNumbers rows numbers
+IsTask found (Serve service) = (rows : List Row) × (found ≡ Some (codes "serve", rows)) × HasService rows service
 
 -- they are no task's
 abbrev pub IsNoTask : Option (Text × List Row) → Type 0
@@ -35,6 +37,10 @@ IsNoTask found = (task : Task) → ¬ (IsTask found task)
 -- clap finds no fault in the words, and they name the task
 abbrev pub Asks : List Text → Task → Type 0
 Asks words task = (fault_of tokend_app words ≡ []) × IsTask (subcommand_of tokend_app words) task
+
+-- and so a service
+abbrev pub AsksToServe : List Text → Type 0
+AsksToServe words = (service : Service) × Asks words (Serve service)
 
 -- clap is to answer with a text in place of a task
 abbrev pub AsksToShow : List Text → Type 0

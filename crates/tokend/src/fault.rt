@@ -1,13 +1,14 @@
-ghost use Rattle.std.specs.Prelude.{◌≡◌, ◌++◌, ◌∷◌, [], codes, decimal, IfSome};
+ghost use Rattle.std.specs.Prelude.{◌≡◌, ◌++◌, ◌∷◌, [], codes, decimal, string_bytes, IfSome};
 ghost use Rattle.std.specs.IoError.{error_kind};
 ghost use Rattle.tokend.specs.declared.fault.Fault.TheVariants as fault;
 ghost use Rattle.tokend.specs.declared.fault.LineError.TheVariants as line;
 ghost use Rattle.tokend.specs.Put.{Prints};
-ghost use Rattle.tokend.specs.Status.{fault_text, input_fault, line_fault, status_of};
+ghost use Rattle.tokend.specs.Status.{fault_text, input_fault, line_fault, status_of, IsUnopened, IsUnread};
+ghost use Rattle.tokend.specs.Serving.{IsFileFault};
 
 use crate::put::put_all;
 use itoa::Buffer;
-use std::alloc::{AllocError, AllocFailed};
+use std::alloc::{AllocError, AllocFailed, Global};
 use std::io::{self, Write};
 use tk_format::ReadError;
 
@@ -18,6 +19,16 @@ pub enum Fault {
     Words(clap::Error),
     /// Reading the standard input failed, or was interrupted.
     CannotRead,
+    /// The file of this name can't be read.
+    CannotReadFile(String),
+    /// The log of this name can't be opened.
+    CannotOpen(String),
+    /// The port is in use, or can't be listened on.
+    CannotListen,
+    /// The seed file hasn't exactly 32 bytes.
+    BadSeedFile,
+    /// The old log holds something that is no bundle or is refused, or the new one isn't empty.
+    BadLogFile,
     /// The script is longer than `script::LIMIT`.
     ScriptTooLong,
     /// The line with this number, counted from 1, is no event.
@@ -34,8 +45,10 @@ impl Fault {
         ensures { result ≡ status_of self.now }
     {
         match self {
-            Fault::Memory | Fault::CannotRead | Fault::Output => 1,
+            Fault::Memory | Fault::CannotRead | Fault::CannotReadFile(_) => 1,
+            Fault::CannotOpen(_) | Fault::CannotListen | Fault::Output => 1,
             Fault::Words(_) | Fault::ScriptTooLong | Fault::BadLine(_) => 2,
+            Fault::BadSeedFile | Fault::BadLogFile => 2,
         }
     }
 }
@@ -50,6 +63,11 @@ pub fn tell<E: Write>(faults: &mut E, fault: &Fault) -> io::Result<()>
         Fault::CannotRead => put_all(faults, &[b"tokend: cannot read -\n"]),
         Fault::ScriptTooLong => put_all(faults, &[b"tokend: script too long\n"]),
         Fault::BadLine(number) => tell_bad_line(faults, *number),
+        Fault::CannotReadFile(name) => tell_name(faults, b"tokend: cannot read ", name),
+        Fault::CannotOpen(name) => tell_name(faults, b"tokend: cannot open ", name),
+        Fault::CannotListen => put_all(faults, &[b"tokend: cannot listen\n"]),
+        Fault::BadSeedFile => put_all(faults, &[b"tokend: bad seed file\n"]),
+        Fault::BadLogFile => put_all(faults, &[b"tokend: bad log file\n"]),
         Fault::Memory => put_all(faults, &[b"tokend: memory\n"]),
         Fault::Output => put_all(faults, &[]),
     }
@@ -61,6 +79,34 @@ fn tell_bad_line<E: Write>(faults: &mut E, number: u64) -> io::Result<()>
     let mut digits = Buffer::new();
     let number = digits.format(number).as_bytes();
     put_all(faults, &[b"tokend: bad line ", number, b"\n"])
+}
+
+fn tell_name<E: Write>(faults: &mut E, fault: &[u8], name: &String) -> io::Result<()>
+    ensures { Prints result (E.contents faults.old) (E.contents faults.new) (fault.now ++ (string_bytes name.now ++ 10 ∷ [])) }
+{
+    put_all(faults, &[fault, name.as_bytes(), b"\n"])
+}
+
+/// The fault of a file that can't be read, or that there is no memory to tell of.
+pub(crate) fn cannot_read(alloc: Global, name: &str) -> Fault
+    ensures told { IsUnread name.now result }
+    ensures file { IsFileFault result }
+{
+    match String::from_str(alloc, name) {
+        Ok(name) => Fault::CannotReadFile(name),
+        Err(_) => Fault::Memory,
+    }
+}
+
+/// The fault of a log that can't be opened, or that there is no memory to tell of.
+pub(crate) fn cannot_open(alloc: Global, name: &str) -> Fault
+    ensures told { IsUnopened name.now result }
+    ensures file { IsFileFault result }
+{
+    match String::from_str(alloc, name) {
+        Ok(name) => Fault::CannotOpen(name),
+        Err(_) => Fault::Memory,
+    }
 }
 
 impl From<AllocError> for Fault {

@@ -1,38 +1,44 @@
 //! All of the program in order, over any reader and writers.
 
-ghost use Rattle.std.specs.Prelude.{◌≡◌, ◌≤◌, OnOk, IfErr, MatchResult, map};
+ghost use Rattle.std.specs.Prelude.{◌≡◌, ◌≤◌, OnOk, OnErr, IfErr, MatchResult, map};
 ghost use Rattle.std.specs.Io.KnownBytes.{Keeps};
 ghost use Rattle.tokend.specs.Printed.{lines_text};
-ghost use Rattle.tokend.specs.ProgramRun.{IsDone, IsFaultFor, Leaves, Tells};
+ghost use Rattle.tokend.specs.ProgramRun.{IsDone, IsFaultFor, IsQuiet, Leaves, Tells};
 ghost use Rattle.tokend.specs.Put.{Prints};
 ghost use Rattle.tokend.specs.ScriptRun.{PrintsScript, IsScriptFault, LeavesScript};
 ghost use Rattle.tokend.specs.Status.{status_of};
 ghost use Rattle.tokend.specs.declared.fault.Fault.{Fault as FaultValue};
 
 use crate::fault::{Fault, tell};
-use crate::options::{Task, options};
+use crate::options::{Numbers, Task, options};
 use crate::print::print_outcomes;
 use crate::script::{read_events, read_script};
+use crate::serve::serve;
 use clap::Error;
 use clap::error::ErrorKind;
 use std::alloc::Global;
 use std::convert::AsStr;
 use std::io::{self, Read, Write};
+use std::net::{Net, TcpListener, TcpStream};
+use std::rt::Files;
+use std::time::Clock;
 use tk_world::{Event, Outcome, Settings, World};
 
 /// Does what the words ask for, the first of them being the program's name, and gives the exit status: 0 done,
 /// 1 memory or a device, 2 bad words or a bad script. A fault is told on `faults`, whose own failures are ignored.
 /// The output is written in small pieces and flushed at the end.
-pub fn run_program<R: AllocGlobal, S: AsStr, I: Read, O: Write, E: Write>(
+pub fn run_program<R, S: AsStr, I: Read, O: Write, E: Write>(
     rt: &R,
     words: &[S],
     input: &mut I,
     output: &mut O,
     faults: &mut E,
 ) -> u8
+where
+    R: AllocGlobal + Files + Clock + Net<Listener = TcpListener, Stream = TcpStream>,
     ensures status { result ≤ 2 }
     ensures done { result ≡ 0 → IsDone (map S.text words.now) (I.remaining input.old) (O.contents output.old) (O.contents output.new) }
-    ensures quiet { result ≡ 0 → Keeps (E.contents faults.old) (E.contents faults.new) }
+    ensures quiet { result ≡ 0 → IsQuiet (map S.text words.now) (E.contents faults.old) (E.contents faults.new) }
 
     // Memory or a device may cause the fault, and what was written is the beginning of what would have been.
     ensures broken { result ≡ 1 → (fault : FaultValue) × (status_of fault ≡ 1) × IsFaultFor (map S.text words.now) (I.remaining input.old) fault
@@ -44,7 +50,7 @@ pub fn run_program<R: AllocGlobal, S: AsStr, I: Read, O: Write, E: Write>(
         × IsFaultFor (map S.text words.now) (I.remaining input.old) fault × Keeps (O.contents output.old) (O.contents output.new)
         × Tells fault (E.contents faults.old) (E.contents faults.new) }
 {
-    finish(run(rt.alloc(), words, input, output), faults)
+    finish(run(rt, words, input, output, faults), faults)
 }
 
 /// The exit status of a run, whose fault is told on `faults`.
@@ -61,29 +67,37 @@ pub(crate) fn finish<E: Write>(ran: Result<(), Fault>, faults: &mut E) -> u8
     }
 }
 
-fn run<S: AsStr, I: Read, O: Write>(
-    alloc: Global,
+fn run<R, S: AsStr, I: Read, O: Write, E: Write>(
+    rt: &R,
     words: &[S],
     input: &mut I,
     output: &mut O,
+    faults: &mut E,
 ) -> Result<(), Fault>
+where
+    R: AllocGlobal + Files + Clock + Net<Listener = TcpListener, Stream = TcpStream>,
     ensures done { OnOk result (IsDone (map S.text words.now) (I.remaining input.old) (O.contents output.old) (O.contents output.new)) }
     ensures fault { IfErr result (IsFaultFor (map S.text words.now) (I.remaining input.old)) }
     ensures left { IfErr result (λ fault. Leaves (map S.text words.now) (I.remaining input.old) fault (O.contents output.old) (O.contents output.new)) }
+    ensures quiet { OnOk result (IsQuiet (map S.text words.now) (E.contents faults.old) (E.contents faults.new)) }
+    ensures silent { OnErr result (Keeps (E.contents faults.old) (E.contents faults.new)) }
 {
-    match options(alloc, words) {
+    match options(rt.alloc(), words) {
         Ok(
-            Task::Script {
-                code,
-                access,
-                refresh,
-                family,
-                cap,
-            },
+            Task::Script(
+                Numbers {
+                    code,
+                    access,
+                    refresh,
+                    family,
+                    cap,
+                },
+            ),
         ) => match Settings::new(code, access, refresh, family, cap) {
-            Some(settings) => run_script(alloc, settings, input, output),
+            Some(settings) => run_script(rt.alloc(), settings, input, output),
             None => unreachable!(),
         },
+        Ok(Task::Serve(service)) => serve(rt, &service, output, faults),
         Err(error) => match error.kind() {
             ErrorKind::DisplayHelp | ErrorKind::DisplayVersion => match show(output, &error) {
                 Ok(()) => Ok(()),

@@ -10,6 +10,7 @@ mod fakes;
 mod gone_elsewhere;
 mod header_credentials;
 mod lines;
+mod loading;
 mod order;
 mod plain_path;
 mod public_client;
@@ -17,14 +18,18 @@ mod refreshed_twice;
 mod replies;
 mod requests;
 mod rotation;
+mod serving;
 mod states;
 mod unserved;
 mod verifiers;
 mod world;
 
 use crate::program::run_program;
+use std::net::{Net, TcpListener, TcpStream};
 use std::process::Abort;
+use std::rt::Files;
 use std::test::Fail;
+use std::time::Clock;
 
 /// What a run is given, and what it must give.
 #[derive(Clone, Copy)]
@@ -58,14 +63,18 @@ fn printed<'a>(name: &'a str, input: &'a [u8], output: &'a str) -> Row<'a> {
 }
 
 /// Runs each row, over memory.
-fn run_rows<R: AllocGlobal + Abort>(rt: &R, rows: &[Row<'_>]) -> Result<(), Fail> {
+fn run_rows<
+    R: AllocGlobal + Abort + Files + Clock + Net<Listener = TcpListener, Stream = TcpStream>,
+>(rt: &R, rows: &[Row<'_>]) -> Result<(), Fail> {
     for row in rows {
         run_row(rt, row)?;
     }
     Ok(())
 }
 
-fn run_row<R: AllocGlobal + Abort>(rt: &R, row: &Row<'_>) -> Result<(), Fail> {
+fn run_row<
+    R: AllocGlobal + Abort + Files + Clock + Net<Listener = TcpListener, Stream = TcpStream>,
+>(rt: &R, row: &Row<'_>) -> Result<(), Fail> {
     let (name, mut input) = (row.name, row.input);
     let mut output = Vec::new(rt.alloc());
     let mut faults = Vec::new(rt.alloc());

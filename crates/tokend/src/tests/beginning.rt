@@ -1,8 +1,11 @@
 //! Scripts that begin alike.
 
 use super::{Row, run_row};
+use std::net::{Net, TcpListener, TcpStream};
 use std::process::Abort;
+use std::rt::Files;
 use std::test::Fail;
+use std::time::Clock;
 
 /// How scripts begin: the program's words, the first lines, and what is printed of these. Each line ends with a line feed.
 #[derive(Clone, Copy)]
@@ -16,13 +19,9 @@ pub(super) struct Beginning<'a> {
 pub(super) const SCRIPT: [&str; 2] = ["tokend", "script"];
 
 /// Runs a script that begins so and goes on with these lines. What is printed goes on with `more_told`.
-pub(super) fn run_behind<R: AllocGlobal + Abort>(
-    rt: &R,
-    beginning: &Beginning<'_>,
-    name: &str,
-    more: &str,
-    more_told: &str,
-) -> Result<(), Fail> {
+pub(super) fn run_behind<
+    R: AllocGlobal + Abort + Files + Clock + Net<Listener = TcpListener, Stream = TcpStream>,
+>(rt: &R, beginning: &Beginning<'_>, name: &str, more: &str, more_told: &str) -> Result<(), Fail> {
     let (words, lines, told) = (beginning.words, beginning.lines, beginning.told);
     let script = format!(in rt.alloc(); "{lines}{more}")?;
     let output = format!(in rt.alloc(); "{told}{more_told}")?;

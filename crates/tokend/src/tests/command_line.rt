@@ -9,6 +9,7 @@ Usage: tokend <COMMAND>
 
 Commands:
   script  Runs events, given as lines on the standard input
+  serve   Serves requests over HTTP on 127.0.0.1, one connection after the other
   help    Print this message or the help of the given subcommand(s)
 
 Options:
@@ -21,11 +22,11 @@ const SCRIPT_HELP: &str = "Runs events, given as lines on the standard input
 Usage: tokend script [OPTIONS]
 
 Options:
-      --code <N>     How many seconds a code lives [default: 60]
-      --access <N>   How many seconds an access token lives [default: 3600]
-      --refresh <N>  How many seconds a refresh token lives [default: 86400]
-      --family <N>   How many seconds a code and all tokens that descend from it live [default: 2592000]
-      --cap <N>      The greatest serial of a fact that a region makes [default: 9223372036854775806]
+      --code <N>     How many seconds a code lives, 1 to 600 [default: 60]
+      --access <N>   How many seconds an access token lives, 1 to 86400 [default: 3600]
+      --refresh <N>  How many seconds a refresh token lives, 1 to 31536000 [default: 86400]
+      --family <N>   How many seconds a code and all tokens that descend from it live, 1 to 315360000 [default: 2592000]
+      --cap <N>      The greatest serial of a fact that a region makes, 1 to 9223372036854775806 [default: 9223372036854775806]
   -h, --help         Print help
 ";
 
@@ -137,7 +138,7 @@ fn a_missing_or_unknown_subcommand_is_told(rt: HostRuntime) -> Result<(), Fail> 
             "no subcommand",
             &["tokend"],
             "error: 'tokend' requires a subcommand but one was not provided
-  [subcommands: script, help]
+  [subcommands: script, serve, help]
 
 Usage: tokend <COMMAND>
 
@@ -146,8 +147,8 @@ For more information, try '--help'.
         ),
         refused(
             "an unknown subcommand",
-            &["tokend", "serve"],
-            "error: unrecognized subcommand 'serve'
+            &["tokend", "prune"],
+            "error: unrecognized subcommand 'prune'
 
 Usage: tokend <COMMAND>
 

@@ -4,8 +4,11 @@ use super::fakes::{FailingReader, FailingWriter, InterruptedWriter, StuckWriter}
 use super::{CAP_ALONE, CAP_ALONE_TOLD, Row};
 use crate::program::run_program;
 use std::io::ErrorKind;
+use std::net::{Net, TcpListener, TcpStream};
 use std::process::Abort;
+use std::rt::Files;
 use std::test::Fail;
+use std::time::Clock;
 
 const SCRIPT: [&str; 2] = ["tokend", "script"];
 
@@ -104,12 +107,9 @@ fn openings<R: AllocGlobal>(rt: &R, count: u16) -> Result<Vec<u8>, Fail> {
 }
 
 // What a run over a writer with this room for its output leaves of it.
-fn cut_off<R: AllocGlobal + Abort>(
-    rt: &R,
-    words: &[&str],
-    script: &[u8],
-    room: usize,
-) -> Result<FailingWriter, Fail> {
+fn cut_off<
+    R: AllocGlobal + Abort + Files + Clock + Net<Listener = TcpListener, Stream = TcpStream>,
+>(rt: &R, words: &[&str], script: &[u8], room: usize) -> Result<FailingWriter, Fail> {
     let mut input = script;
     let (mut output, mut faults) = (FailingWriter::new(rt, room), Vec::new(rt.alloc()));
     let status = run_program(rt, words, &mut input, &mut output, &mut faults);
@@ -211,7 +211,9 @@ fn is_front(told: &str, taken: &[u8], count: usize) -> bool {
 }
 
 // Over a standard error with this room, a refused run has the same status, and leaves the beginning of what is told.
-fn told_within<R: AllocGlobal + Abort>(rt: &R, row: &Row<'_>, room: usize) -> Result<(), Fail> {
+fn told_within<
+    R: AllocGlobal + Abort + Files + Clock + Net<Listener = TcpListener, Stream = TcpStream>,
+>(rt: &R, row: &Row<'_>, room: usize) -> Result<(), Fail> {
     let (name, mut input) = (row.name, row.input);
     let (mut output, mut faults) = (Vec::new(rt.alloc()), FailingWriter::new(rt, room));
     let status = run_program(rt, row.words, &mut input, &mut output, &mut faults);
@@ -249,7 +251,9 @@ fn a_standard_error_that_fails_has_the_beginning_for_an_input_too(rt: HostRuntim
 }
 
 // A standard error that is interrupted where it has taken this many bytes gets all that is told.
-fn told_after<R: AllocGlobal + Abort>(rt: &R, row: &Row<'_>, place: usize) -> Result<(), Fail> {
+fn told_after<
+    R: AllocGlobal + Abort + Files + Clock + Net<Listener = TcpListener, Stream = TcpStream>,
+>(rt: &R, row: &Row<'_>, place: usize) -> Result<(), Fail> {
     let (name, mut input) = (row.name, row.input);
     let (mut output, mut faults) = (Vec::new(rt.alloc()), InterruptedWriter::new(rt, place));
     let status = run_program(rt, row.words, &mut input, &mut output, &mut faults);

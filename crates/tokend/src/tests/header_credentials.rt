@@ -1,8 +1,11 @@
 //! Clients that authenticate by the header of a request (RFC 6749, 2.3.1).
 
 use super::beginning::{Beginning, SCRIPT, run_behind};
+use std::net::{Net, TcpListener, TcpStream};
 use std::process::Abort;
+use std::rt::Files;
 use std::test::Fail;
+use std::time::Clock;
 
 // A code of the client c1-1, and its tokens, of 1:4.
 const PATH: Beginning<'static> = Beginning {
@@ -99,7 +102,7 @@ fn a_client_names_itself_in_the_header(rt: HostRuntime) -> Result<(), Fail> {
 }
 
 // The access token of 1:4 is asked about.
-fn ask<R: AllocGlobal + Abort>(
+fn ask<R: AllocGlobal + Abort + Files + Clock + Net<Listener = TcpListener, Stream = TcpStream>>(
     rt: &R,
     name: &str,
     auth: &str,

@@ -1,8 +1,11 @@
 //! Lines that are no events.
 
 use super::{Row, run_row};
+use std::net::{Net, TcpListener, TcpStream};
 use std::process::Abort;
+use std::rt::Files;
 use std::test::Fail;
+use std::time::Clock;
 
 // Lines that have none of the forms.
 static FORMS: [(&str, &[u8]); 20] = [
@@ -138,10 +141,9 @@ static VECTORS: [(&str, &[u8]); 22] = [
 ];
 
 // Each line is bad, whether a line before it opens a region or not, and nothing is printed.
-fn refuse_each<R: AllocGlobal + Abort>(
-    rt: &R,
-    lines: &'static [(&'static str, &'static [u8])],
-) -> Result<(), Fail> {
+fn refuse_each<
+    R: AllocGlobal + Abort + Files + Clock + Net<Listener = TcpListener, Stream = TcpStream>,
+>(rt: &R, lines: &'static [(&'static str, &'static [u8])]) -> Result<(), Fail> {
     for (name, line) in lines {
         refuse(rt, name, line, "tokend: bad line 1\n")?;
         let mut script = Vec::from_slice(rt.alloc(), b"open 1\n\n")?;
@@ -152,7 +154,7 @@ fn refuse_each<R: AllocGlobal + Abort>(
     Ok(())
 }
 
-fn refuse<R: AllocGlobal + Abort>(
+fn refuse<R: AllocGlobal + Abort + Files + Clock + Net<Listener = TcpListener, Stream = TcpStream>>(
     rt: &R,
     name: &str,
     script: &[u8],

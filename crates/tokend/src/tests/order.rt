@@ -5,8 +5,11 @@ use super::{CAP_ALONE, CAP_ALONE_TOLD, Row, run_row, run_rows};
 use crate::program::run_program;
 use crate::script::LIMIT;
 use std::io::ErrorKind;
+use std::net::{Net, TcpListener, TcpStream};
 use std::process::Abort;
+use std::rt::Files;
 use std::test::Fail;
+use std::time::Clock;
 
 #[test]
 fn the_first_bad_line_is_told(rt: HostRuntime) -> Result<(), Fail> {
@@ -67,7 +70,9 @@ fn filled<R: AllocGlobal>(rt: &R, lines: &[u8], length: usize) -> Result<Vec<u8>
     Ok(script)
 }
 
-fn run_filled<R: AllocGlobal + Abort>(rt: &R, row: &Row<'_>, length: usize) -> Result<(), Fail> {
+fn run_filled<
+    R: AllocGlobal + Abort + Files + Clock + Net<Listener = TcpListener, Stream = TcpStream>,
+>(rt: &R, row: &Row<'_>, length: usize) -> Result<(), Fail> {
     let script = filled(rt, row.input, length)?;
     let row = Row {
         name: row.name,

@@ -1,8 +1,11 @@
 //! Requests, whole and short, and what they are answered.
 
 use super::{printed, run_row};
+use std::net::{Net, TcpListener, TcpStream};
 use std::process::Abort;
+use std::rt::Files;
 use std::test::Fail;
+use std::time::Clock;
 
 // A region with a confidential client, c1-1, and the consent g1-2 of ann, which includes its whole scope.
 const CONSENTED: &[u8] = b"open 1
@@ -108,7 +111,7 @@ fn an_authorisation_is_answered(rt: HostRuntime) -> Result<(), Fail> {
     )
 }
 
-fn ask<R: AllocGlobal + Abort>(
+fn ask<R: AllocGlobal + Abort + Files + Clock + Net<Listener = TcpListener, Stream = TcpStream>>(
     rt: &R,
     name: &str,
     more: &str,
@@ -169,7 +172,10 @@ fn short_lines_stand_for_whole_ones(rt: HostRuntime) -> Result<(), Fail> {
 }
 
 // What a line prints behind a client, and a look at what stands there afterwards.
-fn told<R: AllocGlobal + Abort>(rt: &R, line: &[u8]) -> Result<Vec<u8>, Fail> {
+fn told<R: AllocGlobal + Abort + Files + Clock + Net<Listener = TcpListener, Stream = TcpStream>>(
+    rt: &R,
+    line: &[u8],
+) -> Result<Vec<u8>, Fail> {
     let mut script = Vec::from_slice(
         rt.alloc(),
         b"open 1\nclient 1 1 public - read https://app.example/\n",

@@ -4,8 +4,11 @@ mod introspected;
 mod revoked;
 
 use super::beginning::{Beginning, SCRIPT, run_behind};
+use std::net::{Net, TcpListener, TcpStream};
 use std::process::Abort;
+use std::rt::Files;
 use std::test::Fail;
+use std::time::Clock;
 
 // Region 1 has the client c1-1, two codes, and the tokens of the second one. Region 2 has all but those tokens.
 const KNOWN: Beginning<'static> = Beginning {
@@ -107,7 +110,9 @@ took 1
 };
 
 // Runs a use of a token in a state, which is answered so, and then asks what the region holds.
-fn run_use<R: AllocGlobal + Abort>(
+fn run_use<
+    R: AllocGlobal + Abort + Files + Clock + Net<Listener = TcpListener, Stream = TcpStream>,
+>(
     rt: &R,
     name: &str,
     state: &State<'_>,

@@ -1,8 +1,11 @@
 //! Verifiers against the challenge that a code is bound to (RFC 7636, 4.6).
 
 use super::beginning::{Beginning, SCRIPT, run_behind};
+use std::net::{Net, TcpListener, TcpStream};
 use std::process::Abort;
+use std::rt::Files;
 use std::test::Fail;
+use std::time::Clock;
 
 // A region with a confidential client, c1-1, and the consent g1-2 of ann.
 const CONSENTED: Beginning<'static> = Beginning {
@@ -132,7 +135,7 @@ fn challenges_and_verifiers_meet_within_their_limits(rt: HostRuntime) -> Result<
 }
 
 // The code is that of 1:3.
-fn meet<R: AllocGlobal + Abort>(
+fn meet<R: AllocGlobal + Abort + Files + Clock + Net<Listener = TcpListener, Stream = TcpStream>>(
     rt: &R,
     name: &str,
     challenge: &str,

@@ -1,6 +1,6 @@
 use Rattle.clap.specs.Words.{found_of, rows_of}
 use Rattle.tokend.proofs.Tasks.{without_code, without_access, without_refresh, without_family, without_cap}
-use Rattle.tokend.proofs.options.script.Goals as goal
+use Rattle.tokend.proofs.options.read_numbers.Goals as goal
 
 pub returns-in_err-number-clause-none : goal.returns-in_err-number-clause-none
 returns-in_err-number-clause-none c = without_code (rows_of (found_of c.args.matches.now)) c.from_residual.result c.in_err-number.ensures.none

@@ -1,0 +1,163 @@
+-- A log, taken in bundle by bundle. Key results:
+--   front_none    nothing yet
+--   front_more    and one bundle more
+--   malformed_front, take_one   what one bundle comes to
+--   parts_taken, front_kept, load_fault   and what the log comes to
+use Rattle.std.proofs.Common.{◌≡◌, ◌<◌, ◌≤◌, ℕ, true, List, [], ◌∷◌, ◌++◌, length, take, drop, Option, Some, None, Result, Ok, Err, inl, inr, refl, sym, ap, subst, arith, ◌∙◌}
+use Rattle.std.specs.Prelude.{◌⊎◌, zero, suc, IfSome}
+use Rattle.std.specs.List.{flat_map}
+use Rattle.std.proofs.lemmas.List.{append-nil, append_assoc, take-append-drop}
+use Rattle.std.proofs.lemmas.Grind.{flat_map-append}
+use Rattle.tk_store.specs.FactSet.{Facts}
+use Rattle.tk_store.specs.Joining.{JoinsFacts}
+use Rattle.tk_store.proofs.JoiningLaws.{joins_nothing, joins_more}
+use Rattle.tk_store.specs.Store.{facts_of}
+use Rattle.tk_format.specs.Format.{whole}
+use Rattle.tk_bundle.specs.Bundle.{bundle, bundle_bytes}
+use Rattle.tk_bundle.specs.Front.{IsCut, IsFrontOf, walk}
+use Rattle.tk_bundle.specs.declared.error.FrontError.{FrontError}
+use Rattle.tk_bundle.specs.declared.error.FrontError.TheVariants as front
+use Rattle.tk_message.specs.Place.{next_in}
+use Rattle.tk_region.specs.RegionFields.{RegionFields, Gains, place_in}
+use Rattle.tk_region.specs.Taking.{AgreesWith, TakesIn, has_unmade}
+use Rattle.tk_region.specs.declared.take.TakeError.{TakeError}
+use Rattle.tk_region.specs.declared.take.TakeError.TheVariants as refusal
+use Rattle.tk_world.proofs.BundleLaws.{spelled_facts}
+use Rattle.tokend.specs.Loading.{AreBundles, IsRefused, Loads, TakesFront, TakesOne, log_bytes}
+use Rattle.tokend.specs.declared.load.LoadFault.{LoadFault}
+use Rattle.tokend.specs.declared.load.LoadFault.TheVariants.{Bad, Memory, Read}
+
+pub gains_nothing : (region : RegionFields) → Gains region [] region
+gains_nothing region = record { number = refl; settings = refl; joins = joins_nothing _ }
+
+pub gains_more : (old mid new : RegionFields) (fs gs : Facts) → Gains old fs mid → Gains mid gs new → Gains old (fs ++ gs) new
+gains_more old mid new fs gs h k = record {
+  number = k.number ∙ h.number;
+  settings = k.settings ∙ h.settings;
+  joins = joins_more h.joins k.joins;
+}
+
+pub front_none : (region : RegionFields) (log : List ℕ) → TakesFront region log log region
+front_none region log = record { bundles = []; fit = tt; parts = refl; gains = gains_nothing region }
+
+bundles_more : (bundles : List Facts) (fs : Facts) → AreBundles bundles → bundle.Fits fs → AreBundles (bundles ++ fs ∷ [])
+bundles_more [] fs all fits = (fits, tt)
+bundles_more (gs ∷ more) fs all fits = (all.0, bundles_more more fs all.1 fits)
+
+pub front_more : (old mid new : RegionFields) (log rest more : List ℕ) (fs : Facts) → TakesFront old log rest mid → bundle.Fits fs
+    → rest ≡ bundle_bytes fs ++ more → Gains mid fs new → TakesFront old log more new
+front_more old mid new log rest more fs front fits parts gains = record {
+  bundles = front.bundles ++ fs ∷ [];
+  fit = bundles_more front.bundles fs front.fit fits;
+  parts = front.parts ∙ ap (λ l. log_bytes front.bundles ++ l) parts
+      ∙ sym (append_assoc (log_bytes front.bundles) (bundle_bytes fs) more)
+      ∙ ap (λ l. l ++ more) (sym (flat_map-append bundle_bytes front.bundles (fs ∷ [])
+      ∙ ap (λ l. log_bytes front.bundles ++ l) (append-nil (bundle_bytes fs))));
+  gains = subst (λ facts. Gains old facts new) (sym (flat_map-append (λ gs. gs) front.bundles (fs ∷ []) ∙ ap (λ l. flat_map (λ gs. gs) front.bundles ++ l) (append-nil fs)))
+      (gains_more old mid new (flat_map (λ gs. gs) front.bundles) fs front.gains gains);
+}
+
+-- nothing that is read stands at the front
+pub malformed_front : (region : RegionFields) (rest : List ℕ) (result : Result (Facts × ℕ) FrontError) → result ≡ Err front.Malformed
+    → ((e : FrontError) → walk rest ≡ Err e → result ≡ Err e)
+    → ((fs : Facts) (more : List ℕ) → bundle.Fits fs → rest ≡ bundle_bytes fs ++ more → IsFrontOf result fs) → IsRefused region rest
+malformed_front region rest result is walked only =
+    (λ cut. other (ap error_of (sym is ∙ walked front.Cut cut)), λ fs more fits e. absurd (subst (λ r. IsFrontOf r fs) is (only fs more fits e)))
+  where
+    error_of : Result (Facts × ℕ) FrontError → FrontError
+    error_of (Ok x) = front.Cut
+    error_of (Err e) = e
+
+    other : front.Malformed ≡ front.Cut → ⊥
+    other e = absurd (cc)
+
+-- a bundle stands there that is refused
+refused_bundle : (region : RegionFields) (rest : List ℕ) (x : Facts × ℕ) → ((e : FrontError) → walk rest ≡ Err e → Ok x ≡ Err e)
+    → ((fs : Facts) (more : List ℕ) → bundle.Fits fs → rest ≡ bundle_bytes fs ++ more → IsFrontOf (Ok x) fs)
+    → ((has_unmade (next_in (place_in region)) x.0 ≡ true) ⊎ ¬ (AgreesWith (facts_of region.facts) x.0)) → IsRefused region rest
+refused_bundle region rest x walked only why = (
+  λ cut. other (walked front.Cut cut),
+  λ fs more fits e. subst (λ gs. (has_unmade (next_in (place_in region)) gs ≡ true) ⊎ ¬ (AgreesWith (facts_of region.facts) gs)) (only fs more fits e).0 why,
+)
+  where
+    other : Ok x ≡ Err front.Cut → ⊥
+    other e = absurd (cc)
+
+-- a bundle has bytes
+some_bytes : (rest : List ℕ) (n : ℕ) (fs : Facts) → take n rest ≡ bundle_bytes fs → 0 < n
+some_bytes rest zero fs e = absurd (no_bytes e)
+  where
+    no_bytes : take 0 rest ≡ bundle_bytes fs → ⊥
+    no_bytes e = absurd (cc)
+some_bytes rest (suc n) fs e = omega (arith)
+
+-- what taking the bundle in comes to, for the log
+abbrev pub loaded : ℕ → Result ℕ TakeError → Result (Option ℕ) LoadFault
+loaded n (Ok m) = Ok (Some n)
+loaded n (Err refusal.Memory) = Err Memory
+loaded n (Err refusal.Malformed) = Err Bad
+loaded n (Err refusal.OwnNumber) = Err Bad
+loaded n (Err refusal.Conflict) = Err Bad
+
+pub take_one : (old new : RegionFields) (rest : List ℕ) (x : Facts × ℕ) (bytes : List ℕ) (result : Result ℕ TakeError)
+    → new.number ≡ old.number → new.settings ≡ old.settings → ((e : FrontError) → walk rest ≡ Err e → Ok x ≡ Err e)
+    → ((fs : Facts) (more : List ℕ) → bundle.Fits fs → rest ≡ bundle_bytes fs ++ more → IsFrontOf (Ok x) fs)
+    → x.1 ≤ length rest → bundle.Fits x.0 → take x.1 rest ≡ bundle_bytes x.0 → bytes ≡ take x.1 rest
+    → TakesIn (facts_of old.facts) (next_in (place_in old)) (whole bundle bytes) result (facts_of new.facts)
+    → TakesOne old rest (loaded x.1 result) new
+take_one old new rest x bytes result number settings walked only within fits spells is takes =
+    of result (subst (λ o. TakesIn (facts_of old.facts) (next_in (place_in old)) o result (facts_of new.facts)) (spelled_facts bytes x.0 fits (is ∙ spells)) takes)
+  where
+    same : facts_of new.facts ≡ facts_of old.facts → Gains old [] new
+    same e = record { number = number; settings = settings; joins = subst (λ G. JoinsFacts (facts_of old.facts) [] G) (sym e) (joins_nothing _) }
+
+    of : (result : Result ℕ TakeError) → TakesIn (facts_of old.facts) (next_in (place_in old)) (Some x.0) result (facts_of new.facts)
+        → TakesOne old rest (loaded x.1 result) new
+    of (Ok m) t = (some_bytes rest x.1 x.0 spells, (x.0, fits, within, spells, record { number = number; settings = settings; joins = t.2.0 }))
+    of (Err refusal.Memory) (inl e) = ([], same e)
+    of (Err refusal.Memory) (inr t) = (_, record { number = number; settings = settings; joins = t.2.1 })
+    of (Err refusal.Malformed) t = absurd t
+    of (Err refusal.OwnNumber) t = (refused_bundle old rest x walked only (inl t.0), same t.1)
+    of (Err refusal.Conflict) t = (refused_bundle old rest x walked only (inr t.1), same t.2)
+
+-- the bytes that a bundle is taken from, and the rest
+pub parts_taken : (rest : List ℕ) (n : ℕ) (more : List ℕ) (fs : Facts) → take n rest ≡ bundle_bytes fs → more ≡ drop n rest
+    → rest ≡ bundle_bytes fs ++ more
+parts_taken rest n more fs spells is =
+    sym (take-append-drop n rest) ∙ ap (λ l. l ++ drop n rest) spells ∙ ap (λ l. bundle_bytes fs ++ l) (sym is)
+
+-- where nothing more is taken in
+pub front_kept : (old mid new : RegionFields) (log rest : List ℕ) → TakesFront old log rest mid → Gains mid [] new → TakesFront old log rest new
+front_kept old mid new log rest front gains = record {
+  bundles = front.bundles;
+  fit = front.fit;
+  parts = front.parts;
+  gains = subst (λ facts. Gains old facts new) (append-nil (flat_map (λ gs. gs) front.bundles))
+      (gains_more old mid new (flat_map (λ gs. gs) front.bundles) [] front.gains gains);
+}
+
+-- what ends the loading of the rest ends that of the log
+pub load_fault : (old mid new : RegionFields) (log rest : List ℕ) (fault : LoadFault) → TakesFront old log rest mid
+    → TakesOne mid rest (Err fault) new → Loads old log (Err fault) new
+load_fault old mid new log rest Bad front h = (rest, mid, front, h.0, h.1)
+load_fault old mid new log rest Memory front h = (rest, mid, front, h)
+load_fault old mid new log rest Read front h = absurd h
+
+-- a log that can't be read, or for which there is no memory, brings nothing
+pub unread_log : (region : RegionFields) (known : Option (List ℕ)) (fault : LoadFault) → ((fault ≡ Read) ⊎ (fault ≡ Memory))
+    → (log : List ℕ) × IfSome known (λ bytes. log ≡ bytes) × Loads region log (Err fault) region
+unread_log region known fault why = (log_in known, same known, brings fault why)
+  where
+    log_in : Option (List ℕ) → List ℕ
+    log_in None = []
+    log_in (Some bytes) = bytes
+
+    same : (known : Option (List ℕ)) → IfSome known (λ bytes. log_in known ≡ bytes)
+    same None = tt
+    same (Some bytes) = refl
+
+    brings : (fault : LoadFault) → ((fault ≡ Read) ⊎ (fault ≡ Memory)) → Loads region (log_in known) (Err fault) region
+    brings Read why = gains_nothing region
+    brings Memory why = (log_in known, region, front_none region (log_in known), ([], gains_nothing region))
+    brings Bad (inl e) = absurd (cc)
+    brings Bad (inr e) = absurd (cc)

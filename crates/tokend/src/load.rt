@@ -1,0 +1,103 @@
+//! An old log, taken in record by record.
+
+ghost use Rattle.std.specs.Prelude.{◌≡◌, ◌≢◌, ◌⊎◌, ℕ, List, IfOk, IfErr, IfSome};
+ghost use Rattle.tokend.specs.Loading.{Loads, TakesOne};
+ghost use Rattle.tokend.specs.declared.load.LoadFault.TheVariants as fault;
+
+use crate::put::rest_of;
+use std::alloc::{AllocError, AllocFailed, Global};
+use std::io::Read;
+use tk_bundle::{FrontError, read_front};
+use tk_region::{Region, TakeError};
+
+/// Why a log isn't loaded to its end. The facts of the bundles before stay.
+#[derive(Clone, Copy, Debug, PartialEq, Eq)]
+pub enum LoadFault {
+    /// Something stands in it that is no bundle, or a bundle that the region refuses.
+    Bad,
+    /// It can't be read. Nothing was taken in.
+    Read,
+    /// Memory was refused. The first facts of the next bundle may have been taken in.
+    Memory,
+}
+
+/// Takes in the bundles of a log in order, and answers how many bytes at its end were dropped: the beginning of a record
+/// that was cut. The log is read whole first.
+pub fn load<I: Read>(alloc: Global, region: &mut Region, reader: &mut I) -> Result<u64, LoadFault>
+    // Where the reader doesn't tell its bytes, this holds of some log.
+    ensures { (log : List ℕ) × IfSome (I.remaining reader.old) (λ bytes. log ≡ bytes) × Loads region.old log result region.new }
+{
+    match read_log(alloc, reader) {
+        Ok(log) => load_bytes(alloc, region, &log),
+        Err(fault) => Err(fault),
+    }
+}
+
+// The bytes of a log.
+fn read_log<I: Read>(alloc: Global, reader: &mut I) -> Result<Vec<u8>, LoadFault>
+    ensures whole { IfOk result (λ log. IfSome (I.remaining reader.old) (λ bytes. log.items ≡ bytes)) }
+    ensures fault { IfErr result (λ f. (f ≡ fault.Read) ⊎ (f ≡ fault.Memory)) }
+{
+    let mut log = Vec::new(alloc);
+    let mut piece = [0u8; 8192];
+    while log.len() < usize::MAX {
+        let Ok(count) = reader.read(&mut piece) else {
+            return Err(LoadFault::Read);
+        };
+        if count == 0 {
+            return Ok(log);
+        }
+        log.extend_from_slice(&piece[..count])?;
+    }
+    Err(LoadFault::Memory)
+}
+
+fn load_bytes(alloc: Global, region: &mut Region, log: &[u8]) -> Result<u64, LoadFault>
+    ensures { Loads region.old log.now result region.new }
+{
+    let mut rest = log;
+    while !rest.is_empty() {
+        match take_front(alloc, region, rest) {
+            Ok(Some(count)) => rest = rest_of(rest, count),
+            Ok(None) => return Ok(rest.len() as u64),
+            Err(fault) => return Err(fault),
+        }
+    }
+    Ok(0)
+}
+
+// Takes in the bundle at the front, and answers how many bytes it has; None where it was cut.
+fn take_front(alloc: Global, region: &mut Region, rest: &[u8]) -> Result<Option<usize>, LoadFault>
+    ensures { TakesOne region.old rest.now result region.new }
+{
+    let count = match read_front(alloc, rest) {
+        Ok((_, count)) => count,
+        Err(FrontError::Cut) => return Ok(None),
+        Err(FrontError::Malformed) => return Err(LoadFault::Bad),
+        Err(FrontError::Memory) => return Err(LoadFault::Memory),
+    };
+    let (front, _) = rest.split_at(count);
+    match region.take_in(alloc, front) {
+        Ok(_) => Ok(Some(count)),
+        Err(TakeError::Memory) => Err(LoadFault::Memory),
+        Err(TakeError::Malformed) => Err(LoadFault::Bad),
+        Err(TakeError::OwnNumber) => Err(LoadFault::Bad),
+        Err(TakeError::Conflict) => Err(LoadFault::Bad),
+    }
+}
+
+impl From<AllocError> for LoadFault {
+    ghost from_gives = { λ _ e. e ≡ fault.Memory };
+
+    fn from(_error: AllocError) -> LoadFault {
+        LoadFault::Memory
+    }
+}
+
+impl<T: Drop> From<AllocFailed<T>> for LoadFault {
+    ghost from_gives = { λ _ e. e ≡ fault.Memory };
+
+    fn from(_error: AllocFailed<T>) -> LoadFault {
+        LoadFault::Memory
+    }
+}

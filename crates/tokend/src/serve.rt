@@ -1,0 +1,348 @@
+//! The server: connections one after the other, the log before each reply.
+
+ghost use Rattle.std.specs.Prelude.{◌≡◌, IfErr, OnOk, OnErr};
+ghost use Rattle.std.specs.Io.KnownBytes.{Keeps};
+ghost use Rattle.tk_handle.specs.Ranges.{IsRegion};
+ghost use Rattle.tk_region.specs.RegionFields.{Gains};
+ghost use Rattle.tk_region.specs.SettingsFields.{IsSettings};
+ghost use Rattle.tk_store.specs.FactSet.{Facts};
+ghost use Rattle.tokend.specs.CommandLine.{settings_of};
+ghost use Rattle.tokend.specs.Put.{Prints, joined_text};
+ghost use Rattle.tokend.specs.Serving.{announced, both_lines, listening_line, Announces, IsFileFault, IsServiceFault, LeavesService};
+
+use crate::draw::{draw, generator};
+use crate::fault::{Fault, cannot_read};
+use crate::load::{LoadFault, load};
+use crate::log_file::open_log;
+use crate::options::{Numbers, Service};
+use crate::put::put_all;
+use crate::timed::{TimedSink, TimedSource};
+use itoa::Buffer;
+use rand_chacha::ChaCha20Rng;
+use std::alloc::Global;
+use std::fs::OpenOptions;
+use std::io::{self, Read, Write};
+use std::net::{Ipv4Addr, Net, OpenListener, OpenStream, Shutdown, TcpListener, TcpStream};
+use std::rt::Files;
+use std::time::Clock;
+use tk_edge::{Discard, Edge, Fault as EdgeFault, Served, Sink, Source};
+use tk_handle::{Moment, RegionNumber};
+use tk_region::{Region, Settings};
+
+/// How many bytes of a client are dropped behind its request.
+const DROPPED: usize = 65_536;
+
+/// Serves what the words ask for, until so many connections have come, or without end. All that may end it comes before
+/// its first line is written; what befalls a connection is told on `faults` and ends that connection alone.
+pub(crate) fn serve<R, O: Write, E: Write>(
+    rt: &R,
+    service: &Service,
+    output: &mut O,
+    faults: &mut E,
+) -> Result<(), Fault>
+where
+    R: AllocGlobal + Files + Clock + Net<Listener = TcpListener, Stream = TcpStream>,
+    requires settings { IsSettings (settings_of service.now.numbers) }
+    requires region { IsRegion service.now.region }
+    ensures done { OnOk result (Announces (O.contents output.old) (O.contents output.new)) }
+    ensures fault { IfErr result IsServiceFault }
+    ensures left { IfErr result (λ fault. LeavesService fault (O.contents output.old) (O.contents output.new)) }
+    ensures silent { OnErr result (Keeps (E.contents faults.old) (E.contents faults.new)) }
+{
+    let (mut start, dropped) = match begin(rt, service) {
+        Ok(begun) => begun,
+        Err(fault) => return Err(fault),
+    };
+    let Some(path) = &service.log else {
+        return announce_and_serve(
+            rt,
+            service,
+            dropped,
+            &mut start,
+            &mut Discard,
+            output,
+            faults,
+        );
+    };
+    match open_log(rt, path) {
+        Ok(mut log) => announce_and_serve(
+            rt, service, dropped, &mut start, &mut log, output, faults,
+        ),
+        Err(fault) => Err(fault),
+    }
+}
+
+// A region at the start of its service, and its random words.
+#[derive(Drop)]
+struct Start {
+    edge: Edge,
+    words: ChaCha20Rng,
+}
+
+// The region with the facts of its old log, and how many bytes of that were dropped.
+fn begin<R: AllocGlobal + Files>(rt: &R, service: &Service) -> Result<(Start, u64), Fault>
+    requires settings { IsSettings (settings_of service.now.numbers) }
+    requires region { IsRegion service.now.region }
+    ensures { IfErr result IsFileFault }
+{
+    let seed = match read_seed(rt, &service.seed) {
+        Ok(seed) => seed,
+        Err(fault) => return Err(fault),
+    };
+    let number = RegionNumber::new(service.region).unwrap();
+    let words = generator(seed, number);
+    let mut region = Region::new(rt.alloc(), number, settings(&service.numbers));
+    let mut dropped = 0;
+    if let Some(path) = &service.load {
+        match load_file(rt, &mut region, path) {
+            Ok(count) => dropped = count,
+            Err(fault) => return Err(fault),
+        }
+    }
+    let edge = Edge::new(region);
+    Ok((Start { edge, words }, dropped))
+}
+
+fn settings(numbers: &Numbers) -> Settings
+    requires { IsSettings (settings_of numbers.now) }
+    ensures { result ≡ settings_of numbers.now }
+{
+    let Numbers {
+        code,
+        access,
+        refresh,
+        family,
+        cap,
+    } = *numbers;
+    Settings::new(code, access, refresh, family, cap).unwrap()
+}
+
+// Listens, says so, and serves.
+fn announce_and_serve<R, L: Sink, O: Write, E: Write>(
+    rt: &R,
+    service: &Service,
+    dropped: u64,
+    start: &mut Start,
+    log: &mut L,
+    output: &mut O,
+    faults: &mut E,
+) -> Result<(), Fault>
+where
+    R: AllocGlobal + Clock + Net<Listener = TcpListener, Stream = TcpStream>,
+    ensures done { OnOk result (Announces (O.contents output.old) (O.contents output.new)) }
+    ensures fault { IfErr result IsServiceFault }
+    ensures left { IfErr result (λ fault. LeavesService fault (O.contents output.old) (O.contents output.new)) }
+    ensures silent { OnErr result (Keeps (E.contents faults.old) (E.contents faults.new)) }
+{
+    match listen(rt, service.port, dropped, output) {
+        Ok(listener) => {
+            let Start { edge, words } = start;
+            serve_on(rt, &listener, service.requests, edge, log, words, faults);
+            Ok(())
+        }
+        Err(fault) => Err(fault),
+    }
+}
+
+// The 32 bytes of a seed file.
+fn read_seed<R: AllocGlobal + Files>(rt: &R, path: &str) -> Result<[u8; 32], Fault>
+    ensures { IfErr result IsFileFault }
+{
+    let Ok(mut file) = OpenOptions::new().read(true).open(rt, path) else {
+        return Err(cannot_read(rt.alloc(), path));
+    };
+    let mut seed = [0u8; 32];
+    if let Err(error) = file.read_exact(&mut seed) {
+        if error.kind() == io::ErrorKind::UnexpectedEof {
+            return Err(Fault::BadSeedFile);
+        }
+        return Err(cannot_read(rt.alloc(), path));
+    }
+    match file.read(&mut [0u8; 1]) {
+        Ok(0) => Ok(seed),
+        Ok(_) => Err(Fault::BadSeedFile),
+        Err(_) => Err(cannot_read(rt.alloc(), path)),
+    }
+}
+
+// Takes an old log in, and answers how many bytes at its end were dropped.
+fn load_file<R: AllocGlobal + Files>(rt: &R, region: &mut Region, path: &str) -> Result<u64, Fault>
+    ensures { IfErr result IsFileFault }
+{
+    let Ok(mut file) = OpenOptions::new().read(true).open(rt, path) else {
+        return Err(cannot_read(rt.alloc(), path));
+    };
+    match load(rt.alloc(), region, &mut file) {
+        Ok(dropped) => Ok(dropped),
+        Err(LoadFault::Bad) => Err(Fault::BadLogFile),
+        Err(LoadFault::Read) => Err(cannot_read(rt.alloc(), path)),
+        Err(LoadFault::Memory) => Err(Fault::Memory),
+    }
+}
+
+// Listens on the port of this machine, or on a free one for 0, and says so.
+fn listen<R: Net<Listener = TcpListener, Stream = TcpStream>, O: Write>(
+    rt: &R,
+    port: u16,
+    dropped: u64,
+    output: &mut O,
+) -> Result<TcpListener, Fault>
+    ensures done { OnOk result (Announces (O.contents output.old) (O.contents output.new)) }
+    ensures fault { IfErr result IsServiceFault }
+    ensures left { IfErr result (λ fault. LeavesService fault (O.contents output.old) (O.contents output.new)) }
+{
+    let Ok(listener) = TcpListener::bind(rt, (Ipv4Addr::new(127, 0, 0, 1), port)) else {
+        return Err(Fault::CannotListen);
+    };
+    let Ok(address) = listener.local_addr() else {
+        return Err(Fault::CannotListen);
+    };
+    match announce(output, dropped, address.port()) {
+        Ok(()) => Ok(listener),
+        Err(_) => Err(Fault::Output),
+    }
+}
+
+// The lines before the first connection.
+fn announce<O: Write>(output: &mut O, dropped: u64, port: u16) -> io::Result<()>
+    ensures { Prints result (O.contents output.old) (O.contents output.new) (announced dropped port) }
+{
+    if dropped == 0 {
+        return put_port(output, port);
+    }
+    put_both(output, dropped, port)
+}
+
+fn put_port<O: Write>(output: &mut O, port: u16) -> io::Result<()>
+    ensures { Prints result (O.contents output.old) (O.contents output.new) (listening_line port) }
+{
+    let mut digits = Buffer::new();
+    let port = digits.format(port).as_bytes();
+    put_and_flush(output, &[b"listening 127.0.0.1:", port, b"\n"])
+}
+
+fn put_both<O: Write>(output: &mut O, dropped: u64, port: u16) -> io::Result<()>
+    ensures { Prints result (O.contents output.old) (O.contents output.new) (both_lines dropped port) }
+{
+    let (mut digits, mut others) = (Buffer::new(), Buffer::new());
+    let dropped = digits.format(dropped).as_bytes();
+    let port = others.format(port).as_bytes();
+    put_and_flush(
+        output,
+        &[
+            b"dropped ",
+            dropped,
+            b" bytes\nlistening 127.0.0.1:",
+            port,
+            b"\n",
+        ],
+    )
+}
+
+fn put_and_flush<O: Write>(output: &mut O, pieces: &[&[u8]]) -> io::Result<()>
+    ensures { Prints result (O.contents output.old) (O.contents output.new) (joined_text pieces.now) }
+{
+    put_all(output, pieces)?;
+    output.flush()
+}
+
+/// Serves the connections of a listener, one after the other: so many of them, or without end. Six words are drawn for
+/// each before it is read. A fault is told in a line on `faults`, whose own failures are ignored; an accept or a clock
+/// that fails counts as a connection that wasn't read.
+pub fn serve_on<R: AllocGlobal + Clock, L: Sink, E: Write>(
+    rt: &R,
+    listener: &TcpListener,
+    requests: Option<u64>,
+    edge: &mut Edge,
+    log: &mut L,
+    words: &mut ChaCha20Rng,
+    faults: &mut E,
+)
+    // The region's number and settings are the same, and facts were joined to its own.
+    ensures { (fs : Facts) × Gains edge.old.region fs edge.new.region }
+{
+    let mut buf = [0u8; 8192];
+    for _ in 0..requests.unwrap_or(u64::MAX) {
+        let words = draw(words);
+        let served = serve_next(rt, listener, edge, log, &mut buf, &words);
+        if let Err(fault) = served {
+            let _ = tell_fault(faults, fault);
+        }
+    }
+}
+
+fn serve_next<R: AllocGlobal + Clock, L: Sink>(
+    rt: &R,
+    listener: &TcpListener,
+    edge: &mut Edge,
+    log: &mut L,
+    buf: &mut [u8; 8192],
+    words: &[u64; 6],
+) -> Result<Served, EdgeFault>
+    ensures { (fs : Facts) × Gains edge.old.region fs edge.new.region }
+{
+    match listener.accept() {
+        Ok((stream, _)) => serve_stream(rt, &stream, edge, log, buf, words),
+        Err(_) => Err(EdgeFault::Read),
+    }
+}
+
+// Serves one connection, and drops what its client still sends.
+fn serve_stream<R: AllocGlobal + Clock, L: Sink>(
+    rt: &R,
+    stream: &TcpStream,
+    edge: &mut Edge,
+    log: &mut L,
+    buf: &mut [u8; 8192],
+    words: &[u64; 6],
+) -> Result<Served, EdgeFault>
+    ensures { (fs : Facts) × Gains edge.old.region fs edge.new.region }
+{
+    let Ok(now) = moment(rt) else {
+        return Err(EdgeFault::Read);
+    };
+    let Ok(mut source) = TimedSource::new(stream, rt) else {
+        return Err(EdgeFault::Read);
+    };
+    let mut sink = TimedSink::new(&source);
+    let served = edge.serve_one(rt.alloc(), &mut source, &mut sink, log, buf, now, words);
+    if stream.shutdown(Shutdown::Write).is_ok() {
+        drain(&mut source, buf);
+    }
+    served
+}
+
+// The clock in whole seconds, brought into range.
+fn moment<C: Clock>(clock: &C) -> io::Result<Moment> {
+    let seconds = clock.since_1970()?.as_secs().min(Moment::GREATEST);
+    match Moment::new(seconds) {
+        Some(moment) => Ok(moment),
+        None => unreachable!(),
+    }
+}
+
+// Drops what comes until the client closes, up to the limit.
+fn drain<S: Source>(source: &mut S, piece: &mut [u8]) {
+    let mut left = DROPPED;
+    for _ in 0..DROPPED {
+        let room = left.min(piece.len());
+        match source.take(&mut piece[..room]) {
+            Ok(count) if count > 0 => left = left.saturating_sub(count),
+            _ => return,
+        }
+        if left == 0 {
+            return;
+        }
+    }
+}
+
+// What befell a connection.
+fn tell_fault<E: Write>(faults: &mut E, fault: EdgeFault) -> io::Result<()> {
+    let line: &[u8] = match fault {
+        EdgeFault::Read => b"fault read\n",
+        EdgeFault::Write => b"fault write\n",
+        EdgeFault::Log => b"fault log\n",
+        EdgeFault::Memory => b"fault memory\n",
+    };
+    put_all(faults, &[line])
+}

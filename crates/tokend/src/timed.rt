@@ -1,0 +1,160 @@
+//! A connection's two sides, under one limit of time.
+
+ghost use Rattle.std.specs.Prelude.{◌≡◌, None};
+ghost use Rattle.std.specs.Io.{ReadsAtMost, WritesAtMost};
+
+use std::io::{self, Read, Write};
+use std::net::{OpenStream, TcpStream};
+use std::time::{Clock, Duration, Instant};
+use tk_edge::{Failed, Sink, Source};
+
+/// How many seconds a connection may take, from its acceptance until its client has closed.
+const LIMIT_SECONDS: u64 = 5;
+
+/// How many milliseconds longer it may take, so that a wait is set anew only where that matters.
+const SLACK_MILLIS: u64 = 500;
+
+/// A reply of at most this many bytes never waits: the socket of a new connection has room for it.
+const NEVER_WAITS: usize = 8192;
+
+/// What a connection's client sends, until the time is over: past that, a read fails.
+#[derive(Drop)]
+pub struct TimedSource<'a, C> {
+    stream: &'a TcpStream,
+    clock: &'a C,
+    start: Instant,
+    wait: Duration,
+    is_fresh: bool,
+    failures: u64,
+}
+
+impl<'a, C: Clock> TimedSource<'a, C> {
+    /// A connection that was just accepted. It fails where the clock does, or the limit can't be set.
+    pub fn new(stream: &'a TcpStream, clock: &'a C) -> io::Result<TimedSource<'a, C>> {
+        let start = Instant::now(clock)?;
+        let wait = Duration::from_secs(LIMIT_SECONDS);
+        stream.set_read_timeout(Some(wait))?;
+        Ok(TimedSource {
+            stream,
+            clock,
+            start,
+            wait,
+            is_fresh: true,
+            failures: 0,
+        })
+    }
+
+    // The first read waits as long as was set; each later one to the end of the time.
+    fn read_in_time(&mut self, piece: &mut [u8]) -> io::Result<usize>
+        ensures within { ReadsAtMost result piece.new }
+        ensures failures { self.new.failures ≡ self.old.failures }
+    {
+        if self.is_fresh {
+            self.is_fresh = false;
+        } else {
+            self.shorten_wait()?;
+        }
+        let mut stream = self.stream;
+        stream.read(piece)
+    }
+
+    // Sets the wait to what is left, where it would go past the end by more than the slack.
+    fn shorten_wait(&mut self) -> io::Result<()>
+        ensures { self.new.failures ≡ self.old.failures }
+    {
+        let taken = self.start.elapsed(self.clock)?;
+        let left = Duration::from_secs(LIMIT_SECONDS).saturating_sub(taken);
+        if left.is_zero() {
+            return Err(io::Error::from(io::ErrorKind::TimedOut));
+        }
+        if left.saturating_add(Duration::from_millis(SLACK_MILLIS)) < self.wait {
+            self.stream.set_read_timeout(Some(left))?;
+            self.wait = left;
+        }
+        Ok(())
+    }
+}
+
+/// Its bytes aren't told beforehand.
+impl<'a, C: Clock> Source for TimedSource<'a, C> {
+    ghost coming = { λ _. None };
+
+    ghost failed = { λ s. s.failures };
+
+    fn take(&mut self, piece: &mut [u8]) -> Result<usize, Failed> {
+        match self.read_in_time(piece) {
+            Ok(n) => Ok(n),
+            Err(_) => {
+                self.failures = self.failures.saturating_add(1);
+                Err(Failed)
+            }
+        }
+    }
+
+    fn failures(&self) -> u64 {
+        self.failures
+    }
+}
+
+/// What is sent to a connection's client, until the same time is over: past that, a write fails.
+#[derive(Drop)]
+pub struct TimedSink<'a, C> {
+    stream: &'a TcpStream,
+    clock: &'a C,
+    start: Instant,
+    is_fresh: bool,
+    failures: u64,
+}
+
+impl<'a, C: Clock> TimedSink<'a, C> {
+    /// The other side of the connection that `source` reads.
+    pub fn new(source: &TimedSource<'a, C>) -> TimedSink<'a, C> {
+        TimedSink {
+            stream: source.stream,
+            clock: source.clock,
+            start: source.start,
+            is_fresh: true,
+            failures: 0,
+        }
+    }
+
+    // A first short piece is written without a look at the clock. A wait of nothing is refused when it is set.
+    fn write_in_time(&mut self, piece: &[u8]) -> io::Result<usize>
+        ensures within { WritesAtMost result piece.now }
+        ensures failures { self.new.failures ≡ self.old.failures }
+    {
+        if !self.is_fresh || piece.len() > NEVER_WAITS {
+            let taken = self.start.elapsed(self.clock)?;
+            let left = Duration::from_secs(LIMIT_SECONDS).saturating_sub(taken);
+            self.stream.set_write_timeout(Some(left))?;
+        }
+        self.is_fresh = false;
+        let mut stream = self.stream;
+        stream.write(piece)
+    }
+}
+
+/// What it has taken isn't told.
+impl<'a, C: Clock> Sink for TimedSink<'a, C> {
+    ghost holds = { λ _. None };
+
+    ghost failed = { λ s. s.failures };
+
+    fn put(&mut self, piece: &[u8]) -> Result<usize, Failed> {
+        match self.write_in_time(piece) {
+            Ok(n) if n > 0 || piece.is_empty() => Ok(n),
+            _ => {
+                self.failures = self.failures.saturating_add(1);
+                Err(Failed)
+            }
+        }
+    }
+
+    fn flush(&mut self) -> Result<(), Failed> {
+        Ok(())
+    }
+
+    fn failures(&self) -> u64 {
+        self.failures
+    }
+}
