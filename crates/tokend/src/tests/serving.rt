@@ -1,30 +1,20 @@
 //! A service: its words, its files, its port, and a connection.
 
 use super::fakes::FailingWriter;
-use super::{Row, run_row};
 use crate::draw::generator;
 use crate::program::run_program;
 use crate::serve::serve_on;
 use std::io::{Read, Write};
-use std::net::{Ipv4Addr, OpenListener, OpenStream, Shutdown, TcpListener, TcpStream};
+use std::net::{Ipv4Addr, Net, OpenListener, OpenStream, Shutdown, TcpListener, TcpStream};
+use std::process::Abort;
+use std::rt::Files;
 use std::test::Fail;
+use std::time::Clock;
 use std::{env, fs};
 use tk_edge::{Discard, Edge};
 use tk_handle::RegionNumber;
 use tk_region::Region;
 use tk_world::Settings;
-
-// A service that is refused, and what is told of it.
-fn refused<'a>(name: &'a str, words: &'a [&'a str], faults: &'a str, status: u8) -> Row<'a> {
-    Row {
-        name,
-        words,
-        input: b"",
-        output: "",
-        faults,
-        status,
-    }
-}
 
 // What names of files begin with that no other test uses at once: the port of a listener, while that is held.
 fn files_at(rt: &HostRuntime) -> Result<(TcpListener, String), Fail> {
@@ -36,34 +26,44 @@ fn files_at(rt: &HostRuntime) -> Result<(TcpListener, String), Fail> {
     Ok((listener, place))
 }
 
-// The options of a region on a free port.
-const REGION: &str = "--region=1";
+// The name of a new file with these bytes.
+fn new_file(rt: &HostRuntime, place: &str, end: &str, bytes: &[u8]) -> Result<String, Fail> {
+    let name = format!(in rt.alloc(); "{place}-{end}")?;
+    fs::write(rt, name.as_str(), bytes)?;
+    Ok(name)
+}
 
-const PORT: &str = "--port=0";
+// Region 1 isn't served on a free port with this seed and this option: what is told, and the status.
+fn refuse<
+    'a,
+    R: AllocGlobal + Abort + Files + Clock + Net<Listener = TcpListener, Stream = TcpStream>,
+>(
+    rt: &R,
+    seed: &'a str,
+    option: &'a str,
+    value: &'a str,
+    told: &str,
+    status: u8,
+) -> Result<(), Fail> {
+    let words = [
+        "tokend", "serve", "--region", "1", "--port", "0", "--seed", seed, option, value,
+    ];
+    let (mut output, mut faults) = (Vec::new(rt.alloc()), Vec::new(rt.alloc()));
+    let mut input: &[u8] = b"";
+    let ended = run_program(rt, &words, &mut input, &mut output, &mut faults);
+    assert_eq!(rt; str::from_utf8(faults.as_slice())?, told);
+    assert_eq!(rt; (output.len(), ended), (0, status), "{told}");
+    Ok(())
+}
 
 #[test]
-fn seeds_that_do_not_serve_are_told_of(rt: HostRuntime) -> Result<(), Fail> {
-    let alloc = rt.alloc();
+fn seeds_of_another_length_are_told_of(rt: HostRuntime) -> Result<(), Fail> {
     let (_held, place) = files_at(&rt)?;
-    let (short, long) = (
-        format!(in alloc; "{place}-short")?,
-        format!(in alloc; "{place}-long")?,
-    );
-    let (short_option, long_option) = (
-        format!(in alloc; "--seed={short}")?,
-        format!(in alloc; "--seed={long}")?,
-    );
-    let none = format!(in alloc; "--seed={place}-none")?;
-    let untold = format!(in alloc; "tokend: cannot read {place}-none\n")?;
-    fs::write(&rt, short.as_str(), &[7u8; 31])?;
-    fs::write(&rt, long.as_str(), &[7u8; 33])?;
-    let words = ["tokend", "serve", REGION, PORT, short_option.as_str()];
+    let short = new_file(&rt, place.as_str(), "short", &[7u8; 31])?;
+    let long = new_file(&rt, place.as_str(), "long", &[7u8; 33])?;
     let bad = "tokend: bad seed file\n";
-    run_row(&rt, &refused("a short seed", &words, bad, 2))?;
-    let words = ["tokend", "serve", REGION, PORT, long_option.as_str()];
-    run_row(&rt, &refused("a long seed", &words, bad, 2))?;
-    let words = ["tokend", "serve", REGION, PORT, none.as_str()];
-    run_row(&rt, &refused("no seed", &words, untold.as_str(), 1))?;
+    refuse(&rt, short.as_str(), "--code", "60", bad, 2)?;
+    refuse(&rt, long.as_str(), "--code", "60", bad, 2)?;
     fs::remove_file(&rt, short.as_str())?;
     fs::remove_file(&rt, long.as_str())?;
     Ok(())
@@ -71,46 +71,30 @@ fn seeds_that_do_not_serve_are_told_of(rt: HostRuntime) -> Result<(), Fail> {
 
 #[test]
 fn logs_that_do_not_serve_are_told_of(rt: HostRuntime) -> Result<(), Fail> {
-    let alloc = rt.alloc();
     let (_held, place) = files_at(&rt)?;
-    let (seed, text) = (
-        format!(in alloc; "{place}-seed")?,
-        format!(in alloc; "{place}-text")?,
-    );
-    fs::write(&rt, seed.as_str(), &[7u8; 32])?;
-    fs::write(&rt, text.as_str(), b"not a bundle")?;
-    let key = format!(in alloc; "--seed={seed}")?;
-    let (log, load) = (
-        format!(in alloc; "--log={text}")?,
-        format!(in alloc; "--load={text}")?,
-    );
-    let (apart, none) = (
-        format!(in alloc; "--log={place}-none/log")?,
-        format!(in alloc; "--load={place}-none")?,
-    );
-    let unopened = format!(in alloc; "tokend: cannot open {place}-none/log\n")?;
-    let unread = format!(in alloc; "tokend: cannot read {place}-none\n")?;
+    let seed = new_file(&rt, place.as_str(), "seed", &[7u8; 32])?;
+    let text = new_file(&rt, place.as_str(), "text", b"not a bundle")?;
     let bad = "tokend: bad log file\n";
-    let words = ["tokend", "serve", REGION, PORT, key.as_str(), load.as_str()];
-    run_row(&rt, &refused("an old log that is none", &words, bad, 2))?;
-    let words = ["tokend", "serve", REGION, PORT, key.as_str(), log.as_str()];
-    run_row(&rt, &refused("a log that isn't empty", &words, bad, 2))?;
-    let words = [
-        "tokend",
-        "serve",
-        REGION,
-        PORT,
-        key.as_str(),
-        apart.as_str(),
-    ];
-    run_row(
-        &rt,
-        &refused("a log in no folder", &words, unopened.as_str(), 1),
-    )?;
-    let words = ["tokend", "serve", REGION, PORT, key.as_str(), none.as_str()];
-    run_row(&rt, &refused("no old log", &words, unread.as_str(), 1))?;
+    refuse(&rt, seed.as_str(), "--load", text.as_str(), bad, 2)?;
+    refuse(&rt, seed.as_str(), "--log", text.as_str(), bad, 2)?;
     fs::remove_file(&rt, seed.as_str())?;
     fs::remove_file(&rt, text.as_str())?;
+    Ok(())
+}
+
+#[test]
+fn files_that_are_not_there_are_told_of(rt: HostRuntime) -> Result<(), Fail> {
+    let (_held, place) = files_at(&rt)?;
+    let seed = new_file(&rt, place.as_str(), "there", &[7u8; 32])?;
+    let none = format!(in rt.alloc(); "{place}-none")?;
+    let apart = format!(in rt.alloc(); "{place}-none/log")?;
+    let unread = format!(in rt.alloc(); "tokend: cannot read {none}\n")?;
+    let unopened = format!(in rt.alloc(); "tokend: cannot open {apart}\n")?;
+    let (unread, unopened) = (unread.as_str(), unopened.as_str());
+    refuse(&rt, none.as_str(), "--code", "60", unread, 1)?;
+    refuse(&rt, seed.as_str(), "--load", none.as_str(), unread, 1)?;
+    refuse(&rt, seed.as_str(), "--log", apart.as_str(), unopened, 1)?;
+    fs::remove_file(&rt, seed.as_str())?;
     Ok(())
 }
 
@@ -118,27 +102,30 @@ fn logs_that_do_not_serve_are_told_of(rt: HostRuntime) -> Result<(), Fail> {
 fn a_service_says_where_it_listens(rt: HostRuntime) -> Result<(), Fail> {
     let alloc = rt.alloc();
     let (_held, place) = files_at(&rt)?;
-    let (seed, cut) = (
-        format!(in alloc; "{place}-key")?,
-        format!(in alloc; "{place}-cut")?,
-    );
-    fs::write(&rt, seed.as_str(), &[7u8; 32])?;
-    fs::write(&rt, cut.as_str(), b"OTB")?;
+    let seed = new_file(&rt, place.as_str(), "key", &[7u8; 32])?;
+    let cut = new_file(&rt, place.as_str(), "cut", b"OTB")?;
     let (key, load) = (
         format!(in alloc; "--seed={seed}")?,
         format!(in alloc; "--load={cut}")?,
     );
     let (key, load) = (key.as_str(), load.as_str());
-    let words = ["tokend", "serve", REGION, PORT, key, load, "--requests=0"];
+    let words = [
+        "tokend",
+        "serve",
+        "--region=1",
+        "--port=0",
+        key,
+        load,
+        "--requests=0",
+    ];
     let (mut output, mut faults) = (Vec::new(alloc), Vec::new(alloc));
     let mut input: &[u8] = b"";
     let status = run_program(&rt, &words, &mut input, &mut output, &mut faults);
     let told = str::from_utf8(output.as_slice())?;
     assert!(rt;
-        told.starts_with("dropped 3 bytes\nlistening 127.0.0.1:"),
+        told.starts_with("dropped 3 bytes\nlistening 127.0.0.1:") && told.ends_with("\n"),
         "{told}"
     );
-    assert!(rt; told.ends_with("\n"), "{told}");
     assert_eq!(rt; (faults.len(), status), (0, 0));
 
     // Where the line can't be written, nothing more is told.
