@@ -82,20 +82,23 @@ fn loaded(alloc: Global, number: u16, log: &[u8]) -> Result<(Result<u64, LoadFau
     Ok((result, region.len()))
 }
 
+// How many records begin the log, up to five, how long the last of them is, and how many bytes stand behind it.
+fn records(alloc: Global, log: &[u8]) -> (u8, usize, usize) {
+    let (mut rest, mut last) = (log, 0);
+    for count in 0..5 {
+        let Ok((_, length)) = read_front(alloc, rest) else {
+            return (count, last, rest.len());
+        };
+        (_, rest) = rest.split_at(length);
+        last = length;
+    }
+    (5, last, rest.len())
+}
+
 #[test]
 fn a_log_has_a_record_for_each_fact(rt: HostRuntime) -> Result<(), Fail> {
-    let alloc = rt.alloc();
     let log = log_of_requests(&rt)?;
-    let (mut rest, mut records, mut last) = (log.as_slice(), 0, 0);
-    for _ in 0..5 {
-        let Ok((_, count)) = read_front(alloc, rest) else {
-            break;
-        };
-        (_, rest) = rest.split_at(count);
-        records += 1;
-        last = count;
-    }
-    assert_eq!(rt; (rest.len(), records, last), (0, 4, 141));
+    assert_eq!(rt; records(rt.alloc(), &log), (4, 141, 0));
     Ok(())
 }
 

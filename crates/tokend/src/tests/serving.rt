@@ -167,16 +167,9 @@ fn a_connection_is_served(rt: HostRuntime) -> Result<(), Fail> {
         &mut words,
         &mut faults,
     );
-    let mut reply = [0u8; 512];
-    let mut filled = 0;
-    for _ in 0..512 {
-        let count = client.read(&mut reply[filled..])?;
-        if count == 0 {
-            break;
-        }
-        filled += count;
-    }
-    assert_eq!(rt; reply.get(..filled).ok_or("none")?, NOT_FOUND);
+    let mut reply = Vec::new(alloc);
+    client.read_to_end(&mut reply)?;
+    assert_eq!(rt; reply.as_slice(), NOT_FOUND);
     assert_eq!(rt; faults.len(), 0);
     Ok(())
 }
