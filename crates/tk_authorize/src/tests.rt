@@ -7,27 +7,43 @@ mod denials;
 mod facts;
 mod grants;
 mod kept;
+mod made;
 mod refusals;
 mod registrations;
 
 use crate::{decide_admin, decide_authorize};
+use facts::ledger;
+use made::{Makes, is_made};
 use std::alloc::Global;
 use std::process::Abort;
-use std::test::Fail;
 use tk_handle::{Moment, RegionNumber, Serial};
 use tk_ledger::Ledger;
-use tk_message::{Decision, Endpoint, Lives, Params, Payload, Place, Request};
+use tk_message::{Decision, Endpoint, Lives, Params, Payload, Place, Reply, Request};
 
-// The code that is issued there, in base64url: the bytes 1 and 1, the region, the serial, and the words 18, 19 and 20.
-const CODE: &str = "AQEAAQAAAAAAAAADAAAAAAAAABIAAAAAAAAAEwAAAAAAAAAU";
+// Who asks.
+#[derive(Clone, Copy)]
+enum Asker {
+    // Somebody with a browser, who has signed in as the subject.
+    Subject(Option<&'static str>),
+    // Ann, at a moment at which codes and families have these lives.
+    Ann(u64, u64, u64),
+    // An administrator, which no life, moment or word is asked for.
+    Admin(Endpoint),
+}
 
-// The challenge of RFC 7636, 4.2, appendix B.
-const CHALLENGE: &str = "E9Melhoa2OwvFrEMTJguCHaoeK1t8URWbuGJSstw-cM";
+// Ann, at the moment 1,000, where a code lasts a minute and a family thirty days.
+const ANN: Asker = Asker::Ann(1_000, 60, 2_592_000);
 
-fn place(code: u64, family: u64) -> Result<Place, Fail> {
-    Ok(Place {
-        number: RegionNumber::new(1).ok_or("a region")?,
-        next: Serial::new(3).ok_or("a serial")?,
+// The status, the URI to go to or else the JSON text, and what is made.
+type Answer = (u16, &'static str, Makes);
+
+// What a request is called, its parameters, and its answer.
+type Row = (&'static str, &'static str, Answer);
+
+fn place(code: u64, family: u64) -> Option<Place> {
+    Some(Place {
+        number: RegionNumber::new(1)?,
+        next: Serial::new(3)?,
         lives: Lives {
             code,
             access: 3_600,
@@ -37,68 +53,102 @@ fn place(code: u64, family: u64) -> Result<Place, Fail> {
     })
 }
 
-fn request(alloc: Global, query: &str, subject: Option<&str>) -> Result<Request, Fail> {
-    let params = Params::read(alloc, query.as_bytes())?;
+fn request(
+    alloc: Global,
+    endpoint: Endpoint,
+    text: &str,
+    subject: Option<&str>,
+) -> Option<Request> {
     let subject = match subject {
-        Some(subject) => Some(Vec::from_slice(alloc, subject.as_bytes())?),
+        Some(subject) => Some(Vec::from_slice(alloc, subject.as_bytes()).ok()?),
         None => None,
     };
-    Ok(Request {
-        endpoint: Endpoint::Authorize,
+    let params = Params::read(alloc, text.as_bytes()).ok()?;
+    Some(Request {
+        endpoint,
         params,
         authorization: None,
         subject,
     })
 }
 
-fn decided_at(
-    alloc: Global,
-    ledger: &Ledger,
-    place: &Place,
-    now: u64,
-    request: &Request,
-) -> Result<Decision, Fail> {
-    let now = Moment::new(now).ok_or("a moment")?;
-    let words = [18, 19, 20, 21, 22, 23];
-    Ok(decide_authorize(alloc, ledger, place, now, &words, request)?)
-}
-
-// At the moment 1,000, where a code lasts a minute and a family thirty days.
-fn decided(
-    alloc: Global,
-    ledger: &Ledger,
-    query: &str,
-    subject: Option<&str>,
-) -> Result<Decision, Fail> {
-    let request = request(alloc, query, subject)?;
-    decided_at(alloc, ledger, &place(60, 2_592_000)?, 1_000, &request)
-}
-
-// A request of an administrator's, which no life, moment or word is asked for.
-fn administer(
+fn administered(
     alloc: Global,
     ledger: &Ledger,
     endpoint: Endpoint,
     form: &str,
-) -> Result<Decision, Fail> {
-    let params = Params::read(alloc, form.as_bytes())?;
-    let request = Request {
-        endpoint,
-        params,
-        authorization: None,
-        subject: None,
-    };
-    Ok(decide_admin(alloc, ledger, &place(60, 2_592_000)?, &request)?)
+) -> Option<Decision> {
+    let place = place(60, 2_592_000)?;
+    let request = request(alloc, endpoint, form, None)?;
+    decide_admin(alloc, ledger, &place, &request).ok()
+}
+
+fn authorized(
+    alloc: Global,
+    ledger: &Ledger,
+    times: (u64, u64, u64),
+    query: &str,
+    subject: Option<&str>,
+) -> Option<Decision> {
+    let now = Moment::new(times.0)?;
+    let place = place(times.1, times.2)?;
+    let request = request(alloc, Endpoint::Authorize, query, subject)?;
+    let words = [18, 19, 20, 21, 22, 23];
+    decide_authorize(alloc, ledger, &place, now, &words, &request).ok()
+}
+
+// None where memory is refused.
+fn decided(alloc: Global, ledger: &Ledger, asker: Asker, text: &str) -> Option<Decision> {
+    match asker {
+        Asker::Ann(now, code, family) => {
+            authorized(alloc, ledger, (now, code, family), text, Some("ann"))
+        }
+        Asker::Subject(subject) => {
+            authorized(alloc, ledger, (1_000, 60, 2_592_000), text, subject)
+        }
+        Asker::Admin(endpoint) => administered(alloc, ledger, endpoint, text),
+    }
 }
 
 // A redirect to the URI, which carries nothing else.
-fn is_redirect(rt: &impl Abort, name: &str, decision: &Decision, uri: &str) {
-    let reply = &decision.reply;
-    assert_eq!(rt; reply.status.number(), 302, "status of {name}");
-    match &reply.location {
-        Some(location) => assert_eq!(rt; location.as_str(), uri, "{name}"),
-        None => assert!(rt; false, "{name} is sent nowhere"),
+fn is_redirect(reply: &Reply, uri: &str) -> bool {
+    let is_sent = match &reply.location {
+        Some(location) => location.as_str() == uri,
+        None => false,
+    };
+    is_sent && matches!(reply.body, Payload::Empty)
+}
+
+// A JSON text, and nowhere to go to.
+fn is_json(reply: &Reply, body: &str) -> bool {
+    let is_told = match &reply.body {
+        Payload::Json(bytes) => bytes.as_slice() == body.as_bytes(),
+        _ => false,
+    };
+    is_told && reply.location.is_none()
+}
+
+fn is_answer(reply: &Reply, status: u16, text: &str) -> bool {
+    let is_told = if status == 302 {
+        is_redirect(reply, text)
+    } else {
+        is_json(reply, text)
+    };
+    is_told && reply.status.number() == status && !reply.www
+}
+
+fn is_answered(alloc: Global, ledger: &Ledger, asker: Asker, text: &str, answer: &Answer) -> bool {
+    match decided(alloc, ledger, asker, text) {
+        Some(decision) => {
+            is_answer(&decision.reply, answer.0, answer.1) && is_made(&decision.made, &answer.2)
+        }
+        None => false,
     }
-    assert!(rt; matches!(reply.body, Payload::Empty), "body of {name}");
-    assert!(rt; !reply.www, "credentials for {name}");
+}
+
+fn are_answered(rt: &impl Abort, alloc: Global, asker: Asker, rows: &[Row]) {
+    let ledger = ledger(rt, alloc);
+    for (name, text, answer) in rows {
+        assert!(rt; is_answered(alloc, &ledger, asker, text, answer), "{name}");
+    }
 }

@@ -1,7 +1,8 @@
 //! Bundles as bytes: read, torn and made.
 
-use crate::{Bundle, FrontError, make, read_front, single};
-use std::alloc::{AllocError, Global};
+use crate::FrontError::{Cut, Malformed};
+use crate::{Bundle, FrontError, Page, make, read_front, single};
+use std::alloc::Global;
 use std::test::Fail;
 use tk_fact::Fact;
 use tk_format::ReadError;
@@ -9,148 +10,187 @@ use tk_store::{Added, FactStore};
 use tk_vector::VersionVector;
 
 // A public client at 1:1, with the scope `read` and the redirection URI `https://app.example/cb`.
-const ADDED: [u8; 51] = [
-    0x4f, 0x54, 0x42, 0x31, 0, 1, 0, 0x2b, 0, 1, 0, 0, 0, 0, 0, 0, 0, 1, 1, 0, 0, 4, 0x72, 0x65,
-    0x61, 0x64, 1, 0, 0x16, 0x68, 0x74, 0x74, 0x70, 0x73, 0x3a, 0x2f, 0x2f, 0x61, 0x70, 0x70, 0x2e,
-    0x65, 0x78, 0x61, 0x6d, 0x70, 0x6c, 0x65, 0x2f, 0x63, 0x62,
-];
+const ADDED: &[u8] =
+    b"OTB1\x00\x01\x00+\x00\x01\x00\x00\x00\x00\x00\x00\x00\x01\x01\x00\x00\x04read\x01\x00\x16https://app.example/cb";
 
 // Its retirement, at 2:1.
-const RETIRED: [u8; 29] = [
-    0x4f, 0x54, 0x42, 0x31, 0, 1, 0, 0x15, 0, 2, 0, 0, 0, 0, 0, 0, 0, 1, 2, 0, 1, 0, 0, 0, 0, 0, 0,
-    0, 1,
-];
+const RETIRED: &[u8] =
+    b"OTB1\x00\x01\x00\x15\x00\x02\x00\x00\x00\x00\x00\x00\x00\x01\x02\x00\x01\x00\x00\x00\x00\x00\x00\x00\x01";
 
-fn again(alloc: Global, fact: &Fact) -> Result<Vec<u8>, Fail> {
+// Both in one bundle, and then in the other order, and the client twice.
+const BOTH: &[u8] =
+    b"OTB1\x00\x02\x00+\x00\x01\x00\x00\x00\x00\x00\x00\x00\x01\x01\x00\x00\x04read\x01\x00\x16https://app.example/cb\x00\x15\x00\x02\x00\x00\x00\x00\x00\x00\x00\x01\x02\x00\x01\x00\x00\x00\x00\x00\x00\x00\x01";
+
+const FALLING: &[u8] =
+    b"OTB1\x00\x02\x00\x15\x00\x02\x00\x00\x00\x00\x00\x00\x00\x01\x02\x00\x01\x00\x00\x00\x00\x00\x00\x00\x01\x00+\x00\x01\x00\x00\x00\x00\x00\x00\x00\x01\x01\x00\x00\x04read\x01\x00\x16https://app.example/cb";
+
+const DOUBLED: &[u8] =
+    b"OTB1\x00\x02\x00+\x00\x01\x00\x00\x00\x00\x00\x00\x00\x01\x01\x00\x00\x04read\x01\x00\x16https://app.example/cb\x00+\x00\x01\x00\x00\x00\x00\x00\x00\x00\x01\x01\x00\x00\x04read\x01\x00\x16https://app.example/cb";
+
+// The client, and the letters that a bundle begins with.
+const FOLLOWED: &[u8] =
+    b"OTB1\x00\x01\x00+\x00\x01\x00\x00\x00\x00\x00\x00\x00\x01\x01\x00\x00\x04read\x01\x00\x16https://app.example/cbOTB";
+
+fn is_spelled(alloc: Global, fact: &Fact, bytes: &[u8]) -> bool {
     match fact.check() {
-        Ok(()) => Ok(single(alloc, fact)?),
-        Err(_) => Err("a fact that was read breaks a rule")?,
+        Ok(()) => match single(alloc, fact) {
+            Ok(spelling) => spelling.as_slice() == bytes,
+            Err(_) => false,
+        },
+        Err(_) => false,
     }
 }
 
-fn is_spelled_again(alloc: Global, bytes: &[u8]) -> Result<bool, Fail> {
-    let bundle = Bundle::read(alloc, bytes)?;
-    match bundle.facts() {
-        [fact] => Ok(again(alloc, fact)?.as_slice() == bytes),
-        _ => Ok(false),
+fn is_spelled_again(alloc: Global, bytes: &[u8]) -> bool {
+    match Bundle::read(alloc, bytes) {
+        Ok(bundle) => match bundle.facts() {
+            [fact] => is_spelled(alloc, fact, bytes),
+            _ => false,
+        },
+        Err(_) => false,
     }
 }
 
 #[test]
-fn one_fact_has_one_spelling(rt: HostRuntime) -> Result<(), Fail> {
-    let rows: [(&str, &[u8]); 2] = [("a client", &ADDED), ("its retirement", &RETIRED)];
-    for (name, bytes) in rows {
-        assert!(rt; is_spelled_again(rt.alloc(), bytes)?, "{name}");
-    }
-    Ok(())
+fn one_fact_has_one_spelling(rt: HostRuntime) {
+    assert!(rt; is_spelled_again(rt.alloc(), ADDED), "a client");
+    assert!(rt; is_spelled_again(rt.alloc(), RETIRED), "its retirement");
 }
 
 fn is_malformed(alloc: Global, bytes: &[u8]) -> bool {
     matches!(Bundle::read(alloc, bytes), Err(ReadError::Malformed))
 }
 
-fn is_cut(alloc: Global, bytes: &[u8]) -> bool {
-    matches!(read_front(alloc, bytes), Err(FrontError::Cut))
+// How many bytes the front takes.
+fn front(alloc: Global, bytes: &[u8]) -> Result<usize, FrontError> {
+    match read_front(alloc, bytes) {
+        Ok((_, count)) => Ok(count),
+        Err(error) => Err(error),
+    }
+}
+
+// Whether the bytes are no bundle, and no front for this reason.
+fn is_refused(alloc: Global, bytes: &[u8], error: FrontError) -> bool {
+    is_malformed(alloc, bytes) && front(alloc, bytes) == Err(error)
 }
 
 #[test]
 fn a_bundle_that_ends_early_is_cut(rt: HostRuntime) {
     for length in 0..ADDED.len() {
-        assert!(rt;
-            is_malformed(rt.alloc(), &ADDED[..length]),
-            "{length} bytes"
-        );
-        assert!(rt; is_cut(rt.alloc(), &ADDED[..length]), "{length} bytes");
+        let bytes = &ADDED[..length];
+        assert!(rt; is_refused(rt.alloc(), bytes, Cut), "{length} bytes");
     }
-    let whole = read_front(rt.alloc(), &ADDED);
-    assert!(rt; matches!(whole, Ok((_, 51))), "all bytes");
+    assert!(rt; front(rt.alloc(), ADDED) == Ok(51), "all bytes");
 }
 
-// Both facts in one bundle, in this order.
-fn both(alloc: Global, first: &[u8], second: &[u8]) -> Result<Vec<u8>, AllocError> {
-    let mut bytes = Vec::from_slice(alloc, b"OTB1\x00\x02")?;
-    bytes.extend_from_slice(first)?;
-    bytes.extend_from_slice(second)?;
-    Ok(bytes)
+fn count(alloc: Global, bytes: &[u8]) -> Option<usize> {
+    match Bundle::read(alloc, bytes) {
+        Ok(bundle) => Some(bundle.facts().len()),
+        Err(_) => None,
+    }
 }
 
 #[test]
-fn the_dots_of_a_bundle_rise(rt: HostRuntime) -> Result<(), Fail> {
+fn the_dots_of_a_bundle_rise(rt: HostRuntime) {
     let alloc = rt.alloc();
-    let (added, retired) = (&ADDED[6..], &RETIRED[6..]);
-    let rising = both(alloc, added, retired)?;
-    assert_eq!(rt; Bundle::read(alloc, rising.as_slice())?.facts().len(), 2);
-    for (name, bytes) in [
-        ("falling", both(alloc, retired, added)?),
-        ("doubled", both(alloc, added, added)?),
-    ] {
-        assert!(rt; is_malformed(alloc, bytes.as_slice()), "{name}");
-        let front = read_front(alloc, bytes.as_slice());
-        assert!(rt; matches!(front, Err(FrontError::Malformed)), "{name}");
-    }
-    Ok(())
+    assert!(rt; count(alloc, BOTH) == Some(2), "rising");
+    assert!(rt; is_refused(alloc, FALLING, Malformed), "falling");
+    assert!(rt; is_refused(alloc, DOUBLED, Malformed), "doubled");
 }
 
 #[test]
-fn the_front_is_told_from_the_rest(rt: HostRuntime) -> Result<(), Fail> {
+fn the_front_is_told_from_the_rest(rt: HostRuntime) {
     let alloc = rt.alloc();
-    let mut followed = Vec::from_slice(alloc, &ADDED)?;
-    followed.extend_from_slice(b"OTB")?;
-    let front = read_front(alloc, followed.as_slice());
-    assert!(rt; matches!(front, Ok((_, 51))), "a bundle and three letters");
-    assert!(rt;
-        is_malformed(alloc, followed.as_slice()),
-        "not all of the bytes"
-    );
-    let rows: [(&str, &[u8], bool); 7] = [
-        ("nothing", b"", true),
-        ("three letters", b"OTB", true),
-        ("five bytes of something else", b"XYZ\x00\x00", true),
-        ("another magic", b"OTB9\x00\x00", false),
-        ("a count of 129", b"OTB1\x00\x81", false),
-        ("a length past the greatest", b"OTB1\x00\x01\x20\x01", false),
-        ("a length with no fact", b"OTB1\x00\x01\x00\x15", true),
+    let rows: &[(&str, &[u8], FrontError)] = &[
+        ("nothing", b"", Cut),
+        ("three letters", b"OTB", Cut),
+        ("five bytes of something else", b"XYZ\x00\x00", Cut),
+        ("another magic", b"OTB9\x00\x00", Malformed),
+        ("a count of 129", b"OTB1\x00\x81", Malformed),
+        (
+            "a length past the greatest",
+            b"OTB1\x00\x01\x20\x01",
+            Malformed,
+        ),
+        ("a length with no fact", b"OTB1\x00\x01\x00\x15", Cut),
     ];
-    for (name, bytes, cut) in rows {
-        assert_eq!(rt; is_cut(alloc, bytes), cut, "{name}");
-        assert!(rt; is_malformed(alloc, bytes), "{name}");
+    for &(name, bytes, error) in rows {
+        assert!(rt; is_refused(alloc, bytes, error), "{name}");
     }
     assert!(rt;
-        matches!(read_front(alloc, b"OTB1\x00\x00"), Ok((_, 6))),
-        "an empty bundle"
+        front(alloc, FOLLOWED) == Ok(51),
+        "a bundle and three letters"
     );
-    Ok(())
+    assert!(rt; is_malformed(alloc, FOLLOWED), "not all of the bytes");
+    assert!(rt; front(alloc, b"OTB1\x00\x00") == Ok(6), "an empty bundle");
 }
 
-// A store with the facts of a bundle.
-fn stored(alloc: Global, bytes: &[u8]) -> Result<FactStore, Fail> {
-    let mut store = FactStore::new(alloc);
-    let bundle = Bundle::read(alloc, bytes)?;
-    for fact in bundle.facts() {
-        let copy = fact.copy(alloc)?;
-        match copy.check() {
-            Ok(()) => match store.add(copy) {
-                Ok(Added::New) => {}
-                _ => return Err("the dot was free")?,
-            },
-            Err(_) => return Err("a fact that was read breaks a rule")?,
+fn add_copy(alloc: Global, store: &mut FactStore, fact: &Fact) -> bool {
+    match fact.copy(alloc) {
+        Ok(copy) => match copy.check() {
+            Ok(()) => store.add(copy) == Ok(Added::New),
+            Err(_) => false,
+        },
+        Err(_) => false,
+    }
+}
+
+fn add_each(alloc: Global, store: &mut FactStore, facts: &[Fact]) -> bool {
+    for fact in facts {
+        if !add_copy(alloc, store, fact) {
+            return false;
         }
     }
-    Ok(store)
+    true
+}
+
+// Adds the facts of a bundle.
+fn add_all(alloc: Global, store: &mut FactStore, bytes: &[u8]) -> bool {
+    match Bundle::read(alloc, bytes) {
+        Ok(bundle) => add_each(alloc, store, bundle.facts()),
+        Err(_) => false,
+    }
+}
+
+// Whether the page has these bytes, so many facts and the last one at this dot, and no more follow.
+fn is_last_page(page: &Page, bytes: &[u8], count: u16, (region, serial): (u16, u64)) -> bool {
+    match page.last {
+        Some(last) => {
+            page.bytes.as_slice() == bytes
+                && page.count == count
+                && last.region().number() == region
+                && last.serial() == serial
+                && !page.more
+        }
+        None => false,
+    }
+}
+
+fn leaves(
+    alloc: Global,
+    store: &FactStore,
+    vector: &VersionVector,
+    bytes: &[u8],
+    count: u16,
+    last: (u16, u64),
+) -> bool {
+    match make(alloc, store, vector) {
+        Ok(page) => is_last_page(&page, bytes, count, last),
+        Err(_) => false,
+    }
 }
 
 #[test]
 fn a_page_is_what_the_vector_leaves(rt: HostRuntime) -> Result<(), Fail> {
     let alloc = rt.alloc();
-    let bytes = both(alloc, &ADDED[6..], &RETIRED[6..])?;
-    let store = stored(alloc, bytes.as_slice())?;
-    let mut vector = VersionVector::new(alloc);
-    let all = make(alloc, &store, &vector)?;
-    assert_eq!(rt; all.bytes.as_slice(), bytes.as_slice());
-    assert_eq!(rt; (all.count, all.more), (2, false));
-    let last = all.last.ok_or("a last dot")?;
-    vector.raise(last.region(), last.serial())?;
-    let first = make(alloc, &store, &vector)?;
-    assert_eq!(rt; first.bytes.as_slice(), ADDED.as_slice());
+    let none = VersionVector::new(alloc);
+    let retired = VersionVector::read_text(alloc, b"2:1")?;
+    let mut store = FactStore::new(alloc);
+    assert!(rt; add_all(alloc, &mut store, BOTH));
+    assert!(rt; leaves(alloc, &store, &none, BOTH, 2, (2, 1)), "all");
+    assert!(rt;
+        leaves(alloc, &store, &retired, ADDED, 1, (1, 1)),
+        "the first"
+    );
     Ok(())
 }

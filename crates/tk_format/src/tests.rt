@@ -5,7 +5,7 @@ ghost use Rattle.tk_format.specs.Format.{number, number_at};
 ghost use Rattle.tk_format.specs.Laws.{u16_exact};
 
 use super::*;
-use std::alloc::Global;
+use std::alloc::{AllocError, Global};
 use std::marker::Model;
 use std::test::Fail;
 
@@ -43,31 +43,44 @@ impl Spelled for Port {
     ghost exact = { u16_exact };
 }
 
-#[test]
-fn what_is_written_is_read_back(rt: HostRuntime) -> Result<(), Fail> {
-    let mut writer = Writer::new(rt.alloc());
+const RECORD: &[u8] = b"TK\x01\x02\x03\x04\x05\x06\x07\x08\x09\x0a\x0b\x00\x02hi";
+
+fn record(alloc: Global) -> Result<Vec<u8>, AllocError> {
+    let mut writer = Writer::new(alloc);
     writer.put_bytes(b"TK")?;
     writer.put_u8(1)?;
     writer.put_u16(0x0203)?;
     writer.put_u64(0x0405_0607_0809_0a0b)?;
     writer.put_text(b"hi")?;
-    let bytes = writer.into_bytes();
-    assert_eq!(rt;
-        bytes.as_slice(),
-        b"TK\x01\x02\x03\x04\x05\x06\x07\x08\x09\x0a\x0b\x00\x02hi".as_slice()
-    );
+    Ok(writer.into_bytes())
+}
 
-    let mut reader = Reader::new(bytes.as_slice());
+#[test]
+fn numbers_are_written_with_the_high_byte_first(rt: HostRuntime) -> Result<(), Fail> {
+    assert_eq!(rt; record(rt.alloc())?.as_slice(), RECORD);
+    Ok(())
+}
+
+type Numbers = (Option<()>, Option<u8>, Option<u16>, Option<u64>);
+
+fn take_numbers(reader: &mut Reader<'_>) -> Numbers {
+    (
+        reader.take_magic(b"TK"),
+        reader.take_u8(),
+        reader.take_u16(),
+        reader.take_u64(),
+    )
+}
+
+#[test]
+fn what_is_written_is_read_back(rt: HostRuntime) {
+    let mut reader = Reader::new(RECORD);
     assert_eq!(rt; reader.take_magic(b"KT"), None);
-    assert_eq!(rt; reader.take_magic(b"TK"), Some(()));
-    assert_eq!(rt; reader.take_u8(), Some(1));
-    assert_eq!(rt; reader.take_u16(), Some(0x0203));
-    assert_eq!(rt; reader.take_u64(), Some(0x0405_0607_0809_0a0b));
+    let read = (Some(()), Some(1), Some(0x0203), Some(0x0405_0607_0809_0a0b));
+    assert_eq!(rt; take_numbers(&mut reader), read);
     assert_eq!(rt; reader.take_u64(), None);
     assert_eq!(rt; reader.take_text(), Some(b"hi".as_slice()));
-    assert!(rt; reader.is_empty());
     assert_eq!(rt; reader.take_u8(), None);
-    Ok(())
 }
 
 // A text of two bytes, of which one is there, is not taken.

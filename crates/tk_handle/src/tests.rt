@@ -4,6 +4,7 @@ use crate::{
     Dot, Kind, Moment, RegionNumber, Serial, TokenId, client_text, consent_text, read_client,
     read_consent,
 };
+use std::alloc::{AllocError, Global};
 use std::test::Fail;
 use tk_format::{Reader, Writer};
 
@@ -11,44 +12,103 @@ fn dot(region: u16, serial: u64) -> Option<Dot> {
     Dot::new(RegionNumber::new(region)?, serial)
 }
 
-#[test]
-fn numbers_end_where_their_ranges_do(rt: HostRuntime) {
-    assert_eq!(rt; RegionNumber::new(0), None);
-    assert_eq!(rt; RegionNumber::new(65_535).map(|r| r.number()), Some(65_535));
-    assert_eq!(rt; Serial::new(0), None);
-    assert_eq!(rt;
-        Serial::new(Serial::GREATEST).map(|s| s.number()),
-        Some(9_223_372_036_854_775_807)
-    );
-    assert_eq!(rt; Serial::new(Serial::GREATEST + 1), None);
-    assert_eq!(rt;
-        Moment::new(Moment::GREATEST).map(|m| m.seconds()),
-        Some(253_402_300_799)
-    );
-    assert_eq!(rt; Moment::new(Moment::GREATEST + 1), None);
-    assert_eq!(rt; dot(1, 0), None);
-    assert!(rt; dot(2, 1) > dot(1, Serial::GREATEST), "by region first");
+fn region(number: u16) -> Option<u16> {
+    Some(RegionNumber::new(number)?.number())
+}
+
+fn serial(number: u64) -> Option<u64> {
+    Some(Serial::new(number)?.number())
+}
+
+fn moment(seconds: u64) -> Option<u64> {
+    Some(Moment::new(seconds)?.seconds())
+}
+
+fn regions_end() -> bool {
+    region(0).is_none() && region(65_535) == Some(65_535)
+}
+
+fn serials_end() -> bool {
+    serial(0).is_none()
+        && serial(Serial::GREATEST) == Some(9_223_372_036_854_775_807)
+        && serial(Serial::GREATEST + 1).is_none()
+}
+
+fn moments_end() -> bool {
+    moment(Moment::GREATEST) == Some(253_402_300_799) && moment(Moment::GREATEST + 1).is_none()
+}
+
+fn dots_rise() -> bool {
+    dot(1, 0).is_none() && dot(2, 1) > dot(1, Serial::GREATEST)
 }
 
 #[test]
-fn a_dot_is_read_back_from_its_text(rt: HostRuntime) -> Result<(), Fail> {
-    let rows = [
-        (1, 1, "1:1"),
-        (65_535, Serial::GREATEST, "65535:9223372036854775807"),
-        (20, 300, "20:300"),
-    ];
-    for (region, serial, want) in rows {
-        let at = dot(region, serial).ok_or("a dot")?;
-        let text = format!(in rt.alloc(); "{at}")?;
-        assert_eq!(rt; text.as_str(), want);
-        assert_eq!(rt; Dot::read_text(want.as_bytes()), Some(at), "{want}");
+fn numbers_end_where_their_ranges_do(rt: HostRuntime) {
+    assert!(rt; regions_end());
+    assert!(rt; serials_end());
+    assert!(rt; moments_end());
+    assert!(rt; dots_rise(), "by region first");
+}
+
+// A region and a serial, and the texts of the dot, of a client that was added there, and of a consent.
+const TEXTS: &[(u16, u64, &str, &str, &str)] = &[
+    (1, 1, "1:1", "c1-1", "g1-1"),
+    (
+        65_535,
+        Serial::GREATEST,
+        "65535:9223372036854775807",
+        "c65535-9223372036854775807",
+        "g65535-9223372036854775807",
+    ),
+    (20, 300, "20:300", "c20-300", "g20-300"),
+];
+
+// Whether the text was written, and not refused memory, and is this one.
+fn is_written(written: Result<String, AllocError>, text: &str) -> bool {
+    match written {
+        Ok(written) => written.as_str() == text,
+        Err(_) => false,
     }
-    Ok(())
+}
+
+fn is_dot_text(alloc: Global, dot: Dot, text: &str) -> bool {
+    is_written(format!(in alloc; "{dot}"), text) && Dot::read_text(text.as_bytes()) == Some(dot)
+}
+
+fn is_client_text(alloc: Global, dot: Dot, text: &str) -> bool {
+    is_written(client_text(alloc, dot), text) && read_client(text.as_bytes()) == Some(dot)
+}
+
+fn is_consent_text(alloc: Global, dot: Dot, text: &str) -> bool {
+    is_written(consent_text(alloc, dot), text) && read_consent(text.as_bytes()) == Some(dot)
+}
+
+fn are_texts(alloc: Global, at: Option<Dot>, text: &str, client: &str, consent: &str) -> bool {
+    match at {
+        Some(dot) => {
+            is_dot_text(alloc, dot, text)
+                && is_client_text(alloc, dot, client)
+                && is_consent_text(alloc, dot, consent)
+        }
+        None => false,
+    }
+}
+
+#[test]
+fn dots_and_ids_are_read_back_from_their_texts(rt: HostRuntime) {
+    for &(region, serial, text, client, consent) in TEXTS {
+        let at = dot(region, serial);
+        assert!(rt; are_texts(rt.alloc(), at, text, client, consent), "{text}");
+    }
+}
+
+fn is_dot(text: &str) -> bool {
+    Dot::read_text(text.as_bytes()).is_some()
 }
 
 #[test]
 fn other_texts_are_no_dots(rt: HostRuntime) {
-    let rows = [
+    let rows: &[&str] = &[
         "",
         ":",
         "1",
@@ -70,29 +130,17 @@ fn other_texts_are_no_dots(rt: HostRuntime) {
         " 1:1",
     ];
     for text in rows {
-        assert_eq!(rt; Dot::read_text(text.as_bytes()), None, "{text}");
+        assert!(rt; !is_dot(text), "{text}");
     }
 }
 
-#[test]
-fn a_client_id_is_read_back(rt: HostRuntime) -> Result<(), Fail> {
-    let rows = [
-        (1, 1, "c1-1"),
-        (65_535, Serial::GREATEST, "c65535-9223372036854775807"),
-        (20, 300, "c20-300"),
-    ];
-    for (region, serial, want) in rows {
-        let at = dot(region, serial).ok_or("a dot")?;
-        let text = client_text(rt.alloc(), at)?;
-        assert_eq!(rt; text.as_str(), want);
-        assert_eq!(rt; read_client(want.as_bytes()), Some(at), "{want}");
-    }
-    Ok(())
+fn is_client(text: &str) -> bool {
+    read_client(text.as_bytes()).is_some()
 }
 
 #[test]
 fn other_texts_are_no_client_ids(rt: HostRuntime) {
-    let rows = [
+    let rows: &[&str] = &[
         "",
         "c",
         "c1",
@@ -119,29 +167,17 @@ fn other_texts_are_no_client_ids(rt: HostRuntime) {
         "c1-1x",
     ];
     for text in rows {
-        assert_eq!(rt; read_client(text.as_bytes()), None, "{text}");
+        assert!(rt; !is_client(text), "{text}");
     }
 }
 
-#[test]
-fn a_consent_id_is_read_back(rt: HostRuntime) -> Result<(), Fail> {
-    let rows = [
-        (1, 1, "g1-1"),
-        (65_535, Serial::GREATEST, "g65535-9223372036854775807"),
-        (20, 300, "g20-300"),
-    ];
-    for (region, serial, want) in rows {
-        let at = dot(region, serial).ok_or("a dot")?;
-        let text = consent_text(rt.alloc(), at)?;
-        assert_eq!(rt; text.as_str(), want);
-        assert_eq!(rt; read_consent(want.as_bytes()), Some(at), "{want}");
-    }
-    Ok(())
+fn is_consent(text: &str) -> bool {
+    read_consent(text.as_bytes()).is_some()
 }
 
 #[test]
 fn other_texts_are_no_consent_ids(rt: HostRuntime) {
-    let rows = [
+    let rows: &[&str] = &[
         "",
         "g",
         "g1",
@@ -164,46 +200,56 @@ fn other_texts_are_no_consent_ids(rt: HostRuntime) {
         "gg1-1",
     ];
     for text in rows {
-        assert_eq!(rt; read_consent(text.as_bytes()), None, "{text}");
+        assert!(rt; !is_consent(text), "{text}");
     }
 }
 
+fn later(start: u64, seconds: u64) -> Option<u64> {
+    Some(Moment::new(start)?.plus(seconds).seconds())
+}
+
 #[test]
-fn a_moment_ends_at_the_greatest(rt: HostRuntime) -> Result<(), Fail> {
+fn a_moment_ends_at_the_greatest(rt: HostRuntime) {
     let greatest = Moment::GREATEST;
-    for (start, seconds, want) in [
+    let rows: &[(u64, u64, u64)] = &[
         (1_000, 60, 1_060),
         (1_000, 0, 1_000),
         (greatest - 1, 1, greatest),
         (greatest, 1, greatest),
         (1_000, u64::MAX, greatest),
-    ] {
-        let start = Moment::new(start).ok_or("a moment")?;
-        assert_eq!(rt; start.plus(seconds).seconds(), want, "{seconds} later");
+    ];
+    for &(start, seconds, want) in rows {
+        assert!(rt; later(start, seconds) == Some(want), "{seconds} later");
     }
-    Ok(())
 }
 
-// The bytes are region, serial and kind, and then the seconds, each high byte first.
-#[test]
-fn a_token_and_a_moment_in_bytes(rt: HostRuntime) -> Result<(), Fail> {
-    let token = TokenId {
-        dot: dot(2, 0x0102).ok_or("a dot")?,
-        kind: Kind::Refresh,
-    };
-    let moment = Moment::new(1_000).ok_or("a moment")?;
-    let mut writer = Writer::new(rt.alloc());
+// The region, serial and kind of the token 2:258, which is a refresh token, and then the second 1,000, each high byte
+// first.
+const BYTES: &[u8] =
+    b"\x00\x02\x00\x00\x00\x00\x00\x00\x01\x02\x03\x00\x00\x00\x00\x00\x00\x03\xe8";
+
+fn written(alloc: Global, token: TokenId, moment: Moment) -> Result<Vec<u8>, AllocError> {
+    let mut writer = Writer::new(alloc);
     token.write(&mut writer)?;
     moment.write(&mut writer)?;
-    let bytes = writer.into_bytes();
-    assert_eq!(rt;
-        bytes.as_slice(),
-        b"\x00\x02\x00\x00\x00\x00\x00\x00\x01\x02\x03\x00\x00\x00\x00\x00\x00\x03\xe8".as_slice()
-    );
+    Ok(writer.into_bytes())
+}
 
-    let mut reader = Reader::new(bytes.as_slice());
-    assert_eq!(rt; TokenId::read(&mut reader), Some(token));
-    assert_eq!(rt; Moment::read(&mut reader), Some(moment));
-    assert!(rt; reader.is_empty());
+// A token and a moment, and whether nothing is left.
+fn read(bytes: &[u8]) -> (Option<TokenId>, Option<Moment>, bool) {
+    let mut reader = Reader::new(bytes);
+    let token = TokenId::read(&mut reader);
+    let moment = Moment::read(&mut reader);
+    (token, moment, reader.is_empty())
+}
+
+#[test]
+fn a_token_and_a_moment_in_bytes(rt: HostRuntime) -> Result<(), Fail> {
+    let dot = dot(2, 0x0102).ok_or("a dot")?;
+    let kind = Kind::Refresh;
+    let token = TokenId { dot, kind };
+    let moment = Moment::new(1_000).ok_or("a moment")?;
+    assert!(rt; written(rt.alloc(), token, moment)?.as_slice() == BYTES);
+    assert!(rt; read(BYTES) == (Some(token), Some(moment), true));
     Ok(())
 }

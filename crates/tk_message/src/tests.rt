@@ -8,133 +8,213 @@ mod tokens;
 
 use crate::{Decision, ErrorCode, Lives, Payload, Place, Reply, Status, client_reply, shown_reply};
 use std::alloc::Global;
-use std::process::Abort;
-use std::test::Fail;
 use tk_fact::Sort;
-use tk_handle::{Dot, RegionNumber};
+use tk_handle::{Dot, Handle, Kind, RegionNumber, TokenId};
 use tk_scope::Scope;
 
-fn dot() -> Result<Dot, &'static str> {
-    let region = RegionNumber::new(7).ok_or("a region")?;
-    Dot::new(region, 41).ok_or("a dot")
+fn dot(region: u16, serial: u64) -> Option<Dot> {
+    let region = RegionNumber::new(region)?;
+    Dot::new(region, serial)
+}
+
+fn handle(dot: Option<Dot>, kind: Kind, words: [u64; 3]) -> Option<Handle> {
+    Some(Handle::mint(TokenId { dot: dot?, kind }, words))
 }
 
 // A JSON text under a status, and no place to be sent to.
-fn is_json(rt: &impl Abort, name: &str, reply: &Reply, status: u16, body: &str) {
-    assert_eq!(rt; reply.status.number(), status, "status of {name}");
-    assert!(rt; reply.location.is_none(), "location of {name}");
-    match &reply.body {
-        Payload::Json(bytes) => {
-            assert_eq!(rt; bytes.as_slice(), body.as_bytes(), "body of {name}");
-        }
-        _ => assert!(rt; false, "{name} is JSON"),
+fn is_json(reply: &Reply, status: u16, body: &str) -> bool {
+    let is_told = match &reply.body {
+        Payload::Json(bytes) => bytes.as_slice() == body.as_bytes(),
+        _ => false,
+    };
+    is_told && reply.status.number() == status && reply.location.is_none()
+}
+
+// There is none where memory is refused.
+fn is_told(reply: Option<Reply>, status: u16, body: &str) -> bool {
+    match reply {
+        Some(reply) => is_json(&reply, status, body),
+        None => false,
     }
 }
 
-// Each error code with its status (RFC 6749, 4.1.2.1 and 5.2; RFC 9110, 15.5), its name, and whether credentials are asked for.
-const ERRORS: [(ErrorCode, u16, &str, bool); 13] = [
-    (ErrorCode::InvalidRequest, 400, "invalid_request", false),
-    (ErrorCode::InvalidClient, 401, "invalid_client", true),
-    (ErrorCode::InvalidGrant, 400, "invalid_grant", false),
-    (ErrorCode::InvalidScope, 400, "invalid_scope", false),
+// Each error code with its status (RFC 6749, 4.1.2.1 and 5.2; RFC 9110, 15.5), its text, and whether credentials are asked for.
+static ERRORS: [(ErrorCode, u16, &str, bool); 13] = [
+    (
+        ErrorCode::InvalidRequest,
+        400,
+        "{\"error\":\"invalid_request\"}",
+        false,
+    ),
+    (
+        ErrorCode::InvalidClient,
+        401,
+        "{\"error\":\"invalid_client\"}",
+        true,
+    ),
+    (
+        ErrorCode::InvalidGrant,
+        400,
+        "{\"error\":\"invalid_grant\"}",
+        false,
+    ),
+    (
+        ErrorCode::InvalidScope,
+        400,
+        "{\"error\":\"invalid_scope\"}",
+        false,
+    ),
     (
         ErrorCode::UnsupportedGrantType,
         400,
-        "unsupported_grant_type",
+        "{\"error\":\"unsupported_grant_type\"}",
         false,
     ),
     (
         ErrorCode::UnsupportedResponseType,
         400,
-        "unsupported_response_type",
+        "{\"error\":\"unsupported_response_type\"}",
         false,
     ),
-    (ErrorCode::AccessDenied, 400, "access_denied", false),
-    (ErrorCode::NotFound, 404, "not_found", false),
+    (
+        ErrorCode::AccessDenied,
+        400,
+        "{\"error\":\"access_denied\"}",
+        false,
+    ),
+    (ErrorCode::NotFound, 404, "{\"error\":\"not_found\"}", false),
     (
         ErrorCode::TemporarilyUnavailable,
         503,
-        "temporarily_unavailable",
+        "{\"error\":\"temporarily_unavailable\"}",
         false,
     ),
-    (ErrorCode::BadRequest, 400, "bad_request", false),
+    (
+        ErrorCode::BadRequest,
+        400,
+        "{\"error\":\"bad_request\"}",
+        false,
+    ),
     (
         ErrorCode::MethodNotAllowed,
         405,
-        "method_not_allowed",
+        "{\"error\":\"method_not_allowed\"}",
         false,
     ),
-    (ErrorCode::LengthRequired, 411, "length_required", false),
-    (ErrorCode::TooLarge, 413, "too_large", false),
+    (
+        ErrorCode::LengthRequired,
+        411,
+        "{\"error\":\"length_required\"}",
+        false,
+    ),
+    (ErrorCode::TooLarge, 413, "{\"error\":\"too_large\"}", false),
 ];
 
-#[test]
-fn an_error_has_a_status_and_a_name(rt: HostRuntime) -> Result<(), Fail> {
-    let alloc = rt.alloc();
-    for (code, status, name, www) in ERRORS {
-        let decision = Decision::refuse(alloc, code)?;
-        let body = format!(in alloc; "{{\"error\":\"{name}\"}}")?;
-        is_json(&rt, name, &decision.reply, status, body.as_str());
-        assert_eq!(rt; decision.reply.www, www, "credentials for {name}");
-        assert!(rt; decision.made.is_none(), "{name} makes no fact");
-    }
-    Ok(())
-}
-
-// What a client is, as it is named in a reply.
-fn kinds() -> [(&'static str, Sort); 3] {
-    [
-        ("public", Sort::Public),
-        ("confidential", Sort::Confidential([1; 32])),
-        ("resource", Sort::Resource([2; 32])),
-    ]
-}
-
-fn shown(alloc: Global, sort: &Sort, live: bool) -> Result<Reply, Fail> {
-    let scope = Scope::read(alloc, b"write read")?;
-    Ok(shown_reply(alloc, dot()?, sort, live, &scope)?)
-}
-
-#[test]
-fn a_client_is_shown_with_its_kind(rt: HostRuntime) -> Result<(), Fail> {
-    let alloc = rt.alloc();
-    for (name, sort) in kinds() {
-        for live in [true, false] {
-            let reply = shown(alloc, &sort, live)?;
-            let body = format!(in alloc;
-                "{{\"client_id\":\"c7-41\",\"kind\":\"{name}\",\"live\":{live},\"scope\":\"read write\"}}"
-            )?;
-            is_json(&rt, name, &reply, 200, body.as_str());
+fn is_refusal(alloc: Global, code: ErrorCode, status: u16, body: &str, www: bool) -> bool {
+    match Decision::refuse(alloc, code) {
+        Ok(decision) => {
+            is_json(&decision.reply, status, body)
+                && decision.reply.www == www
+                && decision.made.is_none()
         }
+        Err(_) => false,
     }
-    Ok(())
 }
 
 #[test]
-fn an_id_goes_under_its_status(rt: HostRuntime) -> Result<(), Fail> {
+fn an_error_has_a_status_and_a_name(rt: HostRuntime) {
+    for &(code, status, body, www) in &ERRORS {
+        assert!(rt; is_refusal(rt.alloc(), code, status, body, www), "{body}");
+    }
+}
+
+// What a client is, whether it is live, and how it is shown.
+static SHOWN: [(Sort, bool, &str); 6] = [
+    (
+        Sort::Public,
+        true,
+        "{\"client_id\":\"c7-41\",\"kind\":\"public\",\"live\":true,\"scope\":\"read write\"}",
+    ),
+    (
+        Sort::Public,
+        false,
+        "{\"client_id\":\"c7-41\",\"kind\":\"public\",\"live\":false,\"scope\":\"read write\"}",
+    ),
+    (
+        Sort::Confidential([1; 32]),
+        true,
+        "{\"client_id\":\"c7-41\",\"kind\":\"confidential\",\"live\":true,\"scope\":\"read write\"}",
+    ),
+    (
+        Sort::Confidential([1; 32]),
+        false,
+        "{\"client_id\":\"c7-41\",\"kind\":\"confidential\",\"live\":false,\"scope\":\"read write\"}",
+    ),
+    (
+        Sort::Resource([2; 32]),
+        true,
+        "{\"client_id\":\"c7-41\",\"kind\":\"resource\",\"live\":true,\"scope\":\"read write\"}",
+    ),
+    (
+        Sort::Resource([2; 32]),
+        false,
+        "{\"client_id\":\"c7-41\",\"kind\":\"resource\",\"live\":false,\"scope\":\"read write\"}",
+    ),
+];
+
+fn shown(alloc: Global, sort: &Sort, live: bool) -> Option<Reply> {
+    let dot = dot(7, 41)?;
+    let scope = Scope::read(alloc, b"write read").ok()?;
+    shown_reply(alloc, dot, sort, live, &scope).ok()
+}
+
+#[test]
+fn a_client_is_shown_with_its_kind(rt: HostRuntime) {
+    for (sort, live, body) in &SHOWN {
+        assert!(rt;
+            is_told(shown(rt.alloc(), sort, *live), 200, body),
+            "{body}"
+        );
+    }
+}
+
+fn named(alloc: Global, status: Status) -> Option<Reply> {
+    client_reply(alloc, status, dot(7, 41)?).ok()
+}
+
+#[test]
+fn an_id_goes_under_its_status(rt: HostRuntime) {
+    let body = "{\"client_id\":\"c7-41\"}";
     for (status, number) in [
         (Status::Created, 201),
         (Status::Ok, 200),
         (Status::Found, 302),
     ] {
-        let reply = client_reply(rt.alloc(), status, dot()?)?;
-        is_json(&rt, "an id", &reply, number, "{\"client_id\":\"c7-41\"}");
+        assert!(rt;
+            is_told(named(rt.alloc(), status), number, body),
+            "{number}"
+        );
     }
-    Ok(())
 }
 
-#[test]
-fn a_place_is_where_its_next_fact_stands(rt: HostRuntime) -> Result<(), Fail> {
+fn is_place(dot: Dot) -> bool {
     let lives = Lives {
         code: 60,
         access: 3_600,
         refresh: 86_400,
         family: 2_592_000,
     };
-    let place = Place::new(dot()?, lives);
-    assert_eq!(rt; place.number.number(), 7);
-    assert_eq!(rt; place.next.number(), 41);
-    assert_eq!(rt; place.next_dot(), dot()?);
-    assert_eq!(rt; place.lives.family, 2_592_000);
-    Ok(())
+    let place = Place::new(dot, lives);
+    place.number.number() == 7
+        && place.next.number() == 41
+        && place.next_dot() == dot
+        && place.lives.family == 2_592_000
+}
+
+#[test]
+fn a_place_is_where_its_next_fact_stands(rt: HostRuntime) {
+    match dot(7, 41) {
+        Some(dot) => assert!(rt; is_place(dot)),
+        None => assert!(rt; false, "a dot"),
+    }
 }

@@ -5,19 +5,31 @@
 mod introspection;
 mod revocation;
 
+use crate::{decide_introspect, decide_revoke};
 use std::alloc::Global;
 use std::process::Abort;
-use std::test::Fail;
-use tk_fact::Fact;
+use tk_fact::{Body, Fact};
+use tk_handle::{Moment, RegionNumber, Serial};
 use tk_ledger::Ledger;
-use tk_message::{Decision, Endpoint, Params, Payload, Request};
+use tk_message::{Decision, Endpoint, Lives, Params, Payload, Place, Reply, Request};
+
+// What a request is called, what is sent, and when; the status and the body that it is answered; and the bytes of the fact that it makes,
+// as it would stand at 1:9, or none.
+type Row = (
+    &'static str,
+    &'static str,
+    u64,
+    u16,
+    &'static str,
+    &'static [u8],
+);
 
 // The facts of the ledger, spelled out. The client c1-1 with the secret `s3cret`, and the consent g1-2 of the subject `an"n`. A code
 // (1:3), redeemed at 1:4 for tokens to 4,610 and 87,410, the access token's scope narrower; the refresh token was rotated at 1:5
 // for tokens to 4,620 and 87,420. A code (1:6), redeemed at 1:7, whose reuse was seen at 1:8. The resource server c2-1 with the
 // secret `res`, the public client c2-2, and c2-3 with the secret `other`, which revoked the access token of 1:5 in advance (2:4). A
 // rotation (3:2) whose parent isn't there.
-const FACTS: [&[u8]; 13] = [
+static FACTS: [&[u8]; 13] = [
     b"\x00\x01\x00\x00\x00\x00\x00\x00\x00\x01\x01\x01\x1e\xc1\xc2kP\xd5\xd3\xc5\x8d\x95\x83\x18\x1a\xf8\x07fU\xfe\x00uk\xf7(Y@\xba6p\xf9\x9f\xcb\xa0\x00\x0aread write\x01\x00\x16https://app.example/cb",
     b"\x00\x01\x00\x00\x00\x00\x00\x00\x00\x02\x03\x00\x01\x00\x00\x00\x00\x00\x00\x00\x01\x00\x04an\x22n\x00\x0aread write",
     b"\x00\x01\x00\x00\x00\x00\x00\x00\x00\x03\x05\x00\x01\x00\x00\x00\x00\x00\x00\x00\x01\x00\x01\x00\x00\x00\x00\x00\x00\x00\x02kxhl@\xdez\x1ci'\x1e\x12\x7f\x9eR\xabX\x87|\xf3\x8csk\x0d)\xf0\x1e\x1c\x1f\xdb\xdc\xb4\x00\x00\x00\x00\x00\x00\x03\xe8\x00\x00\x00\x00\x00\x00\x04$\x00\x00\x00\x00\x00'\x90\xe8\x00\x04an\x22n\x00\x0aread write\x00\x16https://app.example/cb\x00\x00",
@@ -33,40 +45,102 @@ const FACTS: [&[u8]; 13] = [
     b"\x00\x02\x00\x00\x00\x00\x00\x00\x00\x04\x08\x00\x01\x00\x00\x00\x00\x00\x00\x00\x05\x02t\x12vj>r\xc5\xa5\x96bbX\xce\x7f$\xab\x02\xe7K\xba\x9cZ\x05\xb3|\xdc\x9c\xe25\xfc\xec\x13\x00\x02\x00\x00\x00\x00\x00\x00\x00\x03",
 ];
 
-fn ledger(alloc: Global) -> Result<Ledger, Fail> {
-    let mut ledger = Ledger::new(alloc);
-    for bytes in FACTS {
-        let fact = Fact::read(alloc, bytes)?;
-        if fact.check().is_err() {
-            Err("a fact that was read breaks a rule")?;
-        }
-        if ledger.add(fact).is_err() {
-            Err("the fact wasn't added")?;
-        }
+// Whether the fact of these bytes is added; not so where memory is refused.
+fn adds(alloc: Global, ledger: &mut Ledger, bytes: &[u8]) -> bool {
+    match Fact::read(alloc, bytes) {
+        Ok(fact) => fact.check().is_ok() && ledger.add(fact).is_ok(),
+        Err(_) => false,
     }
-    Ok(ledger)
 }
 
-fn request(alloc: Global, endpoint: Endpoint, form: &str) -> Result<Request, Fail> {
-    Ok(Request {
+fn ledger(rt: &impl Abort, alloc: Global) -> Ledger {
+    let mut ledger = Ledger::new(alloc);
+    for bytes in &FACTS {
+        assert!(rt; adds(alloc, &mut ledger, bytes), "a fact is added");
+    }
+    ledger
+}
+
+fn place() -> Option<Place> {
+    Some(Place {
+        number: RegionNumber::new(1)?,
+        next: Serial::new(9)?,
+        lives: Lives {
+            code: 60,
+            access: 3_600,
+            refresh: 86_400,
+            family: 2_592_000,
+        },
+    })
+}
+
+fn request(alloc: Global, endpoint: Endpoint, form: &str) -> Option<Request> {
+    let params = Params::read(alloc, form.as_bytes()).ok()?;
+    Some(Request {
         endpoint,
-        params: Params::read(alloc, form.as_bytes())?,
+        params,
         authorization: None,
         subject: None,
     })
 }
 
-// A status, and a JSON text or nothing.
-fn is_reply(rt: &impl Abort, name: &str, decision: &Decision, status: u16, body: &str) {
-    let reply = &decision.reply;
-    assert_eq!(rt; reply.status.number(), status, "status of {name}");
-    assert_eq!(rt; reply.www, status == 401, "credentials for {name}");
-    assert!(rt; reply.location.is_none(), "location of {name}");
-    match &reply.body {
-        Payload::Json(bytes) => {
-            assert_eq!(rt; bytes.as_slice(), body.as_bytes(), "body of {name}");
+// None where memory is refused.
+fn decided(
+    alloc: Global,
+    ledger: &Ledger,
+    endpoint: Endpoint,
+    form: &str,
+    now: u64,
+) -> Option<Decision> {
+    let (now, place) = (Moment::new(now)?, place()?);
+    let request = request(alloc, endpoint, form)?;
+    match endpoint {
+        Endpoint::Introspect => decide_introspect(alloc, ledger, now, &request).ok(),
+        _ => decide_revoke(alloc, ledger, &place, now, &request).ok(),
+    }
+}
+
+// Whether the reply has that status, and is a JSON text or nothing.
+fn is_reply(reply: &Reply, status: u16, body: &str) -> bool {
+    let is_told = match &reply.body {
+        Payload::Json(bytes) => bytes.as_slice() == body.as_bytes(),
+        Payload::Empty => body.is_empty(),
+        Payload::Bytes(_) => false,
+    };
+    is_told
+        && reply.status.number() == status
+        && reply.www == (status == 401)
+        && reply.location.is_none()
+}
+
+// Whether the fact says what the one of these bytes does; there is none where there are no bytes.
+fn is_made(alloc: Global, made: &Option<Body>, bytes: &[u8]) -> bool {
+    match made {
+        Some(made) => says(alloc, made, bytes),
+        None => bytes.is_empty(),
+    }
+}
+
+fn says(alloc: Global, made: &Body, bytes: &[u8]) -> bool {
+    match Fact::read(alloc, bytes) {
+        Ok(fact) => made.same(&fact.body),
+        Err(_) => false,
+    }
+}
+
+fn is_answered(alloc: Global, ledger: &Ledger, endpoint: Endpoint, row: &Row) -> bool {
+    let (_, form, now, status, body, bytes) = *row;
+    match decided(alloc, ledger, endpoint, form, now) {
+        Some(decision) => {
+            is_reply(&decision.reply, status, body) && is_made(alloc, &decision.made, bytes)
         }
-        Payload::Empty => assert!(rt; body.is_empty(), "{name} has a body"),
-        Payload::Bytes(_) => assert!(rt; false, "{name} is JSON or nothing"),
+        None => false,
+    }
+}
+
+fn are_answered(rt: &impl Abort, alloc: Global, endpoint: Endpoint, rows: &[Row]) {
+    let ledger = ledger(rt, alloc);
+    for row in rows {
+        assert!(rt; is_answered(alloc, &ledger, endpoint, row), "{}", row.0);
     }
 }

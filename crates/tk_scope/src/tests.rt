@@ -1,10 +1,10 @@
 //! Which texts are scopes, and how they are printed.
 
 use super::*;
-use std::test::Fail;
+use std::alloc::{AllocError, Global};
 
 // Texts, and what is printed of each; the rules are those of RFC 6749, section 3.3.
-const TEXTS: [(&str, &str, Result<&str, ScopeError>); 14] = [
+const TEXTS: &[(&str, &str, Result<&str, ScopeError>)] = &[
     ("one token", "read", Ok("read")),
     (
         "out of order and doubled",
@@ -33,25 +33,30 @@ const TEXTS: [(&str, &str, Result<&str, ScopeError>); 14] = [
     ),
 ];
 
-#[test]
-fn a_scope_is_read_and_printed(rt: HostRuntime) -> Result<(), Fail> {
-    for (name, text, want) in TEXTS {
-        let got = Scope::read(rt.alloc(), text.as_bytes());
-        match &got {
-            Ok(scope) => {
-                assert_eq!(rt; Ok(scope.text()), want, "{name}");
-                let copy = scope.copy(rt.alloc())?;
-                assert_eq!(rt; Ok(copy.text()), want, "the copy of {name}");
-                assert!(rt; copy.same(scope), "the copy of {name}");
-            }
-            Err(e) => assert_eq!(rt; Err(*e), want, "{name}"),
-        }
+fn is_copied(alloc: Global, scope: &Scope) -> bool {
+    match scope.copy(alloc) {
+        Ok(copy) => copy.text() == scope.text() && copy.same(scope),
+        Err(_) => false,
     }
-    Ok(())
+}
+
+// Whether this comes of reading the text, and of a copy.
+fn is_printed(alloc: Global, text: &str, want: Result<&str, ScopeError>) -> bool {
+    match Scope::read(alloc, text.as_bytes()) {
+        Ok(scope) => Ok(scope.text()) == want && is_copied(alloc, &scope),
+        Err(e) => Err(e) == want,
+    }
+}
+
+#[test]
+fn a_scope_is_read_and_printed(rt: HostRuntime) {
+    for &(name, text, want) in TEXTS {
+        assert!(rt; is_printed(rt.alloc(), text, want), "{name}");
+    }
 }
 
 // A piece, how many of it, and the end of the text; and why the text is refused, if it is.
-const LIMITS: [(&str, &str, usize, &str, Option<ScopeError>); 8] = [
+const LIMITS: &[(&str, &str, usize, &str, Option<ScopeError>)] = &[
     ("32 tokens", "a ", 31, "a", None),
     ("33 doubles", "a ", 32, "a", Some(ScopeError::TooMany)),
     ("33 tokens", "a ", 32, "b", Some(ScopeError::TooMany)),
@@ -74,26 +79,46 @@ const LIMITS: [(&str, &str, usize, &str, Option<ScopeError>); 8] = [
     ),
 ];
 
-#[test]
-fn the_limits_are_on_the_text_as_written(rt: HostRuntime) -> Result<(), Fail> {
-    for (name, piece, count, end, want) in LIMITS {
-        let mut text = piece.repeat(rt.alloc(), count)?;
-        text.push_str(end)?;
-        let got = Scope::read(rt.alloc(), text.as_bytes()).err();
-        assert_eq!(rt; got, want, "{name}");
+fn of_pieces(alloc: Global, piece: &str, count: usize, end: &str) -> Result<String, AllocError> {
+    let mut text = piece.repeat(alloc, count)?;
+    text.push_str(end)?;
+    Ok(text)
+}
+
+fn refusal(alloc: Global, text: &[u8]) -> Option<ScopeError> {
+    Scope::read(alloc, text).err()
+}
+
+fn refusal_of_pieces(alloc: Global, piece: &str, count: usize, end: &str) -> Option<ScopeError> {
+    match of_pieces(alloc, piece, count, end) {
+        Ok(text) => refusal(alloc, text.as_bytes()),
+        Err(_) => Some(ScopeError::Memory),
     }
-    let bytes = [0x72u8, 0xff];
-    assert_eq!(rt;
-        Scope::read(rt.alloc(), &bytes).err(),
-        Some(ScopeError::Grammar),
-        "no UTF-8"
-    );
-    Ok(())
 }
 
 #[test]
-fn a_scope_is_within_another(rt: HostRuntime) -> Result<(), Fail> {
-    for (name, one, other, within, same) in [
+fn the_limits_are_on_the_text_as_written(rt: HostRuntime) {
+    for &(name, piece, count, end, want) in LIMITS {
+        let got = refusal_of_pieces(rt.alloc(), piece, count, end);
+        assert!(rt; got == want, "{name}");
+    }
+    let got = refusal(rt.alloc(), b"r\xff");
+    assert!(rt; got == Some(ScopeError::Grammar), "no UTF-8");
+}
+
+// Whether the one is within the other, and whether both are the same.
+fn compared(alloc: Global, one: &str, other: &str) -> Option<(bool, bool)> {
+    let one = Scope::read(alloc, one.as_bytes());
+    let other = Scope::read(alloc, other.as_bytes());
+    match (one, other) {
+        (Ok(one), Ok(other)) => Some((one.within(&other), one.same(&other))),
+        _ => None,
+    }
+}
+
+#[test]
+fn a_scope_is_within_another(rt: HostRuntime) {
+    let rows: &[(&str, &str, &str, bool, bool)] = &[
         ("itself", "read write", "write read", true, true),
         ("fewer tokens", "read", "read write", true, false),
         ("more tokens", "read write", "read", false, false),
@@ -106,11 +131,9 @@ fn a_scope_is_within_another(rt: HostRuntime) -> Result<(), Fail> {
         ),
         ("another token", "admin", "read write", false, false),
         ("another case", "Read", "read", false, false),
-    ] {
-        let one = Scope::read(rt.alloc(), one.as_bytes())?;
-        let other = Scope::read(rt.alloc(), other.as_bytes())?;
-        assert_eq!(rt; one.within(&other), within, "{name}");
-        assert_eq!(rt; one.same(&other), same, "{name}");
+    ];
+    for &(name, one, other, within, same) in rows {
+        let seen = compared(rt.alloc(), one, other);
+        assert!(rt; seen == Some((within, same)), "{name}");
     }
-    Ok(())
 }

@@ -1,26 +1,8 @@
 //! Requests of an administrator: what each is answered, and of what kind is the fact that it makes.
 
-use super::administer;
-use super::facts::{At, dot, ledger};
-use std::alloc::Global;
-use std::process::Abort;
-use std::test::Fail;
-use tk_fact::Body;
-use tk_ledger::Ledger;
-use tk_message::{Decision, Endpoint, Payload};
-
-/// The kind of fact that is made, and for an end the client or the consent that it ends.
-#[derive(Clone, Copy)]
-pub(super) enum Makes {
-    Nothing,
-    Client,
-    Consent,
-    Retirement(At),
-    Withdrawal(At),
-}
-
-/// The status, the body, and what is made.
-pub(super) type Answer = (u16, &'static str, Makes);
+use super::made::Makes;
+use super::{Answer, Asker, Row, are_answered};
+use tk_message::Endpoint;
 
 pub(super) const BAD_REQUEST: Answer = (400, "{\"error\":\"invalid_request\"}", Makes::Nothing);
 
@@ -33,11 +15,8 @@ pub(super) const ADDED: Answer = (201, "{\"client_id\":\"c1-3\"}", Makes::Client
 
 const CONSENTED: Answer = (201, "{\"consent_id\":\"g1-3\"}", Makes::Consent);
 
-/// What a request is called, its parameters, and its answer.
-pub(super) type Row = (&'static str, &'static str, Answer);
-
 // What is the same of the clients that are shown and retired.
-const IDS: [Row; 9] = [
+static IDS: [Row; 9] = [
     ("no id", "consent_id=g1-2", BAD_REQUEST),
     ("an id without a value", "client_id=", BAD_REQUEST),
     ("the id twice", "client_id=c1-1&client_id=c1-1", BAD_REQUEST),
@@ -53,7 +32,7 @@ const IDS: [Row; 9] = [
     ),
 ];
 
-const SHOWN: [Row; 4] = [
+static SHOWN: [Row; 4] = [
     (
         "a public client",
         "client_id=c1-1&kind=a&kind=b",
@@ -92,7 +71,7 @@ const SHOWN: [Row; 4] = [
     ),
 ];
 
-const RETIRED: [Row; 2] = [
+static RETIRED: [Row; 2] = [
     (
         "a live client",
         "client_id=c2-9",
@@ -105,7 +84,7 @@ const RETIRED: [Row; 2] = [
     ),
 ];
 
-const CONSENTS: [Row; 24] = [
+static CONSENTS: [Row; 24] = [
     (
         "the whole scope",
         "client_id=c1-1&subject=ann&scope=write+read",
@@ -220,7 +199,7 @@ const CONSENTS: [Row; 24] = [
     ),
 ];
 
-const WITHDRAWN: [Row; 9] = [
+static WITHDRAWN: [Row; 9] = [
     (
         "a live consent",
         "consent_id=g2-10",
@@ -252,144 +231,77 @@ const WITHDRAWN: [Row; 9] = [
     ),
 ];
 
-const ELSEWHERE: [Row; 1] = [("another endpoint", "client_id=c1-1", NOT_FOUND)];
+static ELSEWHERE: [Row; 1] = [("another endpoint", "client_id=c1-1", NOT_FOUND)];
 
-fn is_made(made: &Option<Body>, makes: Makes) -> Result<bool, Fail> {
-    Ok(match (made, makes) {
-        (None, Makes::Nothing) => true,
-        (Some(Body::ClientAdded(_)), Makes::Client) => true,
-        (Some(Body::ConsentGiven(_)), Makes::Consent) => true,
-        (Some(Body::ClientRetired(fact)), Makes::Retirement(at)) => fact.client == dot(at)?,
-        (Some(Body::ConsentWithdrawn(fact)), Makes::Withdrawal(at)) => fact.consent == dot(at)?,
-        _ => false,
-    })
-}
-
-// That answer, and nowhere to go to.
-fn is_answered(
-    rt: &impl Abort,
-    name: &str,
-    decision: &Decision,
-    answer: Answer,
-) -> Result<(), Fail> {
-    let (status, body, makes) = answer;
-    let reply = &decision.reply;
-    assert_eq!(rt; reply.status.number(), status, "status of {name}");
-    assert!(rt; reply.location.is_none(), "{name} is sent nowhere");
-    assert!(rt; !reply.www, "credentials for {name}");
-    match &reply.body {
-        Payload::Json(bytes) => {
-            assert_eq!(rt; bytes.as_slice(), body.as_bytes(), "body of {name}");
-        }
-        _ => assert!(rt; false, "{name} is JSON"),
-    }
-    assert!(rt; is_made(&decision.made, makes)?, "fact of {name}");
-    Ok(())
-}
-
-pub(super) fn are_answered(
-    rt: &impl Abort,
-    alloc: Global,
-    ledger: &Ledger,
-    endpoint: Endpoint,
-    rows: &[Row],
-) -> Result<(), Fail> {
-    for (name, form, answer) in rows {
-        let decision = administer(alloc, ledger, endpoint, form)?;
-        is_answered(rt, name, &decision, *answer)?;
-    }
-    Ok(())
+#[test]
+fn a_client_is_named_by_its_id(rt: HostRuntime) {
+    are_answered(&rt, rt.alloc(), Asker::Admin(Endpoint::ShowClient), &IDS);
+    are_answered(&rt, rt.alloc(), Asker::Admin(Endpoint::Retire), &IDS);
 }
 
 #[test]
-fn a_client_is_named_by_its_id(rt: HostRuntime) -> Result<(), Fail> {
-    let alloc = rt.alloc();
-    let ledger = ledger(alloc)?;
-    for endpoint in [Endpoint::ShowClient, Endpoint::Retire] {
-        are_answered(&rt, alloc, &ledger, endpoint, &IDS)?;
-    }
-    Ok(())
+fn clients_are_shown(rt: HostRuntime) {
+    are_answered(&rt, rt.alloc(), Asker::Admin(Endpoint::ShowClient), &SHOWN);
 }
 
 #[test]
-fn clients_are_shown(rt: HostRuntime) -> Result<(), Fail> {
-    let alloc = rt.alloc();
-    let ledger = ledger(alloc)?;
-    are_answered(&rt, alloc, &ledger, Endpoint::ShowClient, &SHOWN)
+fn clients_are_retired_once(rt: HostRuntime) {
+    are_answered(&rt, rt.alloc(), Asker::Admin(Endpoint::Retire), &RETIRED);
 }
 
 #[test]
-fn clients_are_retired_once(rt: HostRuntime) -> Result<(), Fail> {
-    let alloc = rt.alloc();
-    let ledger = ledger(alloc)?;
-    are_answered(&rt, alloc, &ledger, Endpoint::Retire, &RETIRED)
+fn consents_are_given(rt: HostRuntime) {
+    are_answered(&rt, rt.alloc(), Asker::Admin(Endpoint::Consent), &CONSENTS);
 }
 
 #[test]
-fn consents_are_given(rt: HostRuntime) -> Result<(), Fail> {
-    let alloc = rt.alloc();
-    let ledger = ledger(alloc)?;
-    are_answered(&rt, alloc, &ledger, Endpoint::Consent, &CONSENTS)
+fn consents_are_withdrawn_once(rt: HostRuntime) {
+    are_answered(
+        &rt,
+        rt.alloc(),
+        Asker::Admin(Endpoint::Withdraw),
+        &WITHDRAWN,
+    );
 }
 
 #[test]
-fn consents_are_withdrawn_once(rt: HostRuntime) -> Result<(), Fail> {
-    let alloc = rt.alloc();
-    let ledger = ledger(alloc)?;
-    are_answered(&rt, alloc, &ledger, Endpoint::Withdraw, &WITHDRAWN)
+fn another_endpoint_is_not_found(rt: HostRuntime) {
+    are_answered(
+        &rt,
+        rt.alloc(),
+        Asker::Admin(Endpoint::Authorize),
+        &ELSEWHERE,
+    );
 }
 
-#[test]
-fn another_endpoint_is_not_found(rt: HostRuntime) -> Result<(), Fail> {
-    let alloc = rt.alloc();
-    let ledger = ledger(alloc)?;
-    are_answered(&rt, alloc, &ledger, Endpoint::Authorize, &ELSEWHERE)
-}
-
-// What stands before a value of so many letters, and the answer.
-const LETTERS: [(Endpoint, &str, u8, Answer); 4] = [
+static SECRETS: [Row; 2] = [
     (
-        Endpoint::AddClient,
-        "kind=resource&scope=read&redirects=a:b&secret=",
-        128,
+        "a secret of 128 letters",
+        "kind=resource&scope=read&redirects=a:b&secret=0123456789abcdef0123456789abcdef0123456789abcdef0123456789abcdef0123456789abcdef0123456789abcdef0123456789abcdef0123456789abcdef",
         ADDED,
     ),
     (
-        Endpoint::AddClient,
-        "kind=resource&scope=read&redirects=a:b&secret=",
-        129,
-        BAD_REQUEST,
-    ),
-    (
-        Endpoint::Consent,
-        "client_id=c1-1&scope=read&subject=",
-        128,
-        CONSENTED,
-    ),
-    (
-        Endpoint::Consent,
-        "client_id=c1-1&scope=read&subject=",
-        129,
+        "a secret of 129",
+        "kind=resource&scope=read&redirects=a:b&secret=0123456789abcdef0123456789abcdef0123456789abcdef0123456789abcdef0123456789abcdef0123456789abcdef0123456789abcdef0123456789abcdef0",
         BAD_REQUEST,
     ),
 ];
 
-fn with_letters(alloc: Global, front: &str, count: u8) -> Result<String, Fail> {
-    let mut form = String::from_str(alloc, front)?;
-    for _ in 0..count {
-        form.push('a')?;
-    }
-    Ok(form)
-}
+static SUBJECTS: [Row; 2] = [
+    (
+        "a subject of 128 letters",
+        "client_id=c1-1&scope=read&subject=0123456789abcdef0123456789abcdef0123456789abcdef0123456789abcdef0123456789abcdef0123456789abcdef0123456789abcdef0123456789abcdef",
+        CONSENTED,
+    ),
+    (
+        "a subject of 129",
+        "client_id=c1-1&scope=read&subject=0123456789abcdef0123456789abcdef0123456789abcdef0123456789abcdef0123456789abcdef0123456789abcdef0123456789abcdef0123456789abcdef0",
+        BAD_REQUEST,
+    ),
+];
 
 #[test]
-fn a_secret_and_a_subject_have_at_most_128_letters(rt: HostRuntime) -> Result<(), Fail> {
-    let alloc = rt.alloc();
-    let ledger = ledger(alloc)?;
-    for (endpoint, front, count, answer) in LETTERS {
-        let form = with_letters(alloc, front, count)?;
-        let decision = administer(alloc, &ledger, endpoint, form.as_str())?;
-        is_answered(&rt, front, &decision, answer)?;
-    }
-    Ok(())
+fn a_secret_and_a_subject_have_at_most_128_letters(rt: HostRuntime) {
+    are_answered(&rt, rt.alloc(), Asker::Admin(Endpoint::AddClient), &SECRETS);
+    are_answered(&rt, rt.alloc(), Asker::Admin(Endpoint::Consent), &SUBJECTS);
 }

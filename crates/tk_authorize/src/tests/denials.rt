@@ -1,194 +1,246 @@
 //! Requests that are denied at the client's URI.
 
-use super::facts::ledger;
-use super::{CODE, decided, is_redirect};
-use std::alloc::Global;
-use std::process::Abort;
-use std::test::Fail;
-use tk_ledger::Ledger;
+use super::made::{Issued, Makes};
+use super::{ANN, Answer, Asker, Row, are_answered};
 
-// What follows `client_id=c1-1&`, and what follows the URI and `error=`. A row with several faults tells the first.
-const ROWS: [(&str, &str, &str); 22] = [
+const BAD_REQUEST: Answer = (
+    302,
+    "https://app.example/cb?error=invalid_request",
+    Makes::Nothing,
+);
+
+const REFUSED_REQUEST: Answer = (
+    302,
+    "https://app.example/cb?error=invalid_request&state=xyz",
+    Makes::Nothing,
+);
+
+const REFUSED_SCOPE: Answer = (
+    302,
+    "https://app.example/cb?error=invalid_scope&state=xyz",
+    Makes::Nothing,
+);
+
+const REFUSED_TYPE: Answer = (
+    302,
+    "https://app.example/cb?error=unsupported_response_type&state=xyz",
+    Makes::Nothing,
+);
+
+// A row with several faults tells the first.
+static ROWS: [Row; 22] = [
     (
         "the scope twice",
-        "response_type=code&scope=read&scope=read&state=xyz",
-        "invalid_request&state=xyz",
+        "client_id=c1-1&response_type=code&scope=read&scope=read&state=xyz",
+        REFUSED_REQUEST,
     ),
     (
         "a challenge twice",
-        "response_type=token&code_challenge=a&code_challenge=a&state=xyz",
-        "invalid_request&state=xyz",
+        "client_id=c1-1&response_type=token&code_challenge=a&code_challenge=a&state=xyz",
+        REFUSED_REQUEST,
     ),
     (
         "the response type twice",
-        "response_type=token&response_type=token",
-        "invalid_request",
+        "client_id=c1-1&response_type=token&response_type=token",
+        BAD_REQUEST,
     ),
     (
         "the state twice",
-        "response_type=code&state=xyz&state=xyz",
-        "invalid_request",
+        "client_id=c1-1&response_type=code&state=xyz&state=xyz",
+        BAD_REQUEST,
     ),
     (
         "a state with a line feed",
-        "response_type=token&state=a%0Ab",
-        "invalid_request",
+        "client_id=c1-1&response_type=token&state=a%0Ab",
+        BAD_REQUEST,
     ),
     (
         "a state with a delete",
-        "response_type=token&state=a%7F",
-        "invalid_request",
+        "client_id=c1-1&response_type=token&state=a%7F",
+        BAD_REQUEST,
     ),
     (
         "a state beyond ASCII",
-        "response_type=token&state=%c3%a9",
-        "invalid_request",
+        "client_id=c1-1&response_type=token&state=%c3%a9",
+        BAD_REQUEST,
     ),
     (
         "an empty state, which is none",
-        "response_type=token&state=",
-        "unsupported_response_type",
+        "client_id=c1-1&response_type=token&state=",
+        (
+            302,
+            "https://app.example/cb?error=unsupported_response_type",
+            Makes::Nothing,
+        ),
     ),
     (
         "a state in form encoding",
-        "response_type=token&state=a+%7E%2A%26%3D",
-        "unsupported_response_type&state=a+%7E*%26%3D",
+        "client_id=c1-1&response_type=token&state=a+%7E%2A%26%3D",
+        (
+            302,
+            "https://app.example/cb?error=unsupported_response_type&state=a+%7E*%26%3D",
+            Makes::Nothing,
+        ),
     ),
     (
         "no response type",
-        "scope=admin&state=xyz",
-        "invalid_request&state=xyz",
+        "client_id=c1-1&scope=admin&state=xyz",
+        REFUSED_REQUEST,
     ),
     (
         "a response type without a value",
-        "response_type=&state=xyz",
-        "invalid_request&state=xyz",
+        "client_id=c1-1&response_type=&state=xyz",
+        REFUSED_REQUEST,
     ),
     (
         "another response type",
-        "response_type=token&scope=admin&state=xyz",
-        "unsupported_response_type&state=xyz",
+        "client_id=c1-1&response_type=token&scope=admin&state=xyz",
+        REFUSED_TYPE,
     ),
     (
         "a response type in capitals",
-        "response_type=Code&state=xyz",
-        "unsupported_response_type&state=xyz",
+        "client_id=c1-1&response_type=Code&state=xyz",
+        REFUSED_TYPE,
     ),
     (
         "two spaces in a scope",
-        "response_type=code&scope=read++write&state=xyz",
-        "invalid_scope&state=xyz",
+        "client_id=c1-1&response_type=code&scope=read++write&state=xyz",
+        REFUSED_SCOPE,
     ),
     (
         "a scope that isn't the client's",
-        "response_type=code&scope=read+admin&state=xyz",
-        "invalid_scope&state=xyz",
+        "client_id=c1-1&response_type=code&scope=read+admin&state=xyz",
+        REFUSED_SCOPE,
     ),
     (
         "a method alone",
-        "response_type=code&code_challenge_method=S256&state=xyz",
-        "invalid_request&state=xyz",
+        "client_id=c1-1&response_type=code&code_challenge_method=S256&state=xyz",
+        REFUSED_REQUEST,
     ),
     (
         "no challenge of a public client",
-        "response_type=code&scope=read&state=xyz",
-        "invalid_request&state=xyz",
+        "client_id=c1-1&response_type=code&scope=read&state=xyz",
+        REFUSED_REQUEST,
     ),
     (
         "a challenge without a value",
-        "response_type=code&code_challenge=&state=xyz",
-        "invalid_request&state=xyz",
+        "client_id=c1-1&response_type=code&code_challenge=&state=xyz",
+        REFUSED_REQUEST,
     ),
     (
         "a method in small letters",
-        "response_type=code&code_challenge=E9Melhoa2OwvFrEMTJguCHaoeK1t8URWbuGJSstw-cM&code_challenge_method=s256&state=xyz",
-        "invalid_request&state=xyz",
+        "client_id=c1-1&response_type=code&code_challenge=E9Melhoa2OwvFrEMTJguCHaoeK1t8URWbuGJSstw-cM&code_challenge_method=s256&state=xyz",
+        REFUSED_REQUEST,
     ),
     (
         "a challenge with padding",
-        "response_type=code&code_challenge=E9Melhoa2OwvFrEMTJguCHaoeK1t8URWbuGJSstw-cM%3D&state=xyz",
-        "invalid_request&state=xyz",
+        "client_id=c1-1&response_type=code&code_challenge=E9Melhoa2OwvFrEMTJguCHaoeK1t8URWbuGJSstw-cM%3D&state=xyz",
+        REFUSED_REQUEST,
     ),
     (
         "a scope of tokens as written",
-        "response_type=code&scope=read+Write&state=xyz",
-        "invalid_scope&state=xyz",
+        "client_id=c1-1&response_type=code&scope=read+Write&state=xyz",
+        REFUSED_SCOPE,
     ),
     (
         "the URI as it was registered",
-        "response_type=token&redirect_uri=https%3A%2F%2Fapp.example%2Fcb&state=xyz",
-        "unsupported_response_type&state=xyz",
+        "client_id=c1-1&response_type=token&redirect_uri=https%3A%2F%2Fapp.example%2Fcb&state=xyz",
+        REFUSED_TYPE,
     ),
 ];
 
 #[test]
-fn what_is_asked_wrongly_is_told_at_the_uri(rt: HostRuntime) -> Result<(), Fail> {
-    let alloc = rt.alloc();
-    let ledger = ledger(alloc)?;
-    for (name, rest, error) in ROWS {
-        let query = format!(in alloc; "client_id=c1-1&{rest}")?;
-        let want = format!(in alloc; "https://app.example/cb?error={error}")?;
-        let decision = decided(alloc, &ledger, query.as_str(), Some("ann"))?;
-        is_redirect(&rt, name, &decision, want.as_str());
-        assert!(rt; decision.made.is_none(), "{name} makes no fact");
-    }
-    Ok(())
+fn what_is_asked_wrongly_is_told_at_the_uri(rt: HostRuntime) {
+    are_answered(&rt, rt.alloc(), ANN, &ROWS);
 }
 
-// A challenge of so many letters, without a method, and what follows the URI and `?`.
-fn tell_of_letters(
-    rt: &impl Abort,
-    alloc: Global,
-    ledger: &Ledger,
-    count: u8,
-    answer: &str,
-) -> Result<(), Fail> {
-    let mut query = String::from_str(alloc, "client_id=c1-1&response_type=code&code_challenge=")?;
-    for _ in 0..count {
-        query.push('a')?;
-    }
-    let want = format!(in alloc; "https://app.example/cb?{answer}")?;
-    let decision = decided(alloc, ledger, query.as_str(), Some("ann"))?;
-    is_redirect(rt, "a challenge of letters", &decision, want.as_str());
-    Ok(())
-}
+const ISSUED: Issued = Issued {
+    client: (1, 1),
+    consent: (1, 2),
+    scope: "read write",
+    uri: "https://app.example/cb",
+    sent: false,
+    challenge: None,
+    times: (1_000, 1_060, 2_593_000),
+};
 
-#[test]
-fn a_challenge_has_43_to_128_letters(rt: HostRuntime) -> Result<(), Fail> {
-    let alloc = rt.alloc();
-    let ledger = ledger(alloc)?;
-    let code = format!(in alloc; "code={CODE}")?;
-    for (count, is_one) in [(42, false), (43, true), (128, true), (129, false)] {
-        let answer = if is_one {
-            code.as_str()
-        } else {
-            "error=invalid_request"
-        };
-        tell_of_letters(&rt, alloc, &ledger, count, answer)?;
-    }
-    Ok(())
-}
-
-// Who has signed in.
-const SUBJECTS: [(&str, Option<&str>); 5] = [
-    ("nobody", None),
-    ("a name without a letter", Some("")),
-    ("a name with a space", Some("an n")),
-    ("a name beyond ASCII", Some("Ann\u{e9}")),
-    ("somebody who never consented", Some("bob")),
+// Challenges without a method.
+static CHALLENGES: [Row; 4] = [
+    (
+        "42 letters",
+        "client_id=c1-1&response_type=code&code_challenge=0123456789abcdef0123456789abcdef0123456789",
+        BAD_REQUEST,
+    ),
+    (
+        "43 letters",
+        "client_id=c1-1&response_type=code&code_challenge=0123456789abcdef0123456789abcdef0123456789a",
+        (
+            302,
+            "https://app.example/cb?code=AQEAAQAAAAAAAAADAAAAAAAAABIAAAAAAAAAEwAAAAAAAAAU",
+            Makes::Code(Issued {
+                challenge: Some((false, "0123456789abcdef0123456789abcdef0123456789a")),
+                ..ISSUED
+            }),
+        ),
+    ),
+    (
+        "128 letters",
+        "client_id=c1-1&response_type=code&code_challenge=0123456789abcdef0123456789abcdef0123456789abcdef0123456789abcdef0123456789abcdef0123456789abcdef0123456789abcdef0123456789abcdef",
+        (
+            302,
+            "https://app.example/cb?code=AQEAAQAAAAAAAAADAAAAAAAAABIAAAAAAAAAEwAAAAAAAAAU",
+            Makes::Code(Issued {
+                challenge: Some((
+                    false,
+                    "0123456789abcdef0123456789abcdef0123456789abcdef0123456789abcdef0123456789abcdef0123456789abcdef0123456789abcdef0123456789abcdef",
+                )),
+                ..ISSUED
+            }),
+        ),
+    ),
+    (
+        "129 letters",
+        "client_id=c1-1&response_type=code&code_challenge=0123456789abcdef0123456789abcdef0123456789abcdef0123456789abcdef0123456789abcdef0123456789abcdef0123456789abcdef0123456789abcdef0",
+        BAD_REQUEST,
+    ),
 ];
 
-// The reply of RFC 6749, 4.1.2.1.
 #[test]
-fn access_is_denied_without_a_consent(rt: HostRuntime) -> Result<(), Fail> {
-    let alloc = rt.alloc();
-    let ledger = ledger(alloc)?;
-    for (name, subject) in SUBJECTS {
-        let query = "response_type=code&client_id=c2-9&state=xyz";
-        let decision = decided(alloc, &ledger, query, subject)?;
-        let want = "https://client.example.com/cb?error=access_denied&state=xyz";
-        is_redirect(&rt, name, &decision, want);
-        assert!(rt; decision.made.is_none(), "{name} makes no fact");
+fn a_challenge_has_43_to_128_letters(rt: HostRuntime) {
+    are_answered(&rt, rt.alloc(), ANN, &CHALLENGES);
+}
+
+// The reply of RFC 6749, 4.1.2.1.
+static DENIED: [Row; 1] = [(
+    "no consent",
+    "response_type=code&client_id=c2-9&state=xyz",
+    (
+        302,
+        "https://client.example.com/cb?error=access_denied&state=xyz",
+        Makes::Nothing,
+    ),
+)];
+
+// Nobody has signed in, or somebody whose name has no letter, has a space, or goes beyond ASCII, or who never consented.
+#[test]
+fn access_is_denied_without_a_consent(rt: HostRuntime) {
+    for subject in [None, Some(""), Some("an n"), Some("Ann\u{e9}"), Some("bob")] {
+        are_answered(&rt, rt.alloc(), Asker::Subject(subject), &DENIED);
     }
-    Ok(())
+}
+
+// An omitted scope is the client's whole scope, which no consent of ann's includes.
+static WHOLE_SCOPE: [Row; 1] = [(
+    "the whole scope",
+    "client_id=c2-1&response_type=code&redirect_uri=https%3A%2F%2Fclient.example.com%2Fcb",
+    (
+        302,
+        "https://client.example.com/cb?error=access_denied",
+        Makes::Nothing,
+    ),
+)];
+
+#[test]
+fn the_whole_scope_needs_a_consent(rt: HostRuntime) {
+    are_answered(&rt, rt.alloc(), ANN, &WHOLE_SCOPE);
 }

@@ -1,12 +1,11 @@
 //! Requests to add a client: what each is answered.
 
-use super::administration::{ADDED, BAD_REQUEST, BAD_SCOPE, Row, are_answered};
-use super::facts::ledger;
-use std::test::Fail;
+use super::administration::{ADDED, BAD_REQUEST, BAD_SCOPE};
+use super::{Asker, Row, are_answered};
 use tk_message::Endpoint;
 
 // A row with several faults tells the first; only a bad scope has an answer of its own.
-const REGISTRATIONS: [Row; 39] = [
+static PARAMETERS: [Row; 19] = [
     (
         "a public client",
         "kind=public&scope=read&redirects=https://app.example/cb",
@@ -94,6 +93,15 @@ const REGISTRATIONS: [Row; 39] = [
         "kind=public&scope=read&redirects=",
         BAD_REQUEST,
     ),
+];
+
+#[test]
+fn a_registration_has_each_parameter_once(rt: HostRuntime) {
+    let admin = Asker::Admin(Endpoint::AddClient);
+    are_answered(&rt, rt.alloc(), admin, &PARAMETERS);
+}
+
+static VALUES: [Row; 20] = [
     (
         "another kind",
         "kind=native&scope=read&redirects=https://app.example/cb",
@@ -197,8 +205,7 @@ const REGISTRATIONS: [Row; 39] = [
 ];
 
 #[test]
-fn each_registration_has_its_answer(rt: HostRuntime) -> Result<(), Fail> {
-    let alloc = rt.alloc();
-    let ledger = ledger(alloc)?;
-    are_answered(&rt, alloc, &ledger, Endpoint::AddClient, &REGISTRATIONS)
+fn a_registration_with_a_bad_value_is_refused(rt: HostRuntime) {
+    let admin = Asker::Admin(Endpoint::AddClient);
+    are_answered(&rt, rt.alloc(), admin, &VALUES);
 }

@@ -17,9 +17,12 @@ pub(super) const OTHER_DIGEST: [u8; 32] = *b"fedcba9876543210fedcba9876543210";
 // A region and a serial.
 pub(super) type Place = (u16, u64);
 
-pub(super) fn dot(place: Place) -> Result<Dot, Fail> {
-    let region = RegionNumber::new(place.0).ok_or("a region")?;
-    Ok(Dot::new(region, place.1).ok_or("a dot")?)
+pub(super) fn dot_at(place: Place) -> Option<Dot> {
+    Dot::new(RegionNumber::new(place.0)?, place.1)
+}
+
+fn dot(place: Place) -> Result<Dot, Fail> {
+    Ok(dot_at(place).ok_or("a dot")?)
 }
 
 pub(super) fn moment(seconds: u64) -> Result<Moment, Fail> {

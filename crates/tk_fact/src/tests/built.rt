@@ -1,7 +1,7 @@
 //! Facts of each kind, built from their fields: the bytes that they have, and the rules that they break.
 
 use super::bodies::{
-    CodeFields, DIGEST, TokenFields, client, code, consent, dot, redemption, retirement, reuse,
+    CodeFields, DIGEST, TokenFields, client, code, consent, dot_at, redemption, retirement, reuse,
     revocation, rotation, withdrawal,
 };
 use super::{
@@ -48,17 +48,17 @@ fn built_clients_have_these_bytes(rt: HostRuntime) -> Result<(), Fail> {
     let alloc = rt.alloc();
     let public = client(alloc, Sort::Public, b"read", &[URI])?;
     assert!(rt;
-        has_bytes(alloc, (1, 1), public, PUBLIC_CLIENT)?,
+        has_bytes(alloc, (1, 1), public, PUBLIC_CLIENT),
         "a public client"
     );
     let server = client(alloc, Sort::Resource(DIGEST), b"write read", &[URI, b"/cb"])?;
     assert!(rt;
-        has_bytes(alloc, (1, 2), server, RESOURCE_SERVER)?,
+        has_bytes(alloc, (1, 2), server, RESOURCE_SERVER),
         "a resource server"
     );
     let retired = retirement((1, 1))?;
     assert!(rt;
-        has_bytes(alloc, (2, 1), retired, RETIRED_CLIENT)?,
+        has_bytes(alloc, (2, 1), retired, RETIRED_CLIENT),
         "a retired client"
     );
     Ok(())
@@ -69,13 +69,13 @@ fn built_consents_have_these_bytes(rt: HostRuntime) -> Result<(), Fail> {
     let alloc = rt.alloc();
     let given = consent(alloc, (1, 1), b"alice", b"read")?;
     assert!(rt;
-        has_bytes(alloc, (1, 3), given, GIVEN_CONSENT)?,
+        has_bytes(alloc, (1, 3), given, GIVEN_CONSENT),
         "a given consent"
     );
     let last = (65_535, 9_223_372_036_854_775_807);
     let withdrawn = withdrawal((1, 3))?;
     assert!(rt;
-        has_bytes(alloc, last, withdrawn, WITHDRAWN_CONSENT)?,
+        has_bytes(alloc, last, withdrawn, WITHDRAWN_CONSENT),
         "a withdrawn consent"
     );
     Ok(())
@@ -85,17 +85,17 @@ fn built_consents_have_these_bytes(rt: HostRuntime) -> Result<(), Fail> {
 fn built_tokens_have_these_bytes(rt: HostRuntime) -> Result<(), Fail> {
     let alloc = rt.alloc();
     assert!(rt;
-        has_bytes(alloc, (1, 4), code(alloc, ISSUED)?, CODE)?,
+        has_bytes(alloc, (1, 4), code(alloc, ISSUED)?, CODE),
         "a code"
     );
     let redeemed = redemption(alloc, REDEEMED)?;
     assert!(rt;
-        has_bytes(alloc, (1, 5), redeemed, REDEEMED_CODE)?,
+        has_bytes(alloc, (1, 5), redeemed, REDEEMED_CODE),
         "a redeemed code"
     );
     let rotated = rotation(alloc, 1, ROTATED)?;
     assert!(rt;
-        has_bytes(alloc, (1, 6), rotated, FIRST_ROTATION)?,
+        has_bytes(alloc, (1, 6), rotated, FIRST_ROTATION),
         "a rotation"
     );
     Ok(())
@@ -106,24 +106,26 @@ fn built_revocations_have_these_bytes(rt: HostRuntime) -> Result<(), Fail> {
     let alloc = rt.alloc();
     let revoked = revocation((1, 5), Kind::Refresh, (1, 1))?;
     assert!(rt;
-        has_bytes(alloc, (1, 7), revoked, REVOKED_TOKEN)?,
+        has_bytes(alloc, (1, 7), revoked, REVOKED_TOKEN),
         "a revoked token"
     );
     let reused = reuse((1, 3), Kind::Code)?;
     assert!(rt;
-        has_bytes(alloc, (1, 5), reused, REUSED_CODE)?,
+        has_bytes(alloc, (1, 5), reused, REUSED_CODE),
         "a reused code"
     );
     Ok(())
 }
 
+const RANGE: Option<FactError> = Some(FactError::Range);
+
 // Which rule a body breaks, if any.
-fn broken(body: Body) -> Result<Option<FactError>, Fail> {
+fn broken(body: Body) -> Option<FactError> {
     let fact = Fact {
-        dot: dot((1, 9))?,
+        dot: dot_at((1, 9))?,
         body,
     };
-    Ok(fact.check().err())
+    fact.check().err()
 }
 
 // Which rule a code breaks, if any, that is issued from 1,000 on with an expiry and a family's end.
@@ -134,18 +136,18 @@ fn broken_code(alloc: Global, ends: (u64, u64)) -> Result<Option<FactError>, Fai
         family_end,
         ..ISSUED
     };
-    broken(code(alloc, fields)?)
+    Ok(broken(code(alloc, fields)?))
 }
+
+const CODE_ENDS: &[(&str, (u64, u64), Option<FactError>)] = &[
+    ("ends at the start", (1_000, 1_000), None),
+    ("an expiry before the start", (999, 1_000), RANGE),
+    ("a family's end before the start", (1_000, 999), RANGE),
+];
 
 #[test]
 fn ranges_of_codes_are_told(rt: HostRuntime) -> Result<(), Fail> {
-    let range = Some(FactError::Range);
-    let rows = [
-        ("ends at the start", (1_000, 1_000), None),
-        ("an expiry before the start", (999, 1_000), range),
-        ("a family's end before the start", (1_000, 999), range),
-    ];
-    for (name, ends, want) in rows {
+    for &(name, ends, want) in CODE_ENDS {
         assert_eq!(rt; broken_code(rt.alloc(), ends)?, want, "{name}");
     }
     Ok(())
@@ -159,18 +161,18 @@ fn broken_redemption(alloc: Global, ends: (u64, u64)) -> Result<Option<FactError
         refresh_end,
         ..REDEEMED
     };
-    broken(redemption(alloc, fields)?)
+    Ok(broken(redemption(alloc, fields)?))
 }
+
+const TOKEN_ENDS: &[(&str, (u64, u64), Option<FactError>)] = &[
+    ("ends at the start", (1_010, 1_010), None),
+    ("an access token's end before it", (1_009, 1_010), RANGE),
+    ("a refresh token's end before it", (1_010, 1_009), RANGE),
+];
 
 #[test]
 fn ranges_of_redemptions_are_told(rt: HostRuntime) -> Result<(), Fail> {
-    let range = Some(FactError::Range);
-    let rows = [
-        ("ends at the start", (1_010, 1_010), None),
-        ("an access token's end before it", (1_009, 1_010), range),
-        ("a refresh token's end before it", (1_010, 1_009), range),
-    ];
-    for (name, ends, want) in rows {
+    for &(name, ends, want) in TOKEN_ENDS {
         assert_eq!(rt; broken_redemption(rt.alloc(), ends)?, want, "{name}");
     }
     Ok(())
@@ -188,37 +190,38 @@ fn broken_rotation(
         refresh_end,
         ..ROTATED
     };
-    broken(rotation(alloc, generation, fields)?)
+    Ok(broken(rotation(alloc, generation, fields)?))
 }
+
+const GENERATIONS: &[(&str, u16, (u64, u64), Option<FactError>)] = &[
+    ("the generation 10,000", 10_000, (1_700, 1_700), None),
+    ("the generation 10,001", 10_001, (1_700, 1_700), RANGE),
+    ("the generation 0", 0, (1_700, 1_700), RANGE),
+    ("an end before the start", 1, (1_700, 1_699), RANGE),
+];
 
 #[test]
 fn ranges_of_rotations_are_told(rt: HostRuntime) -> Result<(), Fail> {
-    let range = Some(FactError::Range);
-    let rows = [
-        ("the generation 10,000", 10_000, (1_700, 1_700), None),
-        ("the generation 10,001", 10_001, (1_700, 1_700), range),
-        ("the generation 0", 0, (1_700, 1_700), range),
-        ("an end before the start", 1, (1_700, 1_699), range),
-    ];
-    for (name, generation, ends, want) in rows {
+    for &(name, generation, ends, want) in GENERATIONS {
         let told = broken_rotation(rt.alloc(), generation, ends)?;
         assert_eq!(rt; told, want, "{name}");
     }
     Ok(())
 }
 
+// A kind, and the rules that the revocation and the reuse of such a token break.
+const KINDS: &[(&str, Kind, Option<FactError>, Option<FactError>)] = &[
+    ("a code", Kind::Code, RANGE, None),
+    ("an access token", Kind::Access, None, RANGE),
+    ("a refresh token", Kind::Refresh, None, None),
+];
+
 #[test]
 fn tokens_that_cannot_be_revoked_or_used_again_are_told(rt: HostRuntime) -> Result<(), Fail> {
-    let range = Some(FactError::Range);
-    let rows = [
-        ("a code", Kind::Code, range, None),
-        ("an access token", Kind::Access, None, range),
-        ("a refresh token", Kind::Refresh, None, None),
-    ];
-    for (name, kind, revoked, reused) in rows {
-        let told = broken(revocation((1, 5), kind, (1, 1))?)?;
+    for &(name, kind, revoked, reused) in KINDS {
+        let told = broken(revocation((1, 5), kind, (1, 1))?);
         assert_eq!(rt; told, revoked, "{name}, revoked");
-        let told = broken(reuse((1, 3), kind)?)?;
+        let told = broken(reuse((1, 3), kind)?);
         assert_eq!(rt; told, reused, "{name}, used again");
     }
     Ok(())

@@ -2,27 +2,29 @@
 
 use super::{Numeral, read_numeral};
 
+// Texts, and their numbers up to 16,384.
+const UP_TO_16384: &[(&str, Numeral)] = &[
+    ("0", Numeral::Within(0)),
+    ("16384", Numeral::Within(16384)),
+    ("16385", Numeral::Above),
+    (
+        "0000000000000000000000000000000000000016384",
+        Numeral::Within(16384),
+    ),
+    ("99999999999999999999999", Numeral::Above),
+    ("18446744073709551616", Numeral::Above),
+    ("", Numeral::Malformed),
+    ("+5", Numeral::Malformed),
+    ("-5", Numeral::Malformed),
+    (" 5", Numeral::Malformed),
+    ("5 ", Numeral::Malformed),
+    ("0x5", Numeral::Malformed),
+    ("99999999999999999999999x", Numeral::Malformed),
+];
+
 #[test]
 fn digits_are_read_up_to_the_limit(rt: HostRuntime) {
-    let rows = [
-        ("0", Numeral::Within(0)),
-        ("16384", Numeral::Within(16384)),
-        ("16385", Numeral::Above),
-        (
-            "0000000000000000000000000000000000000016384",
-            Numeral::Within(16384),
-        ),
-        ("99999999999999999999999", Numeral::Above),
-        ("18446744073709551616", Numeral::Above),
-        ("", Numeral::Malformed),
-        ("+5", Numeral::Malformed),
-        ("-5", Numeral::Malformed),
-        (" 5", Numeral::Malformed),
-        ("5 ", Numeral::Malformed),
-        ("0x5", Numeral::Malformed),
-        ("99999999999999999999999x", Numeral::Malformed),
-    ];
-    for (text, want) in rows {
+    for &(text, want) in UP_TO_16384 {
         assert_eq!(rt; read_numeral(text.as_bytes(), 16384), want, "{text}");
     }
 }

@@ -1,191 +1,162 @@
-//! Facts in bytes, as they come from other regions, and the handles of the tokens that they mint.
+//! What facts say, their bytes, as they come from other regions, and the handles of the tokens that they mint.
 //!
 //! Clients have the scope `read write`; a code begins at 1,000 and ends at 1,060, its family at 90,000; its tokens begin
 //! at 1,010, the access token ends at 4,610 and the refresh token at 87,410.
 
 use std::alloc::Global;
-use std::test::Fail;
-use tk_format::Writer;
-use tk_handle::{Dot, Handle, Kind, Moment, RegionNumber, TokenId};
+use tk_fact::Fact;
+use tk_handle::{Dot, Handle, Kind, RegionNumber, TokenId};
 
 /// A region and a serial.
 pub(super) type Place = (u16, u64);
 
-pub(super) fn dot(place: Place) -> Result<Dot, Fail> {
-    let region = RegionNumber::new(place.0).ok_or("a region")?;
-    Ok(Dot::new(region, place.1).ok_or("a dot")?)
-}
-
-pub(super) fn moment(seconds: u64) -> Result<Moment, Fail> {
-    Ok(Moment::new(seconds).ok_or("a moment")?)
-}
-
-/// A handle of the token that is minted there, whose words are that number.
-pub(super) fn handle(place: Place, kind: Kind, word: u64) -> Result<Handle, Fail> {
-    let id = TokenId {
-        dot: dot(place)?,
-        kind,
-    };
-    Ok(Handle::mint(id, [word; 3]))
-}
-
 /// Where a token is minted, its kind, and its words.
 pub(super) type Token = (Place, Kind, u64);
 
-pub(super) fn handle_of(token: Token) -> Result<Handle, Fail> {
-    handle(token.0, token.1, token.2)
+/// What a fact says. Pairs of words are those of an access token and of a refresh token.
+#[derive(Clone, Copy)]
+pub(super) enum Says {
+    ClientAdded,
+    ClientRetired(Place),
+    /// To the client, for the scope that is spelled so.
+    ConsentGiven(Place, &'static [u8]),
+    ConsentWithdrawn(Place),
+    /// With these words, to the client, by the consent.
+    CodeIssued(u64, Place, Place),
+    CodeRedeemed(Place, (u64, u64)),
+    /// Of what was minted there, to the tokens of the generation.
+    RefreshRotated(Place, u16, (u64, u64)),
+    /// By the client.
+    TokenRevoked(Token, Place),
+    ReuseSeen(Place, Kind),
 }
 
-// The dot of a fact, and the number of its kind.
-fn fact_of_kind(alloc: Global, at: Place, number: u8) -> Result<Writer, Fail> {
-    let at = dot(at)?;
-    let mut writer = Writer::new(alloc);
-    at.write(&mut writer)?;
-    writer.put_u8(number)?;
-    Ok(writer)
+/// Where a fact stands, and what it says.
+pub(super) type Told = (Place, Says);
+
+pub(super) fn dot(place: Place) -> Option<Dot> {
+    let region = RegionNumber::new(place.0)?;
+    Dot::new(region, place.1)
 }
 
-pub(super) fn client_added(alloc: Global, at: Place) -> Result<Vec<u8>, Fail> {
-    let mut writer = fact_of_kind(alloc, at, 1)?;
-    writer.put_u8(0)?;
-    writer.put_text(b"read write")?;
-    writer.put_u8(1)?;
-    writer.put_text(b"https://app.example/cb")?;
-    Ok(writer.into_bytes())
+/// A handle of the token, of the words of that number.
+pub(super) fn handle(token: Token) -> Option<Handle> {
+    let (place, kind, word) = token;
+    let dot = dot(place)?;
+    Some(Handle::mint(TokenId { dot, kind }, [word; 3]))
 }
 
-// A fact that names one dot and says no more.
-fn naming(alloc: Global, at: Place, number: u8, named: Place) -> Result<Vec<u8>, Fail> {
-    let named = dot(named)?;
-    let mut writer = fact_of_kind(alloc, at, number)?;
-    named.write(&mut writer)?;
-    Ok(writer.into_bytes())
+fn digest(token: Token) -> Option<[u8; 32]> {
+    Some(handle(token)?.digest())
 }
 
-pub(super) fn client_retired(alloc: Global, at: Place, client: Place) -> Result<Vec<u8>, Fail> {
-    naming(alloc, at, 2, client)
+// The bytes of a dot.
+fn spelled(place: Place) -> [u8; 10] {
+    let [high, low] = place.0.to_be_bytes();
+    let [a, b, c, d, e, f, g, h] = place.1.to_be_bytes();
+    [high, low, a, b, c, d, e, f, g, h]
 }
 
-pub(super) fn consent_withdrawn(alloc: Global, at: Place, consent: Place) -> Result<Vec<u8>, Fail> {
-    naming(alloc, at, 4, consent)
+fn joined(alloc: Global, parts: &[&[u8]]) -> Option<Vec<u8>> {
+    let mut joined = Vec::new(alloc);
+    for part in parts {
+        if joined.extend_from_slice(part).is_err() {
+            return None;
+        }
+    }
+    Some(joined)
 }
 
-// A consent of ann's for the client, up to its scope.
-fn consent_of_ann(alloc: Global, at: Place, client: Place) -> Result<Writer, Fail> {
-    let client = dot(client)?;
-    let mut writer = fact_of_kind(alloc, at, 3)?;
-    client.write(&mut writer)?;
-    writer.put_text(b"ann")?;
-    Ok(writer)
+pub(super) const READ: &[u8] = b"\x00\x04read";
+
+pub(super) const READ_WRITE: &[u8] = b"\x00\x0aread write";
+
+const ADDED: &[u8] = b"\x01\x00\x00\x0aread write\x01\x00\x16https://app.example/cb";
+
+// The moments of a code, and all behind them.
+const CODE_END: &[u8] = b"\x00\x00\x00\x00\x00\x00\x03\xe8\x00\x00\x00\x00\x00\x00\x04\x24\
+    \x00\x00\x00\x00\x00\x01\x5f\x90\x00\x03ann\x00\x0aread write\x00\x16https://app.example/cb\x00\x00";
+
+// The moments of tokens, with the scopes behind their ends.
+const START: &[u8] = b"\x00\x00\x00\x00\x00\x00\x03\xf2";
+
+const ACCESS_END: &[u8] = b"\x00\x00\x00\x00\x00\x00\x12\x02\x00\x0aread write";
+
+const REFRESH_END: &[u8] = b"\x00\x00\x00\x00\x00\x01\x55\x72\x00\x0aread write";
+
+fn issued(alloc: Global, at: Place, word: u64, by: (Place, Place)) -> Option<Vec<u8>> {
+    let digest = digest((at, Kind::Code, word))?;
+    let (at, client, consent) = (spelled(at), spelled(by.0), spelled(by.1));
+    joined(alloc, &[&at, b"\x05", &client, &consent, &digest, CODE_END])
 }
 
-/// For the scope `read write`.
-pub(super) fn consent_given(alloc: Global, at: Place, client: Place) -> Result<Vec<u8>, Fail> {
-    let mut writer = consent_of_ann(alloc, at, client)?;
-    writer.put_text(b"read write")?;
-    Ok(writer.into_bytes())
+// A fact that uses a token, of these bytes between its dot and those of the new tokens.
+fn minted(alloc: Global, at: Place, uses: [&[u8]; 3], words: (u64, u64)) -> Option<Vec<u8>> {
+    let access = digest((at, Kind::Access, words.0))?;
+    let refresh = digest((at, Kind::Refresh, words.1))?;
+    let [number, used, generation] = uses;
+    let parts: [&[u8]; 9] = [
+        &spelled(at),
+        number,
+        used,
+        generation,
+        START,
+        &access,
+        ACCESS_END,
+        &refresh,
+        REFRESH_END,
+    ];
+    joined(alloc, &parts)
 }
 
-/// For the scope `read`.
-pub(super) fn read_consent_given(alloc: Global, at: Place, client: Place) -> Result<Vec<u8>, Fail> {
-    let mut writer = consent_of_ann(alloc, at, client)?;
-    writer.put_text(b"read")?;
-    Ok(writer.into_bytes())
+fn revoked(alloc: Global, at: Place, token: Token, client: Place) -> Option<Vec<u8>> {
+    let digest = digest(token)?;
+    let (at, dot, client) = (spelled(at), spelled(token.0), spelled(client));
+    joined(
+        alloc,
+        &[&at, b"\x08", &dot, &[token.1.number()], &digest, &client],
+    )
 }
 
-fn put_moment(writer: &mut Writer, seconds: u64) -> Result<(), Fail> {
-    Ok(moment(seconds)?.write(writer)?)
+// The bytes of a fact.
+fn bytes_of(alloc: Global, told: &Told) -> Option<Vec<u8>> {
+    let (place, says) = *told;
+    let at = spelled(place);
+    match says {
+        Says::ClientAdded => joined(alloc, &[&at, ADDED]),
+        Says::ClientRetired(client) => joined(alloc, &[&at, b"\x02", &spelled(client)]),
+        Says::ConsentGiven(client, scope) => {
+            joined(
+                alloc,
+                &[&at, b"\x03", &spelled(client), b"\x00\x03ann", scope],
+            )
+        }
+        Says::ConsentWithdrawn(consent) => joined(alloc, &[&at, b"\x04", &spelled(consent)]),
+        Says::CodeIssued(word, client, consent) => issued(alloc, place, word, (client, consent)),
+        Says::CodeRedeemed(code, words) => {
+            minted(alloc, place, [b"\x06", &spelled(code), b""], words)
+        }
+        Says::RefreshRotated(parent, generation, words) => {
+            let generation = generation.to_be_bytes();
+            minted(
+                alloc,
+                place,
+                [b"\x07", &spelled(parent), &generation],
+                words,
+            )
+        }
+        Says::TokenRevoked(token, client) => revoked(alloc, place, token, client),
+        Says::ReuseSeen(token, kind) => {
+            joined(alloc, &[&at, b"\x09", &spelled(token), &[kind.number()]])
+        }
+    }
 }
 
-/// A code of that handle, for the client, by the consent.
-pub(super) fn code_issued(
-    alloc: Global,
-    code: &Handle,
-    client: Place,
-    consent: Place,
-) -> Result<Vec<u8>, Fail> {
-    let (client, consent) = (dot(client)?, dot(consent)?);
-    let mut writer = Writer::new(alloc);
-    code.id.dot.write(&mut writer)?;
-    writer.put_u8(5)?;
-    client.write(&mut writer)?;
-    consent.write(&mut writer)?;
-    writer.put_bytes(&code.digest())?;
-    put_moment(&mut writer, 1_000)?;
-    put_moment(&mut writer, 1_060)?;
-    put_moment(&mut writer, 90_000)?;
-    writer.put_text(b"ann")?;
-    writer.put_text(b"read write")?;
-    writer.put_text(b"https://app.example/cb")?;
-    writer.put_u8(0)?;
-    writer.put_u8(0)?;
-    Ok(writer.into_bytes())
-}
-
-fn put_token(writer: &mut Writer, token: &Handle, end: u64) -> Result<(), Fail> {
-    writer.put_bytes(&token.digest())?;
-    put_moment(writer, end)?;
-    Ok(writer.put_text(b"read write")?)
-}
-
-// From the start on: the tokens of these handles.
-fn put_tokens(writer: &mut Writer, tokens: &(Handle, Handle)) -> Result<(), Fail> {
-    put_moment(writer, 1_010)?;
-    put_token(writer, &tokens.0, 4_610)?;
-    put_token(writer, &tokens.1, 87_410)
-}
-
-/// The access token and the refresh token that are minted there, with these words.
-pub(super) fn tokens(at: Place, words: (u64, u64)) -> Result<(Handle, Handle), Fail> {
-    Ok((
-        handle(at, Kind::Access, words.0)?,
-        handle(at, Kind::Refresh, words.1)?,
-    ))
-}
-
-pub(super) fn code_redeemed(
-    alloc: Global,
-    at: Place,
-    code: Place,
-    words: (u64, u64),
-) -> Result<Vec<u8>, Fail> {
-    let (code, tokens) = (dot(code)?, tokens(at, words)?);
-    let mut writer = fact_of_kind(alloc, at, 6)?;
-    code.write(&mut writer)?;
-    put_tokens(&mut writer, &tokens)?;
-    Ok(writer.into_bytes())
-}
-
-pub(super) fn refresh_rotated(
-    alloc: Global,
-    at: Place,
-    parent: (Place, u16),
-    words: (u64, u64),
-) -> Result<Vec<u8>, Fail> {
-    let (dot, tokens) = (dot(parent.0)?, tokens(at, words)?);
-    let mut writer = fact_of_kind(alloc, at, 7)?;
-    dot.write(&mut writer)?;
-    writer.put_u16(parent.1)?;
-    put_tokens(&mut writer, &tokens)?;
-    Ok(writer.into_bytes())
-}
-
-pub(super) fn token_revoked(
-    alloc: Global,
-    at: Place,
-    token: &Handle,
-    client: Place,
-) -> Result<Vec<u8>, Fail> {
-    let client = dot(client)?;
-    let mut writer = fact_of_kind(alloc, at, 8)?;
-    token.id.write(&mut writer)?;
-    writer.put_bytes(&token.digest())?;
-    client.write(&mut writer)?;
-    Ok(writer.into_bytes())
-}
-
-pub(super) fn reuse_seen(alloc: Global, at: Place, token: &Handle) -> Result<Vec<u8>, Fail> {
-    let mut writer = fact_of_kind(alloc, at, 9)?;
-    token.id.write(&mut writer)?;
-    Ok(writer.into_bytes())
+/// The fact that is read from its bytes, where there is memory for it.
+pub(super) fn fact(alloc: Global, told: &Told) -> Option<Fact> {
+    let bytes = bytes_of(alloc, told)?;
+    match Fact::read(alloc, bytes.as_slice()) {
+        Ok(fact) => Some(fact),
+        Err(_) => None,
+    }
 }

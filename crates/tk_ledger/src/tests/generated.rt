@@ -1,15 +1,12 @@
 //! Sets of facts that no one chose, hostile ones among them: the ledger says of them what a walk over the facts says.
 
-use super::facts::{
-    Place, client_added, client_retired, code_issued, code_redeemed, consent_given,
-    consent_withdrawn, dot, handle, refresh_rotated, reuse_seen, token_revoked,
-};
-use super::orders::{Both, add_to_both, in_short, live_client, live_consent};
+use super::facts::{Place, READ_WRITE, Says, Token, dot, handle};
+use super::orders::{Both, add_to_both, found, in_short};
+use crate::{ClientView, ConsentView};
 use std::alloc::Global;
 use std::test::Fail;
-use tk_fact::Subject;
-use tk_handle::{Handle, Kind};
-use tk_scope::Scope;
+use tk_handle::{Dot, Kind};
+use tk_store::AddError;
 
 const PLACES: [Place; 8] = [
     (1, 1),
@@ -53,105 +50,114 @@ fn named(usual: usize, number: u64) -> Place {
     }
 }
 
-// The fact at the place of this index.
-fn generated(alloc: Global, index: u64, number: u64) -> Result<Vec<u8>, Fail> {
-    let at = place(index);
+// What the fact at the place of this index says.
+fn generated(index: u64, number: u64) -> Says {
     let (client, consent) = (named(0, number >> 20), named(1, number >> 26));
     let (code, parent) = (named(2, number >> 32), named(3, number >> 38));
     match kind_at(index, number >> 14) {
-        0 => client_added(alloc, at),
-        1 => consent_given(alloc, at, client),
-        2 => code_issued(alloc, &handle(at, Kind::Code, 9)?, client, consent),
-        3 | 4 => code_redeemed(alloc, at, code, (7, 8)),
+        0 => Says::ClientAdded,
+        1 => Says::ConsentGiven(client, READ_WRITE),
+        2 => Says::CodeIssued(9, client, consent),
+        3 | 4 => Says::CodeRedeemed(code, (7, 8)),
         5 => {
             let generation = if number >> 44 & 1 == 0 { 1 } else { 2 };
-            refresh_rotated(alloc, at, (parent, generation), (7, 8))
+            Says::RefreshRotated(parent, generation, (7, 8))
         }
-        6 => token_revoked(alloc, at, &handle(parent, Kind::Refresh, 8)?, client),
-        7 => reuse_seen(alloc, at, &handle(code, Kind::Code, 9)?),
-        _ => gone(alloc, at, number >> 50),
+        6 => Says::TokenRevoked((parent, Kind::Refresh, 8), client),
+        7 => Says::ReuseSeen(code, Kind::Code),
+        _ => gone(number >> 50),
     }
 }
 
 // A retirement or a withdrawal.
-fn gone(alloc: Global, at: Place, number: u64) -> Result<Vec<u8>, Fail> {
+fn gone(number: u64) -> Says {
     if number % 2 == 0 {
-        client_retired(alloc, at, named(0, number >> 1))
+        Says::ClientRetired(named(0, number >> 1))
     } else {
-        consent_withdrawn(alloc, at, named(1, number >> 1))
+        Says::ConsentWithdrawn(named(1, number >> 1))
     }
 }
 
-// Eight facts, or fewer where one conflicts or breaks a rule, from a place on that the number tells.
-fn filled(alloc: Global, seed: u64) -> Result<Both, Fail> {
-    let mut both = Both::new(alloc);
+// Eight facts, or fewer where one conflicts, from a place on that the number tells: whether both took them alike.
+fn are_filled(alloc: Global, both: &mut Both, seed: u64) -> bool {
     let mut number = next(seed);
     for step in 0..10_u64 {
         number = next(number);
         // Two of the ten come where a fact is already.
         let index = seed.wrapping_add(step.wrapping_mul(3 + seed % 4 * 2)) % 8;
-        let fact = generated(alloc, index, number)?;
-        let _ = add_to_both(alloc, &mut both, &fact)?;
+        match add_to_both(alloc, both, &(place(index), generated(index, number))) {
+            Some(Ok(_)) | Some(Err(AddError::Conflict)) => {}
+            _ => return false,
+        }
     }
-    Ok(both)
+    true
 }
 
-// Of a token: its status in both, which `in_short` compares, and its revocation by the client at 1:1.
-fn compare_token(both: &Both, token: &Handle) -> Result<(), Fail> {
-    let _ = in_short(both, 1_020, token)?;
-    let (digest, client) = (token.digest(), dot((1, 1))?);
-    let revoked = both.ledger.revoked(&token.id, &digest, client);
-    if revoked != both.plain.revoked(&token.id, &digest, client) {
-        Err("a revocation is told differently")?;
-    }
-    Ok(())
+// Of a token: its status in both, and its revocation by the client at 1:1.
+fn tells_alike(both: &Both, token: Token) -> Option<bool> {
+    let (handle, client) = (handle(token)?, dot((1, 1))?);
+    let (id, digest) = (handle.id, handle.digest());
+    let revoked = both.ledger.revoked(&id, &digest, client);
+    let is_alike = both.plain.revoked(&id, &digest, client) == revoked;
+    Some(is_alike && in_short(both, 1_020, token).is_some())
 }
 
-// Of each token, with its digest and with another.
-fn compare_tokens(both: &Both) -> Result<(), Fail> {
-    for at in PLACES {
-        for kind in KINDS {
-            for word in [7, 8, 9] {
-                compare_token(both, &handle(at, kind, word)?)?;
+// Of each token at a place, with its digest and with another.
+fn tells_tokens_alike(both: &Both, at: Place) -> bool {
+    for kind in KINDS {
+        for word in [7, 8, 9] {
+            if tells_alike(both, (at, kind, word)) != Some(true) {
+                return false;
             }
         }
     }
-    Ok(())
+    true
 }
 
-// Of each place: the client and the consent there, if any.
-fn compare_views(both: &Both) -> Result<(), Fail> {
+// Whether the client that is shown is live.
+fn live_client(client: Option<ClientView<'_>>) -> Option<bool> {
+    match client {
+        Some(client) => Some(client.live),
+        None => None,
+    }
+}
+
+// Whether the consent that is shown is live.
+fn live_consent(consent: Option<ConsentView<'_>>) -> Option<bool> {
+    match consent {
+        Some(consent) => Some(consent.live),
+        None => None,
+    }
+}
+
+// The client and the consent at the dot, if any.
+fn shows_alike(both: &Both, dot: Dot) -> bool {
+    live_client(both.ledger.client(dot)) == live_client(both.plain.client(dot))
+        && live_consent(both.ledger.consent(dot)) == live_consent(both.plain.consent(dot))
+}
+
+fn is_alike(alloc: Global, both: &Both, at: Place) -> Option<bool> {
+    let is_found_alike = found(alloc, both, at, b"ann", b"read").is_some();
+    Some(is_found_alike && shows_alike(both, dot(at)?) && tells_tokens_alike(both, at))
+}
+
+fn are_alike(alloc: Global, both: &Both) -> bool {
     for at in PLACES {
-        let dot = dot(at)?;
-        if live_client(both.ledger.client(dot)) != live_client(both.plain.client(dot)) {
-            Err("a client is told differently")?;
-        }
-        if live_consent(both.ledger.consent(dot)) != live_consent(both.plain.consent(dot)) {
-            Err("a consent is told differently")?;
+        if is_alike(alloc, both, at) != Some(true) {
+            return false;
         }
     }
-    Ok(())
+    true
 }
 
-fn compare_consents(alloc: Global, both: &Both) -> Result<(), Fail> {
-    let subject = Subject::read(alloc, b"ann")?;
-    let scope = Scope::read(alloc, b"read")?;
-    for at in PLACES {
-        let found = both.ledger.consent_for(dot(at)?, &subject, &scope);
-        if found != both.plain.consent_for(dot(at)?, &subject, &scope) {
-            Err("a consent is found differently")?;
-        }
+// How many facts both hold, where they say the same of all.
+fn alike(alloc: Global, seed: u64) -> Option<u64> {
+    let mut both = Both::new(alloc);
+    if are_filled(alloc, &mut both, seed) && are_alike(alloc, &both) {
+        Some(both.ledger.store().len())
+    } else {
+        None
     }
-    Ok(())
-}
-
-// How many facts both hold, which say the same of all.
-fn compared(alloc: Global, seed: u64) -> Result<u64, Fail> {
-    let both = filled(alloc, seed)?;
-    compare_tokens(&both)?;
-    compare_views(&both)?;
-    compare_consents(alloc, &both)?;
-    Ok(both.ledger.store().len())
 }
 
 #[test]
@@ -159,7 +165,7 @@ fn both_ledgers_say_the_same_of_generated_facts(rt: HostRuntime) -> Result<(), F
     let alloc = rt.alloc();
     let mut held: u64 = 0;
     for seed in 0..400 {
-        held = held.saturating_add(compared(alloc, seed)?);
+        held = held.saturating_add(alike(alloc, seed).ok_or("the ledgers differ")?);
     }
     assert!(rt; held > 2_400, "{held} facts");
     Ok(())

@@ -1,7 +1,7 @@
 //! A family of ten thousand rotations: what is asked of its last tokens costs no more than of its first.
 
-use super::before_grants;
-use super::facts::{code_redeemed, handle, moment, refresh_rotated};
+use super::BEFORE_GRANTS;
+use super::facts::{Says, Told, handle};
 use super::orders::add_to_ledger;
 use crate::{Ledger, State, Status};
 use std::alloc::Global;
@@ -9,90 +9,95 @@ use std::rt::Clock;
 use std::test::Fail;
 use std::time::{Duration, Instant};
 use tk_family::Steps;
-use tk_handle::{Handle, Kind};
+use tk_handle::{Handle, Kind, Moment};
 
-fn take(alloc: Global, ledger: &mut Ledger, fact: &[u8]) -> Result<(), Fail> {
-    match add_to_ledger(alloc, ledger, fact)? {
-        Ok(_) => Ok(()),
-        Err(_) => Err("a fact isn't taken")?,
-    }
+fn is_taken(alloc: Global, ledger: &mut Ledger, told: &Told) -> bool {
+    matches!(add_to_ledger(alloc, ledger, told), Some(Ok(_)))
 }
 
 // A code, and its redemption.
-fn issue(alloc: Global, ledger: &mut Ledger) -> Result<(), Fail> {
-    for fact in &before_grants(alloc)? {
-        take(alloc, ledger, fact)?;
+fn is_issued(alloc: Global, ledger: &mut Ledger) -> bool {
+    for told in &BEFORE_GRANTS {
+        if !is_taken(alloc, ledger, told) {
+            return false;
+        }
     }
-    let redeemed = code_redeemed(alloc, (1, 4), (1, 3), (7, 8))?;
-    take(alloc, ledger, &redeemed)
+    is_taken(alloc, ledger, &((1, 4), Says::CodeRedeemed((1, 3), (7, 8))))
 }
 
-fn rotate(alloc: Global, ledger: &mut Ledger, generation: u16) -> Result<(), Fail> {
-    let parent = ((1, 3 + u64::from(generation)), generation);
-    let fact = refresh_rotated(alloc, (1, 4 + u64::from(generation)), parent, (7, 8))?;
-    take(alloc, ledger, &fact)
-}
-
-fn rotate_all(alloc: Global, ledger: &mut Ledger, rotations: u16) -> Result<(), Fail> {
+fn is_rotated(alloc: Global, ledger: &mut Ledger, rotations: u16) -> bool {
     for generation in 1..=rotations {
-        rotate(alloc, ledger, generation)?;
+        let parent = 3 + u64::from(generation);
+        let says = Says::RefreshRotated((1, parent), generation, (7, 8));
+        if !is_taken(alloc, ledger, &((1, parent + 1), says)) {
+            return false;
+        }
     }
-    Ok(())
+    true
 }
 
 // The ledger of a family with so many rotations.
-fn rotated(alloc: Global, rotations: u16) -> Result<Ledger, Fail> {
+fn rotated(alloc: Global, rotations: u16) -> Option<Ledger> {
     let mut ledger = Ledger::new(alloc);
-    issue(alloc, &mut ledger)?;
-    rotate_all(alloc, &mut ledger, rotations)?;
-    Ok(ledger)
+    if is_issued(alloc, &mut ledger) && is_rotated(alloc, &mut ledger, rotations) {
+        Some(ledger)
+    } else {
+        None
+    }
 }
 
 // The refresh token that so many rotations lead to.
-fn last(rotations: u16) -> Result<Handle, Fail> {
-    handle((1, 4 + u64::from(rotations)), Kind::Refresh, 8)
+fn last(rotations: u16) -> Option<Handle> {
+    handle(((1, 4 + u64::from(rotations)), Kind::Refresh, 8))
 }
 
 // Whether the token is live, and how many look-ups tell so.
-fn told(ledger: &Ledger, token: &Handle) -> Result<(bool, u64), Fail> {
+fn told(ledger: &Ledger, now: Moment, token: &Handle) -> (bool, u64) {
     let mut steps = Steps::new();
-    let is_live = match ledger.status(moment(1_020)?, token, &mut steps) {
+    let is_live = match ledger.status(now, token, &mut steps) {
         Status::Known(standing) => standing.state == State::Live,
         _ => false,
     };
-    Ok((is_live, steps.count()))
+    (is_live, steps.count())
 }
 
-fn told_after(alloc: Global, rotations: u16) -> Result<(bool, u64), Fail> {
-    let token = last(rotations)?;
+fn told_after(alloc: Global, rotations: u16) -> Option<(bool, u64)> {
+    let (now, token) = (Moment::new(1_020)?, last(rotations)?);
     let ledger = rotated(alloc, rotations)?;
-    told(&ledger, &token)
+    Some(told(&ledger, now, &token))
 }
 
 #[test]
-fn look_ups_are_as_many_at_every_generation(rt: HostRuntime) -> Result<(), Fail> {
-    let alloc = rt.alloc();
+fn look_ups_are_as_many_at_every_generation(rt: HostRuntime) {
     for rotations in [1, 10_000] {
-        let (is_live, count) = told_after(alloc, rotations)?;
-        assert!(rt; is_live && count == 8, "{rotations}: {count}");
+        let told = told_after(rt.alloc(), rotations);
+        assert!(rt; told == Some((true, 8)), "{rotations}: {told:?}");
     }
-    Ok(())
 }
 
-// How long 20,000 calls take.
-fn timed<C: Clock>(rt: &C, ledger: &Ledger, token: &Handle) -> Result<Duration, Fail> {
-    let start = Instant::now(rt)?;
+// Whether each of 20,000 calls says that it is live.
+fn is_live(ledger: &Ledger, now: Moment, token: &Handle) -> bool {
     for _ in 0..20_000 {
-        if !told(ledger, token)?.0 {
-            Err("the token isn't live")?;
+        if !told(ledger, now, token).0 {
+            return false;
         }
+    }
+    true
+}
+
+// How long these calls take.
+fn timed<C: Clock>(rt: &C, ledger: &Ledger, token: &Handle) -> Result<Duration, Fail> {
+    let now = Moment::new(1_020).ok_or("a moment")?;
+    let start = Instant::now(rt)?;
+    if !is_live(ledger, now, token) {
+        Err("the token isn't live")?;
     }
     Ok(start.elapsed(rt)?)
 }
 
 fn timed_after<C: Clock>(rt: &C, alloc: Global, rotations: u16) -> Result<Duration, Fail> {
-    let token = last(rotations)?;
-    let ledger = rotated(alloc, rotations)?;
+    let token = last(rotations).ok_or("a token")?;
+    let ledger = rotated(alloc, rotations).ok_or("a fact isn't taken")?;
     timed(rt, &ledger, &token)
 }
 

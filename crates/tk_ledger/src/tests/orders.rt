@@ -1,13 +1,14 @@
 //! Ledgers of facts that came in any order, and what they say: each beside a plain one, that says the same.
 
-use super::facts::{Token, handle_of, moment};
+use super::facts::{Place, Token, Told, dot, fact, handle};
 use crate::plain::PlainLedger;
-use crate::{ClientView, ConsentView, Ledger, State, Status};
+use crate::{Ledger, State, Status};
 use std::alloc::Global;
-use std::test::Fail;
-use tk_fact::Fact;
+use std::process::Abort;
+use tk_fact::Subject;
 use tk_family::Steps;
-use tk_handle::Handle;
+use tk_handle::{Dot, Moment};
+use tk_scope::Scope;
 use tk_store::{AddError, Added};
 
 /// The same facts in both.
@@ -26,88 +27,76 @@ impl Both {
     }
 }
 
-pub(super) fn add_to_ledger(
-    alloc: Global,
-    ledger: &mut Ledger,
-    bytes: &[u8],
-) -> Result<Result<Added, AddError>, Fail> {
-    let fact = Fact::read(alloc, bytes)?;
+/// How an addition ended, None where there is no memory for the fact itself.
+pub(super) type Addition = Option<Result<Added, AddError>>;
+
+pub(super) fn add_to_ledger(alloc: Global, ledger: &mut Ledger, told: &Told) -> Addition {
+    let fact = fact(alloc, told)?;
     match fact.check() {
-        Ok(()) => Ok(ledger.add(fact)),
-        Err(_) => Err("a fact that was read breaks a rule")?,
+        Ok(()) => Some(ledger.add(fact)),
+        Err(_) => None,
     }
 }
 
-fn add_to_plain(
-    alloc: Global,
-    plain: &mut PlainLedger,
-    bytes: &[u8],
-) -> Result<Result<Added, AddError>, Fail> {
-    let fact = Fact::read(alloc, bytes)?;
+fn add_to_plain(alloc: Global, plain: &mut PlainLedger, told: &Told) -> Addition {
+    let fact = fact(alloc, told)?;
     match fact.check() {
-        Ok(()) => Ok(plain.add(fact)),
-        Err(_) => Err("a fact that was read breaks a rule")?,
+        Ok(()) => Some(plain.add(fact)),
+        Err(_) => None,
     }
 }
 
-// How an addition to both ended. Both end alike.
-pub(super) fn add_to_both(
-    alloc: Global,
-    both: &mut Both,
-    bytes: &[u8],
-) -> Result<Result<Added, AddError>, Fail> {
-    let added = add_to_ledger(alloc, &mut both.ledger, bytes)?;
-    if added != add_to_plain(alloc, &mut both.plain, bytes)? {
-        Err("the ledgers take facts differently")?;
-    }
-    Ok(added)
-}
-
-pub(super) fn add(alloc: Global, both: &mut Both, bytes: &[u8]) -> Result<Added, Fail> {
-    match add_to_both(alloc, both, bytes)? {
-        Ok(added) => Ok(added),
-        Err(AddError::Conflict) => Err("another body is there")?,
-        Err(AddError::Memory) => Err("no memory")?,
+// How an addition to both ended, None where not alike.
+pub(super) fn add_to_both(alloc: Global, both: &mut Both, told: &Told) -> Addition {
+    let added = add_to_ledger(alloc, &mut both.ledger, told)?;
+    if add_to_plain(alloc, &mut both.plain, told)? == added {
+        Some(added)
+    } else {
+        None
     }
 }
 
-fn slices(alloc: Global, facts: &[Vec<u8>]) -> Result<Vec<&[u8]>, Fail> {
-    let mut slices = Vec::new(alloc);
-    for fact in facts {
-        slices.push(fact.as_slice())?;
+pub(super) fn copied(alloc: Global, facts: &[Told]) -> Option<Vec<Told>> {
+    let mut copied = Vec::new(alloc);
+    for told in facts {
+        if copied.push(*told).is_err() {
+            return None;
+        }
     }
-    Ok(slices)
+    Some(copied)
 }
 
-// Those left are added: each time one of them, told by a remainder.
-fn add_in_order(
-    alloc: Global,
-    both: &mut Both,
-    left: &mut Vec<&[u8]>,
-    order: usize,
-) -> Result<(), Fail> {
+// Those left are added, if they can be: each time one of them, told by a remainder.
+fn are_added(alloc: Global, both: &mut Both, left: &mut Vec<Told>, order: usize) -> bool {
     let mut order = order;
     for count in (1..=left.len()).rev() {
         let at = order % count;
         order /= count;
         if at < left.len() {
-            let fact = left.remove(at);
-            add(alloc, both, fact)?;
+            let told = left.remove(at);
+            if !matches!(add_to_both(alloc, both, &told), Some(Ok(_))) {
+                return false;
+            }
         }
     }
-    Ok(())
+    true
 }
 
-// The facts, added in the order that has this number.
-pub(super) fn in_order(alloc: Global, facts: &[Vec<u8>], order: usize) -> Result<Both, Fail> {
-    let mut left = slices(alloc, facts)?;
+// The facts, added in the order that has this number, where all of them are held then.
+pub(super) fn in_order(alloc: Global, facts: &[Told], order: usize) -> Option<Both> {
+    let mut left = copied(alloc, facts)?;
     let mut both = Both::new(alloc);
-    add_in_order(alloc, &mut both, &mut left, order)?;
-    Ok(both)
+    if are_added(alloc, &mut both, &mut left, order)
+        && both.ledger.store().len() == facts.len() as u64
+    {
+        Some(both)
+    } else {
+        None
+    }
 }
 
 // What a status says in short.
-#[derive(Clone, Copy, Debug, PartialEq, Eq)]
+#[derive(Clone, Copy, PartialEq, Eq)]
 pub(super) enum Said {
     Unseen,
     Wrong,
@@ -115,7 +104,7 @@ pub(super) enum Said {
     Known(State),
 }
 
-pub(super) fn short(status: &Status<'_>) -> Said {
+fn short(status: &Status<'_>) -> Said {
     match status {
         Status::Unseen => Said::Unseen,
         Status::Wrong => Said::Wrong,
@@ -124,74 +113,87 @@ pub(super) fn short(status: &Status<'_>) -> Said {
     }
 }
 
-// Whether the client that is shown is live.
-pub(super) fn live_client(client: Option<ClientView<'_>>) -> Option<bool> {
-    match client {
-        Some(client) => Some(client.live),
-        None => None,
-    }
-}
-
-// Whether the consent that is shown is live.
-pub(super) fn live_consent(consent: Option<ConsentView<'_>>) -> Option<bool> {
-    match consent {
-        Some(consent) => Some(consent.live),
-        None => None,
-    }
-}
-
-// What both say, by one to eight look-ups.
-pub(super) fn in_short(both: &Both, now: u64, handle: &Handle) -> Result<Said, Fail> {
-    let now = moment(now)?;
+// What both say, by one to eight look-ups; None where not the same, or not by so many.
+pub(super) fn in_short(both: &Both, now: u64, token: Token) -> Option<Said> {
+    let (now, handle) = (Moment::new(now)?, handle(token)?);
     let mut steps = Steps::new();
-    let said = short(&both.ledger.status(now, handle, &mut steps));
-    if said != short(&both.plain.status(now, handle)) {
-        Err("the ledgers differ")?;
+    let said = short(&both.ledger.status(now, &handle, &mut steps));
+    let is_same = short(&both.plain.status(now, &handle)) == said;
+    if is_same && steps.count() >= 1 && steps.count() <= 8 {
+        Some(said)
+    } else {
+        None
     }
-    if steps.count() == 0 || steps.count() > 8 {
-        Err("a look-up too many")?;
+}
+
+pub(super) fn is_said(both: &Both, now: u64, token: Token, want: Said) -> bool {
+    match in_short(both, now, token) {
+        Some(said) => said == want,
+        None => false,
     }
-    Ok(said)
 }
 
 /// A row of a table: its name, a token, and what is to be said of it.
 pub(super) type Row = (&'static str, Token, Said);
 
-/// What was said of a row, in the order that has this number, in place of what was to be said.
-#[derive(Debug, Drop)]
-pub(super) struct Miss {
-    order: usize,
-    row: &'static str,
-    said: Said,
-}
-
 // The first row of which another thing is said, at 1,020.
-pub(super) fn missed(both: &Both, order: usize, rows: &[Row]) -> Result<Option<Miss>, Fail> {
+fn missed(both: &Both, rows: &[Row]) -> Option<&'static str> {
     for (row, token, want) in rows {
-        let handle = handle_of(*token)?;
-        let said = in_short(both, 1_020, &handle)?;
-        if said != *want {
-            return Ok(Some(Miss { order, row, said }));
+        if !is_said(both, 1_020, *token, *want) {
+            return Some(row);
         }
     }
-    Ok(None)
+    None
 }
 
-// The first row of which another thing is said, at 1,020, in any of the orders in which the facts may come.
-pub(super) fn first_miss(
+// The order and the first row of which another thing is said, at 1,020, in any of the orders in which the facts may come.
+fn first_miss(
     alloc: Global,
-    facts: &[Vec<u8>],
+    facts: &[Told],
     orders: usize,
     rows: &[Row],
-) -> Result<Option<Miss>, Fail> {
+) -> Option<(usize, &'static str)> {
     for order in 0..orders {
-        let both = in_order(alloc, facts, order)?;
-        if both.ledger.store().len() != facts.len() as u64 {
-            Err("a fact isn't held")?;
-        }
-        if let Some(miss) = missed(&both, order, rows)? {
-            return Ok(Some(miss));
+        let miss = match in_order(alloc, facts, order) {
+            Some(both) => missed(&both, rows),
+            None => Some("the facts"),
+        };
+        if let Some(row) = miss {
+            return Some((order, row));
         }
     }
-    Ok(None)
+    None
+}
+
+/// Asserts what is said of the tokens, at 1,020, in all of the orders in which the facts may come.
+pub(super) fn tells(rt: &impl Abort, alloc: Global, facts: &[Told], orders: usize, rows: &[Row]) {
+    let miss = first_miss(alloc, facts, orders, rows);
+    assert!(rt; miss.is_none(), "{miss:?}");
+}
+
+fn both_find(both: &Both, client: Dot, subject: &Subject, scope: &Scope) -> Option<Option<Dot>> {
+    let found = both.ledger.consent_for(client, subject, scope);
+    if both.plain.consent_for(client, subject, scope) == found {
+        Some(found)
+    } else {
+        None
+    }
+}
+
+// The consent that both find for the client, the subject and the scope; None where not the same.
+pub(super) fn found(
+    alloc: Global,
+    both: &Both,
+    client: Place,
+    subject: &[u8],
+    scope: &[u8],
+) -> Option<Option<Dot>> {
+    let client = dot(client)?;
+    match Subject::read(alloc, subject) {
+        Ok(subject) => match Scope::read(alloc, scope) {
+            Ok(scope) => both_find(both, client, &subject, &scope),
+            Err(_) => None,
+        },
+        Err(_) => None,
+    }
 }

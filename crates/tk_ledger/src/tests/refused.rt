@@ -1,14 +1,11 @@
 //! Want of memory in the middle of an addition leaves every answer as it was. Run with each allocation refused in turn, as
 //! docs/ARCHITECTURE.md tells; where none is refused, all facts are held.
 
-use super::facts::{
-    Place, client_retired, code_redeemed, consent_withdrawn, dot, handle, handle_of, moment,
-    refresh_rotated, reuse_seen, token_revoked,
-};
-use super::orders::{Row, add_to_ledger};
+use super::facts::{Place, Says, Token, Told, dot, handle};
+use super::orders::{Row, add_to_ledger, copied};
 use super::{
-    ACCESS, REDEEMED_TWICE, REFRESHED_TWICE, REVOKED_BY, before_grants, redeemed_twice,
-    refreshed_twice, revoked_in_advance, revoked_rows,
+    ACCESS, ADDED, GIVEN, ISSUED, REDEEMED_TWICE, REFRESHED_TWICE, REVOKED_BY, TWO_REDEMPTIONS,
+    TWO_ROTATIONS, revoked_in_advance, revoked_rows,
 };
 use crate::{ClientView, ConsentView, Ledger, Standing, Status};
 use std::alloc::Global;
@@ -21,34 +18,46 @@ use tk_store::AddError;
 
 const PLACES: [Place; 6] = [(1, 1), (1, 2), (1, 3), (1, 4), (1, 5), (2, 1)];
 
-// What waits for others: rotations, a revocation and a redemption.
-fn waiting(alloc: Global) -> Result<Vec<Vec<u8>>, Fail> {
-    let revoked = handle((1, 5), Kind::Refresh, 8)?;
-    let mut facts = Vec::new(alloc);
-    facts.push(refresh_rotated(alloc, (1, 5), ((1, 4), 1), (7, 8))?)?;
-    facts.push(token_revoked(alloc, (2, 2), &revoked, (1, 1))?)?;
-    facts.push(refresh_rotated(alloc, (2, 1), ((1, 5), 2), (7, 8))?)?;
-    facts.push(code_redeemed(alloc, (1, 4), (1, 3), (7, 8))?)?;
-    Ok(facts)
-}
-
-// What ends a family, a consent and a client.
-fn ending(alloc: Global) -> Result<Vec<Vec<u8>>, Fail> {
-    let code = handle((1, 3), Kind::Code, 24)?;
-    let mut facts = Vec::new(alloc);
-    facts.push(reuse_seen(alloc, (2, 3), &code)?)?;
-    facts.push(consent_withdrawn(alloc, (2, 4), (1, 2))?)?;
-    facts.push(client_retired(alloc, (2, 5), (1, 1))?)?;
-    Ok(facts)
-}
-
 // One fact of each kind and more, those that wait before the code that all of them are under.
-fn facts(alloc: Global) -> Result<Vec<Vec<u8>>, Fail> {
-    let mut facts = waiting(alloc)?;
-    facts.extend(before_grants(alloc)?)?;
-    facts.extend(ending(alloc)?)?;
-    Ok(facts)
-}
+const FACTS: [Told; 10] = [
+    // What waits for others: rotations, a revocation and a redemption.
+    ((1, 5), Says::RefreshRotated((1, 4), 1, (7, 8))),
+    (
+        (2, 2),
+        Says::TokenRevoked(((1, 5), Kind::Refresh, 8), (1, 1)),
+    ),
+    ((2, 1), Says::RefreshRotated((1, 5), 2, (7, 8))),
+    ((1, 4), Says::CodeRedeemed((1, 3), (7, 8))),
+    ADDED,
+    GIVEN,
+    ISSUED,
+    // What ends a family, a consent and a client.
+    ((2, 3), Says::ReuseSeen((1, 3), Kind::Code)),
+    ((2, 4), Says::ConsentWithdrawn((1, 2))),
+    ((2, 5), Says::ClientRetired((1, 1))),
+];
+
+// The tokens that any of the places may have minted.
+const TOKENS: [Token; 18] = [
+    ((1, 1), Kind::Code, 24),
+    ((1, 1), Kind::Access, 7),
+    ((1, 1), Kind::Refresh, 8),
+    ((1, 2), Kind::Code, 24),
+    ((1, 2), Kind::Access, 7),
+    ((1, 2), Kind::Refresh, 8),
+    ((1, 3), Kind::Code, 24),
+    ((1, 3), Kind::Access, 7),
+    ((1, 3), Kind::Refresh, 8),
+    ((1, 4), Kind::Code, 24),
+    ((1, 4), Kind::Access, 7),
+    ((1, 4), Kind::Refresh, 8),
+    ((1, 5), Kind::Code, 24),
+    ((1, 5), Kind::Access, 7),
+    ((1, 5), Kind::Refresh, 8),
+    ((2, 1), Kind::Code, 24),
+    ((2, 1), Kind::Access, 7),
+    ((2, 1), Kind::Refresh, 8),
+];
 
 // ---- what is asked
 
@@ -56,8 +65,7 @@ fn facts(alloc: Global) -> Result<Vec<Vec<u8>>, Fail> {
 #[derive(Drop)]
 struct Asked<'a> {
     now: Moment,
-    dots: &'a [Dot],
-    tokens: &'a [Handle],
+    tokens: &'a [Token],
     subject: &'a Subject,
     scope: &'a Scope,
 }
@@ -115,39 +123,44 @@ fn same_consents(left: &Option<ConsentView<'_>>, right: &Option<ConsentView<'_>>
     }
 }
 
-fn revocations_agree(left: &Ledger, right: &Ledger, asked: &Asked<'_>, token: &Handle) -> bool {
+fn revocations_agree(left: &Ledger, right: &Ledger, token: &Handle, client: Dot) -> bool {
     let digest = token.digest();
-    for client in asked.dots {
-        let revoked = left.revoked(&token.id, &digest, *client);
-        if revoked != right.revoked(&token.id, &digest, *client) {
-            return false;
+    left.revoked(&token.id, &digest, client) == right.revoked(&token.id, &digest, client)
+}
+
+fn token_agrees(left: &Ledger, right: &Ledger, asked: &Asked<'_>, token: &Handle) -> bool {
+    for place in PLACES {
+        match dot(place) {
+            Some(client) if revocations_agree(left, right, token, client) => {}
+            _ => return false,
         }
     }
-    true
+    let left = left.status(asked.now, token, &mut Steps::new());
+    same_statuses(&left, &right.status(asked.now, token, &mut Steps::new()))
 }
 
 fn tokens_agree(left: &Ledger, right: &Ledger, asked: &Asked<'_>) -> bool {
     for token in asked.tokens {
-        let left_status = left.status(asked.now, token, &mut Steps::new());
-        let right_status = right.status(asked.now, token, &mut Steps::new());
-        if !same_statuses(&left_status, &right_status) {
-            return false;
-        }
-        if !revocations_agree(left, right, asked, token) {
-            return false;
+        match handle(*token) {
+            Some(token) if token_agrees(left, right, asked, &token) => {}
+            _ => return false,
         }
     }
     true
 }
 
+fn place_agrees(left: &Ledger, right: &Ledger, asked: &Asked<'_>, dot: Dot) -> bool {
+    let found = left.consent_for(dot, asked.subject, asked.scope);
+    found == right.consent_for(dot, asked.subject, asked.scope)
+        && same_clients(&left.client(dot), &right.client(dot))
+        && same_consents(&left.consent(dot), &right.consent(dot))
+}
+
 fn places_agree(left: &Ledger, right: &Ledger, asked: &Asked<'_>) -> bool {
-    for dot in asked.dots {
-        let found = left.consent_for(*dot, asked.subject, asked.scope);
-        if found != right.consent_for(*dot, asked.subject, asked.scope)
-            || !same_clients(&left.client(*dot), &right.client(*dot))
-            || !same_consents(&left.consent(*dot), &right.consent(*dot))
-        {
-            return false;
+    for place in PLACES {
+        match dot(place) {
+            Some(dot) if place_agrees(left, right, asked, dot) => {}
+            _ => return false,
         }
     }
     true
@@ -159,22 +172,25 @@ fn agree(left: &Ledger, right: &Ledger, asked: &Asked<'_>) -> bool {
         && places_agree(left, right, asked)
 }
 
-// ---- additions
+// ---- additions, each of which tells None where memory is refused outside the ledger that is looked at
 
-fn add_all(alloc: Global, ledger: &mut Ledger, facts: &[Vec<u8>]) -> Result<(), Fail> {
-    for fact in facts {
-        if add_to_ledger(alloc, ledger, fact)?.is_err() {
-            Err("no memory for a fresh ledger")?;
+fn are_added(alloc: Global, ledger: &mut Ledger, facts: &[Told]) -> bool {
+    for told in facts {
+        if !matches!(add_to_ledger(alloc, ledger, told), Some(Ok(_))) {
+            return false;
         }
     }
-    Ok(())
+    true
 }
 
 // A ledger of the facts, none of which is refused memory.
-fn fresh(alloc: Global, facts: &[Vec<u8>]) -> Result<Ledger, Fail> {
+fn fresh(alloc: Global, facts: &[Told]) -> Option<Ledger> {
     let mut ledger = Ledger::new(alloc);
-    add_all(alloc, &mut ledger, facts)?;
-    Ok(ledger)
+    if are_added(alloc, &mut ledger, facts) {
+        Some(ledger)
+    } else {
+        None
+    }
 }
 
 // Whether the fact was added, and where memory was refused for it, whether the ledger answered as before and then took it.
@@ -182,19 +198,19 @@ fn is_taken(
     alloc: Global,
     ledger: &mut Ledger,
     before: &Ledger,
-    fact: &[u8],
+    told: &Told,
     asked: &Asked<'_>,
-) -> Result<bool, Fail> {
-    match add_to_ledger(alloc, ledger, fact)? {
-        Ok(_) => Ok(true),
-        Err(AddError::Conflict) => Ok(false),
+) -> Option<bool> {
+    match add_to_ledger(alloc, ledger, told)? {
+        Ok(_) => Some(true),
+        Err(AddError::Conflict) => Some(false),
         Err(AddError::Memory) => {
             if !agree(ledger, before, asked) {
-                return Ok(false);
+                return Some(false);
             }
-            match add_to_ledger(alloc, ledger, fact)? {
-                Ok(_) => Ok(true),
-                Err(_) => Err("no memory for a fact")?,
+            match add_to_ledger(alloc, ledger, told)? {
+                Ok(_) => Some(true),
+                Err(_) => None,
             }
         }
     }
@@ -204,126 +220,113 @@ fn is_taken(
 fn next_is_taken(
     alloc: Global,
     ledger: &mut Ledger,
-    facts: &[Vec<u8>],
-    fact: &[u8],
+    facts: &[Told],
+    told: &Told,
     asked: &Asked<'_>,
-) -> Result<bool, Fail> {
+) -> Option<bool> {
     let before = fresh(alloc, facts)?;
-    is_taken(alloc, ledger, &before, fact, asked)
+    is_taken(alloc, ledger, &before, told, asked)
+}
+
+// Whether the ledger answers as a fresh one of all facts does.
+fn is_as_fresh(alloc: Global, ledger: &Ledger, facts: &[Told], asked: &Asked<'_>) -> Option<bool> {
+    let all = fresh(alloc, facts)?;
+    Some(ledger.store().len() == facts.len() as u64 && agree(ledger, &all, asked))
 }
 
 fn all_are_taken(
     alloc: Global,
     ledger: &mut Ledger,
-    facts: &[Vec<u8>],
+    facts: &[Told],
     asked: &Asked<'_>,
-) -> Result<bool, Fail> {
-    for (count, fact) in facts.iter().enumerate() {
-        if !next_is_taken(alloc, ledger, &facts[..count], fact, asked)? {
-            return Ok(false);
+) -> Option<bool> {
+    for (count, told) in facts.iter().enumerate() {
+        if !next_is_taken(alloc, ledger, &facts[..count], told, asked)? {
+            return Some(false);
         }
     }
-    Ok(true)
+    is_as_fresh(alloc, ledger, facts, asked)
 }
 
 // Whether a ledger takes all facts in this order, and then answers as a fresh one does.
-fn are_taken(alloc: Global, facts: &[Vec<u8>], asked: &Asked<'_>) -> Result<bool, Fail> {
+fn are_taken(alloc: Global, facts: &[Told], asked: &Asked<'_>) -> Option<bool> {
     let mut ledger = Ledger::new(alloc);
-    if !all_are_taken(alloc, &mut ledger, facts, asked)? {
-        return Ok(false);
-    }
-    let all = fresh(alloc, facts)?;
-    Ok(ledger.store().len() == facts.len() as u64 && agree(&ledger, &all, asked))
-}
-
-fn dots(alloc: Global) -> Result<Vec<Dot>, Fail> {
-    let mut dots = Vec::new(alloc);
-    for place in PLACES {
-        dots.push(dot(place)?)?;
-    }
-    Ok(dots)
+    all_are_taken(alloc, &mut ledger, facts, asked)
 }
 
 // The facts in their order, and then in the reverse, where each waits for what it names.
-fn are_taken_both_ways(
-    alloc: Global,
-    facts: &mut [Vec<u8>],
-    tokens: &[Handle],
-) -> Result<bool, Fail> {
-    let now = moment(1_020)?;
-    let dots = dots(alloc)?;
-    let subject = Subject::read(alloc, b"ann")?;
-    let scope = Scope::read(alloc, b"read")?;
-    let asked = Asked {
-        now,
-        dots: dots.as_slice(),
-        tokens,
-        subject: &subject,
-        scope: &scope,
-    };
-    let are_taken_so = are_taken(alloc, facts, &asked)?;
+fn are_taken_both_ways(alloc: Global, facts: &[Told], asked: &Asked<'_>) -> Option<bool> {
+    if !are_taken(alloc, facts, asked)? {
+        return Some(false);
+    }
+    let mut facts = copied(alloc, facts)?;
     facts.reverse();
-    Ok(are_taken_so && are_taken(alloc, facts, &asked)?)
+    are_taken(alloc, facts.as_slice(), asked)
 }
 
-fn tokens_of(alloc: Global, rows: &[Row]) -> Result<Vec<Handle>, Fail> {
+// The same, and what is asked after each refusal.
+fn change_no_answer(alloc: Global, facts: &[Told], tokens: &[Token]) -> Option<bool> {
+    let now = Moment::new(1_020)?;
+    match Subject::read(alloc, b"ann") {
+        Ok(subject) => match Scope::read(alloc, b"read") {
+            Ok(scope) => {
+                let asked = Asked {
+                    now,
+                    tokens,
+                    subject: &subject,
+                    scope: &scope,
+                };
+                are_taken_both_ways(alloc, facts, &asked)
+            }
+            Err(_) => None,
+        },
+        Err(_) => None,
+    }
+}
+
+fn tokens_of(alloc: Global, rows: &[Row]) -> Option<Vec<Token>> {
     let mut tokens = Vec::new(alloc);
     for (_, token, _) in rows {
-        tokens.push(handle_of(*token)?)?;
+        if tokens.push(*token).is_err() {
+            return None;
+        }
     }
-    Ok(tokens)
+    Some(tokens)
 }
 
 // The facts of a row, and the tokens of which it says something.
-fn row_is_taken(alloc: Global, facts: Vec<Vec<u8>>, rows: &[Row]) -> Result<bool, Fail> {
-    let mut facts = facts;
+fn row_changes_no_answer(alloc: Global, facts: &[Told], rows: &[Row]) -> Option<bool> {
     let tokens = tokens_of(alloc, rows)?;
-    are_taken_both_ways(alloc, facts.as_mut_slice(), tokens.as_slice())
-}
-
-// The tokens that any of the places may have minted.
-fn tokens_at_places(alloc: Global) -> Result<Vec<Handle>, Fail> {
-    let mut tokens = Vec::new(alloc);
-    for place in PLACES {
-        for (kind, word) in [(Kind::Code, 24), (Kind::Access, 7), (Kind::Refresh, 8)] {
-            tokens.push(handle(place, kind, word)?)?;
-        }
-    }
-    Ok(tokens)
+    change_no_answer(alloc, facts, tokens.as_slice())
 }
 
 #[test]
 fn a_fact_that_is_refused_memory_changes_no_answer(rt: HostRuntime) -> Result<(), Fail> {
-    let alloc = rt.alloc();
-    let tokens = tokens_at_places(alloc)?;
-    let mut facts = facts(alloc)?;
-    assert!(rt; are_taken_both_ways(alloc, facts.as_mut_slice(), tokens.as_slice())?);
+    let told = change_no_answer(rt.alloc(), &FACTS, &TOKENS);
+    assert!(rt; told.ok_or("no memory")?);
     Ok(())
 }
 
 #[test]
 fn being_cut_off_and_refused_memory_changes_no_answer(rt: HostRuntime) -> Result<(), Fail> {
-    let alloc = rt.alloc();
-    let facts = redeemed_twice(alloc)?;
-    assert!(rt; row_is_taken(alloc, facts, &REDEEMED_TWICE)?);
+    let told = row_changes_no_answer(rt.alloc(), &TWO_REDEMPTIONS, &REDEEMED_TWICE);
+    assert!(rt; told.ok_or("no memory")?);
     Ok(())
 }
 
 #[test]
 fn two_refreshes_at_once_and_refused_memory_change_no_answer(rt: HostRuntime) -> Result<(), Fail> {
-    let alloc = rt.alloc();
-    let facts = refreshed_twice(alloc)?;
-    assert!(rt; row_is_taken(alloc, facts, &REFRESHED_TWICE)?);
+    let told = row_changes_no_answer(rt.alloc(), &TWO_ROTATIONS, &REFRESHED_TWICE);
+    assert!(rt; told.ok_or("no memory")?);
     Ok(())
 }
 
 #[test]
 fn advance_revocation_and_refused_memory_changes_no_answer(rt: HostRuntime) -> Result<(), Fail> {
-    let alloc = rt.alloc();
     for (client, access) in REVOKED_BY {
-        let facts = revoked_in_advance(alloc, ACCESS, client)?;
-        let is_taken = row_is_taken(alloc, facts, &revoked_rows(access))?;
-        assert!(rt; is_taken, "{client:?}");
+        let facts = revoked_in_advance(ACCESS, client);
+        let told = row_changes_no_answer(rt.alloc(), &facts, &revoked_rows(access));
+        assert!(rt; told.ok_or("no memory")?, "{client:?}");
     }
     Ok(())
 }

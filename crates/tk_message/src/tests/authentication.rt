@@ -1,80 +1,42 @@
 //! Credentials, before a ledger of clients that are live and retired.
 
+use super::dot;
 use crate::{Auth, Credentials, Params, authenticate};
 use std::alloc::Global;
-use std::test::Fail;
-use tk_fact::{Body, ClientAdded, ClientRetired, Fact, Sort};
-use tk_handle::{Dot, RegionNumber};
+use std::process::Abort;
+use tk_fact::Fact;
 use tk_ledger::Ledger;
-use tk_match::Redirects;
-use tk_scope::Scope;
 
-// SHA-256 of `abc`, as FIPS 180 prints it.
-const ABC: [u8; 32] = [
-    0xba, 0x78, 0x16, 0xbf, 0x8f, 0x01, 0xcf, 0xea, 0x41, 0x41, 0x40, 0xde, 0x5d, 0xae, 0x22, 0x23,
-    0xb0, 0x03, 0x61, 0xa3, 0x96, 0x17, 0x7a, 0x9c, 0xb4, 0x10, 0xff, 0x61, 0xf2, 0x00, 0x15, 0xad,
+// Public c1-1, confidential c1-2, the resource server c1-3, public c1-4 and confidential c1-5; and the ends of the last two. Each
+// secret is `abc`, whose SHA-256 FIPS 180 prints.
+static FACTS: [&[u8]; 7] = [
+    b"\x00\x01\x00\x00\x00\x00\x00\x00\x00\x01\x01\x00\x00\x04read\x01\x00\x16https://app.example/cb",
+    b"\x00\x01\x00\x00\x00\x00\x00\x00\x00\x02\x01\x01\xbax\x16\xbf\x8f\x01\xcf\xeaAA@\xde]\xae\"#\xb0\x03a\xa3\x96\x17z\x9c\xb4\x10\xffa\xf2\x00\x15\xad\x00\x04read\x01\x00\x16https://app.example/cb",
+    b"\x00\x01\x00\x00\x00\x00\x00\x00\x00\x03\x01\x02\xbax\x16\xbf\x8f\x01\xcf\xeaAA@\xde]\xae\"#\xb0\x03a\xa3\x96\x17z\x9c\xb4\x10\xffa\xf2\x00\x15\xad\x00\x04read\x01\x00\x16https://app.example/cb",
+    b"\x00\x01\x00\x00\x00\x00\x00\x00\x00\x04\x01\x00\x00\x04read\x01\x00\x16https://app.example/cb",
+    b"\x00\x01\x00\x00\x00\x00\x00\x00\x00\x05\x01\x01\xbax\x16\xbf\x8f\x01\xcf\xeaAA@\xde]\xae\"#\xb0\x03a\xa3\x96\x17z\x9c\xb4\x10\xffa\xf2\x00\x15\xad\x00\x04read\x01\x00\x16https://app.example/cb",
+    b"\x00\x01\x00\x00\x00\x00\x00\x00\x00\x06\x02\x00\x01\x00\x00\x00\x00\x00\x00\x00\x04",
+    b"\x00\x01\x00\x00\x00\x00\x00\x00\x00\x07\x02\x00\x01\x00\x00\x00\x00\x00\x00\x00\x05",
 ];
 
-// What the clients of region 1 are, from serial 1 on.
-const CLIENTS: [Sort; 5] = [
-    Sort::Public,
-    Sort::Confidential(ABC),
-    Sort::Resource(ABC),
-    Sort::Public,
-    Sort::Confidential(ABC),
-];
-
-// Where a client is retired, and which.
-const RETIRED: [(u64, u64); 2] = [(6, 4), (7, 5)];
-
-pub(super) fn dot(serial: u64) -> Result<Dot, Fail> {
-    let region = RegionNumber::new(1).ok_or("a region")?;
-    Ok(Dot::new(region, serial).ok_or("a dot")?)
-}
-
-fn add(ledger: &mut Ledger, serial: u64, body: Body) -> Result<(), Fail> {
-    let fact = Fact {
-        dot: dot(serial)?,
-        body,
-    };
-    if fact.check().is_err() {
-        Err("a fact of a test breaks a rule")?;
-    }
-    match ledger.add(fact) {
-        Ok(_) => Ok(()),
-        Err(_) => Err("the fact wasn't added")?,
+// Whether the fact of these bytes is added; not so where memory is refused.
+fn adds(alloc: Global, ledger: &mut Ledger, bytes: &[u8]) -> bool {
+    match Fact::read(alloc, bytes) {
+        Ok(fact) => fact.check().is_ok() && ledger.add(fact).is_ok(),
+        Err(_) => false,
     }
 }
 
-fn client(alloc: Global, sort: Sort) -> Result<Body, Fail> {
-    let scope = Scope::read(alloc, b"read")?;
-    let redirects = Redirects::kept(alloc, &[b"https://app.example/cb"])?;
-    Ok(Body::ClientAdded(ClientAdded {
-        sort,
-        scope,
-        redirects,
-    }))
-}
-
-pub(super) fn ledger(alloc: Global) -> Result<Ledger, Fail> {
+pub(super) fn ledger(rt: &impl Abort, alloc: Global) -> Ledger {
     let mut ledger = Ledger::new(alloc);
-    for (serial, sort) in (1..).zip(CLIENTS) {
-        let body = client(alloc, sort)?;
-        add(&mut ledger, serial, body)?;
+    for bytes in &FACTS {
+        assert!(rt; adds(alloc, &mut ledger, bytes), "a fact is added");
     }
-    for (serial, client) in RETIRED {
-        let client = dot(client)?;
-        add(
-            &mut ledger,
-            serial,
-            Body::ClientRetired(ClientRetired { client }),
-        )?;
-    }
-    Ok(ledger)
+    ledger
 }
 
 // A body, and the serial of the client that it proves, None for nobody.
-const ROWS: [(&str, &str, Option<u64>); 24] = [
+static ROWS: [(&str, &str, Option<u64>); 24] = [
     ("a public client", "client_id=c1-1", Some(1)),
     (
         "a public client with an empty secret, which is none",
@@ -145,22 +107,35 @@ const ROWS: [(&str, &str, Option<u64>); 24] = [
     ("no credentials", "grant_type=authorization_code", None),
 ];
 
-fn authenticated(alloc: Global, ledger: &Ledger, form: &str) -> Result<Auth, Fail> {
-    let params = Params::read(alloc, form.as_bytes())?;
-    let credentials = Credentials::read(alloc, None, &params)?;
-    Ok(authenticate(ledger, &credentials))
+fn proved(alloc: Global, ledger: &Ledger, params: &Params) -> Option<Auth> {
+    let credentials = Credentials::read(alloc, None, params).ok()?;
+    Some(authenticate(ledger, &credentials))
+}
+
+fn authenticated(alloc: Global, ledger: &Ledger, form: &str) -> Option<Auth> {
+    let params = Params::read(alloc, form.as_bytes()).ok()?;
+    proved(alloc, ledger, &params)
+}
+
+fn wanted(serial: Option<u64>) -> Option<Auth> {
+    match serial {
+        Some(serial) => Some(Auth::Client(dot(1, serial)?)),
+        None => Some(Auth::Invalid),
+    }
+}
+
+fn is_proved(alloc: Global, ledger: &Ledger, form: &str, serial: Option<u64>) -> bool {
+    match (authenticated(alloc, ledger, form), wanted(serial)) {
+        (Some(told), Some(want)) => told == want,
+        _ => false,
+    }
 }
 
 #[test]
-fn a_live_client_proves_itself(rt: HostRuntime) -> Result<(), Fail> {
+fn a_live_client_proves_itself(rt: HostRuntime) {
     let alloc = rt.alloc();
-    let ledger = ledger(alloc)?;
-    for (name, form, serial) in ROWS {
-        let want = match serial {
-            Some(serial) => Auth::Client(dot(serial)?),
-            None => Auth::Invalid,
-        };
-        assert_eq!(rt; authenticated(alloc, &ledger, form)?, want, "{name}");
+    let ledger = ledger(&rt, alloc);
+    for &(name, form, serial) in &ROWS {
+        assert!(rt; is_proved(alloc, &ledger, form, serial), "{name}");
     }
-    Ok(())
 }

@@ -1,27 +1,35 @@
 //! Consents, redirects and the texts of handles.
 
-use super::{dot, is_json};
-use crate::{Payload, Status, consent_reply, handle_string, redirect_reply};
-use std::test::Fail;
-use tk_handle::{Dot, Handle, Kind, RegionNumber, TokenId};
+use super::{dot, handle, is_told};
+use crate::{Payload, Reply, Status, consent_reply, handle_string, redirect_reply};
+use std::alloc::Global;
+use tk_handle::{Handle, Kind};
+
+fn consented(alloc: Global, status: Status) -> Option<Reply> {
+    consent_reply(alloc, status, dot(7, 41)?).ok()
+}
 
 #[test]
-fn a_consent_goes_under_its_status(rt: HostRuntime) -> Result<(), Fail> {
+fn a_consent_goes_under_its_status(rt: HostRuntime) {
+    let body = "{\"consent_id\":\"g7-41\"}";
     for (status, number) in [(Status::Created, 201), (Status::Ok, 200)] {
-        let reply = consent_reply(rt.alloc(), status, dot()?)?;
-        is_json(
-            &rt,
-            "a consent",
-            &reply,
-            number,
-            "{\"consent_id\":\"g7-41\"}",
+        assert!(rt;
+            is_told(consented(rt.alloc(), status), number, body),
+            "{number}"
         );
     }
-    Ok(())
 }
 
 // A URI, a name, its value, the state, and where the browser is sent.
-const REDIRECTS: [(&str, &str, &str, Option<&str>, &str); 7] = [
+type Redirect = (
+    &'static str,
+    &'static str,
+    &'static str,
+    Option<&'static str>,
+    &'static str,
+);
+
+static REDIRECTS: [Redirect; 7] = [
     // The replies of RFC 6749, 4.1.2 and 4.1.2.1.
     (
         "https://client.example.com/cb",
@@ -76,23 +84,31 @@ const REDIRECTS: [(&str, &str, &str, Option<&str>, &str); 7] = [
     ),
 ];
 
-#[test]
-fn a_browser_is_sent_back(rt: HostRuntime) -> Result<(), Fail> {
-    for (uri, name, value, state, want) in REDIRECTS {
-        let reply = redirect_reply(rt.alloc(), uri, name, value, state)?;
-        match &reply.location {
-            Some(location) => assert_eq!(rt; location.as_str(), want),
-            None => assert!(rt; false, "{want} is a place"),
-        }
-        assert_eq!(rt; reply.status.number(), 302, "status of {want}");
-        assert!(rt; !reply.www, "credentials for {want}");
-        assert!(rt; matches!(reply.body, Payload::Empty), "body of {want}");
+fn is_redirect(reply: &Reply, uri: &str) -> bool {
+    let is_sent = match &reply.location {
+        Some(location) => location.as_str() == uri,
+        None => false,
+    };
+    is_sent && reply.status.number() == 302 && !reply.www && matches!(reply.body, Payload::Empty)
+}
+
+fn is_sent_back(alloc: Global, redirect: &Redirect) -> bool {
+    let (uri, name, value, state, want) = *redirect;
+    match redirect_reply(alloc, uri, name, value, state) {
+        Ok(reply) => is_redirect(&reply, want),
+        Err(_) => false,
     }
-    Ok(())
+}
+
+#[test]
+fn a_browser_is_sent_back(rt: HostRuntime) {
+    for redirect in &REDIRECTS {
+        assert!(rt; is_sent_back(rt.alloc(), redirect), "{}", redirect.4);
+    }
 }
 
 // A region, a serial, a kind and words; and the text of their 36 bytes, as another program encodes them.
-const HANDLES: [(u16, u64, Kind, [u64; 3], &str); 3] = [
+static HANDLES: [(u16, u64, Kind, [u64; 3], &str); 3] = [
     (
         1,
         3,
@@ -116,14 +132,19 @@ const HANDLES: [(u16, u64, Kind, [u64; 3], &str); 3] = [
     ),
 ];
 
-#[test]
-fn a_handle_is_told_as_text(rt: HostRuntime) -> Result<(), Fail> {
-    for (region, serial, kind, words, want) in HANDLES {
-        let region = RegionNumber::new(region).ok_or("a region")?;
-        let dot = Dot::new(region, serial).ok_or("a dot")?;
-        let handle = Handle::mint(TokenId { dot, kind }, words);
-        let text = handle_string(rt.alloc(), &handle)?;
-        assert_eq!(rt; text.as_str(), want);
+fn has_text(alloc: Global, handle: &Handle, want: &str) -> bool {
+    match handle_string(alloc, handle) {
+        Ok(text) => text.as_str() == want,
+        Err(_) => false,
     }
-    Ok(())
+}
+
+#[test]
+fn a_handle_is_told_as_text(rt: HostRuntime) {
+    for &(region, serial, kind, words, want) in &HANDLES {
+        match handle(dot(region, serial), kind, words) {
+            Some(handle) => assert!(rt; has_text(rt.alloc(), &handle, want), "{want}"),
+            None => assert!(rt; false, "a handle of {want}"),
+        }
+    }
 }

@@ -1,24 +1,16 @@
 //! Tokens that are given, and what is said of tokens.
 
-use super::{dot, is_json};
+use super::{dot, handle, is_told};
 use crate::{
     Payload, Reply, Status, access_reply, empty_reply, inactive_reply, refresh_reply, token_reply,
 };
 use std::alloc::Global;
-use std::process::Abort;
-use std::test::Fail;
 use tk_fact::Subject;
-use tk_handle::{Dot, Handle, Kind, Moment, RegionNumber, TokenId};
+use tk_handle::{Kind, Moment};
 use tk_scope::Scope;
 
-fn handle(kind: Kind, words: [u64; 3]) -> Result<Handle, Fail> {
-    let region = RegionNumber::new(1).ok_or("a region")?;
-    let dot = Dot::new(region, 4).ok_or("a dot")?;
-    Ok(Handle::mint(TokenId { dot, kind }, words))
-}
-
 // How long the access token lasts, and the reply, with the texts of the handles as another program encodes them.
-const GIVEN: [(u64, &str); 3] = [
+static GIVEN: [(u64, &str); 3] = [
     (
         3_600,
         "{\"access_token\":\"AQIAAQAAAAAAAAAEAAAAAAAAABgAAAAAAAAAGQAAAAAAAAAa\",\"expires_in\":3600,\"refresh_token\":\"AQMAAQAAAAAAAAAEAAAAAAAAABsAAAAAAAAAHAAAAAAAAAAd\",\"scope\":\"read write\",\"token_type\":\"Bearer\"}",
@@ -33,69 +25,92 @@ const GIVEN: [(u64, &str); 3] = [
     ),
 ];
 
-#[test]
-fn tokens_are_given_with_their_scope(rt: HostRuntime) -> Result<(), Fail> {
-    let alloc = rt.alloc();
-    let scope = Scope::read(alloc, b"write read")?;
-    let access = handle(Kind::Access, [24, 25, 26])?;
-    let refresh = handle(Kind::Refresh, [27, 28, 29])?;
-    for (lifetime, body) in GIVEN {
-        let reply = token_reply(alloc, &access, lifetime, &refresh, &scope)?;
-        is_json(&rt, "tokens", &reply, 200, body);
-    }
-    Ok(())
+fn given(alloc: Global, lifetime: u64) -> Option<Reply> {
+    let access = handle(dot(1, 4), Kind::Access, [24, 25, 26])?;
+    let refresh = handle(dot(1, 4), Kind::Refresh, [27, 28, 29])?;
+    let scope = Scope::read(alloc, b"write read").ok()?;
+    token_reply(alloc, &access, lifetime, &refresh, &scope).ok()
 }
 
-// The end, the start and the subject of a token, and what is said of it but for its type.
-const TOLD: [(u64, u64, &[u8], &str); 2] = [
+#[test]
+fn tokens_are_given_with_their_scope(rt: HostRuntime) {
+    for &(lifetime, body) in &GIVEN {
+        assert!(rt;
+            is_told(given(rt.alloc(), lifetime), 200, body),
+            "{lifetime}"
+        );
+    }
+}
+
+// The kind, the end, the start and the subject of a token, and what is said of it.
+static TOLD: [(Kind, u64, u64, &[u8], &str); 4] = [
     (
+        Kind::Access,
         4_610,
         1_010,
         b"ann",
-        "{\"active\":true,\"client_id\":\"c7-41\",\"exp\":4610,\"iat\":1010,\"scope\":\"read write\",\"sub\":\"ann\"",
+        "{\"active\":true,\"client_id\":\"c7-41\",\"exp\":4610,\"iat\":1010,\"scope\":\"read write\",\"sub\":\"ann\",\"token_type\":\"Bearer\"}",
+    ),
+    (
+        Kind::Refresh,
+        4_610,
+        1_010,
+        b"ann",
+        "{\"active\":true,\"client_id\":\"c7-41\",\"exp\":4610,\"iat\":1010,\"scope\":\"read write\",\"sub\":\"ann\"}",
     ),
     // A subject may hold what JSON escapes.
     (
+        Kind::Access,
         253_402_300_799,
         0,
         b"\"a\\n",
-        "{\"active\":true,\"client_id\":\"c7-41\",\"exp\":253402300799,\"iat\":0,\"scope\":\"read write\",\"sub\":\"\\\"a\\\\n\"",
+        "{\"active\":true,\"client_id\":\"c7-41\",\"exp\":253402300799,\"iat\":0,\"scope\":\"read write\",\"sub\":\"\\\"a\\\\n\",\"token_type\":\"Bearer\"}",
+    ),
+    (
+        Kind::Refresh,
+        253_402_300_799,
+        0,
+        b"\"a\\n",
+        "{\"active\":true,\"client_id\":\"c7-41\",\"exp\":253402300799,\"iat\":0,\"scope\":\"read write\",\"sub\":\"\\\"a\\\\n\"}",
     ),
 ];
 
-fn said(alloc: Global, kind: Kind, expiry: u64, start: u64, subject: &[u8]) -> Result<Reply, Fail> {
-    let scope = Scope::read(alloc, b"write read")?;
-    let subject = Subject::read(alloc, subject)?;
-    let expiry = Moment::new(expiry).ok_or("a moment")?;
-    let start = Moment::new(start).ok_or("a moment")?;
+fn said(alloc: Global, kind: Kind, expiry: u64, start: u64, subject: &[u8]) -> Option<Reply> {
+    let (expiry, start) = (Moment::new(expiry)?, Moment::new(start)?);
+    let client = dot(7, 41)?;
+    let scope = Scope::read(alloc, b"write read").ok()?;
+    let subject = Subject::read(alloc, subject).ok()?;
     match kind {
-        Kind::Refresh => Ok(refresh_reply(alloc, dot()?, expiry, start, &scope, &subject)?),
-        _ => Ok(access_reply(alloc, dot()?, expiry, start, &scope, &subject)?),
+        Kind::Refresh => refresh_reply(alloc, client, expiry, start, &scope, &subject).ok(),
+        _ => access_reply(alloc, client, expiry, start, &scope, &subject).ok(),
     }
 }
 
 #[test]
-fn an_active_token_is_told(rt: HostRuntime) -> Result<(), Fail> {
-    let alloc = rt.alloc();
-    for (expiry, start, subject, front) in TOLD {
-        let body = format!(in alloc; "{front},\"token_type\":\"Bearer\"}}")?;
-        let reply = said(alloc, Kind::Access, expiry, start, subject)?;
-        is_json(&rt, "an access token", &reply, 200, body.as_str());
-        let body = format!(in alloc; "{front}}}")?;
-        let reply = said(alloc, Kind::Refresh, expiry, start, subject)?;
-        is_json(&rt, "a refresh token", &reply, 200, body.as_str());
+fn an_active_token_is_told(rt: HostRuntime) {
+    for &(kind, expiry, start, subject, body) in &TOLD {
+        assert!(rt;
+            is_told(said(rt.alloc(), kind, expiry, start, subject), 200, body),
+            "{body}"
+        );
     }
-    Ok(())
+}
+
+fn is_empty(reply: &Reply, status: Status, www: bool) -> bool {
+    reply.status == status
+        && reply.www == www
+        && reply.location.is_none()
+        && matches!(reply.body, Payload::Empty)
 }
 
 #[test]
-fn nothing_else_is_told(rt: HostRuntime) -> Result<(), Fail> {
-    let reply = inactive_reply(rt.alloc())?;
-    is_json(&rt, "another token", &reply, 200, "{\"active\":false}");
+fn nothing_else_is_told(rt: HostRuntime) {
+    let inactive = inactive_reply(rt.alloc()).ok();
+    assert!(rt;
+        is_told(inactive, 200, "{\"active\":false}"),
+        "another token"
+    );
     for (status, www) in [(Status::Ok, false), (Status::Unauthorized, true)] {
-        let reply = empty_reply(status);
-        assert!(rt; reply.status == status && reply.www == www);
-        assert!(rt; reply.location.is_none() && matches!(reply.body, Payload::Empty));
+        assert!(rt; is_empty(&empty_reply(status), status, www), "{www}");
     }
-    Ok(())
 }

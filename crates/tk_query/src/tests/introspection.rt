@@ -1,22 +1,12 @@
 //! What is said of tokens, to whom.
 
-use super::{is_reply, ledger, request};
-use crate::decide_introspect;
-use std::alloc::Global;
-use std::process::Abort;
-use std::test::Fail;
-use tk_handle::Moment;
-use tk_ledger::Ledger;
-use tk_message::{Decision, Endpoint};
+use super::are_answered;
+use tk_message::Endpoint;
 
-fn introspected(alloc: Global, ledger: &Ledger, now: u64, form: &str) -> Result<Decision, Fail> {
-    let request = request(alloc, Endpoint::Introspect, form)?;
-    let now = Moment::new(now).ok_or("a moment")?;
-    Ok(decide_introspect(alloc, ledger, now, &request)?)
-}
+const IDLE: &str = "{\"active\":false}";
 
 // What is sent at 1,020, and the status and the body that it is answered.
-const ASKED: [(&str, &str, u16, &str); 20] = [
+static ASKED: [(&str, &str, u16, &str); 20] = [
     (
         "an access token, to its client",
         "token=AQIAAQAAAAAAAAAFAAAAAAAAAB4AAAAAAAAAHwAAAAAAAAAg&client_id=c1-1&client_secret=s3cret",
@@ -51,49 +41,49 @@ const ASKED: [(&str, &str, u16, &str); 20] = [
         "another client's token",
         "token=AQIAAQAAAAAAAAAFAAAAAAAAAB4AAAAAAAAAHwAAAAAAAAAg&client_id=c2-3&client_secret=other",
         200,
-        "{\"active\":false}",
+        IDLE,
     ),
     (
         "a refresh token that was used",
         "token=AQMAAQAAAAAAAAAEAAAAAAAAABsAAAAAAAAAHAAAAAAAAAAd&client_id=c1-1&client_secret=s3cret",
         200,
-        "{\"active\":false}",
+        IDLE,
     ),
     (
         "a code",
         "token=AQEAAQAAAAAAAAADAAAAAAAAABIAAAAAAAAAEwAAAAAAAAAU&client_id=c1-1&client_secret=s3cret",
         200,
-        "{\"active\":false}",
+        IDLE,
     ),
     (
         "a token of a dead family",
         "token=AQIAAQAAAAAAAAAHAAAAAAAAACoAAAAAAAAAKwAAAAAAAAAs&client_id=c2-1&client_secret=res",
         200,
-        "{\"active\":false}",
+        IDLE,
     ),
     (
         "a token without a family",
         "token=AQIAAwAAAAAAAAACAAAAAAAAADAAAAAAAAAAMQAAAAAAAAAy&client_id=c2-1&client_secret=res",
         200,
-        "{\"active\":false}",
+        IDLE,
     ),
     (
         "other words",
         "token=AQIAAQAAAAAAAAAFAAAAAAAAAB8AAAAAAAAAIAAAAAAAAAAh&client_id=c1-1&client_secret=s3cret",
         200,
-        "{\"active\":false}",
+        IDLE,
     ),
     (
         "a token that was never minted",
         "token=AQIAAQAAAAAAAAAJAAAAAAAAAB4AAAAAAAAAHwAAAAAAAAAg&client_id=c1-1&client_secret=s3cret",
         200,
-        "{\"active\":false}",
+        IDLE,
     ),
     (
         "no handle",
         "token=abc&client_id=c1-1&client_secret=s3cret",
         200,
-        "{\"active\":false}",
+        IDLE,
     ),
     (
         "no token",
@@ -140,42 +130,37 @@ const ASKED: [(&str, &str, u16, &str); 20] = [
 ];
 
 #[test]
-fn active_tokens_are_told(rt: HostRuntime) -> Result<(), Fail> {
-    let alloc = rt.alloc();
-    let ledger = ledger(alloc)?;
-    for (name, form, status, body) in ASKED {
-        let decision = introspected(alloc, &ledger, 1_020, form)?;
-        is_reply(&rt, name, &decision, status, body);
-        assert!(rt; decision.made.is_none(), "{name} makes no fact");
+fn active_tokens_are_told(rt: HostRuntime) {
+    for &(name, form, status, body) in &ASKED {
+        let row = (name, form, 1_020, status, body, b"".as_slice());
+        are_answered(&rt, rt.alloc(), Endpoint::Introspect, &[row]);
     }
-    Ok(())
 }
 
-// A token, the last moment at which it is active, and what is said of it then.
-const ENDS: [(&str, u64, &str); 2] = [
+// A token, the last moment at which it is active, its end, and what is said of it before.
+static ENDS: [(&str, &str, u64, u64, &str); 2] = [
     (
+        "an access token",
         "token=AQIAAQAAAAAAAAAFAAAAAAAAAB4AAAAAAAAAHwAAAAAAAAAg&client_id=c1-1&client_secret=s3cret",
         4_619,
+        4_620,
         "{\"active\":true,\"client_id\":\"c1-1\",\"exp\":4620,\"iat\":1020,\"scope\":\"read write\",\"sub\":\"an\\\"n\",\"token_type\":\"Bearer\"}",
     ),
     (
+        "a refresh token",
         "token=AQMAAQAAAAAAAAAFAAAAAAAAACEAAAAAAAAAIgAAAAAAAAAj&client_id=c1-1&client_secret=s3cret",
         87_419,
+        87_420,
         "{\"active\":true,\"client_id\":\"c1-1\",\"exp\":87420,\"iat\":1020,\"scope\":\"read write\",\"sub\":\"an\\\"n\"}",
     ),
 ];
 
 #[test]
-fn a_token_is_active_until_its_end(rt: HostRuntime) -> Result<(), Fail> {
-    let alloc = rt.alloc();
-    let ledger = ledger(alloc)?;
-    for (form, last, body) in ENDS {
-        let decision = introspected(alloc, &ledger, last, form)?;
-        is_reply(&rt, form, &decision, 200, body);
-        for now in [last + 1, 253_402_300_799] {
-            let decision = introspected(alloc, &ledger, now, form)?;
-            is_reply(&rt, form, &decision, 200, "{\"active\":false}");
+fn a_token_is_active_until_its_end(rt: HostRuntime) {
+    for &(name, form, last, end, told) in &ENDS {
+        for (now, body) in [(last, told), (end, IDLE), (253_402_300_799, IDLE)] {
+            let row = (name, form, now, 200, body, b"".as_slice());
+            are_answered(&rt, rt.alloc(), Endpoint::Introspect, &[row]);
         }
     }
-    Ok(())
 }

@@ -1,33 +1,10 @@
 //! Revocations: which make a fact, and which leave nothing to do or are refused.
 
-use super::{is_reply, ledger, request};
-use crate::decide_revoke;
-use std::alloc::Global;
-use std::process::Abort;
-use std::test::Fail;
-use tk_fact::Fact;
-use tk_handle::{Moment, RegionNumber, Serial};
-use tk_ledger::Ledger;
-use tk_message::{Decision, Endpoint, Lives, Place};
-
-fn revoked(alloc: Global, ledger: &Ledger, now: u64, form: &str) -> Result<Decision, Fail> {
-    let place = Place {
-        number: RegionNumber::new(1).ok_or("a region")?,
-        next: Serial::new(9).ok_or("a serial")?,
-        lives: Lives {
-            code: 60,
-            access: 3_600,
-            refresh: 86_400,
-            family: 2_592_000,
-        },
-    };
-    let request = request(alloc, Endpoint::Revoke, form)?;
-    let now = Moment::new(now).ok_or("a moment")?;
-    Ok(decide_revoke(alloc, ledger, &place, now, &request)?)
-}
+use super::are_answered;
+use tk_message::Endpoint;
 
 // What is sent, when, and the bytes of the fact, as it would stand at 1:9.
-const MADE: [(&str, &str, u64, &[u8]); 6] = [
+static MADE: [(&str, &str, u64, &[u8]); 6] = [
     (
         "an access token",
         "token=AQIAAQAAAAAAAAAEAAAAAAAAABgAAAAAAAAAGQAAAAAAAAAa&client_id=c1-1&client_secret=s3cret",
@@ -67,23 +44,15 @@ const MADE: [(&str, &str, u64, &[u8]); 6] = [
 ];
 
 #[test]
-fn a_revocation_makes_a_fact(rt: HostRuntime) -> Result<(), Fail> {
-    let alloc = rt.alloc();
-    let ledger = ledger(alloc)?;
-    for (name, form, now, bytes) in MADE {
-        let decision = revoked(alloc, &ledger, now, form)?;
-        is_reply(&rt, name, &decision, 200, "");
-        let want = Fact::read(alloc, bytes)?;
-        match &decision.made {
-            Some(made) => assert!(rt; made.same(&want.body), "fact of {name}"),
-            None => assert!(rt; false, "{name} makes a fact"),
-        }
+fn a_revocation_makes_a_fact(rt: HostRuntime) {
+    for &(name, form, now, bytes) in &MADE {
+        let row = (name, form, now, 200, "", bytes);
+        are_answered(&rt, rt.alloc(), Endpoint::Revoke, &[row]);
     }
-    Ok(())
 }
 
 // What is sent, when, and the status and the body that it is answered.
-const IDLE: [(&str, &str, u64, u16, &str); 15] = [
+static IDLE: [(&str, &str, u64, u16, &str); 15] = [
     (
         "no handle",
         "token=abc&client_id=c1-1&client_secret=s3cret",
@@ -192,13 +161,9 @@ const IDLE: [(&str, &str, u64, u16, &str); 15] = [
 ];
 
 #[test]
-fn what_is_left_makes_no_fact(rt: HostRuntime) -> Result<(), Fail> {
-    let alloc = rt.alloc();
-    let ledger = ledger(alloc)?;
-    for (name, form, now, status, body) in IDLE {
-        let decision = revoked(alloc, &ledger, now, form)?;
-        is_reply(&rt, name, &decision, status, body);
-        assert!(rt; decision.made.is_none(), "{name} makes no fact");
+fn what_is_left_makes_no_fact(rt: HostRuntime) {
+    for &(name, form, now, status, body) in &IDLE {
+        let row = (name, form, now, status, body, b"".as_slice());
+        are_answered(&rt, rt.alloc(), Endpoint::Revoke, &[row]);
     }
-    Ok(())
 }

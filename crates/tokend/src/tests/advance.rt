@@ -141,7 +141,7 @@ reply 200
 bundle 2 6 2:1 end
 "#;
 
-const ADVANCES: [(&str, &str, &str); 4] = [
+const ADVANCES: &[(&str, &str, &str)] = &[
     ("by another client", BY_ANOTHER, BY_ANOTHER_TOLD),
     ("by the token's client", BY_ITS_CLIENT, BY_ITS_CLIENT_TOLD),
     ("of a refresh token", WHOLE_FAMILY, WHOLE_FAMILY_TOLD),
@@ -150,7 +150,7 @@ const ADVANCES: [(&str, &str, &str); 4] = [
 
 #[test]
 fn tokens_are_revoked_in_advance(rt: HostRuntime) -> Result<(), Fail> {
-    for (name, lines, told) in ADVANCES {
+    for &(name, lines, told) in ADVANCES {
         run_behind(&rt, &UNHEARD, name, lines, told)?;
     }
     Ok(())

@@ -96,7 +96,7 @@ reply 200
 bundle 0 11 1:11 end
 "#;
 
-const AFTERWARDS: [(&str, &str, &str); 3] = [
+const AFTERWARDS: &[(&str, &str, &str)] = &[
     ("a dead family", DEAD, DEAD_TOLD),
     ("a family without consent", WITHDRAWN, WITHDRAWN_TOLD),
     ("a revoked access token", ENDED, ENDED_TOLD),
@@ -104,7 +104,7 @@ const AFTERWARDS: [(&str, &str, &str); 3] = [
 
 #[test]
 fn a_state_comes_before_what_is_wrong_with_the_request(rt: HostRuntime) -> Result<(), Fail> {
-    for (name, lines, told) in AFTERWARDS {
+    for &(name, lines, told) in AFTERWARDS {
         run_behind(&rt, &BEGUN, name, lines, told)?;
     }
     Ok(())

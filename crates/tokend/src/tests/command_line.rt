@@ -187,7 +187,7 @@ For more information, try '--help'.
 }
 
 // A life that is too long, by its option, and its range.
-const LIVES: [(&str, &str, &str); 4] = [
+const LIVES: &[(&str, &str, &str)] = &[
     ("--code", "601", "600"),
     ("--access", "86401", "86400"),
     ("--refresh", "31536001", "31536000"),
@@ -196,7 +196,7 @@ const LIVES: [(&str, &str, &str); 4] = [
 
 #[test]
 fn lives_out_of_range_are_told(rt: HostRuntime) -> Result<(), Fail> {
-    for (option, life, greatest) in LIVES {
+    for &(option, life, greatest) in LIVES {
         let told = format!(in rt.alloc();
             "error: invalid value '{life}' for '{option} <N>': {life} is not in 1..={greatest}\n\nFor more information, try '--help'.\n"
         )?;

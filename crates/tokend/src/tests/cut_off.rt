@@ -122,7 +122,7 @@ reply 200 {"active":false}
 "#;
 
 // In which order the two bundles come.
-const ORDERS: [(&str, &str, &str); 2] = [
+const ORDERS: &[(&str, &str, &str)] = &[
     (
         "region 1 hears of it first",
         FIRST_REGION,
@@ -137,7 +137,7 @@ const ORDERS: [(&str, &str, &str); 2] = [
 
 #[test]
 fn a_code_redeemed_in_two_regions_kills_its_family(rt: HostRuntime) -> Result<(), Fail> {
-    for (name, lines, told) in ORDERS {
+    for &(name, lines, told) in ORDERS {
         run_behind(&rt, &CUT_OFF, name, lines, told)?;
     }
     Ok(())

@@ -95,14 +95,14 @@ reply 400 {"error":"invalid_grant"}
 bundle 3 6 2:1 end
 "#;
 
-const GONE: [(&str, &str, &str); 2] = [
+const GONE: &[(&str, &str, &str)] = &[
     ("a client retired elsewhere", RETIRED, RETIRED_TOLD),
     ("a consent withdrawn elsewhere", WITHDRAWN, WITHDRAWN_TOLD),
 ];
 
 #[test]
 fn what_goes_elsewhere_goes_here_with_its_bundle(rt: HostRuntime) -> Result<(), Fail> {
-    for (name, lines, told) in GONE {
+    for &(name, lines, told) in GONE {
         run_behind(&rt, &HELD_BY_BOTH, name, lines, told)?;
     }
     Ok(())

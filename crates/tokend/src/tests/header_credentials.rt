@@ -36,7 +36,7 @@ const INVALID_REQUEST: &str = r#"reply 400 {"error":"invalid_request"}"#;
 const INVALID_CLIENT: &str = r#"reply 401 {"error":"invalid_client"}"#;
 
 // What stands in the header behind `Basic`, what stands in the body behind the token, and what is answered.
-const HEADERS: [(&str, &str, &str, &str); 14] = [
+const HEADERS: &[(&str, &str, &str, &str)] = &[
     ("no client in the body", "YzEtMTpzM2NyZXQ=", "", ACTIVE),
     (
         "the same client in the body",
@@ -95,7 +95,7 @@ const HEADERS: [(&str, &str, &str, &str); 14] = [
 
 #[test]
 fn a_client_names_itself_in_the_header(rt: HostRuntime) -> Result<(), Fail> {
-    for (name, auth, more, answer) in HEADERS {
+    for &(name, auth, more, answer) in HEADERS {
         ask(&rt, name, auth, more, answer)?;
     }
     Ok(())

@@ -42,7 +42,7 @@ const REFRESH_ACTIVE: &str =
     r#"reply 200 {"active":true,"client_id":"c1-1","exp":87410,"iat":1010,"scope":"read write","sub":"ann"}"#;
 
 // Which token is asked about at which moment, and what is told of it.
-const TOLD: [(&str, u64, &str, &str); 10] = [
+const TOLD: &[(&str, u64, &str, &str)] = &[
     ("the access token", 1020, ACCESS, ACCESS_ACTIVE),
     ("the refresh token", 1020, REFRESH, REFRESH_ACTIVE),
     ("the code, of which nothing is told", 1020, CODE, INACTIVE),
@@ -83,7 +83,7 @@ const TOLD: [(&str, u64, &str, &str); 10] = [
 
 #[test]
 fn tokens_are_told_of_until_their_ends(rt: HostRuntime) -> Result<(), Fail> {
-    for (name, now, token, answer) in TOLD {
+    for &(name, now, token, answer) in TOLD {
         let line = format!(in rt.alloc();
             "req 1 {now} POST /introspect - - token={token}&client_id=c1-1&client_secret=s3cret\n"
         )?;

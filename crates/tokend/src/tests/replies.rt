@@ -17,7 +17,7 @@ fn printed(alloc: Global, status: Status, reply: &str) -> Result<Vec<u8>, Fail> 
 }
 
 // The status, the bytes of the reply, and the line.
-const ROWS: [(Status, &str, &str); 7] = [
+const ROWS: &[(Status, &str, &str)] = &[
     (
         Status::Found,
         "HTTP/1.1 302 Found\r\nContent-Length: 0\r\nLocation: https://app.example/cb?state=x\r\n\r\n",
@@ -46,7 +46,7 @@ const ROWS: [(Status, &str, &str); 7] = [
 #[test]
 fn a_reply_is_its_status_its_location_and_its_body(rt: HostRuntime) -> Result<(), Fail> {
     let alloc = rt.alloc();
-    for (status, reply, want) in ROWS {
+    for &(status, reply, want) in ROWS {
         let output = printed(alloc, status, reply)?;
         assert_eq!(rt; str::from_utf8(output.as_slice())?, want, "{reply}");
     }

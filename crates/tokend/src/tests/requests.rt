@@ -27,7 +27,7 @@ const GRANTED: &str =
     "reply 302 https://app.example/cb?code=AQEAAQAAAAAAAAADAAAAAAAAABIAAAAAAAAAEwAAAAAAAAAU";
 
 // What is sent to `/authorize` behind `response_type=code&client_id=c1-1`, and what it is answered.
-const ASKED: [(&str, &str, &str); 16] = [
+const ASKED: &[(&str, &str, &str)] = &[
     ("nothing more", "", GRANTED),
     (
         "a state and a challenge",
@@ -92,7 +92,7 @@ const ASKED: [(&str, &str, &str); 16] = [
 
 #[test]
 fn an_authorisation_is_answered(rt: HostRuntime) -> Result<(), Fail> {
-    for (name, more, answer) in ASKED {
+    for &(name, more, answer) in ASKED {
         ask(&rt, name, more, "ann", answer)?;
     }
     ask(
@@ -129,7 +129,7 @@ fn ask<R: AllocGlobal + Abort + Files + Clock + Net<Listener = TcpListener, Stre
 }
 
 // Short lines, and the whole ones that they stand for.
-const SHORT: [(&str, &[u8], &[u8]); 5] = [
+const SHORT: &[(&str, &[u8], &[u8])] = &[
     (
         "a client",
         b"client 1 1000 public - read https://app.example/cb",
@@ -159,7 +159,7 @@ const SHORT: [(&str, &[u8], &[u8]); 5] = [
 
 #[test]
 fn short_lines_stand_for_whole_ones(rt: HostRuntime) -> Result<(), Fail> {
-    for (name, short, whole) in SHORT {
+    for &(name, short, whole) in SHORT {
         let one = told(&rt, short)?;
         let other = told(&rt, whole)?;
         assert!(rt;
@@ -230,7 +230,7 @@ fn consents_are_given_and_withdrawn(rt: HostRuntime) -> Result<(), Fail> {
 }
 
 // Bodies of requests to add a client, and what they are answered.
-const REGISTRATIONS: [(&str, &str, &str); 10] = [
+const REGISTRATIONS: &[(&str, &str, &str)] = &[
     (
         "another kind",
         "kind=native&scope=read&redirects=https://app.example/cb",
@@ -285,7 +285,7 @@ const REGISTRATIONS: [(&str, &str, &str); 10] = [
 
 #[test]
 fn a_registration_is_answered(rt: HostRuntime) -> Result<(), Fail> {
-    for (name, body, answer) in REGISTRATIONS {
+    for &(name, body, answer) in REGISTRATIONS {
         let script = format!(in rt.alloc(); "open 1\nreq 1 0 POST /admin/client - - {body}\n")?;
         let output = format!(in rt.alloc(); "opened 1\n{answer}\n")?;
         run_row(&rt, &printed(name, script.as_bytes(), output.as_str()))?;

@@ -101,7 +101,7 @@ reply 200 {"active":true,"client_id":"c1-1","exp":87420,"iat":1020,"scope":"read
 reply 200 {"access_token":"AQIAAQAAAAAAAAAHAAAAAAAAAEIAAAAAAAAAQwAAAAAAAABE","expires_in":3600,"refresh_token":"AQMAAQAAAAAAAAAHAAAAAAAAAEUAAAAAAAAARgAAAAAAAABH","scope":"read write","token_type":"Bearer"}
 "#;
 
-const ROTATIONS: [(&str, &str, &str); 3] = [
+const ROTATIONS: &[(&str, &str, &str)] = &[
     ("a code that comes three times", CODE_AGAIN, CODE_AGAIN_TOLD),
     (
         "a refresh token that comes again",
@@ -113,7 +113,7 @@ const ROTATIONS: [(&str, &str, &str); 3] = [
 
 #[test]
 fn tokens_are_rotated(rt: HostRuntime) -> Result<(), Fail> {
-    for (name, lines, told) in ROTATIONS {
+    for &(name, lines, told) in ROTATIONS {
         run_behind(&rt, &REDEEMED, name, lines, told)?;
     }
     Ok(())

@@ -56,7 +56,7 @@ const GRANTED: &str =
 const REFUSED: &str = r#"reply 400 {"error":"invalid_grant"}"#;
 
 // Challenges, plain where no method is named; the verifier that comes; and what it is answered.
-const LIMITS: [(&str, &str, &str, &str); 11] = [
+const LIMITS: &[(&str, &str, &str, &str)] = &[
     (
         "a challenge of 43 letters, and the same letters",
         "aaaaaaaaaaaaaaaaaaaaaaaaaaaaaaaaaaaaaaaaaaa",
@@ -128,7 +128,7 @@ const LIMITS: [(&str, &str, &str, &str); 11] = [
 
 #[test]
 fn challenges_and_verifiers_meet_within_their_limits(rt: HostRuntime) -> Result<(), Fail> {
-    for (name, challenge, verifier, answer) in LIMITS {
+    for &(name, challenge, verifier, answer) in LIMITS {
         meet(&rt, name, challenge, verifier, answer)?;
     }
     Ok(())

@@ -27,7 +27,7 @@ const OWN_CODE: &str = "AQEAAQAAAAAAAAAJAAAAAAAAADYAAAAAAAAANwAAAAAAAAA4";
 const FAR_CODE: &str = "AQEAAwAAAAAAAAABAAAAAAAAADYAAAAAAAAANwAAAAAAAAA4";
 
 // The state, how it came, the region and the moment of the use, the code, the answer, and what the region holds then.
-const CODES: [(&str, &State<'static>, u16, u64, &str, &str, &str); 14] = [
+const CODES: &[(&str, &State<'static>, u16, u64, &str, &str, &str)] = &[
     // A dead code is used as well, and that isn't recorded again.
     (
         "dead",
@@ -160,7 +160,7 @@ const CODES: [(&str, &State<'static>, u16, u64, &str, &str, &str); 14] = [
 
 #[test]
 fn a_code_is_redeemed_by_its_state(rt: HostRuntime) -> Result<(), Fail> {
-    for (name, state, region, now, code, answer, held) in CODES {
+    for &(name, state, region, now, code, answer, held) in CODES {
         let line = format!(in rt.alloc();
             "req {region} {now} POST /token - - grant_type=authorization_code&code={code}&client_id=c1-1&client_secret=s3cret"
         )?;
@@ -182,7 +182,7 @@ const OWN_REFRESH: &str = "AQMAAQAAAAAAAAAJAAAAAAAAADkAAAAAAAAAOgAAAAAAAAA7";
 const FAR_REFRESH: &str = "AQMAAwAAAAAAAAABAAAAAAAAADkAAAAAAAAAOgAAAAAAAAA7";
 
 // As above, for a refresh token.
-const REFRESHES: [(&str, &State<'static>, u16, u64, &str, &str, &str); 15] = [
+const REFRESHES: &[(&str, &State<'static>, u16, u64, &str, &str, &str)] = &[
     (
         "dead",
         &DEAD,
@@ -323,7 +323,7 @@ const REFRESHES: [(&str, &State<'static>, u16, u64, &str, &str, &str); 15] = [
 
 #[test]
 fn a_refresh_token_is_rotated_by_its_state(rt: HostRuntime) -> Result<(), Fail> {
-    for (name, state, region, now, refresh, answer, held) in REFRESHES {
+    for &(name, state, region, now, refresh, answer, held) in REFRESHES {
         let line = format!(in rt.alloc();
             "req {region} {now} POST /token - - grant_type=refresh_token&refresh_token={refresh}&client_id=c1-1&client_secret=s3cret"
         )?;

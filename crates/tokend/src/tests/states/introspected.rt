@@ -37,7 +37,7 @@ const FAR_ACCESS: &str = "AQIAAwAAAAAAAAABAAAAAAAAADYAAAAAAAAANwAAAAAAAAA4";
 const FAR_REFRESH: &str = "AQMAAwAAAAAAAAABAAAAAAAAADkAAAAAAAAAOgAAAAAAAAA7";
 
 // The state, how it came, the region and the moment of the question, the token, the answer, and what the region holds then.
-const INTROSPECTIONS: [(&str, &State<'static>, u16, u64, &str, &str, &str); 27] = [
+const INTROSPECTIONS: &[(&str, &State<'static>, u16, u64, &str, &str, &str)] = &[
     (
         "an access token: dead",
         &DEAD,
@@ -286,7 +286,7 @@ const INTROSPECTIONS: [(&str, &State<'static>, u16, u64, &str, &str, &str); 27] 
 
 #[test]
 fn a_token_is_told_of_by_its_state(rt: HostRuntime) -> Result<(), Fail> {
-    for (name, state, region, now, token, answer, held) in INTROSPECTIONS {
+    for &(name, state, region, now, token, answer, held) in INTROSPECTIONS {
         let line = format!(in rt.alloc();
             "req {region} {now} POST /introspect - - token={token}&client_id=c1-1&client_secret=s3cret"
         )?;

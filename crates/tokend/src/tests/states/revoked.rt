@@ -29,7 +29,7 @@ const FAR_ACCESS: &str = "AQIAAwAAAAAAAAABAAAAAAAAADYAAAAAAAAANwAAAAAAAAA4";
 const FAR_REFRESH: &str = "AQMAAwAAAAAAAAABAAAAAAAAADkAAAAAAAAAOgAAAAAAAAA7";
 
 // The state, how it came, the region and the moment of the request, the token, and what the region holds then.
-const REVOCATIONS: [(&str, &State<'static>, u16, u64, &str, &str); 27] = [
+const REVOCATIONS: &[(&str, &State<'static>, u16, u64, &str, &str)] = &[
     (
         "an access token: dead",
         &DEAD,
@@ -255,7 +255,7 @@ const REVOCATIONS: [(&str, &State<'static>, u16, u64, &str, &str); 27] = [
 // Each is answered alike (RFC 7009, 2.2).
 #[test]
 fn a_token_is_revoked_by_its_state(rt: HostRuntime) -> Result<(), Fail> {
-    for (name, state, region, now, token, held) in REVOCATIONS {
+    for &(name, state, region, now, token, held) in REVOCATIONS {
         let line = format!(in rt.alloc();
             "req {region} {now} POST /revoke - - token={token}&client_id=c1-1&client_secret=s3cret"
         )?;
