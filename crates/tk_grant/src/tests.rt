@@ -8,16 +8,26 @@ mod refused;
 use crate::decide_token;
 use std::alloc::Global;
 use std::process::Abort;
-use std::test::Fail;
-use tk_fact::Fact;
+use tk_fact::{Body, Fact};
 use tk_handle::{Moment, RegionNumber, Serial};
 use tk_ledger::Ledger;
-use tk_message::{Decision, Endpoint, Lives, Params, Payload, Place, Request};
+use tk_message::{Decision, Endpoint, Lives, Params, Payload, Place, Reply, Request};
+
+// What a request is called, what is sent, and when; the status and the body that it is answered; and the bytes of the fact that it makes,
+// as it would stand at 1:7, or none.
+type Row = (
+    &'static str,
+    &'static str,
+    u64,
+    u16,
+    &'static str,
+    &'static [u8],
+);
 
 // The facts of the ledger, spelled out: the client c1-1 with the secret `s3cret` and ann's consent g1-2; a code with a
 // challenge (1:3), one whose request named the URI (1:4) and one that is redeemed (1:5), all to 1,060 in families to 2,593,000; the
 // tokens of the last (1:6), the refresh token to 87,410; and the public client c2-1.
-const FACTS: [&[u8]; 7] = [
+static FACTS: [&[u8]; 7] = [
     b"\x00\x01\x00\x00\x00\x00\x00\x00\x00\x01\x01\x01\x1e\xc1\xc2kP\xd5\xd3\xc5\x8d\x95\x83\x18\x1a\xf8\x07fU\xfe\x00uk\xf7(Y@\xba6p\xf9\x9f\xcb\xa0\x00\x0aread write\x01\x00\x16https://app.example/cb",
     b"\x00\x01\x00\x00\x00\x00\x00\x00\x00\x02\x03\x00\x01\x00\x00\x00\x00\x00\x00\x00\x01\x00\x03ann\x00\x0aread write",
     b"\x00\x01\x00\x00\x00\x00\x00\x00\x00\x03\x05\x00\x01\x00\x00\x00\x00\x00\x00\x00\x01\x00\x01\x00\x00\x00\x00\x00\x00\x00\x02kxhl@\xdez\x1ci'\x1e\x12\x7f\x9eR\xabX\x87|\xf3\x8csk\x0d)\xf0\x1e\x1c\x1f\xdb\xdc\xb4\x00\x00\x00\x00\x00\x00\x03\xe8\x00\x00\x00\x00\x00\x00\x04$\x00\x00\x00\x00\x00'\x90\xe8\x00\x03ann\x00\x0aread write\x00\x16https://app.example/cb\x00\x02\x00+E9Melhoa2OwvFrEMTJguCHaoeK1t8URWbuGJSstw-cM",
@@ -27,24 +37,26 @@ const FACTS: [&[u8]; 7] = [
     b"\x00\x02\x00\x00\x00\x00\x00\x00\x00\x01\x01\x00\x00\x04read\x01\x00\x16https://app.example/cb",
 ];
 
-fn ledger(alloc: Global) -> Result<Ledger, Fail> {
-    let mut ledger = Ledger::new(alloc);
-    for bytes in FACTS {
-        let fact = Fact::read(alloc, bytes)?;
-        if fact.check().is_err() {
-            Err("a fact that was read breaks a rule")?;
-        }
-        if ledger.add(fact).is_err() {
-            Err("the fact wasn't added")?;
-        }
+// Whether the fact of these bytes is added; not so where memory is refused.
+fn adds(alloc: Global, ledger: &mut Ledger, bytes: &[u8]) -> bool {
+    match Fact::read(alloc, bytes) {
+        Ok(fact) => fact.check().is_ok() && ledger.add(fact).is_ok(),
+        Err(_) => false,
     }
-    Ok(ledger)
 }
 
-fn place() -> Result<Place, Fail> {
-    Ok(Place {
-        number: RegionNumber::new(1).ok_or("a region")?,
-        next: Serial::new(7).ok_or("a serial")?,
+fn ledger(rt: &impl Abort, alloc: Global) -> Ledger {
+    let mut ledger = Ledger::new(alloc);
+    for bytes in &FACTS {
+        assert!(rt; adds(alloc, &mut ledger, bytes), "a fact is added");
+    }
+    ledger
+}
+
+fn place() -> Option<Place> {
+    Some(Place {
+        number: RegionNumber::new(1)?,
+        next: Serial::new(7)?,
         lives: Lives {
             code: 60,
             access: 3_600,
@@ -54,28 +66,64 @@ fn place() -> Result<Place, Fail> {
     })
 }
 
-fn decided(alloc: Global, ledger: &Ledger, now: u64, form: &str) -> Result<Decision, Fail> {
-    let request = Request {
+fn request(alloc: Global, form: &str) -> Option<Request> {
+    let params = Params::read(alloc, form.as_bytes()).ok()?;
+    Some(Request {
         endpoint: Endpoint::Token,
-        params: Params::read(alloc, form.as_bytes())?,
+        params,
         authorization: None,
         subject: None,
-    };
-    let now = Moment::new(now).ok_or("a moment")?;
-    let words = [42, 43, 44, 45, 46, 47];
-    Ok(decide_token(alloc, ledger, &place()?, now, &words, &request)?)
+    })
 }
 
-// A JSON text under a status, and no place to be sent to.
-fn is_reply(rt: &impl Abort, name: &str, decision: &Decision, status: u16, body: &str) {
-    let reply = &decision.reply;
-    assert_eq!(rt; reply.status.number(), status, "status of {name}");
-    assert_eq!(rt; reply.www, status == 401, "credentials for {name}");
-    assert!(rt; reply.location.is_none(), "location of {name}");
-    match &reply.body {
-        Payload::Json(bytes) => {
-            assert_eq!(rt; bytes.as_slice(), body.as_bytes(), "body of {name}");
+// None where memory is refused.
+fn decided(alloc: Global, ledger: &Ledger, now: u64, form: &str) -> Option<Decision> {
+    let (now, place) = (Moment::new(now)?, place()?);
+    let request = request(alloc, form)?;
+    let words = [42, 43, 44, 45, 46, 47];
+    decide_token(alloc, ledger, &place, now, &words, &request).ok()
+}
+
+// Whether the reply has that status, and is that JSON text.
+fn is_reply(reply: &Reply, status: u16, body: &str) -> bool {
+    let is_told = match &reply.body {
+        Payload::Json(bytes) => bytes.as_slice() == body.as_bytes(),
+        _ => false,
+    };
+    is_told
+        && reply.status.number() == status
+        && reply.www == (status == 401)
+        && reply.location.is_none()
+}
+
+// Whether the fact says what the one of these bytes does; there is none where there are no bytes.
+fn is_made(alloc: Global, made: &Option<Body>, bytes: &[u8]) -> bool {
+    match made {
+        Some(made) => says(alloc, made, bytes),
+        None => bytes.is_empty(),
+    }
+}
+
+fn says(alloc: Global, made: &Body, bytes: &[u8]) -> bool {
+    match Fact::read(alloc, bytes) {
+        Ok(fact) => made.same(&fact.body),
+        Err(_) => false,
+    }
+}
+
+fn is_answered(alloc: Global, ledger: &Ledger, row: &Row) -> bool {
+    let (_, form, now, status, body, bytes) = *row;
+    match decided(alloc, ledger, now, form) {
+        Some(decision) => {
+            is_reply(&decision.reply, status, body) && is_made(alloc, &decision.made, bytes)
         }
-        _ => assert!(rt; false, "{name} is JSON"),
+        None => false,
+    }
+}
+
+fn are_answered(rt: &impl Abort, alloc: Global, rows: &[Row]) {
+    let ledger = ledger(rt, alloc);
+    for row in rows {
+        assert!(rt; is_answered(alloc, &ledger, row), "{}", row.0);
     }
 }

@@ -113,7 +113,7 @@ fn with_first(alloc: Global) -> Result<Region, Fail> {
 }
 
 // A bundle's facts, what taking it in answers, and what the region then holds.
-const BUNDLES: [(&str, &[Retired], Result<u16, TakeError>, &[Retired]); 15] = [
+const BUNDLES: &[(&str, &[Retired], Result<u16, TakeError>, &[Retired])] = &[
     ("nothing", &[], Ok(0), &FIRST),
     (
         "a new fact",
@@ -199,7 +199,7 @@ const BUNDLES: [(&str, &[Retired], Result<u16, TakeError>, &[Retired]); 15] = [
 #[test]
 fn a_bundle_is_taken_in_or_changes_nothing(rt: HostRuntime) -> Result<(), Fail> {
     let alloc = rt.alloc();
-    for (name, facts, want, after) in BUNDLES {
+    for &(name, facts, want, after) in BUNDLES {
         let mut region = with_first(alloc)?;
         let result = take(alloc, &mut region, facts)?;
         assert_eq!(rt; result, want, "{name}");
@@ -221,7 +221,7 @@ fn a_torn_bundle_is_malformed(rt: HostRuntime) -> Result<(), Fail> {
 }
 
 // Bundles in the order in which they come, and how many facts of each are new.
-const DELIVERIES: [(&str, &[Retired], u16); 4] = [
+const DELIVERIES: &[(&str, &[Retired], u16)] = &[
     ("the newer one", &[((1, 3), (1, 9)), ((3, 1), (1, 9))], 2),
     ("the older one", &[((1, 1), (1, 9)), ((1, 2), (1, 9))], 2),
     (
@@ -240,7 +240,7 @@ const DELIVERIES: [(&str, &[Retired], u16); 4] = [
 fn bundles_come_in_any_order(rt: HostRuntime) -> Result<(), Fail> {
     let alloc = rt.alloc();
     let mut region = new_region(alloc, 5)?;
-    for (name, facts, new) in DELIVERIES {
+    for &(name, facts, new) in DELIVERIES {
         assert_eq!(rt; take(alloc, &mut region, facts)?, Ok(new), "{name}");
     }
     let all = [
@@ -271,13 +271,13 @@ fn is_recorded(handled: &Handled, record: &[u8]) -> bool {
 }
 
 // The facts of region 2, whose cap is 2.
-const MADE: [Retired; 2] = [((2, 1), (1, 7)), ((2, 2), (1, 8))];
+const MADE: &[Retired] = &[((2, 1), (1, 7)), ((2, 2), (1, 8))];
 
 #[test]
 fn a_fact_is_recorded_and_none_is_above_the_cap(rt: HostRuntime) -> Result<(), Fail> {
     let alloc = rt.alloc();
     let mut region = new_region(alloc, 2)?;
-    for fact in MADE {
+    for &fact in MADE {
         let handled = retire(alloc, &mut region, fact.1)?;
         let record = bundle_of(alloc, &[fact])?;
         assert!(rt; is_recorded(&handled, record.as_slice()), "record");
@@ -287,11 +287,11 @@ fn a_fact_is_recorded_and_none_is_above_the_cap(rt: HostRuntime) -> Result<(), F
     assert!(rt; is_json(&refused.reply, 503, body), "above the cap");
     assert!(rt; refused.logged.is_none(), "no record");
     assert_eq!(rt; region.number().number(), 2);
-    holds(&rt, alloc, "a fact above the cap", &region, &MADE)
+    holds(&rt, alloc, "a fact above the cap", &region, MADE)
 }
 
 // Requests for what no fact speaks of.
-const UNKNOWN: [(&str, Endpoint, &[u8]); 3] = [
+const UNKNOWN: &[(&str, Endpoint, &[u8])] = &[
     ("a client to show", Endpoint::ShowClient, b"client_id=c9-9"),
     ("a client to retire", Endpoint::Retire, b"client_id=c9-9"),
     (
@@ -316,7 +316,7 @@ fn what_is_unknown_is_not_found(rt: HostRuntime) -> Result<(), Fail> {
     let mut region = new_region(alloc, 2)?;
     let now = Moment::new(1_000).ok_or("a moment")?;
     let (words, body) = ([7; 6], "{\"error\":\"not_found\"}");
-    for (name, endpoint, input) in UNKNOWN {
+    for &(name, endpoint, input) in UNKNOWN {
         let request = request_of(alloc, endpoint, input)?;
         let prepared = region.decide(alloc, now, &words, &request)?;
         assert!(rt; is_json(&prepared.reply, 404, body), "{name}");

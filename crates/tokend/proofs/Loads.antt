@@ -14,7 +14,7 @@ use Rattle.tk_store.proofs.JoiningLaws.{joins_nothing, joins_more}
 use Rattle.tk_store.specs.Store.{facts_of}
 use Rattle.tk_format.specs.Format.{whole}
 use Rattle.tk_bundle.specs.Bundle.{bundle, bundle_bytes}
-use Rattle.tk_bundle.specs.Front.{IsCut, IsFrontOf, walk}
+use Rattle.tk_bundle.specs.Front.{IsFrontOf, walk}
 use Rattle.tk_bundle.specs.declared.error.FrontError.{FrontError}
 use Rattle.tk_bundle.specs.declared.error.FrontError.TheVariants as front
 use Rattle.tk_message.specs.Place.{next_in}

@@ -1,11 +1,11 @@
 -- What a run of the program comes to, by what its pieces do.
 use Rattle.std.proofs.Common.{◌≡◌, ℕ, List, Option, Some, None, Result, Ok, Err, subst, sym, ap, refl, inl, inr, arith, ◌<◌, ◌∙◌, ◌++◌}
-use Rattle.std.specs.Prelude.{◌⊎◌, IfSome, IfErr, OnOk, OnErr, MatchResult}
+use Rattle.std.specs.Prelude.{IfSome, IfErr, OnOk, OnErr, MatchResult}
 use Rattle.std.specs.Io.KnownBytes.{Appends, Keeps}
 use Rattle.clap.specs.Words.{Text}
 use Rattle.tk_region.specs.SettingsFields.{SettingsFields}
 use Rattle.tokend.specs.Put.{AppendsFront}
-use Rattle.tokend.specs.Serving.{Announces, BeginsAnnouncement, IsFileFault, IsServiceFault, LeavesService}
+use Rattle.tokend.specs.Serving.{Announces, IsFileFault, IsServiceFault, LeavesService}
 use Rattle.tokend.specs.Task.{script_task, Asks, AsksToServe}
 use Rattle.tokend.specs.ScriptRun.{IsScriptRun, PrintsScript, BeginsScript, IsScriptFault, LeavesScript}
 use Rattle.tokend.specs.ProgramRun.{IsDone, IsFaultFor, IsQuiet, Leaves, Tells}

@@ -11,8 +11,6 @@ use Rattle.tk_region.specs.SettingsFields.{greatest_code, greatest_access, great
 use Rattle.tokend.specs.CommandLine.{HasNumber, HasNumbers, HasService, greatest_port, tokend_app}
 use Rattle.tokend.specs.Task.{IsNoService, IsNoTask, IsRefusalOf}
 use Rattle.tokend.specs.declared.options.Numbers.{Numbers}
-use Rattle.tokend.specs.declared.options.Service.{Service}
-use Rattle.tokend.specs.declared.options.Task.{Task}
 use Rattle.tokend.specs.declared.options.Task.TheVariants.{Script, Serve}
 
 -- the rows of a subcommand are one

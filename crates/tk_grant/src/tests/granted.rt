@@ -1,12 +1,8 @@
 //! Requests that make a fact: its bytes, and the reply.
 
-use super::{decided, is_reply, ledger};
-use std::process::Abort;
-use std::test::Fail;
-use tk_fact::Fact;
+use super::{Row, are_answered};
 
-// What is sent, when, the status and the body of the reply, and the bytes of the fact, as it would stand at 1:7.
-const MADE: [(&str, &str, u64, u16, &str, &[u8]); 5] = [
+static MADE: [Row; 5] = [
     (
         "a code with a challenge",
         "grant_type=authorization_code&code=AQEAAQAAAAAAAAADAAAAAAAAABIAAAAAAAAAEwAAAAAAAAAU&code_verifier=dBjftJeZ4CVP-mB92K27uhbUJU1p1r_wW1gFWFOEjXk&client_id=c1-1&client_secret=s3cret",
@@ -50,17 +46,6 @@ const MADE: [(&str, &str, u64, u16, &str, &[u8]); 5] = [
 ];
 
 #[test]
-fn a_grant_makes_a_fact(rt: HostRuntime) -> Result<(), Fail> {
-    let alloc = rt.alloc();
-    let ledger = ledger(alloc)?;
-    for (name, form, now, status, body, bytes) in MADE {
-        let decision = decided(alloc, &ledger, now, form)?;
-        is_reply(&rt, name, &decision, status, body);
-        let want = Fact::read(alloc, bytes)?;
-        match &decision.made {
-            Some(made) => assert!(rt; made.same(&want.body), "fact of {name}"),
-            None => assert!(rt; false, "{name} makes a fact"),
-        }
-    }
-    Ok(())
+fn a_grant_makes_a_fact(rt: HostRuntime) {
+    are_answered(&rt, rt.alloc(), &MADE);
 }

@@ -1,11 +1,9 @@
 //! Requests that are refused, and make no fact.
 
-use super::{decided, is_reply, ledger};
-use std::process::Abort;
-use std::test::Fail;
+use super::are_answered;
 
 // What is sent at 1,010, and the status and the error that it is answered.
-const REFUSED: [(&str, &str, u16, &str); 24] = [
+static REFUSED: [(&str, &str, u16, &str); 24] = [
     (
         "a parameter twice",
         "grant_type=authorization_code&code=AQEAAQAAAAAAAAADAAAAAAAAABIAAAAAAAAAEwAAAAAAAAAU&scope=read&scope=read&client_id=c1-1&client_secret=s3cret",
@@ -153,46 +151,42 @@ const REFUSED: [(&str, &str, u16, &str); 24] = [
 ];
 
 #[test]
-fn a_refusal_makes_no_fact(rt: HostRuntime) -> Result<(), Fail> {
-    let alloc = rt.alloc();
-    let ledger = ledger(alloc)?;
-    for (name, form, status, body) in REFUSED {
-        let decision = decided(alloc, &ledger, 1_010, form)?;
-        is_reply(&rt, name, &decision, status, body);
-        assert!(rt; decision.made.is_none(), "{name} makes no fact");
+fn a_refusal_makes_no_fact(rt: HostRuntime) {
+    for &(name, form, status, body) in &REFUSED {
+        let row = (name, form, 1_010, status, body, b"".as_slice());
+        are_answered(&rt, rt.alloc(), &[row]);
     }
-    Ok(())
 }
 
-// What no longer serves, and from when on. The last was used before, but in a family that is over.
-const PAST: [(&str, &str, u64); 3] = [
+// What no longer serves, from when on, and the next moment. The last was used before, but in a family that is over.
+static PAST: [(&str, &str, u64, u64); 3] = [
     (
         "a code at its end",
         "grant_type=authorization_code&code=AQEAAQAAAAAAAAADAAAAAAAAABIAAAAAAAAAEwAAAAAAAAAU&code_verifier=dBjftJeZ4CVP-mB92K27uhbUJU1p1r_wW1gFWFOEjXk&client_id=c1-1&client_secret=s3cret",
         1_060,
+        1_061,
     ),
     (
         "a refresh token at its end",
         "grant_type=refresh_token&refresh_token=AQMAAQAAAAAAAAAGAAAAAAAAACcAAAAAAAAAKAAAAAAAAAAp&client_id=c1-1&client_secret=s3cret",
         87_410,
+        87_411,
     ),
     (
         "a code whose family is over",
         "grant_type=authorization_code&code=AQEAAQAAAAAAAAAFAAAAAAAAAB4AAAAAAAAAHwAAAAAAAAAg&client_id=c1-1&client_secret=s3cret",
         2_593_000,
+        2_593_001,
     ),
 ];
 
 #[test]
-fn a_grant_serves_until_its_end(rt: HostRuntime) -> Result<(), Fail> {
-    let alloc = rt.alloc();
-    let ledger = ledger(alloc)?;
-    for (name, form, end) in PAST {
-        for now in [end, end + 1, 253_402_300_799] {
-            let decision = decided(alloc, &ledger, now, form)?;
-            is_reply(&rt, name, &decision, 400, "{\"error\":\"invalid_grant\"}");
-            assert!(rt; decision.made.is_none(), "{name} makes no fact");
+fn a_grant_serves_until_its_end(rt: HostRuntime) {
+    let body = "{\"error\":\"invalid_grant\"}";
+    for &(name, form, end, after) in &PAST {
+        for now in [end, after, 253_402_300_799] {
+            let row = (name, form, now, 400, body, b"".as_slice());
+            are_answered(&rt, rt.alloc(), &[row]);
         }
     }
-    Ok(())
 }

@@ -6,7 +6,7 @@ use std::test::Fail;
 const GREATEST_CAP: u64 = 9_223_372_036_854_775_806;
 
 // Code, access, refresh, family, cap, and whether they are settings.
-const SETTINGS: [(&str, [u64; 5], bool); 12] = [
+const SETTINGS: &[(&str, [u64; 5], bool)] = &[
     ("the least", [1, 1, 1, 1, 1], true),
     (
         "the greatest",
@@ -43,7 +43,7 @@ const SETTINGS: [(&str, [u64; 5], bool); 12] = [
 
 #[test]
 fn settings_end_where_their_ranges_do(rt: HostRuntime) {
-    for (name, [code, access, refresh, family, cap], want) in SETTINGS {
+    for &(name, [code, access, refresh, family, cap], want) in SETTINGS {
         let settings = Settings::new(code, access, refresh, family, cap);
         assert_eq!(rt; settings.is_some(), want, "{name}");
     }

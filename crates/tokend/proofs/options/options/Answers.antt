@@ -1,4 +1,4 @@
-use Rattle.std.proofs.Common.{◌≡◌, rules, map, inr, subst}
+use Rattle.std.proofs.Common.{rules, map, inr, subst}
 use Rattle.clap.specs.Words.{app_of, subcommand_rows_of}
 use Rattle.tokend.specs.Task.{IsNoTask, IsTask}
 use Rattle.tokend.proofs.Tasks.{fails_by, found_by, refused_by}

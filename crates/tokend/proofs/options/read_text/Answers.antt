@@ -1,6 +1,5 @@
-use Rattle.std.proofs.Common.{◌≡◌, rules, Some, ap, sym, ◌∙◌}
+use Rattle.std.proofs.Common.{rules, sym, ◌∙◌}
 use Rattle.clap.specs.Words.{found_of}
-use Rattle.clap.specs.Matches.{first_value}
 use Rattle.clap.proofs.WalkLemmas.{first_value-rows}
 use Rattle.tokend.proofs.options.read_text.Goals as goal
 

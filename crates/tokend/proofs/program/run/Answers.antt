@@ -1,6 +1,6 @@
 use Rattle.std.proofs.Common.{◌≡◌, map, rules}
 use Rattle.tokend.specs.CommandLine.{settings_of}
-use Rattle.tokend.specs.Task.{Asks, AsksToServe}
+use Rattle.tokend.specs.Task.{Asks}
 use Rattle.tokend.specs.declared.options.Task.TheVariants.{Script, Serve}
 use Rattle.tokend.proofs.Runs.{faults_of_script, faults_of_service, left_by_script, left_by_service, script_done, service_done, service_quiet}
 use Rattle.tokend.proofs.program.run.Goals as goal

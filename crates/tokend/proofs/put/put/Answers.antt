@@ -1,4 +1,4 @@
-use Rattle.std.proofs.Common.{ℕ, ◌+◌, length, take, arith, length-drop, ap, sym, subst}
+use Rattle.std.proofs.Common.{ℕ, length, take, arith, length-drop, ap, sym, subst}
 use Rattle.std.proofs.KnownBytes.{Appends-kept}
 use Rattle.std.specs.Io.KnownBytes.{Appends}
 use Rattle.tokend.proofs.Putting.{put_step, front_taken}
