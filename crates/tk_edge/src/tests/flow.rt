@@ -55,7 +55,7 @@ const INACTIVE: &str = r#"{"active":false}"#;
 
 const INVALID: &str = r#"{"error":"invalid_grant"}"#;
 
-const ROWS: [Row; 13] = [
+const ROWS: &[Row] = &[
     ("nothing", 1_000, "", "", "", "", ""),
     (
         "a client",
@@ -199,7 +199,7 @@ fn a_code_flow_has_these_replies(rt: HostRuntime) -> Result<(), Fail> {
     let alloc = rt.alloc();
     let mut edge = new_edge(alloc)?;
     let mut event = 0u64;
-    for row in &ROWS {
+    for row in ROWS {
         takes_step(&rt, alloc, &mut edge, event, row)?;
         event = event.saturating_add(1);
     }

@@ -1,6 +1,7 @@
 //! Heads: what is one, at its limits and in its freedoms.
 
 use super::{error_reply, is_refused, new_edge, reply, said};
+use crate::Edge;
 use std::alloc::Global;
 use std::test::Fail;
 
@@ -77,7 +78,7 @@ fn a_head_has_at_most_8192_bytes(rt: HostRuntime) -> Result<(), Fail> {
 }
 
 // What is no head at all.
-const HEADLESS: [(&str, &str); 6] = [
+const HEADLESS: &[(&str, &str)] = &[
     ("a method alone", "GET"),
     (
         "an end before the empty line",
@@ -96,7 +97,7 @@ const HEADLESS: [(&str, &str); 6] = [
 fn bytes_without_a_head_are_a_bad_request(rt: HostRuntime) -> Result<(), Fail> {
     let alloc = rt.alloc();
     let bad = error_reply(alloc, "400 Bad Request", "", "bad_request")?;
-    for (name, bytes) in HEADLESS {
+    for &(name, bytes) in HEADLESS {
         is_refused(&rt, alloc, name, bytes.as_bytes(), bad.as_str())?;
     }
     Ok(())
@@ -109,7 +110,7 @@ fn no_byte_is_answered_with_none(rt: HostRuntime) -> Result<(), Fail> {
 }
 
 // What is taken all the same: each asks to introspect without a client.
-const FREE: [(&str, &str); 6] = [
+const FREE: &[(&str, &str)] = &[
     (
         "empty lines in front",
         "\r\n\r\nPOST /introspect HTTP/1.1\r\nContent-Length: 0\r\n\r\n",
@@ -141,7 +142,7 @@ fn a_head_has_its_freedoms(rt: HostRuntime) -> Result<(), Fail> {
     let alloc = rt.alloc();
     let field = "WWW-Authenticate: Basic realm=\"tokend\"\r\n";
     let asked = error_reply(alloc, "401 Unauthorized", field, "invalid_client")?;
-    for (name, bytes) in FREE {
+    for &(name, bytes) in FREE {
         is_refused(&rt, alloc, name, bytes.as_bytes(), asked.as_str())?;
     }
     Ok(())
@@ -160,18 +161,21 @@ fn filled(alloc: Global, length: usize) -> Result<Vec<u8>, Fail> {
     request(alloc, head.as_str(), form.as_str())
 }
 
+// Whether the edge answers a form of this length so.
+fn answers(alloc: Global, edge: &mut Edge, length: usize, want: &str) -> Result<bool, Fail> {
+    let bytes = filled(alloc, length)?;
+    let got = said(alloc, edge, 1_000, 0, bytes.as_slice())?;
+    Ok(got.as_slice() == want.as_bytes())
+}
+
 #[test]
 fn a_body_of_the_greatest_length_is_read(rt: HostRuntime) -> Result<(), Fail> {
     let alloc = rt.alloc();
+    let added = reply(alloc, "201 Created", "", "{\"client_id\":\"c1-1\"}")?;
+    let refused = error_reply(alloc, "413 Content Too Large", "", "too_large")?;
     let mut edge = new_edge(alloc)?;
-    let bytes = filled(alloc, 16_384)?;
-    let got = said(alloc, &mut edge, 1_000, 0, bytes.as_slice())?;
-    let want = reply(alloc, "201 Created", "", "{\"client_id\":\"c1-1\"}")?;
-    assert!(rt; got.as_slice() == want.as_bytes());
-    let bytes = filled(alloc, 16_385)?;
-    let got = said(alloc, &mut edge, 1_000, 0, bytes.as_slice())?;
-    let want = error_reply(alloc, "413 Content Too Large", "", "too_large")?;
-    assert!(rt; got.as_slice() == want.as_bytes());
+    assert!(rt; answers(alloc, &mut edge, 16_384, added.as_str())?);
+    assert!(rt; answers(alloc, &mut edge, 16_385, refused.as_str())?);
     assert_eq!(rt; edge.region().len(), 1);
     Ok(())
 }

@@ -33,7 +33,7 @@ fn another_method(alloc: Global, allow: &str) -> Result<String, Fail> {
 }
 
 // The name of the row, the head of the request without its empty line, the body, and how it is refused.
-const ROWS: [(&str, &str, &str, Case); 38] = [
+const ROWS: &[(&str, &str, &str, Case)] = &[
     ("a path that is none", "GET /nothing", "", Case::Missing),
     ("no path", "GET *", "", Case::Missing),
     ("a slash behind a path", "POST /token/", "", Case::Missing),
@@ -207,7 +207,7 @@ const ROWS: [(&str, &str, &str, Case); 38] = [
 #[test]
 fn each_case_has_its_reply_and_makes_no_fact(rt: HostRuntime) -> Result<(), Fail> {
     let alloc = rt.alloc();
-    for (name, head, body, case) in ROWS {
+    for &(name, head, body, case) in ROWS {
         let request = super::heads::request(alloc, head, body)?;
         let want = wanted(alloc, case)?;
         is_refused(&rt, alloc, name, request.as_slice(), want.as_str())?;
