@@ -4,8 +4,7 @@ mod settings;
 
 use crate::step::prepare;
 use crate::{Handled, Region, Settings, TakeError};
-use std::alloc::Global;
-use std::process::Abort;
+use std::alloc::{AllocError, Global};
 use std::test::Fail;
 use tk_bundle::make;
 use tk_fact::{Body, ClientRetired};
@@ -17,13 +16,13 @@ use tk_vector::VersionVector;
 // A fact that a client was retired: where it stands, and where the client was added.
 type Retired = ((u16, u64), (u16, u64));
 
-fn put_dot(writer: &mut Writer, dot: (u16, u64)) -> Result<(), Fail> {
+fn put_dot(writer: &mut Writer, dot: (u16, u64)) -> Result<(), AllocError> {
     writer.put_u16(dot.0)?;
-    Ok(writer.put_u64(dot.1)?)
+    writer.put_u64(dot.1)
 }
 
 // Its 21 bytes behind their length: the dot, the kind 2, the client.
-fn put_retired(writer: &mut Writer, fact: &Retired) -> Result<(), Fail> {
+fn put_retired(writer: &mut Writer, fact: &Retired) -> Result<(), AllocError> {
     writer.put_u16(21)?;
     put_dot(writer, fact.0)?;
     writer.put_u8(2)?;
@@ -31,85 +30,95 @@ fn put_retired(writer: &mut Writer, fact: &Retired) -> Result<(), Fail> {
 }
 
 // The facts in this order, behind the magic and their number.
-fn bundle_of(alloc: Global, facts: &[Retired]) -> Result<Vec<u8>, Fail> {
-    let mut writer = Writer::new(alloc);
+fn put_bundle(writer: &mut Writer, facts: &[Retired]) -> Result<(), AllocError> {
     writer.put_bytes(b"OTB1")?;
-    writer.put_u16(u16::try_from(facts.len())?)?;
+    writer.put_u16(u16::try_from(facts.len()).unwrap_or(u16::MAX))?;
     for fact in facts {
-        put_retired(&mut writer, fact)?;
+        put_retired(writer, fact)?;
     }
-    Ok(writer.into_bytes())
-}
-
-// What the region holds, as one bundle.
-fn held(alloc: Global, region: &Region) -> Result<Vec<u8>, Fail> {
-    let vector = VersionVector::new(alloc);
-    Ok(make(alloc, region.ledger().store(), &vector)?.bytes)
-}
-
-fn holds(
-    rt: &impl Abort,
-    alloc: Global,
-    name: &str,
-    region: &Region,
-    facts: &[Retired],
-) -> Result<(), Fail> {
-    let (bytes, want) = (held(alloc, region)?, bundle_of(alloc, facts)?);
-    assert_eq!(rt; region.len(), facts.len() as u64, "facts after {name}");
-    assert!(rt; bytes.as_slice() == want.as_slice(), "bytes after {name}");
     Ok(())
 }
 
-fn new_region(alloc: Global, cap: u64) -> Result<Region, Fail> {
-    let settings = Settings::new(60, 3_600, 86_400, 2_592_000, cap).ok_or("settings")?;
-    let number = RegionNumber::new(2).ok_or("a number")?;
-    Ok(Region::new(alloc, number, settings))
+fn bundle_of(alloc: Global, facts: &[Retired]) -> Option<Vec<u8>> {
+    let mut writer = Writer::new(alloc);
+    match put_bundle(&mut writer, facts) {
+        Ok(()) => Some(writer.into_bytes()),
+        Err(_) => None,
+    }
 }
 
-fn take(
-    alloc: Global,
-    region: &mut Region,
-    facts: &[Retired],
-) -> Result<Result<u16, TakeError>, Fail> {
+fn is_bundle(alloc: Global, bytes: &[u8], facts: &[Retired]) -> bool {
+    match bundle_of(alloc, facts) {
+        Some(bundle) => bundle.as_slice() == bytes,
+        None => false,
+    }
+}
+
+// Whether the region holds these facts alone: by their number, and as one bundle.
+fn holds(alloc: Global, region: &Region, facts: &[Retired]) -> bool {
+    match make(alloc, region.ledger().store(), &VersionVector::new(alloc)) {
+        Ok(page) => {
+            region.len() == facts.len() as u64 && is_bundle(alloc, page.bytes.as_slice(), facts)
+        }
+        Err(_) => false,
+    }
+}
+
+fn new_region(alloc: Global, cap: u64) -> Option<Region> {
+    let settings = Settings::new(60, 3_600, 86_400, 2_592_000, cap)?;
+    let number = RegionNumber::new(2)?;
+    Some(Region::new(alloc, number, settings))
+}
+
+// What taking the bundle of these facts in answers, None where there is no memory for it.
+fn take(alloc: Global, region: &mut Region, facts: &[Retired]) -> Option<Result<u16, TakeError>> {
     let bytes = bundle_of(alloc, facts)?;
-    Ok(region.take_in(alloc, bytes.as_slice()))
+    Some(region.take_in(alloc, bytes.as_slice()))
 }
 
-ghost use Rattle.std.specs.Prelude.{IfOk};
+ghost use Rattle.std.specs.Prelude.{IfSome};
 ghost use Rattle.tk_message.specs.Decision.{Passes};
 
 // To retire the client that was added there.
-fn retirement(alloc: Global, client: (u16, u64)) -> Result<Decision, Fail>
-    ensures { IfOk result (λ d. Passes d.made) }
+fn retirement(alloc: Global, client: (u16, u64)) -> Option<Decision>
+    ensures { IfSome result (λ d. Passes d.made) }
 {
-    let region = RegionNumber::new(client.0).ok_or("a region")?;
-    let client = Dot::new(region, client.1).ok_or("a dot")?;
-    let reply = client_reply(alloc, Status::Ok, client)?;
-    Ok(Decision {
-        reply,
-        made: Some(Body::ClientRetired(ClientRetired { client })),
-    })
+    let region = RegionNumber::new(client.0)?;
+    let client = Dot::new(region, client.1)?;
+    match client_reply(alloc, Status::Ok, client) {
+        Ok(reply) => Some(Decision {
+            reply,
+            made: Some(Body::ClientRetired(ClientRetired { client })),
+        }),
+        Err(_) => None,
+    }
 }
 
 // The region makes that fact at its next dot, if its cap lets it.
-fn retire(alloc: Global, region: &mut Region, client: (u16, u64)) -> Result<Handled, Fail> {
+fn retire(alloc: Global, region: &mut Region, client: (u16, u64)) -> Option<Handled> {
     let decision = retirement(alloc, client)?;
     let place = region.place();
-    let prepared = prepare(alloc, region.settings().cap(), &place, decision)?;
-    Ok(region.commit(prepared)?)
+    match prepare(alloc, region.settings().cap(), &place, decision) {
+        Ok(prepared) => match region.commit(prepared) {
+            Ok(handled) => Some(handled),
+            Err(_) => None,
+        },
+        Err(_) => None,
+    }
 }
 
 // Of region 1, and of region 2 itself.
 const FIRST: [Retired; 2] = [((1, 1), (1, 9)), ((2, 1), (1, 8))];
 
 // Region 2 with both, below its cap.
-fn with_first(alloc: Global) -> Result<Region, Fail> {
+fn with_first(alloc: Global) -> Option<Region> {
     let mut region = new_region(alloc, 5)?;
-    if take(alloc, &mut region, &FIRST[..1])? != Ok(1) {
-        return Err("a fact of another region")?;
+    let taken = take(alloc, &mut region, &FIRST[..1]);
+    if taken == Some(Ok(1)) && retire(alloc, &mut region, (1, 8)).is_some() {
+        Some(region)
+    } else {
+        None
     }
-    let _handled = retire(alloc, &mut region, (1, 8))?;
-    Ok(region)
 }
 
 // A bundle's facts, what taking it in answers, and what the region then holds.
@@ -196,28 +205,47 @@ const BUNDLES: &[(&str, &[Retired], Result<u16, TakeError>, &[Retired])] = &[
     ),
 ];
 
-#[test]
-fn a_bundle_is_taken_in_or_changes_nothing(rt: HostRuntime) -> Result<(), Fail> {
-    let alloc = rt.alloc();
-    for &(name, facts, want, after) in BUNDLES {
-        let mut region = with_first(alloc)?;
-        let result = take(alloc, &mut region, facts)?;
-        assert_eq!(rt; result, want, "{name}");
-        holds(&rt, alloc, name, &region, after)?;
-    }
-    Ok(())
+// Whether the region with the first facts answers so to the bundle, and what it then holds.
+fn takes(
+    alloc: Global,
+    facts: &[Retired],
+    want: Result<u16, TakeError>,
+    after: &[Retired],
+) -> Option<bool> {
+    let mut region = with_first(alloc)?;
+    let taken = take(alloc, &mut region, facts);
+    Some(taken == Some(want) && holds(alloc, &region, after))
 }
 
 #[test]
-fn a_torn_bundle_is_malformed(rt: HostRuntime) -> Result<(), Fail> {
-    let alloc = rt.alloc();
+fn a_bundle_is_taken_in_or_changes_nothing(rt: HostRuntime) {
+    for &(name, facts, want, after) in BUNDLES {
+        let is_taken = takes(rt.alloc(), facts, want, after);
+        assert!(rt; is_taken == Some(true), "{name}");
+    }
+}
+
+// The first length at which the bundle is cut and not malformed.
+fn first_good(alloc: Global, region: &mut Region, bytes: &[u8]) -> Option<usize> {
+    for length in 0..bytes.len() {
+        if region.take_in(alloc, &bytes[..length]) != Err(TakeError::Malformed) {
+            return Some(length);
+        }
+    }
+    None
+}
+
+// The same of a bundle with its next fact, and whether the region is left as it was.
+fn first_torn(alloc: Global) -> Option<(Option<usize>, bool)> {
     let mut region = with_first(alloc)?;
     let bytes = bundle_of(alloc, &[((1, 2), (1, 9)), ((2, 2), (1, 9))])?;
-    for length in 0..bytes.len() {
-        let torn = region.take_in(alloc, &bytes[..length]);
-        assert_eq!(rt; torn, Err(TakeError::Malformed), "{length} bytes");
-    }
-    holds(&rt, alloc, "torn bundles", &region, &FIRST)
+    let good = first_good(alloc, &mut region, bytes.as_slice());
+    Some((good, holds(alloc, &region, &FIRST)))
+}
+
+#[test]
+fn a_torn_bundle_is_malformed(rt: HostRuntime) {
+    assert_eq!(rt; first_torn(rt.alloc()), Some((None, true)));
 }
 
 // Bundles in the order in which they come, and how many facts of each are new.
@@ -236,13 +264,22 @@ const DELIVERIES: &[(&str, &[Retired], u16)] = &[
     ),
 ];
 
+// The first of them that isn't taken in so.
+fn first_refused(alloc: Global, region: &mut Region) -> Option<&'static str> {
+    for &(name, facts, new) in DELIVERIES {
+        if take(alloc, region, facts) != Some(Ok(new)) {
+            return Some(name);
+        }
+    }
+    None
+}
+
 #[test]
 fn bundles_come_in_any_order(rt: HostRuntime) -> Result<(), Fail> {
     let alloc = rt.alloc();
-    let mut region = new_region(alloc, 5)?;
-    for &(name, facts, new) in DELIVERIES {
-        assert_eq!(rt; take(alloc, &mut region, facts)?, Ok(new), "{name}");
-    }
+    let mut region = new_region(alloc, 5).ok_or("a region")?;
+    let refused = first_refused(alloc, &mut region);
+    assert!(rt; refused.is_none(), "{refused:?}");
     let all = [
         ((1, 1), (1, 9)),
         ((1, 2), (1, 9)),
@@ -250,7 +287,8 @@ fn bundles_come_in_any_order(rt: HostRuntime) -> Result<(), Fail> {
         ((1, 4), (1, 9)),
         ((3, 1), (1, 9)),
     ];
-    holds(&rt, alloc, "four bundles", &region, &all)
+    assert!(rt; holds(alloc, &region, &all), "four bundles");
+    Ok(())
 }
 
 fn is_json(reply: &Reply, status: u16, body: &str) -> bool {
@@ -270,24 +308,39 @@ fn is_recorded(handled: &Handled, record: &[u8]) -> bool {
     }
 }
 
+// Whether the region makes the fact, and records it.
+fn makes(alloc: Global, region: &mut Region, fact: Retired) -> Option<bool> {
+    let handled = retire(alloc, region, fact.1)?;
+    match bundle_of(alloc, &[fact]) {
+        Some(record) => Some(is_recorded(&handled, record.as_slice())),
+        None => None,
+    }
+}
+
+// Whether the region makes no fact, for its cap.
+fn is_full(alloc: Global, region: &mut Region) -> bool {
+    match retire(alloc, region, (1, 9)) {
+        Some(refused) => {
+            let body = "{\"error\":\"temporarily_unavailable\"}";
+            refused.logged.is_none() && is_json(&refused.reply, 503, body)
+        }
+        None => false,
+    }
+}
+
 // The facts of region 2, whose cap is 2.
 const MADE: &[Retired] = &[((2, 1), (1, 7)), ((2, 2), (1, 8))];
 
 #[test]
 fn a_fact_is_recorded_and_none_is_above_the_cap(rt: HostRuntime) -> Result<(), Fail> {
     let alloc = rt.alloc();
-    let mut region = new_region(alloc, 2)?;
+    let mut region = new_region(alloc, 2).ok_or("a region")?;
     for &fact in MADE {
-        let handled = retire(alloc, &mut region, fact.1)?;
-        let record = bundle_of(alloc, &[fact])?;
-        assert!(rt; is_recorded(&handled, record.as_slice()), "record");
+        assert!(rt; makes(alloc, &mut region, fact) == Some(true), "{fact:?}");
     }
-    let refused = retire(alloc, &mut region, (1, 9))?;
-    let body = "{\"error\":\"temporarily_unavailable\"}";
-    assert!(rt; is_json(&refused.reply, 503, body), "above the cap");
-    assert!(rt; refused.logged.is_none(), "no record");
-    assert_eq!(rt; region.number().number(), 2);
-    holds(&rt, alloc, "a fact above the cap", &region, MADE)
+    assert!(rt; is_full(alloc, &mut region), "above the cap");
+    assert!(rt; region.number().number() == 2 && holds(alloc, &region, MADE));
+    Ok(())
 }
 
 // Requests for what no fact speaks of.
@@ -301,31 +354,55 @@ const UNKNOWN: &[(&str, Endpoint, &[u8])] = &[
     ),
 ];
 
-fn request_of(alloc: Global, endpoint: Endpoint, input: &[u8]) -> Result<Request, Fail> {
-    Ok(Request {
-        endpoint,
-        params: Params::read(alloc, input)?,
-        authorization: None,
-        subject: None,
-    })
+fn request_of(alloc: Global, endpoint: Endpoint, input: &[u8]) -> Option<Request> {
+    match Params::read(alloc, input) {
+        Ok(params) => Some(Request {
+            endpoint,
+            params,
+            authorization: None,
+            subject: None,
+        }),
+        Err(_) => None,
+    }
+}
+
+const NOT_FOUND: &str = "{\"error\":\"not_found\"}";
+
+fn is_decided(alloc: Global, region: &Region, now: Moment, request: &Request) -> bool {
+    match region.decide(alloc, now, &[7; 6], request) {
+        Ok(prepared) => prepared.fact.is_none() && is_json(&prepared.reply, 404, NOT_FOUND),
+        Err(_) => false,
+    }
+}
+
+fn is_handled(alloc: Global, region: &mut Region, now: Moment, request: &Request) -> bool {
+    match region.handle(alloc, now, &[7; 6], request) {
+        Ok(handled) => handled.logged.is_none() && is_json(&handled.reply, 404, NOT_FOUND),
+        Err(_) => false,
+    }
+}
+
+fn is_not_found(
+    alloc: Global,
+    region: &mut Region,
+    endpoint: Endpoint,
+    input: &[u8],
+) -> Option<bool> {
+    let now = Moment::new(1_000)?;
+    let request = request_of(alloc, endpoint, input)?;
+    Some(is_decided(alloc, region, now, &request) && is_handled(alloc, region, now, &request))
 }
 
 #[test]
 fn what_is_unknown_is_not_found(rt: HostRuntime) -> Result<(), Fail> {
     let alloc = rt.alloc();
-    let mut region = new_region(alloc, 2)?;
-    let now = Moment::new(1_000).ok_or("a moment")?;
-    let (words, body) = ([7; 6], "{\"error\":\"not_found\"}");
+    let mut region = new_region(alloc, 2).ok_or("a region")?;
     for &(name, endpoint, input) in UNKNOWN {
-        let request = request_of(alloc, endpoint, input)?;
-        let prepared = region.decide(alloc, now, &words, &request)?;
-        assert!(rt; is_json(&prepared.reply, 404, body), "{name}");
-        assert!(rt; prepared.fact.is_none(), "{name}");
-        let handled = region.handle(alloc, now, &words, &request)?;
-        assert!(rt; is_json(&handled.reply, 404, body), "{name}");
-        assert!(rt; handled.logged.is_none(), "{name}");
+        let is_unknown = is_not_found(alloc, &mut region, endpoint, input);
+        assert!(rt; is_unknown == Some(true), "{name}");
     }
-    holds(&rt, alloc, "what is unknown", &region, &[])
+    assert!(rt; holds(alloc, &region, &[]), "what is unknown");
+    Ok(())
 }
 
 // What a bundle of three may leave: none of its facts, the first, the first two, or all.
@@ -347,24 +424,25 @@ const LEFT: [&[Retired]; 4] = [
     ],
 ];
 
-#[test]
-fn memory_leaves_the_first_facts(rt: HostRuntime) -> Result<(), Fail> {
-    let alloc = rt.alloc();
+// Where a bundle of three is taken in: what that answers, how many of its facts are then held, and whether they are the first.
+fn left(alloc: Global) -> Option<(Result<u16, TakeError>, usize, bool)> {
     let mut region = with_first(alloc)?;
-    let bytes = bundle_of(
-        alloc,
-        &[((1, 2), (1, 9)), ((1, 3), (1, 9)), ((3, 1), (1, 9))],
-    )?;
-    let result = region.take_in(alloc, bytes.as_slice());
+    let facts = [((1, 2), (1, 9)), ((1, 3), (1, 9)), ((3, 1), (1, 9))];
+    let result = take(alloc, &mut region, &facts)?;
     let new = match region.len() {
         2 => 0,
         3 => 1,
         4 => 2,
         _ => 3,
     };
-    match result {
-        Ok(count) => assert_eq!(rt; (count, new), (3, 3), "all are new"),
-        Err(error) => assert_eq!(rt; error, TakeError::Memory, "the bundle is good"),
+    Some((result, new, holds(alloc, &region, LEFT[new])))
+}
+
+#[test]
+fn memory_leaves_the_first_facts(rt: HostRuntime) -> Result<(), Fail> {
+    match left(rt.alloc()).ok_or("no memory")? {
+        (Ok(count), new, are_first) => assert_eq!(rt; (count, new, are_first), (3, 3, true)),
+        (Err(error), _, are_first) => assert!(rt; error == TakeError::Memory && are_first),
     }
-    holds(&rt, alloc, "a bundle of three", &region, LEFT[new])
+    Ok(())
 }
