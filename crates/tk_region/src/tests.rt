@@ -1,6 +1,7 @@
 //! A region that makes facts and takes bundles in: what it answers, and the bytes of what it then holds.
 
 mod settings;
+mod unknown;
 
 use crate::step::prepare;
 use crate::{Handled, Region, Settings, TakeError};
@@ -9,8 +10,8 @@ use std::test::Fail;
 use tk_bundle::make;
 use tk_fact::{Body, ClientRetired};
 use tk_format::Writer;
-use tk_handle::{Dot, Moment, RegionNumber};
-use tk_message::{Decision, Endpoint, Params, Payload, Reply, Request, Status, client_reply};
+use tk_handle::{Dot, RegionNumber};
+use tk_message::{Decision, Payload, Reply, Status, client_reply};
 use tk_vector::VersionVector;
 
 // A fact that a client was retired: where it stands, and where the client was added.
@@ -340,68 +341,6 @@ fn a_fact_is_recorded_and_none_is_above_the_cap(rt: HostRuntime) -> Result<(), F
     }
     assert!(rt; is_full(alloc, &mut region), "above the cap");
     assert!(rt; region.number().number() == 2 && holds(alloc, &region, MADE));
-    Ok(())
-}
-
-// Requests for what no fact speaks of.
-const UNKNOWN: &[(&str, Endpoint, &[u8])] = &[
-    ("a client to show", Endpoint::ShowClient, b"client_id=c9-9"),
-    ("a client to retire", Endpoint::Retire, b"client_id=c9-9"),
-    (
-        "a consent to withdraw",
-        Endpoint::Withdraw,
-        b"consent_id=g9-9",
-    ),
-];
-
-fn request_of(alloc: Global, endpoint: Endpoint, input: &[u8]) -> Option<Request> {
-    match Params::read(alloc, input) {
-        Ok(params) => Some(Request {
-            endpoint,
-            params,
-            authorization: None,
-            subject: None,
-        }),
-        Err(_) => None,
-    }
-}
-
-const NOT_FOUND: &str = "{\"error\":\"not_found\"}";
-
-fn is_decided(alloc: Global, region: &Region, now: Moment, request: &Request) -> bool {
-    match region.decide(alloc, now, &[7; 6], request) {
-        Ok(prepared) => prepared.fact.is_none() && is_json(&prepared.reply, 404, NOT_FOUND),
-        Err(_) => false,
-    }
-}
-
-fn is_handled(alloc: Global, region: &mut Region, now: Moment, request: &Request) -> bool {
-    match region.handle(alloc, now, &[7; 6], request) {
-        Ok(handled) => handled.logged.is_none() && is_json(&handled.reply, 404, NOT_FOUND),
-        Err(_) => false,
-    }
-}
-
-fn is_not_found(
-    alloc: Global,
-    region: &mut Region,
-    endpoint: Endpoint,
-    input: &[u8],
-) -> Option<bool> {
-    let now = Moment::new(1_000)?;
-    let request = request_of(alloc, endpoint, input)?;
-    Some(is_decided(alloc, region, now, &request) && is_handled(alloc, region, now, &request))
-}
-
-#[test]
-fn what_is_unknown_is_not_found(rt: HostRuntime) -> Result<(), Fail> {
-    let alloc = rt.alloc();
-    let mut region = new_region(alloc, 2).ok_or("a region")?;
-    for &(name, endpoint, input) in UNKNOWN {
-        let is_unknown = is_not_found(alloc, &mut region, endpoint, input);
-        assert!(rt; is_unknown == Some(true), "{name}");
-    }
-    assert!(rt; holds(alloc, &region, &[]), "what is unknown");
     Ok(())
 }
 
