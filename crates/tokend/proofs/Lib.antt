@@ -3,6 +3,7 @@ pub mod Connections
 pub mod EventForms
 pub mod EventWords
 pub mod Loads
+pub mod Loopbacks
 pub mod NumberTexts
 pub mod OneSet
 pub mod Putting

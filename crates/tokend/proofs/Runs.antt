@@ -32,9 +32,9 @@ script_begun settings (Some bytes) script lines old new whole run begun = (lines
 pub script_fault : (words : List Text) (input : Option (List ℕ)) (settings : SettingsFields) → Asks words (script_task settings)
     → (fault : Fault) → IsScriptFault input fault → IsFaultFor words input fault
 script_fault words input settings asks (Words error) h = absurd h
-script_fault words input settings asks CannotRead h = ((settings, asks), h)
-script_fault words input settings asks ScriptTooLong h = ((settings, asks), h)
-script_fault words input settings asks (BadLine number) h = ((settings, asks), h)
+script_fault words input settings asks CannotRead h = inl ((settings, asks), h)
+script_fault words input settings asks ScriptTooLong h = inl ((settings, asks), h)
+script_fault words input settings asks (BadLine number) h = inl ((settings, asks), h)
 script_fault words input settings asks (CannotReadFile name) h = absurd h
 script_fault words input settings asks (CannotOpen name) h = absurd h
 script_fault words input settings asks CannotListen h = absurd h
@@ -51,7 +51,7 @@ faults_of_script words input n (Err fault) asks h = script_fault words input (se
 -- and what it printed, and left, is the program's
 pub script_done : {T : Type 0} (words : List Text) (input old new : Option (List ℕ)) (n : Numbers) (settings : SettingsFields) (r : Result T Fault)
     → Asks words (Script n) → settings ≡ settings_of n → OnOk r (PrintsScript settings input old new) → OnOk r (IsDone words input old new)
-script_done words input old new n settings (Ok x) asks e h = inl (settings, subst (λ s. Asks words (script_task s)) (sym e) asks, h)
+script_done words input old new n settings (Ok x) asks e h = inl (inl (settings, subst (λ s. Asks words (script_task s)) (sym e) asks, h))
 script_done words input old new n settings (Err fault) asks e h = tt
 
 script_leaves : (words : List Text) (input old new : Option (List ℕ)) (settings : SettingsFields) (fault : Fault)
@@ -66,7 +66,7 @@ script_leaves words input old new settings BadLogFile asks h = h
 script_leaves words input old new settings ScriptTooLong asks h = h
 script_leaves words input old new settings (BadLine number) asks h = h
 script_leaves words input old new settings Memory asks h = h
-script_leaves words input old new settings Output asks h = inl (settings, asks, h)
+script_leaves words input old new settings Output asks h = inl (inl (settings, asks, h))
 
 pub left_by_script : {T : Type 0} (words : List Text) (input old new : Option (List ℕ)) (n : Numbers) (settings : SettingsFields) (r : Result T Fault)
     → Asks words (Script n) → settings ≡ settings_of n → IfErr r (λ fault. LeavesScript settings input fault old new)
@@ -148,7 +148,7 @@ service_fault words input asks (Words error) h = absurd h
 service_fault words input asks CannotRead h = absurd h
 service_fault words input asks (CannotReadFile name) h = asks
 service_fault words input asks (CannotOpen name) h = asks
-service_fault words input asks CannotListen h = asks
+service_fault words input asks CannotListen h = inr asks
 service_fault words input asks BadSeedFile h = asks
 service_fault words input asks BadLogFile h = asks
 service_fault words input asks ScriptTooLong h = absurd h

@@ -1,5 +1,5 @@
 -- The events of a script's lines, as the lists of lines and of events grow, and its first bad line.
-use Rattle.std.proofs.Common.{◌≡◌, ◌≢◌, ℕ, ◌+◌, ◌<◌, true, false, cond, List, [], ◌∷◌, ◌++◌, length, get_or, map, take, drop, Bor, refl, sym, ap, subst, ◌∙◌, arith}
+use Rattle.std.proofs.Common.{◌≡◌, ◌≢◌, ℕ, ◌+◌, ◌<◌, true, false, cond, List, [], ◌∷◌, ◌++◌, length, get_or, map, take, drop, Option, Bor, refl, sym, ap, subst, ◌∙◌, arith}
 use Rattle.std.specs.List.{AllZip, enumerate_from, filter}
 use Rattle.std.proofs.lemmas.Bool.Decides.{nat_tests}
 use Rattle.std.proofs.lemmas.Grind.{common_steps}
@@ -7,8 +7,8 @@ use Rattle.std.proofs.lemmas.List.{length-map, map_push, take-map}
 use Rattle.std.proofs.lemmas.List.Elements.{filter-append}
 use Rattle.std.proofs.lemmas.List.FromFn.{get_or-enumerate_from, length-enumerate_from}
 use Rattle.tk_world.specs.declared.event.Event.{Event}
-use Rattle.tokend.specs.Line.{IsEventLine, IsNoEventLine}
-use Rattle.tokend.specs.Script.{lines_of, is_told, AreEvents, IsFirstBad}
+use Rattle.tokend.specs.Line.{IsEventLine}
+use Rattle.tokend.specs.Script.{lines_of, is_told, AreEvents, IsBadLine, IsFirstBad}
 
 -- ---- one more line
 
@@ -77,11 +77,11 @@ cut_at : (ls : List (List ℕ)) (i : ℕ) (d : List ℕ) → i < length ls → t
 cut_at ls i d lt = grind (arith, common_steps)
 
 -- the line behind those that have their events is the first bad one, if it is bad
-pub first_bad : (script : List ℕ) (items : List Item) (item : Item) (events : List Event)
+pub first_bad : (longest : Option ℕ) (script : List ℕ) (items : List Item) (item : Item) (events : List Event)
     → map numbered items ≡ take (length items) (enumerate_from 0 (lines_of script))
     → (length items < length (enumerate_from 0 (lines_of script))) × (numbered item ≡ get_or (enumerate_from 0 (lines_of script)) (length items) (numbered item))
-    → AreEvents (lines_in items) events → is_told item.1.now ≡ true → IsNoEventLine item.1.now → IsFirstBad script (item.0 + 1)
-first_bad script items item events some turn earlier told bad =
+    → AreEvents (lines_in items) events → is_told item.1.now ≡ true → IsBadLine longest item.1.now → IsFirstBad longest script (item.0 + 1)
+first_bad longest script items item events some turn earlier told bad =
     let ls = lines_of script in
     let n = length items in
     let there : n < length ls = omega (arith, turn.0, length-enumerate_from 0 ls) in

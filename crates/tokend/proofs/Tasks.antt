@@ -11,7 +11,7 @@ use Rattle.tk_region.specs.SettingsFields.{greatest_code, greatest_access, great
 use Rattle.tokend.specs.CommandLine.{HasNumber, HasNumbers, HasService, greatest_port, tokend_app}
 use Rattle.tokend.specs.Task.{IsNoService, IsNoTask, IsRefusalOf}
 use Rattle.tokend.specs.declared.options.Numbers.{Numbers}
-use Rattle.tokend.specs.declared.options.Task.TheVariants.{Script, Serve}
+use Rattle.tokend.specs.declared.options.Task.TheVariants.{Script, Loopback, Serve}
 
 -- the rows of a subcommand are one
 one_rows : (found : Option (Text × List Row)) (rows others : List Row) (name : Text) → option_map (λ p. p.1) found ≡ Some rows
@@ -32,9 +32,27 @@ pub no_script : (found : Option (Text × List Row)) (rows : List Row) → option
     → option_map (λ p. p.1) found ≡ Some rows → ((n : Numbers) → ¬ (HasNumbers rows n)) → IsNoTask found
 no_script found rows named at none (Script numbers) h =
     none numbers (subst (λ r. HasNumbers r numbers) (sym (one_rows found rows h.0 _ at h.1)) h.2)
+no_script found rows named at none (Loopback numbers) h = not_loopback (other_name found h.0 _ _ named h.1)
+  where
+    not_loopback : codes "script" ≡ codes "loopback" → ⊥
+    not_loopback e = absurd (cc)
 no_script found rows named at none (Serve service) h = not_serve (other_name found h.0 _ _ named h.1)
   where
     not_serve : codes "script" ≡ codes "serve" → ⊥
+    not_serve e = absurd (cc)
+
+-- nor is one by sockets
+pub no_loopback : (found : Option (Text × List Row)) (rows : List Row) → option_map (λ p. p.0) found ≡ Some (codes "loopback")
+    → option_map (λ p. p.1) found ≡ Some rows → ((n : Numbers) → ¬ (HasNumbers rows n)) → IsNoTask found
+no_loopback found rows named at none (Script numbers) h = not_script (other_name found h.0 _ _ named h.1)
+  where
+    not_script : codes "loopback" ≡ codes "script" → ⊥
+    not_script e = absurd (cc)
+no_loopback found rows named at none (Loopback numbers) h =
+    none numbers (subst (λ r. HasNumbers r numbers) (sym (one_rows found rows h.0 _ at h.1)) h.2)
+no_loopback found rows named at none (Serve service) h = not_serve (other_name found h.0 _ _ named h.1)
+  where
+    not_serve : codes "loopback" ≡ codes "serve" → ⊥
     not_serve e = absurd (cc)
 
 -- nor is a service without its own
@@ -44,6 +62,10 @@ no_service found rows named at none (Script numbers) h = not_script (other_name 
   where
     not_script : codes "serve" ≡ codes "script" → ⊥
     not_script e = absurd (cc)
+no_service found rows named at none (Loopback numbers) h = not_loopback (other_name found h.0 _ _ named h.1)
+  where
+    not_loopback : codes "serve" ≡ codes "loopback" → ⊥
+    not_loopback e = absurd (cc)
 no_service found rows named at none (Serve service) h =
     none service (subst (λ r. HasService r service) (sym (one_rows found rows h.0 _ at h.1)) h.2)
 

@@ -43,6 +43,9 @@ with_setting_rules app =
 abbrev pub script_app : App
 script_app = with_setting_rules (new_app (codes "script"))
 
+abbrev pub loopback_app : App
+loopback_app = with_setting_rules (new_app (codes "loopback"))
+
 -- `serve`, with the region's number, the port and the seed, which must be given; the log, an old log, and how many connections
 abbrev pub serve_app : App
 serve_app = with_setting_rules (with_rule (with_rule (with_rule (with_rule (with_rule (with_rule (new_app (codes "serve"))
@@ -53,10 +56,13 @@ serve_app = with_setting_rules (with_rule (with_rule (with_rule (with_rule (with
     (file_rule (codes "load") false))
     (range_rule (codes "requests") 0 greatest_requests false))
 
--- the program has a version, and wants a subcommand
+-- the program has a version, and wants a subcommand; of events there are these two
+abbrev pub events_app : App
+events_app = with_subcommand (with_subcommand (on_top (λ s. record s { has_version = true; subcommand_required = true }) (new_app (codes "tokend")))
+    script_app.top) loopback_app.top
+
 abbrev pub tokend_app : App
-tokend_app = with_subcommand (with_subcommand (on_top (λ s. record s { has_version = true; subcommand_required = true }) (new_app (codes "tokend")))
-    script_app.top) serve_app.top
+tokend_app = with_subcommand events_app serve_app.top
 
 -- the text is decimal digits, `+` before them or not, that stand for this number
 abbrev pub IsDecimal : Text → ℕ → Type 0

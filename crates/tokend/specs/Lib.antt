@@ -12,6 +12,7 @@
 --   Serving       what a service prints before its first connection, and what may keep it from that
 --   Status        the exit status of a fault
 --   ScriptRun     what a script comes to when it is run
+--   LoopbackRun   and when its requests go through sockets
 --   ProgramRun    what a run of the program comes to
 pub mod CommandLine
 pub mod Task
@@ -26,4 +27,5 @@ pub mod Loading
 pub mod Serving
 pub mod Status
 pub mod ScriptRun
+pub mod LoopbackRun
 pub mod ProgramRun

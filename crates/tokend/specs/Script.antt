@@ -1,12 +1,14 @@
 -- The events of a script.
 --   lines_of       its lines; is_told, which of them should be events
 --   AreEvents      the events of lines, in order
---   IsFirstBad     the number of the first line that should be an event and is none
+--   IsBadLine      a line that is no event, or whose request is too long
+--   IsFirstBad     the number of the first such line of those that should be events
 --   IsInputFault   why an input gives no script
 --   IsFaultOf      why a script gives no events
-use Rattle.std.specs.Prelude.{◌≡◌, ◌<◌, ℕ, ◌+◌, ◌==◌, ⊤, Bool, false, true, not, List, [], ◌∷◌, ◌++◌, length, filter, Option, IfSome}
+use Rattle.std.specs.Prelude.{◌≡◌, ◌<◌, ◌⊎◌, ℕ, ◌+◌, ◌==◌, ⊤, Bool, false, true, not, List, [], ◌∷◌, ◌++◌, length, filter, vec_len, Option, Some, IfSome}
 use Rattle.std.specs.List.{AllZip, slice_split}
 use Rattle.tk_world.specs.declared.event.Event.{Event}
+use Rattle.tk_world.specs.declared.event.Event.TheVariants.{Request}
 use Rattle.tokend.specs.Line.{IsEventLine, IsNoEventLine}
 use Rattle.tokend.specs.declared.fault.Fault.{Fault}
 use Rattle.tokend.specs.declared.fault.Fault.TheVariants.{BadLine, CannotRead, Memory, ScriptTooLong}
@@ -28,8 +30,17 @@ is_told (b ∷ rest) = not (b == 35)
 abbrev pub AreEvents : List (List ℕ) → List Event → Type 0
 AreEvents lines events = AllZip IsEventLine (filter is_told lines) events
 
--- the line of this number, counted from 1, is told and has no event, and those before it have theirs
-pub record IsFirstBad (script : List ℕ) (number : ℕ) : Type 0 where
+-- the event is a request of more bytes than it may have, where there is such a number
+abbrev pub IsTooLong : Option ℕ → Event → Type 0
+IsTooLong (Some longest) (Request region now words bytes) = longest < vec_len bytes
+IsTooLong longest event = ⊥
+
+-- the line is no event, or its request is too long
+abbrev pub IsBadLine : Option ℕ → List ℕ → Type 0
+IsBadLine longest line = IsNoEventLine line ⊎ ((event : Event) × IsEventLine line event × IsTooLong longest event)
+
+-- the line of this number, counted from 1, is told and bad, and those before it have their events
+pub record IsFirstBad (longest : Option ℕ) (script : List ℕ) (number : ℕ) : Type 0 where
   pub before : List (List ℕ)
   pub line : List ℕ
   pub after : List (List ℕ)
@@ -38,7 +49,7 @@ pub record IsFirstBad (script : List ℕ) (number : ℕ) : Type 0 where
   pub counted : number ≡ length before + 1
   pub earlier : AreEvents before events
   pub told : is_told line ≡ true
-  pub bad : IsNoEventLine line
+  pub bad : IsBadLine longest line
 
 -- the greatest length of a script in bytes, 1 MiB (own)
 abbrev pub greatest_length : ℕ
@@ -52,7 +63,7 @@ IsInputFault input ScriptTooLong = IfSome input (λ bytes. greatest_length < len
 IsInputFault input fault = ⊥
 
 -- memory ran out, or this is the first bad line; nothing else
-abbrev pub IsFaultOf : List ℕ → Fault → Type 0
-IsFaultOf script Memory = ⊤
-IsFaultOf script (BadLine number) = IsFirstBad script number
-IsFaultOf script fault = ⊥
+abbrev pub IsFaultOf : Option ℕ → List ℕ → Fault → Type 0
+IsFaultOf longest script Memory = ⊤
+IsFaultOf longest script (BadLine number) = IsFirstBad longest script number
+IsFaultOf longest script fault = ⊥

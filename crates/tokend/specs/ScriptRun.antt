@@ -4,7 +4,7 @@
 --   BeginsScript     the beginning of these is what was written
 --   IsScriptFault    why it is not run
 --   LeavesScript     what a fault leaves of the output
-use Rattle.std.specs.Prelude.{◌≡◌, ◌≤◌, ⊤, ℕ, List, Option, IfSome, length, slice_get}
+use Rattle.std.specs.Prelude.{◌≡◌, ◌≤◌, ⊤, ℕ, List, Option, None, IfSome, length, slice_get}
 use Rattle.std.specs.Io.KnownBytes.{Appends, Keeps}
 use Rattle.tk_region.specs.SettingsFields.{SettingsFields}
 use Rattle.tk_world.specs.State.{State, new_state}
@@ -42,7 +42,7 @@ BeginsScript settings input old new =
 -- the input gives no script, or its script no events; or memory or the output fails
 abbrev pub IsScriptFault : Option (List ℕ) → Fault → Type 0
 IsScriptFault input Output = ⊤
-IsScriptFault input (BadLine number) = IfSome input (λ script. (length script ≤ greatest_length) × IsFirstBad script number)
+IsScriptFault input (BadLine number) = IfSome input (λ script. (length script ≤ greatest_length) × IsFirstBad None script number)
 IsScriptFault input fault = IsInputFault input fault
 
 -- where the output failed, the beginning of the lines; else all as it was

@@ -1,7 +1,7 @@
 -- What the words of the command line ask for.
 --   script_task    a script with settings
 --   IsTask         the subcommand and its values; IsNoTask, none's; IsNoService, no service's
---   Asks           a task; AsksToServe, a service
+--   Asks           a task; AsksToLoop, a script by sockets; AsksToServe, a service
 --   AsksToShow     help, or the version
 --   IsRefusalOf    the kind of a fault in the words
 --   IsNoText       the fault of words that are no UTF-8
@@ -13,9 +13,10 @@ use Rattle.tk_region.specs.SettingsFields.{SettingsFields}
 use Rattle.tokend.specs.CommandLine.{HasNumbers, HasService, tokend_app}
 use Rattle.tokend.specs.declared.fault.Fault.{Fault}
 use Rattle.tokend.specs.declared.fault.Fault.TheVariants.{Memory, Words}
+use Rattle.tokend.specs.declared.options.Numbers.{Numbers}
 use Rattle.tokend.specs.declared.options.Service.{Service}
 use Rattle.tokend.specs.declared.options.Task.{Task}
-use Rattle.tokend.specs.declared.options.Task.TheVariants.{Script, Serve}
+use Rattle.tokend.specs.declared.options.Task.TheVariants.{Script, Loopback, Serve}
 
 -- a script with these settings
 abbrev pub script_task : SettingsFields → Task
@@ -28,6 +29,7 @@ IsNoService rows = (service : Service) → ¬ (HasService rows service)
 -- the subcommand and its values
 abbrev pub IsTask : Option (Text × List Row) → Task → Type 0
 IsTask found (Script numbers) = (rows : List Row) × (found ≡ Some (codes "script", rows)) × HasNumbers rows numbers
+IsTask found (Loopback numbers) = (rows : List Row) × (found ≡ Some (codes "loopback", rows)) × HasNumbers rows numbers
 IsTask found (Serve service) = (rows : List Row) × (found ≡ Some (codes "serve", rows)) × HasService rows service
 
 -- they are no task's
@@ -37,6 +39,10 @@ IsNoTask found = (task : Task) → ¬ (IsTask found task)
 -- clap finds no fault in the words, and they name the task
 abbrev pub Asks : List Text → Task → Type 0
 Asks words task = (fault_of tokend_app words ≡ []) × IsTask (subcommand_of tokend_app words) task
+
+-- and so a script by sockets
+abbrev pub AsksToLoop : List Text → Type 0
+AsksToLoop words = (numbers : Numbers) × Asks words (Loopback numbers)
 
 -- and so a service
 abbrev pub AsksToServe : List Text → Type 0

@@ -2,7 +2,8 @@ ghost use Rattle.std.specs.Prelude.{◌≡◌, ◌⊎◌, ◌<◌, ◌^◌, ℕ,
 ghost use Rattle.clap.specs.Words.{app_of, kind_of, with_rule, rows_of, found_of, subcommand_rows_of};
 ghost use Rattle.clap.specs.declared.error.kind.ErrorKind.TheVariants as kind;
 ghost use Rattle.clap.specs.declared.builder.command.Command.TheViews.{out-Command};
-ghost use Rattle.tokend.specs.CommandLine.{script_app, serve_app, tokend_app, file_rule, number_rule, range_rule, with_setting_rules, ReadsNumber, HasNumber, HasNumbers, HasService, HasText};
+ghost use Rattle.tk_region.specs.SettingsFields.{IsSettings};
+ghost use Rattle.tokend.specs.CommandLine.{events_app, loopback_app, script_app, serve_app, settings_of, tokend_app, file_rule, number_rule, range_rule, with_setting_rules, ReadsNumber, HasNumber, HasNumbers, HasService, HasText};
 ghost use Rattle.tokend.specs.Task.{Asks, IsTask, IsNoService, IsNoTask, IsNoText, IsRefusalOf};
 ghost use Rattle.tokend.specs.declared.options.Numbers.{Numbers as NumbersValue};
 
@@ -21,6 +22,8 @@ use tk_world::Settings;
 pub enum Task {
     /// Runs the lines of the standard input, in regions with these settings.
     Script(Numbers),
+    /// Runs them likewise, each request through a socket.
+    Loopback(Numbers),
     /// Serves requests over HTTP.
     Serve(Service),
 }
@@ -92,12 +95,20 @@ pub(crate) fn words<R: Env + AllocGlobal>(rt: &R) -> Result<Vec<String>, Fault>
 fn tokend_command<'a>(alloc: Global) -> Result<Command<'a>, AllocError>
     ensures { IfOk result (λ c. app_of c ≡ tokend_app) }
 {
+    let events = events_command(alloc)?;
+    events.subcommand(serve_command(alloc)?)
+}
+
+// The program with the two subcommands that run events.
+fn events_command<'a>(alloc: Global) -> Result<Command<'a>, AllocError>
+    ensures { IfOk result (λ c. app_of c ≡ events_app) }
+{
     Command::new(alloc, "tokend")
         .version("0.1.0")
         .about("An authorisation server whose regions merge")
         .subcommand_required(true)
         .subcommand(script_command(alloc)?)?
-        .subcommand(serve_command(alloc)?)
+        .subcommand(loopback_command(alloc)?)
 }
 
 fn script_command<'a>(alloc: Global) -> Result<Command<'a>, AllocError>
@@ -109,6 +120,17 @@ fn script_command<'a>(alloc: Global) -> Result<Command<'a>, AllocError>
     );
     let script = with_settings(alloc, script)?;
     Ok(script)
+}
+
+fn loopback_command<'a>(alloc: Global) -> Result<Command<'a>, AllocError>
+    ensures shape { IfOk result (λ c. app_of c ≡ loopback_app) }
+    ensures local { IfOk result (λ c. (out-Command c).has_globals ≡ false) }
+{
+    let loopback = Command::new(alloc, "loopback").about(
+        "Runs such events, each request through a socket on 127.0.0.1",
+    );
+    let loopback = with_settings(alloc, loopback)?;
+    Ok(loopback)
 }
 
 fn serve_command<'a>(alloc: Global) -> Result<Command<'a>, AllocError>
@@ -258,6 +280,23 @@ fn with_number<'a>(
     command.arg(arg)
 }
 
+impl Numbers {
+    /// The settings of these numbers.
+    pub(crate) fn settings(&self) -> Settings
+        requires { IsSettings (settings_of self.now) }
+        ensures { result ≡ settings_of self.now }
+    {
+        let Numbers {
+            code,
+            access,
+            refresh,
+            family,
+            cap,
+        } = *self;
+        Settings::new(code, access, refresh, family, cap).unwrap()
+    }
+}
+
 impl Service {
     /// The greatest number of a region.
     pub const GREATEST_REGION: u64 = 65_535;
@@ -270,7 +309,7 @@ impl Service {
 }
 
 // What the matches say. A subcommand is always there, and so are its numbers: clap has seen to it.
-#[tactic(auto, using(crate::proofs::Tasks::no_script, crate::proofs::Tasks::no_service))]
+#[tactic(auto, using(crate::proofs::Tasks::no_script, crate::proofs::Tasks::no_loopback, crate::proofs::Tasks::no_service))]
 fn read_matches(alloc: Global, matches: &ArgMatches<'_>) -> Result<Option<Task>, AllocError>
     ensures task { IfOk result (λ task. IfSome task (IsTask (subcommand_rows_of matches.now))) }
     ensures none { IfOk result (λ task. IfNone task (IsNoTask (subcommand_rows_of matches.now))) }
@@ -281,6 +320,12 @@ fn read_matches(alloc: Global, matches: &ArgMatches<'_>) -> Result<Option<Task>,
     if name == "script" {
         return match read_numbers(values) {
             Some(numbers) => Ok(Some(Task::Script(numbers))),
+            None => Ok(None),
+        };
+    }
+    if name == "loopback" {
+        return match read_numbers(values) {
+            Some(numbers) => Ok(Some(Task::Loopback(numbers))),
             None => Ok(None),
         };
     }

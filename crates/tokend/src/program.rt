@@ -5,12 +5,14 @@ ghost use Rattle.std.specs.Io.KnownBytes.{Keeps};
 ghost use Rattle.tokend.specs.Printed.{lines_text};
 ghost use Rattle.tokend.specs.ProgramRun.{IsDone, IsFaultFor, IsQuiet, Leaves, Tells};
 ghost use Rattle.tokend.specs.Put.{Prints};
+ghost use Rattle.tokend.specs.LoopbackRun.{PrintsLoopback, IsLoopbackFault, LeavesLoopback};
 ghost use Rattle.tokend.specs.ScriptRun.{PrintsScript, IsScriptFault, LeavesScript};
 ghost use Rattle.tokend.specs.Status.{status_of};
 ghost use Rattle.tokend.specs.declared.fault.Fault.{Fault as FaultValue};
 
 use crate::fault::{Fault, tell};
-use crate::options::{Numbers, Task, options};
+use crate::loopback::{LONGEST, run_by_sockets};
+use crate::options::{Task, options};
 use crate::print::print_outcomes;
 use crate::script::{read_events, read_script};
 use crate::serve::serve;
@@ -83,20 +85,8 @@ where
     ensures silent { OnErr result (Keeps (E.contents faults.old) (E.contents faults.new)) }
 {
     match options(rt.alloc(), words) {
-        Ok(
-            Task::Script(
-                Numbers {
-                    code,
-                    access,
-                    refresh,
-                    family,
-                    cap,
-                },
-            ),
-        ) => match Settings::new(code, access, refresh, family, cap) {
-            Some(settings) => run_script(rt.alloc(), settings, input, output),
-            None => unreachable!(),
-        },
+        Ok(Task::Script(numbers)) => run_script(rt.alloc(), numbers.settings(), input, output),
+        Ok(Task::Loopback(numbers)) => run_loopback(rt, numbers.settings(), input, output),
         Ok(Task::Serve(service)) => serve(rt, &service, output, faults),
         Err(error) => match error.kind() {
             ErrorKind::DisplayHelp | ErrorKind::DisplayVersion => match show(output, &error) {
@@ -127,9 +117,31 @@ fn run_script<I: Read, O: Write>(
     ensures left { IfErr result (λ fault. LeavesScript settings (I.remaining input.old) fault (O.contents output.old) (O.contents output.new)) }
 {
     let script = read_script(alloc, input)?;
-    let events = read_events(alloc, script.as_slice())?;
+    let events = read_events(alloc, script.as_slice(), None)?;
     let mut world = World::new(alloc, settings);
     let outcomes = world.run(events.as_slice())?;
+    match print_all(output, events.as_slice(), outcomes.as_slice()) {
+        Ok(()) => Ok(()),
+        Err(_) => Err(Fault::Output),
+    }
+}
+
+// As `run_script`, with each request through a socket. Of sockets nothing is known, so its outcomes aren't either.
+fn run_loopback<R, I: Read, O: Write>(
+    rt: &R,
+    settings: Settings,
+    input: &mut I,
+    output: &mut O,
+) -> Result<(), Fault>
+where
+    R: AllocGlobal + Clock + Net<Listener = TcpListener, Stream = TcpStream>,
+    ensures done { OnOk result (PrintsLoopback (I.remaining input.old) (O.contents output.old) (O.contents output.new)) }
+    ensures fault { IfErr result (IsLoopbackFault (I.remaining input.old)) }
+    ensures left { IfErr result (λ fault. LeavesLoopback (I.remaining input.old) fault (O.contents output.old) (O.contents output.new)) }
+{
+    let script = read_script(rt.alloc(), input)?;
+    let events = read_events(rt.alloc(), script.as_slice(), Some(LONGEST))?;
+    let outcomes = run_by_sockets(rt, settings, events.as_slice())?;
     match print_all(output, events.as_slice(), outcomes.as_slice()) {
         Ok(()) => Ok(()),
         Err(_) => Err(Fault::Output),

@@ -1,6 +1,6 @@
-ghost use Rattle.std.specs.Prelude.{◌≡◌, ◌≤◌, ◌<◌, ◌^◌, ℕ, IfOk, IfErr, IfSome, length, slice_get, vec_len};
+ghost use Rattle.std.specs.Prelude.{◌≡◌, ◌≤◌, ◌<◌, ◌^◌, ◌↔◌, ℕ, IfOk, IfErr, IfSome, length, slice_get, vec_len, IsTrue};
 ghost use Rattle.tokend.specs.Line.{HasWords, words_at};
-ghost use Rattle.tokend.specs.Script.{greatest_length, lines_of, AreEvents, IsFaultOf, IsInputFault};
+ghost use Rattle.tokend.specs.Script.{greatest_length, lines_of, AreEvents, IsFaultOf, IsInputFault, IsTooLong};
 
 use crate::fault::{Fault, LineError};
 use crate::line::event;
@@ -30,13 +30,17 @@ pub(crate) fn read_script<I: Read>(alloc: Global, input: &mut I) -> Result<Vec<u
     Err(Fault::ScriptTooLong)
 }
 
-/// The events of a script's lines, in order; the fault is the first bad line. Lines end with LF, the last may lack
-/// it. Empty lines, and lines that begin with `#`, are no events.
-pub(crate) fn read_events(alloc: Global, script: &[u8]) -> Result<Vec<Event>, Fault>
+/// The events of a script's lines, in order; the fault is the first line that is none, or whose request has more bytes than
+/// `longest`. Lines end with LF, the last may lack it. Empty lines, and lines that begin with `#`, are no events.
+pub(crate) fn read_events(
+    alloc: Global,
+    script: &[u8],
+    longest: Option<u64>,
+) -> Result<Vec<Event>, Fault>
     requires { length script.now ≤ greatest_length }
     ensures found { IfOk result (λ events. AreEvents (lines_of script.now) events.items) }
     ensures words { IfOk result (λ events. (k : ℕ) → IfSome (slice_get events.items k) (HasWords (words_at k))) }
-    ensures fault { IfErr result (IsFaultOf script.now) }
+    ensures fault { IfErr result (IsFaultOf longest script.now) }
 {
     let mut events = Vec::new(alloc);
     for (at, line) in script.split(|b| *b == b'\n').enumerate() {
@@ -44,12 +48,23 @@ pub(crate) fn read_events(alloc: Global, script: &[u8]) -> Result<Vec<Event>, Fa
             continue;
         }
         match event(alloc, line, words_of(events.len() as u64)) {
+            Ok(event) if is_too_long(&event, longest) => return Err(Fault::BadLine(at as u64 + 1)),
             Ok(event) => events.push(event)?,
             Err(LineError::Bad) => return Err(Fault::BadLine(at as u64 + 1)),
             Err(LineError::Memory) => return Err(Fault::Memory),
         }
     }
     Ok(events)
+}
+
+// Whether a request has more bytes than it may have.
+fn is_too_long(event: &Event, longest: Option<u64>) -> bool
+    ensures { IsTrue result ↔ IsTooLong longest event.now }
+{
+    match (event, longest) {
+        (Event::Request { bytes, .. }, Some(longest)) => bytes.len() as u64 > longest,
+        _ => false,
+    }
 }
 
 // The words that an event draws, by its place among the events.

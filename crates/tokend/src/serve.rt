@@ -14,7 +14,7 @@ use crate::draw::{draw, generator};
 use crate::fault::{Fault, cannot_read};
 use crate::load::{LoadFault, load};
 use crate::log_file::open_log;
-use crate::options::{Numbers, Service};
+use crate::options::Service;
 use crate::put::put_all;
 use crate::timed::{TimedSink, TimedSource};
 use itoa::Buffer;
@@ -27,7 +27,7 @@ use std::rt::Files;
 use std::time::Clock;
 use tk_edge::{Discard, Edge, Fault as EdgeFault, Served, Sink, Source};
 use tk_handle::{Moment, RegionNumber};
-use tk_region::{Region, Settings};
+use tk_region::Region;
 
 /// How many bytes of a client are dropped behind its request.
 const DROPPED: usize = 65_536;
@@ -91,7 +91,7 @@ fn begin<R: AllocGlobal + Files>(rt: &R, service: &Service) -> Result<(Start, u6
     };
     let number = RegionNumber::new(service.region).unwrap();
     let words = generator(seed, number);
-    let mut region = Region::new(rt.alloc(), number, settings(&service.numbers));
+    let mut region = Region::new(rt.alloc(), number, service.numbers.settings());
     let mut dropped = 0;
     if let Some(path) = &service.load {
         match load_file(rt, &mut region, path) {
@@ -101,20 +101,6 @@ fn begin<R: AllocGlobal + Files>(rt: &R, service: &Service) -> Result<(Start, u6
     }
     let edge = Edge::new(region);
     Ok((Start { edge, words }, dropped))
-}
-
-fn settings(numbers: &Numbers) -> Settings
-    requires { IsSettings (settings_of numbers.now) }
-    ensures { result ≡ settings_of numbers.now }
-{
-    let Numbers {
-        code,
-        access,
-        refresh,
-        family,
-        cap,
-    } = *numbers;
-    Settings::new(code, access, refresh, family, cap).unwrap()
 }
 
 // Listens, says so, and serves.
@@ -287,7 +273,7 @@ fn serve_next<R: AllocGlobal + Clock, L: Sink>(
     }
 }
 
-// Serves one connection, and drops what its client still sends.
+// Serves one connection by the clock.
 fn serve_stream<R: AllocGlobal + Clock, L: Sink>(
     rt: &R,
     stream: &TcpStream,
@@ -298,9 +284,24 @@ fn serve_stream<R: AllocGlobal + Clock, L: Sink>(
 ) -> Result<Served, EdgeFault>
     ensures { (fs : Facts) × Gains edge.old.region fs edge.new.region }
 {
-    let Ok(now) = moment(rt) else {
-        return Err(EdgeFault::Read);
-    };
+    match moment(rt) {
+        Ok(now) => serve_at(rt, stream, edge, log, buf, now, words),
+        Err(_) => Err(EdgeFault::Read),
+    }
+}
+
+/// Serves one connection at a moment, and drops what its client still sends.
+pub(crate) fn serve_at<R: AllocGlobal + Clock, L: Sink>(
+    rt: &R,
+    stream: &TcpStream,
+    edge: &mut Edge,
+    log: &mut L,
+    buf: &mut [u8; 8192],
+    now: Moment,
+    words: &[u64; 6],
+) -> Result<Served, EdgeFault>
+    ensures { (fs : Facts) × Gains edge.old.region fs edge.new.region }
+{
     let Ok(mut source) = TimedSource::new(stream, rt) else {
         return Err(EdgeFault::Read);
     };

@@ -11,6 +11,7 @@ mod gone_elsewhere;
 mod header_credentials;
 mod lines;
 mod loading;
+mod loopback;
 mod order;
 mod plain_path;
 mod public_client;

@@ -8,9 +8,10 @@ const HELP: &str = "An authorisation server whose regions merge
 Usage: tokend <COMMAND>
 
 Commands:
-  script  Runs events, given as lines on the standard input
-  serve   Serves requests over HTTP on 127.0.0.1, one connection after the other
-  help    Print this message or the help of the given subcommand(s)
+  script    Runs events, given as lines on the standard input
+  loopback  Runs such events, each request through a socket on 127.0.0.1
+  serve     Serves requests over HTTP on 127.0.0.1, one connection after the other
+  help      Print this message or the help of the given subcommand(s)
 
 Options:
   -h, --help     Print help
@@ -138,7 +139,7 @@ fn a_missing_or_unknown_subcommand_is_told(rt: HostRuntime) -> Result<(), Fail> 
             "no subcommand",
             &["tokend"],
             "error: 'tokend' requires a subcommand but one was not provided
-  [subcommands: script, serve, help]
+  [subcommands: script, loopback, serve, help]
 
 Usage: tokend <COMMAND>
 

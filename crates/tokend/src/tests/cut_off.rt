@@ -1,6 +1,6 @@
 //! Two regions that are cut off from one another redeem one code (RFC 6749, 4.1.2).
 
-use super::beginning::{Beginning, SCRIPT, run_behind};
+use super::beginning::{Beginning, SCRIPT, run_both_ways};
 use std::test::Fail;
 
 // The code of 1:3 is redeemed in both regions, by 1:4 and by 2:1. Bundle 1 holds 1:4, bundle 2 holds 2:1.
@@ -138,7 +138,7 @@ const ORDERS: &[(&str, &str, &str)] = &[
 #[test]
 fn a_code_redeemed_in_two_regions_kills_its_family(rt: HostRuntime) -> Result<(), Fail> {
     for &(name, lines, told) in ORDERS {
-        run_behind(&rt, &CUT_OFF, name, lines, told)?;
+        run_both_ways(&rt, &CUT_OFF, name, lines, told)?;
     }
     Ok(())
 }

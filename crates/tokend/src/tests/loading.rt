@@ -39,7 +39,7 @@ fn log_of_requests<R: AllocGlobal + Abort>(rt: &R) -> Result<Vec<u8>, Fail> {
     let mut edge = Edge::new(new_region(alloc, 1)?);
     let mut log = Counted::new(Vec::new(alloc));
     let mut buf = [0u8; 8192];
-    let events = read_events(alloc, REQUESTS)?;
+    let events = read_events(alloc, REQUESTS, None)?;
     let mut served = 0;
     for event in &events {
         let Event::Request {

@@ -1,6 +1,6 @@
 //! The plain path: a code, its tokens, what is told of them, and their ends.
 
-use super::beginning::{Beginning, SCRIPT, run_behind};
+use super::beginning::{Beginning, SCRIPT, run_both_ways};
 use super::{Row, printed, run_row};
 use std::test::Fail;
 
@@ -88,7 +88,7 @@ fn tokens_are_told_of_until_their_ends(rt: HostRuntime) -> Result<(), Fail> {
             "req 1 {now} POST /introspect - - token={token}&client_id=c1-1&client_secret=s3cret\n"
         )?;
         let told = format!(in rt.alloc(); "{answer}\n")?;
-        run_behind(&rt, &PATH, name, line.as_str(), told.as_str())?;
+        run_both_ways(&rt, &PATH, name, line.as_str(), told.as_str())?;
     }
     Ok(())
 }

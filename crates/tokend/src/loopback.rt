@@ -1,0 +1,209 @@
+//! A script's events, with each request through a socket of this machine. In a world they are run without one.
+
+ghost use Rattle.std.specs.Prelude.{◌≡◌, IfOk, IfErr, length};
+ghost use Rattle.tokend.specs.LoopbackRun.{IsSocketFault};
+
+use crate::fault::Fault;
+use crate::serve::serve_at;
+use std::alloc::Global;
+use std::io::{self, Read, Write};
+use std::net::{Ipv4Addr, Net, OpenListener, OpenStream, Shutdown, TcpListener, TcpStream};
+use std::time::Clock;
+use tk_bundle::{Page, make};
+use tk_edge::{Discard, Edge, Fault as EdgeFault, Served};
+use tk_handle::{Moment, RegionNumber};
+use tk_message::Status;
+use tk_region::{Region, Settings, TakeError};
+use tk_vector::VersionVector;
+use tk_world::{Event, Outcome};
+
+/// The greatest length of a request in bytes: a socket takes them before the other side reads any.
+pub(crate) const LONGEST: u64 = 16_384;
+
+/// Runs the events in order, one outcome for each. A socket that fails ends the run.
+pub(crate) fn run_by_sockets<R>(
+    rt: &R,
+    settings: Settings,
+    events: &[Event],
+) -> Result<Vec<Outcome>, Fault>
+where
+    R: AllocGlobal + Clock + Net<Listener = TcpListener, Stream = TcpStream>,
+    ensures each { IfOk result (λ outcomes. length outcomes.items ≡ length events.now) }
+    ensures fault { IfErr result IsSocketFault }
+{
+    let Ok(listener) = TcpListener::bind(rt, (Ipv4Addr::new(127, 0, 0, 1), 0)) else {
+        return Err(Fault::CannotListen);
+    };
+    let mut regions = Regions::new(rt.alloc(), settings);
+    let mut outcomes = Vec::new(rt.alloc());
+    for event in events {
+        let outcome = regions.step(rt, &listener, event)?;
+        outcomes.push(outcome)?;
+    }
+    Ok(outcomes)
+}
+
+// Regions in the order of their opening, and bundles in that of their making.
+#[derive(Drop)]
+struct Regions {
+    alloc: Global,
+    settings: Settings,
+    edges: Vec<Edge>,
+    bundles: Vec<Vec<u8>>,
+}
+
+impl Regions {
+    fn new(alloc: Global, settings: Settings) -> Regions {
+        Regions {
+            alloc,
+            settings,
+            edges: Vec::new(alloc),
+            bundles: Vec::new(alloc),
+        }
+    }
+
+    fn step<R>(&mut self, rt: &R, listener: &TcpListener, event: &Event) -> Result<Outcome, Fault>
+    where
+        R: AllocGlobal + Clock + Net<Listener = TcpListener, Stream = TcpStream>,
+        ensures { IfErr result IsSocketFault }
+    {
+        match event {
+            Event::Open(number) => Ok(self.open(*number)),
+            Event::Request {
+                region,
+                now,
+                words,
+                bytes,
+            } => match self.find(*region) {
+                Some(edge) => request(rt, listener, edge, *now, words, bytes),
+                None => Ok(Outcome::NoRegion),
+            },
+            Event::Pull { region, vector } => Ok(self.pull(*region, vector)),
+            Event::Deliver { bundle, region } => Ok(self.deliver(*bundle, *region)),
+        }
+    }
+
+    fn find(&mut self, number: RegionNumber) -> Option<&mut Edge> {
+        self.edges
+            .iter_mut()
+            .find(|edge| edge.region().number() == number)
+    }
+
+    fn open(&mut self, number: RegionNumber) -> Outcome {
+        if self.find(number).is_some() {
+            return Outcome::NumberTaken;
+        }
+        let edge = Edge::new(Region::new(self.alloc, number, self.settings));
+        match self.edges.push(edge) {
+            Ok(()) => Outcome::Opened,
+            Err(_) => Outcome::Memory,
+        }
+    }
+
+    fn pull(&mut self, number: RegionNumber, vector: &VersionVector) -> Outcome {
+        let alloc = self.alloc;
+        let page = match self.find(number) {
+            Some(edge) => make(alloc, edge.region().ledger().store(), vector),
+            None => return Outcome::NoRegion,
+        };
+        match page {
+            Ok(page) => self.keep(page),
+            Err(_) => Outcome::Memory,
+        }
+    }
+
+    // Puts a page behind the other bundles.
+    fn keep(&mut self, page: Page) -> Outcome {
+        let made = Outcome::Bundle {
+            index: self.bundles.len() as u64,
+            count: page.count,
+            last: page.last,
+            more: page.more,
+        };
+        match self.bundles.push(page.bytes) {
+            Ok(()) => made,
+            Err(_) => Outcome::Memory,
+        }
+    }
+
+    // None of these regions refuses what another made; a world's contract says so.
+    fn deliver(&mut self, bundle: u64, number: RegionNumber) -> Outcome {
+        let Some(at) = self
+            .edges
+            .iter()
+            .position(|edge| edge.region().number() == number)
+        else {
+            return Outcome::NoRegion;
+        };
+        let Some(bytes) = self.bundles.get(bundle as usize) else {
+            return Outcome::NoBundle;
+        };
+        match self.edges[at].region_mut().take_in(self.alloc, bytes) {
+            Ok(new) => Outcome::Took(new),
+            Err(TakeError::Memory) => Outcome::Memory,
+            Err(_) => Outcome::NoBundle,
+        }
+    }
+}
+
+// The client's end sends all of its request before the region's end is accepted, and reads the reply after that has closed.
+fn request<R>(
+    rt: &R,
+    listener: &TcpListener,
+    edge: &mut Edge,
+    now: Moment,
+    words: &[u64; 6],
+    bytes: &[u8],
+) -> Result<Outcome, Fault>
+where
+    R: AllocGlobal + Clock + Net<Listener = TcpListener, Stream = TcpStream>,
+    ensures { IfErr result IsSocketFault }
+{
+    let Ok(client) = send(rt, listener, bytes) else {
+        return Err(Fault::CannotListen);
+    };
+    match serve_client(rt, listener, edge, now, words) {
+        Ok(Served::Done(status)) => read_reply(rt.alloc(), client, status),
+        Ok(Served::Nothing) => Err(Fault::CannotListen),
+        Err(EdgeFault::Memory) => Ok(Outcome::Memory),
+        Err(_) => Err(Fault::CannotListen),
+    }
+}
+
+// Connects, writes the request and shuts the writing side.
+fn send<R>(rt: &R, listener: &TcpListener, bytes: &[u8]) -> io::Result<TcpStream>
+where
+    R: Net<Listener = TcpListener, Stream = TcpStream>,
+{
+    let mut client = TcpStream::connect(rt, listener.local_addr()?)?;
+    client.write_all(bytes)?;
+    client.shutdown(Shutdown::Write)?;
+    Ok(client)
+}
+
+// Accepts the region's end, serves it and closes it.
+fn serve_client<R: AllocGlobal + Clock>(
+    rt: &R,
+    listener: &TcpListener,
+    edge: &mut Edge,
+    now: Moment,
+    words: &[u64; 6],
+) -> Result<Served, EdgeFault> {
+    let mut buf = [0u8; 8192];
+    match listener.accept() {
+        Ok((stream, _)) => serve_at(rt, &stream, edge, &mut Discard, &mut buf, now, words),
+        Err(_) => Err(EdgeFault::Read),
+    }
+}
+
+// What the client's end reads until the region's end is closed.
+fn read_reply(alloc: Global, mut client: TcpStream, status: Status) -> Result<Outcome, Fault>
+    ensures { IfErr result IsSocketFault }
+{
+    let mut bytes = Vec::new(alloc);
+    match client.read_to_end(&mut bytes) {
+        Ok(_) => Ok(Outcome::Reply { status, bytes }),
+        Err(error) if error.kind() == io::ErrorKind::OutOfMemory => Err(Fault::Memory),
+        Err(_) => Err(Fault::CannotListen),
+    }
+}
