@@ -48,6 +48,7 @@ impl<'a> FrailSource<'a> {
     pub fn new(rest: &'a [u8], step: usize, fails: Fails) -> FrailSource<'a>
         requires { 0 < step }
         ensures bytes { result.rest.now ≡ rest.now }
+        ensures given { (result.step ≡ step) × (result.fails ≡ fails) }
         ensures fresh { (result.calls ≡ 0) × (result.failures ≡ 0) }
     {
         FrailSource {
@@ -107,6 +108,7 @@ impl FrailSink {
     pub fn new(alloc: Global, step: usize, fails: Fails) -> FrailSink
         requires { 0 < step }
         ensures empty { result.bytes.items ≡ [] }
+        ensures given { (result.step ≡ step) × (result.fails ≡ fails) }
         ensures fresh { (result.calls ≡ 0) × (result.failures ≡ 0) }
     {
         FrailSink {

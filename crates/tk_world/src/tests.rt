@@ -16,50 +16,84 @@ fn ask(alloc: Global, region: RegionNumber, bytes: &[u8]) -> Result<Event, Fail>
     })
 }
 
+// Region 1 opens, and the streams reach it one after the other.
+fn asked(alloc: Global, streams: &[&[u8]]) -> Result<Vec<Event>, Fail> {
+    let one = RegionNumber::new(1).ok_or("a region")?;
+    let mut events = Vec::new(alloc);
+    events.push(Event::Open(one))?;
+    for &bytes in streams {
+        events.push(ask(alloc, one, bytes)?)?;
+    }
+    Ok(events)
+}
+
 // A reply of this status, whose bytes end so.
-fn is_reply(outcome: Option<&Outcome>, number: u16, end: &str) -> bool {
+fn is_reply(outcome: &Outcome, number: u16, end: &str) -> bool {
     match outcome {
-        Some(Outcome::Reply { status, bytes }) => {
+        Outcome::Reply { status, bytes } => {
             status.number() == number && bytes.ends_with(end.as_bytes())
         }
         _ => false,
     }
 }
 
+// The status and the end of the reply to each stream.
+fn are_replies(outcomes: &[Outcome], wanted: &[(u16, &str)]) -> bool {
+    let [Outcome::Opened, replies @ ..] = outcomes else {
+        return false;
+    };
+    let mut left = replies.iter();
+    for &(number, end) in wanted {
+        match left.next() {
+            Some(reply) if is_reply(reply, number, end) => {}
+            _ => return false,
+        }
+    }
+    left.next().is_none()
+}
+
 // A world of no region.
-fn new_world(alloc: Global) -> Result<World, Fail> {
-    let settings = Settings::new(60, 3600, 86_400, 2_592_000, 1000).ok_or("settings")?;
-    Ok(World::new(alloc, settings))
+fn new_world(alloc: Global) -> Option<World> {
+    let settings = Settings::new(60, 3600, 86_400, 2_592_000, 1000)?;
+    Some(World::new(alloc, settings))
+}
+
+// Whether the events come to such replies.
+fn come_to(alloc: Global, events: &[Event], wanted: &[(u16, &str)]) -> bool {
+    match new_world(alloc) {
+        Some(mut world) => match world.run(events) {
+            Ok(outcomes) => are_replies(outcomes.as_slice(), wanted),
+            Err(_) => false,
+        },
+        None => false,
+    }
 }
 
 const CLIENT: &[u8] =
     b"POST /admin/client HTTP/1.1\r\nContent-Length: 55\r\n\r\nkind=public&scope=read&redirects=https://app.example/cb";
 
+const STREAMS: &[&[u8]] = &[
+    CLIENT,
+    b"GET /admin/client?client_id=c1-1 HTTP/1.1\r\n\r\n",
+    b"GET /sync/vector HTTP/1.1\r\n\r\n",
+    b"",
+];
+
+// A client is added and shown; a path is none; and no byte is answered with none.
+const REPLIES: &[(u16, &str)] = &[
+    (201, "\r\n\r\n{\"client_id\":\"c1-1\"}"),
+    (
+        200,
+        "{\"client_id\":\"c1-1\",\"kind\":\"public\",\"live\":true,\"scope\":\"read\"}",
+    ),
+    (404, "{\"error\":\"not_found\"}"),
+    (400, ""),
+];
+
 #[test]
 fn a_registration_is_shown(rt: HostRuntime) -> Result<(), Fail> {
-    let alloc = rt.alloc();
-    let one = RegionNumber::new(1).ok_or("a region")?;
-    let mut world = new_world(alloc)?;
-    let mut events = Vec::new(alloc);
-    events.push(Event::Open(one))?;
-    events.push(ask(alloc, one, CLIENT)?)?;
-    let show = b"GET /admin/client?client_id=c1-1 HTTP/1.1\r\n\r\n";
-    events.push(ask(alloc, one, show)?)?;
-    events.push(ask(alloc, one, b"GET /sync/vector HTTP/1.1\r\n\r\n")?)?;
-    events.push(ask(alloc, one, b"")?)?;
-    let outcomes = world.run(events.as_slice())?;
-    assert_eq!(rt; outcomes.len(), 5);
-    assert!(rt;
-        is_reply(outcomes.get(1), 201, "\r\n\r\n{\"client_id\":\"c1-1\"}"),
-        "added"
-    );
-    let shown = "{\"client_id\":\"c1-1\",\"kind\":\"public\",\"live\":true,\"scope\":\"read\"}";
-    assert!(rt; is_reply(outcomes.get(2), 200, shown), "shown");
-    assert!(rt;
-        is_reply(outcomes.get(3), 404, "{\"error\":\"not_found\"}"),
-        "no path"
-    );
-    assert!(rt; is_reply(outcomes.get(4), 400, ""), "no byte");
+    let events = asked(rt.alloc(), STREAMS)?;
+    assert!(rt; come_to(rt.alloc(), events.as_slice(), REPLIES));
     Ok(())
 }
 
@@ -67,21 +101,29 @@ fn a_registration_is_shown(rt: HostRuntime) -> Result<(), Fail> {
 const FIRST_BUNDLE: &[u8] =
     b"OTB1\x00\x01\x00\x2b\x00\x01\x00\x00\x00\x00\x00\x00\x00\x01\x01\x00\x00\x04read\x01\x00\x16https://app.example/cb";
 
+// A client is added, and region 1 makes a bundle of all it has.
+fn pulled(alloc: Global) -> Result<Vec<Event>, Fail> {
+    let region = RegionNumber::new(1).ok_or("a region")?;
+    let mut events = asked(alloc, &[CLIENT])?;
+    let vector = VersionVector::new(alloc);
+    events.push(Event::Pull { region, vector })?;
+    Ok(events)
+}
+
+// Whether the events make one bundle, of these bytes.
+fn make_one_bundle(alloc: Global, events: &[Event], bytes: &[u8]) -> bool {
+    match new_world(alloc) {
+        Some(mut world) => {
+            let is_run = world.run(events).is_ok();
+            is_run && world.bundle(0) == Some(bytes) && world.bundle(1).is_none()
+        }
+        None => false,
+    }
+}
+
 #[test]
 fn a_bundle_is_shown_under_its_number(rt: HostRuntime) -> Result<(), Fail> {
-    let alloc = rt.alloc();
-    let one = RegionNumber::new(1).ok_or("a region")?;
-    let mut world = new_world(alloc)?;
-    let mut events = Vec::new(alloc);
-    events.push(Event::Open(one))?;
-    events.push(ask(alloc, one, CLIENT)?)?;
-    let vector = VersionVector::new(alloc);
-    events.push(Event::Pull {
-        region: one,
-        vector,
-    })?;
-    let _ = world.run(events.as_slice())?;
-    assert_eq!(rt; world.bundle(0), Some(FIRST_BUNDLE));
-    assert!(rt; world.bundle(1).is_none());
+    let events = pulled(rt.alloc())?;
+    assert!(rt; make_one_bundle(rt.alloc(), events.as_slice(), FIRST_BUNDLE));
     Ok(())
 }

@@ -1,7 +1,8 @@
--- The words of a script's events, as the list of events grows.
-use Rattle.std.proofs.Common.{ℕ, zero, suc, List, [], ◌∷◌, ◌++◌, length, slice_get, IfSome}
+-- The words of a script's events, and their lengths, as the list of events grows.
+use Rattle.std.proofs.Common.{ℕ, zero, suc, List, [], ◌∷◌, ◌++◌, length, slice_get, Option, IfSome}
 use Rattle.tk_world.specs.declared.event.Event.{Event}
 use Rattle.tokend.specs.Line.{HasWords, words_at}
+use Rattle.tokend.specs.Script.{AreShort, IsTooLong}
 
 each_pushed : {X : Type 0} (P : ℕ → X → Type 0) (xs : List X) (x : X) → ((k : ℕ) → IfSome (slice_get xs k) (P k)) → P (length xs) x → (k : ℕ) → IfSome (slice_get (xs ++ x ∷ []) k) (P k)
 each_pushed P [] x each last zero = last
@@ -11,3 +12,6 @@ each_pushed P (y ∷ ys) x each last (suc k) = each_pushed (λ n. P (suc n)) ys 
 
 pub words_pushed : (events : List Event) (event : Event) → ((k : ℕ) → IfSome (slice_get events k) (HasWords (words_at k))) → HasWords (words_at (length events)) event → (k : ℕ) → IfSome (slice_get (events ++ event ∷ []) k) (HasWords (words_at k))
 words_pushed events event each last = each_pushed (λ k e. HasWords (words_at k) e) events event each last
+
+pub short_pushed : (longest : Option ℕ) (events : List Event) (event : Event) → AreShort longest events → ¬ (IsTooLong longest event) → AreShort longest (events ++ event ∷ [])
+short_pushed longest events event each last = each_pushed (λ k e. ¬ (IsTooLong longest e)) events event each last

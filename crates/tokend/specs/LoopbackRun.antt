@@ -8,7 +8,7 @@ use Rattle.std.specs.Prelude.{◌≡◌, ◌≤◌, ⊤, ℕ, List, Option, Some
 use Rattle.std.specs.Io.KnownBytes.{Appends, Keeps}
 use Rattle.tk_world.specs.declared.event.Event.{Event}
 use Rattle.tk_world.specs.declared.event.Outcome.{Outcome}
-use Rattle.tokend.specs.Script.{greatest_length, lines_of, AreEvents, IsFirstBad}
+use Rattle.tokend.specs.Script.{greatest_length, lines_of, AreEvents, AreShort, IsFirstBad}
 use Rattle.tokend.specs.ScriptRun.{IsScriptFault}
 use Rattle.tokend.specs.Printed.{lines_text}
 use Rattle.tokend.specs.Put.{AppendsFront}
@@ -19,12 +19,13 @@ use Rattle.tokend.specs.declared.fault.Fault.TheVariants.{BadLine, CannotListen,
 abbrev pub longest : ℕ
 longest = 16384
 
--- the script is short enough, each of its events has an outcome, and the lines are these outcomes'
+-- the script is short enough, and so are its requests; each of its events has an outcome, and the lines are these outcomes'
 pub record IsLoopbackRun (script : List ℕ) (lines : List ℕ) : Type 0 where
   pub short : length script ≤ greatest_length
   pub events : List Event
   pub outcomes : List Outcome
   pub found : AreEvents (lines_of script) events
+  pub within : AreShort (Some longest) events
   pub each : length outcomes ≡ length events
   pub printed : lines ≡ lines_text events outcomes
 

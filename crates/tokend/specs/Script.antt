@@ -1,11 +1,11 @@
 -- The events of a script.
 --   lines_of       its lines; is_told, which of them should be events
 --   AreEvents      the events of lines, in order
---   IsBadLine      a line that is no event, or whose request is too long
+--   AreShort       events of which no request is too long; IsBadLine, a line that is no event, or whose request is too long
 --   IsFirstBad     the number of the first such line of those that should be events
 --   IsInputFault   why an input gives no script
 --   IsFaultOf      why a script gives no events
-use Rattle.std.specs.Prelude.{◌≡◌, ◌<◌, ◌⊎◌, ℕ, ◌+◌, ◌==◌, ⊤, Bool, false, true, not, List, [], ◌∷◌, ◌++◌, length, filter, vec_len, Option, Some, IfSome}
+use Rattle.std.specs.Prelude.{◌≡◌, ◌<◌, ◌⊎◌, ℕ, ◌+◌, ◌==◌, ⊤, Bool, false, true, not, List, [], ◌∷◌, ◌++◌, length, filter, slice_get, vec_len, Option, Some, IfSome}
 use Rattle.std.specs.List.{AllZip, slice_split}
 use Rattle.tk_world.specs.declared.event.Event.{Event}
 use Rattle.tk_world.specs.declared.event.Event.TheVariants.{Request}
@@ -34,6 +34,10 @@ AreEvents lines events = AllZip IsEventLine (filter is_told lines) events
 abbrev pub IsTooLong : Option ℕ → Event → Type 0
 IsTooLong (Some longest) (Request region now words bytes) = longest < vec_len bytes
 IsTooLong longest event = ⊥
+
+-- none of the events is
+abbrev pub AreShort : Option ℕ → List Event → Type 0
+AreShort longest events = (k : ℕ) → IfSome (slice_get events k) (λ event. ¬ (IsTooLong longest event))
 
 -- the line is no event, or its request is too long
 abbrev pub IsBadLine : Option ℕ → List ℕ → Type 0

@@ -152,6 +152,8 @@ where
 fn print_all<O: Write>(output: &mut O, events: &[Event], outcomes: &[Outcome]) -> io::Result<()>
     ensures { Prints result (O.contents output.old) (O.contents output.new) (lines_text events.now outcomes.now) }
 {
-    print_outcomes(output, events, outcomes)?;
-    output.flush()
+    match print_outcomes(output, events, outcomes) {
+        Ok(()) => output.flush(),
+        Err(error) => Err(error),
+    }
 }

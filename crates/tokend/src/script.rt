@@ -1,6 +1,6 @@
 ghost use Rattle.std.specs.Prelude.{◌≡◌, ◌≤◌, ◌<◌, ◌^◌, ◌↔◌, ℕ, IfOk, IfErr, IfSome, length, slice_get, vec_len, IsTrue};
 ghost use Rattle.tokend.specs.Line.{HasWords, words_at};
-ghost use Rattle.tokend.specs.Script.{greatest_length, lines_of, AreEvents, IsFaultOf, IsInputFault, IsTooLong};
+ghost use Rattle.tokend.specs.Script.{greatest_length, lines_of, AreEvents, AreShort, IsFaultOf, IsInputFault, IsTooLong};
 
 use crate::fault::{Fault, LineError};
 use crate::line::event;
@@ -39,6 +39,7 @@ pub(crate) fn read_events(
 ) -> Result<Vec<Event>, Fault>
     requires { length script.now ≤ greatest_length }
     ensures found { IfOk result (λ events. AreEvents (lines_of script.now) events.items) }
+    ensures short { IfOk result (λ events. AreShort longest events.items) }
     ensures words { IfOk result (λ events. (k : ℕ) → IfSome (slice_get events.items k) (HasWords (words_at k))) }
     ensures fault { IfErr result (IsFaultOf longest script.now) }
 {

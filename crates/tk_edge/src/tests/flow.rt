@@ -197,7 +197,7 @@ fn takes_step(
 #[test]
 fn a_code_flow_has_these_replies(rt: HostRuntime) -> Result<(), Fail> {
     let alloc = rt.alloc();
-    let mut edge = new_edge(alloc)?;
+    let mut edge = new_edge(alloc).ok_or("an edge")?;
     let mut event = 0u64;
     for row in ROWS {
         takes_step(&rt, alloc, &mut edge, event, row)?;

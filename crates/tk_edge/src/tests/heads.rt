@@ -173,7 +173,7 @@ fn a_body_of_the_greatest_length_is_read(rt: HostRuntime) -> Result<(), Fail> {
     let alloc = rt.alloc();
     let added = reply(alloc, "201 Created", "", "{\"client_id\":\"c1-1\"}")?;
     let refused = error_reply(alloc, "413 Content Too Large", "", "too_large")?;
-    let mut edge = new_edge(alloc)?;
+    let mut edge = new_edge(alloc).ok_or("an edge")?;
     assert!(rt; answers(alloc, &mut edge, 16_384, added.as_str())?);
     assert!(rt; answers(alloc, &mut edge, 16_385, refused.as_str())?);
     assert_eq!(rt; edge.region().len(), 1);

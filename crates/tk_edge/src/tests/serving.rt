@@ -1,10 +1,10 @@
 //! Connections over memory that fails: what each device holds then, and what the edge.
 
-use super::{moment, new_edge, reply, words_at};
+use super::{new_edge, words_at};
 use crate::{Discard, Edge, Fails, Fault, FrailSink, FrailSource, Served, Sink, Source};
 use std::alloc::Global;
-use std::process::Abort;
 use std::test::Fail;
+use tk_handle::Moment;
 use tk_message::Status;
 
 // A registration, which makes a fact.
@@ -29,65 +29,96 @@ struct End {
     written: usize,
 }
 
+// Serves one connection over these devices.
 fn serve(
     alloc: Global,
     edge: &mut Edge,
     reader: &mut FrailSource<'_>,
     writer: &mut FrailSink,
     log: &mut FrailSink,
-) -> Result<Result<Served, Fault>, Fail> {
+) -> Option<Result<Served, Fault>> {
     let mut buffer = [0u8; 8_192];
-    Ok(edge.serve_one(
-        alloc,
-        reader,
-        writer,
-        log,
-        &mut buffer,
-        moment(1_000)?,
-        &words_at(0),
-    ))
+    let now = Moment::new(1_000)?;
+    Some(edge.serve_one(alloc, reader, writer, log, &mut buffer, now, &words_at(0)))
 }
 
-fn begins(whole: &[u8], part: &[u8]) -> Result<usize, Fail> {
-    if !whole.starts_with(part) {
-        return Err("other bytes")?;
+// How many bytes the part has, which begins the whole.
+fn begins(whole: &[u8], part: &[u8]) -> Option<usize> {
+    if whole.starts_with(part) {
+        Some(part.len())
+    } else {
+        None
     }
-    Ok(part.len())
 }
 
-// A registration over devices of which these calls fail.
-fn ended(alloc: Global, read: Fails, write: Fails, log: Fails) -> Result<End, Fail> {
-    let mut edge = new_edge(alloc)?;
-    let mut writer = FrailSink::new(alloc, STEP, write);
-    let mut log = FrailSink::new(alloc, STEP, log);
-    let mut reader = FrailSource::new(REQUEST, STEP, read);
-    let result = serve(alloc, &mut edge, &mut reader, &mut writer, &mut log)?;
-    let want = reply(alloc, "201 Created", "", "{\"client_id\":\"c1-1\"}")?;
-    Ok(End {
-        result,
+// What stands after a connection. None where other bytes were given than the record's and the reply's.
+fn end_of(
+    ended: Option<Result<Served, Fault>>,
+    edge: &Edge,
+    logged: &[u8],
+    written: &[u8],
+    reply: &[u8],
+) -> Option<End> {
+    Some(End {
+        result: ended?,
         facts: edge.region().len(),
         sealed: edge.sealed(),
-        logged: begins(RECORD, log.bytes.as_slice())?,
-        written: begins(want.as_bytes(), writer.bytes.as_slice())?,
+        logged: begins(RECORD, logged)?,
+        written: begins(reply, written)?,
     })
+}
+
+// A connection over devices of which these calls fail, whose client sends the bytes and is to get this reply.
+fn ended_at(
+    alloc: Global,
+    edge: &mut Edge,
+    bytes: &[u8],
+    reply: &[u8],
+    [read, write, log]: [Fails; 3],
+) -> Option<End> {
+    let mut writer = FrailSink::new(alloc, STEP, write);
+    let mut log = FrailSink::new(alloc, STEP, log);
+    let mut reader = FrailSource::new(bytes, STEP, read);
+    let result = serve(alloc, edge, &mut reader, &mut writer, &mut log);
+    end_of(
+        result,
+        edge,
+        log.bytes.as_slice(),
+        writer.bytes.as_slice(),
+        reply,
+    )
+}
+
+const CREATED: &[u8] =
+    b"HTTP/1.1 201 Created\r\nContent-Type: application/json\r\nContent-Length: 20\r\nCache-Control: no-store\r\nPragma: no-cache\r\nConnection: close\r\n\r\n{\"client_id\":\"c1-1\"}";
+
+// A registration at a new edge, over devices of which these calls fail.
+fn ended(alloc: Global, read: Fails, write: Fails, log: Fails) -> Option<End> {
+    let mut edge = new_edge(alloc)?;
+    ended_at(alloc, &mut edge, REQUEST, CREATED, [read, write, log])
 }
 
 const DONE: Result<Served, Fault> = Ok(Served::Done(Status::Created));
 
+// Whether it ends well.
+fn is_done(end: Option<End>) -> bool {
+    match end {
+        Some(end) => end.result == DONE,
+        None => false,
+    }
+}
+
 #[test]
 fn a_request_is_served_from_its_record_to_its_reply(rt: HostRuntime) -> Result<(), Fail> {
-    let alloc = rt.alloc();
-    let end = ended(alloc, Fails::Never, Fails::Never, Fails::Never)?;
-    assert_eq!(rt;
-        end,
-        End {
-            result: DONE,
-            facts: 1,
-            sealed: false,
-            logged: 51,
-            written: 158
-        }
-    );
+    let end = ended(rt.alloc(), Fails::Never, Fails::Never, Fails::Never);
+    let want = End {
+        result: DONE,
+        facts: 1,
+        sealed: false,
+        logged: 51,
+        written: 158,
+    };
+    assert!(rt; end == Some(want));
     Ok(())
 }
 
@@ -104,7 +135,6 @@ fn both(call: u64) -> [Fails; 2] {
 
 #[test]
 fn a_reader_that_fails_changes_nothing(rt: HostRuntime) -> Result<(), Fail> {
-    let alloc = rt.alloc();
     let none = End {
         result: Err(Fault::Read),
         facts: 0,
@@ -114,21 +144,20 @@ fn a_reader_that_fails_changes_nothing(rt: HostRuntime) -> Result<(), Fail> {
     };
     for call in 0..READS {
         for fails in both(call) {
-            let end = ended(alloc, fails, Fails::Never, Fails::Never)?;
-            assert_eq!(rt; end, none, "call {call}");
+            let end = ended(rt.alloc(), fails, Fails::Never, Fails::Never);
+            assert!(rt; end == Some(none), "call {call}");
         }
     }
-    let end = ended(alloc, Fails::From(READS), Fails::Never, Fails::Never)?;
-    assert_eq!(rt; end.result, DONE, "no call is left");
+    let end = ended(rt.alloc(), Fails::From(READS), Fails::Never, Fails::Never);
+    assert!(rt; is_done(end), "no call is left");
     Ok(())
 }
 
 #[test]
 fn a_log_that_fails_seals_before_the_reply(rt: HostRuntime) -> Result<(), Fail> {
-    let alloc = rt.alloc();
     for call in 0..=PUTS {
         for fails in both(call) {
-            let end = ended(alloc, Fails::Never, Fails::Never, fails)?;
+            let end = ended(rt.alloc(), Fails::Never, Fails::Never, fails);
             let logged = if call == PUTS {
                 51
             } else {
@@ -141,133 +170,153 @@ fn a_log_that_fails_seals_before_the_reply(rt: HostRuntime) -> Result<(), Fail> 
                 logged,
                 written: 0,
             };
-            assert_eq!(rt; end, want, "call {call}");
+            assert!(rt; end == Some(want), "call {call}");
         }
     }
-    let end = ended(alloc, Fails::Never, Fails::Never, Fails::From(PUTS + 1))?;
-    assert_eq!(rt; end.result, DONE, "no call is left");
+    let end = ended(
+        rt.alloc(),
+        Fails::Never,
+        Fails::Never,
+        Fails::From(PUTS + 1),
+    );
+    assert!(rt; is_done(end), "no call is left");
     Ok(())
 }
 
 #[test]
 fn a_writer_that_fails_leaves_fact_and_record(rt: HostRuntime) -> Result<(), Fail> {
-    let alloc = rt.alloc();
     for call in 0..WRITES {
         for fails in both(call) {
-            let end = ended(alloc, Fails::Never, fails, Fails::Never)?;
-            let written = call as usize * STEP;
+            let end = ended(rt.alloc(), Fails::Never, fails, Fails::Never);
             let want = End {
                 result: Err(Fault::Write),
                 facts: 1,
                 sealed: false,
                 logged: 51,
-                written,
+                written: call as usize * STEP,
             };
-            assert_eq!(rt; end, want, "call {call}");
+            assert!(rt; end == Some(want), "call {call}");
         }
     }
-    let end = ended(alloc, Fails::Never, Fails::From(WRITES), Fails::Never)?;
-    assert_eq!(rt; end.result, DONE, "no call is left");
+    let end = ended(rt.alloc(), Fails::Never, Fails::From(WRITES), Fails::Never);
+    assert!(rt; is_done(end), "no call is left");
     Ok(())
 }
 
 // An edge whose log has failed.
-fn sealed(alloc: Global) -> Result<Edge, Fail> {
+fn sealed(alloc: Global) -> Option<Edge> {
     let mut edge = new_edge(alloc)?;
-    let mut writer = FrailSink::new(alloc, STEP, Fails::Never);
-    let mut log = FrailSink::new(alloc, STEP, Fails::At(0));
-    let mut reader = FrailSource::new(REQUEST, STEP, Fails::Never);
-    let _fault = serve(alloc, &mut edge, &mut reader, &mut writer, &mut log)?;
-    Ok(edge)
+    let never = Fails::Never;
+    let _end = ended_at(
+        alloc,
+        &mut edge,
+        REQUEST,
+        CREATED,
+        [never, never, Fails::At(0)],
+    );
+    Some(edge)
 }
 
-fn is_turned_away(rt: &impl Abort, alloc: Global, edge: &mut Edge) -> Result<(), Fail> {
+const AWAY: &[u8] =
+    b"HTTP/1.1 503 Service Unavailable\r\nContent-Type: application/json\r\nContent-Length: 35\r\nCache-Control: no-store\r\nPragma: no-cache\r\nConnection: close\r\n\r\n{\"error\":\"temporarily_unavailable\"}";
+
+// Whether it answers 503 with these calls of reader and log, none, and its one fact.
+fn is_turned_away(alloc: Global, edge: &mut Edge) -> bool {
     let mut writer = FrailSink::new(alloc, STEP, Fails::Never);
     let mut log = FrailSink::new(alloc, STEP, Fails::Never);
     let mut reader = FrailSource::new(REQUEST, STEP, Fails::Never);
-    let result = serve(alloc, edge, &mut reader, &mut writer, &mut log)?;
-    assert_eq!(rt; result, Ok(Served::Done(Status::ServiceUnavailable)));
-    assert_eq!(rt; reader.calls, 0, "nothing is read");
-    assert_eq!(rt; log.calls, 0, "nothing is logged");
-    assert_eq!(rt; edge.region().len(), 1, "no fact is made");
-    let want = super::error_reply(
-        alloc,
-        "503 Service Unavailable",
-        "",
-        "temporarily_unavailable",
-    )?;
-    assert!(rt; writer.bytes.as_slice() == want.as_bytes());
-    Ok(())
+    let result = serve(alloc, edge, &mut reader, &mut writer, &mut log);
+    let is_away = result == Some(Ok(Served::Done(Status::ServiceUnavailable)));
+    let is_untouched = reader.calls == 0 && log.calls == 0 && edge.region().len() == 1;
+    is_away && is_untouched && writer.bytes.as_slice() == AWAY
+}
+
+// Whether an answer without devices is the same, and makes no record.
+fn is_answered_away(alloc: Global, edge: &mut Edge) -> bool {
+    let Some(now) = Moment::new(1_000) else {
+        return false;
+    };
+    match edge.answer(alloc, now, &words_at(0), REQUEST) {
+        Ok(answer) => {
+            answer.status == Status::ServiceUnavailable
+                && answer.logged.is_none()
+                && answer.bytes.as_slice() == AWAY
+        }
+        Err(_) => false,
+    }
 }
 
 #[test]
 fn a_sealed_edge_turns_away_without_reading(rt: HostRuntime) -> Result<(), Fail> {
-    let alloc = rt.alloc();
-    let mut edge = sealed(alloc)?;
-    is_turned_away(&rt, alloc, &mut edge)?;
-    is_turned_away(&rt, alloc, &mut edge)?;
-    let answer = edge.answer(alloc, moment(1_000)?, &words_at(0), REQUEST)?;
-    assert_eq!(rt; answer.status, Status::ServiceUnavailable);
-    assert!(rt; answer.logged.is_none());
+    let mut edge = sealed(rt.alloc()).ok_or("an edge")?;
+    assert!(rt; is_turned_away(rt.alloc(), &mut edge), "once");
+    assert!(rt; is_turned_away(rt.alloc(), &mut edge), "again");
+    assert!(rt; is_answered_away(rt.alloc(), &mut edge), "without devices");
     Ok(())
+}
+
+// Whether a client's side that fails at a sealed edge is a fault, with one piece of the reply given.
+fn is_write_fault(alloc: Global, edge: &mut Edge) -> bool {
+    let mut writer = FrailSink::new(alloc, STEP, Fails::At(1));
+    let mut log = FrailSink::new(alloc, STEP, Fails::Never);
+    let mut reader = FrailSource::new(REQUEST, STEP, Fails::Never);
+    let result = serve(alloc, edge, &mut reader, &mut writer, &mut log);
+    let is_fault = result == Some(Err(Fault::Write));
+    is_fault && writer.bytes.len() == STEP && writer.failures == 1
 }
 
 #[test]
 fn a_writer_that_fails_at_a_sealed_edge_is_a_fault(rt: HostRuntime) -> Result<(), Fail> {
-    let alloc = rt.alloc();
-    let mut edge = sealed(alloc)?;
-    let mut writer = FrailSink::new(alloc, STEP, Fails::At(1));
-    let mut log = FrailSink::new(alloc, STEP, Fails::Never);
-    let mut reader = FrailSource::new(REQUEST, STEP, Fails::Never);
-    let result = serve(alloc, &mut edge, &mut reader, &mut writer, &mut log)?;
-    assert_eq!(rt; result, Err(Fault::Write));
-    assert_eq!(rt; writer.bytes.len(), STEP);
-    assert_eq!(rt; writer.failures, 1);
+    let mut edge = sealed(rt.alloc()).ok_or("an edge")?;
+    assert!(rt; is_write_fault(rt.alloc(), &mut edge));
     Ok(())
+}
+
+// Whether a stream without a byte is answered with nothing, and nothing is called for it.
+fn is_nothing(alloc: Global, edge: &mut Edge) -> bool {
+    let mut writer = FrailSink::new(alloc, STEP, Fails::Never);
+    let mut log = FrailSink::new(alloc, STEP, Fails::Never);
+    let mut reader = FrailSource::new(b"", STEP, Fails::Never);
+    let result = serve(alloc, edge, &mut reader, &mut writer, &mut log);
+    result == Some(Ok(Served::Nothing)) && writer.calls == 0 && log.calls == 0
 }
 
 #[test]
 fn a_stream_without_a_byte_is_nothing(rt: HostRuntime) -> Result<(), Fail> {
-    let alloc = rt.alloc();
-    let mut edge = new_edge(alloc)?;
-    let mut writer = FrailSink::new(alloc, STEP, Fails::Never);
-    let mut log = FrailSink::new(alloc, STEP, Fails::Never);
-    let mut reader = FrailSource::new(b"", STEP, Fails::Never);
-    let result = serve(alloc, &mut edge, &mut reader, &mut writer, &mut log)?;
-    assert_eq!(rt; result, Ok(Served::Nothing));
-    assert_eq!(rt; writer.calls, 0);
-    assert_eq!(rt; log.calls, 0);
+    let mut edge = new_edge(rt.alloc()).ok_or("an edge")?;
+    assert!(rt; is_nothing(rt.alloc(), &mut edge));
     Ok(())
 }
 
-// The request's first bytes, however many, and how many facts came of it.
-fn cut(alloc: Global, length: usize, step: usize) -> Result<(u64, bool), Fail> {
+// How many facts the request's first bytes make, so many a call, and whether they are answered as the whole.
+fn cut(alloc: Global, length: usize, step: usize) -> Option<(u64, bool)> {
+    let front = REQUEST.get(..length)?;
     let mut edge = new_edge(alloc)?;
     let mut writer = FrailSink::new(alloc, 1_000, Fails::Never);
     let mut log = FrailSink::new(alloc, 1_000, Fails::Never);
-    let front = REQUEST.get(..length).ok_or("a length")?;
     let mut reader = FrailSource::new(front, step.max(1), Fails::Never);
-    let result = serve(alloc, &mut edge, &mut reader, &mut writer, &mut log)?;
-    Ok((edge.region().len(), result == DONE))
+    let result = serve(alloc, &mut edge, &mut reader, &mut writer, &mut log);
+    Some((edge.region().len(), result == Some(DONE)))
 }
 
 #[test]
 fn a_request_that_is_cut_makes_no_fact(rt: HostRuntime) -> Result<(), Fail> {
-    let alloc = rt.alloc();
     for length in 0..REQUEST.len() {
-        assert_eq!(rt; cut(alloc, length, 1_000)?, (0, false), "{length}");
+        let made = cut(rt.alloc(), length, 1_000);
+        assert!(rt; made == Some((0, false)), "{length}");
     }
     for step in 1..REQUEST.len() {
-        assert_eq!(rt; cut(alloc, REQUEST.len(), step)?, (1, true), "by {step}");
+        let made = cut(rt.alloc(), REQUEST.len(), step);
+        assert!(rt; made == Some((1, true)), "by {step}");
     }
     Ok(())
 }
 
-// Without a log, and over std's own reader and writer.
-#[test]
-fn std_readers_and_writers_serve(rt: HostRuntime) -> Result<(), Fail> {
-    let alloc = rt.alloc();
-    let mut edge = new_edge(alloc)?;
+// Whether a registration is served without a log, and over std's own reader and writer.
+fn is_served_by_std(alloc: Global, edge: &mut Edge) -> bool {
+    let Some(now) = Moment::new(1_000) else {
+        return false;
+    };
     let mut log = Discard;
     let mut reader = crate::Counted::new(REQUEST);
     let mut writer = crate::Counted::new(Vec::new(alloc));
@@ -278,12 +327,16 @@ fn std_readers_and_writers_serve(rt: HostRuntime) -> Result<(), Fail> {
         &mut writer,
         &mut log,
         &mut buffer,
-        moment(1_000)?,
+        now,
         &words_at(0),
     );
-    assert_eq!(rt; result, DONE);
-    assert_eq!(rt; reader.failures(), 0);
-    assert_eq!(rt; Sink::failures(&log), 0);
-    assert_eq!(rt; writer.inner.len(), 158);
+    let is_quiet = reader.failures() == 0 && Sink::failures(&log) == 0;
+    result == DONE && is_quiet && writer.inner.as_slice() == CREATED
+}
+
+#[test]
+fn std_readers_and_writers_serve(rt: HostRuntime) -> Result<(), Fail> {
+    let mut edge = new_edge(rt.alloc()).ok_or("an edge")?;
+    assert!(rt; is_served_by_std(rt.alloc(), &mut edge));
     Ok(())
 }

@@ -1,7 +1,7 @@
 use Rattle.std.proofs.Common.{rules}
 use Rattle.tokend.specs.Printed.{lines_text}
 use Rattle.tokend.specs.LoopbackRun.{IsLoopbackRun}
-use Rattle.tokend.proofs.Loopbacks.{loopback_begun, loopback_printed, socket_fault}
+use Rattle.tokend.proofs.Loopbacks.{loopback_begun, loopback_printed}
 use Rattle.tokend.proofs.program.run_loopback.Goals as goal
 
 pub returns-in-Ok-clause-done : goal.returns-in-Ok-clause-done
@@ -11,6 +11,7 @@ returns-in-Ok-clause-done g c =
       events = c.in_ok-events.events.items;
       outcomes = c.in_ok-outcomes.outcomes.items;
       found = search rules;
+      within = search rules;
       each = search rules;
       printed = search rules;
     } in
@@ -23,6 +24,7 @@ returns-clause-left g c =
       events = c.in_ok-events.events.items;
       outcomes = c.in_ok-outcomes.outcomes.items;
       found = search rules;
+      within = search rules;
       each = search rules;
       printed = search rules;
     } in

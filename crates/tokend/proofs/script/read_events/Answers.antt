@@ -5,7 +5,7 @@ use Rattle.std.proofs.lemmas.Iterator.Splits.{YieldsList-from_slice_split}
 use Rattle.std.proofs.lemmas.Iterator.Consumers.{YieldsList-from_enumerate, YieldsList-so_far, YieldsList-turn, YieldsList-end}
 use Rattle.tokend.specs.Line.{IsEventLine}
 use Rattle.tokend.specs.Script.{is_told, lines_of, IsTooLong}
-use Rattle.tokend.proofs.EventWords.{words_pushed}
+use Rattle.tokend.proofs.EventWords.{short_pushed, words_pushed}
 use Rattle.tokend.proofs.ScriptEvents.{told_line, all_lines, first_bad, grown_told}
 use Rattle.tokend.proofs.script.read_events.Goals as goal
 
@@ -17,6 +17,7 @@ loop-at-preserved c =
       is_finite = search rules;
       few = grind (arith, common_steps);
       words = rw c.in_ok-push-in-Ok-2.ensures.items (words_pushed c.loop-at.events.items c.in-Ok.event c.loop-at.invariant.words (search rules));
+      short = rw c.in_ok-push-in-Ok-2.ensures.items (short_pushed c.args.longest c.loop-at.events.items c.in-Ok.event c.loop-at.invariant.short (λ long. search rules));
       events = grown_told c.loop-at.yielded (c.in-Some.at, c.in-Some.line) c.loop-at.events.items _ c.in-Ok.event (search rules) c.loop-at.invariant.events told (search rules);
     }
 

@@ -1,6 +1,6 @@
 use Rattle.std.proofs.Common.{ℕ, ◌≤◌, IfSome, length, slice_get, vec_len}
 use Rattle.tokend.specs.Line.{HasWords, words_at}
-use Rattle.tokend.specs.Script.{AreEvents}
+use Rattle.tokend.specs.Script.{AreEvents, AreShort}
 use Rattle.tokend.proofs.ScriptEvents.{lines_in}
 use Rattle.tokend.proofs.script.read_events.Given as goal
 
@@ -10,5 +10,6 @@ invariant-loop-at l = record {
   is_finite : (goal.iterator-loop-at).is_finite l.at-iterator;
   few : vec_len l.events ≤ length l.yielded;
   words : (k : ℕ) → IfSome (slice_get l.events.items k) (HasWords (words_at k));
+  short : AreShort l.fn.longest l.events.items;
   events : AreEvents (lines_in l.yielded) l.events.items;
 }
