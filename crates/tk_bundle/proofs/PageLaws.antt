@@ -3,7 +3,7 @@
 --   dots_are        the first dots beyond a vector are those of the page's facts
 --   page_is         a page at these dots is the page
 --   page_fits       a page has a spelling
-use Rattle.std.proofs.Common.{◌≡◌, ℕ, ◌+◌, ◌<◌, ◌≤◌, ◌^◌, Bool, true, false, ◌&&◌, cond, T, nat_lt, nat_le, List, [], ◌∷◌, ◌++◌, get_or, length, map, min, filter, take, zero, suc, Some, None, refl, sym, ap, subst, ◌∙◌, append_assoc, arith}
+use Rattle.std.proofs.Common.{◌≡◌, ℕ, ◌+◌, ◌<◌, ◌≤◌, ◌^◌, ◌-◌, Bool, true, false, ◌&&◌, cond, T, nat_lt, nat_le, List, [], ◌∷◌, ◌++◌, get_or, length, map, min, filter, take, zero, suc, Option, Some, None, slice_get, refl, sym, ap, subst, ◌∙◌, append_assoc, arith}
 use Rattle.std.specs.List.{AllByRecursion, cons_option, flat_map}
 use Rattle.std.specs.Option.{option_map}
 use Rattle.std.specs.FinMap as sets
@@ -20,6 +20,7 @@ use Rattle.tk_fact.specs.FactBytes.{framed}
 use Rattle.tk_vector.specs.VersionVector.{Vector}
 use Rattle.tk_store.specs.FactSet.{FactSet, Facts, AllIn, dot_of}
 use Rattle.tk_store.specs.Beyond.{beyond, is_beyond}
+use Rattle.tk_store.specs.Paging.{page}
 use Rattle.tk_store.specs.Walk.{above, is_above}
 use Rattle.tk_store.proofs.EntryLaws.{AllIn-beyond}
 use Rattle.tk_store.proofs.SubsetLaws.{AllIn-take}
@@ -60,11 +61,11 @@ pub more_fits : (F : FactSet) (dots : List Dot) (i : ℕ) (dot : Dot) → i < le
 more_fits F dots i dot within is so_far one = subst (AllByRecursion framed.Fits) (facts_at-more F dots i dot within is) (all_append (facts_at F (take i dots)) (facts_at F (dot ∷ [])) so_far one)
 
 -- the first dots beyond a vector are those of the first facts
-pub dots_are : (F : FactSet) (v : Vector) (limit : ℕ) → take limit (take (limit + 1) (map dot_of (beyond F v None))) ≡ map dot_of (take limit (beyond F v None))
-dots_are F v limit = take-take limit (limit + 1) (map dot_of (beyond F v None)) (omega arith) ∙ take-map dot_of limit (beyond F v None)
+pub dots_are : (F : FactSet) (v : Vector) (after : Option Dot) (limit : ℕ) → take limit (take (limit + 1) (map dot_of (beyond F v after))) ≡ map dot_of (take limit (beyond F v after))
+dots_are F v after limit = take-take limit (limit + 1) (map dot_of (beyond F v after)) (omega arith) ∙ take-map dot_of limit (beyond F v after)
 
-page_facts : (F : FactSet) (v : Vector) (limit : ℕ) → facts_at F (map dot_of (take limit (beyond F v None))) ≡ take limit (beyond F v None)
-page_facts F v limit = facts_at-dots F (take limit (beyond F v None)) (AllIn-take F limit (beyond F v None) (AllIn-beyond F v None))
+page_facts : (F : FactSet) (v : Vector) (after : Option Dot) (limit : ℕ) → facts_at F (map dot_of (take limit (beyond F v after))) ≡ take limit (beyond F v after)
+page_facts F v after limit = facts_at-dots F (take limit (beyond F v after)) (AllIn-take F limit (beyond F v after) (AllIn-beyond F v after))
 
 -- one dot more than there is room for tells whether more follow
 pub page_more : (fs : Facts) (limit : ℕ) → nat_lt limit (length (take (limit + 1) (map dot_of fs))) ≡ nat_lt limit (length fs)
@@ -78,15 +79,15 @@ short_dots dots limit low = omega (arith, length-take limit dots)
 
 -- ---- the page in bytes
 
-pub page_is : (page : Page) (F : FactSet) (v : Vector) (limit : ℕ) (dots : List Dot) (more : Bool) → dots ≡ map dot_of (take limit (beyond F v None)) → more ≡ nat_lt limit (length (beyond F v None)) → IsPageAt page F dots more → IsPageOf page (page_within limit (beyond F v None))
-page_is page F v limit dots more same follows at =
-    let fs = take limit (beyond F v None) in
+pub page_is : (made : Page) (F : FactSet) (v : Vector) (after : Option Dot) (limit : ℕ) (dots : List Dot) (more : Bool) → dots ≡ map dot_of (take limit (beyond F v after)) → more ≡ nat_lt limit (length (beyond F v after)) → IsPageAt made F dots more → IsPageOf made (page_within limit F v after)
+page_is made F v after limit dots more same follows at =
+    let fs = take limit (beyond F v after) in
     let count : length dots ≡ length fs = ap length same ∙ length-map fs dot_of in
-    let facts : facts_at F dots ≡ fs = ap (facts_at F) same ∙ page_facts F v limit in
+    let facts : facts_at F dots ≡ fs = ap (facts_at F) same ∙ page_facts F v after limit in
     record {
       bytes = at.bytes ∙ rw (count, facts) refl;
       count = at.count ∙ count;
-      last = at.last ∙ ap last_of same;
+      last = at.last ∙ ap last_of same ∙ ap (λ n. slice_get (map dot_of fs) (n - 1)) (length-map fs dot_of);
       more = at.more ∙ follows;
     }
 
@@ -138,12 +139,12 @@ ascends_sorted [] sorted = refl
 ascends_sorted (e ∷ es) sorted = let s = both _ _ sorted in ascends_above e.0 es s.0 s.1
 
 -- so a page has a spelling
-pub page_fits : (F : FactSet) (v : Vector) (limit : ℕ) (dots : List Dot) → limit ≤ most_facts → dots ≡ map dot_of (take limit (beyond F v None)) → AllByRecursion framed.Fits (facts_at F dots) → bundle.Fits (take limit (beyond F v None))
-page_fits F v limit dots low same fits =
-    let fs = take limit (beyond F v None) in
-    let facts : facts_at F dots ≡ fs = ap (facts_at F) same ∙ page_facts F v limit in
-    let short : length fs ≤ most_facts = omega (arith, length-take limit (beyond F v None)) in
-    (((small (length fs) short, few (length fs) short), subst (AllByRecursion framed.Fits) facts fits), ascends_sorted fs (sorted-take limit (beyond F v None) (sorted-filter (is_beyond v) (above F None) (sorted-filter (is_above None) (sets.entries F) (sets.entries_sorted F)))))
+pub page_fits : (F : FactSet) (v : Vector) (after : Option Dot) (limit : ℕ) (dots : List Dot) → limit ≤ most_facts → dots ≡ map dot_of (take limit (beyond F v after)) → AllByRecursion framed.Fits (facts_at F dots) → bundle.Fits (take limit (beyond F v after))
+page_fits F v after limit dots low same fits =
+    let fs = take limit (beyond F v after) in
+    let facts : facts_at F dots ≡ fs = ap (facts_at F) same ∙ page_facts F v after limit in
+    let short : length fs ≤ most_facts = omega (arith, length-take limit (beyond F v after)) in
+    (((small (length fs) short, few (length fs) short), subst (AllByRecursion framed.Fits) facts fits), ascends_sorted fs (sorted-take limit (beyond F v after) (sorted-filter (is_beyond v) (above F after) (sorted-filter (is_above after) (sets.entries F) (sets.entries_sorted F)))))
   where
     small : (n : ℕ) → n ≤ most_facts → n < 2 ^ 16
     small n h = omega arith

@@ -1,8 +1,8 @@
--- What a vector leaves of a set: the first facts that it doesn't cover (own).
+-- What a vector leaves of a set above a place: the first facts that it doesn't cover (own).
 --   page_of    the facts of a page, the dot of the last, and whether more follow
 --   IsPageOf   the parts of a page in bytes are these
 --   facts_at   what a set holds at some dots
-use Rattle.std.specs.Prelude.{◌≡◌, ℕ, ◌-◌, Bool, nat_lt, List, ◌++◌, length, map, take, slice_get, Option, None}
+use Rattle.std.specs.Prelude.{◌≡◌, ℕ, ◌-◌, Bool, nat_lt, List, ◌++◌, length, slice_get, Option}
 use Rattle.std.specs.Int.{w16}
 use Rattle.std.specs.List.{filter_map, flat_map}
 use Rattle.tk_format.specs.Format.{number}
@@ -12,8 +12,9 @@ use Rattle.std.specs.FinMap as sets
 use Rattle.tk_handle.specs.declared.dot.Dot.{Dot}
 use Rattle.tk_fact.specs.declared.body.Body.{Body}
 use Rattle.tk_vector.specs.VersionVector.{Vector}
-use Rattle.tk_store.specs.FactSet.{FactSet, Facts, dot_of}
+use Rattle.tk_store.specs.FactSet.{FactSet, Facts}
 use Rattle.tk_store.specs.Beyond.{beyond}
+use Rattle.tk_store.specs.Paging.{page, last_dot}
 use Rattle.tk_bundle.specs.Bundle.{magic, most_facts, bundle_bytes}
 use Rattle.tk_bundle.specs.declared.page.Page.{Page}
 
@@ -26,13 +27,17 @@ pub record PageFields : Type 0 where
 abbrev pub last_of : List Dot → Option Dot
 last_of dots = slice_get dots (length dots - 1)
 
--- as many of these facts as a page may have
-abbrev pub page_within : ℕ → Facts → PageFields
-page_within limit fs = record { facts = take limit fs; last = last_of (map dot_of (take limit fs)); more = nat_lt limit (length fs) }
+-- as many of the facts as the limit says, which the vector doesn't cover and which stand above the place, if one is given
+abbrev pub page_within : ℕ → FactSet → Vector → Option Dot → PageFields
+page_within limit F v after = record {
+  facts = page limit F v after;
+  last = last_dot (page limit F v after);
+  more = nat_lt limit (length (beyond F v after));
+}
 
 -- a page is a bundle, and has as many facts at most
-abbrev pub page_of : FactSet → Vector → PageFields
-page_of F v = page_within most_facts (beyond F v None)
+abbrev pub page_of : FactSet → Vector → Option Dot → PageFields
+page_of F v after = page_within most_facts F v after
 
 -- the page has these facts in bytes, their number, the dot of the last, and tells whether more follow
 pub record IsPageOf (page : Page) (fields : PageFields) : Type 0 where

@@ -15,14 +15,14 @@ pub struct Page {
     pub more: bool,
 }
 
-ghost use Rattle.std.specs.Prelude.{◌≡◌, ◌≤◌, ◌++◌, ◌∷◌, [], IfOk, OnOk, None, length, take};
+ghost use Rattle.std.specs.Prelude.{◌≡◌, ◌≤◌, ◌++◌, ◌∷◌, [], IfOk, OnOk, None, length};
 ghost use Rattle.std.specs.Int.{w16};
 ghost use Rattle.std.specs.List.{AllByRecursion, flat_map};
 ghost use Rattle.tk_format.specs.Format.{number};
 ghost use Rattle.tk_fact.specs.Check.{refusal_of};
 ghost use Rattle.tk_fact.specs.FactBytes.{framed};
 ghost use Rattle.tk_store.specs.Store.{facts_of, known_in};
-ghost use Rattle.tk_store.specs.Beyond.{beyond};
+ghost use Rattle.tk_store.specs.Paging as paging;
 ghost use Rattle.tk_bundle.specs.Bundle.{magic, most_facts, bundle, bundle_bytes};
 ghost use Rattle.tk_bundle.specs.Page as spec;
 
@@ -33,14 +33,20 @@ use tk_format::Writer;
 use tk_store::FactStore;
 use tk_vector::VersionVector;
 
-/// The first 128 facts that the vector doesn't cover, as a bundle.
-pub fn make(alloc: Global, store: &FactStore, vector: &VersionVector) -> Result<Page, AllocError>
-    ensures page { IfOk result (λ page. spec.IsPageOf page (spec.page_of (known_in store.now) vector.now)) }
+/// The first 128 facts that the vector doesn't cover and that stand above the dot, if one is given, as a bundle. Where
+/// more follow, the next page is that above the last one's dot.
+pub fn make(
+    alloc: Global,
+    store: &FactStore,
+    vector: &VersionVector,
+    after: Option<Dot>,
+) -> Result<Page, AllocError>
+    ensures page { IfOk result (λ page. spec.IsPageOf page (spec.page_of (known_in store.now) vector.now after)) }
 
     // So it can be read.
-    ensures fits { OnOk result (bundle.Fits (spec.page_of (known_in store.now) vector.now).facts) }
+    ensures fits { OnOk result (bundle.Fits (spec.page_of (known_in store.now) vector.now after).facts) }
 {
-    page_within(alloc, store, vector, MOST_FACTS as usize)
+    page_within(alloc, store, vector, after, MOST_FACTS as usize)
 }
 
 // One more dot than the page has room for tells whether more follow.
@@ -48,13 +54,14 @@ fn page_within(
     alloc: Global,
     store: &FactStore,
     vector: &VersionVector,
+    after: Option<Dot>,
     limit: usize,
 ) -> Result<Page, AllocError>
     requires { limit ≤ most_facts }
-    ensures page { IfOk result (λ page. spec.IsPageOf page (spec.page_within limit (beyond (known_in store.now) vector.now None))) }
-    ensures fits { OnOk result (bundle.Fits (take limit (beyond (known_in store.now) vector.now None))) }
+    ensures page { IfOk result (λ page. spec.IsPageOf page (spec.page_within limit (known_in store.now) vector.now after)) }
+    ensures fits { OnOk result (bundle.Fits (paging.page limit (known_in store.now) vector.now after)) }
 {
-    let mut dots = store.since(alloc, vector, None, limit + 1)?;
+    let mut dots = store.since(alloc, vector, after, limit + 1)?;
     let more = dots.as_slice().len() > limit;
     dots.truncate(limit);
     page_at(alloc, store, &dots, more)

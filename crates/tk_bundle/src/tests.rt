@@ -6,6 +6,7 @@ use std::alloc::Global;
 use std::test::Fail;
 use tk_fact::Fact;
 use tk_format::ReadError;
+use tk_handle::{Dot, RegionNumber};
 use tk_store::{Added, FactStore};
 use tk_vector::VersionVector;
 
@@ -170,12 +171,31 @@ fn leaves(
     alloc: Global,
     store: &FactStore,
     vector: &VersionVector,
+    after: Option<Dot>,
     bytes: &[u8],
     count: u16,
     last: (u16, u64),
 ) -> bool {
-    match make(alloc, store, vector) {
+    match make(alloc, store, vector, after) {
         Ok(page) => is_last_page(&page, bytes, count, last),
+        Err(_) => false,
+    }
+}
+
+// Whether nothing is left: a bundle of no fact.
+fn is_empty_page(
+    alloc: Global,
+    store: &FactStore,
+    vector: &VersionVector,
+    after: Option<Dot>,
+) -> bool {
+    match make(alloc, store, vector, after) {
+        Ok(page) => {
+            page.bytes.as_slice() == b"OTB1\x00\x00".as_slice()
+                && page.count == 0
+                && page.last.is_none()
+                && !page.more
+        }
         Err(_) => false,
     }
 }
@@ -187,10 +207,16 @@ fn a_page_is_what_the_vector_leaves(rt: HostRuntime) -> Result<(), Fail> {
     let retired = VersionVector::read_text(alloc, b"2:1")?;
     let mut store = FactStore::new(alloc);
     assert!(rt; add_all(alloc, &mut store, BOTH));
-    assert!(rt; leaves(alloc, &store, &none, BOTH, 2, (2, 1)), "all");
+    let first = Dot::new(RegionNumber::new(1).ok_or("a region")?, 1);
+    assert!(rt; leaves(alloc, &store, &none, None, BOTH, 2, (2, 1)), "all");
     assert!(rt;
-        leaves(alloc, &store, &retired, ADDED, 1, (1, 1)),
+        leaves(alloc, &store, &retired, None, ADDED, 1, (1, 1)),
         "the first"
     );
+    assert!(rt;
+        leaves(alloc, &store, &none, first, RETIRED, 1, (2, 1)),
+        "above the first"
+    );
+    assert!(rt; is_empty_page(alloc, &store, &retired, first), "nothing");
     Ok(())
 }

@@ -2,21 +2,31 @@
 --   gains_nothing    a region gains no facts, and is as it was
 --   answers_nothing  an answer without a fact changes nothing
 --   answers_request  what was prepared for a request is its answer
---   served           what replying to what was heard comes to is what a connection does; faulted, where it fails
-use Rattle.std.proofs.Common.{◌≡◌, ◌≢◌, ℕ, Bool, List, [], Option, None, Result, Ok, Err, IfOk, refl, subst}
+--   short_of         want of memory leaves the region as it was, or with the first facts of a bundle; short_answer, over bytes
+--   pulls            a page is given, and nothing changes
+--   served           what replying to what arrived comes to is what a connection does; faulted, where it fails
+use Rattle.std.proofs.Common.{◌≡◌, ◌≢◌, ℕ, Bool, List, [], Option, None, Some, Result, Ok, Err, IfOk, OnErr, refl, subst, inl, inr}
 use Rattle.std.specs.declared.alloc.AllocError.{AllocError}
+use Rattle.tk_format.specs.Format.{whole}
+use Rattle.tk_store.specs.Store.{known_in}
 use Rattle.tk_store.proofs.JoiningLaws.{joins_nothing}
 use Rattle.tk_message.specs.RequestFields.{RequestFields}
 use Rattle.tk_message.specs.declared.status.Status.{Status}
 use Rattle.tk_region.specs.RegionFields.{RegionFields, Gains}
 use Rattle.tk_region.specs.Step.{PreparedFields, prepared_of}
 use Rattle.tk_edge.specs.Answers.{rendered, Answers, AnswersBy}
-use Rattle.tk_edge.specs.Heard.{Hears}
-use Rattle.tk_edge.specs.Served.{Replies, IsServed}
+use Rattle.tk_edge.specs.Arrivals.{AnswersArrival, IsShort}
+use Rattle.tk_edge.specs.Exchanges.{Exchanges, page_reply}
+use Rattle.tk_edge.specs.Heard.{Arrives, IsArrival, MayArrive}
+use Rattle.tk_edge.specs.Pulls.{wanted}
+use Rattle.tk_edge.specs.Served.{Asked, Replies, IsServed}
 use Rattle.tk_edge.specs.Told.{AnswerFields, Change}
 use Rattle.tk_edge.specs.declared.edge.Served.TheVariants.{Done}
-use Rattle.tk_edge.specs.declared.hear.Heard.{Heard}
-use Rattle.tk_edge.specs.declared.hear.Heard.TheVariants.{Silence, Asked}
+use Rattle.tk_edge.specs.declared.exchange.Exchange.TheVariants.{Vector, Pull, Push}
+use Rattle.tk_edge.specs.declared.hear.Arrival.{Arrival}
+use Rattle.tk_edge.specs.declared.hear.Arrival.TheVariants.{Heard, Exchange}
+use Rattle.tk_edge.specs.declared.hear.Heard.TheVariants.{Silence}
+use Rattle.tk_edge.specs.declared.hear.Heard.TheVariants as heard
 use Rattle.tk_edge.specs.declared.tell.Fault.{Fault}
 use Rattle.tk_edge.specs.declared.tell.Fault.TheVariants.{Read, Write, Log, Memory}
 
@@ -28,22 +38,46 @@ answers_nothing r told (Ok a) h = (h, gains_nothing r, tt)
 answers_nothing r told (Err e) h = refl
 
 pub answers_request : (r : RegionFields) (now : ℕ) (words : List ℕ) (request : RequestFields) (p : PreparedFields) (result : Result AnswerFields AllocError) (new : RegionFields)
-    → p ≡ prepared_of r now words request → AnswersBy r (rendered p.reply None p.logged) p.fact result new → Answers r now words (Asked request) result new
+    → p ≡ prepared_of r now words request → AnswersBy r (rendered p.reply None p.logged) p.fact result new → Answers r now words (heard.Asked request) result new
 answers_request r now words request p result new is told =
     subst (λ (x : PreparedFields). AnswersBy r (rendered x.reply None x.logged) x.fact result new) is told
 
-module _ (now : ℕ) (words : List ℕ) (known : Option (List ℕ)) (heard : Heard) (old new seen : RegionFields) (same : old ≡ seen) (log writer : Change) (sealed : Bool) (hears : Hears known heard) (spoke : heard ≢ Silence) where
+-- want of memory leaves the region as it was, or with the first facts of a bundle
+pub short_of : (sync : Bool) (known : Option (List ℕ)) (now : ℕ) (words : List ℕ) (came : Arrival) (old new : RegionFields) (e : AllocError) → Arrives sync known came
+    → AnswersArrival old now words came (Err e) new → IsShort sync known old new
+short_of sync known now words (Heard heard) old new e arrives told = inl told
+short_of sync known now words (Exchange Vector) old new e arrives told = inl told
+short_of sync known now words (Exchange (Pull sent)) old new e arrives told = inl told
+short_of sync known now words (Exchange (Push sent)) old new e arrives told = inr (sent, arrives, told.0, told.1)
+
+-- where it comes over bytes that then end
+pub short_answer : (sync : Bool) (bytes : List ℕ) (now : ℕ) (words : List ℕ) (came : Arrival) (old new : RegionFields) (result : Result AnswerFields AllocError)
+    → IsArrival sync bytes came → MayArrive sync came → AnswersArrival old now words came result new → OnErr result (IsShort sync (Some bytes) old new)
+short_answer sync bytes now words came old new (Ok answer) is may told = tt
+short_answer sync bytes now words came old new (Err e) is may told = short_of sync (Some bytes) now words came old new e (may, λ b same. subst (λ x. IsArrival sync x came) (some_is b same) is) told
+  where
+    some_is : (b : List ℕ) → Some bytes ≡ Some b → bytes ≡ b
+    some_is b same = cc
+
+-- a page is given, and nothing changes
+pub pulls : (r : RegionFields) (sent : List ℕ) (result : Result AnswerFields AllocError) → IfOk result (λ a. a ≡ rendered (page_reply (known_in r.facts) (whole wanted sent)) None None)
+    → Exchanges r (Pull sent) result r
+pulls r sent (Ok a) h = (h, refl)
+pulls r sent (Err e) h = refl
+
+module _ (asked : Asked) (came : Arrival) (old new seen : RegionFields) (same : old ≡ seen) (log writer : Change) (sealed : Bool) (arrives : Arrives asked.sync asked.known came) (spoke : came ≢ Heard Silence) where
   -- by the region as contracts see it
-  as_seen : (result : Result Status Fault) → Replies now words heard (record { before = old; after = new }) log writer sealed result → Replies now words heard (record { before = seen; after = new }) log writer sealed result
-  as_seen result told = subst (λ r. Replies now words heard (record { before = r; after = new }) log writer sealed result) same told
+  as_seen : (result : Result Status Fault) → Replies asked.now asked.words came (record { before = old; after = new }) log writer sealed result
+      → Replies asked.now asked.words came (record { before = seen; after = new }) log writer sealed result
+  as_seen result told = subst (λ r. Replies asked.now asked.words came (record { before = r; after = new }) log writer sealed result) same told
 
-  pub served : (status : Status) → Replies now words heard (record { before = old; after = new }) log writer sealed (Ok status)
-      → IsServed now words known (record { before = seen; after = new }) log writer sealed (Ok (Done status))
-  served status told = (heard, hears, spoke, as_seen (Ok status) told)
+  pub served : (status : Status) → Replies asked.now asked.words came (record { before = old; after = new }) log writer sealed (Ok status)
+      → IsServed asked (record { before = seen; after = new }) log writer sealed (Ok (Done status))
+  served status told = (came, arrives, spoke, as_seen (Ok status) told)
 
-  pub faulted : (fault : Fault) → Replies now words heard (record { before = old; after = new }) log writer sealed (Err fault)
-      → IsServed now words known (record { before = seen; after = new }) log writer sealed (Err fault)
+  pub faulted : (fault : Fault) → Replies asked.now asked.words came (record { before = old; after = new }) log writer sealed (Err fault)
+      → IsServed asked (record { before = seen; after = new }) log writer sealed (Err fault)
   faulted Read told = absurd told
-  faulted Write told = (heard, hears, spoke, as_seen (Err Write) told)
-  faulted Log told = (heard, hears, spoke, as_seen (Err Log) told)
-  faulted Memory told = as_seen (Err Memory) told
+  faulted Write told = (came, arrives, spoke, as_seen (Err Write) told)
+  faulted Log told = (came, arrives, spoke, as_seen (Err Log) told)
+  faulted Memory told = let short = as_seen (Err Memory) told in (short_of asked.sync asked.known asked.now asked.words came seen new short.0 arrives short.1, short.2)

@@ -1,42 +1,72 @@
 -- What was read is the whole of what was sent. Key results:
 --   IfOk-kept         what holds of an answer holds of the same answer under another error
---   whole_form        a body that was read whole
+--   filled            a body that was read whole, and one that wasn't
 --   form_in_front     one that came whole with its head
 --   judged_same       what a head comes to, by what was judged of its parts
---   whole_head_heard  what a head that was read, and what follows it, come to; hears_head, of a source
---   has_one_meaning   a stream has one meaning at most
+--   hears_head        what a head that was read from a source, and what follows it, come to
+--   has_one_meaning   a stream has one meaning at most; one_arrival, where regions exchange facts over it, too
 --   silent_is_empty   it is silent where it has no byte alone
-use Rattle.std.proofs.Common.{◌≡◌, ℕ, ◌≤◌, true, false, cond, List, [], ◌∷◌, ◌++◌, length, take, drop, Option, Some, None, Result, Ok, Err, IfOk, map, sym, ap, ◌∙◌, subst, arith, nat_le, length-take, inl, inr, refl}
+--   judged_may        what regions exchange is asked for only where they exchange anything
+--   all_heard         where they don't, a stream is heard as anyone's
+use Rattle.std.proofs.Common.{◌≡◌, ℕ, ◌≤◌, Bool, true, false, cond, List, [], ◌∷◌, ◌++◌, length, take, drop, Option, Some, None, Result, Ok, Err, IfOk, map, sym, ap, ◌∙◌, subst, arith, nat_le, min, length-take, inl, inr, refl}
 use Rattle.std.specs.Io.KnownBytes.{Consumes}
+use Rattle.std.specs.Str.{bytes_eq}
+use Rattle.std.specs.Prelude.{codes}
 use Rattle.std.proofs.lemmas.Bool.{le-leb}
+use Rattle.std.proofs.lemmas.Bool.Decides.{nat_tests}
 use Rattle.std.proofs.lemmas.List.{take_all, take-append-le, length-append}
 use Rattle.httparse.specs.Grammar.{RequestHead, ReadsRequest}
 use Rattle.httparse.specs.Spans.{IsRequestAt, name_and_value}
 use Rattle.httparse.specs.declared.spans.HeaderSpan.{HeaderSpan}
 use Rattle.httparse.specs.declared.spans.RequestSpans.{RequestSpans}
 use Rattle.httparse.proofs.GrammarLemmas.{ReadsRequest-append, request_unique}
+use Rattle.tk_edge.specs.HeadFields.{AreFields, has_repeats, coding_in, length_in, type_in}
+use Rattle.tk_edge.specs.declared.field.Fields.{Fields}
 use Rattle.tk_edge.specs.Heads.{HasHead, field_limit}
-use Rattle.tk_edge.specs.Heard.{request_at, heard_by, heard_of, IsHeard, Hears}
-use Rattle.tk_edge.specs.Judged.{judged_of}
-use Rattle.tk_edge.specs.Laws.{HasOneMeaning}
+use Rattle.tk_edge.specs.Heard.{request_at, posted_to, arrival_by, arrival_of, IsArrival, IsHeard, MayArrive, Arrives}
+use Rattle.tk_edge.specs.Judged.{judged_of, at_path, at_service, asked, with_body, sized, fits_type, limit_of, MayPost, MayAsk}
+use Rattle.tk_edge.specs.Laws.{HasOneMeaning, HearsAll}
+use Rattle.tk_edge.specs.Paths.{path_of, path_named, sync_named, query_of, method_named, service_at}
+use Rattle.tk_format.specs.Numerals.{numeral_up_to}
+use Rattle.tk_format.specs.declared.numeral.Numeral.{Numeral}
+use Rattle.tk_format.specs.declared.numeral.Numeral.TheVariants as numeral
 use Rattle.tk_params.specs.Params.{Pairs}
+use Rattle.tk_edge.specs.declared.hear.Arrival.{Arrival}
+use Rattle.tk_edge.specs.declared.hear.Arrival.TheVariants as arrival
 use Rattle.tk_edge.specs.declared.hear.Heard.{Heard}
 use Rattle.tk_edge.specs.declared.hear.Heard.TheVariants.{Silence, Asked}
 use Rattle.tk_edge.specs.declared.hear.Heard.TheVariants as heard
 use Rattle.tk_edge.specs.declared.judge.Judged.{Judged}
-use Rattle.tk_edge.specs.declared.judge.Judged.TheVariants.{Refused, Query, Body}
+use Rattle.tk_edge.specs.declared.judge.Judged.TheVariants.{Refused, Query, Vector, Body}
+use Rattle.tk_edge.specs.declared.path.Path.{Path}
+use Rattle.tk_edge.specs.declared.path.Path.TheVariants as path
+use Rattle.tk_edge.specs.declared.path.Method.{Method}
+use Rattle.tk_edge.specs.declared.path.Method.TheVariants.{Get, Post}
+use Rattle.tk_edge.specs.declared.path.Posted.{Posted}
+use Rattle.tk_edge.specs.declared.path.Posted.TheVariants.{Form, Pull, Push}
+use Rattle.tk_edge.specs.declared.path.Service.{Service}
+use Rattle.tk_edge.specs.declared.path.Service.TheVariants as service
 use Rattle.tk_edge.specs.declared.refusal.Refusal.TheVariants.{ShortBody}
 
 pub IfOk-kept : {A E F : Type 0} (P : A → Type 0) (r : Result A E) (s : Result A F) → IfOk s (λ a. r ≡ Ok a) → IfOk r P → IfOk s P
 IfOk-kept P r (Ok a) same holds = subst (λ x. IfOk x P) same holds
 IfOk-kept P r (Err f) same holds = tt
 
-pub whole_form : (count size : ℕ) (body all : List ℕ) → length body ≡ size → size ≤ count → take count body ≡ take size all
-    → (nat_le size (length all) ≡ true) × (body ≡ take size all)
-whole_form count size body all full whole e =
-    let same : body ≡ take size all = sym (take_all count body (omega (arith, full, whole))) ∙ e in
-    let long : size ≤ length all = omega (arith, ap length same, length-take size all, full) in
-    (le-leb size (length all) long, same)
+-- so many bytes of what there is were read into a body, and no more had room in it: all, or all that there were
+pub filled : (count size : ℕ) (body all : List ℕ) → length body ≡ size → count ≤ size → take count body ≡ take size all
+    → (nat_le size count ≡ nat_le size (length all)) × (nat_le size count ≡ true → body ≡ take size all)
+filled count size body all full within e =
+    let long : count ≡ length (take size all) = sym (length-take count body ∙ by_min) ∙ ap length e in
+    (tests (long ∙ length-take size all), λ is. sym (take_all count body (all_read is)) ∙ e)
+  where
+    by_min : min count (length body) ≡ count
+    by_min = omega (arith, full, within)
+
+    tests : count ≡ min size (length all) → nat_le size count ≡ nat_le size (length all)
+    tests h = grind (arith, nat_tests)
+
+    all_read : nat_le size count ≡ true → length body ≤ count
+    all_read is = grind (arith, nat_tests)
 
 pub form_in_front : (front rest : List ℕ) (size : ℕ) → size ≤ length front
     → (nat_le size (length (front ++ rest)) ≡ true) × (take size (front ++ rest) ≡ take size front)
@@ -44,63 +74,215 @@ form_in_front front rest size fits =
     let long : size ≤ length (front ++ rest) = omega (arith, fits, length-append front rest) in
     (le-leb size (length (front ++ rest)) long, take-append-le size front rest fits)
 
-pub judged_same : (h : RequestHead) (rest method target : List ℕ) (judged : Judged)
-    → method ≡ h.method → target ≡ h.target → judged ≡ judged_of method target (map name_and_value h.fields)
-    → heard_by target (map name_and_value h.fields) rest judged ≡ heard_of h rest
-judged_same h rest method target judged em et ej =
+pub judged_same : (sync : Bool) (h : RequestHead) (rest method target : List ℕ) (judged : Judged)
+    → method ≡ h.method → target ≡ h.target → judged ≡ judged_of sync method target (map name_and_value h.fields)
+    → arrival_by target (map name_and_value h.fields) rest judged ≡ arrival_of sync h rest
+judged_same sync h rest method target judged em et ej =
     let pairs = map name_and_value h.fields in
-    ap (λ j. heard_by target pairs rest j)
-    (ej ∙ ap (λ m. judged_of m target pairs) em ∙ ap (λ t. judged_of h.method t pairs) et)
-    ∙ ap (λ t. heard_by t pairs rest (judged_of h.method h.target pairs)) et
+    ap (λ j. arrival_by target pairs rest j)
+    (ej ∙ ap (λ m. judged_of sync m target pairs) em ∙ ap (λ t. judged_of sync h.method t pairs) et)
+    ∙ ap (λ t. arrival_by t pairs rest (judged_of sync h.method h.target pairs)) et
 
-pub whole_head_heard : (bytes front : List ℕ) (size : ℕ) (old new : Option (List ℕ))
-    (headers : List HeaderSpan) (spans : RequestSpans) (heard : Heard)
+whole_head_heard : (sync : Bool) (bytes front : List ℕ) (size : ℕ) (old new : Option (List ℕ))
+    (headers : List HeaderSpan) (spans : RequestSpans) (came : Arrival)
     → size ≡ 8192 → old ≡ Some bytes → Consumes old new front
     → ((h : RequestHead) × HasHead bytes size field_limit h × IsRequestAt front headers spans h)
     → ((h : RequestHead) (rest : List ℕ) → IsRequestAt front headers spans h → new ≡ Some rest
-    → heard ≡ heard_of h (drop spans.len front ++ rest))
-    → IsHeard bytes heard
-whole_head_heard bytes front size None new headers spans heard room e c found told = absurd (cc)
-whole_head_heard bytes front size (Some xs) None headers spans heard room e c found told = absurd c
-whole_head_heard bytes front size (Some xs) (Some rest) headers spans heard room e c (h, has, at) told =
+    → came ≡ arrival_of sync h (drop spans.len front ++ rest))
+    → IsArrival sync bytes came
+whole_head_heard sync bytes front size None new headers spans came room e c found told = absurd (cc)
+whole_head_heard sync bytes front size (Some xs) None headers spans came room e c found told = absurd c
+whole_head_heard sync bytes front size (Some xs) (Some rest) headers spans came room e c (h, has, at) told =
     let same : xs ≡ bytes = cc in
     let split : front ++ rest ≡ bytes = sym c ∙ same in
     let reads = subst (λ l. ReadsRequest l h (drop spans.len front ++ rest)) split (ReadsRequest-append front h (drop spans.len front) rest at.reads) in
     inr (h, _, reads, subst (λ n. HasHead bytes n field_limit h) room has, told h rest at refl)
 
-pub hears_head : {E : Type 0} (front : List ℕ) (size : ℕ) (old new : Option (List ℕ))
-    (headers : List HeaderSpan) (spans : RequestSpans) (result : Result Heard E)
+pub hears_head : {E : Type 0} (sync : Bool) (front : List ℕ) (size : ℕ) (old new : Option (List ℕ))
+    (headers : List HeaderSpan) (spans : RequestSpans) (result : Result Arrival E)
     → size ≡ 8192 → Consumes old new front
     → ((bytes : List ℕ) → old ≡ Some bytes → (h : RequestHead) × HasHead bytes size field_limit h × IsRequestAt front headers spans h)
     → ((h : RequestHead) (rest : List ℕ) → IsRequestAt front headers spans h → new ≡ Some rest
-    → IfOk result (λ heard. heard ≡ heard_of h (drop spans.len front ++ rest)))
-    → IfOk result (Hears old)
-hears_head front size old new headers spans (Ok heard) room c found told =
-    λ bytes known. whole_head_heard bytes front size old new headers spans heard room known c (found bytes known) told
-hears_head front size old new headers spans (Err e) room c found told = tt
+    → IfOk result (λ came. came ≡ arrival_of sync h (drop spans.len front ++ rest)))
+    → IfOk result (MayArrive sync) → IfOk result (Arrives sync old)
+hears_head sync front size old new headers spans (Ok came) room c found told may =
+    (may, λ bytes known. whole_head_heard sync bytes front size old new headers spans came room known c (found bytes known) told)
+hears_head sync front size old new headers spans (Err e) room c found told may = tt
 
-pub has_one_meaning : HasOneMeaning
-has_one_meaning bytes a b (inl (none, p)) (inl (none-2, q)) = p ∙ sym q
-has_one_meaning bytes a b (inl (none, p)) (inr (h, rest, reads, has, q)) = absurd (none h has)
-has_one_meaning bytes a b (inr (h, rest, reads, has, p)) (inl (none, q)) = absurd (none h has)
-has_one_meaning bytes a b (inr (h, rest, reads, has, p)) (inr (k, more, reads-2, has-2, q)) =
+pub one_arrival : HasOneMeaning
+one_arrival sync bytes a b (inl (none, p)) (inl (none-2, q)) = p ∙ sym q
+one_arrival sync bytes a b (inl (none, p)) (inr (h, rest, reads, has, q)) = absurd (none h has)
+one_arrival sync bytes a b (inr (h, rest, reads, has, p)) (inl (none, q)) = absurd (none h has)
+one_arrival sync bytes a b (inr (h, rest, reads, has, p)) (inr (k, more, reads-2, has-2, q)) =
     let same = request_unique bytes h k rest more reads reads-2 in
-    p ∙ ap (λ x. heard_of x rest) same.0 ∙ ap (λ x. heard_of k x) same.1 ∙ sym q
+    p ∙ ap (λ x. arrival_of sync x rest) same.0 ∙ ap (λ x. arrival_of sync k x) same.1 ∙ sym q
 
-speaks : (target : List ℕ) (pairs : Pairs) (rest : List ℕ) (judged : Judged) → Silence ≡ heard_by target pairs rest judged → ⊥
+heard_is : (a b : Heard) → arrival.Heard a ≡ arrival.Heard b → a ≡ b
+heard_is a b e = cc
+
+pub has_one_meaning : (bytes : List ℕ) (a b : Heard) → IsHeard bytes a → IsHeard bytes b → a ≡ b
+has_one_meaning bytes a b p q = heard_is a b (one_arrival false bytes (arrival.Heard a) (arrival.Heard b) p q)
+
+-- ---- silence
+
+speaks_to : (posted : Posted) (body : List ℕ) (pairs : Pairs) → arrival.Heard Silence ≡ posted_to posted body pairs → ⊥
+speaks_to (Form endpoint) body pairs e = absurd (cc)
+speaks_to Pull body pairs e = absurd (cc)
+speaks_to Push body pairs e = absurd (cc)
+
+speaks : (target : List ℕ) (pairs : Pairs) (rest : List ℕ) (judged : Judged) → arrival.Heard Silence ≡ arrival_by target pairs rest judged → ⊥
 speaks target pairs rest (Refused why) e = absurd (cc)
 speaks target pairs rest (Query endpoint) e = absurd (cc)
-speaks target pairs rest (Body endpoint n) e =
-    (elim (nat_le n (length rest)) as (λ b. Silence ≡ cond b (Asked (request_at endpoint (take n rest) pairs)) (heard.Refused ShortBody) → ⊥) [
-      | true ↦ λ e. absurd (cc)
+speaks target pairs rest Vector e = absurd (cc)
+speaks target pairs rest (Body posted n) e =
+    (elim (nat_le n (length rest)) as (λ b. arrival.Heard Silence ≡ cond b (posted_to posted (take n rest) pairs) (arrival.Heard (heard.Refused ShortBody)) → ⊥) [
+      | true ↦ speaks_to posted (take n rest) pairs
       | false ↦ λ e. absurd (cc)
     ]) e
 
-pub silent_is_empty : (bytes : List ℕ) → IsHeard bytes Silence → bytes ≡ []
-silent_is_empty [] heard = refl
-silent_is_empty (b ∷ bytes) (inl (none, e)) = absurd (cc)
-silent_is_empty (b ∷ bytes) (inr (h, rest, reads, has, e)) =
-    absurd (speaks h.target (map name_and_value h.fields) rest (judged_of h.method h.target (map name_and_value h.fields)) e)
+pub silent_is_empty : (sync : Bool) (bytes : List ℕ) → IsArrival sync bytes (arrival.Heard Silence) → bytes ≡ []
+silent_is_empty sync [] came = refl
+silent_is_empty sync (b ∷ bytes) (inl (none, e)) = absurd (cc)
+silent_is_empty sync (b ∷ bytes) (inr (h, rest, reads, has, e)) =
+    absurd (speaks h.target (map name_and_value h.fields) rest (judged_of sync h.method h.target (map name_and_value h.fields)) e)
 
-pub hears_nothing : (known : Option (List ℕ)) (heard : Heard) → heard ≡ Silence → Hears known heard → (bytes : List ℕ) → known ≡ Some bytes → bytes ≡ []
-hears_nothing known heard silent hears bytes is = silent_is_empty bytes (subst (IsHeard bytes) silent (hears bytes is))
+pub hears_nothing : (sync : Bool) (known : Option (List ℕ)) (came : Arrival) → came ≡ arrival.Heard Silence → Arrives sync known came → (bytes : List ℕ) → known ≡ Some bytes → bytes ≡ []
+hears_nothing sync known came silent arrives bytes is = silent_is_empty sync bytes (subst (IsArrival sync bytes) silent (arrives.1 bytes is))
+
+-- ---- where regions exchange nothing
+
+-- by which paths they do
+abbrev MayServe : Bool → Path → Type 0
+MayServe sync path.Authorize = Unit {0}
+MayServe sync path.Token = Unit {0}
+MayServe sync path.Introspect = Unit {0}
+MayServe sync path.Revoke = Unit {0}
+MayServe sync path.Client = Unit {0}
+MayServe sync path.Retire = Unit {0}
+MayServe sync path.Consent = Unit {0}
+MayServe sync path.Withdraw = Unit {0}
+MayServe sync path.Vector = sync ≡ true
+MayServe sync path.Pull = sync ≡ true
+MayServe sync path.Push = sync ≡ true
+
+abbrev MayServeIf : Bool → Option Path → Type 0
+MayServeIf sync None = Unit {0}
+MayServeIf sync (Some p) = MayServe sync p
+
+pick : (sync b : Bool) (o p : Option Path) → MayServeIf sync o → MayServeIf sync p → MayServeIf sync (cond b o p)
+pick sync true o p h k = h
+pick sync false o p h k = k
+
+synced : (sync : Bool) (text : List ℕ) → sync ≡ true → MayServeIf sync (sync_named text)
+synced sync text on =
+    pick sync (bytes_eq text (codes "/sync/vector")) (Some path.Vector) _ on
+    (pick sync (bytes_eq text (codes "/sync/pull")) (Some path.Pull) _ on
+    (pick sync (bytes_eq text (codes "/sync/push")) (Some path.Push) None on tt))
+
+if_synced : (sync : Bool) (text : List ℕ) → MayServeIf sync (cond sync (sync_named text) None)
+if_synced true text = synced true text refl
+if_synced false text = tt
+
+may_serve : (sync : Bool) (text : List ℕ) → MayServeIf sync (path_named sync text)
+may_serve sync text =
+    pick sync (bytes_eq text (codes "/authorize")) (Some path.Authorize) _ tt
+    (pick sync (bytes_eq text (codes "/token")) (Some path.Token) _ tt
+    (pick sync (bytes_eq text (codes "/introspect")) (Some path.Introspect) _ tt
+    (pick sync (bytes_eq text (codes "/revoke")) (Some path.Revoke) _ tt
+    (pick sync (bytes_eq text (codes "/admin/client")) (Some path.Client) _ tt
+    (pick sync (bytes_eq text (codes "/admin/retire")) (Some path.Retire) _ tt
+    (pick sync (bytes_eq text (codes "/admin/consent")) (Some path.Consent) _ tt
+    (pick sync (bytes_eq text (codes "/admin/withdraw")) (Some path.Withdraw) _ tt (if_synced sync text))))))))
+
+-- what is served there
+abbrev MayDo : Bool → Service → Type 0
+MayDo sync (service.Query e) = Unit {0}
+MayDo sync service.Vector = sync ≡ true
+MayDo sync (service.Body posted) = MayPost sync posted
+
+abbrev MayDoIf : Bool → Option Service → Type 0
+MayDoIf sync None = Unit {0}
+MayDoIf sync (Some s) = MayDo sync s
+
+may_do : (sync : Bool) (p : Path) (m : Option Method) → MayServe sync p → MayDoIf sync (service_at p m)
+may_do sync p None h = tt
+may_do sync path.Authorize (Some Get) h = tt
+may_do sync path.Token (Some Get) h = tt
+may_do sync path.Introspect (Some Get) h = tt
+may_do sync path.Revoke (Some Get) h = tt
+may_do sync path.Client (Some Get) h = tt
+may_do sync path.Retire (Some Get) h = tt
+may_do sync path.Consent (Some Get) h = tt
+may_do sync path.Withdraw (Some Get) h = tt
+may_do sync path.Vector (Some Get) h = h
+may_do sync path.Pull (Some Get) h = tt
+may_do sync path.Push (Some Get) h = tt
+may_do sync path.Authorize (Some Post) h = tt
+may_do sync path.Token (Some Post) h = tt
+may_do sync path.Introspect (Some Post) h = tt
+may_do sync path.Revoke (Some Post) h = tt
+may_do sync path.Client (Some Post) h = tt
+may_do sync path.Retire (Some Post) h = tt
+may_do sync path.Consent (Some Post) h = tt
+may_do sync path.Withdraw (Some Post) h = tt
+may_do sync path.Vector (Some Post) h = tt
+may_do sync path.Pull (Some Post) h = h
+may_do sync path.Push (Some Post) h = h
+
+choose : (sync b : Bool) (j k : Judged) → MayAsk sync j → MayAsk sync k → MayAsk sync (cond b j k)
+choose sync true j k h l = h
+choose sync false j k h l = l
+
+may_size : (sync : Bool) (posted : Posted) (told : Numeral) (kinds : List (List ℕ)) → MayPost sync posted → MayAsk sync (sized posted told kinds)
+may_size sync posted numeral.Malformed kinds h = tt
+may_size sync posted numeral.Above kinds h = tt
+may_size sync posted (numeral.Within n) kinds h = choose sync (fits_type posted kinds) (Body posted n) _ h tt
+
+may_post : (sync : Bool) (posted : Posted) (codings lengths kinds : List (List ℕ)) → MayPost sync posted → MayAsk sync (with_body posted codings lengths kinds)
+may_post sync posted (coding ∷ codings) lengths kinds h = tt
+may_post sync posted [] [] kinds h = tt
+may_post sync posted [] (text ∷ more) kinds h = may_size sync posted (numeral_up_to (limit_of posted) text) kinds h
+
+may_be_asked : (sync : Bool) (s : Service) (pairs : Pairs) → MayDo sync s → MayAsk sync (asked s pairs)
+may_be_asked sync (service.Query e) pairs h = tt
+may_be_asked sync service.Vector pairs h = h
+may_be_asked sync (service.Body posted) pairs h = may_post sync posted (coding_in pairs) (length_in pairs) (type_in pairs) h
+
+may_at : (sync : Bool) (p : Path) (s : Option Service) (pairs : Pairs) → MayDoIf sync s → MayAsk sync (at_service p s pairs)
+may_at sync p None pairs h = tt
+may_at sync p (Some s) pairs h = choose sync (has_repeats pairs) _ (asked s pairs) tt (may_be_asked sync s pairs h)
+
+may_at_path : (sync : Bool) (o : Option Path) (m : Option Method) (pairs : Pairs) → MayServeIf sync o → MayAsk sync (at_path o m pairs)
+may_at_path sync None m pairs h = tt
+may_at_path sync (Some p) m pairs h = may_at sync p (service_at p m) pairs (may_do sync p m h)
+
+may_ask : (sync : Bool) (method target : List ℕ) (pairs : Pairs) → MayAsk sync (judged_of sync method target pairs)
+may_ask sync method target pairs = may_at_path sync _ (method_named method) pairs (may_serve sync (path_of target))
+
+-- by what was judged of the fields that are read
+pub judged_may : (sync : Bool) (method target : List ℕ) (fields : Fields) (pairs : Pairs) (judged : Judged) → AreFields fields pairs
+    → ((all : Pairs) → AreFields fields all → judged ≡ judged_of sync method target all) → MayAsk sync judged
+judged_may sync method target fields pairs judged are told = subst (MayAsk sync) (sym (told pairs are)) (may_ask sync method target pairs)
+
+-- so it is heard
+off : ¬ (false ≡ true)
+off e = cc
+
+by_judged : (target : List ℕ) (pairs : Pairs) (rest : List ℕ) (judged : Judged) → MayAsk false judged → (h : Heard) × (arrival_by target pairs rest judged ≡ arrival.Heard h)
+by_judged target pairs rest (Refused why) h = (heard.Refused why, refl)
+by_judged target pairs rest (Query e) h = (Asked (request_at e (query_of target) pairs), refl)
+by_judged target pairs rest Vector h = absurd (off h)
+by_judged target pairs rest (Body (Form e) n) h =
+    elim (nat_le n (length rest)) as (λ b. (h : Heard) × (cond b (arrival.Heard (Asked (request_at e (take n rest) pairs))) (arrival.Heard (heard.Refused ShortBody)) ≡ arrival.Heard h)) [
+      | true ↦ (Asked (request_at e (take n rest) pairs), refl)
+      | false ↦ (heard.Refused ShortBody, refl)
+    ]
+by_judged target pairs rest (Body Pull n) h = absurd (off h)
+by_judged target pairs rest (Body Push n) h = absurd (off h)
+
+pub all_heard : HearsAll
+all_heard bytes came (inl (none, p)) = (_, p)
+all_heard bytes came (inr (h, rest, reads, has, p)) =
+    let pairs = map name_and_value h.fields in
+    let found = by_judged h.target pairs rest (judged_of false h.method h.target pairs) (may_ask false h.method h.target pairs) in
+    (found.0, p ∙ found.1)

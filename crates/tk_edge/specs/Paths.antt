@@ -1,19 +1,22 @@
--- The paths that are served, and the endpoint of each under a method (RFC 6749, 3.1 and 3.2; RFC 7662, 2; RFC 7009, 2; the
--- paths of administration are own).
+-- The paths that are served, and what each serves under a method (RFC 6749, 3.1 and 3.2; RFC 7662, 2; RFC 7009, 2; the
+-- paths of administration, and those by which regions exchange facts, are own).
 --   path_of, query_of   a target's parts before and behind its first `?` (RFC 9112, 3.2.1)
---   path_named          what is served under a path, byte for byte
+--   path_named          what is served under a path, byte for byte; sync_named, where regions exchange facts
 --   method_named        a method by its name, which is told in this case alone (RFC 9110, 9.1)
---   endpoint_at         the endpoint that a path has under a method
+--   service_at          what a path serves under a method
 --   allowed_at          the methods of a path, as `Allow` names them (RFC 9110, 10.2.1)
-use Rattle.std.specs.Prelude.{ℕ, ◌+◌, ◌==◌, List, take, drop, Option, None, Some, codes, if◌then◌else◌}
+use Rattle.std.specs.Prelude.{ℕ, ◌+◌, ◌==◌, Bool, List, take, drop, Option, None, Some, codes, if◌then◌else◌}
 use Rattle.std.specs.List.{position_or_len}
 use Rattle.std.specs.Str.{bytes_eq}
 use Rattle.tk_message.specs.declared.request.Endpoint.{Endpoint}
 use Rattle.tk_message.specs.declared.request.Endpoint.TheVariants as endpoint
 use Rattle.tk_edge.specs.declared.path.Path.{Path}
-use Rattle.tk_edge.specs.declared.path.Path.TheVariants.{Authorize, Token, Introspect, Revoke, Client, Retire, Consent, Withdraw}
+use Rattle.tk_edge.specs.declared.path.Path.TheVariants.{Authorize, Token, Introspect, Revoke, Client, Retire, Consent, Withdraw, Vector, Pull, Push}
 use Rattle.tk_edge.specs.declared.path.Method.{Method}
 use Rattle.tk_edge.specs.declared.path.Method.TheVariants.{Get, Post}
+use Rattle.tk_edge.specs.declared.path.Posted.TheVariants as posted
+use Rattle.tk_edge.specs.declared.path.Service.{Service}
+use Rattle.tk_edge.specs.declared.path.Service.TheVariants as service
 
 abbrev pub path_of : List ℕ → List ℕ
 path_of target = take (position_or_len (λ b. b == 63) target) target
@@ -21,8 +24,17 @@ path_of target = take (position_or_len (λ b. b == 63) target) target
 abbrev pub query_of : List ℕ → List ℕ
 query_of target = drop (position_or_len (λ b. b == 63) target + 1) target
 
-abbrev pub path_named : List ℕ → Option Path
-path_named path =
+-- by which regions exchange facts
+abbrev pub sync_named : List ℕ → Option Path
+sync_named path =
+    if bytes_eq path (codes "/sync/vector") then Some Vector
+    else if bytes_eq path (codes "/sync/pull") then Some Pull
+    else if bytes_eq path (codes "/sync/push") then Some Push
+    else None
+
+-- these are served where they exchange any
+abbrev pub path_named : Bool → List ℕ → Option Path
+path_named sync path =
     if bytes_eq path (codes "/authorize") then Some Authorize
     else if bytes_eq path (codes "/token") then Some Token
     else if bytes_eq path (codes "/introspect") then Some Introspect
@@ -31,6 +43,7 @@ path_named path =
     else if bytes_eq path (codes "/admin/retire") then Some Retire
     else if bytes_eq path (codes "/admin/consent") then Some Consent
     else if bytes_eq path (codes "/admin/withdraw") then Some Withdraw
+    else if sync then sync_named path
     else None
 
 abbrev pub method_named : List ℕ → Option Method
@@ -39,28 +52,39 @@ method_named name =
     else if bytes_eq name (codes "POST") then Some Post
     else None
 
-abbrev pub get_endpoint : Path → Option Endpoint
-get_endpoint Authorize = Some endpoint.Authorize
-get_endpoint Client = Some endpoint.ShowClient
-get_endpoint path = None
+-- what is asked without a body
+abbrev pub get_service : Path → Option Service
+get_service Authorize = Some (service.Query endpoint.Authorize)
+get_service Client = Some (service.Query endpoint.ShowClient)
+get_service Vector = Some service.Vector
+get_service path = None
 
-abbrev pub post_endpoint : Path → Option Endpoint
-post_endpoint Authorize = None
-post_endpoint Token = Some endpoint.Token
-post_endpoint Introspect = Some endpoint.Introspect
-post_endpoint Revoke = Some endpoint.Revoke
-post_endpoint Client = Some endpoint.AddClient
-post_endpoint Retire = Some endpoint.Retire
-post_endpoint Consent = Some endpoint.Consent
-post_endpoint Withdraw = Some endpoint.Withdraw
+-- what a form is for
+abbrev pub form_for : Endpoint → Option Service
+form_for e = Some (service.Body (posted.Form e))
+
+-- what a body is for
+abbrev pub post_service : Path → Option Service
+post_service Authorize = None
+post_service Token = form_for endpoint.Token
+post_service Introspect = form_for endpoint.Introspect
+post_service Revoke = form_for endpoint.Revoke
+post_service Client = form_for endpoint.AddClient
+post_service Retire = form_for endpoint.Retire
+post_service Consent = form_for endpoint.Consent
+post_service Withdraw = form_for endpoint.Withdraw
+post_service Vector = None
+post_service Pull = Some (service.Body posted.Pull)
+post_service Push = Some (service.Body posted.Push)
 
 -- another method than these two has none
-abbrev pub endpoint_at : Path → Option Method → Option Endpoint
-endpoint_at path None = None
-endpoint_at path (Some Get) = get_endpoint path
-endpoint_at path (Some Post) = post_endpoint path
+abbrev pub service_at : Path → Option Method → Option Service
+service_at path None = None
+service_at path (Some Get) = get_service path
+service_at path (Some Post) = post_service path
 
 abbrev pub allowed_at : Path → List ℕ
 allowed_at Authorize = codes "GET"
 allowed_at Client = codes "GET, POST"
+allowed_at Vector = codes "GET"
 allowed_at path = codes "POST"

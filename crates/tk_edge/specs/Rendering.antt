@@ -7,7 +7,7 @@ use Rattle.std.specs.List.{concat}
 use Rattle.tk_message.specs.ReplyFields.{ReplyFields, Content, Nothing, JsonText, OtherBytes}
 use Rattle.tk_message.specs.Status.{status_number}
 use Rattle.tk_message.specs.declared.status.Status.{Status}
-use Rattle.tk_message.specs.declared.status.Status.TheVariants.{Ok, Created, Found, BadRequest, Unauthorized, NotFound, MethodNotAllowed, LengthRequired, ContentTooLarge, ServiceUnavailable}
+use Rattle.tk_message.specs.declared.status.Status.TheVariants.{Ok, Created, Found, BadRequest, Unauthorized, NotFound, MethodNotAllowed, Conflict, LengthRequired, ContentTooLarge, ServiceUnavailable}
 
 abbrev pub reason_of : Status → List ℕ
 reason_of Ok = codes "OK"
@@ -17,6 +17,7 @@ reason_of BadRequest = codes "Bad Request"
 reason_of Unauthorized = codes "Unauthorized"
 reason_of NotFound = codes "Not Found"
 reason_of MethodNotAllowed = codes "Method Not Allowed"
+reason_of Conflict = codes "Conflict"
 reason_of LengthRequired = codes "Length Required"
 reason_of ContentTooLarge = codes "Content Too Large"
 reason_of ServiceUnavailable = codes "Service Unavailable"

@@ -3,59 +3,73 @@
 --   IsTurnedAway   what one to a sealed edge does
 --   IsReadFault    the one device that may be at fault while a request is read
 use Rattle.std.specs.Prelude.{◌≡◌, ◌≢◌, ℕ, ⊤, Bool, false, List, [], Option, Some, Result, Ok, Err}
+use Rattle.std.specs.declared.alloc.AllocError.{AllocError}
 use Rattle.std.specs.Io.KnownBytes.{Appends, Keeps}
 use Rattle.tk_message.specs.declared.status.Status.{Status}
-use Rattle.tk_region.specs.RegionFields.{RegionFields, Gains}
-use Rattle.tk_region.specs.Step.{listed}
-use Rattle.tk_edge.specs.Answers.{answer_by, made_by, refused_by}
+use Rattle.tk_region.specs.RegionFields.{RegionFields}
+use Rattle.tk_edge.specs.Answers.{refused_by}
+use Rattle.tk_edge.specs.Arrivals.{AnswersArrival, IsShort}
 use Rattle.tk_edge.specs.Failures.{Rose}
-use Rattle.tk_edge.specs.Heard.{Hears}
-use Rattle.tk_edge.specs.Told.{AppendsFront, Change, IsTold}
+use Rattle.tk_edge.specs.Heard.{Arrives}
+use Rattle.tk_edge.specs.Told.{AnswerFields, AppendsFront, Change, IsTold}
 use Rattle.tk_edge.specs.declared.edge.Served.{Served}
 use Rattle.tk_edge.specs.declared.edge.Served.TheVariants.{Nothing, Done}
-use Rattle.tk_edge.specs.declared.hear.Heard.{Heard}
+use Rattle.tk_edge.specs.declared.hear.Arrival.{Arrival}
+use Rattle.tk_edge.specs.declared.hear.Arrival.TheVariants.{Heard}
 use Rattle.tk_edge.specs.declared.hear.Heard.TheVariants.{Silence}
 use Rattle.tk_edge.specs.declared.refusal.Refusal.TheVariants.{Sealed}
 use Rattle.tk_edge.specs.declared.tell.Fault.{Fault}
 use Rattle.tk_edge.specs.declared.tell.Fault.TheVariants.{Read, Write, Log, Memory}
+
+-- a connection: whether regions exchange facts over it, its bytes, if they are known, and what comes with them
+pub record Asked : Type 0 where
+  pub sync : Bool
+  pub known : Option (List ℕ)
+  pub now : ℕ
+  pub words : List ℕ
 
 -- a region before a step, and after it
 pub record Step : Type 0 where
   pub before : RegionFields
   pub after : RegionFields
 
--- nothing was written, nothing has changed, and the edge isn't sealed
-abbrev pub IsUntouched : Step → Change → Change → Bool → Type 0
-IsUntouched region log writer sealed =
-    (region.after ≡ region.before) × Keeps log.before log.after × Keeps writer.before writer.after × (sealed ≡ false)
+-- nothing was written, and the edge isn't sealed
+abbrev pub WritesNothing : Change → Change → Bool → Type 0
+WritesNothing log writer sealed = Keeps log.before log.after × Keeps writer.before writer.after × (sealed ≡ false)
 
--- what was heard is answered at the moment and with the words: its fact is in, and the answer was told
-abbrev pub AnswersAndTells : ℕ → List ℕ → Heard → Step → Change → Change → Bool → Result Status Fault → Type 0
-AnswersAndTells now words heard region log writer sealed result =
-    Gains region.before (listed (made_by region.before now words heard)) region.after
-    × IsTold (answer_by region.before now words heard) log writer sealed result
+-- and nothing has changed
+abbrev pub IsUntouched : Step → Change → Change → Bool → Type 0
+IsUntouched region log writer sealed = (region.after ≡ region.before) × WritesNothing log writer sealed
+
+-- what arrived is answered at the moment and with the words: its facts are in, and the answer was told
+abbrev pub AnswersAndTells : ℕ → List ℕ → Arrival → Step → Change → Change → Bool → Result Status Fault → Type 0
+AnswersAndTells now words came region log writer sealed result =
+    (answer : AnswerFields) × AnswersArrival region.before now words came (Ok answer) region.after × IsTold answer log writer sealed result
 
 -- unless memory was refused
-abbrev pub Replies : ℕ → List ℕ → Heard → Step → Change → Change → Bool → Result Status Fault → Type 0
-Replies now words heard region log writer sealed (Ok status) = AnswersAndTells now words heard region log writer sealed (Ok status)
-Replies now words heard region log writer sealed (Err Read) = ⊥
-Replies now words heard region log writer sealed (Err Write) = AnswersAndTells now words heard region log writer sealed (Err Write)
-Replies now words heard region log writer sealed (Err Log) = AnswersAndTells now words heard region log writer sealed (Err Log)
-Replies now words heard region log writer sealed (Err Memory) = IsUntouched region log writer sealed
+abbrev pub Replies : ℕ → List ℕ → Arrival → Step → Change → Change → Bool → Result Status Fault → Type 0
+Replies now words came region log writer sealed (Ok status) = AnswersAndTells now words came region log writer sealed (Ok status)
+Replies now words came region log writer sealed (Err Read) = ⊥
+Replies now words came region log writer sealed (Err Write) = AnswersAndTells now words came region log writer sealed (Err Write)
+Replies now words came region log writer sealed (Err Log) = AnswersAndTells now words came region log writer sealed (Err Log)
+Replies now words came region log writer sealed (Err Memory) =
+    (e : AllocError) × AnswersArrival region.before now words came (Err e) region.after × WritesNothing log writer sealed
 
 -- what the source's bytes mean is answered so
-abbrev pub IsAnswered : ℕ → List ℕ → Option (List ℕ) → Step → Change → Change → Bool → Result Status Fault → Type 0
-IsAnswered now words known region log writer sealed result =
-    (heard : Heard) × Hears known heard × (heard ≢ Silence) × AnswersAndTells now words heard region log writer sealed result
+abbrev pub IsAnswered : Asked → Step → Change → Change → Bool → Result Status Fault → Type 0
+IsAnswered asked region log writer sealed result =
+    (came : Arrival) × Arrives asked.sync asked.known came × (came ≢ Heard Silence)
+    × AnswersAndTells asked.now asked.words came region log writer sealed result
 
-abbrev pub IsServed : ℕ → List ℕ → Option (List ℕ) → Step → Change → Change → Bool → Result Served Fault → Type 0
-IsServed now words known region log writer sealed (Ok (Done status)) = IsAnswered now words known region log writer sealed (Ok status)
-IsServed now words known region log writer sealed (Ok Nothing) =
-    ((bytes : List ℕ) → known ≡ Some bytes → bytes ≡ []) × IsUntouched region log writer sealed
-IsServed now words known region log writer sealed (Err Log) = IsAnswered now words known region log writer sealed (Err Log)
-IsServed now words known region log writer sealed (Err Write) = IsAnswered now words known region log writer sealed (Err Write)
-IsServed now words known region log writer sealed (Err Read) = IsUntouched region log writer sealed
-IsServed now words known region log writer sealed (Err Memory) = IsUntouched region log writer sealed
+abbrev pub IsServed : Asked → Step → Change → Change → Bool → Result Served Fault → Type 0
+IsServed asked region log writer sealed (Ok (Done status)) = IsAnswered asked region log writer sealed (Ok status)
+IsServed asked region log writer sealed (Ok Nothing) =
+    ((bytes : List ℕ) → asked.known ≡ Some bytes → bytes ≡ []) × IsUntouched region log writer sealed
+IsServed asked region log writer sealed (Err Log) = IsAnswered asked region log writer sealed (Err Log)
+IsServed asked region log writer sealed (Err Write) = IsAnswered asked region log writer sealed (Err Write)
+IsServed asked region log writer sealed (Err Read) = IsUntouched region log writer sealed
+IsServed asked region log writer sealed (Err Memory) =
+    IsShort asked.sync asked.known region.before region.after × WritesNothing log writer sealed
 
 -- the reply is that of `Sealed`, whoever asks for what
 abbrev pub IsTurnedAway : Change → Result Served Fault → Type 0

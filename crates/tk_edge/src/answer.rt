@@ -26,17 +26,35 @@ impl Model for Answer {
 ghost use Rattle.std.specs.Prelude.{◌≡◌, IfOk, IfSome, None};
 ghost use Rattle.tk_region.specs.Step.{IsNextFact};
 ghost use Rattle.tk_edge.specs.Answers as spec;
+ghost use Rattle.tk_edge.specs.Arrivals.{AnswersArrival};
 
-use crate::hear::Heard;
+use crate::exchange::answer_exchange;
+use crate::hear::{Arrival, Heard};
 use crate::refusal::Refusal;
 use crate::render::render;
 use std::alloc::{AllocError, Global};
 use tk_handle::Moment;
-use tk_message::{Request, error_reply};
+use tk_message::{Reply, Request, error_reply};
 use tk_region::{Handled, Prepared, Region};
 
-// Answers what was heard, at the moment and with the six words. Where memory is refused nothing has changed.
-pub(crate) fn answer_heard(
+// Answers what arrived, at the moment and with the six words.
+pub(crate) fn answer_arrival(
+    alloc: Global,
+    region: &mut Region,
+    now: Moment,
+    words: &[u64; 6],
+    came: &Arrival,
+) -> Result<Answer, AllocError>
+    ensures { AnswersArrival region.old now words.now came.now result region.new }
+{
+    match came {
+        Arrival::Heard(heard) => answer_heard(alloc, region, now, words, heard),
+        Arrival::Exchange(exchange) => answer_exchange(alloc, region, exchange),
+    }
+}
+
+// Answers what was heard. Where memory is refused nothing has changed.
+fn answer_heard(
     alloc: Global,
     region: &mut Region,
     now: Moment,
@@ -101,5 +119,17 @@ fn send(alloc: Global, region: &mut Region, prepared: Prepared) -> Result<Answer
         status,
         bytes,
         logged,
+    })
+}
+
+// A reply that no fact was made for.
+pub(crate) fn answer_with(alloc: Global, reply: &Reply) -> Result<Answer, AllocError>
+    ensures { IfOk result (λ answer. answer ≡ spec.rendered reply.now None None) }
+{
+    let bytes = render(alloc, reply, None)?;
+    Ok(Answer {
+        status: reply.status,
+        bytes,
+        logged: None,
     })
 }

@@ -3,11 +3,12 @@
 use std::marker::Model;
 use tk_region::Region;
 
-/// A region behind its connections. It is sealed once its log has failed, since what it would then answer might be lost.
-/// Contracts see the region, and whether it is sealed.
+/// A region behind its connections. Other regions may exchange facts over it or not. It is sealed once its log has failed,
+/// since what it would then answer might be lost. Contracts see the region, whether facts are exchanged, and whether it is sealed.
 #[derive(Debug, Drop)]
 pub struct Edge {
     region: Region,
+    sync: bool,
     sealed: bool,
 }
 
@@ -18,7 +19,7 @@ impl Model for Edge {
 
     ghost coded = { coded_edge };
 
-    ghost view = { λ e. record { region = e.region; sealed = e.sealed } };
+    ghost view = { λ e. record { region = e.region; sync = e.sync; sealed = e.sealed } };
 }
 
 /// How a connection was served.
@@ -34,18 +35,19 @@ ghost use Rattle.std.specs.Prelude.{◌≡◌, ◌≢◌, ℕ, true, false, List
 ghost use Rattle.std.specs.Borrow.{Lends, sem};
 ghost use Rattle.tk_region.specs.contracts.region.Region.{the_row as region_row};
 ghost use Rattle.tk_edge.specs.contracts.edge.Edge.{the_row as edge_row};
-ghost use Rattle.tk_edge.specs.Answers.{Answers, refused_by};
+ghost use Rattle.tk_edge.specs.Answers.{refused_by};
+ghost use Rattle.tk_edge.specs.Arrivals.{AnswersArrival, IsShort};
 ghost use Rattle.tk_edge.specs.Failures.{Rose};
 ghost use Rattle.tk_edge.specs.Told.{IsFaultOfDevice};
-ghost use Rattle.tk_edge.specs.Heard.{IsHeard};
+ghost use Rattle.tk_edge.specs.Heard.{IsArrival, MayArrive};
 ghost use Rattle.tk_edge.specs.Heads.{head_limit};
 ghost use Rattle.tk_edge.specs.Served.{IsServed, IsTurnedAway, Replies};
-ghost use Rattle.tk_edge.specs.declared.hear.Heard.{Heard as HeardValue};
+ghost use Rattle.tk_edge.specs.declared.hear.Arrival.{Arrival as AnyArrival};
 
-use crate::answer::{Answer, answer_heard, refuse};
+use crate::answer::{Answer, answer_arrival, refuse};
 use crate::device::{Sink, Source};
 use crate::given::Given;
-use crate::hear::{Heard, hear};
+use crate::hear::{Arrival, Heard, hear};
 use crate::put::put_all;
 use crate::refusal::Refusal;
 use crate::tell::{Fault, tell};
@@ -54,12 +56,14 @@ use tk_handle::Moment;
 use tk_message::Status;
 
 impl Edge {
-    /// The region, whose log has not failed.
-    pub fn new(region: Region) -> Edge
-        ensures { result ≡ record { region = region; sealed = false } }
+    /// The region, whose log has not failed. Where `sync` is true, other regions ask for its vector and for pages of what they
+    /// lack, and send bundles, over the paths below `/sync/`; else nothing is served there.
+    pub fn new(region: Region, sync: bool) -> Edge
+        ensures { result ≡ record { region = region; sync = sync; sealed = false } }
     {
         Edge {
             region,
+            sync,
             sealed: false,
         }
     }
@@ -73,7 +77,7 @@ impl Edge {
 
     /// Its region, to take bundles in.
     pub fn region_mut(&mut self) -> &mut Region
-        ensures* writes_back { sem 𝓛 (Lends edge_row region_row self.entry result (λ region. record { region = region; sealed = self.entry.now.sealed })) }
+        ensures* writes_back { sem 𝓛 (Lends edge_row region_row self.entry result (λ region. record { region = region; sync = self.entry.now.sync; sealed = self.entry.now.sealed })) }
         ensures value { result.now ≡ self.old.region }
     {
         &mut self.region
@@ -87,8 +91,9 @@ impl Edge {
     }
 
     /// What the bytes of a stream that then ends are answered at the moment, with six words that handles are made of. The
-    /// fact made, if any, is added before the answer is given; where memory is refused nothing has changed. Where the edge is
-    /// sealed, 503 temporarily_unavailable and no fact. No byte is answered with the status 400 and none.
+    /// fact made, if any, is added before the answer is given; where memory is refused nothing has changed, but of a bundle that
+    /// was sent the first facts may be in. Where the edge is sealed, 503 temporarily_unavailable and no fact. No byte is
+    /// answered with the status 400 and none.
     pub fn answer(
         &mut self,
         alloc: Global,
@@ -96,18 +101,19 @@ impl Edge {
         words: &[u64; 6],
         bytes: &[u8],
     ) -> Result<Answer, AllocError>
-        ensures answers { self.old.sealed ≡ false → OnOk result ((heard : HeardValue) × IsHeard bytes.now heard
-            × Answers self.old.region now words.now heard result self.new.region) }
+        ensures answers { self.old.sealed ≡ false → OnOk result ((came : AnyArrival) × IsArrival self.old.sync bytes.now came
+            × AnswersArrival self.old.region now words.now came result self.new.region) }
         ensures away { self.old.sealed ≡ true → IfOk result (λ answer. answer ≡ refused_by Refusal.Sealed) }
         ensures untouched { self.old.sealed ≡ true → self.new ≡ self.old }
         ensures sealed { self.new.sealed ≡ self.old.sealed }
-        ensures err { OnErr result (self.new ≡ self.old) }
+        ensures sync { self.new.sync ≡ self.old.sync }
+        ensures err { OnErr result (IsShort self.old.sync (Some bytes.now) self.old.region self.new.region) }
     {
         if self.sealed {
             return refuse(alloc, Refusal::Sealed);
         }
-        let heard = hear_bytes(alloc, bytes)?;
-        answer_heard(alloc, &mut self.region, now, words, &heard)
+        let came = hear_bytes(alloc, self.sync, bytes)?;
+        answer_arrival(alloc, &mut self.region, now, words, &came)
     }
 
     /// Serves one connection: reads a request, answers it as [`Edge::answer`] does, writes the record of the fact made, if
@@ -125,9 +131,11 @@ impl Edge {
     ) -> Result<Served, Fault>
         requires { length buf.old ≡ head_limit }
         ensures room { length buf.new ≡ length buf.old }
+        ensures sync { self.new.sync ≡ self.old.sync }
 
         // What stands after each result. Where the source doesn't tell its bytes, an answer to some request.
-        ensures served { self.old.sealed ≡ false → IsServed now words.now (S.coming reader.old)
+        ensures served { self.old.sealed ≡ false → IsServed
+            (record { sync = self.old.sync; known = S.coming reader.old; now = now; words = words.now })
             (record { before = self.old.region; after = self.new.region })
             (record { before = L.holds log.old; after = L.holds log.new })
             (record { before = W.holds writer.old; after = W.holds writer.new }) self.new.sealed result }
@@ -142,8 +150,8 @@ impl Edge {
         if self.sealed {
             return turn_away(alloc, writer);
         }
-        let heard = hear(alloc, reader, buf)?;
-        if is_silent(&heard) {
+        let came = hear(alloc, self.sync, reader, buf)?;
+        if is_silent(&came) {
             return Ok(Served::Nothing);
         }
         match reply(
@@ -154,7 +162,7 @@ impl Edge {
             writer,
             now,
             words,
-            &heard,
+            &came,
         ) {
             Ok(status) => Ok(Served::Done(status)),
             Err(fault) => Err(fault),
@@ -162,14 +170,14 @@ impl Edge {
     }
 }
 
-fn is_silent(heard: &Heard) -> bool
-    ensures silent { result ≡ true → heard.now ≡ Heard.Silence }
-    ensures spoke { result ≡ false → heard.now ≢ Heard.Silence }
+fn is_silent(came: &Arrival) -> bool
+    ensures silent { result ≡ true → came.now ≡ Arrival.Heard Heard.Silence }
+    ensures spoke { result ≡ false → came.now ≢ Arrival.Heard Heard.Silence }
 {
-    matches!(heard, Heard::Silence)
+    matches!(came, Arrival::Heard(Heard::Silence))
 }
 
-// Answers what was heard, and tells the answer to the log and the client.
+// Answers what arrived, and tells the answer to the log and the client.
 fn reply<L: Sink, W: Sink>(
     alloc: Global,
     region: &mut Region,
@@ -178,15 +186,15 @@ fn reply<L: Sink, W: Sink>(
     writer: &mut W,
     now: Moment,
     words: &[u64; 6],
-    heard: &Heard,
+    came: &Arrival,
 ) -> Result<Status, Fault>
     requires { sealed.old ≡ false }
-    ensures replies { Replies now words.now heard.now (record { before = region.old; after = region.new })
+    ensures replies { Replies now words.now came.now (record { before = region.old; after = region.new })
         (record { before = L.holds log.old; after = L.holds log.new })
         (record { before = W.holds writer.old; after = W.holds writer.new }) sealed.new result }
     ensures faults { IsFaultOfDevice result (L.failed log.old) (L.failed log.new) (W.failed writer.old) (W.failed writer.new) }
 {
-    let Ok(answer) = answer_heard(alloc, region, now, words, heard) else {
+    let Ok(answer) = answer_arrival(alloc, region, now, words, came) else {
         return Err(Fault::Memory);
     };
     tell(&answer, sealed, log, writer)
@@ -207,12 +215,13 @@ fn turn_away<W: Sink>(alloc: Global, writer: &mut W) -> Result<Served, Fault>
 }
 
 // What the bytes of a stream that then ends come to.
-fn hear_bytes(alloc: Global, bytes: &[u8]) -> Result<Heard, AllocError>
-    ensures { IfOk result (IsHeard bytes.now) }
+fn hear_bytes(alloc: Global, sync: bool, bytes: &[u8]) -> Result<Arrival, AllocError>
+    ensures came { IfOk result (IsArrival sync bytes.now) }
+    ensures may { IfOk result (MayArrive sync) }
 {
     let mut buf = [0u8; 8192];
-    match hear(alloc, &mut Given { rest: bytes }, &mut buf) {
-        Ok(heard) => Ok(heard),
+    match hear(alloc, sync, &mut Given { rest: bytes }, &mut buf) {
+        Ok(came) => Ok(came),
         Err(Fault::Memory) => Err(AllocError),
         Err(Fault::Read) => unreachable!("memory doesn't fail"),
         Err(Fault::Write) => unreachable!("nothing is written"),

@@ -1,9 +1,19 @@
 //! A request, read from a source.
 
+use crate::exchange::{Exchange, Sent};
 use crate::refusal::Refusal;
 use tk_message::Request;
 
-/// What came over a connection.
+/// What arrived over a connection.
+#[derive(Debug, Drop)]
+pub enum Arrival {
+    /// What anyone may send.
+    Heard(Heard),
+    /// What another region asks.
+    Exchange(Exchange),
+}
+
+/// What came over a connection, whoever sent it.
 #[derive(Debug, Drop)]
 pub enum Heard {
     /// Nothing: the stream ended before its first byte.
@@ -14,7 +24,7 @@ pub enum Heard {
     Asked(Request),
 }
 
-ghost use Rattle.std.specs.Prelude.{◌≡◌, ℕ, ◌++◌, List, length, drop, map, All, Some, IfOk};
+ghost use Rattle.std.specs.Prelude.{◌≡◌, ℕ, Bool, ◌++◌, List, length, drop, take, nat_le, map, All, Some, true, IfOk};
 ghost use Rattle.std.specs.Option.{option_copied, option_map};
 ghost use Rattle.httparse.specs.Grammar.{RequestHead};
 ghost use Rattle.httparse.specs.Spans.{IsRequestAt, IsRequestWithin};
@@ -22,6 +32,7 @@ ghost use Rattle.tk_params.specs.Params.{Pairs};
 ghost use Rattle.tk_edge.specs.HeadFields.{AreFields};
 ghost use Rattle.tk_edge.specs.Heads.{head_limit};
 ghost use Rattle.tk_edge.specs.Heard as spec;
+ghost use Rattle.tk_edge.specs.Judged.{MayPost};
 ghost use Rattle.tk_edge.specs.Served.{IsReadFault};
 ghost use Rattle.tk_edge.specs.declared.judge.Judged.TheVariants.{Body};
 
@@ -30,18 +41,23 @@ use crate::device::Source;
 use crate::field::{Fields, fields_of, only_value};
 use crate::head::{HeadRead, read_head};
 use crate::judge::{Judged, judge};
-use crate::path::split_target;
+use crate::path::{Posted, split_target};
 use crate::tell::Fault;
 use httparse::spans::{EMPTY_HEADER_SPAN, HeaderSpan, RequestSpans};
 use std::alloc::{AllocError, Global};
 use tk_message::Endpoint;
 use tk_params::Params;
 
-// Reads a request. A stream that ends early is one, too: what came of it is judged.
-pub(crate) fn hear<S: Source>(alloc: Global, reader: &mut S, buf: &mut [u8]) -> Result<Heard, Fault>
+// Reads a request, where regions exchange facts or don't. A stream that ends early is one, too: what came of it is judged.
+pub(crate) fn hear<S: Source>(
+    alloc: Global,
+    sync: bool,
+    reader: &mut S,
+    buf: &mut [u8],
+) -> Result<Arrival, Fault>
     requires { length buf.old ≡ head_limit }
     ensures room { length buf.new ≡ length buf.old }
-    ensures heard { IfOk result (spec.Hears (S.coming reader.old)) }
+    ensures came { IfOk result (spec.Arrives sync (S.coming reader.old)) }
     ensures fault { IsReadFault result (S.failed reader.old) (S.failed reader.new) }
 {
     let mut headers = [EMPTY_HEADER_SPAN; 64];
@@ -50,89 +66,126 @@ pub(crate) fn hear<S: Source>(alloc: Global, reader: &mut S, buf: &mut [u8]) -> 
     };
     match head {
         HeadRead::Whole { filled, spans } => {
-            head_heard(alloc, reader, &buf[..filled], &headers, spans)
+            head_heard(alloc, sync, reader, &buf[..filled], &headers, spans)
         }
         HeadRead::Missing { filled } => {
             if filled == 0 {
-                return Ok(Heard::Silence);
+                return Ok(Arrival::Heard(Heard::Silence));
             }
-            Ok(Heard::Refused(Refusal::NoHead))
+            Ok(refused(Refusal::NoHead))
         }
     }
+}
+
+fn refused(why: Refusal) -> Arrival
+    ensures { result ≡ Arrival.Heard (Heard.Refused why) }
+{
+    Arrival::Heard(Heard::Refused(why))
 }
 
 // The head at the front of `buf`, with what follows it.
 fn head_heard<S: Source>(
     alloc: Global,
+    sync: bool,
     reader: &mut S,
     buf: &[u8],
     headers: &[HeaderSpan],
     spans: RequestSpans,
-) -> Result<Heard, Fault>
+) -> Result<Arrival, Fault>
     requires { IsRequestWithin buf.now headers.now spans }
-    ensures heard { (h : RequestHead) (rest : List ℕ) → IsRequestAt buf.now headers.now spans h → S.coming reader.old ≡ Some rest
-        → IfOk result (λ heard. heard ≡ spec.heard_of h (drop spans.len buf.now ++ rest)) }
+    ensures came { (h : RequestHead) (rest : List ℕ) → IsRequestAt buf.now headers.now spans h → S.coming reader.old ≡ Some rest
+        → IfOk result (λ came. came ≡ spec.arrival_of sync h (drop spans.len buf.now ++ rest)) }
+    ensures may { IfOk result (spec.MayArrive sync) }
     ensures fault { IsReadFault result (S.failed reader.old) (S.failed reader.new) }
 {
     let fields = fields_of(buf, &headers[..spans.headers]);
     let method = spans.method.of(buf);
     let target = spans.path.of(buf);
-    match judge(method, target, &fields) {
-        Judged::Refused(why) => Ok(Heard::Refused(why)),
+    match judge(sync, method, target, &fields) {
+        Judged::Refused(why) => Ok(refused(why)),
         Judged::Query(endpoint) => {
             let query = split_target(target).1;
             asked(alloc, endpoint, query, &fields)
         }
-        Judged::Body(endpoint, size) => {
+        Judged::Vector => Ok(Arrival::Exchange(Exchange::Vector)),
+        Judged::Body(posted, size) => {
             let front = &buf[spans.len..];
-            body_heard(alloc, reader, endpoint, size as usize, front, &fields)
+            body_heard(alloc, reader, posted, size as usize, front, &fields)
         }
     }
 }
 
-// Reads a body of this size. One that came with its head is not copied.
+// Reads a body of this size. A form that came with its head is not copied.
 fn body_heard<S: Source>(
     alloc: Global,
     reader: &mut S,
-    endpoint: Endpoint,
+    posted: Posted,
     size: usize,
     front: &[u8],
     fields: &Fields<'_>,
-) -> Result<Heard, Fault>
-    ensures heard { (target rest : List ℕ) (pairs : Pairs) → AreFields fields.now pairs → S.coming reader.old ≡ Some rest
-        → IfOk result (λ heard. heard ≡ spec.heard_by target pairs (front.now ++ rest) (Body endpoint size)) }
+) -> Result<Arrival, Fault>
+    ensures came { (target rest : List ℕ) (pairs : Pairs) → AreFields fields.now pairs → S.coming reader.old ≡ Some rest
+        → IfOk result (λ came. came ≡ spec.arrival_by target pairs (front.now ++ rest) (Body posted size)) }
+    ensures may { (sync : Bool) → MayPost sync posted → IfOk result (spec.MayArrive sync) }
     ensures fault { IsReadFault result (S.failed reader.old) (S.failed reader.new) }
 {
     if size <= front.len() {
-        return asked(alloc, endpoint, &front[..size], fields);
+        return lent(alloc, posted, &front[..size], fields);
     }
     let Ok(mut body) = Vec::from_elem(alloc, 0u8, size) else {
         return Err(Fault::Memory);
     };
-    filled_heard(alloc, reader, endpoint, front, &mut body, fields)
+    if fill(reader, front, &mut body)? {
+        kept(alloc, posted, body, fields)
+    } else {
+        Ok(refused(Refusal::ShortBody))
+    }
 }
 
-// Fills the body.
-fn filled_heard<S: Source>(
-    alloc: Global,
-    reader: &mut S,
-    endpoint: Endpoint,
-    front: &[u8],
-    body: &mut [u8],
-    fields: &Fields<'_>,
-) -> Result<Heard, Fault>
-    ensures heard { (target rest : List ℕ) (pairs : Pairs) → AreFields fields.now pairs → S.coming reader.old ≡ Some rest
-        → IfOk result (λ heard. heard ≡ spec.heard_by target pairs (front.now ++ rest) (Body endpoint (length body.old))) }
+// Fills the body, and answers whether there were bytes enough.
+fn fill<S: Source>(reader: &mut S, front: &[u8], body: &mut [u8]) -> Result<bool, Fault>
+    ensures room { length body.new ≡ length body.old }
+    ensures enough { (rest : List ℕ) → S.coming reader.old ≡ Some rest
+        → IfOk result (λ enough. enough ≡ nat_le (length body.old) (length (front.now ++ rest))) }
+    ensures filled { (rest : List ℕ) → S.coming reader.old ≡ Some rest
+        → IfOk result (λ enough. enough ≡ true → body.new ≡ take (length body.old) (front.now ++ rest)) }
     ensures fault { IsReadFault result (S.failed reader.old) (S.failed reader.new) }
 {
     let size = body.len();
-    let Ok(count) = read_body(reader, front, body) else {
-        return Err(Fault::Read);
-    };
-    if count < size {
-        return Ok(Heard::Refused(Refusal::ShortBody));
+    match read_body(reader, front, body) {
+        Ok(count) => Ok(size <= count),
+        Err(_) => Err(Fault::Read),
     }
-    asked(alloc, endpoint, body, fields)
+}
+
+// A body that is whole, in another's buffer.
+fn lent(alloc: Global, posted: Posted, body: &[u8], fields: &Fields<'_>) -> Result<Arrival, Fault>
+    ensures came { (pairs : Pairs) → AreFields fields.now pairs → IfOk result (λ came. came ≡ spec.posted_to posted body.now pairs) }
+    ensures may { (sync : Bool) → MayPost sync posted → IfOk result (spec.MayArrive sync) }
+    ensures fault { IsReadFault result 0 0 }
+{
+    match posted {
+        Posted::Form(endpoint) => asked(alloc, endpoint, body, fields),
+        Posted::Pull | Posted::Push => {
+            let Ok(copy) = Vec::from_slice(alloc, body) else {
+                return Err(Fault::Memory);
+            };
+            kept(alloc, posted, copy, fields)
+        }
+    }
+}
+
+// A body that is whole, in a buffer of its own.
+fn kept(alloc: Global, posted: Posted, body: Vec<u8>, fields: &Fields<'_>) -> Result<Arrival, Fault>
+    ensures came { (pairs : Pairs) → AreFields fields.now pairs → IfOk result (λ came. came ≡ spec.posted_to posted body.items pairs) }
+    ensures may { (sync : Bool) → MayPost sync posted → IfOk result (spec.MayArrive sync) }
+    ensures fault { IsReadFault result 0 0 }
+{
+    match posted {
+        Posted::Form(endpoint) => asked(alloc, endpoint, &body, fields),
+        Posted::Pull => Ok(Arrival::Exchange(Exchange::Pull(Sent::new(body)))),
+        Posted::Push => Ok(Arrival::Exchange(Exchange::Push(Sent::new(body)))),
+    }
 }
 
 // A request that is whole.
@@ -141,13 +194,14 @@ fn asked(
     endpoint: Endpoint,
     form: &[u8],
     fields: &Fields<'_>,
-) -> Result<Heard, Fault>
-    ensures heard { (pairs : Pairs) → AreFields fields.now pairs
-        → IfOk result (λ heard. heard ≡ Heard.Asked (spec.request_at endpoint form.now pairs)) }
+) -> Result<Arrival, Fault>
+    ensures came { (pairs : Pairs) → AreFields fields.now pairs
+        → IfOk result (λ came. came ≡ Arrival.Heard (Heard.Asked (spec.request_at endpoint form.now pairs))) }
+    ensures may { (sync : Bool) → IfOk result (spec.MayArrive sync) }
     ensures fault { IsReadFault result 0 0 }
 {
     match request_of(alloc, endpoint, form, fields) {
-        Ok(request) => Ok(Heard::Asked(request)),
+        Ok(request) => Ok(Arrival::Heard(Heard::Asked(request))),
         Err(_) => Err(Fault::Memory),
     }
 }

@@ -7,28 +7,26 @@ ghost use Rattle.tk_edge.specs.Judged as spec;
 
 use crate::field::{Field, Fields, any_repeats};
 use crate::media_type::is_form_type;
-use crate::path::{Method, Path, method_named, path_named, split_target};
+use crate::path::{Method, Path, Posted, Service, method_named, path_named, split_target};
 use crate::refusal::Refusal;
 use tk_format::{Numeral, read_numeral};
 use tk_message::Endpoint;
 
-// What a head asks for: nothing that is served, what its query asks, or what a body of so many bytes asks.
+// What a head asks for: nothing that is served, what its query asks, the region's vector, or what a body of so many bytes asks.
 #[derive(Clone, Copy, Debug, PartialEq, Eq)]
 pub(crate) enum Judged {
     Refused(Refusal),
     Query(Endpoint),
-    Body(Endpoint, u32),
+    Vector,
+    Body(Posted, u32),
 }
 
-// The greatest body of a form in bytes.
-const BODY_LIMIT: u32 = 16_384;
-
-// What a head asks for, by its method, its target and its fields.
-pub(crate) fn judge(method: &[u8], target: &[u8], fields: &Fields<'_>) -> Judged
-    ensures { (pairs : Pairs) → AreFields fields.now pairs → result ≡ spec.judged_of method.now target.now pairs }
+// What a head asks for, by its method, its target and its fields, where regions exchange facts or don't.
+pub(crate) fn judge(sync: bool, method: &[u8], target: &[u8], fields: &Fields<'_>) -> Judged
+    ensures { (pairs : Pairs) → AreFields fields.now pairs → result ≡ spec.judged_of sync method.now target.now pairs }
 {
     at_path(
-        path_named(split_target(target).0),
+        path_named(sync, split_target(target).0),
         method_named(method),
         fields,
     )
@@ -38,59 +36,65 @@ fn at_path(path: Option<Path>, method: Option<Method>, fields: &Fields<'_>) -> J
     ensures { (pairs : Pairs) → AreFields fields.now pairs → result ≡ spec.at_path path method pairs }
 {
     match path {
-        Some(path) => at_endpoint(path, path.endpoint(method), method, fields),
+        Some(path) => at_service(path, path.service(method), fields),
         None => Judged::Refused(Refusal::UnknownPath),
     }
 }
 
-fn at_endpoint(
-    path: Path,
-    endpoint: Option<Endpoint>,
-    method: Option<Method>,
-    fields: &Fields<'_>,
-) -> Judged
-    ensures { (pairs : Pairs) → AreFields fields.now pairs → result ≡ spec.at_endpoint path endpoint method pairs }
+fn at_service(path: Path, service: Option<Service>, fields: &Fields<'_>) -> Judged
+    ensures { (pairs : Pairs) → AreFields fields.now pairs → result ≡ spec.at_service path service pairs }
 {
-    let Some(endpoint) = endpoint else {
+    let Some(service) = service else {
         return Judged::Refused(Refusal::WrongMethod(path));
     };
     if any_repeats(fields) {
         return Judged::Refused(Refusal::DuplicateField);
     }
-    asked(endpoint, method, fields)
+    asked(service, fields)
 }
 
-fn asked(endpoint: Endpoint, method: Option<Method>, fields: &Fields<'_>) -> Judged
-    ensures { (pairs : Pairs) → AreFields fields.now pairs → has_repeats pairs ≡ false → result ≡ spec.asked endpoint method pairs }
+fn asked(service: Service, fields: &Fields<'_>) -> Judged
+    ensures { (pairs : Pairs) → AreFields fields.now pairs → has_repeats pairs ≡ false → result ≡ spec.asked service pairs }
 {
-    match method {
-        Some(Method::Post) => posted(endpoint, fields),
-        _ => Judged::Query(endpoint),
+    match service {
+        Service::Query(endpoint) => Judged::Query(endpoint),
+        Service::Vector => Judged::Vector,
+        Service::Body(posted) => with_body(posted, fields),
     }
 }
 
-fn posted(endpoint: Endpoint, fields: &Fields<'_>) -> Judged
+fn with_body(posted: Posted, fields: &Fields<'_>) -> Judged
     ensures { (codings lengths kinds : List (List ℕ)) → IsField fields.now.coding codings
         → IsField fields.now.length lengths → length lengths ≤ 1 → IsField fields.now.kind kinds → length kinds ≤ 1
-        → result ≡ spec.posted endpoint codings lengths kinds }
+        → result ≡ spec.with_body posted codings lengths kinds }
 {
     match (fields.coding, fields.length) {
         (Field::Absent, Field::Value(text)) => {
-            sized(endpoint, read_numeral(text, BODY_LIMIT), fields.kind)
+            sized(posted, read_numeral(text, limit_of(posted)), fields.kind)
         }
         _ => Judged::Refused(Refusal::LengthRequired),
     }
 }
 
-fn sized(endpoint: Endpoint, told: Numeral, kind: Field<'_>) -> Judged
-    ensures { (kinds : List (List ℕ)) → IsField kind.entry kinds → length kinds ≤ 1 → result ≡ spec.sized endpoint told kinds }
+// The greatest body in bytes.
+fn limit_of(posted: Posted) -> u32
+    ensures { result ≡ spec.limit_of posted }
+{
+    match posted {
+        Posted::Form(_) => 16_384,
+        Posted::Pull | Posted::Push => 1_049_600,
+    }
+}
+
+fn sized(posted: Posted, told: Numeral, kind: Field<'_>) -> Judged
+    ensures { (kinds : List (List ℕ)) → IsField kind.entry kinds → length kinds ≤ 1 → result ≡ spec.sized posted told kinds }
 {
     match told {
         Numeral::Malformed => Judged::Refused(Refusal::BadLength),
         Numeral::Above => Judged::Refused(Refusal::TooLarge),
         Numeral::Within(n) => {
-            if fits_type(kind) {
-                Judged::Body(endpoint, n)
+            if fits_type(posted, kind) {
+                Judged::Body(posted, n)
             } else {
                 Judged::Refused(Refusal::WrongType)
             }
@@ -98,11 +102,11 @@ fn sized(endpoint: Endpoint, told: Numeral, kind: Field<'_>) -> Judged
     }
 }
 
-fn fits_type(kind: Field<'_>) -> bool
-    ensures { (kinds : List (List ℕ)) → IsField kind.entry kinds → length kinds ≤ 1 → result ≡ spec.fits_type kinds }
+fn fits_type(posted: Posted, kind: Field<'_>) -> bool
+    ensures { (kinds : List (List ℕ)) → IsField kind.entry kinds → length kinds ≤ 1 → result ≡ spec.fits_type posted kinds }
 {
-    match kind {
-        Field::Value(text) => is_form_type(text),
+    match (posted, kind) {
+        (Posted::Form(_), Field::Value(text)) => is_form_type(text),
         _ => true,
     }
 }

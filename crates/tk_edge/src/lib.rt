@@ -9,12 +9,13 @@
 //!   them of std's readers and writers, [`Discard`] takes all, [`FrailSource`] and [`FrailSink`] fail when they are told to;
 //! - `head`, `field`, `body`: what is read of a request;
 //! - [`Path`] and `judge`: what a head asks for, or the [`Refusal`] of it, by ordered cases;
-//! - [`Heard`], what a stream comes to; `answer`, what it is answered; `render`, the bytes of a reply;
+//! - [`Arrival`], what a stream comes to: [`Heard`], whoever sent it, or an [`Exchange`] between regions; `answer`, what it is
+//!   answered; `render`, the bytes of a reply;
 //! - `tell`: the record of a fact, and only then the reply; [`Fault`], where that ends otherwise;
 //! - [`Edge`]: [`Edge::answer`] over bytes, [`Edge::serve_one`] over devices.
 //!
-//! `specs/Judged.antt` has the cases, `specs/Heard.antt` the meaning of a stream, `specs/Answers.antt` its answer and
-//! `specs/Served.antt` what one connection does.
+//! `specs/Judged.antt` has the cases, `specs/Heard.antt` the meaning of a stream, `specs/Answers.antt` and
+//! `specs/Exchanges.antt` its answer, and `specs/Served.antt` what one connection does.
 #![tactic(auto)]
 
 mod answer;
@@ -22,6 +23,7 @@ mod body;
 mod counted;
 mod device;
 mod edge;
+mod exchange;
 mod field;
 mod frail;
 mod given;
@@ -31,6 +33,7 @@ mod judge;
 mod laws;
 mod media_type;
 mod path;
+mod pull;
 mod put;
 mod refusal;
 mod render;
@@ -40,9 +43,10 @@ pub use answer::Answer;
 pub use counted::Counted;
 pub use device::{Failed, Sink, Source};
 pub use edge::{Edge, Served};
+pub use exchange::{Exchange, Sent};
 pub use frail::{Fails, FrailSink, FrailSource};
-pub use hear::Heard;
-pub use laws::one_meaning;
+pub use hear::{Arrival, Heard};
+pub use laws::{hears_all, one_meaning};
 pub use path::Path;
 pub use put::Discard;
 pub use refusal::Refusal;

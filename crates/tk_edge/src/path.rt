@@ -1,4 +1,4 @@
-//! The paths that are served, and the endpoint of each under a method.
+//! The paths that are served, and what each serves under a method.
 
 ghost use Rattle.std.specs.Prelude.{◌≡◌, ◌≤◌, ◌==◌, length};
 ghost use Rattle.std.specs.List.{position_or_len};
@@ -25,6 +25,12 @@ pub enum Path {
     Consent,
     /// `/admin/withdraw` (own).
     Withdraw,
+    /// `/sync/vector` (own).
+    Vector,
+    /// `/sync/pull` (own).
+    Pull,
+    /// `/sync/push` (own).
+    Push,
 }
 
 // How it is asked for.
@@ -32,6 +38,28 @@ pub enum Path {
 pub(crate) enum Method {
     Get,
     Post,
+}
+
+// What a path serves under a method.
+#[derive(Clone, Copy, Debug, PartialEq, Eq)]
+pub(crate) enum Service {
+    // What the query asks of an endpoint.
+    Query(Endpoint),
+    // The region's vector.
+    Vector,
+    // What a body asks.
+    Body(Posted),
+}
+
+// What a body is for.
+#[derive(Clone, Copy, Debug, PartialEq, Eq)]
+pub(crate) enum Posted {
+    // The parameters of an endpoint.
+    Form(Endpoint),
+    // A cursor and a vector.
+    Pull,
+    // A bundle.
+    Push,
 }
 
 // The place of the first byte of this value, or the length.
@@ -63,9 +91,9 @@ pub(crate) fn split_target(target: &[u8]) -> (&[u8], &[u8])
     (&target[..at], &target[at + 1..])
 }
 
-// What is served under a path.
-pub(crate) fn path_named(path: &[u8]) -> Option<Path>
-    ensures { result ≡ spec.path_named path.now }
+// What is served under a path, where regions exchange facts or don't.
+pub(crate) fn path_named(sync: bool, path: &[u8]) -> Option<Path>
+    ensures { result ≡ spec.path_named sync path.now }
 {
     if path == b"/authorize".as_slice() {
         return Some(Path::Authorize);
@@ -91,6 +119,21 @@ pub(crate) fn path_named(path: &[u8]) -> Option<Path>
     if path == b"/admin/withdraw".as_slice() {
         return Some(Path::Withdraw);
     }
+    if sync { sync_named(path) } else { None }
+}
+
+fn sync_named(path: &[u8]) -> Option<Path>
+    ensures { result ≡ spec.sync_named path.now }
+{
+    if path == b"/sync/vector".as_slice() {
+        return Some(Path::Vector);
+    }
+    if path == b"/sync/pull".as_slice() {
+        return Some(Path::Pull);
+    }
+    if path == b"/sync/push".as_slice() {
+        return Some(Path::Push);
+    }
     None
 }
 
@@ -108,39 +151,42 @@ pub(crate) fn method_named(name: &[u8]) -> Option<Method>
 }
 
 impl Path {
-    // The endpoint that it has under a method.
-    pub(crate) fn endpoint(self, method: Option<Method>) -> Option<Endpoint>
-        ensures { result ≡ spec.endpoint_at self method }
+    // What it serves under a method.
+    pub(crate) fn service(self, method: Option<Method>) -> Option<Service>
+        ensures { result ≡ spec.service_at self method }
     {
         match method {
-            Some(Method::Get) => self.get_endpoint(),
-            Some(Method::Post) => self.post_endpoint(),
+            Some(Method::Get) => self.get_service(),
+            Some(Method::Post) => self.post_service(),
             None => None,
         }
     }
 
-    fn get_endpoint(self) -> Option<Endpoint>
-        ensures { result ≡ spec.get_endpoint self }
+    fn get_service(self) -> Option<Service>
+        ensures { result ≡ spec.get_service self }
     {
         match self {
-            Path::Authorize => Some(Endpoint::Authorize),
-            Path::Client => Some(Endpoint::ShowClient),
+            Path::Authorize => Some(Service::Query(Endpoint::Authorize)),
+            Path::Client => Some(Service::Query(Endpoint::ShowClient)),
+            Path::Vector => Some(Service::Vector),
             _ => None,
         }
     }
 
-    fn post_endpoint(self) -> Option<Endpoint>
-        ensures { result ≡ spec.post_endpoint self }
+    fn post_service(self) -> Option<Service>
+        ensures { result ≡ spec.post_service self }
     {
         match self {
-            Path::Authorize => None,
-            Path::Token => Some(Endpoint::Token),
-            Path::Introspect => Some(Endpoint::Introspect),
-            Path::Revoke => Some(Endpoint::Revoke),
-            Path::Client => Some(Endpoint::AddClient),
-            Path::Retire => Some(Endpoint::Retire),
-            Path::Consent => Some(Endpoint::Consent),
-            Path::Withdraw => Some(Endpoint::Withdraw),
+            Path::Authorize | Path::Vector => None,
+            Path::Token => form_for(Endpoint::Token),
+            Path::Introspect => form_for(Endpoint::Introspect),
+            Path::Revoke => form_for(Endpoint::Revoke),
+            Path::Client => form_for(Endpoint::AddClient),
+            Path::Retire => form_for(Endpoint::Retire),
+            Path::Consent => form_for(Endpoint::Consent),
+            Path::Withdraw => form_for(Endpoint::Withdraw),
+            Path::Pull => Some(Service::Body(Posted::Pull)),
+            Path::Push => Some(Service::Body(Posted::Push)),
         }
     }
 
@@ -149,9 +195,15 @@ impl Path {
         ensures { result.now ≡ spec.allowed_at self }
     {
         match self {
-            Path::Authorize => b"GET",
+            Path::Authorize | Path::Vector => b"GET",
             Path::Client => b"GET, POST",
             _ => b"POST",
         }
     }
+}
+
+fn form_for(endpoint: Endpoint) -> Option<Service>
+    ensures { result ≡ spec.form_for endpoint }
+{
+    Some(Service::Body(Posted::Form(endpoint)))
 }

@@ -81,6 +81,7 @@ fn reason_of(status: Status) -> &'static [u8]
         Status::Unauthorized => b"Unauthorized",
         Status::NotFound => b"Not Found",
         Status::MethodNotAllowed => b"Method Not Allowed",
+        Status::Conflict => b"Conflict",
         Status::LengthRequired => b"Length Required",
         Status::ContentTooLarge => b"Content Too Large",
         Status::ServiceUnavailable => b"Service Unavailable",

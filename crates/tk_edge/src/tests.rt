@@ -1,7 +1,9 @@
 //! Streams of bytes to an edge: what they are answered, and what a failing device leaves.
 
+mod exchange;
 mod flow;
 mod heads;
+mod hostile;
 mod refusals;
 mod serving;
 
@@ -12,11 +14,16 @@ use std::test::Fail;
 use tk_handle::{Moment, RegionNumber};
 use tk_region::{Region, Settings};
 
-// An edge over region 1, which holds nothing, with the lives that a program has where none are given.
-fn new_edge(alloc: Global) -> Option<Edge> {
+// An edge over a region that holds nothing, with the lives that a program has where none are given.
+fn new_edge_of(alloc: Global, region: u16, sync: bool) -> Option<Edge> {
     let settings = Settings::new(60, 3_600, 86_400, 2_592_000, 1_000_000)?;
-    let number = RegionNumber::new(1)?;
-    Some(Edge::new(Region::new(alloc, number, settings)))
+    let number = RegionNumber::new(region)?;
+    Some(Edge::new(Region::new(alloc, number, settings), sync))
+}
+
+// One over region 1, where regions exchange nothing.
+fn new_edge(alloc: Global) -> Option<Edge> {
+    new_edge_of(alloc, 1, false)
 }
 
 // The six words of an event, by its place among the events.

@@ -6,6 +6,7 @@
 --   token_body     an access and a refresh token (RFC 6749, 5.1)
 --   access_body    what is said of an active access token; refresh_body, of a refresh token (RFC 7662, 2.2)
 --   inactive_body  what is said of any other token (RFC 7662, 2.2)
+--   taken_body     {"took":N} (own)
 --   IsWritable     a value that has one text: it holds no floating-point number
 use Rattle.std.specs.Prelude.{◌≡◌, ℕ, Bool, true, false, List, codes}
 use Rattle.serde_json.specs.Data.{Data, string, boolean, number, unsigned, object, member, no_members}
@@ -75,3 +76,7 @@ refresh_body client expiry start scope subject = object
 
 abbrev pub inactive_body : Data
 inactive_body = object (member (codes "active") (boolean false) no_members)
+
+-- how many of a bundle's facts were new
+abbrev pub taken_body : ℕ → Data
+taken_body count = object (member (codes "took") (number (unsigned count)) no_members)

@@ -1,10 +1,11 @@
--- The codes of errors (RFC 6749, 4.1.2.1 and 5.2; `not_found` and the last four, of requests that aren't read, are own).
+-- The codes of errors (RFC 6749, 4.1.2.1 and 5.2; `not_found` and the last seven, of requests that aren't read and of what regions
+-- exchange, are own).
 --   error_row      the status and the name of each; error_status, error_name, the one and the other
 use Rattle.std.specs.Prelude.{ℕ, List, codes}
 use Rattle.tk_message.specs.declared.status.Status.{Status}
 use Rattle.tk_message.specs.declared.status.Status.TheVariants as status
 use Rattle.tk_message.specs.declared.error_code.ErrorCode.{ErrorCode}
-use Rattle.tk_message.specs.declared.error_code.ErrorCode.TheVariants.{InvalidRequest, InvalidClient, InvalidGrant, InvalidScope, UnsupportedGrantType, UnsupportedResponseType, AccessDenied, NotFound, TemporarilyUnavailable, BadRequest, MethodNotAllowed, LengthRequired, TooLarge}
+use Rattle.tk_message.specs.declared.error_code.ErrorCode.TheVariants.{InvalidRequest, InvalidClient, InvalidGrant, InvalidScope, UnsupportedGrantType, UnsupportedResponseType, AccessDenied, NotFound, TemporarilyUnavailable, BadRequest, MethodNotAllowed, LengthRequired, TooLarge, Malformed, OwnNumber, Conflict}
 
 -- an unknown client is 401, what RFC 6749 names else is 400 (RFC 6749, 5.2), but for a server that can't answer
 abbrev pub error_row : ErrorCode → Status × List ℕ
@@ -21,6 +22,9 @@ error_row BadRequest = (status.BadRequest, codes "bad_request")
 error_row MethodNotAllowed = (status.MethodNotAllowed, codes "method_not_allowed")
 error_row LengthRequired = (status.LengthRequired, codes "length_required")
 error_row TooLarge = (status.ContentTooLarge, codes "too_large")
+error_row Malformed = (status.BadRequest, codes "malformed")
+error_row OwnNumber = (status.Conflict, codes "own_number")
+error_row Conflict = (status.Conflict, codes "conflict")
 
 abbrev pub error_status : ErrorCode → Status
 error_status code = (error_row code).0

@@ -10,6 +10,8 @@
 --   access_reply     what is said of an active access token; refresh_reply, of a refresh token
 --   inactive_reply   what is said of any other token
 --   empty_reply      a status alone
+--   taken_reply      how many facts were new
+--   bytes_reply      other bytes, as a bundle's
 use Rattle.std.specs.Prelude.{ℕ, Bool, true, false, List, [], ◌∷◌, codes, Option, Some, None}
 use Rattle.serde_json.specs.Data.{Data}
 use Rattle.serde_json.specs.Written.{compact_text}
@@ -18,11 +20,11 @@ use Rattle.tk_handle.specs.declared.handle.Handle.{Handle}
 use Rattle.tk_match.specs.ReplyUri.{reply_of}
 use Rattle.tk_fact.specs.declared.sort.Sort.{Sort}
 use Rattle.tk_message.specs.declared.status.Status.{Status}
-use Rattle.tk_message.specs.declared.status.Status.TheVariants.{Ok, Created, Found, BadRequest, Unauthorized, NotFound, MethodNotAllowed, LengthRequired, ContentTooLarge, ServiceUnavailable}
+use Rattle.tk_message.specs.declared.status.Status.TheVariants.{Ok, Created, Found, BadRequest, Unauthorized, NotFound, MethodNotAllowed, Conflict, LengthRequired, ContentTooLarge, ServiceUnavailable}
 use Rattle.tk_message.specs.declared.error_code.ErrorCode.{ErrorCode}
 use Rattle.tk_message.specs.ErrorCode.{error_status, error_name}
-use Rattle.tk_message.specs.Bodies.{error_body, client_body, consent_body, shown_body, token_body, access_body, refresh_body, inactive_body}
-use Rattle.tk_message.specs.ReplyFields.{ReplyFields, Nothing, JsonText}
+use Rattle.tk_message.specs.Bodies.{error_body, client_body, consent_body, shown_body, token_body, access_body, refresh_body, inactive_body, taken_body}
+use Rattle.tk_message.specs.ReplyFields.{ReplyFields, Nothing, JsonText, OtherBytes}
 
 -- credentials are asked for with every 401 (RFC 6749, 5.2)
 abbrev pub asks_credentials : Status → Bool
@@ -33,6 +35,7 @@ asks_credentials BadRequest = false
 asks_credentials Unauthorized = true
 asks_credentials NotFound = false
 asks_credentials MethodNotAllowed = false
+asks_credentials Conflict = false
 asks_credentials LengthRequired = false
 asks_credentials ContentTooLarge = false
 asks_credentials ServiceUnavailable = false
@@ -91,4 +94,15 @@ empty_reply status = record {
   location = None;
   www = asks_credentials status;
   content = Nothing;
+}
+
+abbrev pub taken_reply : ℕ → ReplyFields
+taken_reply count = json_reply Ok (taken_body count)
+
+abbrev pub bytes_reply : List ℕ → ReplyFields
+bytes_reply bytes = record {
+  status = Ok;
+  location = None;
+  www = false;
+  content = OtherBytes bytes;
 }

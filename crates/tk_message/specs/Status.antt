@@ -1,7 +1,7 @@
 -- The numbers of statuses (RFC 9110, 15).
 use Rattle.std.specs.Prelude.{ℕ}
 use Rattle.tk_message.specs.declared.status.Status.{Status}
-use Rattle.tk_message.specs.declared.status.Status.TheVariants.{Ok, Created, Found, BadRequest, Unauthorized, NotFound, MethodNotAllowed, LengthRequired, ContentTooLarge, ServiceUnavailable}
+use Rattle.tk_message.specs.declared.status.Status.TheVariants.{Ok, Created, Found, BadRequest, Unauthorized, NotFound, MethodNotAllowed, Conflict, LengthRequired, ContentTooLarge, ServiceUnavailable}
 
 abbrev pub status_number : Status → ℕ
 status_number Ok = 200
@@ -11,6 +11,7 @@ status_number BadRequest = 400
 status_number Unauthorized = 401
 status_number NotFound = 404
 status_number MethodNotAllowed = 405
+status_number Conflict = 409
 status_number LengthRequired = 411
 status_number ContentTooLarge = 413
 status_number ServiceUnavailable = 503

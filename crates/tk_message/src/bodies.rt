@@ -132,3 +132,9 @@ pub(crate) fn inactive_body(alloc: Global) -> Result<Value, AllocError>
 {
     json!(in alloc; {"active": false})
 }
+
+pub(crate) fn taken_body(alloc: Global, count: u16) -> Result<Value, AllocError>
+    ensures { IfOk result (λ body. view body ≡ spec.taken_body count) }
+{
+    json!(in alloc; {"took": count})
+}

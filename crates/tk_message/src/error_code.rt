@@ -34,6 +34,12 @@ pub enum ErrorCode {
     LengthRequired,
     /// The body is longer than is read (own; RFC 9110, 15.5.14).
     TooLarge,
+    /// The bytes that another region sent spell nothing (own).
+    Malformed,
+    /// A bundle holds a fact of the region's own number that the region hasn't made (own; RFC 9110, 15.5.10).
+    OwnNumber,
+    /// A bundle holds another body for a fact that is held (own; RFC 9110, 15.5.10).
+    Conflict,
 }
 
 impl ErrorCode {
@@ -55,6 +61,9 @@ impl ErrorCode {
             ErrorCode::MethodNotAllowed => "method_not_allowed",
             ErrorCode::LengthRequired => "length_required",
             ErrorCode::TooLarge => "too_large",
+            ErrorCode::Malformed => "malformed",
+            ErrorCode::OwnNumber => "own_number",
+            ErrorCode::Conflict => "conflict",
         }
     }
 
@@ -69,13 +78,15 @@ impl ErrorCode {
             | ErrorCode::UnsupportedGrantType
             | ErrorCode::UnsupportedResponseType
             | ErrorCode::AccessDenied
-            | ErrorCode::BadRequest => Status::BadRequest,
+            | ErrorCode::BadRequest
+            | ErrorCode::Malformed => Status::BadRequest,
             ErrorCode::InvalidClient => Status::Unauthorized,
             ErrorCode::NotFound => Status::NotFound,
             ErrorCode::TemporarilyUnavailable => Status::ServiceUnavailable,
             ErrorCode::MethodNotAllowed => Status::MethodNotAllowed,
             ErrorCode::LengthRequired => Status::LengthRequired,
             ErrorCode::TooLarge => Status::ContentTooLarge,
+            ErrorCode::OwnNumber | ErrorCode::Conflict => Status::Conflict,
         }
     }
 }

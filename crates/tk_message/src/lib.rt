@@ -29,8 +29,9 @@ pub use decision::Decision;
 pub use error_code::ErrorCode;
 pub use place::{Lives, Place};
 pub use reply::{
-    Payload, Reply, access_reply, client_reply, consent_reply, empty_reply, error_reply,
-    handle_string, inactive_reply, redirect_reply, refresh_reply, shown_reply, token_reply,
+    Payload, Reply, access_reply, bytes_reply, client_reply, consent_reply, empty_reply,
+    error_reply, handle_string, inactive_reply, redirect_reply, refresh_reply, shown_reply,
+    taken_reply, token_reply,
 };
 pub use request::{Endpoint, Request};
 pub use scope::scope_asked;

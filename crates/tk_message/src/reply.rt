@@ -46,7 +46,7 @@ ghost use Rattle.tk_message.specs.Reply as spec;
 
 use crate::bodies::{
     access_body, client_body, consent_body, error_body, inactive_body, refresh_body, shown_body,
-    token_body,
+    taken_body, token_body,
 };
 use crate::error_code::ErrorCode;
 use serde_json::Value;
@@ -237,4 +237,24 @@ pub fn handle_string(alloc: Global, handle: &Handle) -> Result<String, AllocErro
         unreachable!("base64 is ASCII");
     };
     String::from_str(alloc, text)
+}
+
+/// How many facts of a bundle were new (own).
+pub fn taken_reply(alloc: Global, count: u16) -> Result<Reply, AllocError>
+    ensures { IfOk result (λ reply. reply ≡ spec.taken_reply count) }
+{
+    let body = taken_body(alloc, count)?;
+    json_reply(alloc, Status::Ok, &body)
+}
+
+/// Bytes that are no text, as a bundle's, with 200 OK. No memory is taken.
+pub fn bytes_reply(bytes: Vec<u8>) -> Reply
+    ensures { result ≡ spec.bytes_reply bytes.items }
+{
+    Reply {
+        status: Status::Ok,
+        location: None,
+        www: false,
+        body: Payload::Bytes(bytes),
+    }
 }

@@ -20,6 +20,8 @@ pub enum Status {
     NotFound,
     /// 405 Method Not Allowed.
     MethodNotAllowed,
+    /// 409 Conflict.
+    Conflict,
     /// 411 Length Required.
     LengthRequired,
     /// 413 Content Too Large.
@@ -41,6 +43,7 @@ impl Status {
             Status::Unauthorized => 401,
             Status::NotFound => 404,
             Status::MethodNotAllowed => 405,
+            Status::Conflict => 409,
             Status::LengthRequired => 411,
             Status::ContentTooLarge => 413,
             Status::ServiceUnavailable => 503,

@@ -39,7 +39,7 @@ fn is_told(reply: Option<Reply>, status: u16, body: &str) -> bool {
 }
 
 // Each error code with its status (RFC 6749, 4.1.2.1 and 5.2; RFC 9110, 15.5), its text, and whether credentials are asked for.
-static ERRORS: [(ErrorCode, u16, &str, bool); 13] = [
+static ERRORS: [(ErrorCode, u16, &str, bool); 16] = [
     (
         ErrorCode::InvalidRequest,
         400,
@@ -108,6 +108,19 @@ static ERRORS: [(ErrorCode, u16, &str, bool); 13] = [
         false,
     ),
     (ErrorCode::TooLarge, 413, "{\"error\":\"too_large\"}", false),
+    (
+        ErrorCode::Malformed,
+        400,
+        "{\"error\":\"malformed\"}",
+        false,
+    ),
+    (
+        ErrorCode::OwnNumber,
+        409,
+        "{\"error\":\"own_number\"}",
+        false,
+    ),
+    (ErrorCode::Conflict, 409, "{\"error\":\"conflict\"}", false),
 ];
 
 fn is_refusal(alloc: Global, code: ErrorCode, status: u16, body: &str, www: bool) -> bool {

@@ -31,9 +31,11 @@ ghost use Rattle.std.specs.FinMap as map;
 ghost use Rattle.tk_format.specs.Format.{whole};
 ghost use Rattle.tk_handle.specs.Ranges.{greatest_serial};
 ghost use Rattle.tk_fact.specs.Check.{refusal_of};
+ghost use Rattle.tk_store.specs.Front.{IsFront};
 ghost use Rattle.tk_store.specs.NextDot.{next_serial, next_dot};
 ghost use Rattle.tk_store.specs.Store.{facts_of, known_in};
 ghost use Rattle.tk_bundle.specs.Bundle.{bundle};
+ghost use Rattle.tk_bundle.specs.Page as pages;
 ghost use Rattle.tk_message.specs.Place.{next_in};
 ghost use Rattle.tk_region.specs.RegionFields.{place_in};
 ghost use Rattle.tk_region.specs.Step.{prepared_of, IsNextFact, Commits};
@@ -43,10 +45,12 @@ use crate::decision::decide_endpoint;
 use crate::step::{Handled, Prepared, prepare};
 use crate::take::{TakeError, take_bytes};
 use std::alloc::{AllocError, Global};
+use tk_bundle::{Page, make};
 use tk_fact::Fact;
 use tk_handle::{Dot, Moment};
 use tk_message::{Place, Request};
 use tk_store::{AddError, Added};
+use tk_vector::VersionVector;
 
 impl Region {
     /// A region with no fact.
@@ -88,6 +92,28 @@ impl Region {
         ensures { result ≡ map.len (facts_of self.now.facts) }
     {
         self.ledger.store().len()
+    }
+
+    /// To each region, up to which serial all of its facts are held: what another region is asked by.
+    pub fn vector(&self, alloc: Global) -> Result<VersionVector, AllocError>
+        ensures { IfOk result (IsFront (known_in self.now.facts)) }
+    {
+        self.ledger.store().vector().copy(alloc)
+    }
+
+    /// The first 128 facts that the vector doesn't cover and that stand above the dot, if one is given, as a bundle.
+    pub fn page(
+        &self,
+        alloc: Global,
+        vector: &VersionVector,
+        after: Option<Dot>,
+    ) -> Result<Page, AllocError>
+        ensures page { IfOk result (λ page. pages.IsPageOf page (pages.page_of (known_in self.now.facts) vector.now after)) }
+
+        // So it can be read.
+        ensures fits { OnOk result (bundle.Fits (pages.page_of (known_in self.now.facts) vector.now after).facts) }
+    {
+        make(alloc, self.ledger.store(), vector, after)
     }
 
     // Where its next fact stands.

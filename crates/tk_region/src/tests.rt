@@ -1,5 +1,6 @@
 //! A region that makes facts and takes bundles in: what it answers, and the bytes of what it then holds.
 
+mod pages;
 mod settings;
 mod unknown;
 
@@ -7,7 +8,6 @@ use crate::step::prepare;
 use crate::{Handled, Region, Settings, TakeError};
 use std::alloc::{AllocError, Global};
 use std::test::Fail;
-use tk_bundle::make;
 use tk_fact::{Body, ClientRetired};
 use tk_format::Writer;
 use tk_handle::{Dot, RegionNumber};
@@ -57,7 +57,7 @@ fn is_bundle(alloc: Global, bytes: &[u8], facts: &[Retired]) -> bool {
 
 // Whether the region holds these facts alone: by their number, and as one bundle.
 fn holds(alloc: Global, region: &Region, facts: &[Retired]) -> bool {
-    match make(alloc, region.ledger().store(), &VersionVector::new(alloc)) {
+    match region.page(alloc, &VersionVector::new(alloc), None) {
         Ok(page) => {
             region.len() == facts.len() as u64 && is_bundle(alloc, page.bytes.as_slice(), facts)
         }

@@ -1,3 +1,5 @@
+pub mod EntriesLaws
+pub mod ListedLaws
 pub mod OrderLaws
 pub mod RemovalLaws
 pub mod VectorTextLaws

@@ -47,6 +47,21 @@ impl VersionVector {
         }
     }
 
+    // The vector of entries whose regions rise.
+    pub(crate) fn of_sorted(entries: Vec<(RegionNumber, Serial)>) -> VersionVector
+        requires { T (map.is_sorted nat_cmp entries.items) }
+        ensures { result ≡ map.from_sorted entries.items }
+    {
+        VersionVector { entries }
+    }
+
+    // The entries, ascending by region.
+    pub(crate) fn entries(&self) -> &[(RegionNumber, Serial)]
+        ensures { result.now ≡ map.entries self.now }
+    {
+        self.entries.as_slice()
+    }
+
     /// The same entries once more.
     pub fn copy(&self, alloc: Global) -> Result<VersionVector, AllocError>
         ensures { IfOk result (λ copy. copy ≡ self.now) }

@@ -36,8 +36,8 @@ use Rattle.tk_world.specs.World.{Grows, IsAnswer, Step}
 
 -- ---- pages
 
-AllIn-page : (F : FactSet) (v : Vector) → AllIn F (page_of F v).facts
-AllIn-page F v = AllIn-take F 128 (beyond F v None) (AllIn-beyond F v None)
+AllIn-page : (F : FactSet) (v : Vector) (after : Option Dot) → AllIn F (page_of F v after).facts
+AllIn-page F v after = AllIn-take F 128 (beyond F v after) (AllIn-beyond F v after)
 
 -- ---- worlds
 
@@ -176,7 +176,7 @@ answer_keeps old n asked o seen new step next k = absurd step
 abbrev pub IsNextOf : State → Event → Outcome → Type 0
 IsNextOf old (Request n now words q) o = IsNextMade old n (record { now = now; words = words; bytes = q.items }) o
 IsNextOf old (Open n) o = Unit {0}
-IsNextOf old (Pull n v) o = Unit {0}
+IsNextOf old (Pull n v after) o = Unit {0}
 IsNextOf old (Deliver i n) o = Unit {0}
 
 pub step_keeps : (old : State) (e : Event) (o : Outcome) (seen : Facts) (new : State) → Step old e o seen new → IsNextOf old e o → IsConsistent old → IsConsistent new
@@ -184,15 +184,15 @@ step_keeps old (Open n) Opened seen new step next k = subst IsConsistent (sym st
 step_keeps old (Open n) NumberTaken seen new step next k = subst IsConsistent (sym step.1.1) k
 step_keeps old (Open n) Memory seen new step next k = subst IsConsistent (sym step.1.1) k
 step_keeps old (Request n now words q) o seen new step next k = answer_keeps old n (record { now = now; words = words; bytes = q.items }) o seen new step next k
-step_keeps old (Pull n v) (Bundle index count last more) seen new step next k =
+step_keeps old (Pull n v after) (Bundle index count last more) seen new step next k =
     let F = step.0 in
-    let fs = (page_of F v).facts in
-    subst IsConsistent (sym step.3.4) (k.0, consists_bundle old k.0 fs k.1 (AllIn-subset F k.0 fs (k.1.held n F step.1) (AllIn-page F v)) (short_page (beyond F v None)))
+    let fs = (page_of F v after).facts in
+    subst IsConsistent (sym step.3.4) (k.0, consists_bundle old k.0 fs k.1 (AllIn-subset F k.0 fs (k.1.held n F step.1) (AllIn-page F v after)) (short_page (beyond F v after)))
   where
     short_page : (fs : Facts) → length (take 128 fs) ≤ 128
     short_page fs = omega (arith, length-take 128 fs)
-step_keeps old (Pull n v) NoRegion seen new step next k = subst IsConsistent (sym step.1.1) k
-step_keeps old (Pull n v) Memory seen new step next k = subst IsConsistent (sym step.1.1) k
+step_keeps old (Pull n v after) NoRegion seen new step next k = subst IsConsistent (sym step.1.1) k
+step_keeps old (Pull n v after) Memory seen new step next k = subst IsConsistent (sym step.1.1) k
 step_keeps old (Deliver i n) (Took m) seen new step next k = joined_keeps old new n step.0 seen step.1 k (k.1.carried i seen step.2).0
 step_keeps old (Deliver i n) Memory seen new step next k =
     joined_keeps old new n step.0 seen step.1 k (subst (AllIn k.0) (sym step.5) (AllIn-take k.0 step.4 step.2 (k.1.carried i step.2 step.3).0))

@@ -2,7 +2,7 @@
 --   open_step, request_step, pull_step, deliver_step   what each part ends with is a step
 --   held_at, region_at, sorted_after, settings_after, state_after   what stands at a place, and what a write there does to the fields
 --   ended, ended_keeps                                 the end of each method of the world; answered, answered_keeps, of an answer
-use Rattle.std.proofs.Common.{◌≡◌, ℕ, T, List, [], take, slice_get, get_or, set, Option, Some, None, Ok, IsSome, IfSome, is_some, cond, true, false, refl, sym, ap, subst, ◌∙◌}
+use Rattle.std.proofs.Common.{◌≡◌, ℕ, T, List, [], take, slice_get, get_or, set, Option, Some, None, Ok, IsSome, IfSome, is_some, cond, Bool, true, false, inl, inr, refl, sym, ap, subst, ◌∙◌}
 use Rattle.std.specs.List.{insert}
 use Rattle.std.specs.Ordering.{nat_cmp, eq_by_cmp, is_eq}
 use Rattle.std.specs.declared.cmp.Ordering.{Ordering}
@@ -12,6 +12,7 @@ use Rattle.std.specs.Cmp.{nat_cmp_total}
 use Rattle.std.specs.FinMap as map
 use Rattle.tk_handle.specs.SortedEntries.{IsAt, IsGap}
 use Rattle.tk_handle.proofs.SortedEntriesLaws.{get_at_place, get_at_gap, sorted_at_place, sorted_at_gap, insert_at_place, insert_at_gap}
+use Rattle.tk_handle.specs.declared.dot.Dot.{Dot}
 use Rattle.tk_vector.specs.VersionVector.{Vector}
 use Rattle.tk_store.specs.FactSet.{FactSet, Facts}
 use Rattle.tk_store.specs.Joining.{JoinsFacts}
@@ -24,7 +25,9 @@ use Rattle.tk_edge.specs.Answers as Told
 use Rattle.tk_edge.specs.Answers.{answer_by, made_by}
 use Rattle.tk_edge.specs.Told.{AnswerFields}
 use Rattle.tk_edge.specs.EdgeFields.{EdgeFields}
-use Rattle.tk_edge.specs.Heard.{IsHeard}
+use Rattle.tk_edge.specs.Arrivals.{AnswersArrival, IsShort}
+use Rattle.tk_edge.specs.Heard.{IsArrival, IsHeard}
+use Rattle.tk_edge.specs.declared.hear.Arrival.{Arrival}
 use Rattle.tk_edge.specs.declared.hear.Heard.{Heard}
 use Rattle.tk_world.specs.AskedFields.{AskedFields}
 use Rattle.tk_world.specs.declared.event.Event.{Event}
@@ -36,13 +39,13 @@ use Rattle.tk_world.specs.Regions.{entry_of, entries_of, IsOpen, HaveSettings}
 use Rattle.tk_world.specs.State.{State, with_region, region_with, IsConsistent}
 use Rattle.tk_world.specs.World.{Grows, IsAnswer, IsReplied, Step}
 use Rattle.tk_world.specs.Parts.{Answers, Opens, Pages, TakesFacts}
-use Rattle.tk_edge.proofs.StreamLaws.{has_one_meaning}
+use Rattle.tk_edge.proofs.StreamLaws.{all_heard, has_one_meaning}
 use Rattle.tk_world.proofs.ConsistencyLaws.{IsNextMade, IsNextOf, answer_keeps, step_keeps}
 use Rattle.tk_world.proofs.RegionLaws.{entry_at, entries_set, entries_insert, settings_at, settings_set, settings_insert}
 
--- an edge has the settings of another, and is sealed where that is
+-- an edge has the settings of another, is sealed where that is, and exchanges facts where that does
 abbrev IsAsOpen : EdgeFields → EdgeFields → Type 0
-IsAsOpen p q = (q.region.settings ≡ p.region.settings) × (q.sealed ≡ p.sealed)
+IsAsOpen p q = (q.region.settings ≡ p.region.settings) × (q.sealed ≡ p.sealed) × (q.sync ≡ p.sync)
 
 abbrev pub state : SettingsFields → List (ℕ × FactSet) → List Facts → State
 state settings rs bs = record { settings = settings; regions = map.from_sorted rs; bundles = bs }
@@ -104,10 +107,10 @@ deliver_step s i r p q fs (Took n) at there t = (fs, (p.facts, grows_to s r p.fa
 deliver_step s i r p q fs Memory at there t = (take t.0 fs, (p.facts, grows_to s r p.facts q (take t.0 fs) at t.1.joins, fs, there, t.0, refl))
 deliver_step s i r p q fs o at there t = absurd t
 
-pub pull_step : (s : State) (r : ℕ) (F : FactSet) (v : Vector) (o : Outcome) (bs : List Facts) → map.get s.regions r ≡ Some F → Pages (page_of F v) s.bundles o bs → (seen : Facts) × Step s (Pull r v) o seen (record { settings = s.settings; regions = s.regions; bundles = bs })
-pull_step s r F v (Bundle index count last more) bs at p = ([], (F, at, refl, (p.0, p.1, p.2, p.3, ap (λ xs. record { settings = s.settings; regions = s.regions; bundles = xs }) p.4)))
-pull_step s r F v Memory bs at p = ([], (some_is _ F at, (refl, ap (λ xs. record { settings = s.settings; regions = s.regions; bundles = xs }) p)))
-pull_step s r F v o bs at p = absurd p
+pub pull_step : (s : State) (r : ℕ) (F : FactSet) (v : Vector) (after : Option Dot) (o : Outcome) (bs : List Facts) → map.get s.regions r ≡ Some F → Pages (page_of F v after) s.bundles o bs → (seen : Facts) × Step s (Pull r v after) o seen (record { settings = s.settings; regions = s.regions; bundles = bs })
+pull_step s r F v after (Bundle index count last more) bs at p = ([], (F, at, refl, (p.0, p.1, p.2, p.3, ap (λ xs. record { settings = s.settings; regions = s.regions; bundles = xs }) p.4)))
+pull_step s r F v after Memory bs at p = ([], (some_is _ F at, (refl, ap (λ xs. record { settings = s.settings; regions = s.regions; bundles = xs }) p)))
+pull_step s r F v after o bs at p = absurd p
 
 -- ---- the fields
 
@@ -118,7 +121,7 @@ module _ (settings : SettingsFields) (rs : List EdgeFields) (bs : List Facts) (s
   pub absent_at : IsGap nat_cmp (entries_of rs) r i → map.get (world settings rs bs).regions r ≡ None
   absent_at gap = get_at_gap nat_cmp_total (entries_of rs) sorted r i gap
 
-  module _ (gap : IsGap nat_cmp (entries_of rs) r i) (p : EdgeFields) (is : p ≡ record { region = record { number = r; settings = settings; facts = map.empty }; sealed = false }) where
+  module _ (gap : IsGap nat_cmp (entries_of rs) r i) (p : EdgeFields) (is : p ≡ record { region = record { number = r; settings = settings; facts = map.empty }; sync = false; sealed = false }) where
     -- the entries with one of a new region
     opened_entries : (new : List EdgeFields) → new ≡ insert rs i p → entries_of new ≡ insert (entries_of rs) i (r, map.empty)
     opened_entries new h = ap entries_of h ∙ entries_insert rs i p ∙ ap (λ x. insert (entries_of rs) i (entry_of x)) is
@@ -135,7 +138,7 @@ module _ (settings : SettingsFields) (rs : List EdgeFields) (bs : List Facts) (s
     sorted_new o new h = absurd h
 
     pub settings_new : (o : Outcome) (new : List EdgeFields) → Opens rs i p o new → HaveSettings settings rs → HaveSettings settings new
-    settings_new Opened new h all = subst (HaveSettings settings) (sym h) (settings_insert settings rs i p (subst (IsOpen settings) (sym is) (refl, refl)) all)
+    settings_new Opened new h all = subst (HaveSettings settings) (sym h) (settings_insert settings rs i p (subst (IsOpen settings) (sym is) (refl, refl, refl)) all)
     settings_new Memory new h all = subst (HaveSettings settings) (sym h) all
     settings_new o new h all = absurd h
 
@@ -161,9 +164,12 @@ module _ (settings : SettingsFields) (rs : List EdgeFields) (bs : List Facts) (s
         ap (λ (n : ℕ). record { number = n; settings = p.region.settings; facts = p.region.facts }) number_at
         ∙ ap (λ (x : SettingsFields). record { number = r; settings = x; facts = p.region.facts }) (settings_at settings rs i p at.in_range is all).0
 
-    -- and it isn't sealed
+    -- it isn't sealed, and regions exchange nothing over it
     pub open_at : p.sealed ≡ false
     open_at = (settings_at settings rs i p at.in_range is all).1
+
+    pub alone_at : p.sync ≡ false
+    alone_at = (settings_at settings rs i p at.in_range is all).2
 
     module _ (q : EdgeFields) (number : q.region.number ≡ p.region.number) (same : IsAsOpen p q) where
       after : entries_of (set rs i q) ≡ set (entries_of rs) i ((get_or (entries_of rs) i (entry_of p)).0, q.region.facts)
@@ -173,7 +179,7 @@ module _ (settings : SettingsFields) (rs : List EdgeFields) (bs : List Facts) (s
       sorted_after = subst (λ es. T (map.is_sorted nat_cmp es)) (sym after) (sorted_at_place nat_cmp_total (entries_of rs) sorted r i at q.region.facts (entry_of p))
 
       pub settings_after : HaveSettings settings (set rs i q)
-      settings_after = settings_set settings rs i q (same.0 ∙ (settings_at settings rs i p at.in_range is all).0, same.1 ∙ open_at) all
+      settings_after = settings_set settings rs i q (same.0 ∙ (settings_at settings rs i p at.in_range is all).0, same.1 ∙ open_at, same.2 ∙ alone_at) all
 
       pub state_after : world settings (set rs i q) bs ≡ with_region (world settings rs bs) r q.region.facts
       state_after =
@@ -182,26 +188,47 @@ module _ (settings : SettingsFields) (rs : List EdgeFields) (bs : List Facts) (s
 
 -- what a part leaves of its region's number and settings
 pub answered_number : (p q : EdgeFields) (asked : AskedFields) (o : Outcome) → Answers p asked o q → (q.region.number ≡ p.region.number) × IsAsOpen p q
-answered_number p q asked (Reply status bytes) a = (a.3.number, (a.3.settings, a.5))
-answered_number p q asked Memory a = (ap (λ (x : EdgeFields). x.region.number) a, (ap (λ (x : EdgeFields). x.region.settings) a, ap (λ (x : EdgeFields). x.sealed) a))
+answered_number p q asked (Reply status bytes) a = (a.3.number, (a.3.settings, a.5, a.6))
+answered_number p q asked Memory a = (ap (λ (x : EdgeFields). x.region.number) a, (ap (λ (x : EdgeFields). x.region.settings) a, ap (λ (x : EdgeFields). x.sealed) a, ap (λ (x : EdgeFields). x.sync) a))
 answered_number p q asked o a = absurd a
 
+-- where regions exchange nothing, what arrives is heard as anyone's
+heard_answer : (sync : Bool) (r new : RegionFields) (asked : AskedFields) (seen : AnswerFields) → sync ≡ false
+    → ((came : Arrival) × IsArrival sync asked.bytes came × AnswersArrival r asked.now asked.words came (Ok seen) new)
+    → (heard : Heard) × IsHeard asked.bytes heard × Told.Answers r asked.now asked.words heard (Ok seen) new
+heard_answer sync r new asked seen off (came, is, told) =
+    let there : IsArrival false asked.bytes came = subst (λ s. IsArrival s asked.bytes came) off is in
+    let found = all_heard asked.bytes came there in
+    (found.0, subst (IsArrival false asked.bytes) found.1 there, subst (λ c. AnswersArrival r asked.now asked.words c (Ok seen) new) found.1 told)
+
+-- and want of memory leaves all as it was
+pub untouched : (p q : EdgeFields) (bytes : List ℕ) → p.sync ≡ false → q.sealed ≡ p.sealed → q.sync ≡ p.sync → IsShort p.sync (Some bytes) p.region q.region → q ≡ p
+untouched p q bytes off sealed sync (inl same) =
+    ap (λ (r : RegionFields). record { region = r; sync = q.sync; sealed = q.sealed }) same
+    ∙ ap (λ b. record { region = p.region; sync = b; sealed = q.sealed }) sync
+    ∙ ap (λ b. record { region = p.region; sync = p.sync; sealed = b }) sealed
+untouched p q bytes off sealed sync (inr (sent, arrives, taken, took)) = absurd (clash (sym off ∙ arrives.0))
+  where
+    clash : false ≡ true → ⊥
+    clash e = cc
+
 -- what an edge answers, by what contracts see of what it is asked and of what it gives
-pub answered_part : (p q : EdgeFields) (given asked : AskedFields) (told seen : AnswerFields) → given ≡ asked → told ≡ seen → q.sealed ≡ p.sealed
-    → ((heard : Heard) × IsHeard given.bytes heard × Told.Answers p.region given.now given.words heard (Ok seen) q.region)
+pub answered_part : (p q : EdgeFields) (given asked : AskedFields) (told seen : AnswerFields) → given ≡ asked → told ≡ seen → p.sync ≡ false → q.sealed ≡ p.sealed → q.sync ≡ p.sync
+    → ((came : Arrival) × IsArrival p.sync given.bytes came × AnswersArrival p.region given.now given.words came (Ok seen) q.region)
     → (heard : Heard) × IsHeard asked.bytes heard × IsReplied (answer_by p.region asked.now asked.words heard) told.status told.bytes
     × Gains p.region (listed (made_by p.region asked.now asked.words heard)) q.region
-    × IfSome (made_by p.region asked.now asked.words heard) (IsNextFact p.region) × (q.sealed ≡ p.sealed)
-answered_part p q given asked told seen same is sealed a =
+    × IfSome (made_by p.region asked.now asked.words heard) (IsNextFact p.region) × (q.sealed ≡ p.sealed) × (q.sync ≡ p.sync)
+answered_part p q given asked told seen same is off sealed sync came =
+    let a = heard_answer p.sync p.region q.region given seen off came in
     subst (λ (x : AskedFields). (heard : Heard) × IsHeard x.bytes heard × IsReplied (answer_by p.region x.now x.words heard) told.status told.bytes
     × Gains p.region (listed (made_by p.region x.now x.words heard)) q.region
-    × IfSome (made_by p.region x.now x.words heard) (IsNextFact p.region) × (q.sealed ≡ p.sealed)) same
-    (a.0, a.1, (ap (λ (x : AnswerFields). x.status) (is ∙ a.2.0), ap (λ (x : AnswerFields). x.bytes) (is ∙ a.2.0)), a.2.1, a.2.2, sealed)
+    × IfSome (made_by p.region x.now x.words heard) (IsNextFact p.region) × (q.sealed ≡ p.sealed) × (q.sync ≡ p.sync)) same
+    (a.0, a.1, (ap (λ (x : AnswerFields). x.status) (is ∙ a.2.0), ap (λ (x : AnswerFields). x.bytes) (is ∙ a.2.0)), a.2.1, a.2.2, sealed, sync)
 
-pub taken_number : (p q : EdgeFields) (fs : Facts) (o : Outcome) → TakesFacts p.region fs o q.region → q.sealed ≡ p.sealed → (q.region.number ≡ p.region.number) × IsAsOpen p q
-taken_number p q fs (Took n) t same = (t.0.number, (t.0.settings, same))
-taken_number p q fs Memory t same = (t.1.number, (t.1.settings, same))
-taken_number p q fs o t same = absurd t
+pub taken_number : (p q : EdgeFields) (fs : Facts) (o : Outcome) → TakesFacts p.region fs o q.region → q.sealed ≡ p.sealed → q.sync ≡ p.sync → (q.region.number ≡ p.region.number) × IsAsOpen p q
+taken_number p q fs (Took n) t sealed sync = (t.0.number, (t.0.settings, sealed, sync))
+taken_number p q fs Memory t sealed sync = (t.1.number, (t.1.settings, sealed, sync))
+taken_number p q fs o t sealed sync = absurd t
 
 -- ---- the end of a call
 

@@ -69,10 +69,10 @@ step_shows old (Open n) Memory seen new step r = same_after old new (Open n) see
 step_shows old (Request n now words q) (Reply status bytes) seen new step r = grown old new n step.0 seen step.1 r
 step_shows old (Request n now words q) NoRegion seen new step r = same_after old new (Request n now words q) seen r step.1.0 step.1.1
 step_shows old (Request n now words q) Memory seen new step r = same_after old new (Request n now words q) seen r step.1.0 step.1.1
-step_shows old (Pull n v) (Bundle index count last more) seen new step r =
-    subst (λ w. JoinsFacts (facts_in old r) (shown (Pull n v) seen r) (facts_in w r)) (sym step.3.4) (same_after old old (Pull n v) seen r step.2 refl)
-step_shows old (Pull n v) NoRegion seen new step r = same_after old new (Pull n v) seen r step.1.0 step.1.1
-step_shows old (Pull n v) Memory seen new step r = same_after old new (Pull n v) seen r step.1.0 step.1.1
+step_shows old (Pull n v after) (Bundle index count last more) seen new step r =
+    subst (λ w. JoinsFacts (facts_in old r) (shown (Pull n v after) seen r) (facts_in w r)) (sym step.3.4) (same_after old old (Pull n v after) seen r step.2 refl)
+step_shows old (Pull n v after) NoRegion seen new step r = same_after old new (Pull n v after) seen r step.1.0 step.1.1
+step_shows old (Pull n v after) Memory seen new step r = same_after old new (Pull n v after) seen r step.1.0 step.1.1
 step_shows old (Deliver i n) (Took k) seen new step r = grown old new n step.0 seen step.1 r
 step_shows old (Deliver i n) Memory seen new step r = grown old new n step.0 seen step.1 r
 step_shows old (Deliver i n) NoRegion seen new step r = same_after old new (Deliver i n) seen r step.1.0 step.1.1

@@ -26,7 +26,7 @@ abbrev pub Answers : EdgeFields → AskedFields → Outcome → EdgeFields → T
 Answers old asked (Reply status bytes) new =
     (heard : Heard) × IsHeard asked.bytes heard × IsReplied (answer_by old.region asked.now asked.words heard) status bytes.items
     × Gains old.region (listed (made_by old.region asked.now asked.words heard)) new.region
-    × IfSome (made_by old.region asked.now asked.words heard) (IsNextFact old.region) × (new.sealed ≡ old.sealed)
+    × IfSome (made_by old.region asked.now asked.words heard) (IsNextFact old.region) × (new.sealed ≡ old.sealed) × (new.sync ≡ old.sync)
 Answers old asked Memory new = new ≡ old
 Answers old asked outcome new = ⊥
 

@@ -1,6 +1,6 @@
 -- The regions of a world behind their edges, as a list whose numbers rise (own).
 --   entries_of    each number with its region's facts
---   HaveSettings  the regions have these settings, and none is sealed
+--   HaveSettings  the regions have these settings, none is sealed, and they exchange nothing over their edges
 use Rattle.std.specs.Prelude.{◌≡◌, ℕ, false, List, map}
 use Rattle.std.specs.List.{AllByRecursion}
 use Rattle.tk_store.specs.FactSet.{FactSet}
@@ -16,7 +16,7 @@ abbrev pub entries_of : List EdgeFields → List (ℕ × FactSet)
 entries_of edges = map entry_of edges
 
 abbrev pub IsOpen : SettingsFields → EdgeFields → Type 0
-IsOpen settings edge = (edge.region.settings ≡ settings) × (edge.sealed ≡ false)
+IsOpen settings edge = (edge.region.settings ≡ settings) × (edge.sealed ≡ false) × (edge.sync ≡ false)
 
 abbrev pub HaveSettings : SettingsFields → List EdgeFields → Type 0
 HaveSettings settings edges = AllByRecursion (IsOpen settings) edges

@@ -6,8 +6,9 @@
 --   Step          one event: its outcome, what it showed its region, and the new state
 --   Run           one step after another
 --   seen_by       what a region has seen: the facts that it made and took in
-use Rattle.std.specs.Prelude.{◌≡◌, ℕ, ◌+◌, ◌==◌, if◌then◌else◌, List, [], ◌∷◌, ◌++◌, length, take, slice_get, Some, None, IsSome}
+use Rattle.std.specs.Prelude.{◌≡◌, ℕ, ◌+◌, ◌==◌, if◌then◌else◌, List, [], ◌∷◌, ◌++◌, length, take, slice_get, Option, Some, None, IsSome}
 use Rattle.std.specs.FinMap as map
+use Rattle.tk_handle.specs.declared.dot.Dot.{Dot}
 use Rattle.tk_vector.specs.VersionVector.{Vector}
 use Rattle.tk_store.specs.FactSet.{FactSet}
 pub use Rattle.tk_store.specs.FactSet.{Facts}
@@ -58,15 +59,15 @@ IsAnswer old r asked NoRegion seen new = (map.get old.regions r ≡ None) × IsU
 IsAnswer old r asked Memory seen new = IsSome (map.get old.regions r) × IsUnchanged old seen new
 IsAnswer old r asked outcome seen new = ⊥
 
--- the page joins the list of bundles
-abbrev pub IsPull : State → ℕ → Vector → Outcome → Facts → State → Type 0
-IsPull old r v (Bundle index count last more) seen new =
+-- the page of what the vector doesn't cover above the dot, if one is given, joins the list of bundles
+abbrev pub IsPull : State → ℕ → Vector → Option Dot → Outcome → Facts → State → Type 0
+IsPull old r v after (Bundle index count last more) seen new =
     (F : FactSet) × (map.get old.regions r ≡ Some F) × (seen ≡ [])
-    × (let page = page_of F v in
+    × (let page = page_of F v after in
     (index ≡ length old.bundles) × (count ≡ length page.facts) × (last ≡ page.last) × (more ≡ page.more) × (new ≡ with_bundle old page.facts))
-IsPull old r v NoRegion seen new = (map.get old.regions r ≡ None) × IsUnchanged old seen new
-IsPull old r v Memory seen new = IsSome (map.get old.regions r) × IsUnchanged old seen new
-IsPull old r v outcome seen new = ⊥
+IsPull old r v after NoRegion seen new = (map.get old.regions r ≡ None) × IsUnchanged old seen new
+IsPull old r v after Memory seen new = IsSome (map.get old.regions r) × IsUnchanged old seen new
+IsPull old r v after outcome seen new = ⊥
 
 -- the set joins all facts of the bundle, and grows by the number of those that it lacked; for want of memory, the first of them
 abbrev pub IsDelivery : State → ℕ → ℕ → Outcome → Facts → State → Type 0
@@ -84,7 +85,7 @@ IsDelivery old i r outcome seen new = ⊥
 abbrev pub Step : State → Event → Outcome → Facts → State → Type 0
 Step old (Open n) outcome seen new = IsOpening old n outcome seen new
 Step old (Request r now words bytes) outcome seen new = IsAnswer old r (record { now = now; words = words; bytes = bytes.items }) outcome seen new
-Step old (Pull r v) outcome seen new = IsPull old r v outcome seen new
+Step old (Pull r v after) outcome seen new = IsPull old r v after outcome seen new
 Step old (Deliver i r) outcome seen new = IsDelivery old i r outcome seen new
 
 -- one step after another, with what each showed its region
@@ -96,7 +97,7 @@ Run old es os ss new = ⊥
 abbrev pub region_of : Event → ℕ
 region_of (Open n) = n
 region_of (Request r now words bytes) = r
-region_of (Pull r v) = r
+region_of (Pull r v after) = r
 region_of (Deliver i r) = r
 
 -- what a region has seen: the facts that it made and took in

@@ -16,10 +16,11 @@ pub enum Event {
         words: [u64; 6],
         bytes: Vec<u8>,
     },
-    /// A region makes a bundle of what the vector doesn't cover.
+    /// A region makes a bundle of what the vector doesn't cover, above the dot, if one is given.
     Pull {
         region: RegionNumber,
         vector: VersionVector,
+        after: Option<Dot>,
     },
     /// The bundle of this number, from 0 in the order of making, reaches a region.
     Deliver {

@@ -1,26 +1,23 @@
-//! One region in a world: what a request, a pull and a delivery do to its edge.
+//! One region in a world: what a request and a delivery do to its edge.
 
-ghost use Rattle.std.specs.Prelude.{◌≡◌, false, IfOk, OnOk};
-ghost use Rattle.tk_bundle.specs.Bundle.{bundle as bundle_format};
-ghost use Rattle.tk_bundle.specs.Page as pages;
+ghost use Rattle.std.specs.Prelude.{◌≡◌, false};
 ghost use Rattle.tk_message.specs.Place.{next_in};
 ghost use Rattle.tk_region.specs.RegionFields.{place_in};
 ghost use Rattle.tk_region.specs.Taking.{AgreesWith, has_unmade};
-ghost use Rattle.tk_store.specs.Store.{facts_of, known_in};
+ghost use Rattle.tk_store.specs.Store.{facts_of};
 ghost use Rattle.tk_world.specs.Parts.{Answers, TakesFacts};
 
 use crate::asked::Asked;
 use crate::bundle::MadeBundle;
 use crate::event::Outcome;
-use std::alloc::{AllocError, Global};
-use tk_bundle::{Page, make};
+use std::alloc::Global;
 use tk_edge::Edge;
-use tk_region::{Region, TakeError};
-use tk_vector::VersionVector;
+use tk_region::TakeError;
 
 // Answers the bytes over the region's facts, and adds the fact made.
 pub(crate) fn answer(alloc: Global, edge: &mut Edge, asked: &Asked<'_>) -> Outcome
-    requires { edge.old.sealed ≡ false }
+    requires sealed { edge.old.sealed ≡ false }
+    requires sync { edge.old.sync ≡ false }
     ensures { Answers edge.old asked.entry.now result edge.new }
 {
     match edge.answer(alloc, asked.now, asked.words, asked.bytes) {
@@ -32,24 +29,13 @@ pub(crate) fn answer(alloc: Global, edge: &mut Edge, asked: &Asked<'_>) -> Outco
     }
 }
 
-// The page of what the vector doesn't cover.
-pub(crate) fn pull(
-    alloc: Global,
-    region: &Region,
-    vector: &VersionVector,
-) -> Result<Page, AllocError>
-    ensures page { IfOk result (λ page. pages.IsPageOf page (pages.page_of (known_in region.now.facts) vector.now)) }
-    ensures fits { OnOk result (bundle_format.Fits (pages.page_of (known_in region.now.facts) vector.now).facts) }
-{
-    make(alloc, region.ledger().store(), vector)
-}
-
 // Takes the bundle in, which holds nothing that the region may refuse.
 pub(crate) fn deliver(alloc: Global, edge: &mut Edge, bundle: &MadeBundle) -> Outcome
     requires agree { AgreesWith (facts_of edge.old.region.facts) bundle.now }
     requires made { has_unmade (next_in (place_in edge.old.region)) bundle.now ≡ false }
     ensures takes { TakesFacts edge.old.region bundle.now result edge.new.region }
     ensures sealed { edge.new.sealed ≡ edge.old.sealed }
+    ensures sync { edge.new.sync ≡ edge.old.sync }
 {
     match edge.region_mut().take_in(alloc, bundle.bytes()) {
         Ok(new) => Outcome::Took(new),

@@ -106,7 +106,11 @@ fn pulled(alloc: Global) -> Result<Vec<Event>, Fail> {
     let region = RegionNumber::new(1).ok_or("a region")?;
     let mut events = asked(alloc, &[CLIENT])?;
     let vector = VersionVector::new(alloc);
-    events.push(Event::Pull { region, vector })?;
+    events.push(Event::Pull {
+        region,
+        vector,
+        after: None,
+    })?;
     Ok(events)
 }
 

@@ -11,7 +11,7 @@ use tk_region::{Region, Settings};
 pub struct World {
     alloc: Global,
     settings: Settings,
-    // Ascending by number, each with these settings and none of them sealed.
+    // Ascending by number, each with these settings, none of them sealed, and exchanging nothing over their edges.
     regions: Vec<Edge>,
     // In the order of making. All facts that regions hold or bundles carry are one set.
     bundles: Vec<MadeBundle>,
@@ -52,10 +52,10 @@ ghost use Rattle.tk_world.specs.Regions.{entries_of};
 
 use crate::asked::Asked;
 use crate::event::{Event, Outcome};
-use crate::region::{answer, deliver, pull};
+use crate::region::{answer, deliver};
 use std::alloc::AllocError;
 use tk_bundle::Page;
-use tk_handle::RegionNumber;
+use tk_handle::{Dot, RegionNumber};
 use tk_vector::VersionVector;
 
 impl World {
@@ -135,7 +135,11 @@ impl World {
                 let asked = Asked { now, words, bytes };
                 self.request(*region, &asked)
             }
-            Event::Pull { region, vector } => self.pull(*region, vector),
+            Event::Pull {
+                region,
+                vector,
+                after,
+            } => self.pull(*region, vector, *after),
             Event::Deliver { bundle, region } => self.deliver(*bundle, *region),
         }
     }
@@ -146,7 +150,7 @@ impl World {
         match find_region(&self.regions, number) {
             Ok(_) => Outcome::NumberTaken,
             Err(at) => {
-                let edge = Edge::new(Region::new(self.alloc, number, self.settings));
+                let edge = Edge::new(Region::new(self.alloc, number, self.settings), false);
                 open_region(&mut self.regions, at, edge)
             }
         }
@@ -161,8 +165,8 @@ impl World {
         }
     }
 
-    fn pull(&mut self, region: RegionNumber, vector: &VersionVector) -> Outcome
-        ensures { (seen : Facts) × Step self.old (Event.Pull region vector.now) result seen self.new }
+    fn pull(&mut self, region: RegionNumber, vector: &VersionVector, after: Option<Dot>) -> Outcome
+        ensures { (seen : Facts) × Step self.old (Event.Pull region vector.now after) result seen self.new }
     {
         match find_region(&self.regions, region) {
             Ok(at) => pull_page(
@@ -170,6 +174,7 @@ impl World {
                 self.regions[at].region(),
                 &mut self.bundles,
                 vector,
+                after,
             ),
             Err(_) => Outcome::NoRegion,
         }
@@ -240,10 +245,11 @@ fn pull_page(
     region: &Region,
     bundles: &mut Vec<MadeBundle>,
     vector: &VersionVector,
+    after: Option<Dot>,
 ) -> Outcome
-    ensures { Pages (pages.page_of (known_in region.now.facts) vector.now) bundles.old.items result bundles.new.items }
+    ensures { Pages (pages.page_of (known_in region.now.facts) vector.now after) bundles.old.items result bundles.new.items }
 {
-    match pull(alloc, region, vector) {
+    match region.page(alloc, vector, after) {
         Ok(page) => keep_page(bundles, page),
         Err(_) => Outcome::Memory,
     }

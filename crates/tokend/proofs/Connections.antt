@@ -1,10 +1,24 @@
 -- What connections leave of a region.
-use Rattle.std.proofs.Common.{◌≡◌, ℕ, Bool, true, false, List, [], ◌++◌, Option, Result, Ok, Err, refl, sym, subst}
+use Rattle.std.proofs.Common.{◌≡◌, ℕ, Bool, true, false, List, [], ◌++◌, take, Option, Some, None, Result, Ok, Err, inl, inr, refl, sym, subst}
+use Rattle.tk_format.specs.Format.{whole}
 use Rattle.tk_store.specs.FactSet.{Facts}
-use Rattle.tk_region.specs.RegionFields.{RegionFields, Gains}
+use Rattle.tk_store.specs.Joining.{JoinsFacts}
+use Rattle.tk_store.proofs.JoiningLaws.{joins_nothing}
+use Rattle.tk_bundle.specs.Bundle.{bundle}
+use Rattle.tk_message.specs.Place.{next_in}
+use Rattle.tk_region.specs.RegionFields.{RegionFields, Gains, place_in}
+use Rattle.tk_region.specs.Taking.{TakesIn}
+use Rattle.tk_region.specs.declared.take.TakeError.{TakeError}
+use Rattle.tk_region.specs.declared.take.TakeError.TheVariants.{Malformed, OwnNumber, Conflict}
+use Rattle.tk_region.specs.declared.take.TakeError.TheVariants as Take
+use Rattle.tk_edge.specs.Arrivals.{AnswersArrival, IsShort}
 use Rattle.tk_edge.specs.EdgeFields.{EdgeFields}
-use Rattle.tk_edge.specs.Served.{IsServed}
-use Rattle.tk_edge.specs.Told.{Change}
+use Rattle.tk_edge.specs.Exchanges.{TakesBundle}
+use Rattle.tk_edge.specs.Served.{Asked, IsServed}
+use Rattle.tk_edge.specs.Told.{AnswerFields, Change}
+use Rattle.tk_edge.specs.declared.exchange.Exchange.TheVariants.{Vector, Pull, Push}
+use Rattle.tk_edge.specs.declared.hear.Arrival.{Arrival}
+use Rattle.tk_edge.specs.declared.hear.Arrival.TheVariants.{Heard, Exchange}
 use Rattle.tk_edge.specs.declared.edge.Served.{Served}
 use Rattle.tk_edge.specs.declared.edge.Served.TheVariants.{Nothing, Done}
 use Rattle.tk_edge.specs.declared.tell.Fault.{Fault}
@@ -14,24 +28,58 @@ use Rattle.tokend.proofs.Loads.{gains_more, gains_nothing}
 same_gains : (old new : RegionFields) → new ≡ old → (fs : Facts) × Gains old fs new
 same_gains old new e = ([], subst (λ r. Gains old [] r) (sym e) (gains_nothing old))
 
--- a connection joins facts to the region, or none
-served_gains : (now : ℕ) (words : List ℕ) (known : Option (List ℕ)) (old new : RegionFields) (log writer : Change) (sealed : Bool)
-    (result : Result Served Fault) → IsServed now words known (record { before = old; after = new }) log writer sealed result
-    → (fs : Facts) × Gains old fs new
-served_gains now words known old new log writer sealed (Ok (Done status)) h = (_, h.3.0)
-served_gains now words known old new log writer sealed (Ok Nothing) h = same_gains old new h.1.0
-served_gains now words known old new log writer sealed (Err Log) h = (_, h.3.0)
-served_gains now words known old new log writer sealed (Err Write) h = (_, h.3.0)
-served_gains now words known old new log writer sealed (Err Read) h = same_gains old new h.0
-served_gains now words known old new log writer sealed (Err Memory) h = same_gains old new h.0
+-- a bundle that is taken in, or refused, or cut short joins facts to the region
+taken_gains : (old new : RegionFields) (bytes : List ℕ) (taken : Result ℕ TakeError) → TakesBundle old bytes taken new → (fs : Facts) × Gains old fs new
+taken_gains old new bytes taken h = by_bundle (whole bundle bytes) taken h.takes
+  where
+    joined : (fs : Facts) → JoinsFacts old.facts fs new.facts → (gs : Facts) × Gains old gs new
+    joined fs joins = (fs, record { number = h.number; settings = h.settings; joins = joins })
 
-pub connection_gains : (now : ℕ) (words : List ℕ) (known : Option (List ℕ)) (old new : EdgeFields) (log writer : Change) (result : Result Served Fault)
-    → (old.sealed ≡ false → IsServed now words known (record { before = old.region; after = new.region }) log writer new.sealed result)
+    kept : new.facts ≡ old.facts → (gs : Facts) × Gains old gs new
+    kept same = joined [] (subst (λ F. JoinsFacts old.facts [] F) (sym same) (joins_nothing old.facts))
+
+    by_bundle : (b : Option Facts) (t : Result ℕ TakeError) → TakesIn old.facts (next_in (place_in old)) b t new.facts → (gs : Facts) × Gains old gs new
+    by_bundle None (Err Malformed) k = kept k
+    by_bundle None (Err Take.Memory) k = kept k
+    by_bundle None (Err OwnNumber) k = absurd k
+    by_bundle None (Err Conflict) k = absurd k
+    by_bundle None (Ok n) k = absurd k
+    by_bundle (Some fs) (Err OwnNumber) k = kept k.1
+    by_bundle (Some fs) (Err Conflict) k = kept k.2
+    by_bundle (Some fs) (Err Malformed) k = absurd k
+    by_bundle (Some fs) (Err Take.Memory) (inl k) = kept k
+    by_bundle (Some fs) (Err Take.Memory) (inr k) = joined (take k.2.0 fs) k.2.1
+    by_bundle (Some fs) (Ok n) k = joined fs k.2.0
+
+-- and so does what is answered
+answered_gains : (now : ℕ) (words : List ℕ) (came : Arrival) (answer : AnswerFields) (old new : RegionFields) → AnswersArrival old now words came (Ok answer) new → (fs : Facts) × Gains old fs new
+answered_gains now words (Heard heard) answer old new h = (_, h.1)
+answered_gains now words (Exchange Vector) answer old new h = same_gains old new h.1
+answered_gains now words (Exchange (Pull sent)) answer old new h = same_gains old new h.1
+answered_gains now words (Exchange (Push sent)) answer old new h = taken_gains old new sent h.0 h.1
+
+short_gains : (sync : Bool) (known : Option (List ℕ)) (old new : RegionFields) → IsShort sync known old new → (fs : Facts) × Gains old fs new
+short_gains sync known old new (inl same) = same_gains old new same
+short_gains sync known old new (inr h) = taken_gains old new h.0 h.2 h.3
+
+-- a connection joins facts to the region, or none
+served_gains : (asked : Asked) (old new : RegionFields) (log writer : Change) (sealed : Bool)
+    (result : Result Served Fault) → IsServed asked (record { before = old; after = new }) log writer sealed result
+    → (fs : Facts) × Gains old fs new
+served_gains asked old new log writer sealed (Ok (Done status)) h = answered_gains asked.now asked.words h.0 h.3.0 old new h.3.1
+served_gains asked old new log writer sealed (Ok Nothing) h = same_gains old new h.1.0
+served_gains asked old new log writer sealed (Err Log) h = answered_gains asked.now asked.words h.0 h.3.0 old new h.3.1
+served_gains asked old new log writer sealed (Err Write) h = answered_gains asked.now asked.words h.0 h.3.0 old new h.3.1
+served_gains asked old new log writer sealed (Err Read) h = same_gains old new h.0
+served_gains asked old new log writer sealed (Err Memory) h = short_gains asked.sync asked.known old new h.0
+
+pub connection_gains : (asked : Asked) (old new : EdgeFields) (log writer : Change) (result : Result Served Fault)
+    → (old.sealed ≡ false → IsServed asked (record { before = old.region; after = new.region }) log writer new.sealed result)
     → (old.sealed ≡ true → new ≡ old) → (fs : Facts) × Gains old.region fs new.region
-connection_gains now words known old new log writer result unsealed shut =
+connection_gains asked old new log writer result unsealed shut =
     elim old.sealed as (λ b. old.sealed ≡ b → (fs : Facts) × Gains old.region fs new.region) [
       | true ↦ λ e. subst (λ n. (fs : Facts) × Gains old.region fs n.region) (sym (shut e)) (same_gains old.region old.region refl)
-      | false ↦ λ e. served_gains now words known old.region new.region log writer new.sealed result (unsealed e)
+      | false ↦ λ e. served_gains asked old.region new.region log writer new.sealed result (unsealed e)
     ] refl
 
 -- and one after the other

@@ -1,10 +1,11 @@
 -- The forms of events' fields: what fields that are given by their number and their texts are, and which have no event.
-use Rattle.std.proofs.Common.{◌≡◌, ◌≢◌, ℕ, ◌<◌, ◌≤◌, ◌^◌, List, [], ◌∷◌, length, get_or, slice_index_or, drop, codes, decimal, Some, None, Bor, refl, sym, ap, ◌∙◌, subst, arith}
+use Rattle.std.proofs.Common.{◌≡◌, ◌≢◌, ℕ, ◌<◌, ◌≤◌, ◌^◌, List, [], ◌∷◌, length, get_or, slice_index_or, drop, codes, decimal, Option, Some, None, Bor, refl, sym, ap, ◌∙◌, subst, arith}
 use Rattle.std.specs.List.{All, AllWithin, HoldsAt, slice_split}
 use Rattle.std.proofs.lemmas.List.{get_or-map, length-map}
 use Rattle.std.proofs.lemmas.List.Elements.{All-map, All-from_all_within}
 use Rattle.tk_format.specs.Decimals.{decimal_in}
 use Rattle.tk_format.proofs.DecimalLaws.{decimal_found, no_decimal}
+use Rattle.tk_handle.specs.declared.dot.Dot.{Dot}
 use Rattle.tk_handle.specs.Ranges.{IsRegion, IsMoment}
 use Rattle.tk_vector.specs.VersionVector.{Vector}
 use Rattle.tk_vector.specs.VectorText.{IsVectorText, IsNoVectorText}
@@ -12,7 +13,7 @@ use Rattle.tk_world.specs.declared.event.Event.{Event}
 use Rattle.tk_world.specs.declared.event.Event.TheVariants.{Open, Request, Pull, Deliver}
 use Rattle.std.specs.Prelude.{Vec}
 use Rattle.std.specs.declared.alloc.Global.{Global}
-use Rattle.tokend.specs.Fields.{is_space, region_in, moment_in}
+use Rattle.tokend.specs.Fields.{is_space, region_in, moment_in, IsCursorText, IsNoCursorText}
 use Rattle.tokend.specs.RequestLine.{asked_of}
 use Rattle.tokend.specs.Line.{texts, IsPrintable, IsEventForm, IsNoEventForm, IsEventLine, IsNoEventLine}
 use Rattle.tokend.proofs.NumberTexts.{region_found, moment_found, no_region, no_moment}
@@ -78,10 +79,11 @@ module _ (fs : List (Bor (List ℕ))) where
       let at_region = region_found (text_at fs 2) region at in
       (rw (three fs long, name, given.spelled, at_region.1) refl, given.fits, at_region.0)
 
-  pub pull_there : (region : ℕ) (vector : Vector) → length fs ≡ 4 → text_at fs 0 ≡ codes "pull" → text_at fs 3 ≡ codes "-" → region_in (text_at fs 1) ≡ Some region → IsVectorText (text_at fs 2) vector → IsEventForm (texts fs) (Pull region vector)
-  pull_there region vector long name last at is =
+  pub pull_there : (region : ℕ) (vector : Vector) (after : Option Dot) → length fs ≡ 4 → text_at fs 0 ≡ codes "pull" → region_in (text_at fs 1) ≡ Some region → IsVectorText (text_at fs 2) vector → IsCursorText (text_at fs 3) after
+      → IsEventForm (texts fs) (Pull region vector after)
+  pull_there region vector after long name at is place =
       let at_region = region_found (text_at fs 1) region at in
-      (text_at fs 2, rw (four fs long, name, last, at_region.1) refl, at_region.0, is)
+      (text_at fs 2, text_at fs 3, rw (four fs long, name, at_region.1) refl, at_region.0, is, place)
 
   pub request_there : (region now : ℕ) (words : List ℕ) (request : Vec ℕ Global) → 3 ≤ length fs → region_in (text_at fs 1) ≡ Some region → moment_in (text_at fs 2) ≡ Some now → asked_of (text_at fs 0) (texts (drop 3 fs)) ≡ Some request.items → IsEventForm (texts fs) (Request region now words request)
   request_there region now words request long at then is =
@@ -99,7 +101,7 @@ module _ (fs : List (Bor (List ℕ))) where
       let same : text_at fs 1 ≡ decimal region = cc in
       no_region (text_at fs 1) region none h.1 same
   open_bad long none (Request region now words request) h = absurd (omega (arith, count fs _ h.2))
-  open_bad long none (Pull region vector) h = absurd (omega (arith, count fs _ h.1))
+  open_bad long none (Pull region vector after) h = absurd (omega (arith, count fs _ h.2))
   open_bad long none (Deliver bundle region) h = absurd (omega (arith, count fs _ h.0))
 
   -- three fields that begin with `deliver` are no other event's
@@ -109,7 +111,7 @@ module _ (fs : List (Bor (List ℕ))) where
       let parts = sym (three_up fs (omega arith)) ∙ h.2 in
       let same : h.0 ≡ codes "deliver" = cc in
       no_request_named h.0 (codes "deliver") h.1 request.items h.5 refl same
-  deliver_only long name none (Pull region vector) h = absurd (omega (arith, count fs _ h.1))
+  deliver_only long name none (Pull region vector after) h = absurd (omega (arith, count fs _ h.2))
   deliver_only long name none (Deliver bundle region) h =
       let parts = sym (three fs long) ∙ h.0 in
       none bundle region (cc) h.1 (cc) h.2
@@ -121,29 +123,33 @@ module _ (fs : List (Bor (List ℕ))) where
   deliver_bad_region long name none = deliver_only long name (λ bundle region same high at is. no_region (text_at fs 2) region none is at)
 
   -- nor are four that begin with `pull`
-  pull_only : length fs ≡ 4 → text_at fs 0 ≡ codes "pull" → ((region : ℕ) (vector : Vector) → text_at fs 1 ≡ decimal region → IsRegion region → IsVectorText (text_at fs 2) vector → ⊥) → IsNoEventForm (texts fs)
+  pull_only : length fs ≡ 4 → text_at fs 0 ≡ codes "pull" → ((region : ℕ) (vector : Vector) (after : Option Dot) → text_at fs 1 ≡ decimal region → IsRegion region → IsVectorText (text_at fs 2) vector → IsCursorText (text_at fs 3) after → ⊥) → IsNoEventForm (texts fs)
   pull_only long name none (Open region) h = absurd (omega (arith, count fs _ h.0))
   pull_only long name none (Request region now words request) h =
       let parts = sym (three_up fs (omega arith)) ∙ h.2 in
       let same : h.0 ≡ codes "pull" = cc in
       no_request_named h.0 (codes "pull") h.1 request.items h.5 refl same
-  pull_only long name none (Pull region vector) h =
-      let parts = sym (four fs long) ∙ h.1 in
+  pull_only long name none (Pull region vector after) h =
+      let parts = sym (four fs long) ∙ h.2 in
       let entries : h.0 ≡ text_at fs 2 = cc in
-      none region vector (cc) h.2 (subst (λ t. IsVectorText t vector) entries h.3)
+      let place : h.1 ≡ text_at fs 3 = cc in
+      none region vector after (cc) h.3 (subst (λ t. IsVectorText t vector) entries h.4) (subst (λ t. IsCursorText t after) place h.5)
   pull_only long name none (Deliver bundle region) h = absurd (omega (arith, count fs _ h.0))
 
   pub pull_bad_region : length fs ≡ 4 → text_at fs 0 ≡ codes "pull" → region_in (text_at fs 1) ≡ None → IsNoEventForm (texts fs)
-  pull_bad_region long name none = pull_only long name (λ region vector at is entries. no_region (text_at fs 1) region none is at)
+  pull_bad_region long name none = pull_only long name (λ region vector after at is entries place. no_region (text_at fs 1) region none is at)
 
   pub pull_bad_vector : length fs ≡ 4 → text_at fs 0 ≡ codes "pull" → IsNoVectorText (text_at fs 2) → IsNoEventForm (texts fs)
-  pull_bad_vector long name none = pull_only long name (λ region vector at is entries. none vector entries)
+  pull_bad_vector long name none = pull_only long name (λ region vector after at is entries place. none vector entries)
+
+  pub pull_bad_cursor : length fs ≡ 4 → text_at fs 0 ≡ codes "pull" → IsNoCursorText (text_at fs 3) → IsNoEventForm (texts fs)
+  pull_bad_cursor long name none = pull_only long name (λ region vector after at is entries place. none after place)
 
   -- other fields, of which there are three or more, are a request's if they are an event's
   pub record IsOther : Type 0 where
     pub long : 3 ≤ length fs
     pub deliver : length fs ≡ 3 → text_at fs 0 ≢ codes "deliver"
-    pub pull : length fs ≡ 4 → text_at fs 3 ≡ codes "-" → text_at fs 0 ≢ codes "pull"
+    pub pull : length fs ≡ 4 → text_at fs 0 ≢ codes "pull"
 
   request_only : IsOther → ((region now : ℕ) (request : List ℕ) → text_at fs 1 ≡ decimal region → IsRegion region → text_at fs 2 ≡ decimal now → IsMoment now → asked_of (text_at fs 0) (texts (drop 3 fs)) ≡ Some request → ⊥) → IsNoEventForm (texts fs)
   request_only other none (Open region) h = let long = other.long in absurd (omega (arith, count fs _ h.0))
@@ -152,10 +158,10 @@ module _ (fs : List (Bor (List ℕ))) where
       let name : h.0 ≡ text_at fs 0 = cc in
       let form : h.1 ≡ texts (drop 3 fs) = cc in
       none region now request.items (cc) h.3 (cc) h.4 (subst (λ t. asked_of (text_at fs 0) t ≡ Some request.items) form (subst (λ t. asked_of t h.1 ≡ Some request.items) name h.5))
-  request_only other none (Pull region vector) h =
-      let long = count fs _ h.1 in
-      let parts = sym (four fs long) ∙ h.1 in
-      other.pull long (cc) (cc)
+  request_only other none (Pull region vector after) h =
+      let long = count fs _ h.2 in
+      let parts = sym (four fs long) ∙ h.2 in
+      other.pull long (cc)
   request_only other none (Deliver bundle region) h =
       let long = count fs _ h.0 in
       let parts = sym (three fs long) ∙ h.0 in

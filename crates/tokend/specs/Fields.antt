@@ -1,9 +1,12 @@
 -- The numbers and texts that a line's fields stand for.
---   is_space     what parts the fields of a line
---   region_in    the region whose number a text is
---   moment_in    the moment whose seconds a text is
-use Rattle.std.specs.Prelude.{ℕ, ◌==◌, Bool, if◌then◌else◌, List, Option, Some, None}
+--   is_space       what parts the fields of a line
+--   region_in      the region whose number a text is
+--   moment_in      the moment whose seconds a text is
+--   IsCursorText   the dot above which a page begins, or none; IsNoCursorText, the text is neither
+use Rattle.std.specs.Prelude.{◌≡◌, ℕ, ◌==◌, Bool, if◌then◌else◌, List, codes, Option, Some, None}
 use Rattle.tk_format.specs.Decimals.{decimal_in}
+use Rattle.tk_handle.specs.declared.dot.Dot.{Dot}
+use Rattle.tk_handle.specs.DotText.{IsDotText}
 use Rattle.tk_handle.specs.Ranges.{is_region, is_moment}
 
 -- SP
@@ -22,3 +25,11 @@ region_in text = passing is_region (decimal_in text)
 -- the seconds of a moment, as a decimal
 abbrev pub moment_in : List ℕ → Option ℕ
 moment_in text = passing is_moment (decimal_in text)
+
+-- `-`, or the text of a dot
+abbrev pub IsCursorText : List ℕ → Option Dot → Type 0
+IsCursorText text None = text ≡ codes "-"
+IsCursorText text (Some d) = IsDotText text d
+
+abbrev pub IsNoCursorText : List ℕ → Type 0
+IsNoCursorText text = (after : Option Dot) → ¬ (IsCursorText text after)

@@ -11,7 +11,7 @@ use Rattle.tk_handle.specs.Ranges.{IsRegion, IsMoment}
 use Rattle.tk_vector.specs.VectorText.{IsVectorText}
 use Rattle.tk_world.specs.declared.event.Event.{Event}
 use Rattle.tk_world.specs.declared.event.Event.TheVariants.{Open, Request, Pull, Deliver}
-use Rattle.tokend.specs.Fields.{is_space}
+use Rattle.tokend.specs.Fields.{is_space, IsCursorText}
 use Rattle.tokend.specs.RequestLine.{asked_of}
 
 -- the bytes are spaces and visible ASCII
@@ -26,15 +26,15 @@ texts fields = map (λ field. field.now) fields
 abbrev pub bytes_in : Option (Vec ℕ Global) → Option (List ℕ)
 bytes_in bytes = option_map (λ v. v.items) bytes
 
--- `open R`, NAME R NOW and a request's form, `pull R VECTOR -`, and `deliver B R`
+-- `open R`, NAME R NOW and a request's form, `pull R VECTOR AFTER`, and `deliver B R`
 abbrev pub IsEventForm : List (List ℕ) → Event → Type 0
 IsEventForm fields (Open region) = (fields ≡ codes "open" ∷ decimal region ∷ []) × IsRegion region
 IsEventForm fields (Request region now words bytes) =
     (name : List ℕ) × (form : List (List ℕ)) × (fields ≡ name ∷ decimal region ∷ decimal now ∷ form)
     × IsRegion region × IsMoment now × (asked_of name form ≡ Some bytes.items)
-IsEventForm fields (Pull region vector) =
-    (entries : List ℕ) × (fields ≡ codes "pull" ∷ decimal region ∷ entries ∷ codes "-" ∷ [])
-    × IsRegion region × IsVectorText entries vector
+IsEventForm fields (Pull region vector after) =
+    (entries : List ℕ) × (place : List ℕ) × (fields ≡ codes "pull" ∷ decimal region ∷ entries ∷ place ∷ [])
+    × IsRegion region × IsVectorText entries vector × IsCursorText place after
 IsEventForm fields (Deliver bundle region) =
     (fields ≡ codes "deliver" ∷ decimal bundle ∷ decimal region ∷ []) × (bundle < 2 ^ 64) × IsRegion region
 
@@ -56,7 +56,7 @@ IsNoEventLine line = (event : Event) → ¬ (IsEventLine line event)
 abbrev pub HasWords : List ℕ → Event → Type 0
 HasWords words (Open region) = ⊤
 HasWords words (Request region now drawn bytes) = drawn ≡ words
-HasWords words (Pull region vector) = ⊤
+HasWords words (Pull region vector after) = ⊤
 HasWords words (Deliver bundle region) = ⊤
 
 -- the six words of an event, by its place among the events

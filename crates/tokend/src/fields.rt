@@ -1,10 +1,10 @@
-ghost use Rattle.std.specs.Prelude.{◌≡◌, IfOk, map};
+ghost use Rattle.std.specs.Prelude.{◌≡◌, IfOk, IfSome, IfNone, map};
 ghost use Rattle.std.specs.List.{slice_split};
-ghost use Rattle.tokend.specs.Fields.{is_space, region_in, moment_in};
+ghost use Rattle.tokend.specs.Fields.{is_space, region_in, moment_in, IsCursorText, IsNoCursorText};
 
 use std::alloc::{AllocError, Global};
 use tk_format::read_decimal;
-use tk_handle::{Moment, RegionNumber};
+use tk_handle::{Dot, Moment, RegionNumber};
 
 /// The fields of a line: what stands between its spaces, which is empty where two spaces meet.
 pub(crate) fn fields<'a>(alloc: Global, line: &'a str) -> Result<Vec<&'a str>, AllocError>
@@ -25,4 +25,18 @@ pub(crate) fn moment(text: &str) -> Option<Moment>
     ensures { result ≡ moment_in text.now }
 {
     Moment::new(read_decimal(text.as_bytes())?)
+}
+
+/// Where a page begins: `-` for the beginning, or the dot of a text `R:S`, above which it does.
+pub(crate) fn cursor(text: &str) -> Option<Option<Dot>>
+    ensures found { IfSome result (IsCursorText text.now) }
+    ensures none { IfNone result (IsNoCursorText text.now) }
+{
+    if text == "-" {
+        return Some(None);
+    }
+    match Dot::read_text(text.as_bytes()) {
+        Some(dot) => Some(Some(dot)),
+        None => None,
+    }
 }

@@ -2,7 +2,7 @@ ghost use Rattle.std.specs.Prelude.{◌≡◌, ◌↔◌, IfOk, IfSome, IsErrOf,
 ghost use Rattle.tokend.specs.Line.{IsPrintable, texts, IsEventForm, IsNoEventForm, IsEventLine, IsNoEventLine, HasWords};
 
 use crate::fault::LineError;
-use crate::fields::{fields, moment, region};
+use crate::fields::{cursor, fields, moment, region};
 use crate::request_line::asked;
 use std::alloc::Global;
 use tk_format::read_decimal;
@@ -13,11 +13,12 @@ use tk_world::Event;
 /// those of [`asked`]:
 ///
 /// - `open R`
-/// - `pull R VECTOR -`
+/// - `pull R VECTOR AFTER`
 /// - `deliver B R`
 ///
 /// Fields have one byte or more of `%x21-7E` and are parted by one space. R is the number of a region, NOW a moment,
-/// B a bundle's number from 0; VECTOR is `-`, or entries `R:S` of rising regions that are joined by commas.
+/// B a bundle's number from 0; VECTOR is `-`, or entries `R:S` of rising regions that are joined by commas; AFTER is `-`, or
+/// a dot `R:S`, above which the page begins.
 pub(crate) fn event(alloc: Global, line: &[u8], words: [u64; 6]) -> Result<Event, LineError>
     ensures found { IfOk result (IsEventLine line.now) }
     ensures words { IfOk result (HasWords words) }
@@ -38,8 +39,9 @@ fn event_of(alloc: Global, fields: &[&str], words: [u64; 6]) -> Result<Event, Li
 {
     match fields {
         ["open", at] => Ok(Event::Open(region(at).ok_or(LineError::Bad)?)),
-        ["pull", at, entries, "-"] => Ok(Event::Pull {
+        ["pull", at, entries, after] => Ok(Event::Pull {
             region: region(at).ok_or(LineError::Bad)?,
+            after: cursor(after).ok_or(LineError::Bad)?,
             vector: VersionVector::read_text(alloc, entries.as_bytes())?,
         }),
         ["deliver", bundle, to] => Ok(Event::Deliver {

@@ -9,9 +9,9 @@ use std::alloc::Global;
 use std::io::{self, Read, Write};
 use std::net::{Ipv4Addr, Net, OpenListener, OpenStream, Shutdown, TcpListener, TcpStream};
 use std::time::Clock;
-use tk_bundle::{Page, make};
+use tk_bundle::Page;
 use tk_edge::{Discard, Edge, Fault as EdgeFault, Served};
-use tk_handle::{Moment, RegionNumber};
+use tk_handle::{Dot, Moment, RegionNumber};
 use tk_message::Status;
 use tk_region::{Region, Settings, TakeError};
 use tk_vector::VersionVector;
@@ -78,7 +78,11 @@ impl Regions {
                 Some(edge) => request(rt, listener, edge, *now, words, bytes),
                 None => Ok(Outcome::NoRegion),
             },
-            Event::Pull { region, vector } => Ok(self.pull(*region, vector)),
+            Event::Pull {
+                region,
+                vector,
+                after,
+            } => Ok(self.pull(*region, vector, *after)),
             Event::Deliver { bundle, region } => Ok(self.deliver(*bundle, *region)),
         }
     }
@@ -93,17 +97,22 @@ impl Regions {
         if self.find(number).is_some() {
             return Outcome::NumberTaken;
         }
-        let edge = Edge::new(Region::new(self.alloc, number, self.settings));
+        let edge = Edge::new(Region::new(self.alloc, number, self.settings), false);
         match self.edges.push(edge) {
             Ok(()) => Outcome::Opened,
             Err(_) => Outcome::Memory,
         }
     }
 
-    fn pull(&mut self, number: RegionNumber, vector: &VersionVector) -> Outcome {
+    fn pull(
+        &mut self,
+        number: RegionNumber,
+        vector: &VersionVector,
+        after: Option<Dot>,
+    ) -> Outcome {
         let alloc = self.alloc;
         let page = match self.find(number) {
-            Some(edge) => make(alloc, edge.region().ledger().store(), vector),
+            Some(edge) => edge.region().page(alloc, vector, after),
             None => return Outcome::NoRegion,
         };
         match page {

@@ -99,7 +99,7 @@ fn begin<R: AllocGlobal + Files>(rt: &R, service: &Service) -> Result<(Start, u6
             Err(fault) => return Err(fault),
         }
     }
-    let edge = Edge::new(region);
+    let edge = Edge::new(region, true);
     Ok((Start { edge, words }, dropped))
 }
 

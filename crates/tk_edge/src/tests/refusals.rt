@@ -40,7 +40,7 @@ const ROWS: &[(&str, &str, &str, Case)] = &[
     ("a path in other letters", "POST /Token", "", Case::Missing),
     ("a percent-encoded path", "POST /%74oken", "", Case::Missing),
     (
-        "a vector, until there is one",
+        "a vector, where regions exchange nothing",
         "GET /sync/vector",
         "",
         Case::Missing,

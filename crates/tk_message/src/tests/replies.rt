@@ -1,7 +1,9 @@
 //! Consents, redirects and the texts of handles.
 
 use super::{dot, handle, is_told};
-use crate::{Payload, Reply, Status, consent_reply, handle_string, redirect_reply};
+use crate::{
+    Payload, Reply, Status, bytes_reply, consent_reply, handle_string, redirect_reply, taken_reply,
+};
 use std::alloc::Global;
 use tk_handle::{Handle, Kind};
 
@@ -145,6 +147,45 @@ fn a_handle_is_told_as_text(rt: HostRuntime) {
         match handle(dot(region, serial), kind, words) {
             Some(handle) => assert!(rt; has_text(rt.alloc(), &handle, want), "{want}"),
             None => assert!(rt; false, "a handle of {want}"),
+        }
+    }
+}
+
+#[test]
+fn what_is_new_is_counted(rt: HostRuntime) {
+    let rows: &[(u16, &str)] = &[
+        (0, "{\"took\":0}"),
+        (1, "{\"took\":1}"),
+        (128, "{\"took\":128}"),
+    ];
+    for &(count, body) in rows {
+        let reply = taken_reply(rt.alloc(), count).ok();
+        assert!(rt; is_told(reply, 200, body), "{body}");
+    }
+}
+
+// Whether the reply carries these bytes alone.
+fn carries(reply: &Reply, wanted: &[u8]) -> bool {
+    let is_whole = match &reply.body {
+        Payload::Bytes(bytes) => bytes.as_slice() == wanted,
+        _ => false,
+    };
+    is_whole && reply.status.number() == 200 && reply.location.is_none() && !reply.www
+}
+
+fn sent(alloc: Global, bytes: &[u8]) -> Option<Reply> {
+    match Vec::from_slice(alloc, bytes) {
+        Ok(bytes) => Some(bytes_reply(bytes)),
+        Err(_) => None,
+    }
+}
+
+#[test]
+fn bytes_are_carried_as_they_are(rt: HostRuntime) {
+    for wanted in [b"OTV1\x00\x00".as_slice(), b"".as_slice()] {
+        match sent(rt.alloc(), wanted) {
+            Some(reply) => assert!(rt; carries(&reply, wanted)),
+            None => assert!(rt; false, "memory"),
         }
     }
 }

@@ -8,7 +8,7 @@ use std::test::Fail;
 use std::time::Clock;
 
 // Lines that have none of the forms.
-static FORMS: [(&str, &[u8]); 20] = [
+static FORMS: [(&str, &[u8]); 23] = [
     ("an unknown name", b"close 1"),
     ("a name in capitals", b"OPEN 1"),
     ("a prune", b"prune 1 1000"),
@@ -33,7 +33,10 @@ static FORMS: [(&str, &[u8]); 20] = [
     ("retire of two ids", b"retire 1 1003 c1-1 c1-2"),
     ("look without an id", b"look 1 1001"),
     ("look at two ids", b"look 1 1001 c1-1 c1-2"),
-    ("pull after a dot", b"pull 1 - 1:1"),
+    ("pull after a region alone", b"pull 1 - 1"),
+    ("pull after two dots", b"pull 1 - 1:1,2:1"),
+    ("pull after the serial 0", b"pull 1 - 1:0"),
+    ("pull after region 0", b"pull 1 - 0:1"),
     ("pull without its last field", b"pull 1 -"),
     ("pull alone", b"pull"),
     ("deliver without a region", b"deliver 0"),

@@ -36,7 +36,7 @@ fn new_region(alloc: Global, number: u16) -> Result<Region, Fail> {
 // The log of a region that was asked for these.
 fn log_of_requests<R: AllocGlobal + Abort>(rt: &R) -> Result<Vec<u8>, Fail> {
     let alloc = rt.alloc();
-    let mut edge = Edge::new(new_region(alloc, 1)?);
+    let mut edge = Edge::new(new_region(alloc, 1)?, true);
     let mut log = Counted::new(Vec::new(alloc));
     let mut buf = [0u8; 8192];
     let events = read_events(alloc, REQUESTS, None)?;

@@ -151,7 +151,7 @@ fn a_connection_is_served(rt: HostRuntime) -> Result<(), Fail> {
     let settings = Settings::new(60, 3_600, 86_400, 2_592_000, Settings::GREATEST_CAP).ok_or(
         "none",
     )?;
-    let mut edge = Edge::new(Region::new(alloc, number, settings));
+    let mut edge = Edge::new(Region::new(alloc, number, settings), true);
     let mut words = generator([7u8; 32], number);
     let mut faults = Vec::new(alloc);
     let listener = TcpListener::bind(&rt, (Ipv4Addr::new(127, 0, 0, 1), 0u16))?;

@@ -1,4 +1,4 @@
-use Rattle.std.proofs.Common.{◌≡◌, nat_lt, length, map, ap, ◌∙◌, take, None}
+use Rattle.std.proofs.Common.{◌≡◌, nat_lt, length, map, ap, ◌∙◌, take}
 use Rattle.std.proofs.lemmas.Result.{IfOk-weaker, on_ok_weaker}
 use Rattle.tk_store.specs.Beyond.{beyond}
 use Rattle.tk_store.specs.FactSet.{dot_of}
@@ -9,16 +9,18 @@ pub returns-clause-page : goal.returns-clause-page
 returns-clause-page c =
     let F = c.args.store.now in
     let v = c.args.vector.now in
-    let dots : c.deref.result.now ≡ map dot_of (take c.args.limit (beyond F v None)) =
-    c.deref.ensures.value ∙ c.truncate.ensures.items ∙ ap (take c.args.limit) c.in_ok-dots.ensures ∙ dots_are F v c.args.limit in
-    let more : nat_lt c.args.limit (length c.as_slice.result.now) ≡ nat_lt c.args.limit (length (beyond F v None)) =
-    ap (λ xs. nat_lt c.args.limit (length xs)) (c.as_slice.ensures.value ∙ c.in_ok-dots.ensures) ∙ page_more (beyond F v None) c.args.limit in
-    IfOk-weaker c.page_at.result _ _ (λ page at. page_is page F v c.args.limit c.deref.result.now _ dots more at) c.page_at.ensures.page
+    let after = c.args.after in
+    let dots : c.deref.result.now ≡ map dot_of (take c.args.limit (beyond F v after)) =
+    c.deref.ensures.value ∙ c.truncate.ensures.items ∙ ap (take c.args.limit) c.in_ok-dots.ensures ∙ dots_are F v after c.args.limit in
+    let more : nat_lt c.args.limit (length c.as_slice.result.now) ≡ nat_lt c.args.limit (length (beyond F v after)) =
+    ap (λ xs. nat_lt c.args.limit (length xs)) (c.as_slice.ensures.value ∙ c.in_ok-dots.ensures) ∙ page_more (beyond F v after) c.args.limit in
+    IfOk-weaker c.page_at.result _ _ (λ page at. page_is page F v after c.args.limit c.deref.result.now _ dots more at) c.page_at.ensures.page
 
 pub returns-clause-fits : goal.returns-clause-fits
 returns-clause-fits c =
     let F = c.args.store.now in
     let v = c.args.vector.now in
-    let dots : c.deref.result.now ≡ map dot_of (take c.args.limit (beyond F v None)) =
-    c.deref.ensures.value ∙ c.truncate.ensures.items ∙ ap (take c.args.limit) c.in_ok-dots.ensures ∙ dots_are F v c.args.limit in
-    on_ok_weaker c.page_at.result (λ fits. page_fits F v c.args.limit c.deref.result.now c.requires dots fits) c.page_at.ensures.fits
+    let after = c.args.after in
+    let dots : c.deref.result.now ≡ map dot_of (take c.args.limit (beyond F v after)) =
+    c.deref.ensures.value ∙ c.truncate.ensures.items ∙ ap (take c.args.limit) c.in_ok-dots.ensures ∙ dots_are F v after c.args.limit in
+    on_ok_weaker c.page_at.result (λ fits. page_fits F v after c.args.limit c.deref.result.now c.requires dots fits) c.page_at.ensures.fits

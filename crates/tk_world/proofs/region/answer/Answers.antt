@@ -1,6 +1,10 @@
-use Rattle.tk_world.proofs.PartLaws.{answered_part}
+use Rattle.tk_world.proofs.PartLaws.{answered_part, untouched}
 use Rattle.tk_world.proofs.region.answer.Goals as goal
 
 pub returns-in-Ok : goal.returns-in-Ok
 returns-in-Ok c =
-    answered_part c.args.edge.now c.answer.new.self _ _ _ _ c.asked.view_is c.answer-in-Ok.view_is c.in-Ok.ensures.sealed (c.in-Ok.ensures.answers c.requires)
+    answered_part c.args.edge.now c.answer.new.self _ _ _ _ c.asked.view_is c.answer-in-Ok.view_is c.requires.sync c.in-Ok.ensures.sealed c.in-Ok.ensures.sync
+    (c.in-Ok.ensures.answers c.requires.sealed)
+
+pub returns-in-Err : goal.returns-in-Err
+returns-in-Err c = untouched c.args.edge.now c.answer.new.self _ c.requires.sync c.in-Err.ensures.sealed c.in-Err.ensures.sync c.in-Err.ensures.err

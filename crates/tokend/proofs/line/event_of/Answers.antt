@@ -6,7 +6,7 @@ use Rattle.tk_format.specs.Decimals.{decimal_in}
 use Rattle.tk_vector.specs.VectorText.{IsNoVectorText}
 use Rattle.tokend.specs.Line.{texts}
 use Rattle.tokend.specs.RequestLine.{asked_of}
-use Rattle.tokend.proofs.EventForms.{text_at, open_there, deliver_there, pull_there, request_there, open_bad, deliver_bad_bundle, deliver_bad_region, pull_bad_region, pull_bad_vector, IsOther, request_bad_region, request_bad_moment}
+use Rattle.tokend.proofs.EventForms.{text_at, open_there, deliver_there, pull_there, request_there, open_bad, deliver_bad_bundle, deliver_bad_region, pull_bad_region, pull_bad_vector, pull_bad_cursor, IsOther, request_bad_region, request_bad_moment}
 use Rattle.tokend.proofs.line.event_of.Goals as goal
 
 pub returns-in_err-ok_or-in-open-clause-bad : goal.returns-in_err-ok_or-in-open-clause-bad
@@ -29,19 +29,24 @@ returns-in_err-ok_or-in-pull-clause-bad c _ =
     let none : c.region-in-pull.result ≡ None = grind arith in
     pull_bad_region c.args.fields.now (omega arith) (search (rules, tests)) (sym c.region-in-pull.ensures ∙ none)
 
+pub returns-in_err-ok_or-in-pull-2-clause-bad : goal.returns-in_err-ok_or-in-pull-2-clause-bad
+returns-in_err-ok_or-in-pull-2-clause-bad c _ =
+    let none : c.cursor.result ≡ None = grind arith in
+    pull_bad_cursor c.args.fields.now (omega arith) (search (rules, tests)) (rw none at c.cursor.ensures.none)
+
 pub returns-in_err-read_text-in-pull-clause-bad : goal.returns-in_err-read_text-in-pull-clause-bad
 returns-in_err-read_text-in-pull-clause-bad c e = pull_bad_vector c.args.fields.now (omega arith) (search (rules, tests)) (subst IsNoVectorText c.as_bytes-in-pull.ensures.value (c.read_text.ensures.malformed (grind arith)))
 
 pub returns-in_err-ok_or-in-len3-up-clause-bad : goal.returns-in_err-ok_or-in-len3-up-clause-bad
 returns-in_err-ok_or-in-len3-up-clause-bad c _ =
     let none : c.region-in-len3-up.result ≡ None = grind arith in
-    let other : IsOther c.args.fields.now = record { long = grind arith; deliver = λ n e. search (rules, tests); pull = λ n a e. search (rules, tests) } in
+    let other : IsOther c.args.fields.now = record { long = grind arith; deliver = λ n e. search (rules, tests); pull = λ n e. search (rules, tests) } in
     request_bad_region c.args.fields.now other (sym c.region-in-len3-up.ensures ∙ none)
 
 pub returns-in_err-ok_or-in-len3-up-2-clause-bad : goal.returns-in_err-ok_or-in-len3-up-2-clause-bad
 returns-in_err-ok_or-in-len3-up-2-clause-bad c _ =
     let none : c.moment.result ≡ None = grind arith in
-    let other : IsOther c.args.fields.now = record { long = grind arith; deliver = λ n e. grind (arith, common_steps); pull = λ n a e. grind (arith, common_steps) } in
+    let other : IsOther c.args.fields.now = record { long = grind arith; deliver = λ n e. grind (arith, common_steps); pull = λ n e. grind (arith, common_steps) } in
     request_bad_moment c.args.fields.now other (sym c.moment.ensures ∙ none)
 
 pub returns-in_ok-ok_or-in-open-clause-found : goal.returns-in_ok-ok_or-in-open-clause-found
@@ -58,7 +63,7 @@ returns-in_ok-ok_or-in-deliver-2-clause-found c =
 pub returns-in_ok-read_text-in-pull-clause-found : goal.returns-in_ok-read_text-in-pull-clause-found
 returns-in_ok-read_text-in-pull-clause-found c =
     let region : c.region-in-pull.result ≡ Some c.in_ok-ok_or-in-pull.field-0 = grind arith in
-    pull_there c.args.fields.now _ _ (omega arith) (search (rules, tests)) (search (rules, tests)) (sym c.region-in-pull.ensures ∙ region) (search rules)
+    pull_there c.args.fields.now _ _ _ (omega arith) (search (rules, tests)) (sym c.region-in-pull.ensures ∙ region) (search rules) (search rules)
 
 pub returns-in_ok-ok_or-in-len3-up-3-clause-found : goal.returns-in_ok-ok_or-in-len3-up-3-clause-found
 returns-in_ok-ok_or-in-len3-up-3-clause-found c =

@@ -22,9 +22,9 @@ invariant_of-self c =
     let w = c.self.inside in
     let gap = rw c.deref.ensures.value at c.in-Err.ensures in
     let new = c.open_region.new.regions.items in
-    let step = open_step w.settings w.regions.items w.bundles.items c.self.invariant.0 c.args.number c.in-Err.at gap c.new-edge.result (c.new-edge.ensures ∙ ap (λ (r : RegionFields). record { region = r; sealed = false }) c.new.ensures) c.open_region.result new c.open_region.ensures in (
-      sorted_new w.settings w.regions.items w.bundles.items c.self.invariant.0 c.args.number c.in-Err.at gap c.new-edge.result (c.new-edge.ensures ∙ ap (λ (r : RegionFields). record { region = r; sealed = false }) c.new.ensures) c.open_region.result new c.open_region.ensures,
-      settings_new w.settings w.regions.items w.bundles.items c.self.invariant.0 c.args.number c.in-Err.at gap c.new-edge.result (c.new-edge.ensures ∙ ap (λ (r : RegionFields). record { region = r; sealed = false }) c.new.ensures) c.open_region.result new c.open_region.ensures c.self.invariant.1,
+    let step = open_step w.settings w.regions.items w.bundles.items c.self.invariant.0 c.args.number c.in-Err.at gap c.new-edge.result (c.new-edge.ensures ∙ ap (λ (r : RegionFields). record { region = r; sync = false; sealed = false }) c.new.ensures) c.open_region.result new c.open_region.ensures in (
+      sorted_new w.settings w.regions.items w.bundles.items c.self.invariant.0 c.args.number c.in-Err.at gap c.new-edge.result (c.new-edge.ensures ∙ ap (λ (r : RegionFields). record { region = r; sync = false; sealed = false }) c.new.ensures) c.open_region.result new c.open_region.ensures,
+      settings_new w.settings w.regions.items w.bundles.items c.self.invariant.0 c.args.number c.in-Err.at gap c.new-edge.result (c.new-edge.ensures ∙ ap (λ (r : RegionFields). record { region = r; sync = false; sealed = false }) c.new.ensures) c.open_region.result new c.open_region.ensures c.self.invariant.1,
       ended_keeps (world w.settings w.regions.items w.bundles.items) (Open c.args.number) c.open_region.result _ step tt _ refl c.self.invariant.2,
     )
 
@@ -32,5 +32,5 @@ pub returns-in-Err : goal.returns-in-Err
 returns-in-Err c =
     let w = c.self.inside in
     let gap = rw c.deref.ensures.value at c.in-Err.ensures in
-    let step = open_step w.settings w.regions.items w.bundles.items c.self.invariant.0 c.args.number c.in-Err.at gap c.new-edge.result (c.new-edge.ensures ∙ ap (λ (r : RegionFields). record { region = r; sealed = false }) c.new.ensures) c.open_region.result c.open_region.new.regions.items c.open_region.ensures in
+    let step = open_step w.settings w.regions.items w.bundles.items c.self.invariant.0 c.args.number c.in-Err.at gap c.new-edge.result (c.new-edge.ensures ∙ ap (λ (r : RegionFields). record { region = r; sync = false; sealed = false }) c.new.ensures) c.open_region.result c.open_region.new.regions.items c.open_region.ensures in
     ended (world w.settings w.regions.items w.bundles.items) (Open c.args.number) c.open_region.result _ step _ refl _ c.self.view_is

@@ -23,8 +23,8 @@ invariant_of-self c =
     let is = c.index.ensures in
     let s = world w.settings w.regions.items w.bundles.items in
     let held = held_at w.settings w.regions.items w.bundles.items c.self.invariant.0 c.args.region c.in-Ok.at at c.self.invariant.1 p is in
-    let step = pull_step s c.args.region p.region.facts c.args.vector.now c.pull_page.result c.pull_page.new.bundles.items held (rw c.region.ensures at c.pull_page.ensures) in
-    (c.self.invariant.0, c.self.invariant.1, ended_keeps s (Pull c.args.region c.args.vector.now) c.pull_page.result _ step tt _ refl c.self.invariant.2)
+    let step = pull_step s c.args.region p.region.facts c.args.vector.now c.args.after c.pull_page.result c.pull_page.new.bundles.items held (rw c.region.ensures at c.pull_page.ensures) in
+    (c.self.invariant.0, c.self.invariant.1, ended_keeps s (Pull c.args.region c.args.vector.now c.args.after) c.pull_page.result _ step tt _ refl c.self.invariant.2)
 
 pub returns-in-Ok : goal.returns-in-Ok
 returns-in-Ok c =
@@ -34,5 +34,5 @@ returns-in-Ok c =
     let is = c.index.ensures in
     let s = world w.settings w.regions.items w.bundles.items in
     let held = held_at w.settings w.regions.items w.bundles.items c.self.invariant.0 c.args.region c.in-Ok.at at c.self.invariant.1 p is in
-    let step = pull_step s c.args.region p.region.facts c.args.vector.now c.pull_page.result c.pull_page.new.bundles.items held (rw c.region.ensures at c.pull_page.ensures) in
-    ended s (Pull c.args.region c.args.vector.now) c.pull_page.result _ step _ refl _ c.self.view_is
+    let step = pull_step s c.args.region p.region.facts c.args.vector.now c.args.after c.pull_page.result c.pull_page.new.bundles.items held (rw c.region.ensures at c.pull_page.ensures) in
+    ended s (Pull c.args.region c.args.vector.now c.args.after) c.pull_page.result _ step _ refl _ c.self.view_is

@@ -1,0 +1,11 @@
+use Rattle.std.proofs.Common.{Some, OnErr, subst}
+use Rattle.tk_edge.specs.Arrivals.{IsShort}
+use Rattle.tk_edge.specs.EdgeFields.{EdgeFields}
+use Rattle.tk_edge.proofs.AnswerLaws.{short_answer}
+use Rattle.tk_edge.proofs.edge.Edge.answer.Goals as goal
+
+pub returns-clause-err : goal.returns-clause-err
+returns-clause-err c =
+    subst (λ (e : EdgeFields). OnErr c.answer_arrival.result (IsShort e.sync (Some c.args.bytes.now) e.region c.answer_arrival.new.region)) c.self.view_is
+    (short_answer c.self.inside.sync c.args.bytes.now c.args.now c.args.words.now c.in_ok-came.came c.self.inside.region c.answer_arrival.new.region c.answer_arrival.result
+    c.in_ok-came.ensures.came c.in_ok-came.ensures.may c.answer_arrival.ensures)

@@ -1,0 +1,65 @@
+-- What another region is answered, and what it does to this one (own).
+--   TellsVector     its vector, in bytes
+--   page_reply      the bundle of a page, for what a pull asks
+--   TakesBundle     a bundle that was sent is taken in; IsTakenReply, what that is answered; TakesAndTells, both
+--   Exchanges       what each of the three may end with
+use Rattle.std.specs.Prelude.{◌≡◌, ℕ, List, Option, None, Some, Result, Ok, Err}
+use Rattle.std.specs.declared.alloc.AllocError.{AllocError}
+use Rattle.tk_format.specs.Format.{whole}
+use Rattle.tk_vector.specs.VersionVector.{Vector as AnyVector}
+use Rattle.tk_vector.specs.VectorBytes.{vector, vector_bytes}
+use Rattle.tk_store.specs.FactSet.{FactSet}
+use Rattle.tk_store.specs.Front.{IsFront}
+use Rattle.tk_store.specs.Store.{facts_of, known_in}
+use Rattle.tk_bundle.specs.Bundle.{bundle, bundle_bytes}
+use Rattle.tk_bundle.specs.Page.{page_of}
+use Rattle.tk_message.specs.Place.{next_in}
+use Rattle.tk_message.specs.Reply.{bytes_reply, error_reply, taken_reply}
+use Rattle.tk_message.specs.ReplyFields.{ReplyFields}
+use Rattle.tk_message.specs.declared.error_code.ErrorCode.TheVariants as code
+use Rattle.tk_region.specs.RegionFields.{RegionFields, place_in}
+use Rattle.tk_region.specs.Taking.{TakesIn}
+use Rattle.tk_region.specs.declared.take.TakeError.{TakeError}
+use Rattle.tk_region.specs.declared.take.TakeError.TheVariants.{Malformed, OwnNumber, Conflict, Memory}
+use Rattle.tk_edge.specs.Answers.{rendered}
+use Rattle.tk_edge.specs.Pulls.{wanted}
+use Rattle.tk_edge.specs.Told.{AnswerFields}
+use Rattle.tk_edge.specs.declared.exchange.Exchange.{Exchange}
+use Rattle.tk_edge.specs.declared.exchange.Exchange.TheVariants.{Vector, Pull, Push}
+use Rattle.tk_edge.specs.declared.pull.Wanted.{Wanted}
+
+-- the bytes of the front of the facts held, which can be read
+abbrev pub TellsVector : FactSet → AnswerFields → Type 0
+TellsVector F answer = (v : AnyVector) × IsFront F v × vector.Fits v × (answer ≡ rendered (bytes_reply (vector_bytes v)) None None)
+
+-- the bundle of what the vector doesn't cover above the cursor
+abbrev pub page_reply : FactSet → Option Wanted → ReplyFields
+page_reply F None = error_reply code.Malformed
+page_reply F (Some w) = bytes_reply (bundle_bytes (page_of F w.vector w.after).facts)
+
+-- the bundle that the bytes spell is taken in, or refused, or for want of memory the first of its facts are in
+pub record TakesBundle (old : RegionFields) (bytes : List ℕ) (taken : Result ℕ TakeError) (new : RegionFields) : Type 0 where
+  pub number : new.number ≡ old.number
+  pub settings : new.settings ≡ old.settings
+  pub takes : TakesIn (facts_of old.facts) (next_in (place_in old)) (whole bundle bytes) taken (facts_of new.facts)
+
+-- how many of its facts were new, or why it was refused
+abbrev pub IsTakenReply : Result ℕ TakeError → ReplyFields → Type 0
+IsTakenReply (Ok n) reply = reply ≡ taken_reply n
+IsTakenReply (Err Malformed) reply = reply ≡ error_reply code.Malformed
+IsTakenReply (Err OwnNumber) reply = reply ≡ error_reply code.OwnNumber
+IsTakenReply (Err Conflict) reply = reply ≡ error_reply code.Conflict
+IsTakenReply (Err Memory) reply = ⊥
+
+-- the answer tells what became of the bundle; where memory is refused it may have been taken in all the same
+abbrev pub TakesAndTells : RegionFields → List ℕ → Result AnswerFields AllocError → RegionFields → Type 0
+TakesAndTells old bytes (Ok answer) new =
+    (taken : Result ℕ TakeError) × TakesBundle old bytes taken new × (reply : ReplyFields) × IsTakenReply taken reply × (answer ≡ rendered reply None None)
+TakesAndTells old bytes (Err e) new = (taken : Result ℕ TakeError) × TakesBundle old bytes taken new
+
+abbrev pub Exchanges : RegionFields → Exchange → Result AnswerFields AllocError → RegionFields → Type 0
+Exchanges old Vector (Ok answer) new = TellsVector (known_in old.facts) answer × (new ≡ old)
+Exchanges old Vector (Err e) new = new ≡ old
+Exchanges old (Pull bytes) (Ok answer) new = (answer ≡ rendered (page_reply (known_in old.facts) (whole wanted bytes)) None None) × (new ≡ old)
+Exchanges old (Pull bytes) (Err e) new = new ≡ old
+Exchanges old (Push bytes) result new = TakesAndTells old bytes result new

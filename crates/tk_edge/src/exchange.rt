@@ -1,0 +1,121 @@
+//! What regions exchange: a vector, a page, a bundle.
+
+use std::marker::Model;
+
+/// What another region asks for (own).
+#[derive(Debug, Drop)]
+pub enum Exchange {
+    /// The region's vector.
+    Vector,
+    /// The page that a cursor and a vector leave.
+    Pull(Sent),
+    /// To take a bundle in.
+    Push(Sent),
+}
+
+/// The bytes of a body, which may be hostile.
+#[derive(Debug, Drop)]
+pub struct Sent {
+    bytes: Vec<u8>,
+}
+
+impl Model for Sent {
+    ghost use Rattle.std.specs.Prelude.{List, ℕ};
+
+    ghost Value = { List ℕ };
+
+    ghost view = { λ s. s.bytes.items };
+}
+
+ghost use Rattle.std.specs.Prelude.{◌≡◌, IfOk, None};
+ghost use Rattle.tk_format.specs.Format.{whole};
+ghost use Rattle.tk_store.specs.Store.{known_in};
+ghost use Rattle.tk_edge.specs.Answers.{rendered};
+ghost use Rattle.tk_edge.specs.Exchanges as spec;
+ghost use Rattle.tk_edge.specs.Pulls.{wanted};
+
+use crate::answer::{Answer, answer_with};
+use crate::pull::read_wanted;
+use std::alloc::{AllocError, Global};
+use tk_format::ReadError;
+use tk_message::{ErrorCode, Reply, bytes_reply, error_reply, taken_reply};
+use tk_region::{Region, TakeError};
+
+impl Sent {
+    // These bytes.
+    pub(crate) fn new(bytes: Vec<u8>) -> Sent
+        ensures { result ≡ bytes.items }
+    {
+        Sent { bytes }
+    }
+
+    fn bytes(&self) -> &[u8]
+        ensures { result.now ≡ self.now }
+    {
+        &self.bytes
+    }
+}
+
+// Answers another region. Where memory is refused, the first facts of a bundle that it sent may be in.
+pub(crate) fn answer_exchange(
+    alloc: Global,
+    region: &mut Region,
+    exchange: &Exchange,
+) -> Result<Answer, AllocError>
+    ensures { spec.Exchanges region.old exchange.now result region.new }
+{
+    match exchange {
+        Exchange::Vector => tell_vector(alloc, region),
+        Exchange::Pull(sent) => send_page(alloc, region, sent.bytes()),
+        Exchange::Push(sent) => take_bundle(alloc, region, sent.bytes()),
+    }
+}
+
+fn tell_vector(alloc: Global, region: &Region) -> Result<Answer, AllocError>
+    ensures { IfOk result (spec.TellsVector (known_in region.now.facts)) }
+{
+    let vector = region.vector(alloc)?;
+    let bytes = vector.write(alloc)?;
+    answer_with(alloc, &bytes_reply(bytes))
+}
+
+fn send_page(alloc: Global, region: &Region, bytes: &[u8]) -> Result<Answer, AllocError>
+    ensures { IfOk result (λ answer. answer ≡ rendered (spec.page_reply (known_in region.now.facts) (whole wanted bytes.now)) None None) }
+{
+    let reply = page_reply(alloc, region, bytes)?;
+    answer_with(alloc, &reply)
+}
+
+fn page_reply(alloc: Global, region: &Region, bytes: &[u8]) -> Result<Reply, AllocError>
+    ensures { IfOk result (λ reply. reply ≡ spec.page_reply (known_in region.now.facts) (whole wanted bytes.now)) }
+{
+    match read_wanted(alloc, bytes) {
+        Ok(wanted) => {
+            let page = region.page(alloc, &wanted.vector, wanted.after)?;
+            Ok(bytes_reply(page.bytes))
+        }
+        Err(ReadError::Malformed) => error_reply(alloc, ErrorCode::Malformed),
+        Err(ReadError::Memory) => Err(AllocError),
+    }
+}
+
+fn take_bundle(alloc: Global, region: &mut Region, bytes: &[u8]) -> Result<Answer, AllocError>
+    ensures { spec.TakesAndTells region.old bytes.now result region.new }
+{
+    let taken = region.take_in(alloc, bytes);
+    let reply = taken_answer(alloc, taken)?;
+    answer_with(alloc, &reply)
+}
+
+// What taking a bundle in is answered; nothing where memory was refused.
+fn taken_answer(alloc: Global, taken: Result<u16, TakeError>) -> Result<Reply, AllocError>
+    ensures { IfOk result (spec.IsTakenReply taken) }
+{
+    match taken {
+        Ok(count) => taken_reply(alloc, count),
+        Err(TakeError::Malformed) => error_reply(alloc, ErrorCode::Malformed),
+        Err(TakeError::OwnNumber) => error_reply(alloc, ErrorCode::OwnNumber),
+        Err(TakeError::Conflict) => error_reply(alloc, ErrorCode::Conflict),
+        Err(TakeError::Memory) => Err(AllocError),
+    }
+}

@@ -1,0 +1,60 @@
+//! What a pull asks for.
+
+use tk_handle::Dot;
+use tk_vector::VersionVector;
+
+// The dot above which the page begins, or none, and what who asks holds already.
+#[derive(Debug, Drop)]
+pub(crate) struct Wanted {
+    pub(crate) after: Option<Dot>,
+    pub(crate) vector: VersionVector,
+}
+
+ghost use Rattle.std.specs.Prelude.{◌≡◌};
+ghost use Rattle.tk_format.specs.Reading.{GetsAll, Reads};
+ghost use Rattle.tk_edge.specs.Pulls.{cursor, cursor_at, wanted};
+
+use std::alloc::Global;
+use tk_format::{ReadError, Reader, Spelled, read_all};
+use tk_handle::RegionNumber;
+
+// What all of the bytes ask for.
+pub(crate) fn read_wanted(alloc: Global, bytes: &[u8]) -> Result<Wanted, ReadError>
+    ensures { GetsAll (λ w. w) wanted result bytes.now }
+{
+    read_all(alloc, bytes)
+}
+
+impl Spelled for Wanted {
+    ghost use Rattle.tk_edge.specs.Pulls.{wanted};
+    ghost use Rattle.tk_edge.specs.PullLaws.{wanted_exact};
+
+    ghost format = { wanted };
+
+    fn read_from(alloc: Global, reader: &mut Reader<'_>) -> Result<Wanted, ReadError> {
+        let after = read_cursor(reader).ok_or(ReadError::Malformed)?;
+        let vector = VersionVector::read_from(alloc, reader)?;
+        Ok(Wanted { after, vector })
+    }
+
+    ghost exact = { wanted_exact };
+}
+
+// A cursor at the front.
+fn read_cursor(reader: &mut Reader<'_>) -> Option<Option<Dot>>
+    ensures { Reads (λ c. c) cursor result reader.old reader.new }
+{
+    let region = reader.take_u16()?;
+    let serial = reader.take_u64()?;
+    cursor_at(region, serial)
+}
+
+fn cursor_at(region: u16, serial: u64) -> Option<Option<Dot>>
+    ensures { result ≡ cursor_at (region, serial) }
+{
+    if region == 0 && serial == 0 {
+        return Some(None);
+    }
+    let dot = Dot::new(RegionNumber::new(region)?, serial)?;
+    Some(Some(dot))
+}

@@ -1,0 +1,25 @@
+-- A vector's bytes are read as the vector, and as nothing else.
+use Rattle.std.proofs.Common.{◌≡◌, ℕ, T, List, Some, subst, sym, ap, ◌∙◌}
+use Rattle.std.proofs.lemmas.Option.{cond_some}
+use Rattle.std.specs.Ordering.{nat_cmp}
+use Rattle.std.specs.FinMap as map
+use Rattle.tk_format.specs.Exact.{IsExact}
+use Rattle.tk_format.specs.Laws.{u16_exact, u64_exact, both_exact, only_exact, after_exact, counted_exact, partly_exact}
+use Rattle.tk_handle.specs.Ranges.{is_region, is_serial}
+use Rattle.tk_vector.specs.VersionVector.{Vector}
+use Rattle.tk_vector.specs.VectorBytes.{magic, entry_field, listed, rising, vector}
+
+entry_exact : IsExact entry_field
+entry_exact = both_exact _ _ (only_exact is_region _ u16_exact) (only_exact is_serial _ u64_exact)
+
+listed_exact : IsExact listed
+listed_exact = after_exact magic _ (counted_exact _ entry_field u16_exact entry_exact)
+
+-- a vector that entries make has these entries
+entries_back : (es : List (ℕ × ℕ)) (v : Vector) → rising es ≡ Some v → map.entries v ≡ es
+entries_back es v e =
+    let g = cond_some (map.is_sorted nat_cmp es) (map.from_sorted es) v e in
+    ap map.entries (sym g.1) ∙ map.entries-from_sorted nat_cmp es (subst T (sym g.0) tt)
+
+pub vector_exact : IsExact vector
+vector_exact = partly_exact rising map.entries listed listed_exact entries_back
