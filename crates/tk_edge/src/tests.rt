@@ -9,8 +9,6 @@ mod serving;
 
 use crate::Edge;
 use std::alloc::Global;
-use std::process::Abort;
-use std::test::Fail;
 use tk_handle::{Moment, RegionNumber};
 use tk_region::{Region, Settings};
 
@@ -29,56 +27,89 @@ fn new_edge(alloc: Global) -> Option<Edge> {
 // The six words of an event, by its place among the events.
 fn words_at(event: u64) -> [u64; 6] {
     let first = event.saturating_mul(6);
-    [0, 1, 2, 3, 4, 5].map(|k: u64| first.saturating_add(k))
+    let fourth = first.saturating_add(3);
+    [
+        first,
+        first.saturating_add(1),
+        first.saturating_add(2),
+        fourth,
+        fourth.saturating_add(1),
+        fourth.saturating_add(2),
+    ]
 }
 
-fn moment(seconds: u64) -> Result<Moment, Fail> {
-    Ok(Moment::new(seconds).ok_or("a moment")?)
+// A reply: its status line, the line of its own field, if it has one, and its body, if it has one, which is JSON behind a brace.
+// Without a status line no byte.
+type Told = (&'static str, &'static str, &'static [u8]);
+
+#[rattlefmt::skip]
+const BAD: Told = ("400 Bad Request", "", b"{\"error\":\"bad_request\"}");
+
+#[rattlefmt::skip]
+const MISSING: Told = ("404 Not Found", "", b"{\"error\":\"not_found\"}");
+
+#[rattlefmt::skip]
+const LARGE: Told = ("413 Content Too Large", "", b"{\"error\":\"too_large\"}");
+
+// The head and then the body.
+fn is_joined(bytes: &[u8], head: &[u8], body: &[u8]) -> bool {
+    match bytes.split_at_checked(head.len()) {
+        Some((front, rest)) => front == head && rest == body,
+        None => false,
+    }
 }
 
-// What the edge answers the bytes, with the words of the event.
-fn said(
-    alloc: Global,
-    edge: &mut Edge,
-    now: u64,
-    event: u64,
-    bytes: &[u8],
-) -> Result<Vec<u8>, Fail> {
-    let answer = edge.answer(alloc, moment(now)?, &words_at(event), bytes)?;
-    Ok(answer.bytes)
-}
-
-// A reply: its status line, the line of its own field, if it has one, and its JSON body, if it has one.
-fn reply(alloc: Global, line: &str, field: &str, body: &str) -> Result<String, Fail> {
-    let kind = if body.is_empty() {
-        ""
-    } else {
-        "Content-Type: application/json\r\n"
+// Whether the bytes are this reply; not so where memory is refused.
+fn is_reply(alloc: Global, bytes: &[u8], told: Told) -> bool {
+    let (line, field, body) = told;
+    if line.is_empty() {
+        return bytes.is_empty();
+    }
+    let kind = match body.first() {
+        None => "",
+        Some(b'{') => "Content-Type: application/json\r\n",
+        Some(_) => "Content-Type: application/octet-stream\r\n",
     };
     let fixed = "Cache-Control: no-store\r\nPragma: no-cache\r\nConnection: close\r\n";
     let length = body.len();
-    Ok(format!(in alloc;
-        "HTTP/1.1 {line}\r\n{kind}Content-Length: {length}\r\n{fixed}{field}\r\n{body}"
-    )?)
+    match format!(in alloc;
+        "HTTP/1.1 {line}\r\n{kind}Content-Length: {length}\r\n{fixed}{field}\r\n"
+    ) {
+        Ok(head) => is_joined(bytes, head.as_bytes(), body),
+        Err(_) => false,
+    }
 }
 
-// An error with this name.
-fn error_reply(alloc: Global, line: &str, field: &str, name: &str) -> Result<String, Fail> {
-    let body = format!(in alloc; "{{\"error\":\"{name}\"}}")?;
-    reply(alloc, line, field, body.as_str())
+// Whether the edge answers the bytes so, with the words of the event.
+fn answers(alloc: Global, edge: &mut Edge, now: u64, event: u64, bytes: &[u8], told: Told) -> bool {
+    let Some(now) = Moment::new(now) else {
+        return false;
+    };
+    match edge.answer(alloc, now, &words_at(event), bytes) {
+        Ok(answer) => is_reply(alloc, answer.bytes.as_slice(), told),
+        Err(_) => false,
+    }
 }
 
-// The bytes are answered so, and make no fact.
-fn is_refused(
-    rt: &impl Abort,
-    alloc: Global,
-    name: &str,
-    bytes: &[u8],
-    want: &str,
-) -> Result<(), Fail> {
-    let mut edge = new_edge(alloc).ok_or("an edge")?;
-    let got = said(alloc, &mut edge, 1_000, 0, bytes)?;
-    assert!(rt; got.as_slice() == want.as_bytes(), "{name}");
-    assert_eq!(rt; edge.region().len(), 0, "facts after {name}");
-    Ok(())
+// Whether a new edge answers the bytes so, and makes no fact.
+fn refuses(alloc: Global, bytes: &[u8], told: Told) -> bool {
+    match new_edge(alloc) {
+        Some(mut edge) => {
+            answers(alloc, &mut edge, 1_000, 0, bytes, told) && edge.region().len() == 0
+        }
+        None => false,
+    }
+}
+
+// What is sent, with its name.
+type Sent = (&'static str, &'static [u8]);
+
+// The first that a new edge answers otherwise, or that makes a fact, or no name.
+fn first_taken(alloc: Global, told: Told, rows: &[Sent]) -> &'static str {
+    for &(name, bytes) in rows {
+        if !refuses(alloc, bytes, told) {
+            return name;
+        }
+    }
+    ""
 }

@@ -1,10 +1,9 @@
 //! Bundles that are built to do harm, pushed at a region: rings, conflicts behind 127 facts, the largest facts that there can be.
 
-use super::exchange::{AT_ONE, first_wrong, is_row};
-use super::new_edge_of;
+use super::exchange::{AT_ONE, CONFLICT, OWN_NUMBER, Row, first_wrong, is_row};
+use super::{Told, new_edge_of};
 use crate::Edge;
 use std::alloc::{AllocError, Global};
-use std::test::Fail;
 use tk_format::Writer;
 
 fn put_dot(writer: &mut Writer, region: u16, serial: u64) -> Result<(), AllocError> {
@@ -12,11 +11,14 @@ fn put_dot(writer: &mut Writer, region: u16, serial: u64) -> Result<(), AllocErr
     writer.put_u64(serial)
 }
 
-// A digest, a moment, and the scope `read`.
+// Two tokens: of each a digest, a moment, and the scope `read`.
 fn put_minted(writer: &mut Writer) -> Result<(), AllocError> {
-    writer.put_bytes(&[7; 32])?;
-    writer.put_u64(5_000)?;
-    writer.put_text(b"read")
+    for _ in 0..2 {
+        writer.put_bytes(&[7; 32])?;
+        writer.put_u64(5_000)?;
+        writer.put_text(b"read")?;
+    }
+    Ok(())
 }
 
 // A rotation at 8:1 or 8:2, of the refresh token of the other.
@@ -32,7 +34,6 @@ fn put_rotated(
     put_dot(writer, 8, parent)?;
     writer.put_u16(generation)?;
     writer.put_u64(1_000)?;
-    put_minted(writer)?;
     put_minted(writer)
 }
 
@@ -47,16 +48,7 @@ fn put_ring(writer: &mut Writer) -> Result<(), AllocError> {
     writer.put_u8(6)?;
     put_dot(writer, 1, 1)?;
     writer.put_u64(1_000)?;
-    put_minted(writer)?;
     put_minted(writer)
-}
-
-fn ring(alloc: Global) -> Option<Vec<u8>> {
-    let mut writer = Writer::new(alloc);
-    match put_ring(&mut writer) {
-        Ok(()) => Some(writer.into_bytes()),
-        Err(_) => None,
-    }
 }
 
 // So many retirements of the client 1:1 at 3:1 and on, and a retirement of another client at the dot.
@@ -73,14 +65,6 @@ fn put_many(writer: &mut Writer, count: u16, last: (u16, u64)) -> Result<(), All
     put_dot(writer, last.0, last.1)?;
     writer.put_u8(2)?;
     put_dot(writer, 1, 9)
-}
-
-fn many(alloc: Global, count: u16, last: (u16, u64)) -> Option<Vec<u8>> {
-    let mut writer = Writer::new(alloc);
-    match put_many(&mut writer, count, last) {
-        Ok(()) => Some(writer.into_bytes()),
-        Err(_) => None,
-    }
 }
 
 // The largest facts that there can be: clients with a secret, the longest scope and eight of the longest URIs.
@@ -101,98 +85,95 @@ fn put_largest(writer: &mut Writer) -> Result<(), AllocError> {
     Ok(())
 }
 
-fn largest(alloc: Global) -> Option<Vec<u8>> {
+#[derive(Clone, Copy)]
+enum Bundle {
+    Ring,
+    Many(u16, (u16, u64)),
+    Largest,
+}
+
+fn put_bundle(writer: &mut Writer, bundle: Bundle) -> Result<(), AllocError> {
+    match bundle {
+        Bundle::Ring => put_ring(writer),
+        Bundle::Many(count, last) => put_many(writer, count, last),
+        Bundle::Largest => put_largest(writer),
+    }
+}
+
+// Whether a push of the bundle is answered so, and how many facts the edge then holds.
+fn is_pushed(alloc: Global, edge: &mut Edge, bundle: Bundle, told: Told, held: u64) -> bool {
     let mut writer = Writer::new(alloc);
-    match put_largest(&mut writer) {
-        Ok(()) => Some(writer.into_bytes()),
-        Err(_) => None,
+    match put_bundle(&mut writer, bundle) {
+        Ok(()) => {
+            let bytes = writer.into_bytes();
+            is_row(alloc, edge, "POST /sync/push", &bytes, told) && edge.region().len() == held
+        }
+        Err(_) => false,
     }
 }
 
-// What a push of the bytes is answered, None where there are none.
-fn is_pushed(
-    alloc: Global,
-    edge: &mut Edge,
-    bytes: Option<Vec<u8>>,
-    status: &str,
-    told: &[u8],
-) -> bool {
-    match bytes {
-        Some(bytes) => is_row(alloc, edge, "POST /sync/push", &bytes, status, told) == Some(true),
-        None => false,
+// What is pushed, its reply, and how many facts are then held.
+type Push = (&'static str, Bundle, Told, u64);
+
+// At region 1 with a client: the last has 127 facts before one that conflicts with the ring's.
+#[rattlefmt::skip]
+const AT_ONE_PUSHED: &[Push] = &[
+    ("a ring", Bundle::Ring, ("200 OK", "", b"{\"took\":3}"), 4),
+    ("one", Bundle::Many(0, (9, 1)), ("200 OK", "", b"{\"took\":1}"), 5),
+    ("the last conflicts", Bundle::Many(127, (8, 3)), CONFLICT, 5),
+];
+
+// At region 3: the last has 127 facts of its own number before one that conflicts.
+#[rattlefmt::skip]
+const AT_THREE_PUSHED: &[Push] = &[
+    ("one", Bundle::Many(0, (4, 1)), ("200 OK", "", b"{\"took\":1}"), 1),
+    ("its own and a conflict", Bundle::Many(127, (4, 1)), OWN_NUMBER, 1),
+];
+
+#[rattlefmt::skip]
+const LARGEST_PUSHED: &[Push] = &[
+    ("663,686 bytes", Bundle::Largest, ("200 OK", "", b"{\"took\":128}"), 128),
+];
+
+// The first that is answered otherwise, or no name.
+fn first_other(alloc: Global, edge: &mut Edge, pushes: &[Push]) -> &'static str {
+    for &(name, bundle, told, held) in pushes {
+        if !is_pushed(alloc, edge, bundle, told, held) {
+            return name;
+        }
+    }
+    ""
+}
+
+// The same of an edge over this region, once it has answered the rows.
+fn other_at(alloc: Global, region: u16, rows: &[Row], pushes: &[Push]) -> &'static str {
+    match new_edge_of(alloc, region, true) {
+        Some(mut edge) => {
+            let wrong = first_wrong(alloc, &mut edge, rows);
+            if wrong.is_empty() {
+                first_other(alloc, &mut edge, pushes)
+            } else {
+                wrong
+            }
+        }
+        None => "an edge",
     }
 }
 
-const CONFLICT: &[u8] = b"{\"error\":\"conflict\"}";
-
-const OWN_NUMBER: &[u8] = b"{\"error\":\"own_number\"}";
-
 #[test]
-fn hostile_bundles_do_no_harm(rt: HostRuntime) -> Result<(), Fail> {
-    let alloc = rt.alloc();
-    let mut edge = new_edge_of(alloc, 1, true).ok_or("an edge")?;
-    assert!(rt; first_wrong(alloc, &mut edge, AT_ONE).is_none());
-    assert!(rt;
-        is_pushed(alloc, &mut edge, ring(alloc), "200 OK", b"{\"took\":3}"),
-        "a ring"
-    );
-    assert!(rt;
-        is_pushed(
-            alloc,
-            &mut edge,
-            many(alloc, 0, (9, 1)),
-            "200 OK",
-            b"{\"took\":1}"
-        ),
-        "one"
-    );
-    assert_eq!(rt; edge.region().len(), 5);
-    let conflict = many(alloc, 127, (8, 3));
-    assert!(rt;
-        is_pushed(alloc, &mut edge, conflict, "409 Conflict", CONFLICT),
-        "the last conflicts"
-    );
-    assert_eq!(rt; edge.region().len(), 5);
-    Ok(())
+fn hostile_bundles_do_no_harm(rt: HostRuntime) {
+    let other = other_at(rt.alloc(), 1, AT_ONE, AT_ONE_PUSHED);
+    assert!(rt; other.is_empty(), "{other}");
 }
 
 #[test]
-fn the_own_number_comes_before_a_conflict(rt: HostRuntime) -> Result<(), Fail> {
-    let alloc = rt.alloc();
-    let mut edge = new_edge_of(alloc, 3, true).ok_or("an edge")?;
-    assert!(rt;
-        is_pushed(
-            alloc,
-            &mut edge,
-            many(alloc, 0, (4, 1)),
-            "200 OK",
-            b"{\"took\":1}"
-        ),
-        "one"
-    );
-    let both = many(alloc, 127, (4, 1));
-    assert!(rt;
-        is_pushed(alloc, &mut edge, both, "409 Conflict", OWN_NUMBER),
-        "its own and a conflict"
-    );
-    assert_eq!(rt; edge.region().len(), 1);
-    Ok(())
+fn the_own_number_comes_before_a_conflict(rt: HostRuntime) {
+    let other = other_at(rt.alloc(), 3, &[], AT_THREE_PUSHED);
+    assert!(rt; other.is_empty(), "{other}");
 }
 
 #[test]
-fn the_largest_bundle_passes(rt: HostRuntime) -> Result<(), Fail> {
-    let alloc = rt.alloc();
-    let mut edge = new_edge_of(alloc, 1, true).ok_or("an edge")?;
-    assert!(rt;
-        is_pushed(
-            alloc,
-            &mut edge,
-            largest(alloc),
-            "200 OK",
-            b"{\"took\":128}"
-        ),
-        "663,686 bytes"
-    );
-    assert_eq!(rt; edge.region().len(), 128);
-    Ok(())
+fn the_largest_bundle_passes(rt: HostRuntime) {
+    let other = other_at(rt.alloc(), 1, &[], LARGEST_PUSHED);
+    assert!(rt; other.is_empty(), "{other}");
 }

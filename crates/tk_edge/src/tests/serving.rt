@@ -3,7 +3,6 @@
 use super::{new_edge, words_at};
 use crate::{Discard, Edge, Fails, Fault, FrailSink, FrailSource, Served, Sink, Source};
 use std::alloc::Global;
-use std::test::Fail;
 use tk_handle::Moment;
 use tk_message::Status;
 
@@ -15,32 +14,42 @@ const REQUEST: &[u8] =
 const RECORD: &[u8] =
     b"OTB1\x00\x01\x00\x2b\x00\x01\x00\x00\x00\x00\x00\x00\x00\x01\x01\x00\x00\x04read\x01\x00\x16https://app.example/cb";
 
+const CREATED: &[u8] =
+    b"HTTP/1.1 201 Created\r\nContent-Type: application/json\r\nContent-Length: 20\r\nCache-Control: no-store\r\nPragma: no-cache\r\nConnection: close\r\n\r\n{\"client_id\":\"c1-1\"}";
+
+// The reply of a sealed edge.
+const AWAY: &[u8] =
+    b"HTTP/1.1 503 Service Unavailable\r\nContent-Type: application/json\r\nContent-Length: 35\r\nCache-Control: no-store\r\nPragma: no-cache\r\nConnection: close\r\n\r\n{\"error\":\"temporarily_unavailable\"}";
+
 // The most bytes that a call takes: so that each device is called several times.
 const STEP: usize = 20;
 
-// How a connection ended: its result, the facts held, whether the edge is sealed, and the bytes that the log and the client
-// were given, which begin the record and the reply.
-#[derive(Clone, Copy, Debug, PartialEq, Eq)]
+// The most that a call of the source gives, and one of a sink takes.
+type Steps = (usize, usize);
+
+// Which calls of source, client and log fail.
+type Failing = [Fails; 3];
+
+const NEVER: Fails = Fails::Never;
+
+const SOUND: Failing = [NEVER, NEVER, NEVER];
+
+// How a connection ended: its result, the facts held, whether the edge is sealed, and how many bytes the log and the client
+// were given, None where they don't begin the record and the reply.
+#[derive(Clone, Copy, PartialEq, Eq)]
 struct End {
     result: Result<Served, Fault>,
     facts: u64,
     sealed: bool,
-    logged: usize,
-    written: usize,
+    logged: Option<usize>,
+    written: Option<usize>,
 }
 
-// Serves one connection over these devices.
-fn serve(
-    alloc: Global,
-    edge: &mut Edge,
-    reader: &mut FrailSource<'_>,
-    writer: &mut FrailSink,
-    log: &mut FrailSink,
-) -> Option<Result<Served, Fault>> {
-    let mut buffer = [0u8; 8_192];
-    let now = Moment::new(1_000)?;
-    Some(edge.serve_one(alloc, reader, writer, log, &mut buffer, now, &words_at(0)))
-}
+#[rattlefmt::skip]
+const DONE: End = End { result: Ok(Served::Done(Status::Created)), facts: 1, sealed: false, logged: Some(51), written: Some(158) };
+
+// The calls of source, log and client, and how many of the client's failed.
+type Calls = (u64, u64, u64, u64);
 
 // How many bytes the part has, which begins the whole.
 fn begins(whole: &[u8], part: &[u8]) -> Option<usize> {
@@ -51,75 +60,65 @@ fn begins(whole: &[u8], part: &[u8]) -> Option<usize> {
     }
 }
 
-// What stands after a connection. None where other bytes were given than the record's and the reply's.
-fn end_of(
-    ended: Option<Result<Served, Fault>>,
-    edge: &Edge,
-    logged: &[u8],
-    written: &[u8],
-    reply: &[u8],
-) -> Option<End> {
-    Some(End {
-        result: ended?,
-        facts: edge.region().len(),
-        sealed: edge.sealed(),
-        logged: begins(RECORD, logged)?,
-        written: begins(reply, written)?,
-    })
-}
-
-// A connection over devices of which these calls fail, whose client sends the bytes and is to get this reply.
-fn ended_at(
+// Serves one connection over such devices, whose client sends the bytes and is to get this reply.
+fn serve(
     alloc: Global,
     edge: &mut Edge,
-    bytes: &[u8],
-    reply: &[u8],
-    [read, write, log]: [Fails; 3],
-) -> Option<End> {
-    let mut writer = FrailSink::new(alloc, STEP, write);
-    let mut log = FrailSink::new(alloc, STEP, log);
-    let mut reader = FrailSource::new(bytes, STEP, read);
-    let result = serve(alloc, edge, &mut reader, &mut writer, &mut log);
-    end_of(
+    (bytes, reply): (&[u8], &[u8]),
+    (given, taken): Steps,
+    [read, write, log]: Failing,
+) -> Option<(End, Calls)> {
+    let now = Moment::new(1_000)?;
+    let words = words_at(0);
+    let mut buf = [0u8; 8_192];
+    let mut reader = FrailSource::new(bytes, given.max(1), read);
+    let mut writer = FrailSink::new(alloc, taken.max(1), write);
+    let mut log = FrailSink::new(alloc, taken.max(1), log);
+    let result = edge.serve_one(
+        alloc,
+        &mut reader,
+        &mut writer,
+        &mut log,
+        &mut buf,
+        now,
+        &words,
+    );
+    let end = End {
         result,
-        edge,
-        log.bytes.as_slice(),
-        writer.bytes.as_slice(),
-        reply,
-    )
+        facts: edge.region().len(),
+        sealed: edge.sealed(),
+        logged: begins(RECORD, log.bytes.as_slice()),
+        written: begins(reply, writer.bytes.as_slice()),
+    };
+    let calls = (reader.calls, log.calls, writer.calls, writer.failures);
+    Some((end, calls))
 }
 
-const CREATED: &[u8] =
-    b"HTTP/1.1 201 Created\r\nContent-Type: application/json\r\nContent-Length: 20\r\nCache-Control: no-store\r\nPragma: no-cache\r\nConnection: close\r\n\r\n{\"client_id\":\"c1-1\"}";
-
-// A registration at a new edge, over devices of which these calls fail.
-fn ended(alloc: Global, read: Fails, write: Fails, log: Fails) -> Option<End> {
-    let mut edge = new_edge(alloc)?;
-    ended_at(alloc, &mut edge, REQUEST, CREATED, [read, write, log])
-}
-
-const DONE: Result<Served, Fault> = Ok(Served::Done(Status::Created));
-
-// Whether it ends well.
-fn is_done(end: Option<End>) -> bool {
-    match end {
-        Some(end) => end.result == DONE,
+// Whether a connection of a new edge ends so.
+fn comes_to(
+    alloc: Global,
+    texts: (&[u8], &[u8]),
+    steps: Steps,
+    failing: Failing,
+    want: &End,
+) -> bool {
+    match new_edge(alloc) {
+        Some(mut edge) => match serve(alloc, &mut edge, texts, steps, failing) {
+            Some((end, _)) => end == *want,
+            None => false,
+        },
         None => false,
     }
 }
 
+// Whether the request does, over devices of which these calls fail.
+fn ends(alloc: Global, failing: Failing, want: &End) -> bool {
+    comes_to(alloc, (REQUEST, CREATED), (STEP, STEP), failing, want)
+}
+
 #[test]
-fn a_request_is_served_from_its_record_to_its_reply(rt: HostRuntime) -> Result<(), Fail> {
-    let end = ended(rt.alloc(), Fails::Never, Fails::Never, Fails::Never);
-    let want = End {
-        result: DONE,
-        facts: 1,
-        sealed: false,
-        logged: 51,
-        written: 158,
-    };
-    assert!(rt; end == Some(want));
-    Ok(())
+fn a_request_is_served_from_its_record_to_its_reply(rt: HostRuntime) {
+    assert!(rt; ends(rt.alloc(), SOUND, &DONE));
 }
 
 // The calls of the request, the record with its flush, and the reply, at so many bytes a call.
@@ -129,106 +128,77 @@ const PUTS: u64 = 3;
 
 const WRITES: u64 = 8;
 
-fn both(call: u64) -> [Fails; 2] {
-    [Fails::At(call), Fails::From(call)]
+// Whether it ends so where one call fails, and where all behind it do too.
+fn both_end(alloc: Global, one: Failing, all: Failing, want: &End) -> bool {
+    ends(alloc, one, want) && ends(alloc, all, want)
 }
 
+#[rattlefmt::skip]
+const UNREAD: End = End { result: Err(Fault::Read), facts: 0, sealed: false, logged: Some(0), written: Some(0) };
+
 #[test]
-fn a_reader_that_fails_changes_nothing(rt: HostRuntime) -> Result<(), Fail> {
-    let none = End {
-        result: Err(Fault::Read),
-        facts: 0,
-        sealed: false,
-        logged: 0,
-        written: 0,
-    };
+fn a_reader_that_fails_changes_nothing(rt: HostRuntime) {
     for call in 0..READS {
-        for fails in both(call) {
-            let end = ended(rt.alloc(), fails, Fails::Never, Fails::Never);
-            assert!(rt; end == Some(none), "call {call}");
-        }
+        let one = [Fails::At(call), NEVER, NEVER];
+        let all = [Fails::From(call), NEVER, NEVER];
+        assert!(rt; both_end(rt.alloc(), one, all, &UNREAD), "call {call}");
     }
-    let end = ended(rt.alloc(), Fails::From(READS), Fails::Never, Fails::Never);
-    assert!(rt; is_done(end), "no call is left");
-    Ok(())
+    let last = [Fails::From(READS), NEVER, NEVER];
+    assert!(rt; ends(rt.alloc(), last, &DONE), "no call is left");
 }
 
+#[rattlefmt::skip]
+const UNLOGGED: End = End { result: Err(Fault::Log), facts: 1, sealed: true, logged: Some(0), written: Some(0) };
+
 #[test]
-fn a_log_that_fails_seals_before_the_reply(rt: HostRuntime) -> Result<(), Fail> {
+fn a_log_that_fails_seals_before_the_reply(rt: HostRuntime) {
     for call in 0..=PUTS {
-        for fails in both(call) {
-            let end = ended(rt.alloc(), Fails::Never, Fails::Never, fails);
-            let logged = if call == PUTS {
-                51
-            } else {
-                call as usize * STEP
-            };
-            let want = End {
-                result: Err(Fault::Log),
-                facts: 1,
-                sealed: true,
-                logged,
-                written: 0,
-            };
-            assert!(rt; end == Some(want), "call {call}");
-        }
+        let one = [NEVER, NEVER, Fails::At(call)];
+        let all = [NEVER, NEVER, Fails::From(call)];
+        let logged = Some((call as usize * STEP).min(RECORD.len()));
+        let want = End { logged, ..UNLOGGED };
+        assert!(rt; both_end(rt.alloc(), one, all, &want), "call {call}");
     }
-    let end = ended(
-        rt.alloc(),
-        Fails::Never,
-        Fails::Never,
-        Fails::From(PUTS + 1),
-    );
-    assert!(rt; is_done(end), "no call is left");
-    Ok(())
+    let last = [NEVER, NEVER, Fails::From(PUTS + 1)];
+    assert!(rt; ends(rt.alloc(), last, &DONE), "no call is left");
 }
 
+#[rattlefmt::skip]
+const UNWRITTEN: End = End { result: Err(Fault::Write), facts: 1, sealed: false, logged: Some(51), written: Some(0) };
+
 #[test]
-fn a_writer_that_fails_leaves_fact_and_record(rt: HostRuntime) -> Result<(), Fail> {
+fn a_writer_that_fails_leaves_fact_and_record(rt: HostRuntime) {
     for call in 0..WRITES {
-        for fails in both(call) {
-            let end = ended(rt.alloc(), Fails::Never, fails, Fails::Never);
-            let want = End {
-                result: Err(Fault::Write),
-                facts: 1,
-                sealed: false,
-                logged: 51,
-                written: call as usize * STEP,
-            };
-            assert!(rt; end == Some(want), "call {call}");
-        }
+        let one = [NEVER, Fails::At(call), NEVER];
+        let all = [NEVER, Fails::From(call), NEVER];
+        let written = Some(call as usize * STEP);
+        let want = End {
+            written,
+            ..UNWRITTEN
+        };
+        assert!(rt; both_end(rt.alloc(), one, all, &want), "call {call}");
     }
-    let end = ended(rt.alloc(), Fails::Never, Fails::From(WRITES), Fails::Never);
-    assert!(rt; is_done(end), "no call is left");
-    Ok(())
+    let last = [NEVER, Fails::From(WRITES), NEVER];
+    assert!(rt; ends(rt.alloc(), last, &DONE), "no call is left");
 }
 
 // An edge whose log has failed.
 fn sealed(alloc: Global) -> Option<Edge> {
+    let failing = [NEVER, NEVER, Fails::At(0)];
     let mut edge = new_edge(alloc)?;
-    let never = Fails::Never;
-    let _end = ended_at(
-        alloc,
-        &mut edge,
-        REQUEST,
-        CREATED,
-        [never, never, Fails::At(0)],
-    );
+    let _end = serve(alloc, &mut edge, (REQUEST, CREATED), (STEP, STEP), failing);
     Some(edge)
 }
 
-const AWAY: &[u8] =
-    b"HTTP/1.1 503 Service Unavailable\r\nContent-Type: application/json\r\nContent-Length: 35\r\nCache-Control: no-store\r\nPragma: no-cache\r\nConnection: close\r\n\r\n{\"error\":\"temporarily_unavailable\"}";
+#[rattlefmt::skip]
+const TURNED_AWAY: End = End { result: Ok(Served::Done(Status::ServiceUnavailable)), facts: 1, sealed: true, logged: Some(0), written: Some(AWAY.len()) };
 
-// Whether it answers 503 with these calls of reader and log, none, and its one fact.
+// Whether it answers 503 with no call of source and log.
 fn is_turned_away(alloc: Global, edge: &mut Edge) -> bool {
-    let mut writer = FrailSink::new(alloc, STEP, Fails::Never);
-    let mut log = FrailSink::new(alloc, STEP, Fails::Never);
-    let mut reader = FrailSource::new(REQUEST, STEP, Fails::Never);
-    let result = serve(alloc, edge, &mut reader, &mut writer, &mut log);
-    let is_away = result == Some(Ok(Served::Done(Status::ServiceUnavailable)));
-    let is_untouched = reader.calls == 0 && log.calls == 0 && edge.region().len() == 1;
-    is_away && is_untouched && writer.bytes.as_slice() == AWAY
+    match serve(alloc, edge, (REQUEST, AWAY), (STEP, STEP), SOUND) {
+        Some((end, (reads, puts, _, _))) => end == TURNED_AWAY && reads == 0 && puts == 0,
+        None => false,
+    }
 }
 
 // Whether an answer without devices is the same, and makes no record.
@@ -246,97 +216,126 @@ fn is_answered_away(alloc: Global, edge: &mut Edge) -> bool {
     }
 }
 
-#[test]
-fn a_sealed_edge_turns_away_without_reading(rt: HostRuntime) -> Result<(), Fail> {
-    let mut edge = sealed(rt.alloc()).ok_or("an edge")?;
-    assert!(rt; is_turned_away(rt.alloc(), &mut edge), "once");
-    assert!(rt; is_turned_away(rt.alloc(), &mut edge), "again");
-    assert!(rt; is_answered_away(rt.alloc(), &mut edge), "without devices");
-    Ok(())
+// Whether it is so once, again, and without devices.
+fn turned_away(alloc: Global) -> (bool, bool, bool) {
+    match sealed(alloc) {
+        Some(mut edge) => {
+            let once = is_turned_away(alloc, &mut edge);
+            let again = is_turned_away(alloc, &mut edge);
+            (once, again, is_answered_away(alloc, &mut edge))
+        }
+        None => (false, false, false),
+    }
 }
+
+#[test]
+fn a_sealed_edge_turns_away_without_reading(rt: HostRuntime) {
+    let (once, again, without) = turned_away(rt.alloc());
+    assert!(rt; once, "once");
+    assert!(rt; again, "again");
+    assert!(rt; without, "without devices");
+}
+
+#[rattlefmt::skip]
+const HALF_AWAY: End = End { result: Err(Fault::Write), facts: 1, sealed: true, logged: Some(0), written: Some(STEP) };
 
 // Whether a client's side that fails at a sealed edge is a fault, with one piece of the reply given.
-fn is_write_fault(alloc: Global, edge: &mut Edge) -> bool {
-    let mut writer = FrailSink::new(alloc, STEP, Fails::At(1));
-    let mut log = FrailSink::new(alloc, STEP, Fails::Never);
-    let mut reader = FrailSource::new(REQUEST, STEP, Fails::Never);
-    let result = serve(alloc, edge, &mut reader, &mut writer, &mut log);
-    let is_fault = result == Some(Err(Fault::Write));
-    is_fault && writer.bytes.len() == STEP && writer.failures == 1
+fn is_write_fault(alloc: Global) -> bool {
+    let failing = [NEVER, Fails::At(1), NEVER];
+    match sealed(alloc) {
+        Some(mut edge) => match serve(alloc, &mut edge, (REQUEST, AWAY), (STEP, STEP), failing) {
+            Some((end, (_, _, _, failures))) => end == HALF_AWAY && failures == 1,
+            None => false,
+        },
+        None => false,
+    }
 }
 
 #[test]
-fn a_writer_that_fails_at_a_sealed_edge_is_a_fault(rt: HostRuntime) -> Result<(), Fail> {
-    let mut edge = sealed(rt.alloc()).ok_or("an edge")?;
-    assert!(rt; is_write_fault(rt.alloc(), &mut edge));
-    Ok(())
+fn a_writer_that_fails_at_a_sealed_edge_is_a_fault(rt: HostRuntime) {
+    assert!(rt; is_write_fault(rt.alloc()));
 }
+
+#[rattlefmt::skip]
+const NOTHING: End = End { result: Ok(Served::Nothing), facts: 0, sealed: false, logged: Some(0), written: Some(0) };
 
 // Whether a stream without a byte is answered with nothing, and nothing is called for it.
-fn is_nothing(alloc: Global, edge: &mut Edge) -> bool {
-    let mut writer = FrailSink::new(alloc, STEP, Fails::Never);
-    let mut log = FrailSink::new(alloc, STEP, Fails::Never);
-    let mut reader = FrailSource::new(b"", STEP, Fails::Never);
-    let result = serve(alloc, edge, &mut reader, &mut writer, &mut log);
-    result == Some(Ok(Served::Nothing)) && writer.calls == 0 && log.calls == 0
-}
-
-#[test]
-fn a_stream_without_a_byte_is_nothing(rt: HostRuntime) -> Result<(), Fail> {
-    let mut edge = new_edge(rt.alloc()).ok_or("an edge")?;
-    assert!(rt; is_nothing(rt.alloc(), &mut edge));
-    Ok(())
-}
-
-// How many facts the request's first bytes make, so many a call, and whether they are answered as the whole.
-fn cut(alloc: Global, length: usize, step: usize) -> Option<(u64, bool)> {
-    let front = REQUEST.get(..length)?;
-    let mut edge = new_edge(alloc)?;
-    let mut writer = FrailSink::new(alloc, 1_000, Fails::Never);
-    let mut log = FrailSink::new(alloc, 1_000, Fails::Never);
-    let mut reader = FrailSource::new(front, step.max(1), Fails::Never);
-    let result = serve(alloc, &mut edge, &mut reader, &mut writer, &mut log);
-    Some((edge.region().len(), result == Some(DONE)))
-}
-
-#[test]
-fn a_request_that_is_cut_makes_no_fact(rt: HostRuntime) -> Result<(), Fail> {
-    for length in 0..REQUEST.len() {
-        let made = cut(rt.alloc(), length, 1_000);
-        assert!(rt; made == Some((0, false)), "{length}");
+fn is_nothing(alloc: Global) -> bool {
+    match new_edge(alloc) {
+        Some(mut edge) => match serve(alloc, &mut edge, (b"", b""), (STEP, STEP), SOUND) {
+            Some((end, (_, puts, writes, _))) => end == NOTHING && puts == 0 && writes == 0,
+            None => false,
+        },
+        None => false,
     }
+}
+
+#[test]
+fn a_stream_without_a_byte_is_nothing(rt: HostRuntime) {
+    assert!(rt; is_nothing(rt.alloc()));
+}
+
+// The reply to a request that is cut.
+const BAD_REQUEST: &[u8] =
+    b"HTTP/1.1 400 Bad Request\r\nContent-Type: application/json\r\nContent-Length: 23\r\nCache-Control: no-store\r\nPragma: no-cache\r\nConnection: close\r\n\r\n{\"error\":\"bad_request\"}";
+
+#[rattlefmt::skip]
+const CUT: End = End { result: Ok(Served::Done(Status::BadRequest)), facts: 0, sealed: false, logged: Some(0), written: Some(BAD_REQUEST.len()) };
+
+// The first length, from 1 on, at which the request is cut and doesn't come to that: its own, where there is none.
+fn first_uncut(alloc: Global) -> usize {
+    for length in 1..REQUEST.len() {
+        let texts = (&REQUEST[..length], BAD_REQUEST);
+        if !comes_to(alloc, texts, (1_000, 1_000), SOUND, &CUT) {
+            return length;
+        }
+    }
+    REQUEST.len()
+}
+
+#[test]
+fn a_request_that_is_cut_makes_no_fact(rt: HostRuntime) {
+    let is_nothing = comes_to(rt.alloc(), (b"", b""), (1_000, 1_000), SOUND, &NOTHING);
+    assert!(rt; is_nothing, "0");
+    let length = first_uncut(rt.alloc());
+    assert!(rt; length == REQUEST.len(), "{length}");
     for step in 1..REQUEST.len() {
-        let made = cut(rt.alloc(), REQUEST.len(), step);
-        assert!(rt; made == Some((1, true)), "by {step}");
+        let is_whole = comes_to(rt.alloc(), (REQUEST, CREATED), (step, 1_000), SOUND, &DONE);
+        assert!(rt; is_whole, "by {step}");
     }
-    Ok(())
 }
 
 // Whether a registration is served without a log, and over std's own reader and writer.
-fn is_served_by_std(alloc: Global, edge: &mut Edge) -> bool {
-    let Some(now) = Moment::new(1_000) else {
-        return false;
-    };
+fn is_served_by_std(alloc: Global, edge: &mut Edge, now: Moment) -> bool {
     let mut log = Discard;
     let mut reader = crate::Counted::new(REQUEST);
     let mut writer = crate::Counted::new(Vec::new(alloc));
-    let mut buffer = [0u8; 8_192];
+    let mut buf = [0u8; 8_192];
+    let words = words_at(0);
     let result = edge.serve_one(
         alloc,
         &mut reader,
         &mut writer,
         &mut log,
-        &mut buffer,
+        &mut buf,
         now,
-        &words_at(0),
+        &words,
     );
     let is_quiet = reader.failures() == 0 && Sink::failures(&log) == 0;
-    result == DONE && is_quiet && writer.inner.as_slice() == CREATED
+    result == DONE.result && is_quiet && writer.inner.as_slice() == CREATED
+}
+
+fn std_serves(alloc: Global) -> bool {
+    let Some(now) = Moment::new(1_000) else {
+        return false;
+    };
+    match new_edge(alloc) {
+        Some(mut edge) => is_served_by_std(alloc, &mut edge, now),
+        None => false,
+    }
 }
 
 #[test]
-fn std_readers_and_writers_serve(rt: HostRuntime) -> Result<(), Fail> {
-    let mut edge = new_edge(rt.alloc()).ok_or("an edge")?;
-    assert!(rt; is_served_by_std(rt.alloc(), &mut edge));
-    Ok(())
+fn std_readers_and_writers_serve(rt: HostRuntime) {
+    assert!(rt; std_serves(rt.alloc()));
 }
