@@ -4,49 +4,64 @@ mod forests;
 
 use crate::{Link, fits, grant, named, rank, used};
 use std::test::Fail;
-use tk_handle::{Dot, Kind, RegionNumber};
+use tk_handle::{Dot, Kind, RegionNumber, TokenId};
 
-fn dot(region: u16, serial: u64) -> Result<Dot, &'static str> {
-    let region = RegionNumber::new(region).ok_or("a region")?;
-    Dot::new(region, serial).ok_or("a dot")
+// A region and a serial.
+type Place = (u16, u64);
+
+fn dot(place: Place) -> Option<Dot> {
+    let region = RegionNumber::new(place.0)?;
+    Dot::new(region, place.1)
 }
 
-fn rotation(parent: Dot, generation: u16) -> Link {
-    Link::Rotates { parent, generation }
+// What a link does: a rotation has a generation.
+#[derive(Clone, Copy)]
+enum Does {
+    Code,
+    Redeems,
+    Rotates(u16),
 }
 
-// A code, a redemption, and rotations of generation 0, 1, 2 and 65,535: the rows and columns of the tables.
-fn links(at: Dot) -> [Link; 6] {
-    [
-        Link::Code,
-        Link::Redeems(at),
-        rotation(at, 0),
-        rotation(at, 1),
-        rotation(at, 2),
-        rotation(at, 65_535),
-    ]
+// A link that names the dot, where it names one.
+fn link(does: Does, names: Dot) -> Link {
+    match does {
+        Does::Code => Link::Code,
+        Does::Redeems => Link::Redeems(names),
+        Does::Rotates(generation) => Link::Rotates {
+            parent: names,
+            generation,
+        },
+    }
 }
+
+// Links: the kinds of the tokens that each uses, where it uses one, and mints, its rank, and which of the links it fits.
+#[rattlefmt::skip]
+const LINKS: &[(&str, Does, Option<Kind>, Kind, u32, [bool; 6])] = &[
+    ("a code", Does::Code, None, Kind::Code, 0, [false, false, false, false, false, false]),
+    ("a redemption", Does::Redeems, Some(Kind::Code), Kind::Refresh, 1, [true, false, false, false, false, false]),
+    ("rotation 0", Does::Rotates(0), REFRESH, Kind::Refresh, 1, [false, false, false, false, false, false]),
+    ("rotation 1", Does::Rotates(1), REFRESH, Kind::Refresh, 2, [false, true, true, false, false, false]),
+    ("rotation 2", Does::Rotates(2), REFRESH, Kind::Refresh, 3, [false, false, false, true, false, false]),
+    ("rotation 65,535", Does::Rotates(65_535), REFRESH, Kind::Refresh, 65_536, [false, false, false, false, false, false]),
+];
+
+const REFRESH: Option<Kind> = Some(Kind::Refresh);
 
 #[test]
 fn a_link_fits_its_parents_alone(rt: HostRuntime) -> Result<(), Fail> {
-    let wants = [
-        [false, false, false, false, false, false],
-        [true, false, false, false, false, false],
-        [false, false, false, false, false, false],
-        [false, true, true, false, false, false],
-        [false, false, false, true, false, false],
-        [false, false, false, false, false, false],
-    ];
-    let below = links(dot(2, 7)?);
-    let above = links(dot(3, 9)?);
-    for (link, row) in below.iter().zip(wants.iter()) {
-        for (parent, want) in above.iter().zip(row.iter()) {
-            assert_eq!(rt; fits(link, parent), *want, "{link:?} below {parent:?}");
+    let (at, above) = (dot((2, 7)).ok_or("a dot")?, dot((3, 9)).ok_or("a dot")?);
+    for &(name, does, _, _, _, wants) in LINKS {
+        let below = link(does, at);
+        for (&(parent, does, ..), want) in LINKS.iter().zip(wants.iter()) {
+            assert!(rt;
+                fits(&below, &link(does, above)) == *want,
+                "{name} below {parent}"
+            );
         }
     }
-    let at = dot(1, 1)?;
+    let (last, before) = (Does::Rotates(65_535), Does::Rotates(65_534));
     assert!(rt;
-        fits(&rotation(at, 65_535), &rotation(at, 65_534)),
+        fits(&link(last, at), &link(before, at)),
         "the last generation"
     );
     Ok(())
@@ -54,47 +69,35 @@ fn a_link_fits_its_parents_alone(rt: HostRuntime) -> Result<(), Fail> {
 
 #[test]
 fn a_link_names_its_dot(rt: HostRuntime) -> Result<(), Fail> {
-    let at = dot(2, 7)?;
-    assert_eq!(rt; named(&Link::Code), None);
-    assert_eq!(rt; named(&Link::Redeems(at)), Some(at));
-    for generation in [0, 1, 2, 65_535] {
-        let link = rotation(at, generation);
-        assert_eq!(rt; named(&link), Some(at), "{link:?}");
+    let at = dot((2, 7)).ok_or("a dot")?;
+    for &(name, does, uses, ..) in LINKS {
+        let want = if uses.is_some() { Some(at) } else { None };
+        assert!(rt; named(&link(does, at)) == want, "{name}");
     }
     Ok(())
 }
 
-// The kinds of the tokens that each link uses, where it uses one, and mints.
+fn token(dot: Dot, kind: Option<Kind>) -> Option<TokenId> {
+    Some(TokenId { dot, kind: kind? })
+}
+
 #[test]
 fn a_link_uses_and_mints_its_tokens(rt: HostRuntime) -> Result<(), Fail> {
-    let used_kinds = [
-        None,
-        Some(Kind::Code),
-        Some(Kind::Refresh),
-        Some(Kind::Refresh),
-        Some(Kind::Refresh),
-        Some(Kind::Refresh),
-    ];
-    let (named, own) = (dot(2, 7)?, dot(3, 9)?);
-    for (link, want) in links(named).iter().zip(used_kinds.iter()) {
-        let kind = used(link).map(|token| token.kind);
-        assert_eq!(rt; kind, *want, "{link:?}");
-        if let Some(token) = used(link) {
-            assert_eq!(rt; token.dot, named, "{link:?}");
-        }
-        let minted = grant(own, link);
-        assert_eq!(rt; minted.dot, own, "{link:?}");
-        assert_eq!(rt; minted.kind == Kind::Code, *link == Link::Code, "{link:?}");
-        assert!(rt; minted.kind != Kind::Access, "{link:?}");
+    let (at, own) = (dot((2, 7)).ok_or("a dot")?, dot((3, 9)).ok_or("a dot")?);
+    for &(name, does, uses, mints, ..) in LINKS {
+        let link = link(does, at);
+        assert!(rt; used(&link) == token(at, uses), "{name} uses");
+        let minted = grant(own, &link);
+        assert!(rt; Some(minted) == token(own, Some(mints)), "{name} mints");
     }
     Ok(())
 }
 
 #[test]
 fn a_rank_counts_the_parents(rt: HostRuntime) -> Result<(), Fail> {
-    let wants = [0, 1, 1, 2, 3, 65_536];
-    for (link, want) in links(dot(2, 7)?).iter().zip(wants.iter()) {
-        assert_eq!(rt; rank(link), *want, "{link:?}");
+    let at = dot((2, 7)).ok_or("a dot")?;
+    for &(name, does, _, _, want, _) in LINKS {
+        assert!(rt; rank(&link(does, at)) == want, "{name}");
     }
     Ok(())
 }
