@@ -39,87 +39,23 @@ fn is_told(reply: Option<Reply>, status: u16, body: &str) -> bool {
 }
 
 // Each error code with its status (RFC 6749, 4.1.2.1 and 5.2; RFC 9110, 15.5), its text, and whether credentials are asked for.
+#[rattlefmt::skip]
 static ERRORS: [(ErrorCode, u16, &str, bool); 16] = [
-    (
-        ErrorCode::InvalidRequest,
-        400,
-        "{\"error\":\"invalid_request\"}",
-        false,
-    ),
-    (
-        ErrorCode::InvalidClient,
-        401,
-        "{\"error\":\"invalid_client\"}",
-        true,
-    ),
-    (
-        ErrorCode::InvalidGrant,
-        400,
-        "{\"error\":\"invalid_grant\"}",
-        false,
-    ),
-    (
-        ErrorCode::InvalidScope,
-        400,
-        "{\"error\":\"invalid_scope\"}",
-        false,
-    ),
-    (
-        ErrorCode::UnsupportedGrantType,
-        400,
-        "{\"error\":\"unsupported_grant_type\"}",
-        false,
-    ),
-    (
-        ErrorCode::UnsupportedResponseType,
-        400,
-        "{\"error\":\"unsupported_response_type\"}",
-        false,
-    ),
-    (
-        ErrorCode::AccessDenied,
-        400,
-        "{\"error\":\"access_denied\"}",
-        false,
-    ),
+    (ErrorCode::InvalidRequest, 400, "{\"error\":\"invalid_request\"}", false),
+    (ErrorCode::InvalidClient, 401, "{\"error\":\"invalid_client\"}", true),
+    (ErrorCode::InvalidGrant, 400, "{\"error\":\"invalid_grant\"}", false),
+    (ErrorCode::InvalidScope, 400, "{\"error\":\"invalid_scope\"}", false),
+    (ErrorCode::UnsupportedGrantType, 400, "{\"error\":\"unsupported_grant_type\"}", false),
+    (ErrorCode::UnsupportedResponseType, 400, "{\"error\":\"unsupported_response_type\"}", false),
+    (ErrorCode::AccessDenied, 400, "{\"error\":\"access_denied\"}", false),
     (ErrorCode::NotFound, 404, "{\"error\":\"not_found\"}", false),
-    (
-        ErrorCode::TemporarilyUnavailable,
-        503,
-        "{\"error\":\"temporarily_unavailable\"}",
-        false,
-    ),
-    (
-        ErrorCode::BadRequest,
-        400,
-        "{\"error\":\"bad_request\"}",
-        false,
-    ),
-    (
-        ErrorCode::MethodNotAllowed,
-        405,
-        "{\"error\":\"method_not_allowed\"}",
-        false,
-    ),
-    (
-        ErrorCode::LengthRequired,
-        411,
-        "{\"error\":\"length_required\"}",
-        false,
-    ),
+    (ErrorCode::TemporarilyUnavailable, 503, "{\"error\":\"temporarily_unavailable\"}", false),
+    (ErrorCode::BadRequest, 400, "{\"error\":\"bad_request\"}", false),
+    (ErrorCode::MethodNotAllowed, 405, "{\"error\":\"method_not_allowed\"}", false),
+    (ErrorCode::LengthRequired, 411, "{\"error\":\"length_required\"}", false),
     (ErrorCode::TooLarge, 413, "{\"error\":\"too_large\"}", false),
-    (
-        ErrorCode::Malformed,
-        400,
-        "{\"error\":\"malformed\"}",
-        false,
-    ),
-    (
-        ErrorCode::OwnNumber,
-        409,
-        "{\"error\":\"own_number\"}",
-        false,
-    ),
+    (ErrorCode::Malformed, 400, "{\"error\":\"malformed\"}", false),
+    (ErrorCode::OwnNumber, 409, "{\"error\":\"own_number\"}", false),
     (ErrorCode::Conflict, 409, "{\"error\":\"conflict\"}", false),
 ];
 
@@ -142,37 +78,14 @@ fn an_error_has_a_status_and_a_name(rt: HostRuntime) {
 }
 
 // What a client is, whether it is live, and how it is shown.
+#[rattlefmt::skip]
 static SHOWN: [(Sort, bool, &str); 6] = [
-    (
-        Sort::Public,
-        true,
-        "{\"client_id\":\"c7-41\",\"kind\":\"public\",\"live\":true,\"scope\":\"read write\"}",
-    ),
-    (
-        Sort::Public,
-        false,
-        "{\"client_id\":\"c7-41\",\"kind\":\"public\",\"live\":false,\"scope\":\"read write\"}",
-    ),
-    (
-        Sort::Confidential([1; 32]),
-        true,
-        "{\"client_id\":\"c7-41\",\"kind\":\"confidential\",\"live\":true,\"scope\":\"read write\"}",
-    ),
-    (
-        Sort::Confidential([1; 32]),
-        false,
-        "{\"client_id\":\"c7-41\",\"kind\":\"confidential\",\"live\":false,\"scope\":\"read write\"}",
-    ),
-    (
-        Sort::Resource([2; 32]),
-        true,
-        "{\"client_id\":\"c7-41\",\"kind\":\"resource\",\"live\":true,\"scope\":\"read write\"}",
-    ),
-    (
-        Sort::Resource([2; 32]),
-        false,
-        "{\"client_id\":\"c7-41\",\"kind\":\"resource\",\"live\":false,\"scope\":\"read write\"}",
-    ),
+    (Sort::Public, true, "{\"client_id\":\"c7-41\",\"kind\":\"public\",\"live\":true,\"scope\":\"read write\"}"),
+    (Sort::Public, false, "{\"client_id\":\"c7-41\",\"kind\":\"public\",\"live\":false,\"scope\":\"read write\"}"),
+    (Sort::Confidential([1; 32]), true, "{\"client_id\":\"c7-41\",\"kind\":\"confidential\",\"live\":true,\"scope\":\"read write\"}"),
+    (Sort::Confidential([1; 32]), false, "{\"client_id\":\"c7-41\",\"kind\":\"confidential\",\"live\":false,\"scope\":\"read write\"}"),
+    (Sort::Resource([2; 32]), true, "{\"client_id\":\"c7-41\",\"kind\":\"resource\",\"live\":true,\"scope\":\"read write\"}"),
+    (Sort::Resource([2; 32]), false, "{\"client_id\":\"c7-41\",\"kind\":\"resource\",\"live\":false,\"scope\":\"read write\"}"),
 ];
 
 fn shown(alloc: Global, sort: &Sort, live: bool) -> Option<Reply> {

@@ -16,6 +16,7 @@ pub(super) const ADDED: Answer = (201, "{\"client_id\":\"c1-3\"}", Makes::Client
 const CONSENTED: Answer = (201, "{\"consent_id\":\"g1-3\"}", Makes::Consent);
 
 // What is the same of the clients that are shown and retired.
+#[rattlefmt::skip]
 static IDS: [Row; 9] = [
     ("no id", "consent_id=g1-2", BAD_REQUEST),
     ("an id without a value", "client_id=", BAD_REQUEST),
@@ -25,210 +26,62 @@ static IDS: [Row; 9] = [
     ("a consent's id", "client_id=g1-2", NOT_FOUND),
     ("a consent for a client", "client_id=c1-2", NOT_FOUND),
     ("a client that was never added", "client_id=c9-9", NOT_FOUND),
-    (
-        "a serial beyond 64 bits",
-        "client_id=c1-18446744073709551617",
-        NOT_FOUND,
-    ),
+    ("a serial beyond 64 bits", "client_id=c1-18446744073709551617", NOT_FOUND),
 ];
 
+#[rattlefmt::skip]
 static SHOWN: [Row; 4] = [
-    (
-        "a public client",
-        "client_id=c1-1&kind=a&kind=b",
-        (
-            200,
-            "{\"client_id\":\"c1-1\",\"kind\":\"public\",\"live\":true,\"scope\":\"read write\"}",
-            Makes::Nothing,
-        ),
-    ),
-    (
-        "a client with a secret",
-        "client_id=c2-1",
-        (
-            200,
-            "{\"client_id\":\"c2-1\",\"kind\":\"confidential\",\"live\":true,\"scope\":\"admin read write\"}",
-            Makes::Nothing,
-        ),
-    ),
-    (
-        "a retired client",
-        "client_id=c2-7",
-        (
-            200,
-            "{\"client_id\":\"c2-7\",\"kind\":\"public\",\"live\":false,\"scope\":\"read\"}",
-            Makes::Nothing,
-        ),
-    ),
-    (
-        "a resource server",
-        "client_id=c2-9",
-        (
-            200,
-            "{\"client_id\":\"c2-9\",\"kind\":\"resource\",\"live\":true,\"scope\":\"read\"}",
-            Makes::Nothing,
-        ),
-    ),
+    ("a public client", "client_id=c1-1&kind=a&kind=b", (200, "{\"client_id\":\"c1-1\",\"kind\":\"public\",\"live\":true,\"scope\":\"read write\"}", Makes::Nothing)),
+    ("a client with a secret", "client_id=c2-1", (200, "{\"client_id\":\"c2-1\",\"kind\":\"confidential\",\"live\":true,\"scope\":\"admin read write\"}", Makes::Nothing)),
+    ("a retired client", "client_id=c2-7", (200, "{\"client_id\":\"c2-7\",\"kind\":\"public\",\"live\":false,\"scope\":\"read\"}", Makes::Nothing)),
+    ("a resource server", "client_id=c2-9", (200, "{\"client_id\":\"c2-9\",\"kind\":\"resource\",\"live\":true,\"scope\":\"read\"}", Makes::Nothing)),
 ];
 
+#[rattlefmt::skip]
 static RETIRED: [Row; 2] = [
-    (
-        "a live client",
-        "client_id=c2-9",
-        (200, "{\"client_id\":\"c2-9\"}", Makes::Retirement((2, 9))),
-    ),
-    (
-        "a retired client",
-        "client_id=c2-7",
-        (200, "{\"client_id\":\"c2-7\"}", Makes::Nothing),
-    ),
+    ("a live client", "client_id=c2-9", (200, "{\"client_id\":\"c2-9\"}", Makes::Retirement((2, 9)))),
+    ("a retired client", "client_id=c2-7", (200, "{\"client_id\":\"c2-7\"}", Makes::Nothing)),
 ];
 
+#[rattlefmt::skip]
 static CONSENTS: [Row; 24] = [
-    (
-        "the whole scope",
-        "client_id=c1-1&subject=ann&scope=write+read",
-        CONSENTED,
-    ),
-    (
-        "a part of the scope",
-        "client_id=c2-1&subject=%21%7E&scope=admin",
-        CONSENTED,
-    ),
-    (
-        "the client twice",
-        "client_id=c1-1&client_id=c1-1&subject=ann&scope=read",
-        BAD_REQUEST,
-    ),
-    (
-        "the subject twice",
-        "client_id=c1-1&subject=ann&subject=ann&scope=read",
-        BAD_REQUEST,
-    ),
-    (
-        "the scope twice, before the client",
-        "client_id=c9-9&subject=ann&scope=read&scope=read",
-        BAD_REQUEST,
-    ),
+    ("the whole scope", "client_id=c1-1&subject=ann&scope=write+read", CONSENTED),
+    ("a part of the scope", "client_id=c2-1&subject=%21%7E&scope=admin", CONSENTED),
+    ("the client twice", "client_id=c1-1&client_id=c1-1&subject=ann&scope=read", BAD_REQUEST),
+    ("the subject twice", "client_id=c1-1&subject=ann&subject=ann&scope=read", BAD_REQUEST),
+    ("the scope twice, before the client", "client_id=c9-9&subject=ann&scope=read&scope=read", BAD_REQUEST),
     ("no client", "subject=ann&scope=read", BAD_REQUEST),
     ("no subject", "client_id=c1-1&scope=read", BAD_REQUEST),
-    (
-        "no scope, before the client",
-        "client_id=c9-9&subject=ann",
-        BAD_REQUEST,
-    ),
-    (
-        "a client without a value",
-        "client_id=&subject=ann&scope=read",
-        BAD_REQUEST,
-    ),
-    (
-        "a subject without a value",
-        "client_id=c1-1&subject=&scope=read",
-        BAD_REQUEST,
-    ),
-    (
-        "a scope without a value",
-        "client_id=c1-1&subject=ann&scope=",
-        BAD_REQUEST,
-    ),
-    (
-        "no client's id",
-        "client_id=c01-1&subject=ann&scope=read",
-        NOT_FOUND,
-    ),
-    (
-        "a consent's id",
-        "client_id=g1-2&subject=ann&scope=read",
-        NOT_FOUND,
-    ),
-    (
-        "a consent for a client",
-        "client_id=c1-2&subject=ann&scope=read",
-        NOT_FOUND,
-    ),
-    (
-        "a client that was never added",
-        "client_id=c9-9&subject=ann&scope=read",
-        NOT_FOUND,
-    ),
-    (
-        "a retired client",
-        "client_id=c2-7&subject=ann&scope=read",
-        NOT_FOUND,
-    ),
-    (
-        "a retired client before the subject and the scope",
-        "client_id=c2-7&subject=a+b&scope=read++write",
-        NOT_FOUND,
-    ),
-    (
-        "a subject with a space",
-        "client_id=c1-1&subject=a+b&scope=read",
-        BAD_REQUEST,
-    ),
-    (
-        "a subject with a delete",
-        "client_id=c1-1&subject=a%7F&scope=read",
-        BAD_REQUEST,
-    ),
-    (
-        "a subject beyond ASCII, before the scope",
-        "client_id=c1-1&subject=%c3%a9&scope=admin",
-        BAD_REQUEST,
-    ),
-    (
-        "two spaces in the scope",
-        "client_id=c1-1&subject=ann&scope=read++write",
-        BAD_SCOPE,
-    ),
-    (
-        "a quote in the scope",
-        "client_id=c1-1&subject=ann&scope=%22read%22",
-        BAD_SCOPE,
-    ),
-    (
-        "a scope that isn't the client's",
-        "client_id=c1-1&subject=ann&scope=read+admin",
-        BAD_SCOPE,
-    ),
-    (
-        "a scope in capitals",
-        "client_id=c1-1&subject=ann&scope=Read",
-        BAD_SCOPE,
-    ),
+    ("no scope, before the client", "client_id=c9-9&subject=ann", BAD_REQUEST),
+    ("a client without a value", "client_id=&subject=ann&scope=read", BAD_REQUEST),
+    ("a subject without a value", "client_id=c1-1&subject=&scope=read", BAD_REQUEST),
+    ("a scope without a value", "client_id=c1-1&subject=ann&scope=", BAD_REQUEST),
+    ("no client's id", "client_id=c01-1&subject=ann&scope=read", NOT_FOUND),
+    ("a consent's id", "client_id=g1-2&subject=ann&scope=read", NOT_FOUND),
+    ("a consent for a client", "client_id=c1-2&subject=ann&scope=read", NOT_FOUND),
+    ("a client that was never added", "client_id=c9-9&subject=ann&scope=read", NOT_FOUND),
+    ("a retired client", "client_id=c2-7&subject=ann&scope=read", NOT_FOUND),
+    ("a retired client before the subject and the scope", "client_id=c2-7&subject=a+b&scope=read++write", NOT_FOUND),
+    ("a subject with a space", "client_id=c1-1&subject=a+b&scope=read", BAD_REQUEST),
+    ("a subject with a delete", "client_id=c1-1&subject=a%7F&scope=read", BAD_REQUEST),
+    ("a subject beyond ASCII, before the scope", "client_id=c1-1&subject=%c3%a9&scope=admin", BAD_REQUEST),
+    ("two spaces in the scope", "client_id=c1-1&subject=ann&scope=read++write", BAD_SCOPE),
+    ("a quote in the scope", "client_id=c1-1&subject=ann&scope=%22read%22", BAD_SCOPE),
+    ("a scope that isn't the client's", "client_id=c1-1&subject=ann&scope=read+admin", BAD_SCOPE),
+    ("a scope in capitals", "client_id=c1-1&subject=ann&scope=Read", BAD_SCOPE),
 ];
 
+#[rattlefmt::skip]
 static WITHDRAWN: [Row; 9] = [
-    (
-        "a live consent",
-        "consent_id=g2-10",
-        (
-            200,
-            "{\"consent_id\":\"g2-10\"}",
-            Makes::Withdrawal((2, 10)),
-        ),
-    ),
-    (
-        "a consent that was withdrawn",
-        "consent_id=g2-3",
-        (200, "{\"consent_id\":\"g2-3\"}", Makes::Nothing),
-    ),
+    ("a live consent", "consent_id=g2-10", (200, "{\"consent_id\":\"g2-10\"}", Makes::Withdrawal((2, 10)))),
+    ("a consent that was withdrawn", "consent_id=g2-3", (200, "{\"consent_id\":\"g2-3\"}", Makes::Nothing)),
     ("no id", "client_id=c1-1", BAD_REQUEST),
     ("an id without a value", "consent_id=", BAD_REQUEST),
-    (
-        "the id twice",
-        "consent_id=g1-2&consent_id=g1-2",
-        BAD_REQUEST,
-    ),
+    ("the id twice", "consent_id=g1-2&consent_id=g1-2", BAD_REQUEST),
     ("a client's id", "consent_id=c1-1", NOT_FOUND),
     ("a client for a consent", "consent_id=g1-1", NOT_FOUND),
     ("an id with a leading zero", "consent_id=g1-02", NOT_FOUND),
-    (
-        "a consent that was never given",
-        "consent_id=g9-9",
-        NOT_FOUND,
-    ),
+    ("a consent that was never given", "consent_id=g9-9", NOT_FOUND),
 ];
 
 static ELSEWHERE: [Row; 1] = [("another endpoint", "client_id=c1-1", NOT_FOUND)];
@@ -274,30 +127,24 @@ fn another_endpoint_is_not_found(rt: HostRuntime) {
     );
 }
 
+#[rattlefmt::skip]
 static SECRETS: [Row; 2] = [
-    (
-        "a secret of 128 letters",
+    ("a secret of 128 letters",
         "kind=resource&scope=read&redirects=a:b&secret=0123456789abcdef0123456789abcdef0123456789abcdef0123456789abcdef0123456789abcdef0123456789abcdef0123456789abcdef0123456789abcdef",
-        ADDED,
-    ),
-    (
-        "a secret of 129",
+        ADDED),
+    ("a secret of 129",
         "kind=resource&scope=read&redirects=a:b&secret=0123456789abcdef0123456789abcdef0123456789abcdef0123456789abcdef0123456789abcdef0123456789abcdef0123456789abcdef0123456789abcdef0",
-        BAD_REQUEST,
-    ),
+        BAD_REQUEST),
 ];
 
+#[rattlefmt::skip]
 static SUBJECTS: [Row; 2] = [
-    (
-        "a subject of 128 letters",
+    ("a subject of 128 letters",
         "client_id=c1-1&scope=read&subject=0123456789abcdef0123456789abcdef0123456789abcdef0123456789abcdef0123456789abcdef0123456789abcdef0123456789abcdef0123456789abcdef",
-        CONSENTED,
-    ),
-    (
-        "a subject of 129",
+        CONSENTED),
+    ("a subject of 129",
         "client_id=c1-1&scope=read&subject=0123456789abcdef0123456789abcdef0123456789abcdef0123456789abcdef0123456789abcdef0123456789abcdef0123456789abcdef0123456789abcdef0",
-        BAD_REQUEST,
-    ),
+        BAD_REQUEST),
 ];
 
 #[test]

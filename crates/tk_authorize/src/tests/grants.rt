@@ -9,111 +9,22 @@ const CHALLENGE: &str = "E9Melhoa2OwvFrEMTJguCHaoeK1t8URWbuGJSstw-cM";
 // From 1,000 on, a minute long in a family of thirty days.
 const USUAL: (u64, u64, u64) = (1_000, 1_060, 2_593_000);
 
+#[rattlefmt::skip]
 static ROWS: [Row; 6] = [
-    (
-        "a public client with a challenge",
-        "client_id=c1-1&response_type=code&state=xyz&code_challenge=E9Melhoa2OwvFrEMTJguCHaoeK1t8URWbuGJSstw-cM&code_challenge_method=S256",
-        (
-            302,
-            "https://app.example/cb?code=AQEAAQAAAAAAAAADAAAAAAAAABIAAAAAAAAAEwAAAAAAAAAU&state=xyz",
-            Makes::Code(Issued {
-                client: (1, 1),
-                consent: (1, 2),
-                scope: "read write",
-                uri: "https://app.example/cb",
-                sent: false,
-                challenge: Some((true, CHALLENGE)),
-                times: USUAL,
-            }),
-        ),
-    ),
+    ("a public client with a challenge", "client_id=c1-1&response_type=code&state=xyz&code_challenge=E9Melhoa2OwvFrEMTJguCHaoeK1t8URWbuGJSstw-cM&code_challenge_method=S256",
+        (302, "https://app.example/cb?code=AQEAAQAAAAAAAAADAAAAAAAAABIAAAAAAAAAEwAAAAAAAAAU&state=xyz", Makes::Code(Issued { client: (1, 1), consent: (1, 2), scope: "read write", uri: "https://app.example/cb", sent: false, challenge: Some((true, CHALLENGE)), times: USUAL }))),
     // The request of RFC 6749, 4.1.1, and the reply of 4.1.2.
-    (
-        "a client with a secret and no challenge",
-        "response_type=code&client_id=c2-9&state=xyz&redirect_uri=https%3A%2F%2Fclient%2Eexample%2Ecom%2Fcb",
-        (
-            302,
-            "https://client.example.com/cb?code=AQEAAQAAAAAAAAADAAAAAAAAABIAAAAAAAAAEwAAAAAAAAAU&state=xyz",
-            Makes::Code(Issued {
-                client: (2, 9),
-                consent: (2, 10),
-                scope: "read",
-                uri: "https://client.example.com/cb",
-                sent: true,
-                challenge: None,
-                times: USUAL,
-            }),
-        ),
-    ),
-    (
-        "a URI with a query, and the least consent",
-        "client_id=c2-1&response_type=code&scope=read&redirect_uri=https%3A%2F%2Fapp.example%2Fcb%3Ft%3D1",
-        (
-            302,
-            "https://app.example/cb?t=1&code=AQEAAQAAAAAAAAADAAAAAAAAABIAAAAAAAAAEwAAAAAAAAAU",
-            Makes::Code(Issued {
-                client: (2, 1),
-                consent: (2, 2),
-                scope: "read",
-                uri: "https://app.example/cb?t=1",
-                sent: true,
-                challenge: None,
-                times: USUAL,
-            }),
-        ),
-    ),
+    ("a client with a secret and no challenge", "response_type=code&client_id=c2-9&state=xyz&redirect_uri=https%3A%2F%2Fclient%2Eexample%2Ecom%2Fcb",
+        (302, "https://client.example.com/cb?code=AQEAAQAAAAAAAAADAAAAAAAAABIAAAAAAAAAEwAAAAAAAAAU&state=xyz", Makes::Code(Issued { client: (2, 9), consent: (2, 10), scope: "read", uri: "https://client.example.com/cb", sent: true, challenge: None, times: USUAL }))),
+    ("a URI with a query, and the least consent", "client_id=c2-1&response_type=code&scope=read&redirect_uri=https%3A%2F%2Fapp.example%2Fcb%3Ft%3D1",
+        (302, "https://app.example/cb?t=1&code=AQEAAQAAAAAAAAADAAAAAAAAABIAAAAAAAAAEwAAAAAAAAAU", Makes::Code(Issued { client: (2, 1), consent: (2, 2), scope: "read", uri: "https://app.example/cb?t=1", sent: true, challenge: None, times: USUAL }))),
     // The consent g2-3 includes it too, but was withdrawn.
-    (
-        "a wider scope",
-        "client_id=c2-1&response_type=code&scope=write&redirect_uri=https%3A%2F%2Fclient.example.com%2Fcb",
-        (
-            302,
-            "https://client.example.com/cb?code=AQEAAQAAAAAAAAADAAAAAAAAABIAAAAAAAAAEwAAAAAAAAAU",
-            Makes::Code(Issued {
-                client: (2, 1),
-                consent: (2, 5),
-                scope: "write",
-                uri: "https://client.example.com/cb",
-                sent: true,
-                challenge: None,
-                times: USUAL,
-            }),
-        ),
-    ),
-    (
-        "a plain challenge, and a state that is encoded",
-        "client_id=c1-1&response_type=code&scope=write+read&state=a+%26&code_challenge=E9Melhoa2OwvFrEMTJguCHaoeK1t8URWbuGJSstw-cM",
-        (
-            302,
-            "https://app.example/cb?code=AQEAAQAAAAAAAAADAAAAAAAAABIAAAAAAAAAEwAAAAAAAAAU&state=a+%26",
-            Makes::Code(Issued {
-                client: (1, 1),
-                consent: (1, 2),
-                scope: "read write",
-                uri: "https://app.example/cb",
-                sent: false,
-                challenge: Some((false, CHALLENGE)),
-                times: USUAL,
-            }),
-        ),
-    ),
-    (
-        "parameters that aren't known, twice",
-        "client_id=c2-9&response_type=code&nonce=1&nonce=2&scope=",
-        (
-            302,
-            "https://client.example.com/cb?code=AQEAAQAAAAAAAAADAAAAAAAAABIAAAAAAAAAEwAAAAAAAAAU",
-            Makes::Code(Issued {
-                client: (2, 9),
-                consent: (2, 10),
-                scope: "read",
-                uri: "https://client.example.com/cb",
-                sent: false,
-                challenge: None,
-                times: USUAL,
-            }),
-        ),
-    ),
+    ("a wider scope", "client_id=c2-1&response_type=code&scope=write&redirect_uri=https%3A%2F%2Fclient.example.com%2Fcb",
+        (302, "https://client.example.com/cb?code=AQEAAQAAAAAAAAADAAAAAAAAABIAAAAAAAAAEwAAAAAAAAAU", Makes::Code(Issued { client: (2, 1), consent: (2, 5), scope: "write", uri: "https://client.example.com/cb", sent: true, challenge: None, times: USUAL }))),
+    ("a plain challenge, and a state that is encoded", "client_id=c1-1&response_type=code&scope=write+read&state=a+%26&code_challenge=E9Melhoa2OwvFrEMTJguCHaoeK1t8URWbuGJSstw-cM",
+        (302, "https://app.example/cb?code=AQEAAQAAAAAAAAADAAAAAAAAABIAAAAAAAAAEwAAAAAAAAAU&state=a+%26", Makes::Code(Issued { client: (1, 1), consent: (1, 2), scope: "read write", uri: "https://app.example/cb", sent: false, challenge: Some((false, CHALLENGE)), times: USUAL }))),
+    ("parameters that aren't known, twice", "client_id=c2-9&response_type=code&nonce=1&nonce=2&scope=",
+        (302, "https://client.example.com/cb?code=AQEAAQAAAAAAAAADAAAAAAAAABIAAAAAAAAAEwAAAAAAAAAU", Makes::Code(Issued { client: (2, 9), consent: (2, 10), scope: "read", uri: "https://client.example.com/cb", sent: false, challenge: None, times: USUAL }))),
 ];
 
 #[test]

@@ -11,34 +11,13 @@ const ABC: [u8; 32] = [
     0xb0, 0x03, 0x61, 0xa3, 0x96, 0x17, 0x7a, 0x9c, 0xb4, 0x10, 0xff, 0x61, 0xf2, 0x00, 0x15, 0xad,
 ];
 
+#[rattlefmt::skip]
 static CLIENTS: [Row; 3] = [
-    (
-        "a public client",
-        "kind=public&scope=write+read&redirects=https://b.example/cb+a:b?c%3Dd",
-        (
-            201,
-            "{\"client_id\":\"c1-3\"}",
-            Makes::ClientOf(Sort::Public),
-        ),
-    ),
-    (
-        "a client with a secret",
-        "kind=confidential&secret=abc&scope=write+read&redirects=https://b.example/cb+a:b?c%3Dd",
-        (
-            201,
-            "{\"client_id\":\"c1-3\"}",
-            Makes::ClientOf(Sort::Confidential(ABC)),
-        ),
-    ),
-    (
-        "a resource server",
-        "kind=resource&secret=abc&scope=write+read&redirects=https://b.example/cb+a:b?c%3Dd",
-        (
-            201,
-            "{\"client_id\":\"c1-3\"}",
-            Makes::ClientOf(Sort::Resource(ABC)),
-        ),
-    ),
+    ("a public client", "kind=public&scope=write+read&redirects=https://b.example/cb+a:b?c%3Dd", (201, "{\"client_id\":\"c1-3\"}", Makes::ClientOf(Sort::Public))),
+    ("a client with a secret", "kind=confidential&secret=abc&scope=write+read&redirects=https://b.example/cb+a:b?c%3Dd",
+        (201, "{\"client_id\":\"c1-3\"}", Makes::ClientOf(Sort::Confidential(ABC)))),
+    ("a resource server", "kind=resource&secret=abc&scope=write+read&redirects=https://b.example/cb+a:b?c%3Dd",
+        (201, "{\"client_id\":\"c1-3\"}", Makes::ClientOf(Sort::Resource(ABC)))),
 ];
 
 #[test]
@@ -47,15 +26,10 @@ fn a_client_is_kept_with_the_digest_of_its_secret(rt: HostRuntime) {
     are_answered(&rt, rt.alloc(), admin, &CLIENTS);
 }
 
-static CONSENT: [Row; 1] = [(
-    "a consent",
-    "client_id=c2-1&subject=Ann%7E&scope=write+admin",
-    (
-        201,
-        "{\"consent_id\":\"g1-3\"}",
-        Makes::ConsentOf((2, 1), "Ann~", "admin write"),
-    ),
-)];
+#[rattlefmt::skip]
+static CONSENT: [Row; 1] = [
+    ("a consent", "client_id=c2-1&subject=Ann%7E&scope=write+admin", (201, "{\"consent_id\":\"g1-3\"}", Makes::ConsentOf((2, 1), "Ann~", "admin write"))),
+];
 
 #[test]
 fn a_consent_is_kept_as_it_was_given(rt: HostRuntime) {

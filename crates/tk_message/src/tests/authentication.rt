@@ -19,10 +19,17 @@ static FACTS: [&[u8]; 7] = [
     b"\x00\x01\x00\x00\x00\x00\x00\x00\x00\x07\x02\x00\x01\x00\x00\x00\x00\x00\x00\x00\x05",
 ];
 
+fn adds_fact(ledger: &mut Ledger, fact: Fact) -> bool {
+    match fact.check() {
+        Ok(()) => ledger.add(fact).is_ok(),
+        Err(_) => false,
+    }
+}
+
 // Whether the fact of these bytes is added; not so where memory is refused.
 fn adds(alloc: Global, ledger: &mut Ledger, bytes: &[u8]) -> bool {
     match Fact::read(alloc, bytes) {
-        Ok(fact) => fact.check().is_ok() && ledger.add(fact).is_ok(),
+        Ok(fact) => adds_fact(ledger, fact),
         Err(_) => false,
     }
 }
@@ -36,68 +43,25 @@ pub(super) fn ledger(rt: &impl Abort, alloc: Global) -> Ledger {
 }
 
 // A body, and the serial of the client that it proves, None for nobody.
+#[rattlefmt::skip]
 static ROWS: [(&str, &str, Option<u64>); 24] = [
     ("a public client", "client_id=c1-1", Some(1)),
-    (
-        "a public client with an empty secret, which is none",
-        "client_id=c1-1&client_secret=",
-        Some(1),
-    ),
-    (
-        "a public client with a secret",
-        "client_id=c1-1&client_secret=abc",
-        None,
-    ),
-    (
-        "a confidential client with its secret",
-        "client_id=c1-2&client_secret=abc",
-        Some(2),
-    ),
-    (
-        "a resource server with its secret",
-        "client_secret=abc&client_id=c1-3",
-        Some(3),
-    ),
-    (
-        "a secret with another letter",
-        "client_id=c1-2&client_secret=abd",
-        None,
-    ),
-    (
-        "a secret in capitals",
-        "client_id=c1-2&client_secret=ABC",
-        None,
-    ),
+    ("a public client with an empty secret, which is none", "client_id=c1-1&client_secret=", Some(1)),
+    ("a public client with a secret", "client_id=c1-1&client_secret=abc", None),
+    ("a confidential client with its secret", "client_id=c1-2&client_secret=abc", Some(2)),
+    ("a resource server with its secret", "client_secret=abc&client_id=c1-3", Some(3)),
+    ("a secret with another letter", "client_id=c1-2&client_secret=abd", None),
+    ("a secret in capitals", "client_id=c1-2&client_secret=ABC", None),
     ("a longer secret", "client_id=c1-2&client_secret=abcd", None),
     ("a shorter secret", "client_id=c1-2&client_secret=ab", None),
-    (
-        "a secret with a space",
-        "client_id=c1-2&client_secret=abc+",
-        None,
-    ),
-    (
-        "the digest for the secret",
-        "client_id=c1-2&client_secret=ba7816bf8f01cfea414140de5dae2223b00361a396177a9cb410ff61f20015ad",
-        None,
-    ),
+    ("a secret with a space", "client_id=c1-2&client_secret=abc+", None),
+    ("the digest for the secret", "client_id=c1-2&client_secret=ba7816bf8f01cfea414140de5dae2223b00361a396177a9cb410ff61f20015ad", None),
     ("a confidential client without", "client_id=c1-2", None),
-    (
-        "a confidential client with an empty secret",
-        "client_id=c1-2&client_secret=",
-        None,
-    ),
+    ("a confidential client with an empty secret", "client_id=c1-2&client_secret=", None),
     ("a resource server without", "client_id=c1-3", None),
-    (
-        "a resource server with another secret",
-        "client_id=c1-3&client_secret=cba",
-        None,
-    ),
+    ("a resource server with another secret", "client_id=c1-3&client_secret=cba", None),
     ("a retired public client", "client_id=c1-4", None),
-    (
-        "a retired client with its secret",
-        "client_id=c1-5&client_secret=abc",
-        None,
-    ),
+    ("a retired client with its secret", "client_id=c1-5&client_secret=abc", None),
     ("a retirement for a client", "client_id=c1-6", None),
     ("a client that was never added", "client_id=c1-8", None),
     ("the serial in another region", "client_id=c2-1", None),

@@ -63,43 +63,14 @@ fn are_callers(rt: &impl Abort, alloc: Global, rows: &[Row]) {
     }
 }
 
+#[rattlefmt::skip]
 static CLIENTS: [Row; 6] = [
-    (
-        "a public client",
-        "code=x&client_id=c1-1",
-        None,
-        Told::Client(1),
-    ),
-    (
-        "a client with its secret",
-        "client_id=c1-2&client_secret=abc",
-        None,
-        Told::Client(2),
-    ),
-    (
-        "a header",
-        "code=x",
-        Some("Basic YzEtMjphYmM="),
-        Told::Client(2),
-    ),
-    (
-        "a header and the same client in the body",
-        "client_id=c1-2",
-        Some("basic  YzEtMjphYmM="),
-        Told::Client(2),
-    ),
-    (
-        "a parameter that is none, twice",
-        "client_id=c1-1&nonce=1&nonce=2",
-        None,
-        Told::Client(1),
-    ),
-    (
-        "an empty parameter beside it",
-        "code=x&code=&client_id=c1-1",
-        None,
-        Told::Client(1),
-    ),
+    ("a public client", "code=x&client_id=c1-1", None, Told::Client(1)),
+    ("a client with its secret", "client_id=c1-2&client_secret=abc", None, Told::Client(2)),
+    ("a header", "code=x", Some("Basic YzEtMjphYmM="), Told::Client(2)),
+    ("a header and the same client in the body", "client_id=c1-2", Some("basic  YzEtMjphYmM="), Told::Client(2)),
+    ("a parameter that is none, twice", "client_id=c1-1&nonce=1&nonce=2", None, Told::Client(1)),
+    ("an empty parameter beside it", "code=x&code=&client_id=c1-1", None, Told::Client(1)),
 ];
 
 #[test]
@@ -107,69 +78,20 @@ fn a_client_is_told_by_its_dot(rt: HostRuntime) {
     are_callers(&rt, rt.alloc(), &CLIENTS);
 }
 
+#[rattlefmt::skip]
 static OTHERS: [Row; 12] = [
-    (
-        "a parameter twice",
-        "code=x&code=y&client_id=c1-1",
-        None,
-        Told::Duplicate,
-    ),
-    (
-        "the client twice, beside mixed credentials",
-        "client_id=c1-1&client_id=c1-1&client_secret=abc",
-        Some("Basic YzEtMjphYmM="),
-        Told::Duplicate,
-    ),
-    (
-        "an escaped name",
-        "code=x&%63ode=y&client_id=c1-1",
-        None,
-        Told::Duplicate,
-    ),
-    (
-        "a secret in the body beside a header",
-        "client_secret=abc",
-        Some("Basic YzEtMjphYmM="),
-        Told::Mixed,
-    ),
-    (
-        "a secret in the body beside a header that can't be read",
-        "client_secret=abc",
-        Some("Basic !"),
-        Told::Mixed,
-    ),
-    (
-        "two clients",
-        "client_id=c1-1",
-        Some("Basic YzEtMjphYmM="),
-        Told::Mixed,
-    ),
+    ("a parameter twice", "code=x&code=y&client_id=c1-1", None, Told::Duplicate),
+    ("the client twice, beside mixed credentials", "client_id=c1-1&client_id=c1-1&client_secret=abc", Some("Basic YzEtMjphYmM="), Told::Duplicate),
+    ("an escaped name", "code=x&%63ode=y&client_id=c1-1", None, Told::Duplicate),
+    ("a secret in the body beside a header", "client_secret=abc", Some("Basic YzEtMjphYmM="), Told::Mixed),
+    ("a secret in the body beside a header that can't be read", "client_secret=abc", Some("Basic !"), Told::Mixed),
+    ("two clients", "client_id=c1-1", Some("Basic YzEtMjphYmM="), Told::Mixed),
     ("nobody", "code=x", None, Told::Invalid),
-    (
-        "a wrong secret",
-        "client_id=c1-2&client_secret=abd",
-        None,
-        Told::Invalid,
-    ),
+    ("a wrong secret", "client_id=c1-2&client_secret=abd", None, Told::Invalid),
     ("a retired client", "client_id=c1-4", None, Told::Invalid),
-    (
-        "a header that isn't base64",
-        "code=x",
-        Some("Basic !"),
-        Told::Invalid,
-    ),
-    (
-        "another scheme",
-        "client_id=c1-1",
-        Some("Bearer abc"),
-        Told::Invalid,
-    ),
-    (
-        "a header with a wrong secret",
-        "",
-        Some("Basic YzEtMjpubw=="),
-        Told::Invalid,
-    ),
+    ("a header that isn't base64", "code=x", Some("Basic !"), Told::Invalid),
+    ("another scheme", "client_id=c1-1", Some("Bearer abc"), Told::Invalid),
+    ("a header with a wrong secret", "", Some("Basic YzEtMjpubw=="), Told::Invalid),
 ];
 
 #[test]

@@ -23,67 +23,21 @@ fn a_consent_goes_under_its_status(rt: HostRuntime) {
 }
 
 // A URI, a name, its value, the state, and where the browser is sent.
-type Redirect = (
-    &'static str,
-    &'static str,
-    &'static str,
-    Option<&'static str>,
-    &'static str,
-);
+#[rattlefmt::skip]
+type Redirect = (&'static str, &'static str, &'static str, Option<&'static str>, &'static str);
 
+#[rattlefmt::skip]
 static REDIRECTS: [Redirect; 7] = [
     // The replies of RFC 6749, 4.1.2 and 4.1.2.1.
-    (
-        "https://client.example.com/cb",
-        "code",
-        "SplxlOBeZQQYbYS6WxSbIA",
-        Some("xyz"),
-        "https://client.example.com/cb?code=SplxlOBeZQQYbYS6WxSbIA&state=xyz",
-    ),
-    (
-        "https://client.example.com/cb",
-        "error",
-        "access_denied",
-        Some("xyz"),
-        "https://client.example.com/cb?error=access_denied&state=xyz",
-    ),
-    (
-        "https://client.example.com/cb",
-        "error",
-        "access_denied",
-        None,
-        "https://client.example.com/cb?error=access_denied",
-    ),
+    ("https://client.example.com/cb", "code", "SplxlOBeZQQYbYS6WxSbIA", Some("xyz"), "https://client.example.com/cb?code=SplxlOBeZQQYbYS6WxSbIA&state=xyz"),
+    ("https://client.example.com/cb", "error", "access_denied", Some("xyz"), "https://client.example.com/cb?error=access_denied&state=xyz"),
+    ("https://client.example.com/cb", "error", "access_denied", None, "https://client.example.com/cb?error=access_denied"),
     // A URI with a query, and an empty state, which is sent back.
-    (
-        "https://app.example/cb?t=1",
-        "code",
-        "a-_b",
-        Some(""),
-        "https://app.example/cb?t=1&code=a-_b&state=",
-    ),
-    (
-        "https://app.example/cb?t=1",
-        "code",
-        "a-_b",
-        None,
-        "https://app.example/cb?t=1&code=a-_b",
-    ),
+    ("https://app.example/cb?t=1", "code", "a-_b", Some(""), "https://app.example/cb?t=1&code=a-_b&state="),
+    ("https://app.example/cb?t=1", "code", "a-_b", None, "https://app.example/cb?t=1&code=a-_b"),
     // Form encoding, of a state that would say more.
-    (
-        "https://app.example/cb",
-        "error",
-        "invalid_scope",
-        Some("a ~*&code=b#c%"),
-        "https://app.example/cb?error=invalid_scope&state=a+%7E*%26code%3Db%23c%25",
-    ),
-    (
-        "app:/cb",
-        "code",
-        "",
-        Some("x+y"),
-        "app:/cb?code=&state=x%2By",
-    ),
+    ("https://app.example/cb", "error", "invalid_scope", Some("a ~*&code=b#c%"), "https://app.example/cb?error=invalid_scope&state=a+%7E*%26code%3Db%23c%25"),
+    ("app:/cb", "code", "", Some("x+y"), "app:/cb?code=&state=x%2By"),
 ];
 
 fn is_redirect(reply: &Reply, uri: &str) -> bool {
@@ -110,28 +64,11 @@ fn a_browser_is_sent_back(rt: HostRuntime) {
 }
 
 // A region, a serial, a kind and words; and the text of their 36 bytes, as another program encodes them.
+#[rattlefmt::skip]
 static HANDLES: [(u16, u64, Kind, [u64; 3], &str); 3] = [
-    (
-        1,
-        3,
-        Kind::Code,
-        [18, 19, 20],
-        "AQEAAQAAAAAAAAADAAAAAAAAABIAAAAAAAAAEwAAAAAAAAAU",
-    ),
-    (
-        513,
-        1_099_511_627_781,
-        Kind::Access,
-        [0, 18_446_744_073_709_551_615, 1],
-        "AQICAQAAAQAAAAAFAAAAAAAAAAD__________wAAAAAAAAAB",
-    ),
-    (
-        65_535,
-        9_223_372_036_854_775_807,
-        Kind::Refresh,
-        [18_446_744_073_709_551_615, 0, 258],
-        "AQP__3____________________8AAAAAAAAAAAAAAAAAAAEC",
-    ),
+    (1, 3, Kind::Code, [18, 19, 20], "AQEAAQAAAAAAAAADAAAAAAAAABIAAAAAAAAAEwAAAAAAAAAU"),
+    (513, 1_099_511_627_781, Kind::Access, [0, 18_446_744_073_709_551_615, 1], "AQICAQAAAQAAAAAFAAAAAAAAAAD__________wAAAAAAAAAB"),
+    (65_535, 9_223_372_036_854_775_807, Kind::Refresh, [18_446_744_073_709_551_615, 0, 258], "AQP__3____________________8AAAAAAAAAAAAAAAAAAAEC"),
 ];
 
 fn has_text(alloc: Global, handle: &Handle, want: &str) -> bool {

@@ -10,19 +10,14 @@ use tk_handle::{Kind, Moment};
 use tk_scope::Scope;
 
 // How long the access token lasts, and the reply, with the texts of the handles as another program encodes them.
+#[rattlefmt::skip]
 static GIVEN: [(u64, &str); 3] = [
-    (
-        3_600,
-        "{\"access_token\":\"AQIAAQAAAAAAAAAEAAAAAAAAABgAAAAAAAAAGQAAAAAAAAAa\",\"expires_in\":3600,\"refresh_token\":\"AQMAAQAAAAAAAAAEAAAAAAAAABsAAAAAAAAAHAAAAAAAAAAd\",\"scope\":\"read write\",\"token_type\":\"Bearer\"}",
-    ),
-    (
-        0,
-        "{\"access_token\":\"AQIAAQAAAAAAAAAEAAAAAAAAABgAAAAAAAAAGQAAAAAAAAAa\",\"expires_in\":0,\"refresh_token\":\"AQMAAQAAAAAAAAAEAAAAAAAAABsAAAAAAAAAHAAAAAAAAAAd\",\"scope\":\"read write\",\"token_type\":\"Bearer\"}",
-    ),
-    (
-        18_446_744_073_709_551_615,
-        "{\"access_token\":\"AQIAAQAAAAAAAAAEAAAAAAAAABgAAAAAAAAAGQAAAAAAAAAa\",\"expires_in\":18446744073709551615,\"refresh_token\":\"AQMAAQAAAAAAAAAEAAAAAAAAABsAAAAAAAAAHAAAAAAAAAAd\",\"scope\":\"read write\",\"token_type\":\"Bearer\"}",
-    ),
+    (3_600,
+        "{\"access_token\":\"AQIAAQAAAAAAAAAEAAAAAAAAABgAAAAAAAAAGQAAAAAAAAAa\",\"expires_in\":3600,\"refresh_token\":\"AQMAAQAAAAAAAAAEAAAAAAAAABsAAAAAAAAAHAAAAAAAAAAd\",\"scope\":\"read write\",\"token_type\":\"Bearer\"}"),
+    (0,
+        "{\"access_token\":\"AQIAAQAAAAAAAAAEAAAAAAAAABgAAAAAAAAAGQAAAAAAAAAa\",\"expires_in\":0,\"refresh_token\":\"AQMAAQAAAAAAAAAEAAAAAAAAABsAAAAAAAAAHAAAAAAAAAAd\",\"scope\":\"read write\",\"token_type\":\"Bearer\"}"),
+    (18_446_744_073_709_551_615,
+        "{\"access_token\":\"AQIAAQAAAAAAAAAEAAAAAAAAABgAAAAAAAAAGQAAAAAAAAAa\",\"expires_in\":18446744073709551615,\"refresh_token\":\"AQMAAQAAAAAAAAAEAAAAAAAAABsAAAAAAAAAHAAAAAAAAAAd\",\"scope\":\"read write\",\"token_type\":\"Bearer\"}"),
 ];
 
 fn given(alloc: Global, lifetime: u64) -> Option<Reply> {
@@ -43,36 +38,14 @@ fn tokens_are_given_with_their_scope(rt: HostRuntime) {
 }
 
 // The kind, the end, the start and the subject of a token, and what is said of it.
+#[rattlefmt::skip]
 static TOLD: [(Kind, u64, u64, &[u8], &str); 4] = [
-    (
-        Kind::Access,
-        4_610,
-        1_010,
-        b"ann",
-        "{\"active\":true,\"client_id\":\"c7-41\",\"exp\":4610,\"iat\":1010,\"scope\":\"read write\",\"sub\":\"ann\",\"token_type\":\"Bearer\"}",
-    ),
-    (
-        Kind::Refresh,
-        4_610,
-        1_010,
-        b"ann",
-        "{\"active\":true,\"client_id\":\"c7-41\",\"exp\":4610,\"iat\":1010,\"scope\":\"read write\",\"sub\":\"ann\"}",
-    ),
+    (Kind::Access, 4_610, 1_010, b"ann", "{\"active\":true,\"client_id\":\"c7-41\",\"exp\":4610,\"iat\":1010,\"scope\":\"read write\",\"sub\":\"ann\",\"token_type\":\"Bearer\"}"),
+    (Kind::Refresh, 4_610, 1_010, b"ann", "{\"active\":true,\"client_id\":\"c7-41\",\"exp\":4610,\"iat\":1010,\"scope\":\"read write\",\"sub\":\"ann\"}"),
     // A subject may hold what JSON escapes.
-    (
-        Kind::Access,
-        253_402_300_799,
-        0,
-        b"\"a\\n",
-        "{\"active\":true,\"client_id\":\"c7-41\",\"exp\":253402300799,\"iat\":0,\"scope\":\"read write\",\"sub\":\"\\\"a\\\\n\",\"token_type\":\"Bearer\"}",
-    ),
-    (
-        Kind::Refresh,
-        253_402_300_799,
-        0,
-        b"\"a\\n",
-        "{\"active\":true,\"client_id\":\"c7-41\",\"exp\":253402300799,\"iat\":0,\"scope\":\"read write\",\"sub\":\"\\\"a\\\\n\"}",
-    ),
+    (Kind::Access, 253_402_300_799, 0, b"\"a\\n",
+        "{\"active\":true,\"client_id\":\"c7-41\",\"exp\":253402300799,\"iat\":0,\"scope\":\"read write\",\"sub\":\"\\\"a\\\\n\",\"token_type\":\"Bearer\"}"),
+    (Kind::Refresh, 253_402_300_799, 0, b"\"a\\n", "{\"active\":true,\"client_id\":\"c7-41\",\"exp\":253402300799,\"iat\":0,\"scope\":\"read write\",\"sub\":\"\\\"a\\\\n\"}"),
 ];
 
 fn said(alloc: Global, kind: Kind, expiry: u64, start: u64, subject: &[u8]) -> Option<Reply> {
