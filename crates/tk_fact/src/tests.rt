@@ -4,12 +4,12 @@ mod bodies;
 mod built;
 mod limits;
 
-use crate::{Body, Fact, Subject, SubjectError};
-use bodies::{Place, dot_at};
+use crate::{Fact, Subject, SubjectError};
+use bodies::{Place, Says, body, dot};
 use std::alloc::Global;
 use std::test::Fail;
 use tk_format::ReadError;
-use tk_handle::{Dot, Kind, RegionNumber, TokenId};
+use tk_handle::{Kind, TokenId};
 
 // The records of docs/FORMATS.md, and one of each other kind. A digest has 32 bytes.
 const PUBLIC_CLIENT: &[u8] =
@@ -72,11 +72,11 @@ fn is_copied(alloc: Global, fact: &Fact, bytes: &[u8]) -> bool {
     }
 }
 
-// Whether the body has these bytes at the dot.
-fn has_bytes(alloc: Global, place: Place, body: Body, bytes: &[u8]) -> bool {
-    match dot_at(place) {
-        Some(dot) => is_copied(alloc, &Fact { dot, body }, bytes),
-        None => false,
+// Whether the fact at the place has these bytes.
+fn has_bytes(alloc: Global, place: Place, says: &Says<'_>, bytes: &[u8]) -> bool {
+    match (dot(place), body(alloc, says)) {
+        (Some(dot), Some(body)) => is_copied(alloc, &Fact { dot, body }, bytes),
+        _ => false,
     }
 }
 
@@ -111,6 +111,10 @@ fn facts_have_these_bytes(rt: HostRuntime) {
     }
 }
 
+fn refusal(alloc: Global, text: &[u8]) -> Option<SubjectError> {
+    Subject::read(alloc, text).err()
+}
+
 #[test]
 fn a_subject_has_1_to_128_visible_bytes(rt: HostRuntime) {
     let long = [b'~'; 129];
@@ -124,108 +128,62 @@ fn a_subject_has_1_to_128_visible_bytes(rt: HostRuntime) {
         ("129 bytes", &long, malformed),
     ];
     for (name, text, want) in rows {
-        let refusal = Subject::read(rt.alloc(), text).err();
-        assert_eq!(rt; refusal, want, "{name}");
+        assert!(rt; refusal(rt.alloc(), text) == want, "{name}");
+    }
+}
+
+// Whether the subject and its copy are the same, of this text.
+fn is_subject(alloc: Global, subject: &Subject, text: &str) -> bool {
+    match subject.copy(alloc) {
+        Ok(copy) => copy.same(subject) && copy.as_str() == text,
+        Err(_) => false,
+    }
+}
+
+// Whether a subject and its copy are the same, and another name isn't.
+fn are_compared(alloc: Global) -> (bool, bool) {
+    match (
+        Subject::read(alloc, b"alice"),
+        Subject::read(alloc, b"alicf"),
+    ) {
+        (Ok(alice), Ok(other)) => (is_subject(alloc, &alice, "alice"), !other.same(&alice)),
+        _ => (false, false),
     }
 }
 
 #[test]
-fn subjects_are_copied_and_compared(rt: HostRuntime) -> Result<(), Fail> {
-    let alice = Subject::read(rt.alloc(), b"alice")?;
-    let copy = alice.copy(rt.alloc())?;
-    assert!(rt; copy.same(&alice), "a copy");
-    assert_eq!(rt; copy.as_str(), "alice");
-    let other = Subject::read(rt.alloc(), b"alicf")?;
-    assert!(rt; !other.same(&alice), "another name");
-    Ok(())
+fn subjects_are_copied_and_compared(rt: HostRuntime) {
+    let told = are_compared(rt.alloc());
+    assert!(rt; told == (true, true), "{told:?}");
 }
 
 fn is_malformed(alloc: Global, bytes: &[u8]) -> bool {
     matches!(Fact::read(alloc, bytes), Err(ReadError::Malformed))
 }
 
+#[rattlefmt::skip]
 const OTHER_BYTES: &[(&str, &[u8])] = &[
     ("nothing", b""),
-    (
-        "a byte left over",
-        b"\x00\x01\x00\x00\x00\x00\x00\x00\x00\x05\x09\x00\x01\x00\x00\x00\x00\x00\x00\x00\x03\x01\x00",
-    ),
-    (
-        "a byte missing",
-        b"\x00\x01\x00\x00\x00\x00\x00\x00\x00\x05\x09\x00\x01\x00\x00\x00\x00\x00\x00\x00\x03",
-    ),
-    (
-        "the kind 0",
-        b"\x00\x01\x00\x00\x00\x00\x00\x00\x00\x05\x00\x00\x01\x00\x00\x00\x00\x00\x00\x00\x03\x01",
-    ),
-    (
-        "the kind 10",
-        b"\x00\x01\x00\x00\x00\x00\x00\x00\x00\x05\x0a\x00\x01\x00\x00\x00\x00\x00\x00\x00\x03\x01",
-    ),
-    (
-        "the region 0",
-        b"\x00\x00\x00\x00\x00\x00\x00\x00\x00\x05\x02\x00\x01\x00\x00\x00\x00\x00\x00\x00\x01",
-    ),
-    (
-        "the serial 0",
-        b"\x00\x01\x00\x00\x00\x00\x00\x00\x00\x00\x02\x00\x01\x00\x00\x00\x00\x00\x00\x00\x01",
-    ),
-    (
-        "an access token used again",
-        b"\x00\x01\x00\x00\x00\x00\x00\x00\x00\x05\x09\x00\x01\x00\x00\x00\x00\x00\x00\x00\x03\x02",
-    ),
-    (
-        "the token's kind 4",
-        b"\x00\x01\x00\x00\x00\x00\x00\x00\x00\x05\x09\x00\x01\x00\x00\x00\x00\x00\x00\x00\x03\x04",
-    ),
-    (
-        "a revoked code",
-        b"\x00\x01\x00\x00\x00\x00\x00\x00\x00\x07\x08\x00\x01\x00\x00\x00\x00\x00\x00\x00\x05\x010123456789abcdef0123456789abcdef\x00\x01\x00\x00\x00\x00\x00\x00\x00\x01",
-    ),
-    (
-        "the generation 0",
-        b"\x00\x01\x00\x00\x00\x00\x00\x00\x00\x06\x07\x00\x01\x00\x00\x00\x00\x00\x00\x00\x05\x00\x00\x00\x00\x00\x00\x00\x00\x05x0123456789abcdef0123456789abcdef\x00\x00\x00\x00\x00\x00\x06\xa4\x00\x04readfedcba9876543210fedcba9876543210\x00\x00\x00\x00\x00\x00#(\x00\x04read",
-    ),
-    (
-        "the generation 10,001",
-        b"\x00\x01\x00\x00\x00\x00\x00\x00\x00\x06\x07\x00\x01\x00\x00\x00\x00\x00\x00\x00\x05'\x11\x00\x00\x00\x00\x00\x00\x05x0123456789abcdef0123456789abcdef\x00\x00\x00\x00\x00\x00\x06\xa4\x00\x04readfedcba9876543210fedcba9876543210\x00\x00\x00\x00\x00\x00#(\x00\x04read",
-    ),
-    (
-        "an end before its start",
-        b"\x00\x01\x00\x00\x00\x00\x00\x00\x00\x06\x07\x00\x01\x00\x00\x00\x00\x00\x00\x00\x05\x00\x02\x00\x00\x00\x00\x00\x00\x06\xa50123456789abcdef0123456789abcdef\x00\x00\x00\x00\x00\x00\x06\xa4\x00\x04readfedcba9876543210fedcba9876543210\x00\x00\x00\x00\x00\x00#(\x00\x04read",
-    ),
-    (
-        "scope-tokens out of order",
-        b"\x00\x01\x00\x00\x00\x00\x00\x00\x00\x03\x03\x00\x01\x00\x00\x00\x00\x00\x00\x00\x01\x00\x05alice\x00\x0awrite read",
-    ),
-    (
-        "no subject",
-        b"\x00\x01\x00\x00\x00\x00\x00\x00\x00\x03\x03\x00\x01\x00\x00\x00\x00\x00\x00\x00\x01\x00\x00\x00\x04read",
-    ),
-    (
-        "a space in a subject",
-        b"\x00\x01\x00\x00\x00\x00\x00\x00\x00\x03\x03\x00\x01\x00\x00\x00\x00\x00\x00\x00\x01\x00\x03a b\x00\x04read",
-    ),
-    (
-        "no URI",
-        b"\x00\x01\x00\x00\x00\x00\x00\x00\x00\x01\x01\x00\x00\x04read\x00",
-    ),
-    (
-        "a fragment",
-        b"\x00\x01\x00\x00\x00\x00\x00\x00\x00\x01\x01\x00\x00\x04read\x01\x00\x04/cb#",
-    ),
-    (
-        "a length that lies",
-        b"\x00\x01\x00\x00\x00\x00\x00\x00\x00\x03\x03\x00\x01\x00\x00\x00\x00\x00\x00\x00\x01\xff\xffalice\x00\x04read",
-    ),
-    (
-        "a count that lies",
-        b"\x00\x01\x00\x00\x00\x00\x00\x00\x00\x01\x01\x00\x00\x04read\x08\x00\x16https://app.example/cb",
-    ),
-    (
-        "the sort 3",
-        b"\x00\x01\x00\x00\x00\x00\x00\x00\x00\x01\x01\x03\x00\x04read\x01\x00\x16https://app.example/cb",
-    ),
+    ("a byte left over", b"\x00\x01\x00\x00\x00\x00\x00\x00\x00\x05\x09\x00\x01\x00\x00\x00\x00\x00\x00\x00\x03\x01\x00"),
+    ("a byte missing", b"\x00\x01\x00\x00\x00\x00\x00\x00\x00\x05\x09\x00\x01\x00\x00\x00\x00\x00\x00\x00\x03"),
+    ("the kind 0", b"\x00\x01\x00\x00\x00\x00\x00\x00\x00\x05\x00\x00\x01\x00\x00\x00\x00\x00\x00\x00\x03\x01"),
+    ("the kind 10", b"\x00\x01\x00\x00\x00\x00\x00\x00\x00\x05\x0a\x00\x01\x00\x00\x00\x00\x00\x00\x00\x03\x01"),
+    ("the region 0", b"\x00\x00\x00\x00\x00\x00\x00\x00\x00\x05\x02\x00\x01\x00\x00\x00\x00\x00\x00\x00\x01"),
+    ("the serial 0", b"\x00\x01\x00\x00\x00\x00\x00\x00\x00\x00\x02\x00\x01\x00\x00\x00\x00\x00\x00\x00\x01"),
+    ("an access token used again", b"\x00\x01\x00\x00\x00\x00\x00\x00\x00\x05\x09\x00\x01\x00\x00\x00\x00\x00\x00\x00\x03\x02"),
+    ("the token's kind 4", b"\x00\x01\x00\x00\x00\x00\x00\x00\x00\x05\x09\x00\x01\x00\x00\x00\x00\x00\x00\x00\x03\x04"),
+    ("a revoked code", b"\x00\x01\x00\x00\x00\x00\x00\x00\x00\x07\x08\x00\x01\x00\x00\x00\x00\x00\x00\x00\x05\x010123456789abcdef0123456789abcdef\x00\x01\x00\x00\x00\x00\x00\x00\x00\x01"),
+    ("the generation 0", b"\x00\x01\x00\x00\x00\x00\x00\x00\x00\x06\x07\x00\x01\x00\x00\x00\x00\x00\x00\x00\x05\x00\x00\x00\x00\x00\x00\x00\x00\x05x0123456789abcdef0123456789abcdef\x00\x00\x00\x00\x00\x00\x06\xa4\x00\x04readfedcba9876543210fedcba9876543210\x00\x00\x00\x00\x00\x00#(\x00\x04read"),
+    ("the generation 10,001", b"\x00\x01\x00\x00\x00\x00\x00\x00\x00\x06\x07\x00\x01\x00\x00\x00\x00\x00\x00\x00\x05'\x11\x00\x00\x00\x00\x00\x00\x05x0123456789abcdef0123456789abcdef\x00\x00\x00\x00\x00\x00\x06\xa4\x00\x04readfedcba9876543210fedcba9876543210\x00\x00\x00\x00\x00\x00#(\x00\x04read"),
+    ("an end before its start", b"\x00\x01\x00\x00\x00\x00\x00\x00\x00\x06\x07\x00\x01\x00\x00\x00\x00\x00\x00\x00\x05\x00\x02\x00\x00\x00\x00\x00\x00\x06\xa50123456789abcdef0123456789abcdef\x00\x00\x00\x00\x00\x00\x06\xa4\x00\x04readfedcba9876543210fedcba9876543210\x00\x00\x00\x00\x00\x00#(\x00\x04read"),
+    ("scope-tokens out of order", b"\x00\x01\x00\x00\x00\x00\x00\x00\x00\x03\x03\x00\x01\x00\x00\x00\x00\x00\x00\x00\x01\x00\x05alice\x00\x0awrite read"),
+    ("no subject", b"\x00\x01\x00\x00\x00\x00\x00\x00\x00\x03\x03\x00\x01\x00\x00\x00\x00\x00\x00\x00\x01\x00\x00\x00\x04read"),
+    ("a space in a subject", b"\x00\x01\x00\x00\x00\x00\x00\x00\x00\x03\x03\x00\x01\x00\x00\x00\x00\x00\x00\x00\x01\x00\x03a b\x00\x04read"),
+    ("no URI", b"\x00\x01\x00\x00\x00\x00\x00\x00\x00\x01\x01\x00\x00\x04read\x00"),
+    ("a fragment", b"\x00\x01\x00\x00\x00\x00\x00\x00\x00\x01\x01\x00\x00\x04read\x01\x00\x04/cb#"),
+    ("a length that lies", b"\x00\x01\x00\x00\x00\x00\x00\x00\x00\x03\x03\x00\x01\x00\x00\x00\x00\x00\x00\x00\x01\xff\xffalice\x00\x04read"),
+    ("a count that lies", b"\x00\x01\x00\x00\x00\x00\x00\x00\x00\x01\x01\x00\x00\x04read\x08\x00\x16https://app.example/cb"),
+    ("the sort 3", b"\x00\x01\x00\x00\x00\x00\x00\x00\x00\x01\x01\x03\x00\x04read\x01\x00\x16https://app.example/cb"),
 ];
 
 #[test]
@@ -235,29 +193,31 @@ fn other_bytes_are_malformed(rt: HostRuntime) {
     }
 }
 
-// What the fact of these bytes uses up.
-fn used(alloc: Global, bytes: &[u8]) -> Result<Option<TokenId>, Fail> {
-    let fact = Fact::read(alloc, bytes)?;
-    Ok(fact.uses())
+// The end of the token of this kind that the fact mints.
+fn end_of(fact: &Fact, kind: Kind) -> Option<u64> {
+    match fact.minted(kind) {
+        Some(minted) => Some(minted.expiry.seconds()),
+        None => None,
+    }
 }
 
-// The end of the token of this kind that the fact of these bytes mints.
-fn end_of(alloc: Global, bytes: &[u8], kind: Kind) -> Result<Option<u64>, Fail> {
-    let fact = Fact::read(alloc, bytes)?;
-    match fact.minted(kind) {
-        Some(minted) => Ok(Some(minted.expiry.seconds())),
-        None => Ok(None),
+// Whether the fact of these bytes uses this token up, if any.
+fn is_using(alloc: Global, bytes: &[u8], want: Option<TokenId>) -> bool {
+    match Fact::read(alloc, bytes) {
+        Ok(fact) => fact.uses() == want,
+        Err(_) => false,
     }
 }
 
 #[test]
 fn a_fact_uses_a_token(rt: HostRuntime) -> Result<(), Fail> {
-    let region = RegionNumber::new(1).ok_or("a region")?;
-    let dot = Dot::new(region, 4).ok_or("a dot")?;
-    let kind = Kind::Code;
+    let (dot, kind) = (dot((1, 4)).ok_or("a dot")?, Kind::Code);
     let code = Some(TokenId { dot, kind });
-    assert!(rt; used(rt.alloc(), REDEEMED_CODE)? == code, "a redeemed code");
-    assert!(rt; used(rt.alloc(), REUSED_CODE)?.is_none(), "a reused code");
+    assert!(rt;
+        is_using(rt.alloc(), REDEEMED_CODE, code),
+        "a redeemed code"
+    );
+    assert!(rt; is_using(rt.alloc(), REUSED_CODE, None), "a reused code");
     Ok(())
 }
 
@@ -269,10 +229,16 @@ const ENDS: &[(&str, &[u8], Kind, Option<u64>)] = &[
     ("a refresh token", LAST_ROTATION, Kind::Refresh, Some(9_000)),
 ];
 
-#[test]
-fn a_fact_mints_tokens(rt: HostRuntime) -> Result<(), Fail> {
-    for &(name, bytes, kind, want) in ENDS {
-        assert_eq!(rt; end_of(rt.alloc(), bytes, kind)?, want, "{name}");
+fn is_minting(alloc: Global, bytes: &[u8], kind: Kind, want: Option<u64>) -> bool {
+    match Fact::read(alloc, bytes) {
+        Ok(fact) => end_of(&fact, kind) == want,
+        Err(_) => false,
     }
-    Ok(())
+}
+
+#[test]
+fn a_fact_mints_tokens(rt: HostRuntime) {
+    for &(name, bytes, kind, want) in ENDS {
+        assert!(rt; is_minting(rt.alloc(), bytes, kind, want), "{name}");
+    }
 }

@@ -1,13 +1,9 @@
 //! Facts of each kind at the limits of their fields, built, written, copied and read, and one past them.
 
-use super::bodies::{
-    CodeFields, DIGEST, Place, TokenFields, client, code, consent, redemption, retirement, reuse,
-    revocation, rotation, withdrawal,
-};
+use super::bodies::{CodeFields, DIGEST, Place, Says, TokenFields};
 use super::{has_bytes, is_kept, is_malformed};
-use crate::{Body, Fact, Sort};
+use crate::{Fact, Sort};
 use std::alloc::{AllocError, Global};
-use std::test::Fail;
 use tk_format::{FromBytes, ReadError, Reader};
 use tk_handle::Kind;
 
@@ -30,75 +26,55 @@ fn joined(alloc: Global, parts: &[Part]) -> Result<Vec<u8>, AllocError> {
     Ok(joined)
 }
 
-// Whether the body at the last dot has these bytes, so many of them, and so has the fact read from them.
-fn keeps(alloc: Global, body: Body, length: usize, parts: &[Part]) -> bool {
+// Whether the fact at the last dot has these bytes, so many of them, and so has the fact read from them.
+fn keeps(alloc: Global, says: &Says<'_>, length: usize, parts: &[Part]) -> bool {
     match joined(alloc, parts) {
-        Ok(bytes) => {
-            let bytes = bytes.as_slice();
-            has_bytes(alloc, LAST, body, bytes) && bytes.len() == length && is_kept(alloc, bytes)
+        Ok(joined) => {
+            let bytes = joined.as_slice();
+            has_bytes(alloc, LAST, says, bytes) && bytes.len() == length && is_kept(alloc, bytes)
         }
         Err(_) => false,
     }
 }
 
-fn refuses(alloc: Global, parts: &[Part]) -> Result<bool, Fail> {
-    let bytes = joined(alloc, parts)?;
-    Ok(is_malformed(alloc, bytes.as_slice()))
+fn refuses(alloc: Global, parts: &[Part]) -> bool {
+    match joined(alloc, parts) {
+        Ok(joined) => is_malformed(alloc, joined.as_slice()),
+        Err(_) => false,
+    }
 }
 
-const LAST_RETIREMENT: Part = (
-    b"\xff\xff\x7f\xff\xff\xff\xff\xff\xff\xff\x02\xff\xff\x7f\xff\xff\xff\xff\xff\xff\xff",
-    0,
-    0,
-);
+#[rattlefmt::skip]
+const LAST_RETIREMENT: Part = (b"\xff\xff\x7f\xff\xff\xff\xff\xff\xff\xff\x02\xff\xff\x7f\xff\xff\xff\xff\xff\xff\xff", 0, 0);
 
-const LAST_WITHDRAWAL: Part = (
-    b"\xff\xff\x7f\xff\xff\xff\xff\xff\xff\xff\x04\xff\xff\x7f\xff\xff\xff\xff\xff\xff\xff",
-    0,
-    0,
-);
+#[rattlefmt::skip]
+const LAST_WITHDRAWAL: Part = (b"\xff\xff\x7f\xff\xff\xff\xff\xff\xff\xff\x04\xff\xff\x7f\xff\xff\xff\xff\xff\xff\xff", 0, 0);
 
-const LAST_REVOCATION: Part = (
-    b"\xff\xff\x7f\xff\xff\xff\xff\xff\xff\xff\x08\xff\xff\x7f\xff\xff\xff\xff\xff\xff\xff\x030123456789abcdef0123456789abcdef\xff\xff\x7f\xff\xff\xff\xff\xff\xff\xff",
-    0,
-    0,
-);
+#[rattlefmt::skip]
+const LAST_REVOCATION: Part = (b"\xff\xff\x7f\xff\xff\xff\xff\xff\xff\xff\x08\xff\xff\x7f\xff\xff\xff\xff\xff\xff\xff\x030123456789abcdef0123456789abcdef\xff\xff\x7f\xff\xff\xff\xff\xff\xff\xff", 0, 0);
 
-const LAST_REUSE: Part = (
-    b"\xff\xff\x7f\xff\xff\xff\xff\xff\xff\xff\x09\xff\xff\x7f\xff\xff\xff\xff\xff\xff\xff\x03",
-    0,
-    0,
-);
+#[rattlefmt::skip]
+const LAST_REUSE: Part = (b"\xff\xff\x7f\xff\xff\xff\xff\xff\xff\xff\x09\xff\xff\x7f\xff\xff\xff\xff\xff\xff\xff\x03", 0, 0);
+
+// A fact, how many bytes it has, and which.
+#[rattlefmt::skip]
+const LAST_DOTS: &[(&str, Says<'static>, usize, Part)] = &[
+    ("a retirement", Says::ClientRetired(LAST), 21, LAST_RETIREMENT),
+    ("a withdrawal", Says::ConsentWithdrawn(LAST), 21, LAST_WITHDRAWAL),
+    ("a revocation", Says::TokenRevoked(LAST, Kind::Refresh, LAST), 64, LAST_REVOCATION),
+    ("a reuse", Says::ReuseSeen(LAST, Kind::Refresh), 22, LAST_REUSE),
+];
 
 #[test]
-fn dots_go_to_the_last(rt: HostRuntime) -> Result<(), Fail> {
-    let alloc = rt.alloc();
-    let retired = retirement(LAST)?;
-    assert!(rt;
-        keeps(alloc, retired, 21, &[LAST_RETIREMENT]),
-        "a retirement"
-    );
-    let withdrawn = withdrawal(LAST)?;
-    assert!(rt;
-        keeps(alloc, withdrawn, 21, &[LAST_WITHDRAWAL]),
-        "a withdrawal"
-    );
-    let revoked = revocation(LAST, Kind::Refresh, LAST)?;
-    assert!(rt;
-        keeps(alloc, revoked, 64, &[LAST_REVOCATION]),
-        "a revocation"
-    );
-    let reused = reuse(LAST, Kind::Refresh)?;
-    assert!(rt; keeps(alloc, reused, 22, &[LAST_REUSE]), "a reuse");
-    Ok(())
+fn dots_go_to_the_last(rt: HostRuntime) {
+    for (name, says, length, part) in LAST_DOTS {
+        assert!(rt; keeps(rt.alloc(), says, *length, &[*part]), "{name}");
+    }
 }
 
 // A consent for the client at the last dot, up to its subject.
-const CONSENT: Part = (
-    b"\xff\xff\x7f\xff\xff\xff\xff\xff\xff\xff\x03\xff\xff\x7f\xff\xff\xff\xff\xff\xff\xff",
-    0,
-    0,
-);
+#[rattlefmt::skip]
+const CONSENT: Part = (b"\xff\xff\x7f\xff\xff\xff\xff\xff\xff\xff\x03\xff\xff\x7f\xff\xff\xff\xff\xff\xff\xff", 0, 0);
 
 const SUBJECT: Part = (b"\x00\x80", b'!', 128);
 
@@ -110,10 +86,9 @@ const SCOPE: Part = (b"\x04\x00", b'~', 1_024);
 
 const LONG_SCOPE: Part = (b"\x04\x01", b'~', 1_025);
 
-fn long_consent(alloc: Global) -> Result<Body, Fail> {
-    let subject = vec![in alloc; b'!'; 128]?;
-    let scope = vec![in alloc; b'~'; 1_024]?;
-    consent(alloc, LAST, subject.as_slice(), scope.as_slice())
+fn keeps_long_consent(alloc: Global) -> bool {
+    let says = Says::ConsentGiven(LAST, &[b'!'; 128], &[b'~'; 1_024]);
+    keeps(alloc, &says, 1_177, &[CONSENT, SUBJECT, SCOPE])
 }
 
 const LONG_CONSENTS: &[(&str, &[Part])] = &[
@@ -122,25 +97,16 @@ const LONG_CONSENTS: &[(&str, &[Part])] = &[
 ];
 
 #[test]
-fn a_subject_has_128_bytes_and_a_scope_1024(rt: HostRuntime) -> Result<(), Fail> {
-    let alloc = rt.alloc();
-    let longest = [CONSENT, SUBJECT, SCOPE];
-    assert!(rt;
-        keeps(alloc, long_consent(alloc)?, 1_177, &longest),
-        "the longest"
-    );
+fn a_subject_has_128_bytes_and_a_scope_1024(rt: HostRuntime) {
+    assert!(rt; keeps_long_consent(rt.alloc()), "the longest");
     for &(name, parts) in LONG_CONSENTS {
-        assert!(rt; refuses(alloc, parts)?, "{name}");
+        assert!(rt; refuses(rt.alloc(), parts), "{name}");
     }
-    Ok(())
 }
 
 // A resource server at the last dot, up to its scope.
-const CLIENT: Part = (
-    b"\xff\xff\x7f\xff\xff\xff\xff\xff\xff\xff\x01\x020123456789abcdef0123456789abcdef",
-    0,
-    0,
-);
+#[rattlefmt::skip]
+const CLIENT: Part = (b"\xff\xff\x7f\xff\xff\xff\xff\xff\xff\xff\x01\x020123456789abcdef0123456789abcdef", 0, 0);
 
 const URI: Part = (b"\x02\x00", b'!', 512);
 
@@ -154,44 +120,33 @@ const EIGHT: Part = (b"\x08", 0, 0);
 
 const NINE: Part = (b"\x09", 0, 0);
 
-fn long_client(alloc: Global) -> Result<Body, Fail> {
-    let scope = vec![in alloc; b'~'; 1_024]?;
-    let longest = vec![in alloc; b'!'; 512]?;
-    let uri = longest.as_slice();
-    let uris = [uri, uri, uri, uri, uri, uri, uri, uri];
-    client(
-        alloc,
-        Sort::Resource(DIGEST),
-        scope.as_slice(),
-        uris.as_slice(),
-    )
+#[rattlefmt::skip]
+const LONG_CLIENT: &[Part] = &[CLIENT, SCOPE, EIGHT, URI, URI, URI, URI, URI, URI, URI, URI];
+
+#[rattlefmt::skip]
+const LONG_CLIENTS: &[(&str, &[Part])] = &[
+    ("nine URIs", &[CLIENT, SCOPE, NINE, URI, URI, URI, URI, URI, URI, URI, URI, URI]),
+    ("a URI of 513 bytes", &[CLIENT, SCOPE, EIGHT, URI, URI, URI, URI, URI, URI, URI, LONG_URI]),
+];
+
+fn keeps_long_client(alloc: Global) -> bool {
+    let uri = [b'!'; 512];
+    let uris: [&[u8]; 8] = [&uri, &uri, &uri, &uri, &uri, &uri, &uri, &uri];
+    let says = Says::ClientAdded(Sort::Resource(DIGEST), &[b'~'; 1_024], &uris);
+    keeps(alloc, &says, 5_183, LONG_CLIENT)
 }
 
 #[test]
-fn a_client_has_eight_uris_of_512_bytes(rt: HostRuntime) -> Result<(), Fail> {
-    let alloc = rt.alloc();
-    let eight = [CLIENT, SCOPE, EIGHT, URI, URI, URI, URI, URI, URI, URI, URI];
-    assert!(rt;
-        keeps(alloc, long_client(alloc)?, 5_183, &eight),
-        "the longest"
-    );
-    let nine = [
-        CLIENT, SCOPE, NINE, URI, URI, URI, URI, URI, URI, URI, URI, URI,
-    ];
-    assert!(rt; refuses(alloc, &nine)?, "nine URIs");
-    let longer = [
-        CLIENT, SCOPE, EIGHT, URI, URI, URI, URI, URI, URI, URI, LONG_URI,
-    ];
-    assert!(rt; refuses(alloc, &longer)?, "a URI of 513 bytes");
-    Ok(())
+fn a_client_has_eight_uris_of_512_bytes(rt: HostRuntime) {
+    assert!(rt; keeps_long_client(rt.alloc()), "the longest");
+    for &(name, parts) in LONG_CLIENTS {
+        assert!(rt; refuses(rt.alloc(), parts), "{name}");
+    }
 }
 
 // A code at the last dot, from the last moment to the same, up to its subject.
-const CODE: Part = (
-    b"\xff\xff\x7f\xff\xff\xff\xff\xff\xff\xff\x05\xff\xff\x7f\xff\xff\xff\xff\xff\xff\xff\xff\xff\x7f\xff\xff\xff\xff\xff\xff\xff0123456789abcdef0123456789abcdef\x00\x00\x00:\xff\xf4A\x7f\x00\x00\x00:\xff\xf4A\x7f\x00\x00\x00:\xff\xf4A\x7f",
-    0,
-    0,
-);
+#[rattlefmt::skip]
+const CODE: Part = (b"\xff\xff\x7f\xff\xff\xff\xff\xff\xff\xff\x05\xff\xff\x7f\xff\xff\xff\xff\xff\xff\xff\xff\xff\x7f\xff\xff\xff\xff\xff\xff\xff0123456789abcdef0123456789abcdef\x00\x00\x00:\xff\xf4A\x7f\x00\x00\x00:\xff\xf4A\x7f\x00\x00\x00:\xff\xf4A\x7f", 0, 0);
 
 const CHALLENGE: Part = (b"\x01\x02\x00\x80", b'-', 128);
 
@@ -199,77 +154,48 @@ const LONG_CHALLENGE: Part = (b"\x01\x02\x00\x81", b'-', 129);
 
 const SHORT_CHALLENGE: Part = (b"\x01\x02\x00\x2a", b'-', 42);
 
-fn long_code(alloc: Global) -> Result<Body, Fail> {
-    let subject = vec![in alloc; b'!'; 128]?;
-    let scope = vec![in alloc; b'~'; 1_024]?;
-    let uri = vec![in alloc; b'!'; 512]?;
-    let challenge = vec![in alloc; b'-'; 128]?;
-    code(
-        alloc,
-        CodeFields {
-            client: LAST,
-            consent: LAST,
-            start: LAST_MOMENT,
-            expiry: LAST_MOMENT,
-            family_end: LAST_MOMENT,
-            subject: subject.as_slice(),
-            scope: scope.as_slice(),
-            uri: uri.as_slice(),
-            challenge: challenge.as_slice(),
-        },
-    )
+fn keeps_long_code(alloc: Global) -> bool {
+    let says = Says::CodeIssued(CodeFields {
+        client: LAST,
+        consent: LAST,
+        start: LAST_MOMENT,
+        expiry: LAST_MOMENT,
+        family_end: LAST_MOMENT,
+        subject: &[b'!'; 128],
+        scope: &[b'~'; 1_024],
+        uri: &[b'!'; 512],
+        challenge: &[b'-'; 128],
+    });
+    keeps(alloc, &says, 1_889, &[CODE, SUBJECT, SCOPE, URI, CHALLENGE])
 }
 
+#[rattlefmt::skip]
 const OTHER_CODES: &[(&str, &[Part])] = &[
     ("no subject", &[CODE, NO_SUBJECT, SCOPE, URI, CHALLENGE]),
     ("no URI", &[CODE, SUBJECT, SCOPE, NO_URI, CHALLENGE]),
     ("a fragment", &[CODE, SUBJECT, SCOPE, FRAGMENT, CHALLENGE]),
-    (
-        "a URI of 513 bytes",
-        &[CODE, SUBJECT, SCOPE, LONG_URI, CHALLENGE],
-    ),
-    (
-        "a challenge of 129",
-        &[CODE, SUBJECT, SCOPE, URI, LONG_CHALLENGE],
-    ),
-    (
-        "a challenge of 42",
-        &[CODE, SUBJECT, SCOPE, URI, SHORT_CHALLENGE],
-    ),
+    ("a URI of 513 bytes", &[CODE, SUBJECT, SCOPE, LONG_URI, CHALLENGE]),
+    ("a challenge of 129", &[CODE, SUBJECT, SCOPE, URI, LONG_CHALLENGE]),
+    ("a challenge of 42", &[CODE, SUBJECT, SCOPE, URI, SHORT_CHALLENGE]),
 ];
 
 #[test]
-fn the_texts_of_a_code_have_their_limits(rt: HostRuntime) -> Result<(), Fail> {
-    let alloc = rt.alloc();
-    let longest = [CODE, SUBJECT, SCOPE, URI, CHALLENGE];
-    assert!(rt;
-        keeps(alloc, long_code(alloc)?, 1_889, &longest),
-        "the longest"
-    );
+fn the_texts_of_a_code_have_their_limits(rt: HostRuntime) {
+    assert!(rt; keeps_long_code(rt.alloc()), "the longest");
     for &(name, parts) in OTHER_CODES {
-        assert!(rt; refuses(alloc, parts)?, "{name}");
+        assert!(rt; refuses(rt.alloc(), parts), "{name}");
     }
-    Ok(())
 }
 
 // Tokens that begin and end at the last moment, up to their first scope.
-const REDEMPTION: Part = (
-    b"\xff\xff\x7f\xff\xff\xff\xff\xff\xff\xff\x06\xff\xff\x7f\xff\xff\xff\xff\xff\xff\xff\x00\x00\x00:\xff\xf4A\x7f0123456789abcdef0123456789abcdef\x00\x00\x00:\xff\xf4A\x7f",
-    0,
-    0,
-);
+#[rattlefmt::skip]
+const REDEMPTION: Part = (b"\xff\xff\x7f\xff\xff\xff\xff\xff\xff\xff\x06\xff\xff\x7f\xff\xff\xff\xff\xff\xff\xff\x00\x00\x00:\xff\xf4A\x7f0123456789abcdef0123456789abcdef\x00\x00\x00:\xff\xf4A\x7f", 0, 0);
 
-const LAST_ROTATION: Part = (
-    b"\xff\xff\x7f\xff\xff\xff\xff\xff\xff\xff\x07\xff\xff\x7f\xff\xff\xff\xff\xff\xff\xff\x27\x10\x00\x00\x00:\xff\xf4A\x7f0123456789abcdef0123456789abcdef\x00\x00\x00:\xff\xf4A\x7f",
-    0,
-    0,
-);
+#[rattlefmt::skip]
+const LAST_ROTATION: Part = (b"\xff\xff\x7f\xff\xff\xff\xff\xff\xff\xff\x07\xff\xff\x7f\xff\xff\xff\xff\xff\xff\xff\x27\x10\x00\x00\x00:\xff\xf4A\x7f0123456789abcdef0123456789abcdef\x00\x00\x00:\xff\xf4A\x7f", 0, 0);
 
-const REFRESH: Part = (
-    b"fedcba9876543210fedcba9876543210\x00\x00\x00:\xff\xf4A\x7f",
-    0,
-    0,
-);
+#[rattlefmt::skip]
+const REFRESH: Part = (b"fedcba9876543210fedcba9876543210\x00\x00\x00:\xff\xf4A\x7f", 0, 0);
 
 fn last_tokens(scope: &[u8]) -> TokenFields<'_> {
     TokenFields {
@@ -281,46 +207,45 @@ fn last_tokens(scope: &[u8]) -> TokenFields<'_> {
     }
 }
 
-fn long_redemption(alloc: Global) -> Result<Body, Fail> {
-    let scope = vec![in alloc; b'~'; 1_024]?;
-    redemption(alloc, last_tokens(scope.as_slice()))
+fn keeps_long_redemption(alloc: Global) -> bool {
+    let says = Says::CodeRedeemed(last_tokens(&[b'~'; 1_024]));
+    keeps(alloc, &says, 2_161, &[REDEMPTION, SCOPE, REFRESH, SCOPE])
 }
 
-fn long_rotation(alloc: Global) -> Result<Body, Fail> {
-    let scope = vec![in alloc; b'~'; 1_024]?;
-    rotation(alloc, 10_000, last_tokens(scope.as_slice()))
+fn keeps_long_rotation(alloc: Global) -> bool {
+    let says = Says::RefreshRotated(10_000, last_tokens(&[b'~'; 1_024]));
+    keeps(alloc, &says, 2_163, &[LAST_ROTATION, SCOPE, REFRESH, SCOPE])
 }
 
 #[test]
-fn both_tokens_have_scopes_of_1024_bytes(rt: HostRuntime) -> Result<(), Fail> {
-    let alloc = rt.alloc();
-    let redeemed = [REDEMPTION, SCOPE, REFRESH, SCOPE];
-    assert!(rt;
-        keeps(alloc, long_redemption(alloc)?, 2_161, &redeemed),
-        "a redemption"
-    );
-    let rotated = [LAST_ROTATION, SCOPE, REFRESH, SCOPE];
-    assert!(rt;
-        keeps(alloc, long_rotation(alloc)?, 2_163, &rotated),
-        "a rotation"
-    );
+fn both_tokens_have_scopes_of_1024_bytes(rt: HostRuntime) {
+    assert!(rt; keeps_long_redemption(rt.alloc()), "a redemption");
+    assert!(rt; keeps_long_rotation(rt.alloc()), "a rotation");
     let longer = [LAST_ROTATION, SCOPE, REFRESH, LONG_SCOPE];
-    assert!(rt; refuses(alloc, &longer)?, "a scope of 1,025 bytes");
-    Ok(())
+    assert!(rt; refuses(rt.alloc(), &longer), "a scope of 1,025 bytes");
 }
 
 const FRAME: Part = (b"\x20\x01", 0, 0);
 
 const URIS: Part = (b"\x08", b'!', 7_122);
 
+fn is_frame_malformed(alloc: Global, bytes: &[u8]) -> bool {
+    let mut reader = Reader::new(bytes);
+    let read = <Fact as FromBytes>::read_from(alloc, &mut reader);
+    matches!(read, Err(ReadError::Malformed))
+}
+
+// How long the frame is, and whether it is malformed.
+fn told_of_frame(alloc: Global) -> Option<(usize, bool)> {
+    match joined(alloc, &[FRAME, CLIENT, SCOPE, URIS]) {
+        Ok(bytes) => Some((bytes.len(), is_frame_malformed(alloc, bytes.as_slice()))),
+        Err(_) => None,
+    }
+}
+
 // No fact is that long, whatever it says.
 #[test]
-fn a_frame_of_8193_bytes_is_malformed(rt: HostRuntime) -> Result<(), Fail> {
-    let alloc = rt.alloc();
-    let bytes = joined(alloc, &[FRAME, CLIENT, SCOPE, URIS])?;
-    assert_eq!(rt; bytes.len(), 8_195);
-    let mut reader = Reader::new(bytes.as_slice());
-    let read = <Fact as FromBytes>::read_from(alloc, &mut reader);
-    assert!(rt; matches!(read, Err(ReadError::Malformed)));
-    Ok(())
+fn a_frame_of_8193_bytes_is_malformed(rt: HostRuntime) {
+    let told = told_of_frame(rt.alloc());
+    assert!(rt; told == Some((8_195, true)), "{told:?}");
 }
