@@ -28,11 +28,8 @@ mod verifiers;
 mod world;
 
 use crate::program::run_program;
-use std::net::{Net, TcpListener, TcpStream};
-use std::process::Abort;
-use std::rt::Files;
+use beginning::SCRIPT;
 use std::test::Fail;
-use std::time::Clock;
 
 /// What a run is given, and what it must give.
 #[derive(Clone, Copy)]
@@ -53,11 +50,11 @@ const CAP_ALONE_TOLD: &str = "error: a value is required for '--cap <N>' but non
 For more information, try '--help'.
 ";
 
-/// A run of this script that is printed.
-fn printed<'a>(name: &'a str, input: &'a [u8], output: &'a str) -> Row<'a> {
+/// A run that prints this.
+fn printed<'a>(name: &'a str, words: &'a [&'a str], input: &'a [u8], output: &'a str) -> Row<'a> {
     Row {
         name,
-        words: &["tokend", "script"],
+        words,
         input,
         output,
         faults: "",
@@ -65,33 +62,53 @@ fn printed<'a>(name: &'a str, input: &'a [u8], output: &'a str) -> Row<'a> {
     }
 }
 
-/// Runs each row, over memory.
-fn run_rows<
-    R: AllocGlobal + Abort + Files + Clock + Net<Listener = TcpListener, Stream = TcpStream>,
->(rt: &R, rows: &[Row<'_>]) -> Result<(), Fail> {
-    for row in rows {
-        run_row(rt, row)?;
+/// A run that is refused.
+fn refused<'a>(name: &'a str, words: &'a [&'a str], input: &'a [u8], faults: &'a str) -> Row<'a> {
+    Row {
+        name,
+        words,
+        input,
+        output: "",
+        faults,
+        status: 2,
     }
-    Ok(())
 }
 
-fn run_row<
-    R: AllocGlobal + Abort + Files + Clock + Net<Listener = TcpListener, Stream = TcpStream>,
->(rt: &R, row: &Row<'_>) -> Result<(), Fail> {
-    let (name, mut input) = (row.name, row.input);
+/// Runs a row, over memory.
+fn run_row(rt: &HostRuntime, row: &Row<'_>) -> Result<(), Fail> {
+    let mut input = row.input;
+    let (mut output, mut faults) = (Vec::new(rt.alloc()), Vec::new(rt.alloc()));
+    let status = run_program(rt, row.words, &mut input, &mut output, &mut faults);
+    if is_wanted(row, output.as_slice(), faults.as_slice(), status) {
+        Ok(())
+    } else {
+        Err(unwanted(row.name, output.as_slice(), faults.as_slice(), status))
+    }
+}
+
+fn is_wanted(row: &Row<'_>, output: &[u8], faults: &[u8], status: u8) -> bool {
+    output == row.output.as_bytes() && faults == row.faults.as_bytes() && status == row.status
+}
+
+// What is told of a run that isn't as its row says: its status, its faults, and the end of its output.
+fn unwanted(name: &str, output: &[u8], faults: &[u8], status: u8) -> Fail {
+    let end = output
+        .get(output.len().saturating_sub(300)..)
+        .unwrap_or(output);
+    let end = str::from_utf8(end).unwrap_or("no text");
+    let faults = str::from_utf8(faults).unwrap_or("no text");
+    Fail::new(format_args!("{name}: status {status}: {faults}: {end}"))
+}
+
+/// What is printed of a script, where it ends well.
+fn printed_of(rt: &HostRuntime, script: &[u8]) -> Option<Vec<u8>> {
+    let mut input = script;
     let mut output = Vec::new(rt.alloc());
     let mut faults = Vec::new(rt.alloc());
-    let status = run_program(rt, row.words, &mut input, &mut output, &mut faults);
-    assert_eq!(rt;
-        str::from_utf8(output.as_slice())?,
-        row.output,
-        "output of {name}"
-    );
-    assert_eq!(rt;
-        str::from_utf8(faults.as_slice())?,
-        row.faults,
-        "faults of {name}"
-    );
-    assert_eq!(rt; status, row.status, "status of {name}");
-    Ok(())
+    let status = run_program(rt, &SCRIPT, &mut input, &mut output, &mut faults);
+    if status == 0 && faults.is_empty() {
+        Some(output)
+    } else {
+        None
+    }
 }

@@ -1,6 +1,6 @@
 //! The words of the command line: what is run, shown or refused of them.
 
-use super::{CAP_ALONE, CAP_ALONE_TOLD, Row, run_rows};
+use super::{CAP_ALONE, CAP_ALONE_TOLD, printed, refused, run_row};
 use std::test::Fail;
 
 const HELP: &str = "An authorisation server whose regions merge
@@ -31,227 +31,71 @@ Options:
   -h, --help         Print help
 ";
 
-// A run with these words and a script of one region.
-fn asked<'a>(name: &'a str, words: &'a [&'a str]) -> Row<'a> {
-    Row {
-        name,
-        words,
-        input: b"open 1\n",
-        output: "opened 1\n",
-        faults: "",
-        status: 0,
-    }
-}
+// Words beside a script of one region, and what is printed or told of them.
+type Shown = (&'static str, &'static [&'static str], &'static str);
 
-// A run with these words that prints something else in place of running the script.
-fn shown<'a>(name: &'a str, words: &'a [&'a str], output: &'a str) -> Row<'a> {
-    Row {
-        name,
-        words,
-        input: b"open 1\n",
-        output,
-        faults: "",
-        status: 0,
-    }
-}
-
-// A run with these words that are refused.
-fn refused<'a>(name: &'a str, words: &'a [&'a str], faults: &'a str) -> Row<'a> {
-    Row {
-        name,
-        words,
-        input: b"open 1\n",
-        output: "",
-        faults,
-        status: 2,
-    }
-}
-
-#[test]
-fn words_ask_for_a_script(rt: HostRuntime) -> Result<(), Fail> {
-    let rows = [
-        asked("no option", &["tokend", "script"]),
-        asked("the least cap", &["tokend", "script", "--cap", "1"]),
-        asked(
-            "a cap after an equals sign",
-            &["tokend", "script", "--cap=5"],
-        ),
-        asked(
-            "the greatest cap",
-            &["tokend", "script", "--cap", "9223372036854775806"],
-        ),
-        asked(
-            "the least lives",
-            &[
-                "tokend",
-                "script",
-                "--code",
-                "1",
-                "--access",
-                "1",
-                "--refresh",
-                "1",
-                "--family",
-                "1",
-            ],
-        ),
-        asked(
-            "the greatest lives",
-            &[
-                "tokend",
-                "script",
-                "--code=600",
-                "--access=86400",
-                "--refresh=31536000",
-                "--family=315360000",
-            ],
-        ),
-    ];
-    run_rows(&rt, &rows)
-}
-
-#[test]
-fn help_and_version_go_to_the_output(rt: HostRuntime) -> Result<(), Fail> {
-    let rows = [
-        shown("help", &["tokend", "--help"], HELP),
-        shown("short help", &["tokend", "-h"], HELP),
-        shown("the command help", &["tokend", "help"], HELP),
-        shown(
-            "help of script",
-            &["tokend", "script", "--help"],
-            SCRIPT_HELP,
-        ),
-        shown(
-            "the command help of script",
-            &["tokend", "help", "script"],
-            SCRIPT_HELP,
-        ),
-        shown("version", &["tokend", "--version"], "tokend 0.1.0\n"),
-        shown("short version", &["tokend", "-V"], "tokend 0.1.0\n"),
-    ];
-    run_rows(&rt, &rows)
-}
-
-#[test]
-fn a_missing_or_unknown_subcommand_is_told(rt: HostRuntime) -> Result<(), Fail> {
-    let rows = [
-        refused(
-            "no subcommand",
-            &["tokend"],
-            "error: 'tokend' requires a subcommand but one was not provided
-  [subcommands: script, loopback, serve, help]
-
-Usage: tokend <COMMAND>
-
-For more information, try '--help'.
-",
-        ),
-        refused(
-            "an unknown subcommand",
-            &["tokend", "prune"],
-            "error: unrecognized subcommand 'prune'
-
-Usage: tokend <COMMAND>
-
-For more information, try '--help'.
-",
-        ),
-    ];
-    run_rows(&rt, &rows)
-}
-
-#[test]
-fn words_that_script_lacks_are_told(rt: HostRuntime) -> Result<(), Fail> {
-    let rows = [
-        refused(
-            "a word too many",
-            &["tokend", "script", "again"],
-            "error: unexpected argument 'again' found
-
-Usage: tokend script [OPTIONS]
-
-For more information, try '--help'.
-",
-        ),
-        refused(
-            "an unknown option",
-            &["tokend", "script", "--life", "60"],
-            "error: unexpected argument '--life' found
-
-Usage: tokend script [OPTIONS]
-
-For more information, try '--help'.
-",
-        ),
-    ];
-    run_rows(&rt, &rows)
-}
-
-// A life that is too long, by its option, and its range.
-const LIVES: &[(&str, &str, &str)] = &[
-    ("--code", "601", "600"),
-    ("--access", "86401", "86400"),
-    ("--refresh", "31536001", "31536000"),
-    ("--family", "315360001", "315360000"),
-];
-
-#[test]
-fn lives_out_of_range_are_told(rt: HostRuntime) -> Result<(), Fail> {
-    for &(option, life, greatest) in LIVES {
-        let told = format!(in rt.alloc();
-            "error: invalid value '{life}' for '{option} <N>': {life} is not in 1..={greatest}\n\nFor more information, try '--help'.\n"
-        )?;
-        let words = ["tokend", "script", option, life];
-        run_rows(&rt, &[refused(option, &words, told.as_str())])?;
+// Runs them.
+fn show_each(rt: &HostRuntime, rows: &[Shown]) -> Result<(), Fail> {
+    for &(name, words, output) in rows {
+        run_row(rt, &printed(name, words, b"open 1\n", output))?;
     }
     Ok(())
 }
 
+#[rattlefmt::skip]
+const ASKED: &[Shown] = &[
+    ("no option", &["tokend", "script"], "opened 1\n"),
+    ("the least cap", &["tokend", "script", "--cap", "1"], "opened 1\n"),
+    ("a cap after an equals sign", &["tokend", "script", "--cap=5"], "opened 1\n"),
+    ("the greatest cap", &["tokend", "script", "--cap", "9223372036854775806"], "opened 1\n"),
+    ("the least lives", &["tokend", "script", "--code", "1", "--access", "1", "--refresh", "1", "--family", "1"], "opened 1\n"),
+    ("the greatest lives", &["tokend", "script", "--code=600", "--access=86400", "--refresh=31536000", "--family=315360000"], "opened 1\n"),
+];
+
 #[test]
-fn caps_out_of_range_are_told(rt: HostRuntime) -> Result<(), Fail> {
-    let rows = [
-        refused(
-            "a cap of nothing",
-            &["tokend", "script", "--cap", "0"],
-            "error: invalid value '0' for '--cap <N>': 0 is not in 1..=9223372036854775806
-
-For more information, try '--help'.
-",
-        ),
-        refused(
-            "a cap above the greatest",
-            &["tokend", "script", "--cap", "9223372036854775807"],
-            "error: invalid value '9223372036854775807' for '--cap <N>': 9223372036854775807 is not in 1..=9223372036854775806
-
-For more information, try '--help'.
-",
-        ),
-        refused(
-            "a cap that is no number",
-            &["tokend", "script", "--cap", "x"],
-            "error: invalid value 'x' for '--cap <N>': invalid digit found in string
-
-For more information, try '--help'.
-",
-        ),
-    ];
-    run_rows(&rt, &rows)
+fn words_ask_for_a_script(rt: HostRuntime) -> Result<(), Fail> {
+    show_each(&rt, ASKED)
 }
 
+#[rattlefmt::skip]
+const SHOWN: &[Shown] = &[
+    ("help", &["tokend", "--help"], HELP),
+    ("short help", &["tokend", "-h"], HELP),
+    ("the command help", &["tokend", "help"], HELP),
+    ("help of script", &["tokend", "script", "--help"], SCRIPT_HELP),
+    ("the command help of script", &["tokend", "help", "script"], SCRIPT_HELP),
+    ("version", &["tokend", "--version"], "tokend 0.1.0\n"),
+    ("short version", &["tokend", "-V"], "tokend 0.1.0\n"),
+];
+
 #[test]
-fn a_cap_is_given_once_and_with_a_value(rt: HostRuntime) -> Result<(), Fail> {
-    let rows = [
-        refused(
-            "two caps",
-            &["tokend", "script", "--cap", "1", "--cap", "2"],
-            "error: the argument '--cap <N>' cannot be used multiple times
+fn help_and_version_go_to_the_output(rt: HostRuntime) -> Result<(), Fail> {
+    show_each(&rt, SHOWN)
+}
 
-Usage: tokend script [OPTIONS]
+#[rattlefmt::skip]
+const REFUSED: &[Shown] = &[
+    ("no subcommand", &["tokend"], "error: 'tokend' requires a subcommand but one was not provided\n  [subcommands: script, loopback, serve, help]\n\nUsage: tokend <COMMAND>\n\nFor more information, try '--help'.\n"),
+    ("an unknown subcommand", &["tokend", "prune"], "error: unrecognized subcommand 'prune'\n\nUsage: tokend <COMMAND>\n\nFor more information, try '--help'.\n"),
+    ("a word too many", &["tokend", "script", "again"], "error: unexpected argument 'again' found\n\nUsage: tokend script [OPTIONS]\n\nFor more information, try '--help'.\n"),
+    ("an unknown option", &["tokend", "script", "--life", "60"], "error: unexpected argument '--life' found\n\nUsage: tokend script [OPTIONS]\n\nFor more information, try '--help'.\n"),
+    // Lives that are too long.
+    ("--code", &["tokend", "script", "--code", "601"], "error: invalid value '601' for '--code <N>': 601 is not in 1..=600\n\nFor more information, try '--help'.\n"),
+    ("--access", &["tokend", "script", "--access", "86401"], "error: invalid value '86401' for '--access <N>': 86401 is not in 1..=86400\n\nFor more information, try '--help'.\n"),
+    ("--refresh", &["tokend", "script", "--refresh", "31536001"], "error: invalid value '31536001' for '--refresh <N>': 31536001 is not in 1..=31536000\n\nFor more information, try '--help'.\n"),
+    ("--family", &["tokend", "script", "--family", "315360001"], "error: invalid value '315360001' for '--family <N>': 315360001 is not in 1..=315360000\n\nFor more information, try '--help'.\n"),
+    // Caps out of range, twice, or without a value.
+    ("a cap of nothing", &["tokend", "script", "--cap", "0"], "error: invalid value '0' for '--cap <N>': 0 is not in 1..=9223372036854775806\n\nFor more information, try '--help'.\n"),
+    ("a cap above the greatest", &["tokend", "script", "--cap", "9223372036854775807"], "error: invalid value '9223372036854775807' for '--cap <N>': 9223372036854775807 is not in 1..=9223372036854775806\n\nFor more information, try '--help'.\n"),
+    ("a cap that is no number", &["tokend", "script", "--cap", "x"], "error: invalid value 'x' for '--cap <N>': invalid digit found in string\n\nFor more information, try '--help'.\n"),
+    ("two caps", &["tokend", "script", "--cap", "1", "--cap", "2"], "error: the argument '--cap <N>' cannot be used multiple times\n\nUsage: tokend script [OPTIONS]\n\nFor more information, try '--help'.\n"),
+    ("a cap without a value", &CAP_ALONE, CAP_ALONE_TOLD),
+];
 
-For more information, try '--help'.
-",
-        ),
-        refused("a cap without a value", &CAP_ALONE, CAP_ALONE_TOLD),
-    ];
-    run_rows(&rt, &rows)
+#[test]
+fn words_that_are_refused_are_told(rt: HostRuntime) -> Result<(), Fail> {
+    for &(name, words, faults) in REFUSED {
+        run_row(&rt, &refused(name, words, b"open 1\n", faults))?;
+    }
+    Ok(())
 }

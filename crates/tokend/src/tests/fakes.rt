@@ -1,4 +1,4 @@
-//! Readers and writers in memory that fail, are interrupted or are stuck.
+//! A reader and a writer in memory that fail.
 
 use std::io::{self, ErrorKind, Read, Write};
 
@@ -26,88 +26,65 @@ impl Read for FailingReader<'_> {
     }
 }
 
-/// A writer that takes some bytes and then fails, and counts what is tried after that.
+/// A writer that takes so many bytes, at most so many at a time, and then fails, where it's interrupted only once. It
+/// counts its failures. One that is stuck fails when it is to pass on what it took.
 #[derive(Drop)]
 pub struct FailingWriter {
     pub taken: Vec<u8>,
     room: usize,
+    step: usize,
+    kind: ErrorKind,
+    is_stuck: bool,
     pub failures: u64,
 }
 
 impl FailingWriter {
-    pub fn new<R: AllocGlobal>(rt: &R, room: usize) -> Self {
+    /// One that takes some bytes, and nothing more.
+    pub fn new(rt: &HostRuntime, room: usize) -> Self {
         FailingWriter {
             taken: Vec::new(rt.alloc()),
             room,
+            step: usize::MAX,
+            kind: ErrorKind::BrokenPipe,
+            is_stuck: false,
             failures: 0,
         }
+    }
+
+    /// One that takes a byte at a time, and is interrupted where it has taken this many.
+    pub fn interrupted(rt: &HostRuntime, place: usize) -> Self {
+        let mut writer = Self::new(rt, place);
+        (writer.step, writer.kind) = (1, ErrorKind::Interrupted);
+        writer
+    }
+
+    /// One that takes all, and fails when it is to pass it on.
+    pub fn stuck(rt: &HostRuntime) -> Self {
+        let mut writer = Self::new(rt, usize::MAX);
+        writer.is_stuck = true;
+        writer
     }
 }
 
 impl Write for FailingWriter {
     fn write(&mut self, buf: &[u8]) -> io::Result<usize> {
-        let count = buf.len().min(self.room);
+        let left = self.room.saturating_sub(self.taken.len());
+        let count = buf.len().min(self.step).min(left);
         if count == 0 {
             self.failures = self.failures.saturating_add(1);
+            if self.kind == ErrorKind::Interrupted {
+                self.room = usize::MAX;
+            }
+            return Err(io::Error::from(self.kind));
+        }
+        self.taken.extend_from_slice(&buf[..count])?;
+        Ok(count)
+    }
+
+    fn flush(&mut self) -> io::Result<()> {
+        if self.is_stuck {
             return Err(io::Error::from(ErrorKind::BrokenPipe));
         }
-        self.taken.extend_from_slice(&buf[..count])?;
-        self.room -= count;
-        Ok(count)
-    }
-
-    fn flush(&mut self) -> io::Result<()> {
         Ok(())
-    }
-}
-
-/// A writer that takes a byte at a time, and is interrupted once, where it has taken this many.
-#[derive(Drop)]
-pub struct InterruptedWriter {
-    pub taken: Vec<u8>,
-    place: usize,
-    pub interruptions: u64,
-}
-
-impl InterruptedWriter {
-    pub fn new<R: AllocGlobal>(rt: &R, place: usize) -> Self {
-        InterruptedWriter {
-            taken: Vec::new(rt.alloc()),
-            place,
-            interruptions: 0,
-        }
-    }
-}
-
-impl Write for InterruptedWriter {
-    fn write(&mut self, buf: &[u8]) -> io::Result<usize> {
-        if self.interruptions == 0 && self.taken.len() == self.place {
-            self.interruptions = 1;
-            return Err(io::Error::from(ErrorKind::Interrupted));
-        }
-        let count = buf.len().min(1);
-        self.taken.extend_from_slice(&buf[..count])?;
-        Ok(count)
-    }
-
-    fn flush(&mut self) -> io::Result<()> {
-        Ok(())
-    }
-}
-
-/// A writer that takes all, and fails when it is to pass it on.
-#[derive(Drop)]
-pub struct StuckWriter {
-    pub taken: Vec<u8>,
-}
-
-impl Write for StuckWriter {
-    fn write(&mut self, buf: &[u8]) -> io::Result<usize> {
-        self.taken.extend_from_slice(buf)?;
-        Ok(buf.len())
-    }
-
-    fn flush(&mut self) -> io::Result<()> {
-        Err(io::Error::from(ErrorKind::BrokenPipe))
     }
 }

@@ -1,34 +1,23 @@
 //! Lines that are no events.
 
-use super::{Row, run_row};
-use std::net::{Net, TcpListener, TcpStream};
-use std::process::Abort;
-use std::rt::Files;
+use super::beginning::SCRIPT;
+use super::{refused, run_row};
 use std::test::Fail;
-use std::time::Clock;
 
-// Lines that have none of the forms.
-static FORMS: [(&str, &[u8]); 23] = [
+#[rattlefmt::skip]
+const LINES: &[(&str, &[u8])] = &[
+    // Lines that have none of the forms.
     ("an unknown name", b"close 1"),
     ("a name in capitals", b"OPEN 1"),
     ("a prune", b"prune 1 1000"),
     ("open alone", b"open"),
     ("open with two regions", b"open 1 2"),
     ("a request without a body", b"req 1 1000 GET /authorize - -"),
-    (
-        "a request with one field more",
-        b"req 1 1000 GET /authorize - - - -",
-    ),
-    (
-        "a method in small letters",
-        b"req 1 1000 get /authorize - - -",
-    ),
+    ("a request with one field more", b"req 1 1000 GET /authorize - - - -"),
+    ("a method in small letters", b"req 1 1000 get /authorize - - -"),
     ("a method with a digit", b"req 1 1000 GE7 /authorize - - -"),
     ("client with too few fields", b"client 1 1000 public - read"),
-    (
-        "client with too many fields",
-        b"client 1 1000 public - read https://app.example/cb https://app.example/cd",
-    ),
+    ("client with too many fields", b"client 1 1000 public - read https://app.example/cb https://app.example/cd"),
     ("retire without an id", b"retire 1 1003"),
     ("retire of two ids", b"retire 1 1003 c1-1 c1-2"),
     ("look without an id", b"look 1 1001"),
@@ -41,10 +30,7 @@ static FORMS: [(&str, &[u8]); 23] = [
     ("pull alone", b"pull"),
     ("deliver without a region", b"deliver 0"),
     ("deliver with a cursor", b"deliver 0 1 -"),
-];
-
-// Lines whose fields aren't parted by single spaces, or hold other bytes than visible ASCII.
-static SPACES: [(&str, &[u8]); 15] = [
+    // Lines whose fields aren't parted by single spaces, or hold other bytes than visible ASCII.
     ("a space in front", b" open 1"),
     ("a space behind", b"open 1 "),
     ("two spaces", b"open  1"),
@@ -60,10 +46,7 @@ static SPACES: [(&str, &[u8]); 15] = [
     ("a delete", b"look 1 1001 c1\x7f1"),
     ("a letter past ASCII", b"look 1 1001 caf\xc3\xa9"),
     ("a byte that is no text", b"look 1 1001 \xff"),
-];
-
-// Lines with a number that is none, or out of its range.
-static NUMBERS: [(&str, &[u8]); 24] = [
+    // Lines with a number that is none, or out of its range.
     ("region 0", b"open 0"),
     ("a region above the greatest", b"open 65536"),
     ("a region with a leading zero", b"open 01"),
@@ -73,63 +56,33 @@ static NUMBERS: [(&str, &[u8]); 24] = [
     ("a region with a point", b"open 1.0"),
     ("a region that is a dash", b"open -"),
     ("a region past 64 bits", b"open 18446744073709551617"),
-    (
-        "a region of many digits",
-        b"open 999999999999999999999999999999999999999999999999999999999999999999999999999999999999999999999999999999999999999999999999999999999999999999999999999999999999999999999999999999999999999999999999999999999999999999999999999999999999999999999999999999999999999999999999999999999999999999999999999999999999",
-    ),
-    (
-        "a region of many zeros",
-        b"open 000000000000000000000000000000000000000000000000000000000000000000000000000000000000000000000000000000000000000000000000000000000000000000000000000000000000000000000000000000000000000000000000000000000000000000000000000000000000000000000000000000000000000000000000000000000000000000000000000000000000",
-    ),
-    (
-        "a client in region 0",
-        b"client 0 1000 public - read https://app.example/cb",
-    ),
+    ("a region of many digits", b"open 999999999999999999999999999999999999999999999999999999999999999999999999999999999999999999999999999999999999999999999999999999999999999999999999999999999999999999999999999999999999999999999999999999999999999999999999999999999999999999999999999999999999999999999999999999999999999999999999999999999999"),
+    ("a region of many zeros", b"open 000000000000000000000000000000000000000000000000000000000000000000000000000000000000000000000000000000000000000000000000000000000000000000000000000000000000000000000000000000000000000000000000000000000000000000000000000000000000000000000000000000000000000000000000000000000000000000000000000000000000"),
+    ("a client in region 0", b"client 0 1000 public - read https://app.example/cb"),
     ("a request to region 0", b"req 0 1000 GET /authorize - - -"),
-    (
-        "a request's moment above the greatest",
-        b"req 1 253402300800 GET /authorize - - -",
-    ),
+    ("a request's moment above the greatest", b"req 1 253402300800 GET /authorize - - -"),
     ("a moment above the greatest", b"look 1 253402300800 c1-1"),
     ("a moment with a leading zero", b"look 1 00 c1-1"),
-    (
-        "a moment of many digits",
-        b"retire 1 111111111111111111111111111111111111111111111111111111111111111111111111111111111111111111111111111111111111111111111111111111111111111111111111111111111111111111111111111111111111111111111111111111111111111111111111111111111111111111111111111111111111111111111111111111111111111111111111111111111111 c1-1",
-    ),
+    ("a moment of many digits", b"retire 1 111111111111111111111111111111111111111111111111111111111111111111111111111111111111111111111111111111111111111111111111111111111111111111111111111111111111111111111111111111111111111111111111111111111111111111111111111111111111111111111111111111111111111111111111111111111111111111111111111111111111 c1-1"),
     ("a moment that is a dash", b"look 1 - c1-1"),
-    (
-        "a client's moment above the greatest",
-        b"client 1 253402300800 public - read https://app.example/cb",
-    ),
+    ("a client's moment above the greatest", b"client 1 253402300800 public - read https://app.example/cb"),
     ("a bundle past 64 bits", b"deliver 18446744073709551616 1"),
     ("a bundle with a leading zero", b"deliver 00 1"),
     ("a bundle that is a dash", b"deliver - 1"),
     ("a bundle for region 0", b"deliver 0 0"),
     ("a pull at region 0", b"pull 0 - -"),
-];
-
-// Lines whose vector is none.
-static VECTORS: [(&str, &[u8]); 22] = [
+    // Lines whose vector is none.
     ("a vector without a serial", b"pull 1 1 -"),
     ("an empty serial", b"pull 1 1: -"),
     ("an empty region", b"pull 1 :1 -"),
     ("a colon alone", b"pull 1 : -"),
     ("serial 0", b"pull 1 1:0 -"),
-    (
-        "a serial above the greatest",
-        b"pull 1 1:9223372036854775808 -",
-    ),
-    (
-        "a serial of many digits",
-        b"pull 1 1:999999999999999999999999999999999999999999999999999999999999999999999999999999999999999999999999999999999999999999999999999999999999999999999999999999999999999999999999999999999999999999999999999999999999999999999999999999999999999999999999999999999999999999999999999999999999999999999999999999999999 -",
-    ),
+    ("a serial above the greatest", b"pull 1 1:9223372036854775808 -"),
+    ("a serial of many digits", b"pull 1 1:999999999999999999999999999999999999999999999999999999999999999999999999999999999999999999999999999999999999999999999999999999999999999999999999999999999999999999999999999999999999999999999999999999999999999999999999999999999999999999999999999999999999999999999999999999999999999999999999999999999999 -"),
     ("a serial with a leading zero", b"pull 1 1:01 -"),
     ("a serial with a plus", b"pull 1 1:+1 -"),
     ("region 0 in a vector", b"pull 1 0:1 -"),
-    (
-        "a region above the greatest in a vector",
-        b"pull 1 65536:1 -",
-    ),
+    ("a region above the greatest in a vector", b"pull 1 65536:1 -"),
     ("a leading zero in a vector's region", b"pull 1 01:1 -"),
     ("falling regions", b"pull 1 2:1,1:1 -"),
     ("a region twice", b"pull 1 1:1,1:2 -"),
@@ -143,53 +96,23 @@ static VECTORS: [(&str, &[u8]); 22] = [
     ("a semicolon", b"pull 1 1:1;2:1 -"),
 ];
 
+// Behind a line that opens a region, and an empty one.
+fn refuse_third(rt: &HostRuntime, name: &str, line: &[u8]) -> Result<(), Fail> {
+    let mut script = Vec::from_slice(rt.alloc(), b"open 1\n\n")?;
+    script.extend_from_slice(line)?;
+    script.extend_from_slice(b"\nopen 0\n")?;
+    run_row(
+        rt,
+        &refused(name, &SCRIPT, script.as_slice(), "tokend: bad line 3\n"),
+    )
+}
+
 // Each line is bad, whether a line before it opens a region or not, and nothing is printed.
-fn refuse_each<
-    R: AllocGlobal + Abort + Files + Clock + Net<Listener = TcpListener, Stream = TcpStream>,
->(rt: &R, lines: &'static [(&'static str, &'static [u8])]) -> Result<(), Fail> {
-    for (name, line) in lines {
-        refuse(rt, name, line, "tokend: bad line 1\n")?;
-        let mut script = Vec::from_slice(rt.alloc(), b"open 1\n\n")?;
-        script.extend_from_slice(line)?;
-        script.extend_from_slice(b"\nopen 0\n")?;
-        refuse(rt, name, script.as_slice(), "tokend: bad line 3\n")?;
+#[test]
+fn lines_that_are_no_events_are_bad(rt: HostRuntime) -> Result<(), Fail> {
+    for &(name, line) in LINES {
+        run_row(&rt, &refused(name, &SCRIPT, line, "tokend: bad line 1\n"))?;
+        refuse_third(&rt, name, line)?;
     }
     Ok(())
-}
-
-fn refuse<R: AllocGlobal + Abort + Files + Clock + Net<Listener = TcpListener, Stream = TcpStream>>(
-    rt: &R,
-    name: &str,
-    script: &[u8],
-    faults: &str,
-) -> Result<(), Fail> {
-    let row = Row {
-        name,
-        words: &["tokend", "script"],
-        input: script,
-        output: "",
-        faults,
-        status: 2,
-    };
-    run_row(rt, &row)
-}
-
-#[test]
-fn lines_of_another_form_are_bad(rt: HostRuntime) -> Result<(), Fail> {
-    refuse_each(&rt, &FORMS)
-}
-
-#[test]
-fn fields_are_visible_and_parted_by_one_space(rt: HostRuntime) -> Result<(), Fail> {
-    refuse_each(&rt, &SPACES)
-}
-
-#[test]
-fn numbers_are_plain_decimals_in_their_ranges(rt: HostRuntime) -> Result<(), Fail> {
-    refuse_each(&rt, &NUMBERS)
-}
-
-#[test]
-fn vectors_have_rising_regions(rt: HostRuntime) -> Result<(), Fail> {
-    refuse_each(&rt, &VECTORS)
 }

@@ -3,41 +3,18 @@ mod granted;
 mod introspected;
 mod revoked;
 
-use super::beginning::{Beginning, SCRIPT, run_behind};
-use std::net::{Net, TcpListener, TcpStream};
-use std::process::Abort;
-use std::rt::Files;
+use super::beginning::{Event, SCRIPT, TWO, joined, run_behind};
 use std::test::Fail;
-use std::time::Clock;
 
 // Region 1 has the client c1-1, two codes, and the tokens of the second one. Region 2 has all but those tokens.
-const KNOWN: Beginning<'static> = Beginning {
-    words: &SCRIPT,
-    lines: KNOWN_LINES,
-    told: KNOWN_TOLD,
-};
-
-const KNOWN_LINES: &str = "open 1
-open 2
-client 1 1000 confidential s3cret read+write https://app.example/cb
-req 1 1000 POST /admin/consent - - client_id=c1-1&subject=ann&scope=read+write
-req 1 1000 GET /authorize?response_type=code&client_id=c1-1 - ann -
-req 1 1000 GET /authorize?response_type=code&client_id=c1-1 - ann -
-pull 1 - -
-deliver 0 2
-req 1 1010 POST /token - - grant_type=authorization_code&code=AQEAAQAAAAAAAAAEAAAAAAAAAB4AAAAAAAAAHwAAAAAAAAAg&client_id=c1-1&client_secret=s3cret
-";
-
-const KNOWN_TOLD: &str = r#"opened 1
-opened 2
-reply 201 {"client_id":"c1-1"}
-reply 201 {"consent_id":"g1-2"}
-reply 302 https://app.example/cb?code=AQEAAQAAAAAAAAADAAAAAAAAABgAAAAAAAAAGQAAAAAAAAAa
-reply 302 https://app.example/cb?code=AQEAAQAAAAAAAAAEAAAAAAAAAB4AAAAAAAAAHwAAAAAAAAAg
-bundle 0 4 1:4 end
-took 4
-reply 200 {"access_token":"AQIAAQAAAAAAAAAFAAAAAAAAADAAAAAAAAAAMQAAAAAAAAAy","expires_in":3600,"refresh_token":"AQMAAQAAAAAAAAAFAAAAAAAAADMAAAAAAAAANAAAAAAAAAA1","scope":"read write","token_type":"Bearer"}
-"#;
+#[rattlefmt::skip]
+const KNOWN: &[Event<'static>] = &[
+    ("req 1 1000 GET /authorize?response_type=code&client_id=c1-1 - ann -", "reply 302 https://app.example/cb?code=AQEAAQAAAAAAAAAEAAAAAAAAAB4AAAAAAAAAHwAAAAAAAAAg"),
+    ("pull 1 - -", "bundle 0 4 1:4 end"),
+    ("deliver 0 2", "took 4"),
+    ("req 1 1010 POST /token - - grant_type=authorization_code&code=AQEAAQAAAAAAAAAEAAAAAAAAAB4AAAAAAAAAHwAAAAAAAAAg&client_id=c1-1&client_secret=s3cret",
+     r#"reply 200 {"access_token":"AQIAAQAAAAAAAAAFAAAAAAAAADAAAAAAAAAAMQAAAAAAAAAy","expires_in":3600,"refresh_token":"AQMAAQAAAAAAAAAFAAAAAAAAADMAAAAAAAAANAAAAAAAAAA1","scope":"read write","token_type":"Bearer"}"#),
+];
 
 // The codes of 1:3 and of 1:4.
 const FREE_CODE: &str = "AQEAAQAAAAAAAAADAAAAAAAAABgAAAAAAAAAGQAAAAAAAAAa";
@@ -49,78 +26,95 @@ const ACCESS: &str = "AQIAAQAAAAAAAAAFAAAAAAAAADAAAAAAAAAAMQAAAAAAAAAy";
 
 const REFRESH: &str = "AQMAAQAAAAAAAAAFAAAAAAAAADMAAAAAAAAANAAAAAAAAAA1";
 
-// What brings them into a state: lines, and what is printed of these.
-struct State<'a> {
-    lines: &'a str,
-    told: &'a str,
-}
+// The tokens of 1:6, made for the refresh token of 1:5.
+const CHILD_ACCESS: &str = "AQIAAQAAAAAAAAAGAAAAAAAAADYAAAAAAAAANwAAAAAAAAA4";
+
+const CHILD_REFRESH: &str = "AQMAAQAAAAAAAAAGAAAAAAAAADkAAAAAAAAAOgAAAAAAAAA7";
+
+// Tokens of 1:5 with other words, and of 1:3, which made a code.
+const OTHER_ACCESS: &str = "AQIAAQAAAAAAAAAFAAAAAAAAAAEAAAAAAAAAAgAAAAAAAAAD";
+
+const OTHER_REFRESH: &str = "AQMAAQAAAAAAAAAFAAAAAAAAAAEAAAAAAAAAAgAAAAAAAAAD";
+
+const ACCESS_OF_CODE: &str = "AQIAAQAAAAAAAAADAAAAAAAAABgAAAAAAAAAGQAAAAAAAAAa";
+
+const REFRESH_OF_CODE: &str = "AQMAAQAAAAAAAAADAAAAAAAAABgAAAAAAAAAGQAAAAAAAAAa";
+
+// Tokens of 1:9 and of 3:1, which nobody made.
+const OWN_ACCESS: &str = "AQIAAQAAAAAAAAAJAAAAAAAAADYAAAAAAAAANwAAAAAAAAA4";
+
+const OWN_REFRESH: &str = "AQMAAQAAAAAAAAAJAAAAAAAAADkAAAAAAAAAOgAAAAAAAAA7";
+
+const FAR_ACCESS: &str = "AQIAAwAAAAAAAAABAAAAAAAAADYAAAAAAAAANwAAAAAAAAA4";
+
+const FAR_REFRESH: &str = "AQMAAwAAAAAAAAABAAAAAAAAADkAAAAAAAAAOgAAAAAAAAA7";
+
+// What brings them into a state.
+type State = &'static [Event<'static>];
 
 // The code of 1:3 and the tokens of 1:5 are live, until their ends come; the code of 1:4 is used.
-const LIVE: State<'static> = State {
-    lines: "",
-    told: "",
-};
+const LIVE: State = &[];
 
 // The code of 1:4 is redeemed in region 2 too, and region 1 hears of it. So its family is dead.
-const DEAD: State<'static> = State {
-    lines: "req 2 1010 POST /token - - grant_type=authorization_code&code=AQEAAQAAAAAAAAAEAAAAAAAAAB4AAAAAAAAAHwAAAAAAAAAg&client_id=c1-1&client_secret=s3cret
-pull 2 1:4 -
-deliver 1 1
-",
-    told: r#"reply 200 {"access_token":"AQIAAgAAAAAAAAABAAAAAAAAADYAAAAAAAAANwAAAAAAAAA4","expires_in":3600,"refresh_token":"AQMAAgAAAAAAAAABAAAAAAAAADkAAAAAAAAAOgAAAAAAAAA7","scope":"read write","token_type":"Bearer"}
-bundle 1 1 2:1 end
-took 1
-"#,
-};
+#[rattlefmt::skip]
+const DEAD: State = &[
+    ("req 2 1010 POST /token - - grant_type=authorization_code&code=AQEAAQAAAAAAAAAEAAAAAAAAAB4AAAAAAAAAHwAAAAAAAAAg&client_id=c1-1&client_secret=s3cret",
+     r#"reply 200 {"access_token":"AQIAAgAAAAAAAAABAAAAAAAAADYAAAAAAAAANwAAAAAAAAA4","expires_in":3600,"refresh_token":"AQMAAgAAAAAAAAABAAAAAAAAADkAAAAAAAAAOgAAAAAAAAA7","scope":"read write","token_type":"Bearer"}"#),
+    ("pull 2 1:4 -", "bundle 1 1 2:1 end"),
+    ("deliver 1 1", "took 1"),
+];
 
 // The consent is withdrawn on which all of them stand.
-const WITHDRAWN: State<'static> = State {
-    lines: "req 1 1015 POST /admin/withdraw - - consent_id=g1-2
-",
-    told: r#"reply 200 {"consent_id":"g1-2"}
-"#,
-};
+#[rattlefmt::skip]
+const WITHDRAWN: State = &[
+    ("req 1 1015 POST /admin/withdraw - - consent_id=g1-2", r#"reply 200 {"consent_id":"g1-2"}"#),
+];
 
 // The refresh token of 1:5 is used, by 1:6.
-const USED: State<'static> = State {
-    lines: "req 1 1015 POST /token - - grant_type=refresh_token&refresh_token=AQMAAQAAAAAAAAAFAAAAAAAAADMAAAAAAAAANAAAAAAAAAA1&client_id=c1-1&client_secret=s3cret
-",
-    told: r#"reply 200 {"access_token":"AQIAAQAAAAAAAAAGAAAAAAAAADYAAAAAAAAANwAAAAAAAAA4","expires_in":3600,"refresh_token":"AQMAAQAAAAAAAAAGAAAAAAAAADkAAAAAAAAAOgAAAAAAAAA7","scope":"read write","token_type":"Bearer"}
-"#,
-};
+#[rattlefmt::skip]
+const USED: State = &[
+    ("req 1 1015 POST /token - - grant_type=refresh_token&refresh_token=AQMAAQAAAAAAAAAFAAAAAAAAADMAAAAAAAAANAAAAAAAAAA1&client_id=c1-1&client_secret=s3cret",
+     r#"reply 200 {"access_token":"AQIAAQAAAAAAAAAGAAAAAAAAADYAAAAAAAAANwAAAAAAAAA4","expires_in":3600,"refresh_token":"AQMAAQAAAAAAAAAGAAAAAAAAADkAAAAAAAAAOgAAAAAAAAA7","scope":"read write","token_type":"Bearer"}"#),
+];
 
 // The access token of 1:5 is revoked.
-const ENDED: State<'static> = State {
-    lines: "req 1 1015 POST /revoke - - token=AQIAAQAAAAAAAAAFAAAAAAAAADAAAAAAAAAAMQAAAAAAAAAy&client_id=c1-1&client_secret=s3cret
-",
-    told: "reply 200
-",
-};
+#[rattlefmt::skip]
+const ENDED: State = &[
+    ("req 1 1015 POST /revoke - - token=AQIAAQAAAAAAAAAFAAAAAAAAADAAAAAAAAAAMQAAAAAAAAAy&client_id=c1-1&client_secret=s3cret", "reply 200"),
+];
 
 // Region 2 gets 1:6, whose parent 1:5 it lacks.
-const BROKEN: State<'static> = State {
-    lines: "req 1 1015 POST /token - - grant_type=refresh_token&refresh_token=AQMAAQAAAAAAAAAFAAAAAAAAADMAAAAAAAAANAAAAAAAAAA1&client_id=c1-1&client_secret=s3cret
-pull 1 1:5 -
-deliver 1 2
-",
-    told: r#"reply 200 {"access_token":"AQIAAQAAAAAAAAAGAAAAAAAAADYAAAAAAAAANwAAAAAAAAA4","expires_in":3600,"refresh_token":"AQMAAQAAAAAAAAAGAAAAAAAAADkAAAAAAAAAOgAAAAAAAAA7","scope":"read write","token_type":"Bearer"}
-bundle 1 1 1:6 end
-took 1
-"#,
-};
+#[rattlefmt::skip]
+const BROKEN: State = &[
+    ("req 1 1015 POST /token - - grant_type=refresh_token&refresh_token=AQMAAQAAAAAAAAAFAAAAAAAAADMAAAAAAAAANAAAAAAAAAA1&client_id=c1-1&client_secret=s3cret",
+     r#"reply 200 {"access_token":"AQIAAQAAAAAAAAAGAAAAAAAAADYAAAAAAAAANwAAAAAAAAA4","expires_in":3600,"refresh_token":"AQMAAQAAAAAAAAAGAAAAAAAAADkAAAAAAAAAOgAAAAAAAAA7","scope":"read write","token_type":"Bearer"}"#),
+    ("pull 1 1:5 -", "bundle 1 1 1:6 end"),
+    ("deliver 1 2", "took 1"),
+];
 
-// Runs a use of a token in a state, which is answered so, and then asks what the region holds.
-fn run_use<
-    R: AllocGlobal + Abort + Files + Clock + Net<Listener = TcpListener, Stream = TcpStream>,
->(
-    rt: &R,
-    name: &str,
-    state: &State<'_>,
-    region: u16,
-    (line, answer, held): (&str, &str, &str),
-) -> Result<(), Fail> {
-    let (before, before_told) = (state.lines, state.told);
-    let lines = format!(in rt.alloc(); "{before}{line}\npull {region} - -\n")?;
-    let told = format!(in rt.alloc(); "{before_told}{answer}\n{held}\n")?;
-    run_behind(rt, &KNOWN, name, lines.as_str(), told.as_str())
+// A name, the state, the region and the moment of a use, the token, the answer, and what the region holds then.
+type Use = (Text, State, Text, Text, Text, Text, Text);
+
+type Text = &'static str;
+
+// Asks so for each use, and then what the region holds.
+fn run_uses(rt: &HostRuntime, asked: Text, uses: &[Use]) -> Result<(), Fail> {
+    for used in uses {
+        run_use(rt, asked, used)?;
+    }
+    Ok(())
+}
+
+fn run_use(rt: &HostRuntime, asked: Text, used: &Use) -> Result<(), Fail> {
+    let &(name, state, region, now, token, answer, held) = used;
+    let client = "&client_id=c1-1&client_secret=s3cret\npull ";
+    let lines = joined(
+        rt.alloc(),
+        &[
+            "req ", region, " ", now, asked, token, client, region, " - -\n",
+        ],
+    )?;
+    let told = joined(rt.alloc(), &[answer, "\n", held, "\n"])?;
+    let texts = (lines.as_str(), told.as_str());
+    run_behind(rt, &(&SCRIPT, &[TWO, KNOWN]), name, state, texts)
 }

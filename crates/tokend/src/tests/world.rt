@@ -1,173 +1,123 @@
 //! Scripts of each event, and what is printed of them.
 
-use super::{Row, printed, run_row, run_rows};
+use super::beginning::{
+    ALONE, Beginning, Event, INVALID_REQUEST, INVALID_SCOPE, NOT_FOUND, SCRIPT, Script,
+    UNAVAILABLE, put_events, run_each, run_script,
+};
+use super::{printed, run_row};
+use std::alloc::AllocError;
 use std::test::Fail;
 
-#[test]
-fn a_client_is_known_where_its_bundle_came(rt: HostRuntime) -> Result<(), Fail> {
-    let row = printed(
-        "a client added in one region and retired in another",
-        b"open 1
-open 2
-client 1 1000 public - read https://app.example/cb
-look 2 1001 c1-1
-pull 1 - -
-deliver 0 2
-deliver 0 2
-look 2 1002 c1-1
-retire 2 1003 c1-1
-pull 2 1:1 -
-deliver 1 1
-look 1 1004 c1-1
-",
-        r#"opened 1
-opened 2
-reply 201 {"client_id":"c1-1"}
-reply 404 {"error":"not_found"}
-bundle 0 1 1:1 end
-took 1
-took 0
-reply 200 {"client_id":"c1-1","kind":"public","live":true,"scope":"read"}
-reply 200 {"client_id":"c1-1"}
-bundle 1 1 2:1 end
-took 1
-reply 200 {"client_id":"c1-1","kind":"public","live":false,"scope":"read"}
-"#,
-    );
-    run_row(&rt, &row)
-}
+// Lines that are no events, and others, as text and what is printed of it.
+#[rattlefmt::skip]
+const NO_EVENTS: &[(&str, &[u8], &str)] = &[
+    ("an empty script", b"", ""),
+    ("an empty line", b"\n", ""),
+    ("a comment without an end", b"# open 1", ""),
+    ("comments and empty lines", b"# any bytes: \x00\t\r\xff\n\nopen 1\n#\n#open 2\n\n", "opened 1\n"),
+    ("a last line without an end", b"open 1\nopen 2", "opened 1\nopened 2\n"),
+];
 
 #[test]
 fn lines_that_are_no_events_print_nothing(rt: HostRuntime) -> Result<(), Fail> {
-    let rows = [
-        printed("an empty script", b"", ""),
-        printed("an empty line", b"\n", ""),
-        printed("a comment without an end", b"# open 1", ""),
-        printed(
-            "comments and empty lines",
-            b"# any bytes: \x00\t\r\xff\n\nopen 1\n#\n#open 2\n\n",
-            "opened 1\n",
-        ),
-        printed(
-            "a last line without an end",
-            b"open 1\nopen 2",
-            "opened 1\nopened 2\n",
-        ),
-    ];
-    run_rows(&rt, &rows)
+    for &(name, input, output) in NO_EVENTS {
+        run_row(&rt, &printed(name, &SCRIPT, input, output))?;
+    }
+    Ok(())
 }
 
-#[test]
-fn what_is_not_there_is_told(rt: HostRuntime) -> Result<(), Fail> {
-    let rows = [
-        printed(
-            "a region and a bundle that are not there",
-            b"deliver 0 1\nopen 1\nopen 1\ndeliver 0 1\n",
-            "no region\nopened 1\nnumber taken\nno bundle\n",
-        ),
-        printed(
-            "requests and a pull without a region",
-            b"look 1 0 c1-1\nretire 1 0 c1-1\nclient 1 0 public - read https://app.example/cb\npull 1 - -\n",
-            "no region\nno region\nno region\nno region\n",
-        ),
-        printed(
-            "a pull of nothing",
-            b"open 1\npull 1 - -\npull 1 1:1,2:5 -\n",
-            "opened 1\nbundle 0 0 - end\nbundle 1 0 - end\n",
-        ),
-    ];
-    run_rows(&rt, &rows)
-}
+#[rattlefmt::skip]
+const EVENTS: &[Script<'static>] = &[
+    // A client is known where its bundle came.
+    ("a client added in one region and retired in another", &[
+        ("open 1", "opened 1"),
+        ("open 2", "opened 2"),
+        ("client 1 1000 public - read https://app.example/cb", r#"reply 201 {"client_id":"c1-1"}"#),
+        ("look 2 1001 c1-1", NOT_FOUND),
+        ("pull 1 - -", "bundle 0 1 1:1 end"),
+        ("deliver 0 2", "took 1"),
+        ("deliver 0 2", "took 0"),
+        ("look 2 1002 c1-1", r#"reply 200 {"client_id":"c1-1","kind":"public","live":true,"scope":"read"}"#),
+        ("retire 2 1003 c1-1", r#"reply 200 {"client_id":"c1-1"}"#),
+        ("pull 2 1:1 -", "bundle 1 1 2:1 end"),
+        ("deliver 1 1", "took 1"),
+        ("look 1 1004 c1-1", r#"reply 200 {"client_id":"c1-1","kind":"public","live":false,"scope":"read"}"#),
+    ]),
+    ("the greatest numbers", &[
+        ("open 65535", "opened 65535"),
+        ("look 65535 253402300799 c65535-9223372036854775807", NOT_FOUND),
+        ("pull 65535 1:9223372036854775807,65535:1 -", "bundle 0 0 - end"),
+        ("deliver 18446744073709551615 65535", "no bundle"),
+    ]),
+    // A dash is a text where none makes no sense.
+    ("a dash as an id and as a scope", &[
+        ("open 1", "opened 1"),
+        ("look 1 0 -", NOT_FOUND),
+        ("retire 1 0 -", NOT_FOUND),
+        ("client 1 0 public - - https://app.example/cb", r#"reply 201 {"client_id":"c1-1"}"#),
+        ("look 1 0 c1-1", r#"reply 200 {"client_id":"c1-1","kind":"public","live":true,"scope":"-"}"#),
+    ]),
+    // Bad parameters are answered, and no bad lines.
+    ("a scope and URIs that aren't readable", &[
+        ("open 1", "opened 1"),
+        (r#"client 1 0 public - a"b https://app.example/cb"#, INVALID_SCOPE),
+        ("client 1 0 public - read https://app.example/cb#top", INVALID_REQUEST),
+        ("look 1 0 c01-1", NOT_FOUND),
+    ]),
+    ("a region and a bundle that are not there", &[("deliver 0 1", "no region"), ("open 1", "opened 1"), ("open 1", "number taken"), ("deliver 0 1", "no bundle")]),
+    ("requests and a pull without a region", &[
+        ("look 1 0 c1-1", "no region"), ("retire 1 0 c1-1", "no region"), ("client 1 0 public - read https://app.example/cb", "no region"), ("pull 1 - -", "no region"),
+    ]),
+    ("a pull of nothing", &[("open 1", "opened 1"), ("pull 1 - -", "bundle 0 0 - end"), ("pull 1 1:1,2:5 -", "bundle 1 0 - end")]),
+];
 
 #[test]
-fn greatest_numbers_are_good(rt: HostRuntime) -> Result<(), Fail> {
-    let row = printed(
-        "the greatest numbers",
-        b"open 65535
-look 65535 253402300799 c65535-9223372036854775807
-pull 65535 1:9223372036854775807,65535:1 -
-deliver 18446744073709551615 65535
-",
-        r#"opened 65535
-reply 404 {"error":"not_found"}
-bundle 0 0 - end
-no bundle
-"#,
-    );
-    run_row(&rt, &row)
+fn each_event_is_told(rt: HostRuntime) -> Result<(), Fail> {
+    run_each(&rt, &ALONE, EVENTS)
 }
 
-#[test]
-fn a_dash_is_a_text_where_none_makes_no_sense(rt: HostRuntime) -> Result<(), Fail> {
-    let row = printed(
-        "a dash as an id and as a scope",
-        b"open 1
-look 1 0 -
-retire 1 0 -
-client 1 0 public - - https://app.example/cb
-look 1 0 c1-1
-",
-        r#"opened 1
-reply 404 {"error":"not_found"}
-reply 404 {"error":"not_found"}
-reply 201 {"client_id":"c1-1"}
-reply 200 {"client_id":"c1-1","kind":"public","live":true,"scope":"-"}
-"#,
-    );
-    run_row(&rt, &row)
-}
+const CAPPED: Beginning<'static> = (&["tokend", "script", "--cap", "1"], &[]);
 
-#[test]
-fn bad_parameters_are_answered_and_not_bad_lines(rt: HostRuntime) -> Result<(), Fail> {
-    let row = printed(
-        "a scope and URIs that aren't readable",
-        b"open 1
-client 1 0 public - a\"b https://app.example/cb
-client 1 0 public - read https://app.example/cb#top
-look 1 0 c01-1
-",
-        r#"opened 1
-reply 400 {"error":"invalid_scope"}
-reply 400 {"error":"invalid_request"}
-reply 404 {"error":"not_found"}
-"#,
-    );
-    run_row(&rt, &row)
-}
+#[rattlefmt::skip]
+const ONE_FACT: &[Event<'static>] = &[
+    ("open 1", "opened 1"),
+    ("client 1 1000 public - read https://app.example/cb", r#"reply 201 {"client_id":"c1-1"}"#),
+    ("retire 1 1001 c1-1", UNAVAILABLE),
+];
 
 #[test]
 fn a_cap_stops_facts(rt: HostRuntime) -> Result<(), Fail> {
-    let row = Row {
-        name: "a cap of one",
-        words: &["tokend", "script", "--cap", "1"],
-        input: b"open 1
-client 1 1000 public - read https://app.example/cb
-retire 1 1001 c1-1
-",
-        output: r#"opened 1
-reply 201 {"client_id":"c1-1"}
-reply 503 {"error":"temporarily_unavailable"}
-"#,
-        faults: "",
-        status: 0,
-    };
-    run_row(&rt, &row)
+    run_script(&rt, &CAPPED, "a cap of one", ONE_FACT)
 }
 
-#[test]
-fn a_long_answer_comes_in_pages(rt: HostRuntime) -> Result<(), Fail> {
-    let mut script = String::from_str(rt.alloc(), "open 1\nopen 2\n")?;
-    let mut output = String::from_str(rt.alloc(), "opened 1\nopened 2\n")?;
+const BEGUN: &[Event<'static>] = &[("open 1", "opened 1"), ("open 2", "opened 2")];
+
+const PAGES: &[Event<'static>] = &[
+    ("pull 1 - -", "bundle 0 128 1:128 more"),
+    ("deliver 0 2", "took 128"),
+    ("pull 1 1:128 -", "bundle 1 1 1:129 end"),
+    ("deliver 1 2", "took 1"),
+];
+
+fn put_pages(script: &mut String, output: &mut String) -> Result<(), AllocError> {
+    put_events(script, output, BEGUN)?;
     for client in 0..129u16 {
+        let serial = client.saturating_add(1);
         writeln!(
             script,
             "client 1 {client} public - read https://app.example/cb"
         )?;
-        let serial = client.saturating_add(1);
         writeln!(output, "reply 201 {{\"client_id\":\"c1-{serial}\"}}")?;
     }
-    script.push_str("pull 1 - -\ndeliver 0 2\npull 1 1:128 -\ndeliver 1 2\n")?;
-    output.push_str("bundle 0 128 1:128 more\ntook 128\nbundle 1 1 1:129 end\ntook 1\n")?;
-    let row = printed("129 facts", script.as_bytes(), output.as_str());
-    run_row(&rt, &row)
+    put_events(script, output, PAGES)
+}
+
+#[test]
+fn a_long_answer_comes_in_pages(rt: HostRuntime) -> Result<(), Fail> {
+    let (mut script, mut output) = (String::new(rt.alloc()), String::new(rt.alloc()));
+    put_pages(&mut script, &mut output)?;
+    run_row(
+        &rt,
+        &printed("129 facts", &SCRIPT, script.as_bytes(), output.as_str()),
+    )
 }
