@@ -15,14 +15,8 @@ use tk_message::{Decision, Endpoint, Lives, Params, Payload, Place, Reply, Reque
 
 // What a request is called, what is sent, and when; the status and the body that it is answered; and the bytes of the fact that it makes,
 // as it would stand at 1:9, or none.
-type Row = (
-    &'static str,
-    &'static str,
-    u64,
-    u16,
-    &'static str,
-    &'static [u8],
-);
+#[rattlefmt::skip]
+type Row = (&'static str, &'static str, u64, u16, &'static str, &'static [u8]);
 
 // The facts of the ledger, spelled out. The client c1-1 with the secret `s3cret`, and the consent g1-2 of the subject `an"n`. A code
 // (1:3), redeemed at 1:4 for tokens to 4,610 and 87,410, the access token's scope narrower; the refresh token was rotated at 1:5
