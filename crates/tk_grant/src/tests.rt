@@ -15,14 +15,8 @@ use tk_message::{Decision, Endpoint, Lives, Params, Payload, Place, Reply, Reque
 
 // What a request is called, what is sent, and when; the status and the body that it is answered; and the bytes of the fact that it makes,
 // as it would stand at 1:7, or none.
-type Row = (
-    &'static str,
-    &'static str,
-    u64,
-    u16,
-    &'static str,
-    &'static [u8],
-);
+#[rattlefmt::skip]
+type Row = (&'static str, &'static str, u64, u16, &'static str, &'static [u8]);
 
 // The facts of the ledger, spelled out: the client c1-1 with the secret `s3cret` and ann's consent g1-2; a code with a
 // challenge (1:3), one whose request named the URI (1:4) and one that is redeemed (1:5), all to 1,060 in families to 2,593,000; the

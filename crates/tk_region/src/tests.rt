@@ -123,87 +123,23 @@ fn with_first(alloc: Global) -> Option<Region> {
 }
 
 // A bundle's facts, what taking it in answers, and what the region then holds.
+#[rattlefmt::skip]
 const BUNDLES: &[(&str, &[Retired], Result<u16, TakeError>, &[Retired])] = &[
     ("nothing", &[], Ok(0), &FIRST),
-    (
-        "a new fact",
-        &[((1, 3), (1, 9))],
-        Ok(1),
-        &[((1, 1), (1, 9)), ((1, 3), (1, 9)), ((2, 1), (1, 8))],
-    ),
+    ("a new fact", &[((1, 3), (1, 9))], Ok(1), &[((1, 1), (1, 9)), ((1, 3), (1, 9)), ((2, 1), (1, 8))]),
     ("all that is held", &FIRST, Ok(0), &FIRST),
-    (
-        "a held fact and a new one",
-        &[((2, 1), (1, 8)), ((3, 1), (1, 9))],
-        Ok(1),
-        &[((1, 1), (1, 9)), ((2, 1), (1, 8)), ((3, 1), (1, 9))],
-    ),
-    (
-        "its next fact",
-        &[((2, 2), (1, 9))],
-        Err(TakeError::OwnNumber),
-        &FIRST,
-    ),
-    (
-        "a later fact of its own",
-        &[((2, 7), (1, 9))],
-        Err(TakeError::OwnNumber),
-        &FIRST,
-    ),
-    (
-        "its next fact behind new ones",
-        &[((1, 2), (1, 9)), ((2, 2), (1, 9)), ((3, 1), (1, 9))],
-        Err(TakeError::OwnNumber),
-        &FIRST,
-    ),
-    (
-        "another body",
-        &[((1, 1), (1, 7))],
-        Err(TakeError::Conflict),
-        &FIRST,
-    ),
-    (
-        "another body for its own fact",
-        &[((2, 1), (1, 7))],
-        Err(TakeError::Conflict),
-        &FIRST,
-    ),
-    (
-        "another body behind a new fact",
-        &[((1, 2), (1, 9)), ((2, 1), (1, 7))],
-        Err(TakeError::Conflict),
-        &FIRST,
-    ),
-    (
-        "another body, and then its next fact",
-        &[((1, 1), (1, 7)), ((2, 2), (1, 9))],
-        Err(TakeError::OwnNumber),
-        &FIRST,
-    ),
-    (
-        "dots that fall",
-        &[((1, 3), (1, 9)), ((1, 2), (1, 9))],
-        Err(TakeError::Malformed),
-        &FIRST,
-    ),
-    (
-        "a dot twice",
-        &[((1, 3), (1, 9)), ((1, 3), (1, 9))],
-        Err(TakeError::Malformed),
-        &FIRST,
-    ),
-    (
-        "its next fact, and dots that fall",
-        &[((2, 2), (1, 9)), ((1, 1), (1, 7))],
-        Err(TakeError::Malformed),
-        &FIRST,
-    ),
-    (
-        "the serial 0",
-        &[((1, 0), (1, 9))],
-        Err(TakeError::Malformed),
-        &FIRST,
-    ),
+    ("a held fact and a new one", &[((2, 1), (1, 8)), ((3, 1), (1, 9))], Ok(1), &[((1, 1), (1, 9)), ((2, 1), (1, 8)), ((3, 1), (1, 9))]),
+    ("its next fact", &[((2, 2), (1, 9))], Err(TakeError::OwnNumber), &FIRST),
+    ("a later fact of its own", &[((2, 7), (1, 9))], Err(TakeError::OwnNumber), &FIRST),
+    ("its next fact behind new ones", &[((1, 2), (1, 9)), ((2, 2), (1, 9)), ((3, 1), (1, 9))], Err(TakeError::OwnNumber), &FIRST),
+    ("another body", &[((1, 1), (1, 7))], Err(TakeError::Conflict), &FIRST),
+    ("another body for its own fact", &[((2, 1), (1, 7))], Err(TakeError::Conflict), &FIRST),
+    ("another body behind a new fact", &[((1, 2), (1, 9)), ((2, 1), (1, 7))], Err(TakeError::Conflict), &FIRST),
+    ("another body, and then its next fact", &[((1, 1), (1, 7)), ((2, 2), (1, 9))], Err(TakeError::OwnNumber), &FIRST),
+    ("dots that fall", &[((1, 3), (1, 9)), ((1, 2), (1, 9))], Err(TakeError::Malformed), &FIRST),
+    ("a dot twice", &[((1, 3), (1, 9)), ((1, 3), (1, 9))], Err(TakeError::Malformed), &FIRST),
+    ("its next fact, and dots that fall", &[((2, 2), (1, 9)), ((1, 1), (1, 7))], Err(TakeError::Malformed), &FIRST),
+    ("the serial 0", &[((1, 0), (1, 9))], Err(TakeError::Malformed), &FIRST),
 ];
 
 // Whether the region with the first facts answers so to the bundle, and what it then holds.
@@ -250,20 +186,16 @@ fn a_torn_bundle_is_malformed(rt: HostRuntime) {
 }
 
 // Bundles in the order in which they come, and how many facts of each are new.
+#[rattlefmt::skip]
 const DELIVERIES: &[(&str, &[Retired], u16)] = &[
     ("the newer one", &[((1, 3), (1, 9)), ((3, 1), (1, 9))], 2),
     ("the older one", &[((1, 1), (1, 9)), ((1, 2), (1, 9))], 2),
-    (
-        "the newer one again",
-        &[((1, 3), (1, 9)), ((3, 1), (1, 9))],
-        0,
-    ),
-    (
-        "one that reaches into both",
-        &[((1, 2), (1, 9)), ((1, 3), (1, 9)), ((1, 4), (1, 9))],
-        1,
-    ),
+    ("the newer one again", &[((1, 3), (1, 9)), ((3, 1), (1, 9))], 0),
+    ("one that reaches into both", &[((1, 2), (1, 9)), ((1, 3), (1, 9)), ((1, 4), (1, 9))], 1),
 ];
+
+#[rattlefmt::skip]
+const DELIVERED: [Retired; 5] = [((1, 1), (1, 9)), ((1, 2), (1, 9)), ((1, 3), (1, 9)), ((1, 4), (1, 9)), ((3, 1), (1, 9))];
 
 // The first of them that isn't taken in so.
 fn first_refused(alloc: Global, region: &mut Region) -> Option<&'static str> {
@@ -281,14 +213,7 @@ fn bundles_come_in_any_order(rt: HostRuntime) -> Result<(), Fail> {
     let mut region = new_region(alloc, 5).ok_or("a region")?;
     let refused = first_refused(alloc, &mut region);
     assert!(rt; refused.is_none(), "{refused:?}");
-    let all = [
-        ((1, 1), (1, 9)),
-        ((1, 2), (1, 9)),
-        ((1, 3), (1, 9)),
-        ((1, 4), (1, 9)),
-        ((3, 1), (1, 9)),
-    ];
-    assert!(rt; holds(alloc, &region, &all), "four bundles");
+    assert!(rt; holds(alloc, &region, &DELIVERED), "four bundles");
     Ok(())
 }
 
@@ -345,22 +270,12 @@ fn a_fact_is_recorded_and_none_is_above_the_cap(rt: HostRuntime) -> Result<(), F
 }
 
 // What a bundle of three may leave: none of its facts, the first, the first two, or all.
+#[rattlefmt::skip]
 const LEFT: [&[Retired]; 4] = [
     &FIRST,
     &[((1, 1), (1, 9)), ((1, 2), (1, 9)), ((2, 1), (1, 8))],
-    &[
-        ((1, 1), (1, 9)),
-        ((1, 2), (1, 9)),
-        ((1, 3), (1, 9)),
-        ((2, 1), (1, 8)),
-    ],
-    &[
-        ((1, 1), (1, 9)),
-        ((1, 2), (1, 9)),
-        ((1, 3), (1, 9)),
-        ((2, 1), (1, 8)),
-        ((3, 1), (1, 9)),
-    ],
+    &[((1, 1), (1, 9)), ((1, 2), (1, 9)), ((1, 3), (1, 9)), ((2, 1), (1, 8))],
+    &[((1, 1), (1, 9)), ((1, 2), (1, 9)), ((1, 3), (1, 9)), ((2, 1), (1, 8)), ((3, 1), (1, 9))],
 ];
 
 // Where a bundle of three is taken in: what that answers, how many of its facts are then held, and whether they are the first.

@@ -6,39 +6,20 @@ use std::test::Fail;
 const GREATEST_CAP: u64 = 9_223_372_036_854_775_806;
 
 // Code, access, refresh, family, cap, and whether they are settings.
+#[rattlefmt::skip]
 const SETTINGS: &[(&str, [u64; 5], bool)] = &[
     ("the least", [1, 1, 1, 1, 1], true),
-    (
-        "the greatest",
-        [600, 86_400, 31_536_000, 315_360_000, GREATEST_CAP],
-        true,
-    ),
+    ("the greatest", [600, 86_400, 31_536_000, 315_360_000, GREATEST_CAP], true),
     ("no life of a code", [0, 1, 1, 1, 1], false),
     ("a code of 601 seconds", [601, 1, 1, 1, 1], false),
     ("no life of an access token", [1, 0, 1, 1, 1], false),
-    (
-        "an access token of more than a day",
-        [1, 86_401, 1, 1, 1],
-        false,
-    ),
+    ("an access token of more than a day", [1, 86_401, 1, 1, 1], false),
     ("no life of a refresh token", [1, 1, 0, 1, 1], false),
-    (
-        "a refresh token of more than a year",
-        [1, 1, 31_536_001, 1, 1],
-        false,
-    ),
+    ("a refresh token of more than a year", [1, 1, 31_536_001, 1, 1], false),
     ("no life of a family", [1, 1, 1, 0, 1], false),
-    (
-        "a family of more than ten years",
-        [1, 1, 1, 315_360_001, 1],
-        false,
-    ),
+    ("a family of more than ten years", [1, 1, 1, 315_360_001, 1], false),
     ("no cap", [1, 1, 1, 1, 0], false),
-    (
-        "a cap at the greatest serial",
-        [1, 1, 1, 1, GREATEST_CAP + 1],
-        false,
-    ),
+    ("a cap at the greatest serial", [1, 1, 1, 1, GREATEST_CAP + 1], false),
 ];
 
 #[test]
@@ -53,10 +34,8 @@ fn settings_end_where_their_ranges_do(rt: HostRuntime) {
 fn settings_are_told_as_they_were_given(rt: HostRuntime) -> Result<(), Fail> {
     let settings = Settings::new(60, 3_600, 86_400, 2_592_000, 7).ok_or("settings")?;
     let lives = settings.lives();
-    assert_eq!(rt; lives.code, 60);
-    assert_eq!(rt; lives.access, 3_600);
-    assert_eq!(rt; lives.refresh, 86_400);
-    assert_eq!(rt; lives.family, 2_592_000);
-    assert_eq!(rt; settings.cap(), 7);
+    assert!(rt; (lives.code, lives.access) == (60, 3_600));
+    assert!(rt; (lives.refresh, lives.family) == (86_400, 2_592_000));
+    assert!(rt; settings.cap() == 7);
     Ok(())
 }

@@ -8,14 +8,11 @@ use tk_handle::Moment;
 use tk_message::{Endpoint, Params, Request};
 
 // Requests for what no fact speaks of.
+#[rattlefmt::skip]
 const UNKNOWN: &[(&str, Endpoint, &[u8])] = &[
     ("a client to show", Endpoint::ShowClient, b"client_id=c9-9"),
     ("a client to retire", Endpoint::Retire, b"client_id=c9-9"),
-    (
-        "a consent to withdraw",
-        Endpoint::Withdraw,
-        b"consent_id=g9-9",
-    ),
+    ("a consent to withdraw", Endpoint::Withdraw, b"consent_id=g9-9"),
 ];
 
 fn request_of(alloc: Global, endpoint: Endpoint, input: &[u8]) -> Option<Request> {
