@@ -1,6 +1,6 @@
 //! A connection's two sides, under one limit of time.
 
-ghost use Rattle.std.specs.Prelude.{◌≡◌, None};
+ghost use Rattle.std.specs.Prelude.{◌≡◌, IfOk, None};
 ghost use Rattle.std.specs.Io.{ReadsAtMost, WritesAtMost};
 
 use std::io::{self, Read, Write};
@@ -25,22 +25,27 @@ pub struct TimedSource<'a, C> {
     start: Instant,
     wait: Duration,
     is_fresh: bool,
-    failures: u64,
+    /// How many reads have failed. At the greatest `u64` it stays.
+    pub failures: u64,
 }
 
 impl<'a, C: Clock> TimedSource<'a, C> {
-    /// A connection that was just accepted. It fails where the clock does, or the limit can't be set.
-    pub fn new(stream: &'a TcpStream, clock: &'a C) -> io::Result<TimedSource<'a, C>> {
+    /// A connection that was just accepted, of which no read has failed. It fails where the clock does, or the limit can't
+    /// be set.
+    pub fn new(stream: &'a TcpStream, clock: &'a C) -> io::Result<TimedSource<'a, C>>
+        ensures { IfOk result (λ source. source.failures ≡ 0) }
+    {
         let start = Instant::now(clock)?;
         let wait = Duration::from_secs(LIMIT_SECONDS);
         stream.set_read_timeout(Some(wait))?;
+        let (is_fresh, failures) = (true, 0);
         Ok(TimedSource {
             stream,
             clock,
             start,
             wait,
-            is_fresh: true,
-            failures: 0,
+            is_fresh,
+            failures,
         })
     }
 
@@ -103,12 +108,15 @@ pub struct TimedSink<'a, C> {
     clock: &'a C,
     start: Instant,
     is_fresh: bool,
-    failures: u64,
+    /// How many writes have failed. At the greatest `u64` it stays.
+    pub failures: u64,
 }
 
 impl<'a, C: Clock> TimedSink<'a, C> {
-    /// The other side of the connection that `source` reads.
-    pub fn new(source: &TimedSource<'a, C>) -> TimedSink<'a, C> {
+    /// The other side of the connection that `source` reads, of which no write has failed.
+    pub fn new(source: &TimedSource<'a, C>) -> TimedSink<'a, C>
+        ensures { result.failures ≡ 0 }
+    {
         TimedSink {
             stream: source.stream,
             clock: source.clock,
