@@ -67,3 +67,4 @@ refusal_of (bodies.CodeRedeemed fact) = first_broken true (ends_after fact.start
 refusal_of (bodies.RefreshRotated fact) = first_broken true (is_generation fact.generation && ends_after fact.start fact.access fact.refresh)
 refusal_of (bodies.TokenRevoked fact) = first_broken true (is_revocable fact.token.kind)
 refusal_of (bodies.ReuseSeen fact) = first_broken true (is_used_once fact.token.kind)
+refusal_of (bodies.SubjectOut fact) = first_broken (is_subject fact.subject) true

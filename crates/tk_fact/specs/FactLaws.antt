@@ -41,6 +41,9 @@ token_revoked_exact = shaped_exact _ _ _ (both_exact _ _ token_exact (both_exact
 reuse_seen_exact : IsExact fields.reuse_seen
 reuse_seen_exact = shaped_exact _ _ _ token_exact (λ _. refl) (λ _. refl)
 
+subject_out_exact : IsExact fields.subject_out
+subject_out_exact = shaped_exact _ _ _ (both_exact _ _ subject_exact moment_exact) (λ _. refl) (λ _. refl)
+
 body_exact : IsExact body
 unfolding kinds
 body_exact =
@@ -53,6 +56,7 @@ body_exact =
     and_then kind_exact _ _ refresh_rotated_exact (elim [ bodies.RefreshRotated f ↦ its _ f | b ↦ not_its _ b ]) (λ a. refl) (λ a h. h) (λ bytes. refl)
     and_then kind_exact _ _ token_revoked_exact (elim [ bodies.TokenRevoked f ↦ its _ f | b ↦ not_its _ b ]) (λ a. refl) (λ a h. h) (λ bytes. refl)
     and_then kind_exact _ _ reuse_seen_exact (elim [ bodies.ReuseSeen f ↦ its _ f | b ↦ not_its _ b ]) (λ a. refl) (λ a h. h) (λ bytes. refl)
+    and_then kind_exact _ _ subject_out_exact (elim [ bodies.SubjectOut f ↦ its _ f | b ↦ not_its _ b ]) (λ a. refl) (λ a h. h) (λ bytes. refl)
     and_then no_kind_exact
 
 pub fact_exact : IsExact fact

@@ -17,6 +17,7 @@ use Rattle.tk_fact.specs.declared.code_redeemed.CodeRedeemed.{CodeRedeemed}
 use Rattle.tk_fact.specs.declared.refresh_rotated.RefreshRotated.{RefreshRotated}
 use Rattle.tk_fact.specs.declared.token_revoked.TokenRevoked.{TokenRevoked}
 use Rattle.tk_fact.specs.declared.reuse_seen.ReuseSeen.{ReuseSeen}
+use Rattle.tk_fact.specs.declared.subject_out.SubjectOut.{SubjectOut}
 
 abbrev pub client_added : Format ClientAdded
 client_added = shaped
@@ -96,3 +97,6 @@ token_revoked = shaped
 
 abbrev pub reuse_seen : Format ReuseSeen
 reuse_seen = shaped (λ t. record { token = t }) (λ f. f.token) token
+
+abbrev pub subject_out : Format SubjectOut
+subject_out = shaped (λ (subject, at). record { subject = subject; moment = at }) (λ f. (f.subject, f.moment)) (subject_field ⊗ moment)

@@ -94,6 +94,8 @@ body_short (bodies.RefreshRotated f) fits =
     simp length-append (omega (arith, simp length-append at (dot_short f.parent), number_length w16 f.generation, moment_short f.start, simp length-append at (minted_short f.access fits.1.1.1.0), simp length-append at (minted_short f.refresh fits.1.1.1.1)))
 body_short (bodies.TokenRevoked f) fits = simp length-append (omega (arith, simp length-append at (dot_short f.token.dot), fits.1.0, simp length-append at (dot_short f.client)))
 body_short (bodies.ReuseSeen f) fits = simp length-append (omega (arith, simp length-append at (dot_short f.token.dot)))
+body_short (bodies.SubjectOut f) fits =
+    simp length-append (omega (arith, text_short f.subject most_subject_bytes (subject_short f.subject fits.0.1), moment_short f.moment))
 
 -- a fact has so few bytes
 pub fact_short : (f : Dot × Body) → fact.Fits f → length (fact.spell f) ≤ most_bytes

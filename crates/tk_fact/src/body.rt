@@ -1,4 +1,4 @@
-//! What a fact says: one of nine kinds.
+//! What a fact says: one of ten kinds.
 //!
 //! To add a kind:
 //!
@@ -35,11 +35,12 @@ use crate::consent_given::ConsentGiven;
 use crate::consent_withdrawn::ConsentWithdrawn;
 use crate::refresh_rotated::RefreshRotated;
 use crate::reuse_seen::ReuseSeen;
+use crate::subject_out::SubjectOut;
 use crate::token_revoked::TokenRevoked;
 use std::alloc::{AllocError, Global};
 use tk_format::{ReadError, Reader, Writer};
 
-/// What a fact says: one of nine kinds (own). The ranges told of their fields are those of a fact that passes its
+/// What a fact says: one of ten kinds (own). The ranges told of their fields are those of a fact that passes its
 /// check.
 #[derive(Debug, Drop)]
 pub enum Body {
@@ -61,6 +62,8 @@ pub enum Body {
     TokenRevoked(TokenRevoked),
     /// A code or a refresh token was used again (RFC 6749, 4.1.2 and 10.4).
     ReuseSeen(ReuseSeen),
+    /// A subject signed out everywhere (own).
+    SubjectOut(SubjectOut),
 }
 
 impl Body {
@@ -94,6 +97,10 @@ impl Body {
             }
             Body::TokenRevoked(fields) => Ok(Body::TokenRevoked(*fields)),
             Body::ReuseSeen(fields) => Ok(Body::ReuseSeen(*fields)),
+            Body::SubjectOut(fields) => {
+                let fields = fields.copy(alloc)?;
+                Ok(Body::SubjectOut(fields))
+            }
         }
     }
 
@@ -111,6 +118,7 @@ impl Body {
             (Body::RefreshRotated(left), Body::RefreshRotated(right)) => left.same(right),
             (Body::TokenRevoked(left), Body::TokenRevoked(right)) => left == right,
             (Body::ReuseSeen(left), Body::ReuseSeen(right)) => left == right,
+            (Body::SubjectOut(left), Body::SubjectOut(right)) => left.same(right),
             _ => false,
         }
     }
@@ -130,6 +138,7 @@ impl Body {
             Body::RefreshRotated(fields) => fields.known(),
             Body::TokenRevoked(fields) => fields.known(),
             Body::ReuseSeen(fields) => fields.known(),
+            Body::SubjectOut(fields) => fields.known(),
         }
     }
 
@@ -159,6 +168,7 @@ impl Body {
                 let fields = ReuseSeen::read(reader).ok_or(ReadError::Malformed)?;
                 Ok(Body::ReuseSeen(fields))
             }
+            10 => Ok(Body::SubjectOut(SubjectOut::read(alloc, reader)?)),
             _ => Err(ReadError::Malformed),
         }
     }
@@ -203,6 +213,10 @@ impl Body {
             }
             Body::ReuseSeen(fields) => {
                 writer.put_u8(9)?;
+                fields.write(writer)
+            }
+            Body::SubjectOut(fields) => {
+                writer.put_u8(10)?;
                 fields.write(writer)
             }
         }

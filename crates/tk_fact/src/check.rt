@@ -50,6 +50,10 @@ pub(crate) fn check_body(body: &Body) -> Result<(), FactError>
         ),
         Body::TokenRevoked(fact) => in_range(is_revocable(fact.token.kind)),
         Body::ReuseSeen(fact) => in_range(is_used_once(fact.token.kind)),
+        Body::SubjectOut(fact) => {
+            let _name = fact.subject.as_str();
+            Ok(())
+        }
         Body::ClientRetired(_) | Body::ConsentWithdrawn(_) => Ok(()),
     }
 }

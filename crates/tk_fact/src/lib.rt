@@ -1,6 +1,6 @@
 //! Facts: what a region knows, each at its dot. A fact is never changed or taken away.
 //!
-//! A `Fact` is a `Body` at a `Dot`, and a body is of one of nine kinds. `Fact::check` tells which rule a fact breaks,
+//! A `Fact` is a `Body` at a `Dot`, and a body is of one of ten kinds. `Fact::check` tells which rule a fact breaks,
 //! if any. `Fact::write` and `Fact::read` are its one spelling in bytes: the dot, a byte for the kind, and the fields
 //! in the order in which the kind's struct has them. `Fact::minted` and `Fact::uses` tell which tokens a fact mints,
 //! and which it uses up. What follows from several facts together is said above.
@@ -9,7 +9,7 @@
 //! plain value that it stands for. What a scope, a redirect list, a URI and a challenge are is said below, in tk_scope
 //! and tk_match.
 //!
-//! In reading order: `Subject`, `Sort`, `MintedToken`, the nine kinds from `ClientAdded` to `ReuseSeen`, `Body`, `Fact`,
+//! In reading order: `Subject`, `Sort`, `MintedToken`, the ten kinds from `ClientAdded` to `SubjectOut`, `Body`, `Fact`,
 //! `Minted`. The definitions are in specs/: `Subject` for the name of a subject, `Check` for the rules, `Fields`, `Kinds`
 //! and `FactBytes` for the bytes, `Tokens` for the tokens.
 #![tactic(auto)]
@@ -33,6 +33,7 @@ mod reuse_seen;
 mod scope_field;
 mod sort;
 mod subject;
+mod subject_out;
 mod token_revoked;
 mod tokens;
 mod uri_field;
@@ -51,6 +52,7 @@ pub use refresh_rotated::RefreshRotated;
 pub use reuse_seen::ReuseSeen;
 pub use sort::Sort;
 pub use subject::{Subject, SubjectError};
+pub use subject_out::SubjectOut;
 pub use token_revoked::TokenRevoked;
 pub use tokens::Minted;
 

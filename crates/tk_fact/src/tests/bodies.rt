@@ -2,7 +2,7 @@
 
 use crate::{
     Body, ClientAdded, ClientRetired, CodeIssued, CodeRedeemed, ConsentGiven, ConsentWithdrawn,
-    MintedToken, RefreshRotated, ReuseSeen, Sort, Subject, TokenRevoked,
+    MintedToken, RefreshRotated, ReuseSeen, Sort, Subject, SubjectOut, TokenRevoked,
 };
 use std::alloc::Global;
 use tk_handle::{Dot, Kind, Moment, RegionNumber, TokenId};
@@ -36,6 +36,8 @@ pub(super) enum Says<'a> {
     // Of the token that was minted there, by the client.
     TokenRevoked(Place, Kind, Place),
     ReuseSeen(Place, Kind),
+    // Of the subject, at the moment.
+    SubjectOut(&'a [u8], u64),
 }
 
 // What a code is issued with. Its challenge has the method S256.
@@ -163,6 +165,12 @@ fn reuse(minted_by: Place, kind: Kind) -> Option<Body> {
     Some(Body::ReuseSeen(ReuseSeen { token }))
 }
 
+fn sign_out(alloc: Global, subject: &[u8], moment: u64) -> Option<Body> {
+    let moment = Moment::new(moment)?;
+    let subject = Subject::read(alloc, subject).ok()?;
+    Some(Body::SubjectOut(SubjectOut { subject, moment }))
+}
+
 // The body, where there is memory for it.
 pub(super) fn body(alloc: Global, says: &Says<'_>) -> Option<Body> {
     match *says {
@@ -175,5 +183,6 @@ pub(super) fn body(alloc: Global, says: &Says<'_>) -> Option<Body> {
         Says::RefreshRotated(generation, fields) => rotation(alloc, generation, &fields),
         Says::TokenRevoked(minted_by, kind, client) => revocation(minted_by, kind, client),
         Says::ReuseSeen(minted_by, kind) => reuse(minted_by, kind),
+        Says::SubjectOut(subject, moment) => sign_out(alloc, subject, moment),
     }
 }

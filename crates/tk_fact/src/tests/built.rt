@@ -3,7 +3,7 @@
 use super::bodies::{CodeFields, DIGEST, Place, Says, TokenFields, body, dot};
 use super::{
     CODE, FIRST_ROTATION, GIVEN_CONSENT, PUBLIC_CLIENT, REDEEMED_CODE, RESOURCE_SERVER,
-    RETIRED_CLIENT, REUSED_CODE, REVOKED_TOKEN, WITHDRAWN_CONSENT, has_bytes,
+    RETIRED_CLIENT, REUSED_CODE, REVOKED_TOKEN, SIGNED_OUT_SUBJECT, WITHDRAWN_CONSENT, has_bytes,
 };
 use crate::{Fact, FactError, Sort};
 use std::alloc::Global;
@@ -94,6 +94,7 @@ fn built_tokens_have_these_bytes(rt: HostRuntime) {
 const REVOCATIONS: &[Built] = &[
     ("a revoked token", (1, 7), Says::TokenRevoked((1, 5), Kind::Refresh, (1, 1)), REVOKED_TOKEN),
     ("a reused code", (1, 5), Says::ReuseSeen((1, 3), Kind::Code), REUSED_CODE),
+    ("a sign-out", (1, 5), Says::SubjectOut(b"ann", 1_020), SIGNED_OUT_SUBJECT),
 ];
 
 #[test]

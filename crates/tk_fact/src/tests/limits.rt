@@ -104,6 +104,24 @@ fn a_subject_has_128_bytes_and_a_scope_1024(rt: HostRuntime) {
     }
 }
 
+// A sign-out at the last dot, up to its subject, and the last moment.
+#[rattlefmt::skip]
+const SIGN_OUT: Part = (b"\xff\xff\x7f\xff\xff\xff\xff\xff\xff\xff\x0a", 0, 0);
+
+const END: Part = (b"\x00\x00\x00:\xff\xf4A\x7f", 0, 0);
+
+fn keeps_long_sign_out(alloc: Global) -> bool {
+    let says = Says::SubjectOut(&[b'!'; 128], LAST_MOMENT);
+    keeps(alloc, &says, 149, &[SIGN_OUT, SUBJECT, END])
+}
+
+#[test]
+fn a_sign_out_has_its_limits(rt: HostRuntime) {
+    assert!(rt; keeps_long_sign_out(rt.alloc()), "the longest");
+    let longer = [SIGN_OUT, LONG_SUBJECT, END];
+    assert!(rt; refuses(rt.alloc(), &longer), "a subject of 129 bytes");
+}
+
 // A resource server at the last dot, up to its scope.
 #[rattlefmt::skip]
 const CLIENT: Part = (b"\xff\xff\x7f\xff\xff\xff\xff\xff\xff\xff\x01\x020123456789abcdef0123456789abcdef", 0, 0);

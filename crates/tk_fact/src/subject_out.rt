@@ -1,0 +1,59 @@
+//! The fact that a subject signed out everywhere.
+
+ghost use Rattle.std.specs.Prelude.{◌≡◌, ◌++◌, ◌↔◌, IfOk, IsTrue, OnOk};
+ghost use Rattle.tk_fact.specs.Kinds.{subject_out};
+ghost use Rattle.tk_format.specs.Reading.{Gets};
+
+use crate::subject::Subject;
+use std::alloc::{AllocError, Global};
+use tk_format::{ReadError, Reader, Writer};
+use tk_handle::Moment;
+
+/// A subject signed out everywhere (own): its families whose code didn't begin after the moment are dead.
+#[derive(Debug, Drop)]
+pub struct SubjectOut {
+    /// Who signed out (RFC 6749, 1.1).
+    pub subject: Subject,
+    /// When, by the clock of the region that was asked.
+    pub moment: Moment,
+}
+
+impl SubjectOut {
+    pub(crate) fn copy(&self, alloc: Global) -> Result<SubjectOut, AllocError>
+        ensures { IfOk result (λ copy. copy ≡ self.now) }
+    {
+        Ok(SubjectOut {
+            subject: self.subject.copy(alloc)?,
+            moment: self.moment,
+        })
+    }
+
+    pub(crate) fn same(&self, other: &SubjectOut) -> bool
+        ensures { IsTrue result ↔ (self.now ≡ other.now) }
+    {
+        self.subject.same(&other.subject) && self.moment == other.moment
+    }
+
+    pub(crate) fn known(&self)
+        ensures { subject_out.Fits self.now }
+    {
+        self.subject.known();
+        self.moment.known();
+    }
+
+    pub(crate) fn read(alloc: Global, reader: &mut Reader<'_>) -> Result<SubjectOut, ReadError>
+        ensures { Gets (λ f. f) subject_out result reader.old reader.new }
+    {
+        let subject = Subject::read_from(alloc, reader)?;
+        let moment = Moment::read(reader).ok_or(ReadError::Malformed)?;
+        Ok(SubjectOut { subject, moment })
+    }
+
+    pub(crate) fn write(&self, writer: &mut Writer) -> Result<(), AllocError>
+        requires { subject_out.Fits self.now }
+        ensures { OnOk result (writer.new ≡ writer.old ++ subject_out.spell self.now) }
+    {
+        self.subject.write(writer)?;
+        self.moment.write(writer)
+    }
+}
