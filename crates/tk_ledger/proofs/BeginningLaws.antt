@@ -1,6 +1,6 @@
 -- Empty tables are those of no fact. Key result: `empty_indexed`.
-use Rattle.std.proofs.Common.{◌≡◌, inl, inr, Bool, false, ◌&&◌, List, [], Some, is_some, sym, ap, ◌∙◌}
-use Rattle.std.proofs.lemmas.Bool.{true≢false, or_cases, and_parts, false_from_ne_true}
+use Rattle.std.proofs.Common.{◌≡◌, inl, inr, Bool, false, List, [], Option, Some, is_some, sym, ap, ◌∙◌}
+use Rattle.std.proofs.lemmas.Bool.{true≢false, or_cases, false_from_ne_true}
 use Rattle.std.specs.Option.{option_and_then}
 use Rattle.std.specs.List.{list_any}
 use Rattle.std.specs.Map.{lookup}
@@ -17,13 +17,14 @@ use Rattle.tk_store.specs.FactSet.{any_fact}
 use Rattle.tk_store.proofs.PutLaws.{none_is_not_some}
 use Rattle.tk_store.proofs.EntryLaws.{Passing, any_fact-held}
 use Rattle.tk_ledger.specs.Clients.{added_in, given_in, retires, withdraws}
-use Rattle.tk_ledger.specs.Tokens.{link_of, revokes, sees_reuse, is_reused, is_refresh, is_ended, IsEnded, is_marked}
+use Rattle.tk_ledger.specs.SignOuts.{sign_out_in}
+use Rattle.tk_ledger.specs.Tokens.{link_of, issued_in, revokes, sees_reuse, is_reused, is_stopped, is_marked}
 use Rattle.tk_ledger.specs.Index.{row_added, row_retired, consent_cmp, consent_key, revocation_cmp, revocation_key, is_from, IsIndexed}
 use Rattle.tk_ledger.specs.declared.client_rows.ClientRow.{ClientRow}
 use Rattle.tk_ledger.specs.declared.consent_keys.ConsentKey.{ConsentKey}
 use Rattle.tk_ledger.specs.declared.index.Index.{Index}
 use Rattle.tk_ledger.specs.declared.revocations.Revocation.{Revocation}
-use Rattle.tk_ledger.proofs.TokenLaws.{from_some, is_ended-sound}
+use Rattle.tk_ledger.proofs.TokenLaws.{is_stopped-sound}
 
 none_held : (d : Dot) (b : Body) → ¬ (map.get (map.empty {R = dot_cmp}) d ≡ Some b)
 none_held d b h = none_is_not_some b (sym (map.get-empty dot_cmp d) ∙ h)
@@ -31,17 +32,21 @@ none_held d b h = none_is_not_some b (sym (map.get-empty dot_cmp d) ∙ h)
 any_fact-empty : (p : Dot × Body → Bool) → any_fact p map.empty ≡ false
 any_fact-empty p = false_from_ne_true (any_fact p map.empty) (λ h. (let x : Passing p map.empty = any_fact-held p map.empty h in none_held x.dot x.body x.held))
 
+-- nothing stands at any dot
+no_value : {B : Type 0} (f : Body → Option B) (d : Dot) (y : B) → ¬ (option_and_then f (map.get (map.empty {R = dot_cmp}) d) ≡ Some y)
+no_value f d y h = none_is_not_some y (sym (ap (option_and_then f) (map.get-empty dot_cmp d)) ∙ h)
+
 marks-empty : (k : TokenId) → is_marked map.empty k ≡ false
-marks-empty k = false_from_ne_true (is_marked map.empty k) (λ h. elim (or_cases (is_reused map.empty k) (is_refresh k.kind && is_ended map.empty k) h) [
+marks-empty k = false_from_ne_true (is_marked map.empty k) (λ h. elim (or_cases (is_reused map.empty k) (is_stopped map.empty k) h) [
   | inl seen ↦ true≢false (sym seen ∙ any_fact-empty (sees_reuse k))
-  | inr over ↦
-      let e : IsEnded (map.get map.empty) k = is_ended-sound map.empty k (and_parts _ _ over).1 in
-      let x : (b : Body) × (map.get map.empty k.dot ≡ Some b) × (minted_of b k.kind ≡ Some e.minted) = from_some (λ b. minted_of b k.kind) (map.get map.empty k.dot) e.minted e.mints in
-      none_held k.dot x.0 x.1
+  | inr stopped ↦ elim (is_stopped-sound map.empty k stopped) [
+    | inl ended ↦ no_value (λ b. minted_of b k.kind) k.dot ended.1.minted ended.1.mints
+    | inr gone ↦ no_value issued_in k.dot gone.1.issued gone.1.issues
+  ]
 ])
 
-pub empty_indexed : (x : Index) → x.clients.entries ≡ [] → x.consents.keys ≡ [] → x.withdrawn.keys ≡ [] → x.revocations.keys ≡ [] → x.forest.links ≡ map.empty → x.forest.marks ≡ set.empty → IsIndexed map.empty x
-empty_indexed x te ce we re le me = record {
+pub empty_indexed : (x : Index) → x.clients.entries ≡ [] → x.consents.keys ≡ [] → x.withdrawn.keys ≡ [] → x.revocations.keys ≡ [] → x.codes.keys ≡ [] → x.outs.keys ≡ [] → x.forest.links ≡ map.empty → x.forest.marks ≡ set.empty → IsIndexed map.empty x
+empty_indexed x te ce we re _ _ le me = record {
   clients_are = record {
     added = λ q. ap (λ (es : List (Dot × ClientRow)). row_added (lookup (is_at (dot_cmp q)) es)) te ∙ sym (ap (λ o. is_some (option_and_then added_in o)) (map.get-empty dot_cmp q));
     retired = λ q. ap (λ (es : List (Dot × ClientRow)). row_retired (lookup (is_at (dot_cmp q)) es)) te ∙ sym (any_fact-empty (retires q));
@@ -52,6 +57,8 @@ empty_indexed x te ce we re le me = record {
   };
   withdrawn_are = λ q. ap (λ (es : List Dot). list_any (is_at (dot_cmp q)) es) we ∙ sym (any_fact-empty (withdraws q));
   revocations_are = λ k g c. ap (λ (es : List Revocation). list_any (is_at (revocation_cmp (revocation_key k g c))) es) re ∙ sym (any_fact-empty (revokes k g c));
+  codes_are = λ d code h. absurd (no_value issued_in d code h);
+  outs_are = λ d f h. absurd (no_value sign_out_in d f h);
   tied = record {
     links = λ q. ap (λ s. map.get s q) le ∙ map.get-empty dot_cmp q ∙ sym (ap (option_and_then link_of) (map.get-empty dot_cmp q));
     marks = λ k. ap (λ s. set.contains s k) me ∙ set.contains-empty token_cmp k ∙ sym (marks-empty k);

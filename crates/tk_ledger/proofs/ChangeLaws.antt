@@ -1,9 +1,10 @@
 -- Each kind of change, in the form in which the functions need it: over the set that has the fact already, and that set
 -- without it. Key results:
---   put_ties, mark_ties, revoke_ties      the forest after a link, a reuse and a revocation
---   index_add .. index_mark               all tables, for each kind of change
+--   put_ties, mark_ties, revoke_ties, out_ties   the forest after a link, a reuse, a revocation and a sign-out
+--   code_row, code_dropped, out_row       the tables after a code and a sign-out
+--   index_add .. index_out                all tables, for each kind of change
 --   stored, stored_change, stored_back    a fact at a free dot
-use Rattle.std.proofs.Common.{◌≡◌, ℕ, Bool, true, false, ◌&&◌, ◌||◌, cond, List, Option, Some, None, Result, Ok, Err, OnOk, refl, sym, ap, subst, ◌∙◌}
+use Rattle.std.proofs.Common.{◌≡◌, ℕ, ◌≤◌, Bool, true, false, ◌&&◌, ◌||◌, cond, List, Option, Some, None, Result, Ok, Err, OnOk, refl, sym, ap, subst, ◌∙◌}
 use Rattle.std.specs.Option.{option_and_then, option_map}
 use Rattle.std.specs.Ordering.{eq_by_cmp}
 use Rattle.std.specs.Str.{bytes_eq}
@@ -11,9 +12,11 @@ use Rattle.std.specs.BTreeMap.{BTreeMap}
 use Rattle.std.specs.BTreeSet.{BTreeSet, contains}
 use Rattle.std.specs.FinMap as map
 use Rattle.std.specs.FinSet as set
+use Rattle.sha2.specs.Sha256.{sha256}
 use Rattle.tk_handle.specs.declared.dot.Dot.{Dot}
 use Rattle.tk_handle.specs.declared.token_id.TokenId.{TokenId}
 use Rattle.tk_handle.specs.Dot.{IsDot, dot_cmp}
+use Rattle.tk_handle.specs.Ranges.{greatest_moment}
 use Rattle.tk_family.specs.declared.link.Link.{Link}
 use Rattle.tk_family.specs.Dots.{has}
 use Rattle.tk_family.specs.ForestFacts.{ForestFacts, links_at}
@@ -29,17 +32,21 @@ use Rattle.tk_store.proofs.PutLaws.{some_injective, none_is_not_some, get_here, 
 use Rattle.tk_store.proofs.OneMoreLaws.{OneMore, more_remove}
 use Rattle.tk_ledger.specs.Bodies.{is_same_dot}
 use Rattle.tk_ledger.specs.Tokens.{link_of, links_in}
-use Rattle.tk_ledger.specs.Changes.{change_in, adds, retires_of, gives_to, withdraws_of, revokes_of, puts, reuses_of}
-use Rattle.tk_ledger.specs.Index.{row_at, row_added, row_retired, is_at, IsClients, consent_cmp, consent_key, is_listed, IsConsents, IsWithdrawals, revocation_cmp, revocation_key, is_listed_revoked, IsRevocations, IsTied, IsIndexed, woken, any_woken}
+use Rattle.tk_ledger.specs.Changes.{change_in, adds, retires_of, gives_to, withdraws_of, revokes_of, reuses_of}
+use Rattle.tk_ledger.specs.Index.{row_at, row_added, row_retired, is_at, IsClients, consent_cmp, consent_key, is_listed, IsConsents, IsWithdrawals, revocation_cmp, revocation_key, is_listed_revoked, IsRevocations, code_cmp, code_key, codes_of, dots_of, IsCodes, out_cmp, out_key, left_after, IsOuts, IsTied, IsIndexed, woken, any_woken}
 use Rattle.tk_ledger.specs.declared.change.Change.{Change}
 use Rattle.tk_ledger.specs.declared.change.Change.TheVariants as change
 use Rattle.tk_ledger.specs.declared.client_rows.ClientRow.{ClientRow}
 use Rattle.tk_ledger.specs.declared.consent_keys.ConsentKey.{ConsentKey}
 use Rattle.tk_ledger.specs.declared.index.Index.{Index}
 use Rattle.tk_ledger.specs.declared.revocations.Revocation.{Revocation}
+use Rattle.tk_ledger.specs.declared.subject_keys.CodeKey.{CodeKey}
+use Rattle.tk_ledger.specs.declared.subject_keys.OutKey.{OutKey}
 use Rattle.tk_ledger.proofs.KeyLaws.{at_is_same, token_tied, consent_tied, revocation_tied}
 use Rattle.tk_ledger.proofs.TableLaws.{clients_on, consents_on, Ranged, ranged_on, withdrawals_on, revocations_on}
-use Rattle.tk_ledger.proofs.ForestLaws.{revoking, links_still, links_put, tied_still, tied_put, tied_mark, tied_revoke}
+use Rattle.tk_ledger.proofs.SubjectTableLaws.{issuing, codes_still, codes_on, codes_back, outs_still, outs_on}
+use Rattle.tk_ledger.proofs.TokenLaws.{from_some}
+use Rattle.tk_ledger.proofs.ForestLaws.{puts, link-change, revoking, signs, links_still, links_put, tied_still, tied_put, tied_mark, tied_revoke, tied_out}
 
 pub on_ok : {A E : Type 0} (r : Result A E) (P Q : Type 0) → OnOk r P → (P → Q) → OnOk r Q
 on_ok (Ok x) P Q h f = f h
@@ -69,20 +76,35 @@ changed G d x h = changed_by G d x (map.get G d) refl h
 
 -- ---- the forest
 
-pub put_free : (G : FactSet) (d : Dot) (l : Link) (x : ForestFacts) → option_map change_in (map.get G d) ≡ Some (change.Put l) → IsTied (map.remove G d) x → map.get x.links d ≡ None
-put_free G d l x h t = t.links d ∙ ap (option_and_then link_of) (changed G d (change.Put l) h).more.free
+-- the body at a dot whose link is known
+record Linked (G : FactSet) (d : Dot) (l : Link) : Type 0 where
+  pub body : Body
+  pub is : puts (change_in body) ≡ Some l
+  pub more : OneMore (map.remove G d) G d body
 
-pub put_links : (G : FactSet) (d : Dot) (l : Link) (x y : ForestFacts) → option_map change_in (map.get G d) ≡ Some (change.Put l) → IsTied (map.remove G d) x
+linked : (G : FactSet) (d : Dot) (l : Link) → links_in (map.get G) d ≡ Some l → Linked G d l
+linked G d l h =
+    let x : (b : Body) × (map.get G d ≡ Some b) × (link_of b ≡ Some l) = from_some link_of (map.get G d) l h in
+    record { body = x.0; is = sym (link-change x.0) ∙ x.2; more = more_remove G d x.0 x.1 }
+
+pub put_free : (G : FactSet) (d : Dot) (l : Link) (x : ForestFacts) → links_in (map.get G) d ≡ Some l → IsTied (map.remove G d) x → map.get x.links d ≡ None
+put_free G d l x h t = t.links d ∙ ap (option_and_then link_of) (linked G d l h).more.free
+
+pub put_links : (G : FactSet) (d : Dot) (l : Link) (x y : ForestFacts) → links_in (map.get G) d ≡ Some l → IsTied (map.remove G d) x
     → y.links ≡ map.insert x.links d l → (q : Dot) → map.get y.links q ≡ links_in (map.get G) q
-put_links G d l x y h t new = let c = changed G d (change.Put l) h in
-    links_put (map.remove G d) G d c.body l (links_at x) (links_at y) c.more (ap puts c.is) t.links (link_put x.links y.links d l new)
+put_links G d l x y h t new = let c = linked G d l h in
+    links_put (map.remove G d) G d c.body l (links_at x) (links_at y) c.more c.is t.links (link_put x.links y.links d l new)
 
-pub put_ties : (G : FactSet) (d : Dot) (l : Link) (x y z : ForestFacts) (ds : List Dot) → option_map change_in (map.get G d) ≡ Some (change.Put l) → IsTied (map.remove G d) x
+pub put_ties : (G : FactSet) (d : Dot) (l : Link) (x y z : ForestFacts) (ds : List Dot) → links_in (map.get G) d ≡ Some l → IsTied (map.remove G d) x
     → y.links ≡ map.insert x.links d l → y.marks ≡ x.marks → ((q : Dot) → IsRaised (links_at x) (links_at y) q → has ds q ≡ true)
     → z.links ≡ y.links → ((k : TokenId) → set.contains z.marks k ≡ (any_woken G k ds || set.contains y.marks k)) → IsTied G z
 put_ties G d l x y z ds h t new same all still woke =
-    let c = changed G d (change.Put l) h in
+    let c = linked G d l h in
     tied_put (map.remove G d) G d c.body l x y z ds c.more c.is t (put_links G d l x y h t new) same all still woke
+
+-- the link of a change
+pub change_link : (G : FactSet) (d : Dot) (y : Change) → option_map change_in (map.get G d) ≡ Some y → links_in (map.get G) d ≡ puts y
+change_link G d y h = let c = changed G d y h in ap (option_and_then link_of) c.held ∙ link-change c.body ∙ ap puts c.is
 
 pub mark_ties : (G : FactSet) (d : Dot) (j : TokenId) (x y : ForestFacts) → option_map change_in (map.get G d) ≡ Some (change.Mark j) → IsTied (map.remove G d) x
     → y.links ≡ x.links → y.marks ≡ set.insert x.marks j → IsTied G y
@@ -94,15 +116,19 @@ pub revoke_ties : (G : FactSet) (d : Dot) (f : revoked.TokenRevoked) (x y : Fore
     → y.links ≡ x.links → ((k : TokenId) → set.contains y.marks k ≡ (woken G k f.token.dot || set.contains x.marks k)) → IsTied G y
 revoke_ties G d f x y h t still new = let c = changed G d (change.Revoke f) h in tied_revoke (map.remove G d) G d c.body f x y c.more c.is t still new
 
--- before the marks, the links are those of the set already
-pub revoke_links : (G : FactSet) (d : Dot) (f : revoked.TokenRevoked) (x : ForestFacts) → option_map change_in (map.get G d) ≡ Some (change.Revoke f) → IsTied (map.remove G d) x → (q : Dot) → map.get x.links q ≡ links_in (map.get G) q
-revoke_links G d f x h t q = still (changed G d (change.Revoke f) h)
+-- before the marks, the links are those of the set already, where the change is none
+pub links_before : (G : FactSet) (d : Dot) (y : Change) (x : ForestFacts) → option_map change_in (map.get G d) ≡ Some y → puts y ≡ None → IsTied (map.remove G d) x → (q : Dot) → map.get x.links q ≡ links_in (map.get G) q
+links_before G d y x h none t q = still (changed G d y h)
   where
-    still : Changed G d (change.Revoke f) → map.get x.links q ≡ links_in (map.get G) q
-    still c = t.links q ∙ links_still (map.remove G d) G d c.body c.more (ap puts c.is) q
+    still : Changed G d y → map.get x.links q ≡ links_in (map.get G) q
+    still c = t.links q ∙ links_still (map.remove G d) G d c.body c.more (ap puts c.is ∙ none) q
 
-quiet_ties : (G : FactSet) (d : Dot) (y : Change) (x : ForestFacts) → option_map change_in (map.get G d) ≡ Some y → puts y ≡ None → revoking y ≡ None → ((k : TokenId) → reuses_of k y ≡ false) → IsTied (map.remove G d) x → IsTied G x
-quiet_ties G d y x h p r m t = let c = changed G d y h in tied_still (map.remove G d) G d c.body x c.more (ap puts c.is ∙ p) (ap revoking c.is ∙ r) (λ k. ap (reuses_of k) c.is ∙ m k) t
+pub out_ties : (G : FactSet) (d : Dot) (subject : List ℕ) (moment : ℕ) (codes : BTreeSet CodeKey) (x y : ForestFacts) → option_map change_in (map.get G d) ≡ Some (change.SignOut subject moment) → IsTied (map.remove G d) x → IsCodes G codes
+    → y.links ≡ x.links → ((k : TokenId) → set.contains y.marks k ≡ (any_woken G k (dots_of (codes_of codes subject)) || set.contains x.marks k)) → IsTied G y
+out_ties G d subject moment codes x y h t listed still new = let c = changed G d (change.SignOut subject moment) h in tied_out (map.remove G d) G d c.body subject moment codes x y c.more c.is t listed still new
+
+quiet_ties : (G : FactSet) (d : Dot) (y : Change) (x : ForestFacts) → option_map change_in (map.get G d) ≡ Some y → puts y ≡ None → revoking y ≡ None → signs y ≡ false → ((k : TokenId) → reuses_of k y ≡ false) → IsTied (map.remove G d) x → IsTied G x
+quiet_ties G d y x h p r s m t = let c = changed G d y h in tied_still (map.remove G d) G d c.body x c.more (ap puts c.is ∙ p) (ap revoking c.is ∙ r) (ap signs c.is ∙ s) (λ k. ap (reuses_of k) c.is ∙ m k) t
 
 -- ---- the tables
 
@@ -159,41 +185,82 @@ revoke_row G d f t u h i r = revocations_by G d (change.Revoke f) t u h i (λ k 
     ∙ or_cond (eq_by_cmp revocation_cmp (revocation_key f.token f.digest f.client) (revocation_key k g c)) (is_listed_revoked t k g c)
     ∙ ap (λ x. x || is_listed_revoked t k g c) (revocation_tied f.token k f.digest g f.client c))
 
--- a link leaves the revocations
-pub put_revocations : (G : FactSet) (d : Dot) (l : Link) (t : BTreeSet Revocation) → option_map change_in (map.get G d) ≡ Some (change.Put l) → IsRevocations (map.remove G d) t → IsRevocations G t
-put_revocations G d l t h i = revocations_by G d (change.Put l) t t h i (λ k g c. refl)
+-- a change that revokes nothing leaves the revocations
+pub same_revocations : (G : FactSet) (d : Dot) (y : Change) (t : BTreeSet Revocation) → option_map change_in (map.get G d) ≡ Some y → ((k : TokenId) (digest : List ℕ) (client : Dot) → revokes_of k digest client y ≡ false) → IsRevocations (map.remove G d) t → IsRevocations G t
+same_revocations G d y t h none i = revocations_by G d y t t h i (λ k g c. sym (ap (λ b. b || is_listed_revoked t k g c) (none k g c)))
+
+-- a change that issues no code leaves the codes, one that signs out nobody the sign-outs
+pub same_codes : (G : FactSet) (d : Dot) (y : Change) (t : BTreeSet CodeKey) → option_map change_in (map.get G d) ≡ Some y → issuing y ≡ None → IsCodes (map.remove G d) t → IsCodes G t
+same_codes G d y t h none i = let x = changed G d y h in codes_still (map.remove G d) G d x.body t x.more (ap issuing x.is ∙ none) i
+
+pub same_outs : (G : FactSet) (d : Dot) (y : Change) (t : BTreeSet OutKey) → option_map change_in (map.get G d) ≡ Some y → signs y ≡ false → IsOuts (map.remove G d) t → IsOuts G t
+same_outs G d y t h none i = let x = changed G d y h in outs_still (map.remove G d) G d x.body t x.more (ap signs x.is ∙ none) i
+
+-- before the change nothing stands at its dot
+pub change_free : (G : FactSet) (d : Dot) (y : Change) → option_map change_in (map.get G d) ≡ Some y → map.get (map.remove G d) d ≡ None
+change_free G d y h = (changed G d y h).more.free
+
+-- a table that has the same keys
+pub codes_same : (G : FactSet) (d : Dot) (t u : BTreeSet CodeKey) → IsCodes (map.remove G d) t → ((k : CodeKey) → contains code_cmp u k ≡ contains code_cmp t k) → IsCodes (map.remove G d) u
+codes_same G d t u i same q code h = let old = i q code h in (same (code_key (sha256 code.subject) q) ∙ old.0, old.1)
+
+pub outs_same : (G : FactSet) (d : Dot) (t u : BTreeSet OutKey) → IsOuts (map.remove G d) t → ((k : OutKey) → contains out_cmp u k ≡ contains out_cmp t k) → IsOuts (map.remove G d) u
+outs_same G d t u i same q f h = let old = i q f h in (same (out_key (sha256 f.subject) (left_after f.moment) q) ∙ old.0, old.1, old.2)
+
+-- a code's key
+pub code_row : (G : FactSet) (d : Dot) (subject : List ℕ) (t u : BTreeSet CodeKey) → option_map change_in (map.get G d) ≡ Some (change.Issue subject) → IsCodes (map.remove G d) t → IsDot d
+    → ((k : CodeKey) → contains code_cmp u k ≡ cond (eq_by_cmp code_cmp (code_key subject d) k) true (contains code_cmp t k))
+    → IsCodes G u
+code_row G d subject t u h i here r = let x = changed G d (change.Issue subject) h in codes_on (map.remove G d) G d x.body subject t u x.more x.is i here (λ k. r k ∙ or_cond (eq_by_cmp code_cmp (code_key subject d) k) (contains code_cmp t k))
+
+-- and it goes again
+pub code_dropped : (G : FactSet) (d : Dot) (subject : List ℕ) (t u v : BTreeSet CodeKey) → IsCodes (map.remove G d) t → map.get (map.remove G d) d ≡ None
+    → ((k : CodeKey) → contains code_cmp u k ≡ cond (eq_by_cmp code_cmp (code_key subject d) k) true (contains code_cmp t k))
+    → ((k : CodeKey) → contains code_cmp v k ≡ cond (eq_by_cmp code_cmp (code_key subject d) k) false (contains code_cmp u k))
+    → IsCodes (map.remove G d) v
+code_dropped G d subject t u v i free r s = codes_back (map.remove G d) d subject t u v free i (λ k. r k ∙ or_cond (eq_by_cmp code_cmp (code_key subject d) k) (contains code_cmp t k)) s
+
+-- a sign-out's key
+pub out_row : (G : FactSet) (d : Dot) (subject : List ℕ) (moment : ℕ) (t u : BTreeSet OutKey) → option_map change_in (map.get G d) ≡ Some (change.SignOut subject moment) → IsOuts (map.remove G d) t → IsDot d → moment ≤ greatest_moment
+    → ((k : OutKey) → contains out_cmp u k ≡ cond (eq_by_cmp out_cmp (out_key subject (left_after moment) d) k) true (contains out_cmp t k))
+    → IsOuts G u
+out_row G d subject moment t u h i here early r = let x = changed G d (change.SignOut subject moment) h in outs_on (map.remove G d) G d x.body subject moment t u x.more x.is i here early (λ k. r k ∙ or_cond (eq_by_cmp out_cmp (out_key subject (left_after moment) d) k) (contains out_cmp t k))
 
 -- ---- all of it, for each change
 
 pub index_add : (G : FactSet) (d : Dot) (x : Index) (u : BTreeMap Dot ClientRow)
     → option_map change_in (map.get G d) ≡ Some change.Add → IsIndexed (map.remove G d) x
     → ((q : Dot) → row_added (row_at u q) ≡ (is_at d q || row_added (row_at x.clients q))) → ((q : Dot) → row_retired (row_at u q) ≡ row_retired (row_at x.clients q))
-    → IsIndexed G (record { clients = u; consents = x.consents; withdrawn = x.withdrawn; revocations = x.revocations; forest = x.forest })
+    → IsIndexed G (record { clients = u; consents = x.consents; withdrawn = x.withdrawn; revocations = x.revocations; codes = x.codes; outs = x.outs; forest = x.forest })
 index_add G d x u h i a e = record {
   clients_are = clients_by G d change.Add x.clients u h i.clients_are a e;
   consents_are = same_consents G d change.Add x.consents h (λ _ _. refl) i.consents_are;
   withdrawn_are = withdrawals_by G d change.Add x.withdrawn x.withdrawn h i.withdrawn_are (λ q. refl);
   revocations_are = revocations_by G d change.Add x.revocations x.revocations h i.revocations_are (λ k g c. refl);
-  tied = quiet_ties G d change.Add x.forest h refl refl (λ k. refl) i.tied;
+  codes_are = same_codes G d change.Add x.codes h refl i.codes_are;
+  outs_are = same_outs G d change.Add x.outs h refl i.outs_are;
+  tied = quiet_ties G d change.Add x.forest h refl refl refl (λ k. refl) i.tied;
 }
 
 pub index_retire : (G : FactSet) (d c : Dot) (x : Index) (u : BTreeMap Dot ClientRow)
     → option_map change_in (map.get G d) ≡ Some (change.Retire c) → IsIndexed (map.remove G d) x
     → ((q : Dot) → row_retired (row_at u q) ≡ (is_at c q || row_retired (row_at x.clients q))) → ((q : Dot) → row_added (row_at u q) ≡ row_added (row_at x.clients q))
-    → IsIndexed G (record { clients = u; consents = x.consents; withdrawn = x.withdrawn; revocations = x.revocations; forest = x.forest })
+    → IsIndexed G (record { clients = u; consents = x.consents; withdrawn = x.withdrawn; revocations = x.revocations; codes = x.codes; outs = x.outs; forest = x.forest })
 index_retire G d c x u h i e a = record {
   clients_are = clients_by G d (change.Retire c) x.clients u h i.clients_are a (λ q. e q ∙ ap (λ z. z || row_retired (row_at x.clients q)) (at_is_same c q));
   consents_are = same_consents G d (change.Retire c) x.consents h (λ _ _. refl) i.consents_are;
   withdrawn_are = withdrawals_by G d (change.Retire c) x.withdrawn x.withdrawn h i.withdrawn_are (λ q. refl);
   revocations_are = revocations_by G d (change.Retire c) x.revocations x.revocations h i.revocations_are (λ k g z. refl);
-  tied = quiet_ties G d (change.Retire c) x.forest h refl refl (λ k. refl) i.tied;
+  codes_are = same_codes G d (change.Retire c) x.codes h refl i.codes_are;
+  outs_are = same_outs G d (change.Retire c) x.outs h refl i.outs_are;
+  tied = quiet_ties G d (change.Retire c) x.forest h refl refl refl (λ k. refl) i.tied;
 }
 
 pub index_give : (G : FactSet) (d client : Dot) (subject : List ℕ) (x : Index) (u : BTreeSet ConsentKey)
     → option_map change_in (map.get G d) ≡ Some (change.Give client subject) → IsIndexed (map.remove G d) x
     → IsDot d
     → ((k : ConsentKey) → contains consent_cmp u k ≡ cond (eq_by_cmp consent_cmp (consent_key client subject d) k) true (contains consent_cmp x.consents k))
-    → IsIndexed G (record { clients = x.clients; consents = u; withdrawn = x.withdrawn; revocations = x.revocations; forest = x.forest })
+    → IsIndexed G (record { clients = x.clients; consents = u; withdrawn = x.withdrawn; revocations = x.revocations; codes = x.codes; outs = x.outs; forest = x.forest })
 index_give G d client subject x u h i here r =
     let y = change.Give client subject in
     let rows = give_row client subject d x.consents u r in
@@ -204,51 +271,87 @@ index_give G d client subject x u h i here r =
           (λ e s q. rows e s q ∙ ap (λ b. (gives_to e s y && b) || is_listed x.consents e s q) (sym (at_is_same d q)));
       withdrawn_are = withdrawals_by G d y x.withdrawn x.withdrawn h i.withdrawn_are (λ q. refl);
       revocations_are = revocations_by G d y x.revocations x.revocations h i.revocations_are (λ k g z. refl);
-      tied = quiet_ties G d y x.forest h refl refl (λ k. refl) i.tied;
+      codes_are = same_codes G d y x.codes h refl i.codes_are;
+      outs_are = same_outs G d y x.outs h refl i.outs_are;
+      tied = quiet_ties G d y x.forest h refl refl refl (λ k. refl) i.tied;
     }
 
 pub index_withdraw : (G : FactSet) (d c : Dot) (x : Index) (u : BTreeSet Dot)
     → option_map change_in (map.get G d) ≡ Some (change.Withdraw c) → IsIndexed (map.remove G d) x
     → ((q : Dot) → contains dot_cmp u q ≡ cond (is_at c q) true (contains dot_cmp x.withdrawn q))
-    → IsIndexed G (record { clients = x.clients; consents = x.consents; withdrawn = u; revocations = x.revocations; forest = x.forest })
+    → IsIndexed G (record { clients = x.clients; consents = x.consents; withdrawn = u; revocations = x.revocations; codes = x.codes; outs = x.outs; forest = x.forest })
 index_withdraw G d c x u h i e = record {
   clients_are = clients_by G d (change.Withdraw c) x.clients x.clients h i.clients_are (λ q. refl) (λ q. refl);
   consents_are = same_consents G d (change.Withdraw c) x.consents h (λ _ _. refl) i.consents_are;
   withdrawn_are = withdrawals_by G d (change.Withdraw c) x.withdrawn u h i.withdrawn_are (λ q. e q ∙ or_cond (is_at c q) (contains dot_cmp x.withdrawn q) ∙ ap (λ z. z || contains dot_cmp x.withdrawn q) (at_is_same c q));
   revocations_are = revocations_by G d (change.Withdraw c) x.revocations x.revocations h i.revocations_are (λ k g z. refl);
-  tied = quiet_ties G d (change.Withdraw c) x.forest h refl refl (λ k. refl) i.tied;
+  codes_are = same_codes G d (change.Withdraw c) x.codes h refl i.codes_are;
+  outs_are = same_outs G d (change.Withdraw c) x.outs h refl i.outs_are;
+  tied = quiet_ties G d (change.Withdraw c) x.forest h refl refl refl (λ k. refl) i.tied;
 }
 
 pub index_put : (G : FactSet) (d : Dot) (l : Link) (x : Index) (z : ForestFacts)
     → option_map change_in (map.get G d) ≡ Some (change.Put l) → IsIndexed (map.remove G d) x → IsTied G z
-    → IsIndexed G (record { clients = x.clients; consents = x.consents; withdrawn = x.withdrawn; revocations = x.revocations; forest = z })
+    → IsIndexed G (record { clients = x.clients; consents = x.consents; withdrawn = x.withdrawn; revocations = x.revocations; codes = x.codes; outs = x.outs; forest = z })
 index_put G d l x z h i tied = record {
   clients_are = clients_by G d (change.Put l) x.clients x.clients h i.clients_are (λ q. refl) (λ q. refl);
   consents_are = same_consents G d (change.Put l) x.consents h (λ _ _. refl) i.consents_are;
   withdrawn_are = withdrawals_by G d (change.Put l) x.withdrawn x.withdrawn h i.withdrawn_are (λ q. refl);
-  revocations_are = put_revocations G d l x.revocations h i.revocations_are;
+  revocations_are = same_revocations G d (change.Put l) x.revocations h (λ _ _ _. refl) i.revocations_are;
+  codes_are = same_codes G d (change.Put l) x.codes h refl i.codes_are;
+  outs_are = same_outs G d (change.Put l) x.outs h refl i.outs_are;
   tied = tied;
 }
 
 pub index_revoke : (G : FactSet) (d : Dot) (f : revoked.TokenRevoked) (x : Index) (s : BTreeSet Revocation) (z : ForestFacts)
     → option_map change_in (map.get G d) ≡ Some (change.Revoke f) → IsIndexed (map.remove G d) x → IsRevocations G s → IsTied G z
-    → IsIndexed G (record { clients = x.clients; consents = x.consents; withdrawn = x.withdrawn; revocations = s; forest = z })
+    → IsIndexed G (record { clients = x.clients; consents = x.consents; withdrawn = x.withdrawn; revocations = s; codes = x.codes; outs = x.outs; forest = z })
 index_revoke G d f x s z h i rows tied = record {
   clients_are = clients_by G d (change.Revoke f) x.clients x.clients h i.clients_are (λ q. refl) (λ q. refl);
   consents_are = same_consents G d (change.Revoke f) x.consents h (λ _ _. refl) i.consents_are;
   withdrawn_are = withdrawals_by G d (change.Revoke f) x.withdrawn x.withdrawn h i.withdrawn_are (λ q. refl);
   revocations_are = rows;
+  codes_are = same_codes G d (change.Revoke f) x.codes h refl i.codes_are;
+  outs_are = same_outs G d (change.Revoke f) x.outs h refl i.outs_are;
   tied = tied;
 }
 
 pub index_mark : (G : FactSet) (d : Dot) (j : TokenId) (x : Index) (z : ForestFacts)
     → option_map change_in (map.get G d) ≡ Some (change.Mark j) → IsIndexed (map.remove G d) x → IsTied G z
-    → IsIndexed G (record { clients = x.clients; consents = x.consents; withdrawn = x.withdrawn; revocations = x.revocations; forest = z })
+    → IsIndexed G (record { clients = x.clients; consents = x.consents; withdrawn = x.withdrawn; revocations = x.revocations; codes = x.codes; outs = x.outs; forest = z })
 index_mark G d j x z h i tied = record {
   clients_are = clients_by G d (change.Mark j) x.clients x.clients h i.clients_are (λ q. refl) (λ q. refl);
   consents_are = same_consents G d (change.Mark j) x.consents h (λ _ _. refl) i.consents_are;
   withdrawn_are = withdrawals_by G d (change.Mark j) x.withdrawn x.withdrawn h i.withdrawn_are (λ q. refl);
   revocations_are = revocations_by G d (change.Mark j) x.revocations x.revocations h i.revocations_are (λ k g c. refl);
+  codes_are = same_codes G d (change.Mark j) x.codes h refl i.codes_are;
+  outs_are = same_outs G d (change.Mark j) x.outs h refl i.outs_are;
+  tied = tied;
+}
+
+pub index_issue : (G : FactSet) (d : Dot) (subject : List ℕ) (x : Index) (s : BTreeSet CodeKey) (z : ForestFacts)
+    → option_map change_in (map.get G d) ≡ Some (change.Issue subject) → IsIndexed (map.remove G d) x → IsCodes G s → IsTied G z
+    → IsIndexed G (record { clients = x.clients; consents = x.consents; withdrawn = x.withdrawn; revocations = x.revocations; codes = s; outs = x.outs; forest = z })
+index_issue G d subject x s z h i rows tied = record {
+  clients_are = clients_by G d (change.Issue subject) x.clients x.clients h i.clients_are (λ q. refl) (λ q. refl);
+  consents_are = same_consents G d (change.Issue subject) x.consents h (λ _ _. refl) i.consents_are;
+  withdrawn_are = withdrawals_by G d (change.Issue subject) x.withdrawn x.withdrawn h i.withdrawn_are (λ q. refl);
+  revocations_are = same_revocations G d (change.Issue subject) x.revocations h (λ _ _ _. refl) i.revocations_are;
+  codes_are = rows;
+  outs_are = same_outs G d (change.Issue subject) x.outs h refl i.outs_are;
+  tied = tied;
+}
+
+pub index_out : (G : FactSet) (d : Dot) (subject : List ℕ) (moment : ℕ) (x : Index) (s : BTreeSet OutKey) (z : ForestFacts)
+    → option_map change_in (map.get G d) ≡ Some (change.SignOut subject moment) → IsIndexed (map.remove G d) x → IsOuts G s → IsTied G z
+    → IsIndexed G (record { clients = x.clients; consents = x.consents; withdrawn = x.withdrawn; revocations = x.revocations; codes = x.codes; outs = s; forest = z })
+index_out G d subject moment x s z h i rows tied = record {
+  clients_are = clients_by G d (change.SignOut subject moment) x.clients x.clients h i.clients_are (λ q. refl) (λ q. refl);
+  consents_are = same_consents G d (change.SignOut subject moment) x.consents h (λ _ _. refl) i.consents_are;
+  withdrawn_are = withdrawals_by G d (change.SignOut subject moment) x.withdrawn x.withdrawn h i.withdrawn_are (λ q. refl);
+  revocations_are = same_revocations G d (change.SignOut subject moment) x.revocations h (λ _ _ _. refl) i.revocations_are;
+  codes_are = same_codes G d (change.SignOut subject moment) x.codes h refl i.codes_are;
+  outs_are = rows;
   tied = tied;
 }
 

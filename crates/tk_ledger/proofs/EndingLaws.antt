@@ -1,7 +1,8 @@
--- One more fact ends no token but the one that it revokes, and those at dots that come under a code by it. Key result:
+-- One more fact stops no token but the one that it revokes, the codes of the subject that it signs out, and those at dots that
+-- come under a code by it. Key result:
 --   marks_by_one   the marks after one more fact
-use Rattle.std.proofs.Common.{◌≡◌, ◌≢◌, ◌⊎◌, inl, inr, true, ◌&&◌, Option, Some, None, List, [], ◌∷◌, refl, sym, ap, subst, ◌∙◌}
-use Rattle.std.proofs.lemmas.Bool.{or_cases, or_left, or_right, and_parts, and_from}
+use Rattle.std.proofs.Common.{◌≡◌, ◌≢◌, ◌⊎◌, inl, inr, true, Option, Some, None, List, [], ◌∷◌, refl, sym, ap, subst, ◌∙◌}
+use Rattle.std.proofs.lemmas.Bool.{or_cases, or_left, or_right}
 use Rattle.std.specs.Option.{option_and_then}
 use Rattle.std.specs.FinMap as map
 use Rattle.tk_handle.specs.declared.dot.Dot.{Dot}
@@ -14,14 +15,16 @@ use Rattle.tk_family.specs.Walks.{code_of}
 use Rattle.tk_family.proofs.FamilyLaws.{IsUnder-within, IsUnder-one}
 use Rattle.tk_family.proofs.WalkLaws.{code_of-sound, code_of-complete}
 use Rattle.tk_fact.specs.declared.body.Body.{Body}
-use Rattle.tk_fact.specs.declared.body.Body.TheVariants.{TokenRevoked}
+use Rattle.tk_fact.specs.declared.body.Body.TheVariants.{CodeIssued, TokenRevoked, SubjectOut}
+use Rattle.tk_fact.specs.declared.code_issued.CodeIssued as issued
+use Rattle.tk_fact.specs.declared.subject_out.SubjectOut as out
 use Rattle.tk_fact.specs.declared.token_revoked.TokenRevoked as revoked
 use Rattle.tk_fact.specs.Tokens.{minted_of}
 use Rattle.tk_store.specs.FactSet.{FactSet, IsSubset}
 use Rattle.tk_store.proofs.PutLaws.{some_injective, none_is_not_some}
 use Rattle.tk_store.proofs.OneMoreLaws.{OneMore, more_subset, any_fact-more, cases_dots}
-use Rattle.tk_ledger.specs.Tokens.{link_of, links_in, issued_in, sees_reuse, is_reused, is_refresh, is_ended, is_marked, IsEnded}
-use Rattle.tk_ledger.proofs.TokenLaws.{from_some, links-below, is_ended-sound, is_ended-complete}
+use Rattle.tk_ledger.specs.Tokens.{link_of, links_in, issued_in, issued_at, sees_reuse, is_reused, IsOut, IsStopped, is_stopped, is_marked, IsEnded}
+use Rattle.tk_ledger.proofs.TokenLaws.{from_some, links-below, is_stopped-sound, is_stopped-complete}
 
 -- the body revokes the token
 pub record Revokes (b : Body) (k : TokenId) : Type 0 where
@@ -82,18 +85,84 @@ ended_by_one F G d b k m e = elim (cases_dots e.by_client.place d) [
     by_code None none apart = inr (inr (record { code = e.code; now = e.under; before = λ c u. none_is_not_some c (sym none ∙ code_of-complete (links_in (map.get F)) k.dot c u) }))
     by_code (Some c) at apart = inl (ended_before F G d b k c m e apart (code_of-sound (links_in (map.get F)) k.dot c at))
 
--- the marks after one more fact: the old ones, one that the fact is or makes, and refresh tokens that waited at dots that have come
--- under a code
-pub marks_by_one : (F G : FactSet) (d : Dot) (b : Body) (k : TokenId) → OneMore F G d b → is_marked G k ≡ true → (is_marked F k ≡ true) ⊎ ((sees_reuse k (d, b) ≡ true) ⊎ ((is_refresh k.kind ≡ true) × (is_ended G k ≡ true) × (Revokes b k ⊎ IsRaised (links_in (map.get F)) (links_in (map.get G)) k.dot)))
-marks_by_one F G d b k m h = elim (or_cases (is_reused G k) (is_refresh k.kind && is_ended G k) h) [
+-- the body signs out the subject of a code
+pub record SignsOut (G : FactSet) (b : Body) (k : TokenId) : Type 0 where
+  pub issued : issued.CodeIssued
+  pub issues : issued_at (map.get G) k.dot ≡ Some issued
+  pub sign_out : out.SubjectOut
+  pub body : b ≡ SubjectOut sign_out
+  pub subject_is : sign_out.subject ≡ issued.subject
+
+issued_link : (b : Body) (f : issued.CodeIssued) → issued_in b ≡ Some f → link_of b ≡ Some Code
+issued_link (CodeIssued x) f h = refl
+issued_link body f h = absurd (none_is_not_some f h)
+
+-- a code is under itself
+under_itself : (F : FactSet) (d : Dot) (f : issued.CodeIssued) → issued_at (map.get F) d ≡ Some f → IsUnder (links_in (map.get F)) d d
+under_itself F d f h =
+    let x : (b : Body) × (map.get F d ≡ Some b) × (issued_in b ≡ Some f) = from_some issued_in (map.get F d) f h in
+    record { path = []; leads = (refl, ap (option_and_then link_of) x.1 ∙ issued_link x.0 f x.2) }
+
+-- nothing is under a code where no fact stands
+under_none : (F : FactSet) (d c : Dot) → map.get F d ≡ None → ¬ IsUnder (links_in (map.get F)) d c
+under_none F d c free u =
+    let l : (l : Link) × (links_in (map.get F) d ≡ Some l) = link_under (links_in (map.get F)) d c u in
+    none_is_not_some l.0 (sym (ap (option_and_then link_of) free) ∙ l.1)
+
+-- a code that one more fact stops is one of the subject that it signs out, or stands where it is issued
+out_by_one : (F G : FactSet) (d : Dot) (b : Body) (k : TokenId) → OneMore F G d b → IsOut (map.get G) k.dot → IsOut (map.get F) k.dot ⊎ (SignsOut G b k ⊎ IsRaised (links_in (map.get F)) (links_in (map.get G)) k.dot)
+out_by_one F G d b k m o = elim (cases_dots o.signed_out.place d) [
+  | inl same ↦ inr (inl (record {
+    issued = o.issued;
+    issues = o.issues;
+    sign_out = o.signed_out.sign_out;
+    body = some_injective b (SubjectOut o.signed_out.sign_out) (sym m.here ∙ ap (map.get G) (sym same) ∙ o.signed_out.held);
+    subject_is = o.signed_out.subject_is;
+  }))
+  | inr apart ↦ elim (cases_dots k.dot d) [
+    | inl here ↦ inr (inr (record {
+      code = k.dot;
+      now = under_itself G k.dot o.issued o.issues;
+      before = λ c u. under_none F k.dot c (ap (map.get F) here ∙ m.free) u;
+    }))
+    | inr there ↦ inl (record {
+      issued = o.issued;
+      issues = ap (option_and_then issued_in) (sym (m.there k.dot there)) ∙ o.issues;
+      signed_out = record {
+        place = o.signed_out.place;
+        sign_out = o.signed_out.sign_out;
+        held = sym (m.there o.signed_out.place apart) ∙ o.signed_out.held;
+        subject_is = o.signed_out.subject_is;
+        not_before = o.signed_out.not_before;
+      };
+    })
+  ]
+]
+
+-- what one more fact may stop
+abbrev pub Stops : FactSet → FactSet → Body → TokenId → Type 0
+Stops F G b k = Revokes b k ⊎ (SignsOut G b k ⊎ IsRaised (links_in (map.get F)) (links_in (map.get G)) k.dot)
+
+stopped_by_one : (F G : FactSet) (d : Dot) (b : Body) (k : TokenId) → OneMore F G d b → IsStopped (map.get G) k → IsStopped (map.get F) k ⊎ Stops F G b k
+stopped_by_one F G d b k m (inl e) = elim (ended_by_one F G d b k m e.1) [
+  | inl old ↦ inl (inl (e.0, old))
+  | inr (inl revokes) ↦ inr (inl revokes)
+  | inr (inr raised) ↦ inr (inr (inr raised))
+]
+stopped_by_one F G d b k m (inr o) = elim (out_by_one F G d b k m o.1) [
+  | inl old ↦ inl (inr (o.0, old))
+  | inr new ↦ inr (inr new)
+]
+
+-- the marks after one more fact: the old ones, one that the fact is or makes, and what waited at dots that have come under a code
+pub marks_by_one : (F G : FactSet) (d : Dot) (b : Body) (k : TokenId) → OneMore F G d b → is_marked G k ≡ true → (is_marked F k ≡ true) ⊎ ((sees_reuse k (d, b) ≡ true) ⊎ ((is_stopped G k ≡ true) × Stops F G b k))
+marks_by_one F G d b k m h = elim (or_cases (is_reused G k) (is_stopped G k) h) [
   | inl seen ↦ elim (or_cases (sees_reuse k (d, b)) (is_reused F k) (sym (any_fact-more (sees_reuse k) F G d b m) ∙ seen)) [
     | inl new ↦ inr (inl new)
-    | inr old ↦ inl (or_left (is_reused F k) (is_refresh k.kind && is_ended F k) old)
+    | inr old ↦ inl (or_left (is_reused F k) (is_stopped F k) old)
   ]
-  | inr over ↦
-      let p = and_parts _ _ over in
-      elim (ended_by_one F G d b k m (is_ended-sound G k p.1)) [
-        | inl old ↦ inl (or_right (is_reused F k) (is_refresh k.kind && is_ended F k) (and_from _ _ p.0 (is_ended-complete F k old)))
-        | inr new ↦ inr (inr (p.0, p.1, new))
-      ]
+  | inr stopped ↦ elim (stopped_by_one F G d b k m (is_stopped-sound G k stopped)) [
+    | inl old ↦ inl (or_right (is_reused F k) (is_stopped F k) (is_stopped-complete F k old))
+    | inr new ↦ inr (inr (stopped, new))
+  ]
 ]

@@ -14,7 +14,7 @@ use Rattle.tk_family.specs.declared.link.Link.TheVariants.{Code, Redeems, Rotate
 use Rattle.tk_family.specs.Families.{IsUnder, IsDead, IsBad, IsTwice, grant_at}
 use Rattle.tk_family.proofs.FamilyLaws.{IsUnder-one}
 use Rattle.tk_fact.specs.declared.body.Body.{Body}
-use Rattle.tk_fact.specs.declared.body.Body.TheVariants.{ClientAdded, ClientRetired, ConsentGiven, ConsentWithdrawn, CodeIssued, CodeRedeemed, RefreshRotated, TokenRevoked, ReuseSeen}
+use Rattle.tk_fact.specs.declared.body.Body.TheVariants.{ClientAdded, ClientRetired, ConsentGiven, ConsentWithdrawn, CodeIssued, CodeRedeemed, RefreshRotated, TokenRevoked, ReuseSeen, SubjectOut}
 use Rattle.tk_fact.specs.Tokens.{MintedFields, minted_of}
 use Rattle.tk_store.specs.FactSet.{FactSet, IsSubset}
 use Rattle.tk_ledger.specs.Bodies.{Bodies}
@@ -40,6 +40,7 @@ grant_of kind.Code d (CodeRedeemed b) m na h = absurd (cc)
 grant_of kind.Code d (RefreshRotated b) m na h = absurd (cc)
 grant_of kind.Code d (TokenRevoked b) m na h = absurd (cc)
 grant_of kind.Code d (ReuseSeen b) m na h = absurd (cc)
+grant_of kind.Code d (SubjectOut b) m na h = absurd (cc)
 grant_of kind.Refresh d (ClientAdded b) m na h = absurd (cc)
 grant_of kind.Refresh d (ClientRetired b) m na h = absurd (cc)
 grant_of kind.Refresh d (ConsentGiven b) m na h = absurd (cc)
@@ -47,6 +48,7 @@ grant_of kind.Refresh d (ConsentWithdrawn b) m na h = absurd (cc)
 grant_of kind.Refresh d (CodeIssued b) m na h = absurd (cc)
 grant_of kind.Refresh d (TokenRevoked b) m na h = absurd (cc)
 grant_of kind.Refresh d (ReuseSeen b) m na h = absurd (cc)
+grant_of kind.Refresh d (SubjectOut b) m na h = absurd (cc)
 
 -- so it is of what stands at the token's dot
 grant_there : (body_at : Bodies) (k : TokenId) (m : MintedFields) → k.kind ≢ kind.Access → minted_in body_at k ≡ Some m → (l : Link) × (links_in body_at k.dot ≡ Some l) × (grant_at k.dot l ≡ k)
@@ -78,7 +80,7 @@ pub revoked_ends : (body_at : Bodies) (now : ℕ) (h : Handle) → IsEnded body_
 revoked_ends body_at now h e a = elim (no_code_is h.id.kind a.no_code) [
   | inl access ↦ a.access access e
   | inr refresh ↦
-      let bad = (bad_grants body_at h.id e.minted (λ same. clash (sym refresh ∙ same)) e.mints).1 (inl (inr (refresh, e))) in
+      let bad = (bad_grants body_at h.id e.minted (λ same. clash (sym refresh ∙ same)) e.mints).1 (inl (inr (inl (refresh, e)))) in
       family_ends body_at now h h.id.dot e.code bad e.under e.under a
 ]
   where

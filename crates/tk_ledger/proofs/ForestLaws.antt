@@ -1,6 +1,8 @@
 -- How the forest follows the set, when it has one fact more. Key results:
---   tied_still, tied_put, tied_mark, tied_revoke   after each kind of change
+--   tied_still, tied_put, tied_mark, tied_revoke, tied_out   after each kind of change
+--   refresh_mark, code_mark, woken_both            one dot that is woken
 --   woken_more, woken_whole                        a loop over dots that wakes them
+--   codes_more, codes_whole                        a loop over codes that wakes them
 --   top_code                                       the code that a top tells
 use Rattle.std.proofs.Common.{◌≡◌, inl, inr, ℕ, ◌+◌, ◌<◌, ◌≤◌, Bool, true, false, ◌&&◌, ◌||◌, cond, List, [], ◌∷◌, ◌++◌, get_or, take, length, Option, Some, None, Result, Ok, OnOk, refl, sym, ap, subst, ◌∙◌}
 use Rattle.std.proofs.lemmas.Bool.{true≢false, or_cases, or_left, or_right, and_parts, and_from, cond-true, cond-false}
@@ -9,11 +11,14 @@ use Rattle.std.specs.Option.{option_and_then}
 use Rattle.std.specs.List.{list_any}
 use Rattle.std.specs.FinMap as map
 use Rattle.std.specs.FinSet as set
+use Rattle.std.specs.BTreeSet.{BTreeSet, contains}
+use Rattle.sha2.specs.Sha256.{sha256}
 use Rattle.tk_handle.specs.declared.dot.Dot.{Dot}
 use Rattle.tk_handle.specs.declared.kind.Kind.{Kind}
 use Rattle.tk_handle.specs.declared.kind.Kind.TheVariants as kind
 use Rattle.tk_handle.specs.declared.token_id.TokenId.{TokenId}
 use Rattle.tk_family.specs.declared.link.Link.{Link}
+use Rattle.tk_family.specs.declared.link.Link.TheVariants.{Code}
 use Rattle.tk_family.specs.declared.top.Top.{Top}
 use Rattle.tk_family.specs.declared.top.Top.TheVariants as top
 use Rattle.tk_family.specs.Dots.{dot_eq, has}
@@ -31,20 +36,28 @@ use Rattle.tk_store.proofs.FactSetLaws.{tied}
 use Rattle.tk_store.proofs.PutLaws.{some_injective, none_is_not_some}
 use Rattle.tk_store.proofs.OneMoreLaws.{OneMore, more_subset, any_fact-more, cases_dots, apart_at}
 use Rattle.tk_ledger.specs.Bodies.{is_same_token}
-use Rattle.tk_ledger.specs.Tokens.{link_of, links_in, sees_reuse, reuse_of, is_reused, is_refresh, is_ended, is_marked}
+use Rattle.tk_ledger.specs.Tokens.{link_of, links_in, sees_reuse, reuse_of, is_reused, is_refresh, is_code, is_ended, is_out, is_stopped, is_marked}
 use Rattle.tk_ledger.specs.ByTop.{code_in_top}
-use Rattle.tk_ledger.specs.Changes.{change_in, puts, reuses_of}
-use Rattle.tk_ledger.specs.Index.{IsTied, refresh_at, woken, any_woken}
+use Rattle.tk_ledger.specs.Changes.{change_in, reuses_of}
+use Rattle.tk_ledger.specs.Index.{IsTied, IsCodes, code_cmp, code_key, codes_of, dots_of, refresh_at, code_at, wakes_refresh, wakes_code, woken, any_woken}
 use Rattle.tk_ledger.specs.declared.change.Change.{Change}
 use Rattle.tk_ledger.specs.declared.change.Change.TheVariants as change
+use Rattle.tk_ledger.specs.declared.subject_keys.CodeKey.{CodeKey}
 use Rattle.tk_ledger.proofs.TokenLaws.{is_marked-sound, is_marked-complete, IsMarked-below}
 use Rattle.tk_ledger.proofs.SameLaws.{same_token-true, same_token-itself}
 use Rattle.tk_ledger.proofs.KeyLaws.{same_tests, at_itself, token_tied}
-use Rattle.tk_ledger.proofs.EndingLaws.{Revokes, link_under, marks_by_one}
+use Rattle.tk_ledger.proofs.EndingLaws.{Revokes, SignsOut, link_under, marks_by_one}
+use Rattle.tk_ledger.proofs.SubjectKeyLaws.{in_codes}
 
 -- ---- what a change says is what its body says
 
-link-change : (b : Body) → link_of b ≡ puts (change_in b)
+-- the link that a change puts
+abbrev pub puts : Change → Option Link
+puts (change.Issue subject) = Some Code
+puts (change.Put l) = Some l
+puts other = None
+
+pub link-change : (b : Body) → link_of b ≡ puts (change_in b)
 link-change (CodeIssued f) = refl
 link-change (CodeRedeemed f) = refl
 link-change (RefreshRotated f) = refl
@@ -60,6 +73,32 @@ revoking other = None
 
 revoking-change : (b : Body) (k : TokenId) (r : Revokes b k) → revoking (change_in b) ≡ Some r.revocation
 revoking-change b k r = ap (λ (x : Body). revoking (change_in x)) r.body
+
+-- the digest of the subject that a change signs out
+abbrev pub signed : Change → Option (List ℕ)
+signed (change.SignOut subject moment) = Some subject
+signed other = None
+
+-- the change is a sign-out
+abbrev pub signs : Change → Bool
+signs (change.SignOut subject moment) = true
+signs other = false
+
+signs-change : (G : FactSet) (b : Body) (k : TokenId) → SignsOut G b k → signs (change_in b) ≡ true
+signs-change G b k r = ap (λ (x : Body). signs (change_in x)) r.body
+
+-- a link reuses, revokes and signs out nothing
+put_reuses : (y : Change) (l : Link) (k : TokenId) → puts y ≡ Some l → reuses_of k y ≡ false
+put_reuses (change.Mark j) l k h = absurd (none_is_not_some l h)
+put_reuses other l k h = refl
+
+put_revokes : (y : Change) (l : Link) → puts y ≡ Some l → revoking y ≡ None
+put_revokes (change.Revoke f) l h = absurd (none_is_not_some l h)
+put_revokes other l h = refl
+
+put_signs : (y : Change) (l : Link) → puts y ≡ Some l → signs y ≡ false
+put_signs (change.SignOut subject moment) l h = absurd (none_is_not_some l h)
+put_signs other l h = refl
 
 -- ---- links
 
@@ -83,12 +122,17 @@ unraised f g q h r = r.before r.code (subst (λ (x : Links). IsUnder x q r.code)
 raised_by : (f g L N : Links) (q : Dot) → ((x : Dot) → L x ≡ f x) → ((x : Dot) → N x ≡ g x) → IsRaised f g q → IsRaised L N q
 raised_by f g L N q h i r = subst (λ (x : Links). IsRaised x N q) (sym (λ j x. h x j)) (subst (λ (x : Links). IsRaised f x q) (sym (λ j x. i x j)) r)
 
--- ---- revocations that wait no more
+-- ---- what waits no more
 
 refresh_is : (k : Kind) → is_refresh k ≡ true → k ≡ kind.Refresh
 refresh_is kind.Code h = absurd (true≢false (sym h))
 refresh_is kind.Access h = absurd (true≢false (sym h))
 refresh_is kind.Refresh h = refl
+
+code_is : (k : Kind) → is_code k ≡ true → k ≡ kind.Code
+code_is kind.Code h = refl
+code_is kind.Access h = absurd (true≢false (sym h))
+code_is kind.Refresh h = absurd (true≢false (sym h))
 
 token_by : (k : TokenId) (d : Dot) (j : Kind) → d ≡ k.dot → j ≡ k.kind → record { dot = d; kind = j } ≡ k
 token_by k d j h i = λ x. record { dot = h x; kind = i x }
@@ -96,23 +140,42 @@ token_by k d j h i = λ x. record { dot = h x; kind = i x }
 refresh_token : (k : TokenId) → is_refresh k.kind ≡ true → refresh_at k.dot ≡ k
 refresh_token k h = token_by k k.dot kind.Refresh refl (sym (refresh_is k.kind h))
 
-woken-sound : (F : FactSet) (k : TokenId) (d : Dot) → woken F k d ≡ true → is_marked F k ≡ true
-woken-sound F k d h =
-    let p = and_parts _ _ h in
-    subst (λ (t : TokenId). is_marked F t ≡ true) (same_token-true (refresh_at d) k p.0) (or_right (is_reused F (refresh_at d)) (is_ended F (refresh_at d)) p.1)
+code_token : (k : TokenId) → is_code k.kind ≡ true → code_at k.dot ≡ k
+code_token k h = token_by k k.dot kind.Code refl (sym (code_is k.kind h))
 
-woken-complete : (F : FactSet) (k : TokenId) → is_refresh k.kind ≡ true → is_ended F k ≡ true → woken F k k.dot ≡ true
-woken-complete F k h e = and_from _ _
-    (ap (λ (t : TokenId). is_same_token t k) (refresh_token k h) ∙ same_token-itself k)
-    (ap (is_ended F) (refresh_token k h) ∙ e)
+woken-sound : (F : FactSet) (k : TokenId) (d : Dot) → woken F k d ≡ true → is_marked F k ≡ true
+woken-sound F k d h = elim (or_cases (wakes_refresh F k d) (wakes_code F k d) h) [
+  | inl ended ↦
+      let p = and_parts _ _ ended in
+      subst (λ (t : TokenId). is_marked F t ≡ true) (same_token-true (refresh_at d) k p.0) (or_right (is_reused F (refresh_at d)) (is_stopped F (refresh_at d)) (or_left (is_ended F (refresh_at d)) false p.1))
+  | inr gone ↦
+      let p = and_parts _ _ gone in
+      subst (λ (t : TokenId). is_marked F t ≡ true) (same_token-true (code_at d) k p.0) (or_right (is_reused F (code_at d)) (is_stopped F (code_at d)) p.1)
+]
+
+woken-complete : (F : FactSet) (k : TokenId) → is_stopped F k ≡ true → woken F k k.dot ≡ true
+woken-complete F k h = elim (or_cases (is_refresh k.kind && is_ended F k) (is_code k.kind && is_out F k.dot) h) [
+  | inl ended ↦
+      let p = and_parts _ _ ended in
+      or_left (wakes_refresh F k k.dot) (wakes_code F k k.dot) (and_from _ _
+      (ap (λ (t : TokenId). is_same_token t k) (refresh_token k p.0) ∙ same_token-itself k)
+      (ap (is_ended F) (refresh_token k p.0) ∙ p.1))
+  | inr gone ↦
+      let p = and_parts _ _ gone in
+      or_right (wakes_refresh F k k.dot) (wakes_code F k k.dot) (and_from _ _ (ap (λ (t : TokenId). is_same_token t k) (code_token k p.0) ∙ same_token-itself k) p.1)
+]
 
 and_true : (a b : Bool) → b ≡ true → a ≡ (a && b)
 and_true true b h = sym h
 and_true false b h = refl
 
 -- a mark at a dot whose refresh token is ended wakes it
-pub woken_mark : (F : FactSet) (x y : ForestFacts) (d : Dot) → is_ended F (refresh_at d) ≡ true → y.marks ≡ set.insert x.marks (refresh_at d) → (k : TokenId) → set.contains y.marks k ≡ (woken F k d || set.contains x.marks k)
-woken_mark F x y d e new k = mark_put x.marks y.marks (refresh_at d) new k ∙ ap (λ b. b || set.contains x.marks k) (token_tied (refresh_at d) k ∙ and_true (is_same_token (refresh_at d) k) (is_ended F (refresh_at d)) e)
+pub refresh_mark : (F : FactSet) (x y : ForestFacts) (d : Dot) → is_ended F (refresh_at d) ≡ true → y.marks ≡ set.insert x.marks (refresh_at d) → (k : TokenId) → set.contains y.marks k ≡ (wakes_refresh F k d || set.contains x.marks k)
+refresh_mark F x y d e new k = mark_put x.marks y.marks (refresh_at d) new k ∙ ap (λ b. b || set.contains x.marks k) (token_tied (refresh_at d) k ∙ and_true (is_same_token (refresh_at d) k) (is_ended F (refresh_at d)) e)
+
+-- and one at a dot whose code is out
+pub code_mark : (F : FactSet) (x y : ForestFacts) (d : Dot) → is_out F d ≡ true → y.marks ≡ set.insert x.marks (code_at d) → (k : TokenId) → set.contains y.marks k ≡ (wakes_code F k d || set.contains x.marks k)
+code_mark F x y d e new k = mark_put x.marks y.marks (code_at d) new k ∙ ap (λ b. b || set.contains x.marks k) (token_tied (code_at d) k ∙ and_true (is_same_token (code_at d) k) (is_out F d) e)
 
 pub ok_at : {A E : Type 0} (r : Result A E) (x : A) (P : Type 0) → r ≡ Ok x → OnOk r P → P
 ok_at {A} {E} r x P h o = subst (λ (q : Result A E). OnOk q P) h o
@@ -121,11 +184,11 @@ any_woken-sound : (F : FactSet) (k : TokenId) (ds : List Dot) → any_woken F k 
 any_woken-sound F k [] h = absurd (true≢false (sym h))
 any_woken-sound F k (d ∷ ds) h = elim (or_cases (woken F k d) (any_woken F k ds) h) [ inl here ↦ woken-sound F k d here | inr more ↦ any_woken-sound F k ds more ]
 
-any_woken-complete : (F : FactSet) (k : TokenId) (ds : List Dot) → has ds k.dot ≡ true → is_refresh k.kind ≡ true → is_ended F k ≡ true → any_woken F k ds ≡ true
-any_woken-complete F k [] at h e = absurd (true≢false (sym at))
-any_woken-complete F k (d ∷ ds) at h e = elim (or_cases (dot_eq k.dot d) (has ds k.dot) at) [
-  | inl here ↦ or_left (woken F k d) (any_woken F k ds) (ap (woken F k) (sym (tied k.dot d here)) ∙ woken-complete F k h e)
-  | inr more ↦ or_right (woken F k d) (any_woken F k ds) (any_woken-complete F k ds more h e)
+any_woken-complete : (F : FactSet) (k : TokenId) (ds : List Dot) → has ds k.dot ≡ true → is_stopped F k ≡ true → any_woken F k ds ≡ true
+any_woken-complete F k [] at h = absurd (true≢false (sym at))
+any_woken-complete F k (d ∷ ds) at h = elim (or_cases (dot_eq k.dot d) (has ds k.dot) at) [
+  | inl here ↦ or_left (woken F k d) (any_woken F k ds) (ap (woken F k) (sym (tied k.dot d here)) ∙ woken-complete F k h)
+  | inr more ↦ or_right (woken F k d) (any_woken F k ds) (any_woken-complete F k ds more h)
 ]
 
 any_push : (p : Dot → Bool) (xs : List Dot) (x : Dot) → list_any p (xs ++ x ∷ []) ≡ (p x || list_any p xs)
@@ -141,6 +204,10 @@ group : (a b c : Bool) → (a || (b || c)) ≡ ((a || b) || c)
 group true b c = refl
 group false b c = refl
 
+-- the code of a dot, and then its refresh token
+pub woken_both : (F : FactSet) (k : TokenId) (d : Dot) (M N S : Bool) → N ≡ (wakes_code F k d || M) → S ≡ (wakes_refresh F k d || N) → S ≡ (woken F k d || M)
+woken_both F k d M N S first second = second ∙ ap (λ t. wakes_refresh F k d || t) first ∙ group (wakes_refresh F k d) (wakes_code F k d) M
+
 -- one turn of the loop
 pub woken_more : (F : FactSet) (k : TokenId) (ds : List Dot) (i : ℕ) (e : Dot) (M N S : Bool) → i < length ds → N ≡ (any_woken F k (take i ds) || M) → S ≡ (woken F k (get_or ds i e) || N) → S ≡ (any_woken F k (take (i + 1) ds) || M)
 woken_more F k ds i e M N S lt old new =
@@ -151,6 +218,15 @@ woken_more F k ds i e M N S lt old new =
 pub woken_whole : (F : FactSet) (k : TokenId) (ds : List Dot) (i : ℕ) (M S : Bool) → length ds ≤ i → S ≡ (any_woken F k (take i ds) || M) → S ≡ (any_woken F k ds || M)
 woken_whole F k ds i M S end now = now ∙ ap (λ xs. any_woken F k xs || M) (take_all i ds end)
 
+-- a loop over the keys of codes: what is left to wake, and what is marked, stay the same together
+pub codes_more : (F : FactSet) (k : TokenId) (e : CodeKey) (rest : List CodeKey) (A M S : Bool) → (any_woken F k (dots_of (e ∷ rest)) || M) ≡ A → S ≡ (woken F k e.code || M) → (any_woken F k (dots_of rest) || S) ≡ A
+codes_more F k e rest A M S old new = ap (λ t. any_woken F k (dots_of rest) || t) new ∙ turn (woken F k e.code) (any_woken F k (dots_of rest)) M ∙ old
+  where
+    turn : (a b c : Bool) → (b || (a || c)) ≡ ((a || b) || c)
+    turn true true c = refl
+    turn true false c = refl
+    turn false b c = refl
+
 -- ---- marks
 
 still_marked : (F G : FactSet) (d : Dot) (b : Body) → OneMore F G d b → (k : TokenId) → is_marked F k ≡ true → is_marked G k ≡ true
@@ -160,39 +236,50 @@ still_marked F G d b m k h = is_marked-complete G k (IsMarked-below F G (more_su
 marks_from : (F G : FactSet) (d : Dot) (b : Body) (k : TokenId) (M S n : Bool) → OneMore F G d b → M ≡ is_marked F k → S ≡ (n || M)
     → (n ≡ true → is_marked G k ≡ true)
     → (reuses_of k (change_in b) ≡ true → n ≡ true)
-    → (is_refresh k.kind ≡ true → is_ended G k ≡ true → Revokes b k → n ≡ true)
-    → (is_refresh k.kind ≡ true → is_ended G k ≡ true → IsRaised (links_in (map.get F)) (links_in (map.get G)) k.dot → n ≡ true)
+    → (is_stopped G k ≡ true → Revokes b k → n ≡ true)
+    → (is_stopped G k ≡ true → SignsOut G b k → n ≡ true)
+    → (is_stopped G k ≡ true → IsRaised (links_in (map.get F)) (links_in (map.get G)) k.dot → n ≡ true)
     → S ≡ is_marked G k
-marks_from F G d b k M S n m old new sound reuse revoke raise = new ∙ same_tests (n || M) (is_marked G k)
+marks_from F G d b k M S n m old new sound reuse revoke sign raise = new ∙ same_tests (n || M) (is_marked G k)
     (λ h. elim (or_cases n M h) [ inl now ↦ sound now | inr before ↦ still_marked F G d b m k (sym old ∙ before) ])
     (λ h. elim (marks_by_one F G d b k m h) [
       | inl before ↦ or_right n M (old ∙ before)
       | inr (inl seen) ↦ or_left n M (reuse (sym (reuse-change k b) ∙ seen))
-      | inr (inr more) ↦ or_left n M (elim more.2 [ inl r ↦ revoke more.0 more.1 r | inr r ↦ raise more.0 more.1 r ])
+      | inr (inr more) ↦ or_left n M (elim more.1 [
+        | inl r ↦ revoke more.0 r
+        | inr (inl r) ↦ sign more.0 r
+        | inr (inr r) ↦ raise more.0 r
+      ])
     ])
 
+-- no sign-out
+unsigned : (G : FactSet) (b : Body) (k : TokenId) {P : Type 0} → signs (change_in b) ≡ false → SignsOut G b k → P
+unsigned G b k none r = absurd (true≢false (sym (signs-change G b k r) ∙ none))
+
 -- a change that is none of a forest's
-pub tied_still : (F G : FactSet) (d : Dot) (b : Body) (x : ForestFacts) → OneMore F G d b → puts (change_in b) ≡ None → revoking (change_in b) ≡ None → ((k : TokenId) → reuses_of k (change_in b) ≡ false) → IsTied F x → IsTied G x
-tied_still F G d b x m put revoke reuse t = record {
+pub tied_still : (F G : FactSet) (d : Dot) (b : Body) (x : ForestFacts) → OneMore F G d b → puts (change_in b) ≡ None → revoking (change_in b) ≡ None → signs (change_in b) ≡ false → ((k : TokenId) → reuses_of k (change_in b) ≡ false) → IsTied F x → IsTied G x
+tied_still F G d b x m put revoke sign reuse t = record {
   links = λ q. t.links q ∙ links_still F G d b m put q;
   marks = λ k. marks_from F G d b k (set.contains x.marks k) (set.contains x.marks k) false m (t.marks k) refl
       (λ h. absurd (true≢false (sym h)))
       (λ h. sym (reuse k) ∙ h)
-      (λ _ _ r. absurd (none_is_not_some r.revocation (sym revoke ∙ revoking-change b k r)))
-      (λ _ _ r. absurd (unraised (links_in (map.get F)) (links_in (map.get G)) k.dot (links_still F G d b m put) r));
+      (λ _ r. absurd (none_is_not_some r.revocation (sym revoke ∙ revoking-change b k r)))
+      (λ _ r. unsigned G b k sign r)
+      (λ _ r. absurd (unraised (links_in (map.get F)) (links_in (map.get G)) k.dot (links_still F G d b m put) r));
 }
 
--- a link, and the revocations that waited for it
-pub tied_put : (F G : FactSet) (d : Dot) (b : Body) (l : Link) (x y z : ForestFacts) (ds : List Dot) → OneMore F G d b → change_in b ≡ change.Put l → IsTied F x
+-- a link, and what waited for it
+pub tied_put : (F G : FactSet) (d : Dot) (b : Body) (l : Link) (x y z : ForestFacts) (ds : List Dot) → OneMore F G d b → puts (change_in b) ≡ Some l → IsTied F x
     → ((q : Dot) → map.get y.links q ≡ links_in (map.get G) q) → y.marks ≡ x.marks → ((q : Dot) → IsRaised (links_at x) (links_at y) q → has ds q ≡ true)
     → z.links ≡ y.links → ((k : TokenId) → set.contains z.marks k ≡ (any_woken G k ds || set.contains y.marks k)) → IsTied G z
 tied_put F G d b l x y z ds m is t links same all still woke = record {
   links = λ q. ap (λ s. map.get s q) still ∙ links q;
   marks = λ k. marks_from F G d b k (set.contains y.marks k) (set.contains z.marks k) (any_woken G k ds) m (ap (λ s. set.contains s k) same ∙ t.marks k) (woke k)
       (any_woken-sound G k ds)
-      (λ h. absurd (true≢false (sym h ∙ ap (reuses_of k) is)))
-      (λ _ _ r. absurd (none_is_not_some r.revocation (sym (ap revoking is) ∙ revoking-change b k r)))
-      (λ u v r. any_woken-complete G k ds (all k.dot (raised_by (links_in (map.get F)) (links_in (map.get G)) (links_at x) (links_at y) k.dot t.links links r)) u v);
+      (λ h. absurd (true≢false (sym h ∙ put_reuses (change_in b) l k is)))
+      (λ _ r. absurd (none_is_not_some r.revocation (sym (put_revokes (change_in b) l is) ∙ revoking-change b k r)))
+      (λ _ r. unsigned G b k (put_signs (change_in b) l is) r)
+      (λ u r. any_woken-complete G k ds (all k.dot (raised_by (links_in (map.get F)) (links_in (map.get G)) (links_at x) (links_at y) k.dot t.links links r)) u);
 }
 
 -- a reuse
@@ -201,10 +288,11 @@ pub tied_mark : (F G : FactSet) (d : Dot) (b : Body) (j : TokenId) (x y : Forest
 tied_mark F G d b j x y m is t still new = record {
   links = λ q. ap (λ s. map.get s q) still ∙ t.links q ∙ links_still F G d b m (ap puts is) q;
   marks = λ k. marks_from F G d b k (set.contains x.marks k) (set.contains y.marks k) (is_same_token j k) m (t.marks k) (new k)
-      (λ h. or_left (is_reused G k) (is_refresh k.kind && is_ended G k) (any_fact-more (sees_reuse k) F G d b m ∙ or_left (sees_reuse k (d, b)) (is_reused F k) (reuse-change k b ∙ ap (reuses_of k) is ∙ h)))
+      (λ h. or_left (is_reused G k) (is_stopped G k) (any_fact-more (sees_reuse k) F G d b m ∙ or_left (sees_reuse k (d, b)) (is_reused F k) (reuse-change k b ∙ ap (reuses_of k) is ∙ h)))
       (λ h. sym (ap (reuses_of k) is) ∙ h)
-      (λ _ _ r. absurd (none_is_not_some r.revocation (sym (ap revoking is) ∙ revoking-change b k r)))
-      (λ _ _ r. absurd (unraised (links_in (map.get F)) (links_in (map.get G)) k.dot (links_still F G d b m (ap puts is)) r));
+      (λ _ r. absurd (none_is_not_some r.revocation (sym (ap revoking is) ∙ revoking-change b k r)))
+      (λ _ r. unsigned G b k (ap signs is) r)
+      (λ _ r. absurd (unraised (links_in (map.get F)) (links_in (map.get G)) k.dot (links_still F G d b m (ap puts is)) r));
 }
 
 -- a revocation
@@ -215,10 +303,30 @@ tied_revoke F G d b f x y m is t still new = record {
   marks = λ k. marks_from F G d b k (set.contains x.marks k) (set.contains y.marks k) (woken G k f.token.dot) m (t.marks k) (new k)
       (woken-sound G k f.token.dot)
       (λ h. absurd (true≢false (sym h ∙ ap (reuses_of k) is)))
-      (λ u v r. (let same : f ≡ r.revocation = some_injective f r.revocation (sym (ap revoking is) ∙ revoking-change b k r) in
-      ap (woken G k) (ap (λ (g : revoked.TokenRevoked). g.token.dot) same ∙ ap (λ (t : TokenId). t.dot) r.token) ∙ woken-complete G k u v))
-      (λ _ _ r. absurd (unraised (links_in (map.get F)) (links_in (map.get G)) k.dot (links_still F G d b m (ap puts is)) r));
+      (λ u r. (let same : f ≡ r.revocation = some_injective f r.revocation (sym (ap revoking is) ∙ revoking-change b k r) in
+      ap (woken G k) (ap (λ (g : revoked.TokenRevoked). g.token.dot) same ∙ ap (λ (t : TokenId). t.dot) r.token) ∙ woken-complete G k u))
+      (λ _ r. unsigned G b k (ap signs is) r)
+      (λ _ r. absurd (unraised (links_in (map.get F)) (links_in (map.get G)) k.dot (links_still F G d b m (ap puts is)) r));
 }
+
+-- a sign-out, and the codes of its subject
+pub tied_out : (F G : FactSet) (d : Dot) (b : Body) (subject : List ℕ) (moment : ℕ) (codes : BTreeSet CodeKey) (x y : ForestFacts) → OneMore F G d b → change_in b ≡ change.SignOut subject moment → IsTied F x → IsCodes G codes
+    → y.links ≡ x.links → ((k : TokenId) → set.contains y.marks k ≡ (any_woken G k (dots_of (codes_of codes subject)) || set.contains x.marks k)) → IsTied G y
+tied_out F G d b subject moment codes x y m is t listed still new = record {
+  links = λ q. ap (λ s. map.get s q) still ∙ t.links q ∙ links_still F G d b m (ap puts is) q;
+  marks = λ k. marks_from F G d b k (set.contains x.marks k) (set.contains y.marks k) (any_woken G k (dots_of (codes_of codes subject))) m (t.marks k) (new k)
+      (any_woken-sound G k (dots_of (codes_of codes subject)))
+      (λ h. absurd (true≢false (sym h ∙ ap (reuses_of k) is)))
+      (λ _ r. absurd (none_is_not_some r.revocation (sym (ap revoking is) ∙ revoking-change b k r)))
+      (λ u r. any_woken-complete G k (dots_of (codes_of codes subject)) (among_codes k r) u)
+      (λ _ r. absurd (unraised (links_in (map.get F)) (links_in (map.get G)) k.dot (links_still F G d b m (ap puts is)) r));
+}
+  where
+    among_codes : (k : TokenId) → SignsOut G b k → has (dots_of (codes_of codes subject)) k.dot ≡ true
+    among_codes k r =
+        let same : sha256 r.issued.subject ≡ subject = ap sha256 (sym r.subject_is) ∙ some_injective (sha256 r.sign_out.subject) subject (sym (ap (λ (c : Body). signed (change_in c)) r.body) ∙ ap signed is) in
+        let key = listed k.dot r.issued r.issues in
+        in_codes codes subject k.dot (sym (ap (λ s. contains code_cmp codes (code_key s k.dot)) same) ∙ key.0) key.1
 
 -- ---- look-ups
 

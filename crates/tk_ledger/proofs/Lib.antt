@@ -6,11 +6,15 @@ pub mod EndingLaws
 pub mod FamilyEnds
 pub mod ForestLaws
 pub mod KeyLaws
+pub mod KeySearchLaws
 pub mod SameLaws
+pub mod SignOutLaws
 pub mod SpanLaws
 pub mod StandingLaws
 pub mod StatusCases
 pub mod StatusLaws
+pub mod SubjectKeyLaws
+pub mod SubjectTableLaws
 pub mod TableLaws
 pub mod TokenLaws
 pub mod TopLaws

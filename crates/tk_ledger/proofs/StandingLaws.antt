@@ -37,6 +37,7 @@ issues (bodies.CodeRedeemed f) code h passes = cc
 issues (bodies.RefreshRotated f) code h passes = cc
 issues (bodies.TokenRevoked f) code h passes = cc
 issues (bodies.ReuseSeen f) code h passes = cc
+issues (bodies.SubjectOut f) code h passes = cc
 
 issued_subject : (F : FactSet) → IsFactSet F → (c : Dot) (code : issued.CodeIssued) → issued_at (map.get F) c ≡ Some code → is_subject code.subject ≡ true
 issued_subject F sound c code e =

@@ -3,8 +3,9 @@
 --   is_used-sound .. is_dead-complete      the tests and the relations, both ways
 --   root-sound, root-complete                   the root of a family
 --   IsEnded-below, IsBad-below, IsDead-below      a greater set keeps them
-use Rattle.std.proofs.Common.{◌≡◌, inl, inr, ℕ, true, ◌&&◌, List, Option, Some, None, refl, sym, ap, subst, ◌∙◌}
-use Rattle.std.proofs.lemmas.Bool.{true≢false, or_cases, or_left, or_right, and_parts, and_from, not-true, not_from_false}
+use Rattle.std.proofs.Common.{◌≡◌, inl, inr, ℕ, ◌≤◌, true, ◌&&◌, List, Option, Some, None, refl, sym, ap, subst, ◌∙◌}
+use borrow.Author.Tests.{le-leb}
+use Rattle.std.proofs.lemmas.Bool.{leb-true, true≢false, or_cases, or_left, or_right, and_parts, and_from, not-true, not_from_false}
 use Rattle.std.proofs.lemmas.Slice.Eq.{bytes_eq-Decides}
 use Rattle.std.specs.Option.{option_and_then, option_map}
 use Rattle.std.specs.FinMap as map
@@ -22,11 +23,13 @@ use Rattle.tk_fact.specs.declared.body.Body.TheVariants.{TokenRevoked, ReuseSeen
 use Rattle.tk_fact.specs.declared.code_issued.CodeIssued as issued
 use Rattle.tk_fact.specs.declared.token_revoked.TokenRevoked as revoked
 use Rattle.tk_fact.specs.declared.reuse_seen.ReuseSeen as seen
+use Rattle.tk_fact.specs.declared.subject_out.SubjectOut as out
 use Rattle.tk_fact.specs.Tokens.{MintedFields, minted_of, uses_of}
 use Rattle.tk_store.specs.FactSet.{FactSet, IsSubset}
 use Rattle.tk_store.proofs.EntryLaws.{Passing, any_fact-held, any_fact-of}
 use Rattle.tk_ledger.specs.Bodies.{is_same_dot, is_same_token}
-use Rattle.tk_ledger.specs.Tokens.{link_of, links_in, code_in, issued_at, issued_in, Root, root_of, root_in, minted_in, uses, is_used, uses_elsewhere, uses_first, is_twice, IsRevoked, revoked_by, revokes, is_revoked, IsEnded, is_ended_by, is_ended, reuse_of, sees_reuse, is_reused, is_refresh, IsMarked, is_marked, is_bad_grant, kills, is_dead}
+use Rattle.tk_ledger.specs.Tokens.{link_of, links_in, code_in, issued_at, issued_in, Root, root_of, root_in, minted_in, uses, is_used, uses_elsewhere, uses_first, is_twice, IsRevoked, revoked_by, revokes, is_revoked, IsEnded, is_ended_by, is_ended, reuse_of, sees_reuse, is_reused, is_refresh, is_code, IsOut, is_out_by, is_out, IsStopped, is_stopped, IsMarked, is_marked, is_bad_grant, kills, is_dead}
+use Rattle.tk_ledger.specs.SignOuts.{IsSignedOut, signs_out_in, signs_out, is_signed_out}
 use Rattle.tk_ledger.proofs.SameLaws.{same_dot-true, same_dot-false, same_dot-apart, same_dot-itself, same_token-true, same_token-itself, names_token-true, names_token-of, names_dot-true, names_dot-of}
 
 -- what an option's function gives comes from a value there
@@ -50,6 +53,7 @@ uses_agree (bodies.CodeRedeemed f) = refl
 uses_agree (bodies.RefreshRotated f) = refl
 uses_agree (bodies.TokenRevoked f) = refl
 uses_agree (bodies.ReuseSeen f) = refl
+uses_agree (bodies.SubjectOut f) = refl
 
 pub links_at : (F : FactSet) (d : Dot) (b : Body) → map.get F d ≡ Some b → links_in (map.get F) d ≡ link_of b
 links_at F d b h = ap (option_and_then link_of) h
@@ -173,6 +177,42 @@ is_ended-complete F k e =
     ∙ ap (is_ended_by F k (Some e.minted)) (root-complete F k.dot e.code e.issued e.under e.issues)
     ∙ is_revoked-complete F k e.minted.digest e.issued.client e.by_client
 
+-- ---- sign-outs
+
+-- a body that says that the subject signed out at the moment, or later
+record SigningOut (subject : List ℕ) (moment : ℕ) (b : Body) : Type 0 where
+  pub sign_out : out.SubjectOut
+  pub body : b ≡ bodies.SubjectOut sign_out
+  pub subject_is : sign_out.subject ≡ subject
+  pub not_before : moment ≤ sign_out.moment
+
+signing_out : (subject : List ℕ) (moment : ℕ) (b : Body) → signs_out_in subject moment b ≡ true → SigningOut subject moment b
+signing_out subject moment (bodies.SubjectOut x) h =
+    let p = and_parts _ _ h in
+    record { sign_out = x; body = refl; subject_is = (bytes_eq-Decides x.subject subject).0 p.0; not_before = leb-true moment x.moment p.1 }
+signing_out subject moment body h = absurd (true≢false (sym h))
+
+pub is_signed_out-sound : (F : FactSet) (subject : List ℕ) (moment : ℕ) → is_signed_out F subject moment ≡ true → IsSignedOut (map.get F) subject moment
+is_signed_out-sound F subject moment h =
+    let x : Passing (signs_out subject moment) F = any_fact-held (signs_out subject moment) F h in
+    let s : SigningOut subject moment x.body = signing_out subject moment x.body x.passes in
+    record { place = x.dot; sign_out = s.sign_out; held = x.held ∙ ap (λ (b : Body). Some b) s.body; subject_is = s.subject_is; not_before = s.not_before }
+
+pub is_signed_out-complete : (F : FactSet) (subject : List ℕ) (moment : ℕ) → IsSignedOut (map.get F) subject moment → is_signed_out F subject moment ≡ true
+is_signed_out-complete F subject moment s =
+    any_fact-of (signs_out subject moment) F s.place (bodies.SubjectOut s.sign_out) s.held
+    (and_from _ _ ((bytes_eq-Decides s.sign_out.subject subject).1 s.subject_is) (le-leb moment s.sign_out.moment s.not_before))
+
+out_by-sound : (F : FactSet) (d : Dot) (o : Option issued.CodeIssued) → issued_at (map.get F) d ≡ o → is_out_by F o ≡ true → IsOut (map.get F) d
+out_by-sound F d None at h = absurd (true≢false (sym h))
+out_by-sound F d (Some code) at h = record { issued = code; issues = at; signed_out = is_signed_out-sound F code.subject code.start h }
+
+pub is_out-sound : (F : FactSet) (d : Dot) → is_out F d ≡ true → IsOut (map.get F) d
+is_out-sound F d h = out_by-sound F d (issued_at (map.get F) d) refl h
+
+pub is_out-complete : (F : FactSet) (d : Dot) → IsOut (map.get F) d → is_out F d ≡ true
+is_out-complete F d o = ap (is_out_by F) o.issues ∙ is_signed_out-complete F o.issued.subject o.issued.start o.signed_out
+
 -- ---- marks
 
 reusing : (k : TokenId) (b : Body) → reuse_of k b ≡ true → (r : seen.ReuseSeen) × (b ≡ ReuseSeen r) × (r.token ≡ k)
@@ -184,18 +224,33 @@ refresh_is kind.Code h = absurd (true≢false (sym h))
 refresh_is kind.Access h = absurd (true≢false (sym h))
 refresh_is kind.Refresh h = refl
 
+code_is : (k : Kind) → is_code k ≡ true → k ≡ kind.Code
+code_is kind.Code h = refl
+code_is kind.Access h = absurd (true≢false (sym h))
+code_is kind.Refresh h = absurd (true≢false (sym h))
+
+pub is_stopped-sound : (F : FactSet) (k : TokenId) → is_stopped F k ≡ true → IsStopped (map.get F) k
+is_stopped-sound F k h = elim (or_cases (is_refresh k.kind && is_ended F k) (is_code k.kind && is_out F k.dot) h) [
+  | inl ended ↦ let p = and_parts _ _ ended in inl (refresh_is k.kind p.0, is_ended-sound F k p.1)
+  | inr gone ↦ let p = and_parts _ _ gone in inr (code_is k.kind p.0, is_out-sound F k.dot p.1)
+]
+
+pub is_stopped-complete : (F : FactSet) (k : TokenId) → IsStopped (map.get F) k → is_stopped F k ≡ true
+is_stopped-complete F k (inl e) = or_left (is_refresh k.kind && is_ended F k) (is_code k.kind && is_out F k.dot) (and_from _ _ (ap is_refresh e.0) (is_ended-complete F k e.1))
+is_stopped-complete F k (inr o) = or_right (is_refresh k.kind && is_ended F k) (is_code k.kind && is_out F k.dot) (and_from _ _ (ap is_code o.0) (is_out-complete F k.dot o.1))
+
 pub is_marked-sound : (F : FactSet) (k : TokenId) → is_marked F k ≡ true → IsMarked (map.get F) k
-is_marked-sound F k h = elim (or_cases (is_reused F k) (is_refresh k.kind && is_ended F k) h) [
+is_marked-sound F k h = elim (or_cases (is_reused F k) (is_stopped F k) h) [
   | inl reused ↦
       let x : Passing (sees_reuse k) F = any_fact-held (sees_reuse k) F reused in
       let r : (r : seen.ReuseSeen) × (x.body ≡ ReuseSeen r) × (r.token ≡ k) = reusing k x.body x.passes in
       inl (record { place = x.dot; reuse = r.0; held = x.held ∙ ap (λ (b : Body). Some b) r.1; token = r.2 })
-  | inr over ↦ let p = and_parts _ _ over in inr (refresh_is k.kind p.0, is_ended-sound F k p.1)
+  | inr stopped ↦ inr (is_stopped-sound F k stopped)
 ]
 
 pub is_marked-complete : (F : FactSet) (k : TokenId) → IsMarked (map.get F) k → is_marked F k ≡ true
-is_marked-complete F k (inl r) = or_left (is_reused F k) (is_refresh k.kind && is_ended F k) (any_fact-of (sees_reuse k) F r.place (ReuseSeen r.reuse) r.held (ap (λ (t : TokenId). is_same_token t k) r.token ∙ same_token-itself k))
-is_marked-complete F k (inr e) = or_right (is_reused F k) (is_refresh k.kind && is_ended F k) (and_from _ _ (ap is_refresh e.0) (is_ended-complete F k e.1))
+is_marked-complete F k (inl r) = or_left (is_reused F k) (is_stopped F k) (any_fact-of (sees_reuse k) F r.place (ReuseSeen r.reuse) r.held (ap (λ (t : TokenId). is_same_token t k) r.token ∙ same_token-itself k))
+is_marked-complete F k (inr s) = or_right (is_reused F k) (is_stopped F k) (is_stopped-complete F k s)
 
 -- ---- bad grants and dead families
 
@@ -265,9 +320,20 @@ IsEnded-below F G w k e = record {
   };
 }
 
+-- a subject that signed out stays so
+pub IsSignedOut-below : (F G : FactSet) → IsSubset F G → (subject : List ℕ) (moment : ℕ) → IsSignedOut (map.get F) subject moment → IsSignedOut (map.get G) subject moment
+IsSignedOut-below F G w subject moment s = record { place = s.place; sign_out = s.sign_out; held = w s.place (bodies.SubjectOut s.sign_out) s.held; subject_is = s.subject_is; not_before = s.not_before }
+
+IsOut-below : (F G : FactSet) → IsSubset F G → (d : Dot) → IsOut (map.get F) d → IsOut (map.get G) d
+IsOut-below F G w d o = record { issued = o.issued; issues = below-and_then issued_in F G w d o.issued o.issues; signed_out = IsSignedOut-below F G w o.issued.subject o.issued.start o.signed_out }
+
+IsStopped-below : (F G : FactSet) → IsSubset F G → (k : TokenId) → IsStopped (map.get F) k → IsStopped (map.get G) k
+IsStopped-below F G w k (inl e) = inl (e.0, IsEnded-below F G w k e.1)
+IsStopped-below F G w k (inr o) = inr (o.0, IsOut-below F G w k.dot o.1)
+
 pub IsMarked-below : (F G : FactSet) → IsSubset F G → (k : TokenId) → IsMarked (map.get F) k → IsMarked (map.get G) k
 IsMarked-below F G w k (inl r) = inl (record { place = r.place; reuse = r.reuse; held = w r.place (ReuseSeen r.reuse) r.held; token = r.token })
-IsMarked-below F G w k (inr e) = inr (e.0, IsEnded-below F G w k e.1)
+IsMarked-below F G w k (inr s) = inr (IsStopped-below F G w k s)
 
 pub marks-below : (F G : FactSet) → IsSubset F G → MarksWithin (IsMarked (map.get F)) (IsMarked (map.get G))
 marks-below F G w k h = IsMarked-below F G w k h

@@ -1,30 +1,30 @@
 -- What one fact changes in the tables of a ledger (own).
 --   change_in               what the fact of a body changes
---   adds, retires_of, gives_to, withdraws_of, puts, revokes_of, reuses_of   what a change does to each table
-use Rattle.std.specs.Prelude.{ℕ, Bool, true, false, ◌&&◌, List, Option, Some, None}
+--   adds, retires_of, gives_to, withdraws_of, revokes_of, reuses_of   what a change does to the tables
+use Rattle.std.specs.Prelude.{ℕ, Bool, true, false, ◌&&◌, List}
 use Rattle.std.specs.Str.{bytes_eq}
 use Rattle.sha2.specs.Sha256.{sha256}
 use Rattle.tk_handle.specs.declared.dot.Dot.{Dot}
 use Rattle.tk_handle.specs.declared.token_id.TokenId.{TokenId}
-use Rattle.tk_family.specs.declared.link.Link.{Link}
 use Rattle.tk_family.specs.declared.link.Link.TheVariants as link
 use Rattle.tk_fact.specs.declared.body.Body.{Body}
-use Rattle.tk_fact.specs.declared.body.Body.TheVariants.{ClientAdded, ClientRetired, ConsentGiven, ConsentWithdrawn, CodeIssued, CodeRedeemed, RefreshRotated, TokenRevoked, ReuseSeen}
+use Rattle.tk_fact.specs.declared.body.Body.TheVariants.{ClientAdded, ClientRetired, ConsentGiven, ConsentWithdrawn, CodeIssued, CodeRedeemed, RefreshRotated, TokenRevoked, ReuseSeen, SubjectOut}
 use Rattle.tk_ledger.specs.Bodies.{is_same_dot, is_same_token}
 use Rattle.tk_ledger.specs.declared.change.Change.{Change}
 use Rattle.tk_ledger.specs.declared.change.Change.TheVariants as change
 
--- a consent is found by its client and the digest of its subject
+-- a consent is found by its client and the digest of its subject, a code and a sign-out by that digest
 abbrev pub change_in : Body → Change
 change_in (ClientAdded f) = change.Add
 change_in (ClientRetired f) = change.Retire f.client
 change_in (ConsentGiven f) = change.Give f.client (sha256 f.subject)
 change_in (ConsentWithdrawn f) = change.Withdraw f.consent
-change_in (CodeIssued f) = change.Put link.Code
+change_in (CodeIssued f) = change.Issue (sha256 f.subject)
 change_in (CodeRedeemed f) = change.Put (link.Redeems f.code)
 change_in (RefreshRotated f) = change.Put (link.Rotates f.parent f.generation)
 change_in (TokenRevoked f) = change.Revoke f
 change_in (ReuseSeen f) = change.Mark f.token
+change_in (SubjectOut f) = change.SignOut (sha256 f.subject) f.moment
 
 -- a client is added
 abbrev pub adds : Change → Bool
@@ -45,11 +45,6 @@ gives_to client subject other = false
 abbrev pub withdraws_of : Dot → Change → Bool
 withdraws_of q (change.Withdraw d) = is_same_dot d q
 withdraws_of q other = false
-
--- the link that is put
-abbrev pub puts : Change → Option Link
-puts (change.Put l) = Some l
-puts other = None
 
 -- the client revokes the token of the digest
 abbrev pub revokes_of : TokenId → List ℕ → Dot → Change → Bool

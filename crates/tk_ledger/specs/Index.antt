@@ -2,10 +2,15 @@
 --   row_added, row_retired                        what a client's row says
 --   consent_cmp, consent_key, revocation_cmp, revocation_key   the keys of consents and revocations, and their orders
 --   IsClients, IsConsents, IsWithdrawals, IsRevocations        each table answers as the set does
+--   code_cmp, code_key, out_cmp, out_key          the keys of codes and sign-outs, and their orders
+--   codes_of, outs_of                             the keys of one subject
+--   dots_of                                       the dots of codes
+--   IsCodes, IsOuts                               each code and each sign-out has its key
+--   tells_of                                      the sign-out of a key is this subject's
 --   IsTied                                        a forest's links and marks are those of the set
---   woken, any_woken                              a refresh token whose client revoked it
+--   woken, any_woken                              a refresh token whose client revoked it, or a code whose subject signed out
 --   IsIndexed                                     all of these
-use Rattle.std.specs.Prelude.{◌≡◌, ℕ, Bool, true, false, ◌&&◌, List, Option, Some, None, is_some}
+use Rattle.std.specs.Prelude.{map as map_list, ◌≡◌, ◌≤◌, ◌-◌, ℕ, Bool, true, false, ◌&&◌, ◌||◌, ◌==◌, List, Option, Some, None, is_some}
 use Rattle.std.specs.List.{list_any}
 use Rattle.std.specs.Ordering.{nat_cmp, ordering_then, eq_by_cmp}
 use Rattle.std.specs.declared.cmp.Ordering.{Ordering}
@@ -24,16 +29,21 @@ use Rattle.tk_handle.specs.declared.kind.Kind.TheVariants as kind
 use Rattle.tk_handle.specs.declared.token_id.TokenId.{TokenId}
 use Rattle.tk_handle.specs.Dot.{IsDot, dot_cmp}
 use Rattle.tk_handle.specs.Kind.{kind_number}
-use Rattle.tk_handle.specs.Ranges.{greatest_region, greatest_serial}
+use Rattle.tk_handle.specs.Ranges.{greatest_region, greatest_serial, greatest_moment}
 use Rattle.tk_family.specs.ForestFacts.{ForestFacts}
+use Rattle.tk_fact.specs.declared.code_issued.CodeIssued as issued
 use Rattle.tk_fact.specs.declared.consent_given.ConsentGiven as given
+use Rattle.tk_fact.specs.declared.subject_out.SubjectOut as out
 use Rattle.tk_store.specs.FactSet.{FactSet}
 use Rattle.tk_ledger.specs.Bodies.{is_same_dot, is_same_token}
 use Rattle.tk_ledger.specs.Clients.{client_at, is_retired, consent_at, is_withdrawn}
-use Rattle.tk_ledger.specs.Tokens.{links_in, is_revoked, is_ended, is_marked}
+use Rattle.tk_ledger.specs.SignOuts.{sign_out_at}
+use Rattle.tk_ledger.specs.Tokens.{links_in, issued_at, is_revoked, is_ended, is_out, is_marked}
 use Rattle.tk_ledger.specs.declared.client_rows.ClientRow.{ClientRow}
 use Rattle.tk_ledger.specs.declared.consent_keys.ConsentKey.{ConsentKey}
 use Rattle.tk_ledger.specs.declared.revocations.Revocation.{Revocation}
+use Rattle.tk_ledger.specs.declared.subject_keys.CodeKey.{CodeKey}
+use Rattle.tk_ledger.specs.declared.subject_keys.OutKey.{OutKey}
 use Rattle.tk_ledger.specs.declared.index.Index.{Index}
 
 -- ---- clients
@@ -116,6 +126,54 @@ is_listed_revoked t k digest client = keys.contains revocation_cmp t (revocation
 abbrev pub IsRevocations : FactSet → BTreeSet Revocation → Type 0
 IsRevocations F t = (k : TokenId) (digest : List ℕ) (client : Dot) → is_listed_revoked t k digest client ≡ is_revoked F k digest client
 
+-- ---- codes and sign-outs
+
+-- by the digest of the subject, then by dot
+abbrev pub code_cmp : CodeKey → CodeKey → Ordering
+code_cmp a b = ordering_then (slice_cmp nat_cmp a.subject b.subject) (dot_cmp a.code b.code)
+
+abbrev pub code_key : List ℕ → Dot → CodeKey
+code_key subject d = record { subject = subject; code = d }
+
+-- the keys of the codes of a subject of the digest
+abbrev pub codes_of : BTreeSet CodeKey → List ℕ → List CodeKey
+codes_of t subject = keys.keys_between code_cmp (Included (code_key subject least_dot)) (Included (code_key subject greatest_dot)) t
+
+-- by the digest of the subject, then by what is left of all time after the moment, so that the last comes first, then by dot
+abbrev pub out_cmp : OutKey → OutKey → Ordering
+out_cmp a b = ordering_then (slice_cmp nat_cmp a.subject b.subject) (ordering_then (nat_cmp a.left b.left) (dot_cmp a.place b.place))
+
+-- what is left of all time after a moment, in seconds
+abbrev pub left_after : ℕ → ℕ
+left_after moment = greatest_moment - moment
+
+abbrev pub out_key : List ℕ → ℕ → Dot → OutKey
+out_key subject left d = record { subject = subject; left = left; place = d }
+
+-- the keys of the sign-outs of a subject of the digest
+abbrev pub outs_of : BTreeSet OutKey → List ℕ → List OutKey
+outs_of t subject = keys.keys_between out_cmp (Included (out_key subject 0 least_dot)) (Included (out_key subject greatest_moment greatest_dot)) t
+
+-- the dots of these codes
+abbrev pub dots_of : List CodeKey → List Dot
+dots_of ks = map_list (λ k. k.code) ks
+
+-- each code that is held has its key, and stands at a dot; a key without its code says nothing
+abbrev pub IsCodes : FactSet → BTreeSet CodeKey → Type 0
+IsCodes F t = (d : Dot) (code : issued.CodeIssued) → issued_at (map.get F) d ≡ Some code → (keys.contains code_cmp t (code_key (sha256 code.subject) d) ≡ true) × IsDot d
+
+-- so has each sign-out
+abbrev pub IsOuts : FactSet → BTreeSet OutKey → Type 0
+IsOuts F t = (d : Dot) (f : out.SubjectOut) → sign_out_at (map.get F) d ≡ Some f → (keys.contains out_cmp t (out_key (sha256 f.subject) (left_after f.moment) d) ≡ true) × IsDot d × (f.moment ≤ greatest_moment)
+
+abbrev pub tells_by : List ℕ → ℕ → Option out.SubjectOut → Bool
+tells_by subject left None = false
+tells_by subject left (Some f) = bytes_eq f.subject subject && left_after f.moment == left
+
+-- at the key's dot this subject signed out, at the key's moment
+abbrev pub tells_of : FactSet → List ℕ → OutKey → Bool
+tells_of F subject k = tells_by subject k.left (sign_out_at (map.get F) k.place)
+
 -- ---- the forest
 
 -- a forest has the links and the marks of the set
@@ -126,9 +184,20 @@ pub record IsTied (F : FactSet) (x : ForestFacts) : Type 0 where
 abbrev pub refresh_at : Dot → TokenId
 refresh_at d = record { dot = d; kind = kind.Refresh }
 
+abbrev pub code_at : Dot → TokenId
+code_at d = record { dot = d; kind = kind.Code }
+
 -- the token is the refresh token of the dot, and its client revoked it
+abbrev pub wakes_refresh : FactSet → TokenId → Dot → Bool
+wakes_refresh F k d = is_same_token (refresh_at d) k && is_ended F (refresh_at d)
+
+-- it is the code of the dot, and its subject signed out
+abbrev pub wakes_code : FactSet → TokenId → Dot → Bool
+wakes_code F k d = is_same_token (code_at d) k && is_out F d
+
+-- either of them
 abbrev pub woken : FactSet → TokenId → Dot → Bool
-woken F k d = is_same_token (refresh_at d) k && is_ended F (refresh_at d)
+woken F k d = wakes_refresh F k d || wakes_code F k d
 
 -- it is one of the dots
 abbrev pub any_woken : FactSet → TokenId → List Dot → Bool
@@ -142,4 +211,6 @@ pub record IsIndexed (F : FactSet) (x : Index) : Type 0 where
   pub consents_are : IsConsents F x.consents
   pub withdrawn_are : IsWithdrawals F x.withdrawn
   pub revocations_are : IsRevocations F x.revocations
+  pub codes_are : IsCodes F x.codes
+  pub outs_are : IsOuts F x.outs
   pub tied : IsTied F x.forest

@@ -2,7 +2,8 @@
 --   Bodies           what stands at each dot, and the tests that dots and tokens are the same
 --   Clients          clients and consents of a fact set
 --   Views            what the ledger shows of them; ViewFields, what contracts see
---   Tokens           what is minted, used and revoked, and which families are dead
+--   SignOuts         who signed out everywhere, and when
+--   Tokens           what is minted, used, revoked and stopped, and which families are dead
 --   Status           the status of a handle at a moment; StandingFields, what contracts see
 --   Standings        what holds of every standing
 --   Ends             what ends a whole family
@@ -17,6 +18,7 @@ pub mod Clients
 pub mod Ends
 pub mod Index
 pub mod Laws
+pub mod SignOuts
 pub mod StandingFields
 pub mod Standings
 pub mod Status

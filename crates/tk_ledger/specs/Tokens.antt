@@ -8,7 +8,9 @@
 --   IsRevoked, is_revoked   a client revoked the token of a digest
 --   IsEnded, is_ended       the client of its code revoked a token
 --   IsReused, is_reused     a reuse of a token was seen
---   IsMarked, is_marked     the tokens that a reuse or a revocation marks
+--   IsOut, is_out           the subject of a code signed out
+--   IsStopped, is_stopped   the tokens that a revocation or a sign-out stops
+--   IsMarked, is_marked     these, and those that a reuse was seen of
 --   is_bad, is_dead         bad grants, and the dead families that they make
 -- What is used, used twice, bad and dead is said in tk_family, of the links and marks of the set: `links_in`, `IsMarked`.
 use Rattle.std.specs.Prelude.{◌≡◌, ◌⊎◌, ℕ, Bool, true, false, ◌&&◌, ◌||◌, not, List, Option, Some, None}
@@ -31,6 +33,7 @@ use Rattle.tk_fact.specs.declared.reuse_seen.ReuseSeen as seen
 use Rattle.tk_fact.specs.Tokens.{MintedFields, minted_of}
 use Rattle.tk_store.specs.FactSet.{FactSet, any_fact}
 use Rattle.tk_ledger.specs.Bodies.{Bodies, is_same_dot, is_same_token, names_dot, names_token}
+use Rattle.tk_ledger.specs.SignOuts.{IsSignedOut, is_signed_out}
 
 -- ---- links, and the code that a token is under
 
@@ -56,6 +59,19 @@ issued_in body = None
 -- the fact that issued the code
 abbrev pub issued_at : Bodies → Dot → Option issued.CodeIssued
 issued_at body_at c = option_and_then issued_in (body_at c)
+
+-- a code was issued at the dot, and its subject signed out everywhere at its start or later (own)
+pub record IsOut (body_at : Bodies) (d : Dot) : Type 0 where
+  pub issued : issued.CodeIssued
+  pub issues : issued_at body_at d ≡ Some issued
+  pub signed_out : IsSignedOut body_at issued.subject issued.start
+
+abbrev pub is_out_by : FactSet → Option issued.CodeIssued → Bool
+is_out_by F None = false
+is_out_by F (Some code) = is_signed_out F code.subject code.start
+
+abbrev pub is_out : FactSet → Dot → Bool
+is_out F d = is_out_by F (issued_at (map.get F) d)
 
 -- the root of a family: its code, and the fact that issued it (own)
 pub record Root : Type 0 where
@@ -159,12 +175,24 @@ is_refresh kind.Code = false
 is_refresh kind.Access = false
 is_refresh kind.Refresh = true
 
--- a reuse of the token was seen (RFC 6749, 10.4 and 10.5), or it is a refresh token that its client revoked (RFC 7009, 2.1)
+abbrev pub is_code : Kind → Bool
+is_code kind.Code = true
+is_code kind.Access = false
+is_code kind.Refresh = false
+
+-- it is a refresh token that its client revoked (RFC 7009, 2.1), or a code whose subject signed out (own)
+abbrev pub IsStopped : Bodies → TokenId → Type 0
+IsStopped body_at k = ((k.kind ≡ kind.Refresh) × IsEnded body_at k) ⊎ ((k.kind ≡ kind.Code) × IsOut body_at k.dot)
+
+abbrev pub is_stopped : FactSet → TokenId → Bool
+is_stopped F k = (is_refresh k.kind && is_ended F k) || (is_code k.kind && is_out F k.dot)
+
+-- a reuse of the token was seen (RFC 6749, 10.4 and 10.5), or it was stopped
 abbrev pub IsMarked : Bodies → TokenId → Type 0
-IsMarked body_at k = IsReused body_at k ⊎ ((k.kind ≡ kind.Refresh) × IsEnded body_at k)
+IsMarked body_at k = IsReused body_at k ⊎ IsStopped body_at k
 
 abbrev pub is_marked : FactSet → TokenId → Bool
-is_marked F k = is_reused F k || (is_refresh k.kind && is_ended F k)
+is_marked F k = is_reused F k || is_stopped F k
 
 abbrev pub is_bad_grant : FactSet → Dot → Option Link → Bool
 is_bad_grant F d None = false

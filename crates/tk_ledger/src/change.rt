@@ -2,7 +2,7 @@
 
 use tk_fact::TokenRevoked;
 use tk_family::Link;
-use tk_handle::{Dot, TokenId};
+use tk_handle::{Dot, Moment, TokenId};
 
 // What one fact changes in the tables.
 #[derive(Clone, Copy, Debug)]
@@ -19,12 +19,20 @@ pub(crate) enum Change {
     },
     // The consent that was given at this dot is withdrawn.
     Withdraw(Dot),
-    // The fact does this in a family.
+    // A code is issued, to a subject of this digest.
+    Issue([u8; 32]),
+    // The fact does this in a family, and issues no code.
     Put(Link),
     // A client revokes a token.
     Revoke(TokenRevoked),
     // A reuse of this token was seen.
     Mark(TokenId),
+    // A subject signs out everywhere.
+    SignOut {
+        // The digest of the subject, SHA-256.
+        subject: [u8; 32],
+        moment: Moment,
+    },
 }
 
 ghost use Rattle.std.specs.Prelude.{◌≡◌};
@@ -34,7 +42,7 @@ ghost use Rattle.tk_ledger.specs.Changes.{change_in};
 use sha2::{Digest, Sha256};
 use tk_fact::{Body, Subject};
 
-// The digest by which the consents of a subject are found.
+// The digest by which the consents, the codes and the sign-outs of a subject are found.
 pub(crate) fn subject_digest(subject: &Subject) -> [u8; 32]
     ensures { result ≡ sha256 subject.now }
 {
@@ -53,7 +61,7 @@ pub(crate) fn change_of(body: &Body) -> Change
             subject: subject_digest(&fact.subject),
         },
         Body::ConsentWithdrawn(fact) => Change::Withdraw(fact.consent),
-        Body::CodeIssued(_) => Change::Put(Link::Code),
+        Body::CodeIssued(fact) => Change::Issue(subject_digest(&fact.subject)),
         Body::CodeRedeemed(fact) => Change::Put(Link::Redeems(fact.code)),
         Body::RefreshRotated(fact) => Change::Put(Link::Rotates {
             parent: fact.parent,
@@ -61,5 +69,9 @@ pub(crate) fn change_of(body: &Body) -> Change
         }),
         Body::TokenRevoked(fact) => Change::Revoke(*fact),
         Body::ReuseSeen(fact) => Change::Mark(fact.token),
+        Body::SubjectOut(fact) => Change::SignOut {
+            subject: subject_digest(&fact.subject),
+            moment: fact.moment,
+        },
     }
 }

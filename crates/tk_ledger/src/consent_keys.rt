@@ -17,10 +17,26 @@ ghost use Rattle.std.specs.BTreeSet.{contains};
 ghost use Rattle.tk_handle.specs.declared.dot.Dot.{Dot as the_dot};
 ghost use Rattle.tk_handle.specs.Dot.{IsDot, dot_cmp};
 ghost use Rattle.tk_ledger.specs.declared.consent_keys.ConsentKey.{ConsentKey as the_key};
-ghost use Rattle.tk_ledger.specs.Index.{is_at, consent_cmp, consent_key};
+ghost use Rattle.tk_ledger.specs.Index.{is_at, least_dot, greatest_dot, consent_cmp, consent_key};
 
 use std::alloc::AllocError;
 use std::collections::BTreeSet;
+use tk_handle::{RegionNumber, Serial};
+
+// The first dot of all, and the last.
+pub(crate) fn dot_range() -> (Dot, Dot)
+    ensures least { result.0 ≡ least_dot }
+    ensures greatest { result.1 ≡ greatest_dot }
+{
+    let (Some(first), Some(last)) = (RegionNumber::new(1), RegionNumber::new(u16::MAX)) else {
+        unreachable!()
+    };
+    let (Some(least), Some(greatest)) = (Dot::new(first, 1), Dot::new(last, Serial::GREATEST))
+    else {
+        unreachable!()
+    };
+    (least, greatest)
+}
 
 // Notes a consent that was given.
 pub(crate) fn give(

@@ -12,12 +12,12 @@ ghost use Rattle.tk_ledger.specs.Index.{consent_cmp, consent_key, least_dot, gre
 
 use crate::change::subject_digest;
 use crate::compare::{same_bytes, same_dots};
-use crate::consent_keys::{self, ConsentKey};
+use crate::consent_keys::{self, ConsentKey, dot_range};
 use crate::ledger::Ledger;
 use std::collections::BTreeSet;
 use std::ops::Bound;
 use tk_fact::{Body, ConsentGiven, Subject};
-use tk_handle::{Dot, RegionNumber, Serial};
+use tk_handle::Dot;
 use tk_scope::Scope;
 
 pub(crate) fn given_in(body: &Body) -> Option<&ConsentGiven>
@@ -56,13 +56,7 @@ fn span(client: Dot, subject: &[u8; 32]) -> (ConsentKey, ConsentKey)
     ensures first { result.0 ≡ consent_key client subject.now least_dot }
     ensures last { result.1 ≡ consent_key client subject.now greatest_dot }
 {
-    let (Some(least), Some(greatest)) = (RegionNumber::new(1), RegionNumber::new(u16::MAX)) else {
-        unreachable!()
-    };
-    let (Some(least), Some(greatest)) = (Dot::new(least, 1), Dot::new(greatest, Serial::GREATEST))
-    else {
-        unreachable!()
-    };
+    let (least, greatest) = dot_range();
     let key = |consent: Dot| ConsentKey {
         client,
         subject: *subject,

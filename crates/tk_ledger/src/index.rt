@@ -3,6 +3,7 @@
 use crate::client_rows::ClientRow;
 use crate::consent_keys::ConsentKey;
 use crate::revocations::Revocation;
+use crate::subject_keys::{CodeKey, OutKey};
 use std::collections::{BTreeMap, BTreeSet};
 use tk_family::Forest;
 use tk_handle::Dot;
@@ -14,6 +15,8 @@ pub(crate) struct Index {
     pub(crate) consents: BTreeSet<ConsentKey>,
     pub(crate) withdrawn: BTreeSet<Dot>,
     pub(crate) revocations: BTreeSet<Revocation>,
+    pub(crate) codes: BTreeSet<CodeKey>,
+    pub(crate) outs: BTreeSet<OutKey>,
     pub(crate) forest: Forest,
 }
 
@@ -23,17 +26,19 @@ ghost use Rattle.std.specs.FinMap as map;
 ghost use Rattle.tk_store.specs.Store.{facts_of};
 ghost use Rattle.tk_ledger.specs.declared.change.Change.TheVariants as change_as;
 ghost use Rattle.tk_ledger.specs.Changes.{change_in};
-ghost use Rattle.tk_ledger.specs.Index.{IsRevocations, IsTied, IsIndexed};
+ghost use Rattle.tk_ledger.specs.Index.{IsRevocations, IsCodes, IsOuts, IsTied, IsIndexed};
+ghost use Rattle.tk_ledger.specs.Tokens.{links_in};
 
 use crate::change::Change;
 use crate::client_rows::{add_client, retire_client};
 use crate::consent_keys::{give, withdraw};
 use crate::revocations::revoke;
-use crate::wake::{wake, wake_all};
+use crate::subject_keys::{drop_code, list_code, list_out};
+use crate::wake::{wake, wake_all, wake_codes};
 use std::alloc::{AllocError, Global};
 use tk_fact::TokenRevoked;
 use tk_family::Link;
-use tk_handle::TokenId;
+use tk_handle::{Moment, TokenId};
 use tk_store::FactStore;
 
 impl Index {
@@ -46,6 +51,8 @@ impl Index {
             consents: BTreeSet::new(alloc),
             withdrawn: BTreeSet::new(alloc),
             revocations: BTreeSet::new(alloc),
+            codes: BTreeSet::new(alloc),
+            outs: BTreeSet::new(alloc),
             forest: Forest::new(alloc),
         }
     }
@@ -55,22 +62,56 @@ impl Index {
 fn put_link(
     facts: &FactStore,
     revocations: &BTreeSet<Revocation>,
+    outs: &BTreeSet<OutKey>,
     forest: &mut Forest,
     dot: Dot,
     link: Link,
 ) -> Result<(), AllocError>
-    requires change { option_map change_in (map.get (facts_of facts.now) dot) ≡ Some (change_as.Put link) }
+    requires link { links_in (map.get (facts_of facts.now)) dot ≡ Some link }
     requires revocations { IsRevocations (facts_of facts.now) revocations.now }
+    requires outs { IsOuts (facts_of facts.now) outs.now }
     requires tied { IsTied (map.remove (facts_of facts.now) dot) forest.old }
     ensures ok { OnOk result (IsTied (facts_of facts.now) forest.new) }
     ensures err { OnErr result (IsTied (map.remove (facts_of facts.now) dot) forest.new) }
 {
     match forest.put(dot, link) {
         Ok(raised) => {
-            wake_all(facts, revocations, forest, raised.as_slice());
+            wake_all(facts, revocations, outs, forest, raised.as_slice());
             Ok(())
         }
         Err(error) => Err(error),
+    }
+}
+
+// A code: its key, and then its link. The key goes again where there is no room for the link.
+fn issue_code(
+    facts: &FactStore,
+    revocations: &BTreeSet<Revocation>,
+    codes: &mut BTreeSet<CodeKey>,
+    outs: &BTreeSet<OutKey>,
+    forest: &mut Forest,
+    dot: Dot,
+    subject: &[u8; 32],
+) -> Result<(), AllocError>
+    requires change { option_map change_in (map.get (facts_of facts.now) dot) ≡ Some (change_as.Issue subject.now) }
+    requires revocations { IsRevocations (facts_of facts.now) revocations.now }
+    requires codes { IsCodes (map.remove (facts_of facts.now) dot) codes.old }
+    requires outs { IsOuts (facts_of facts.now) outs.now }
+    requires tied { IsTied (map.remove (facts_of facts.now) dot) forest.old }
+    ensures codes { OnOk result (IsCodes (facts_of facts.now) codes.new) }
+    ensures ok { OnOk result (IsTied (facts_of facts.now) forest.new) }
+    ensures codes_err { OnErr result (IsCodes (map.remove (facts_of facts.now) dot) codes.new) }
+    ensures err { OnErr result (IsTied (map.remove (facts_of facts.now) dot) forest.new) }
+{
+    if let Err(error) = list_code(codes, subject, dot) {
+        return Err(error);
+    }
+    match put_link(facts, revocations, outs, forest, dot, Link::Code) {
+        Ok(()) => Ok(()),
+        Err(error) => {
+            drop_code(codes, subject, dot);
+            Err(error)
+        }
     }
 }
 
@@ -93,12 +134,14 @@ fn mark_token(
 fn revoke_token(
     facts: &FactStore,
     revocations: &mut BTreeSet<Revocation>,
+    outs: &BTreeSet<OutKey>,
     forest: &mut Forest,
     dot: Dot,
     fact: &TokenRevoked,
 ) -> Result<(), AllocError>
     requires change { option_map change_in (map.get (facts_of facts.now) dot) ≡ Some (change_as.Revoke fact.now) }
     requires revocations { IsRevocations (map.remove (facts_of facts.now) dot) revocations.old }
+    requires outs { IsOuts (facts_of facts.now) outs.now }
     requires tied { IsTied (map.remove (facts_of facts.now) dot) forest.old }
     ensures revocations { OnOk result (IsRevocations (facts_of facts.now) revocations.new) }
     ensures ok { OnOk result (IsTied (facts_of facts.now) forest.new) }
@@ -107,7 +150,37 @@ fn revoke_token(
 {
     match revoke(revocations, &fact.token, &fact.digest, fact.client) {
         Ok(()) => {
-            wake(facts, revocations, forest, fact.token.dot);
+            wake(facts, revocations, outs, forest, fact.token.dot);
+            Ok(())
+        }
+        Err(error) => Err(error),
+    }
+}
+
+// A sign-out: its key, and then marks of the codes of its subject that it kills.
+fn sign_out(
+    facts: &FactStore,
+    revocations: &BTreeSet<Revocation>,
+    codes: &BTreeSet<CodeKey>,
+    outs: &mut BTreeSet<OutKey>,
+    forest: &mut Forest,
+    dot: Dot,
+    subject: &[u8; 32],
+    moment: Moment,
+) -> Result<(), AllocError>
+    requires change { option_map change_in (map.get (facts_of facts.now) dot) ≡ Some (change_as.SignOut subject.now moment) }
+    requires revocations { IsRevocations (facts_of facts.now) revocations.now }
+    requires codes { IsCodes (facts_of facts.now) codes.now }
+    requires outs { IsOuts (map.remove (facts_of facts.now) dot) outs.old }
+    requires tied { IsTied (map.remove (facts_of facts.now) dot) forest.old }
+    ensures outs { OnOk result (IsOuts (facts_of facts.now) outs.new) }
+    ensures ok { OnOk result (IsTied (facts_of facts.now) forest.new) }
+    ensures outs_err { OnErr result (IsOuts (map.remove (facts_of facts.now) dot) outs.new) }
+    ensures err { OnErr result (IsTied (map.remove (facts_of facts.now) dot) forest.new) }
+{
+    match list_out(outs, subject, moment, dot) {
+        Ok(()) => {
+            wake_codes(facts, revocations, codes, outs, forest, subject);
             Ok(())
         }
         Err(error) => Err(error),
@@ -131,10 +204,41 @@ pub(crate) fn follow(
         Change::Retire(client) => retire_client(&mut index.clients, *client),
         Change::Give { client, subject } => give(&mut index.consents, *client, subject, dot),
         Change::Withdraw(consent) => withdraw(&mut index.withdrawn, *consent),
-        Change::Put(link) => put_link(facts, &index.revocations, &mut index.forest, dot, *link),
-        Change::Revoke(fact) => {
-            revoke_token(facts, &mut index.revocations, &mut index.forest, dot, fact)
-        }
+        Change::Issue(subject) => issue_code(
+            facts,
+            &index.revocations,
+            &mut index.codes,
+            &index.outs,
+            &mut index.forest,
+            dot,
+            subject,
+        ),
+        Change::Put(link) => put_link(
+            facts,
+            &index.revocations,
+            &index.outs,
+            &mut index.forest,
+            dot,
+            *link,
+        ),
+        Change::Revoke(fact) => revoke_token(
+            facts,
+            &mut index.revocations,
+            &index.outs,
+            &mut index.forest,
+            dot,
+            fact,
+        ),
         Change::Mark(token) => mark_token(facts, &mut index.forest, dot, *token),
+        Change::SignOut { subject, moment } => sign_out(
+            facts,
+            &index.revocations,
+            &index.codes,
+            &mut index.outs,
+            &mut index.forest,
+            dot,
+            subject,
+            *moment,
+        ),
     }
 }

@@ -32,7 +32,7 @@ impl Model for Ledger {
     ghost invariant = { λ l. IsIndexed (facts_of l.store) l.index };
 }
 
-ghost use Rattle.std.specs.Prelude.{◌≡◌, ◌≢◌, ◌↔◌, ◌+◌, ◌^◌, ◌<◌, ◌≤◌, None, IsTrue};
+ghost use Rattle.std.specs.Prelude.{◌≡◌, ◌≢◌, ◌↔◌, ◌+◌, ◌^◌, ◌<◌, ◌≤◌, ℕ, None, IsTrue};
 ghost use Rattle.std.specs.FinMap as map;
 ghost use Rattle.tk_handle.specs.declared.kind.Kind.TheVariants as kind;
 ghost use Rattle.tk_fact.specs.Check.{refusal_of};
@@ -41,6 +41,7 @@ ghost use Rattle.tk_store.specs.Store.{facts_of};
 ghost use Rattle.tk_ledger.specs.Clients as clients_of;
 ghost use Rattle.tk_ledger.specs.Ends.{FamilyEnds};
 ghost use Rattle.tk_ledger.specs.Index.{IsIndexed};
+ghost use Rattle.tk_ledger.specs.SignOuts.{is_signed_out, reaches, IsLastSignOut};
 ghost use Rattle.tk_ledger.specs.Standings.{IsSound};
 ghost use Rattle.tk_ledger.specs.Status.{status_in, IsActive, IsKnown, IsKnownToken, IsLive, Says};
 ghost use Rattle.tk_ledger.specs.Tokens.{is_revoked, IsEnded, IsRevoked};
@@ -51,6 +52,7 @@ use crate::client_view::ClientView;
 use crate::consent_view::ConsentView;
 use crate::index::follow;
 use crate::revocations;
+use crate::sign_outs::last_sign_out;
 use crate::status::Status;
 use tk_fact::{Fact, Subject};
 use tk_family::Steps;
@@ -133,6 +135,14 @@ impl Ledger {
         ensures meaning { IsTrue result ↔ IsRevoked (map.get (facts_of self.now)) token.now digest.now client }
     {
         revocations::is_revoked(&self.index.revocations, token, digest, client)
+    }
+
+    /// The greatest moment at which the subject signed out everywhere, or None where no sign-out of it is held (own).
+    pub fn signed_out(&self, subject: &Subject) -> Option<Moment>
+        ensures value { (moment : ℕ) → is_signed_out (facts_of self.now) subject.now moment ≡ reaches result moment }
+        ensures meaning { IsLastSignOut (map.get (facts_of self.now)) subject.now result }
+    {
+        last_sign_out(&self.store, &self.index.outs, subject)
     }
 
     /// Where the token of a handle stands at the moment, by one to eight look-ups, which are counted. From its end on a

@@ -32,8 +32,10 @@ mod ledger;
 mod looks;
 mod revocations;
 mod root;
+mod sign_outs;
 mod standing;
 mod status;
+mod subject_keys;
 mod wake;
 
 pub use client_view::ClientView;

@@ -26,7 +26,7 @@ pub(crate) fn issued_in(body: &Body) -> Option<&CodeIssued>
 }
 
 // The fact that issued the code.
-fn issued_at(facts: &FactStore, code: Dot) -> Option<&CodeIssued>
+pub(crate) fn issued_at(facts: &FactStore, code: Dot) -> Option<&CodeIssued>
     ensures { option_copied result ≡ spec.issued_at (map.get (facts_of facts.now)) code }
 {
     match facts.get(code) {

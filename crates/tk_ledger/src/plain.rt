@@ -6,6 +6,7 @@ mod compare;
 mod consents;
 mod families;
 mod ledger;
+mod sign_outs;
 mod status;
 mod tokens;
 

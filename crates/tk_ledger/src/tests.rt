@@ -5,6 +5,7 @@ mod generated;
 mod long;
 mod orders;
 mod refused;
+mod sign_outs;
 mod views;
 
 use crate::{Standing, State, Status};

@@ -1,4 +1,4 @@
-//! Revocations of refresh tokens, and the marks that they make once their token is under a code.
+//! Revocations of refresh tokens and sign-outs of subjects, and the marks that they make once what they stop is there.
 
 ghost use Rattle.std.specs.Prelude.{◌≡◌, ◌||◌};
 ghost use Rattle.std.specs.Option.{option_map};
@@ -9,14 +9,17 @@ ghost use Rattle.tk_handle.specs.declared.token_id.TokenId.{TokenId as the_token
 ghost use Rattle.tk_fact.specs.Tokens.{shown_minted};
 ghost use Rattle.tk_store.specs.Store.{facts_of};
 ghost use Rattle.tk_ledger.specs.Tokens.{links_in, is_ended as ended};
-ghost use Rattle.tk_ledger.specs.Index.{IsRevocations, woken, any_woken};
+ghost use Rattle.tk_ledger.specs.Index.{IsRevocations, IsOuts, codes_of, dots_of, wakes_refresh, wakes_code, woken, any_woken};
 ghost use Rattle.tk_ledger.specs.ByTop.{ended_in};
 
 use crate::looks::{minted_at, root_above};
 use crate::revocations::{Revocation, is_revoked};
 use crate::root::Root;
+use crate::sign_outs::is_out;
+use crate::subject_keys::{CodeKey, OutKey, code_span};
 use std::alloc::AllocError;
 use std::collections::BTreeSet;
+use std::ops::Bound;
 use tk_fact::Minted;
 use tk_family::Forest;
 use tk_handle::{Dot, Kind, TokenId};
@@ -60,16 +63,11 @@ fn is_ended(
 
 // Marks the refresh token of the dot, if its client revoked it. A token that is ended stands at a dot that has a link, so
 // this takes no memory.
-pub(crate) fn wake(
-    facts: &FactStore,
-    revocations: &BTreeSet<Revocation>,
-    forest: &mut Forest,
-    at: Dot,
-)
+fn wake_refresh(facts: &FactStore, revocations: &BTreeSet<Revocation>, forest: &mut Forest, at: Dot)
     requires revocations { IsRevocations (facts_of facts.now) revocations.now }
     requires links { (q : the_dot) → map.get forest.old.links q ≡ links_in (map.get (facts_of facts.now)) q }
     ensures links { forest.new.links ≡ forest.old.links }
-    ensures marks { (k : the_token) → set.contains forest.new.marks k ≡ (woken (facts_of facts.now) k at || set.contains forest.old.marks k) }
+    ensures marks { (k : the_token) → set.contains forest.new.marks k ≡ (wakes_refresh (facts_of facts.now) k at || set.contains forest.old.marks k) }
 {
     let token = TokenId {
         dot: at,
@@ -81,19 +79,77 @@ pub(crate) fn wake(
     }
 }
 
-// Marks the refresh tokens of the dots whose client revoked them.
+// Marks the code of the dot, if its subject signed out. It has a link too.
+fn wake_code(facts: &FactStore, outs: &BTreeSet<OutKey>, forest: &mut Forest, at: Dot)
+    requires outs { IsOuts (facts_of facts.now) outs.now }
+    requires links { (q : the_dot) → map.get forest.old.links q ≡ links_in (map.get (facts_of facts.now)) q }
+    ensures links { forest.new.links ≡ forest.old.links }
+    ensures marks { (k : the_token) → set.contains forest.new.marks k ≡ (wakes_code (facts_of facts.now) k at || set.contains forest.old.marks k) }
+{
+    let token = TokenId {
+        dot: at,
+        kind: Kind::Code,
+    };
+    if is_out(facts, outs, at) {
+        let done: Result<(), AllocError> = forest.mark(token);
+        done.unwrap();
+    }
+}
+
+// Marks what stands at the dot and is stopped.
+pub(crate) fn wake(
+    facts: &FactStore,
+    revocations: &BTreeSet<Revocation>,
+    outs: &BTreeSet<OutKey>,
+    forest: &mut Forest,
+    at: Dot,
+)
+    requires revocations { IsRevocations (facts_of facts.now) revocations.now }
+    requires outs { IsOuts (facts_of facts.now) outs.now }
+    requires links { (q : the_dot) → map.get forest.old.links q ≡ links_in (map.get (facts_of facts.now)) q }
+    ensures links { forest.new.links ≡ forest.old.links }
+    ensures marks { (k : the_token) → set.contains forest.new.marks k ≡ (woken (facts_of facts.now) k at || set.contains forest.old.marks k) }
+{
+    wake_code(facts, outs, forest, at);
+    wake_refresh(facts, revocations, forest, at);
+}
+
+// Marks what is stopped at the dots.
 pub(crate) fn wake_all(
     facts: &FactStore,
     revocations: &BTreeSet<Revocation>,
+    outs: &BTreeSet<OutKey>,
     forest: &mut Forest,
     dots: &[Dot],
 )
     requires revocations { IsRevocations (facts_of facts.now) revocations.now }
+    requires outs { IsOuts (facts_of facts.now) outs.now }
     requires links { (q : the_dot) → map.get forest.old.links q ≡ links_in (map.get (facts_of facts.now)) q }
     ensures links { forest.new.links ≡ forest.old.links }
     ensures marks { (k : the_token) → set.contains forest.new.marks k ≡ (any_woken (facts_of facts.now) k dots.now || set.contains forest.old.marks k) }
 {
     for at in dots {
-        wake(facts, revocations, forest, *at);
+        wake(facts, revocations, outs, forest, *at);
+    }
+}
+
+// Marks what is stopped among the codes of a subject of the digest.
+pub(crate) fn wake_codes(
+    facts: &FactStore,
+    revocations: &BTreeSet<Revocation>,
+    codes: &BTreeSet<CodeKey>,
+    outs: &BTreeSet<OutKey>,
+    forest: &mut Forest,
+    subject: &[u8; 32],
+)
+    requires revocations { IsRevocations (facts_of facts.now) revocations.now }
+    requires outs { IsOuts (facts_of facts.now) outs.now }
+    requires links { (q : the_dot) → map.get forest.old.links q ≡ links_in (map.get (facts_of facts.now)) q }
+    ensures links { forest.new.links ≡ forest.old.links }
+    ensures marks { (k : the_token) → set.contains forest.new.marks k ≡ (any_woken (facts_of facts.now) k (dots_of (codes_of codes.now subject.now)) || set.contains forest.old.marks k) }
+{
+    let (first, last) = code_span(subject);
+    for key in codes.range((Bound::Included(first), Bound::Included(last))) {
+        wake(facts, revocations, outs, forest, key.code);
     }
 }

@@ -7,6 +7,7 @@ ghost use Rattle.tk_store.specs.Store.{facts_of};
 ghost use Rattle.tk_ledger.specs.Tokens as spec;
 
 use super::compare::{names_dot, same_tokens};
+use super::sign_outs::is_out;
 use super::tokens::{code_above, is_twice, link_of, minted_at, root_above};
 use crate::compare::{same_digests, same_dots};
 use crate::root::Root;
@@ -91,10 +92,23 @@ fn is_refresh(kind: Kind) -> bool
     matches!(kind, Kind::Refresh)
 }
 
+fn is_code(kind: Kind) -> bool
+    ensures { result ≡ spec.is_code kind }
+{
+    matches!(kind, Kind::Code)
+}
+
+fn is_stopped(facts: &FactStore, token: &TokenId) -> bool
+    ensures { result ≡ spec.is_stopped (facts_of facts.now) token.now }
+{
+    (is_refresh(token.kind) && is_ended(facts, token))
+        || (is_code(token.kind) && is_out(facts, token.dot))
+}
+
 fn is_marked(facts: &FactStore, token: &TokenId) -> bool
     ensures { result ≡ spec.is_marked (facts_of facts.now) token.now }
 {
-    is_reused(facts, token) || (is_refresh(token.kind) && is_ended(facts, token))
+    is_reused(facts, token) || is_stopped(facts, token)
 }
 
 fn is_bad_grant(facts: &FactStore, dot: Dot, link: &Option<Link>) -> bool

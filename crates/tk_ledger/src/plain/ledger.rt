@@ -3,6 +3,7 @@
 use super::clients::view_client;
 use super::consents::{find_consent, view_consent};
 use super::families::is_revoked as is_revoked_by;
+use super::sign_outs::is_signed_out as is_signed_out_by;
 use super::status::of_handle;
 use crate::client_view::ClientView;
 use crate::consent_view::ConsentView;
@@ -24,6 +25,7 @@ ghost use Rattle.tk_fact.specs.Check.{refusal_of};
 ghost use Rattle.tk_store.specs.Adding.{Adds};
 ghost use Rattle.tk_store.specs.Store.{facts_of};
 ghost use Rattle.tk_ledger.specs.Clients as clients_of;
+ghost use Rattle.tk_ledger.specs.SignOuts.{is_signed_out};
 ghost use Rattle.tk_ledger.specs.Status.{status_in};
 ghost use Rattle.tk_ledger.specs.Tokens.{is_revoked};
 ghost use Rattle.tk_ledger.specs.Views.{client_view, consent_view};
@@ -64,6 +66,13 @@ impl PlainLedger {
         ensures { result ≡ is_revoked (facts_of self.now.store) token.now digest.now client }
     {
         is_revoked_by(&self.store, token, digest, client)
+    }
+
+    // Whether the subject signed out at the moment, or later.
+    pub(crate) fn is_signed_out(&self, subject: &Subject, moment: Moment) -> bool
+        ensures { result ≡ is_signed_out (facts_of self.now.store) subject.now moment }
+    {
+        is_signed_out_by(&self.store, subject, moment)
     }
 
     pub(crate) fn status(&self, now: Moment, handle: &Handle) -> Status<'_>

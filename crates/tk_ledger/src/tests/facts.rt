@@ -29,6 +29,8 @@ pub(super) enum Says {
     /// By the client.
     TokenRevoked(Token, Place),
     ReuseSeen(Place, Kind),
+    /// By the subject that is spelled so, at the moment.
+    SubjectOut(&'static [u8], u64),
 }
 
 /// Where a fact stands, and what it says.
@@ -66,6 +68,8 @@ fn joined(alloc: Global, parts: &[&[u8]]) -> Option<Vec<u8>> {
     }
     Some(joined)
 }
+
+pub(super) const ANN: &[u8] = b"\x00\x03ann";
 
 pub(super) const READ: &[u8] = b"\x00\x04read";
 
@@ -126,10 +130,7 @@ fn bytes_of(alloc: Global, told: &Told) -> Option<Vec<u8>> {
         Says::ClientAdded => joined(alloc, &[&at, ADDED]),
         Says::ClientRetired(client) => joined(alloc, &[&at, b"\x02", &spelled(client)]),
         Says::ConsentGiven(client, scope) => {
-            joined(
-                alloc,
-                &[&at, b"\x03", &spelled(client), b"\x00\x03ann", scope],
-            )
+            joined(alloc, &[&at, b"\x03", &spelled(client), ANN, scope])
         }
         Says::ConsentWithdrawn(consent) => joined(alloc, &[&at, b"\x04", &spelled(consent)]),
         Says::CodeIssued(word, client, consent) => issued(alloc, place, word, (client, consent)),
@@ -148,6 +149,9 @@ fn bytes_of(alloc: Global, told: &Told) -> Option<Vec<u8>> {
         Says::TokenRevoked(token, client) => revoked(alloc, place, token, client),
         Says::ReuseSeen(token, kind) => {
             joined(alloc, &[&at, b"\x09", &spelled(token), &[kind.number()]])
+        }
+        Says::SubjectOut(subject, moment) => {
+            joined(alloc, &[&at, b"\x0a", subject, &moment.to_be_bytes()])
         }
     }
 }

@@ -1,6 +1,6 @@
 //! Sets of facts that no one chose, hostile ones among them: the ledger says of them what a walk over the facts says.
 
-use super::facts::{Place, READ_WRITE, Says, Token, dot, handle};
+use super::facts::{ANN, Place, READ_WRITE, Says, Token, dot, handle};
 use super::orders::{Both, add_to_both, found, in_short};
 use crate::{ClientView, ConsentView};
 use std::alloc::Global;
@@ -35,9 +35,9 @@ fn place(number: u64) -> Place {
 // The kind of fact at a place: in most sets that of the family's story, and in some another.
 fn kind_at(index: u64, number: u64) -> u64 {
     if number % 4 == 0 {
-        number / 4 % 9
+        number / 4 % 10
     } else {
-        index % 9
+        index % 10
     }
 }
 
@@ -65,6 +65,8 @@ fn generated(index: u64, number: u64) -> Says {
         }
         6 => Says::TokenRevoked((parent, Kind::Refresh, 8), client),
         7 => Says::ReuseSeen(code, Kind::Code),
+        // Before the codes begin, and in the same second.
+        9 => Says::SubjectOut(ANN, 999 + (number >> 50) % 2),
         _ => gone(number >> 50),
     }
 }

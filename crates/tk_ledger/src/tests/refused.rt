@@ -1,7 +1,7 @@
 //! Want of memory in the middle of an addition leaves every answer as it was. Run with each allocation refused in turn, as
 //! docs/ARCHITECTURE.md tells; where none is refused, all facts are held.
 
-use super::facts::{Place, Says, Token, Told, dot, handle};
+use super::facts::{ANN, Place, Says, Token, Told, dot, handle};
 use super::orders::{Row, add_to_ledger, copied};
 use super::{
     ACCESS, ADDED, GIVEN, ISSUED, REDEEMED_TWICE, REFRESHED_TWICE, REVOKED_BY, TWO_REDEMPTIONS,
@@ -19,7 +19,7 @@ use tk_store::AddError;
 const PLACES: [Place; 6] = [(1, 1), (1, 2), (1, 3), (1, 4), (1, 5), (2, 1)];
 
 // One fact of each kind and more, those that wait before the code that all of them are under.
-const FACTS: [Told; 10] = [
+const FACTS: [Told; 12] = [
     // What waits for others: rotations, a revocation and a redemption.
     ((1, 5), Says::RefreshRotated((1, 4), 1, (7, 8))),
     (
@@ -31,7 +31,9 @@ const FACTS: [Told; 10] = [
     ADDED,
     GIVEN,
     ISSUED,
-    // What ends a family, a consent and a client.
+    // What ends a family, all of a subject's, a consent and a client.
+    ((2, 6), Says::SubjectOut(ANN, 1_020)),
+    ((2, 7), Says::SubjectOut(ANN, 1_010)),
     ((2, 3), Says::ReuseSeen((1, 3), Kind::Code)),
     ((2, 4), Says::ConsentWithdrawn((1, 2))),
     ((2, 5), Says::ClientRetired((1, 1))),
@@ -168,6 +170,7 @@ fn places_agree(left: &Ledger, right: &Ledger, asked: &Asked<'_>) -> bool {
 
 fn agree(left: &Ledger, right: &Ledger, asked: &Asked<'_>) -> bool {
     left.store().len() == right.store().len()
+        && left.signed_out(asked.subject) == right.signed_out(asked.subject)
         && tokens_agree(left, right, asked)
         && places_agree(left, right, asked)
 }

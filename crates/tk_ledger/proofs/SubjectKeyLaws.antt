@@ -1,0 +1,144 @@
+-- The keys of codes and of sign-outs. Key results:
+--   code_tied, code_same, out_same, codes_total, outs_total   keys tie exactly where they are one
+--   codes_forward, outs_forward, out_order                    the spans run forward
+--   in_codes                                                  the dot of each code of the subject is among those of the span
+--   in_outs, of_subject                                       the span has the keys of the subject, and no others
+use Rattle.std.proofs.Common.{◌≡◌, inl, inr, ℕ, ◌≤◌, ◌==◌, Bool, true, false, ◌&&◌, ◌||◌, not, List, [], ◌∷◌, filter, refl, sym, ap, ◌∙◌, arith}
+use Rattle.std.proofs.lemmas.Bool.{true≢false, eqb-true, cases_Bool, cond-true, cond-false, or_cases, or_left, and_parts, and_from}
+use Rattle.std.proofs.lemmas.Cmp.{on_total, then_total, tied_itself, nat_list_cmp_total}
+use Rattle.std.proofs.lemmas.Map.Lookups.{exact_bytes}
+use Rattle.std.proofs.lemmas.Slice.Eq.{bytes_eq-Decides}
+use Rattle.std.specs.BTreeMap.{is_at}
+use Rattle.std.specs.BTreeMap.Range.{range_contains, IsLeBy}
+use Rattle.std.specs.BTreeSet.{BTreeSet, contains}
+use Rattle.std.specs.Cmp.{IsTotalOrder, nat_cmp_total}
+use Rattle.std.specs.Cmp.Lexicographic.{slice_cmp}
+use Rattle.std.specs.Ordering.{nat_cmp, eq_by_cmp, ordering_then, ordering_reverse, is_eq, is_lt, is_le, is_gt}
+use Rattle.std.specs.Str.{bytes_eq}
+use Rattle.std.specs.declared.cmp.Ordering.{Ordering}
+use Rattle.std.specs.declared.cmp.Ordering.TheVariants.{Less, Equal, Greater}
+use Rattle.std.specs.declared.ops.Bound.TheVariants.{Included}
+use Rattle.tk_handle.specs.declared.dot.Dot.{Dot}
+use Rattle.tk_handle.specs.Dot.{IsDot, dot_cmp, dot_cmp_total}
+use Rattle.tk_handle.specs.Ranges.{greatest_moment}
+use Rattle.tk_family.specs.Dots.{dot_eq, has}
+use Rattle.tk_ledger.specs.Bodies.{is_same_dot}
+use Rattle.tk_ledger.specs.Index.{least_dot, greatest_dot, code_cmp, code_key, codes_of, dots_of, out_cmp, out_key}
+use Rattle.tk_ledger.specs.declared.subject_keys.CodeKey.{CodeKey}
+use Rattle.tk_ledger.specs.declared.subject_keys.OutKey.{OutKey}
+use Rattle.tk_ledger.proofs.KeyLaws.{at_itself, at_is_same, both_tied, number_tied, bytes_tied}
+use Rattle.tk_ledger.proofs.KeySearchLaws.{among}
+use Rattle.tk_ledger.proofs.SameLaws.{same_dot-true}
+use Rattle.tk_ledger.proofs.SpanLaws.{number_le, from_first, to_last, not_past}
+
+-- ---- codes
+
+pub codes_total : IsTotalOrder code_cmp
+codes_total = then_total (on_total (λ k. k.subject) nat_list_cmp_total) (on_total (λ k. k.code) dot_cmp_total)
+
+pub code_tied : (g h : List ℕ) (d q : Dot) → eq_by_cmp code_cmp (code_key g d) (code_key h q) ≡ (bytes_eq g h && is_same_dot d q)
+code_tied g h d q =
+    both_tied (slice_cmp nat_cmp g h) (dot_cmp d q)
+    ∙ ap (λ x. x && is_eq (dot_cmp d q)) (bytes_tied g h)
+    ∙ ap (λ x. bytes_eq g h && x) (at_is_same d q)
+
+code_by : (a b : CodeKey) → a.subject ≡ b.subject → a.code ≡ b.code → a ≡ b
+code_by a b h i = λ x. record { subject = h x; code = i x }
+
+pub code_same : (a b : CodeKey) → eq_by_cmp code_cmp a b ≡ true → a ≡ b
+code_same a b h =
+    let p = and_parts _ _ (sym (code_tied a.subject b.subject a.code b.code) ∙ h) in
+    code_by a b ((bytes_eq-Decides a.subject b.subject).0 p.0) (same_dot-true a.code b.code p.1)
+
+code_order : (subject : List ℕ) (a b : Dot) → code_cmp (code_key subject a) (code_key subject b) ≡ dot_cmp a b
+code_order subject a b = ap (λ o. ordering_then o (dot_cmp a b)) (tied_itself nat_list_cmp_total subject)
+
+pub codes_forward : (subject : List ℕ) (a b : CodeKey) → a ≡ code_key subject least_dot → b ≡ code_key subject greatest_dot → IsLeBy code_cmp a b
+codes_forward subject a b first last =
+    ap (λ (x : CodeKey). is_gt (code_cmp x b)) first
+    ∙ ap (λ (x : CodeKey). is_gt (code_cmp (code_key subject least_dot) x)) last
+    ∙ ap is_gt (code_order subject least_dot greatest_dot)
+
+in_span : (subject : List ℕ) (q : Dot) → IsDot q → range_contains code_cmp (Included (code_key subject least_dot)) (Included (code_key subject greatest_dot)) (code_key subject q) ≡ true
+in_span subject q h = and_from _ _
+    (ap is_le (code_order subject least_dot q) ∙ from_first q h)
+    (ap (λ o. not (is_lt o)) (code_order subject greatest_dot q ∙ dot_cmp_total.antisymm greatest_dot q) ∙ not_past (dot_cmp q greatest_dot) (to_last q h))
+
+kept_dot : (c : CodeKey → Bool) (k : CodeKey) (ks : List CodeKey) → among code_cmp k ks ≡ true → c k ≡ true → has (dots_of (filter c ks)) k.code ≡ true
+kept_dot c k [] at kept = absurd (true≢false (sym at))
+kept_dot c k (x ∷ xs) at kept = elim (or_cases (is_at (code_cmp k) x) (among code_cmp k xs) at) [
+  | inl tie ↦
+      let same : k ≡ x = code_same k x tie in
+      ap (λ (ys : List CodeKey). has (dots_of ys) k.code) (cond-true (c x) (x ∷ filter c xs) (filter c xs) (sym (ap c same) ∙ kept))
+      ∙ or_left (dot_eq k.code x.code) (has (dots_of (filter c xs)) k.code) (ap (λ (y : CodeKey). dot_eq k.code y.code) (sym same) ∙ at_itself k.code)
+  | inr more ↦ elim (cases_Bool (c x)) [
+    | inl here ↦
+        ap (λ (ys : List CodeKey). has (dots_of ys) k.code) (cond-true (c x) (x ∷ filter c xs) (filter c xs) here)
+        ∙ or_later (dot_eq k.code x.code) (has (dots_of (filter c xs)) k.code) (kept_dot c k xs more kept)
+    | inr left ↦
+        ap (λ (ys : List CodeKey). has (dots_of ys) k.code) (cond-false (c x) (x ∷ filter c xs) (filter c xs) left)
+        ∙ kept_dot c k xs more kept
+  ]
+]
+  where
+    or_later : (a b : Bool) → b ≡ true → (a || b) ≡ true
+    or_later true b h = refl
+    or_later false b h = h
+
+-- the dot of each code that is listed under the digest is among those of its span
+pub in_codes : (t : BTreeSet CodeKey) (subject : List ℕ) (d : Dot) → contains code_cmp t (code_key subject d) ≡ true → IsDot d → has (dots_of (codes_of t subject)) d ≡ true
+in_codes t subject d at ranged = kept_dot (range_contains code_cmp (Included (code_key subject least_dot)) (Included (code_key subject greatest_dot))) (code_key subject d) t.keys at (in_span subject d ranged)
+
+-- ---- sign-outs
+
+pub outs_total : IsTotalOrder out_cmp
+outs_total = then_total (on_total (λ k. k.subject) nat_list_cmp_total) (then_total (on_total (λ k. k.left) nat_cmp_total) (on_total (λ k. k.place) dot_cmp_total))
+
+out_tied : (g h : List ℕ) (l m : ℕ) (d q : Dot) → eq_by_cmp out_cmp (out_key g l d) (out_key h m q) ≡ (bytes_eq g h && ((l == m) && is_same_dot d q))
+out_tied g h l m d q =
+    both_tied (slice_cmp nat_cmp g h) _
+    ∙ ap (λ x. is_eq (slice_cmp nat_cmp g h) && x) (both_tied (nat_cmp l m) (dot_cmp d q))
+    ∙ ap (λ x. x && (is_eq (nat_cmp l m) && is_eq (dot_cmp d q))) (bytes_tied g h)
+    ∙ ap (λ x. bytes_eq g h && (x && is_eq (dot_cmp d q))) (number_tied l m)
+    ∙ ap (λ x. bytes_eq g h && ((l == m) && x)) (at_is_same d q)
+
+pub out_by : (a b : OutKey) → a.subject ≡ b.subject → a.left ≡ b.left → a.place ≡ b.place → a ≡ b
+out_by a b h i j = λ x. record { subject = h x; left = i x; place = j x }
+
+pub out_same : (a b : OutKey) → eq_by_cmp out_cmp a b ≡ true → a ≡ b
+out_same a b h =
+    let p = and_parts _ _ (sym (out_tied a.subject b.subject a.left b.left a.place b.place) ∙ h) in
+    let q = and_parts _ _ p.1 in
+    out_by a b ((bytes_eq-Decides a.subject b.subject).0 p.0) (eqb-true a.left b.left q.0) (same_dot-true a.place b.place q.1)
+
+pub out_order : (subject : List ℕ) (l m : ℕ) (a b : Dot) → out_cmp (out_key subject l a) (out_key subject m b) ≡ ordering_then (nat_cmp l m) (dot_cmp a b)
+out_order subject l m a b = ap (λ o. ordering_then o (ordering_then (nat_cmp l m) (dot_cmp a b))) (tied_itself nat_list_cmp_total subject)
+
+pub outs_forward : (subject : List ℕ) (a b : OutKey) → a ≡ out_key subject 0 least_dot → b ≡ out_key subject greatest_moment greatest_dot → IsLeBy out_cmp a b
+outs_forward subject a b first last =
+    ap (λ (x : OutKey). is_gt (out_cmp x b)) first
+    ∙ ap (λ (x : OutKey). is_gt (out_cmp (out_key subject 0 least_dot) x)) last
+    ∙ ap is_gt (out_order subject 0 greatest_moment least_dot greatest_dot)
+
+-- the key of a sign-out of the subject is in its span
+pub in_outs : (subject : List ℕ) (l : ℕ) (q : Dot) → l ≤ greatest_moment → IsDot q → range_contains out_cmp (Included (out_key subject 0 least_dot)) (Included (out_key subject greatest_moment greatest_dot)) (out_key subject l q) ≡ true
+in_outs subject l q le h = and_from _ _
+    (ap is_le (out_order subject 0 l least_dot q) ∙ elim (number_le 0 l (omega arith)) [
+      | inl less ↦ ap (λ o. is_le (ordering_then o (dot_cmp least_dot q))) less
+      | inr same ↦ ap (λ o. is_le (ordering_then o (dot_cmp least_dot q))) same ∙ from_first q h
+    ])
+    (ap (λ o. not (is_lt o)) (out_order subject greatest_moment l greatest_dot q) ∙ ap (λ o. not (is_lt (ordering_then o (dot_cmp greatest_dot q)))) (nat_cmp_total.antisymm greatest_moment l) ∙ elim (number_le l greatest_moment le) [
+      | inl less ↦ ap (λ o. not (is_lt (ordering_then (ordering_reverse o) (dot_cmp greatest_dot q)))) less
+      | inr same ↦
+          ap (λ o. not (is_lt (ordering_then (ordering_reverse o) (dot_cmp greatest_dot q)))) same
+          ∙ ap (λ o. not (is_lt o)) (dot_cmp_total.antisymm greatest_dot q) ∙ not_past (dot_cmp q greatest_dot) (to_last q h)
+    ])
+
+between : (o r t : Ordering) → is_le (ordering_then o r) ≡ true → not (is_lt (ordering_then o t)) ≡ true → o ≡ Equal
+between Less r t h i = absurd (true≢false (sym i))
+between Equal r t h i = refl
+between Greater r t h i = absurd (true≢false (sym h))
+
+-- and a key there is the subject's
+pub of_subject : (subject : List ℕ) (e : OutKey) → range_contains out_cmp (Included (out_key subject 0 least_dot)) (Included (out_key subject greatest_moment greatest_dot)) e ≡ true → e.subject ≡ subject
+of_subject subject e h = let p = and_parts _ _ h in sym (exact_bytes subject e.subject (between (slice_cmp nat_cmp subject e.subject) _ _ p.0 p.1))

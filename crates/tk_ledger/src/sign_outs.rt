@@ -1,0 +1,120 @@
+//! Sign-outs: the last of a subject, and whether a code is out by one.
+
+ghost use Rattle.std.specs.Prelude.{◌≡◌, ℕ};
+ghost use Rattle.std.specs.BTreeSet.{IsOrdered};
+ghost use Rattle.std.specs.FinMap as map;
+ghost use Rattle.std.specs.List.{find};
+ghost use Rattle.std.specs.Option.{option_copied, option_map};
+ghost use Rattle.sha2.specs.Sha256.{sha256};
+ghost use Rattle.tk_fact.specs.declared.subject_out.SubjectOut as out;
+ghost use Rattle.tk_store.specs.Store.{facts_of};
+ghost use Rattle.tk_ledger.specs.Index.{IsOuts, out_cmp, outs_of, tells_by, tells_of};
+ghost use Rattle.tk_ledger.specs.SignOuts as spec;
+ghost use Rattle.tk_ledger.specs.Tokens as tokens_of;
+
+use crate::change::subject_digest;
+use crate::compare::same_bytes;
+use crate::looks::issued_at;
+use crate::subject_keys::{OutKey, left, out_span};
+use std::collections::BTreeSet;
+use std::ops::Bound;
+use tk_fact::{Body, CodeIssued, Subject, SubjectOut};
+use tk_handle::{Dot, Moment};
+use tk_store::FactStore;
+
+fn sign_out_in(body: &Body) -> Option<&SubjectOut>
+    ensures { option_copied result ≡ spec.sign_out_in body.now }
+{
+    match body {
+        Body::SubjectOut(fact) => Some(fact),
+        _ => None,
+    }
+}
+
+fn sign_out_at(facts: &FactStore, at: Dot) -> Option<&SubjectOut>
+    ensures { option_copied result ≡ spec.sign_out_at (map.get (facts_of facts.now)) at }
+{
+    match facts.get(at) {
+        Some(fact) => sign_out_in(&fact.body),
+        None => None,
+    }
+}
+
+fn tells_by(sign_out: Option<&SubjectOut>, subject: &Subject, until: u64) -> bool
+    ensures { result ≡ tells_by subject.now until (option_copied sign_out.entry) }
+{
+    match sign_out {
+        Some(fact) => {
+            same_bytes(fact.subject.as_bytes(), subject.as_bytes()) && left(fact.moment) == until
+        }
+        None => false,
+    }
+}
+
+// Whether the sign-out of the key is this subject's.
+fn tells_of(facts: &FactStore, subject: &Subject, key: &OutKey) -> bool
+    ensures { result ≡ tells_of (facts_of facts.now) subject.now key.now }
+{
+    tells_by(sign_out_at(facts, key.place), subject, key.left)
+}
+
+// The key of the last sign-out of the subject.
+fn last_key<'a>(
+    facts: &FactStore,
+    outs: &'a BTreeSet<OutKey>,
+    subject: &Subject,
+) -> Option<&'a OutKey>
+    ensures first { option_copied result ≡ find (tells_of (facts_of facts.now) subject.now) (outs_of outs.now (sha256 subject.now)) }
+    ensures sorted { IsOrdered out_cmp outs.now }
+{
+    let (first, last) = out_span(&subject_digest(subject));
+    outs.range((Bound::Included(first), Bound::Included(last)))
+        .find(|key| tells_of(facts, subject, key))
+}
+
+// The moment of it.
+pub(crate) fn last_sign_out(
+    facts: &FactStore,
+    outs: &BTreeSet<OutKey>,
+    subject: &Subject,
+) -> Option<Moment>
+    requires { IsOuts (facts_of facts.now) outs.now }
+    ensures { spec.IsLastSignOut (map.get (facts_of facts.now)) subject.now result }
+{
+    let key = last_key(facts, outs, subject)?;
+    Some(sign_out_at(facts, key.place)?.moment)
+}
+
+// Whether the subject signed out at the moment, or later.
+fn is_signed_out(
+    facts: &FactStore,
+    outs: &BTreeSet<OutKey>,
+    subject: &Subject,
+    moment: Moment,
+) -> bool
+    requires { IsOuts (facts_of facts.now) outs.now }
+    ensures { result ≡ spec.is_signed_out (facts_of facts.now) subject.now moment }
+{
+    match last_sign_out(facts, outs, subject) {
+        Some(last) => moment.seconds() <= last.seconds(),
+        None => false,
+    }
+}
+
+fn is_out_by(facts: &FactStore, outs: &BTreeSet<OutKey>, code: Option<&CodeIssued>) -> bool
+    requires { IsOuts (facts_of facts.now) outs.now }
+    ensures { result ≡ tokens_of.is_out_by (facts_of facts.now) (option_copied code.entry) }
+{
+    match code {
+        Some(code) => is_signed_out(facts, outs, &code.subject, code.start),
+        None => false,
+    }
+}
+
+// Whether a code was issued at the dot whose subject signed out at its start, or later.
+pub(crate) fn is_out(facts: &FactStore, outs: &BTreeSet<OutKey>, at: Dot) -> bool
+    requires { IsOuts (facts_of facts.now) outs.now }
+    ensures { result ≡ tokens_of.is_out (facts_of facts.now) at }
+{
+    is_out_by(facts, outs, issued_at(facts, at))
+}

@@ -1,0 +1,121 @@
+//! The tables of codes and of sign-outs, by subject.
+
+use tk_handle::Dot;
+
+// A code, by the digest of its subject, SHA-256.
+#[derive(Clone, Copy, Debug, PartialEq, Eq, PartialOrd, Ord)]
+pub(crate) struct CodeKey {
+    pub(crate) subject: [u8; 32],
+    pub(crate) code: Dot,
+}
+
+// A sign-out, by the digest of its subject, so that the last of a subject comes first.
+#[derive(Clone, Copy, Debug, PartialEq, Eq, PartialOrd, Ord)]
+pub(crate) struct OutKey {
+    pub(crate) subject: [u8; 32],
+    // The seconds from its moment to the last of all.
+    pub(crate) left: u64,
+    pub(crate) place: Dot,
+}
+
+ghost use Rattle.std.specs.Prelude.{◌≡◌, OnOk, OnErr, cond, true, false};
+ghost use Rattle.std.specs.Ordering.{eq_by_cmp};
+ghost use Rattle.std.specs.BTreeSet.{contains};
+ghost use Rattle.tk_handle.specs.Dot.{IsDot};
+ghost use Rattle.tk_handle.specs.Ranges.{IsMoment, greatest_moment};
+ghost use Rattle.tk_ledger.specs.declared.subject_keys.CodeKey.{CodeKey as the_code};
+ghost use Rattle.tk_ledger.specs.declared.subject_keys.OutKey.{OutKey as the_out};
+ghost use Rattle.tk_ledger.specs.Index.{least_dot, greatest_dot, code_cmp, code_key, out_cmp, out_key, left_after};
+
+use crate::consent_keys::dot_range;
+use std::alloc::AllocError;
+use std::collections::BTreeSet;
+use tk_handle::Moment;
+
+// ---- codes
+
+// Notes a code.
+pub(crate) fn list_code(
+    codes: &mut BTreeSet<CodeKey>,
+    subject: &[u8; 32],
+    code: Dot,
+) -> Result<(), AllocError>
+    ensures ok { OnOk result ((k : the_code) → contains code_cmp codes.new k ≡ cond (eq_by_cmp code_cmp (code_key subject.now code) k) true (contains code_cmp codes.old k)) }
+    ensures err { OnErr result ((k : the_code) → contains code_cmp codes.new k ≡ contains code_cmp codes.old k) }
+    ensures ranged { IsDot code }
+{
+    let _ranges = (code.region(), code.serial());
+    codes.insert(CodeKey {
+        subject: *subject,
+        code,
+    })?;
+    Ok(())
+}
+
+// Forgets a code that wasn't kept after all.
+pub(crate) fn drop_code(codes: &mut BTreeSet<CodeKey>, subject: &[u8; 32], code: Dot)
+    ensures { (k : the_code) → contains code_cmp codes.new k ≡ cond (eq_by_cmp code_cmp (code_key subject.now code) k) false (contains code_cmp codes.old k) }
+{
+    codes.remove(&CodeKey {
+        subject: *subject,
+        code,
+    });
+}
+
+// The least key that a code of the subject can have, and the greatest.
+pub(crate) fn code_span(subject: &[u8; 32]) -> (CodeKey, CodeKey)
+    ensures first { result.0 ≡ code_key subject.now least_dot }
+    ensures last { result.1 ≡ code_key subject.now greatest_dot }
+{
+    let (least, greatest) = dot_range();
+    let key = |code: Dot| CodeKey {
+        subject: *subject,
+        code,
+    };
+    (key(least), key(greatest))
+}
+
+// ---- sign-outs
+
+// The seconds from the moment to the last of all.
+pub(crate) fn left(moment: Moment) -> u64
+    ensures value { result ≡ left_after moment }
+    ensures ranged { IsMoment moment }
+{
+    Moment::GREATEST - moment.seconds()
+}
+
+// Notes a sign-out.
+pub(crate) fn list_out(
+    outs: &mut BTreeSet<OutKey>,
+    subject: &[u8; 32],
+    moment: Moment,
+    place: Dot,
+) -> Result<(), AllocError>
+    ensures ok { OnOk result ((k : the_out) → contains out_cmp outs.new k ≡ cond (eq_by_cmp out_cmp (out_key subject.now (left_after moment) place) k) true (contains out_cmp outs.old k)) }
+    ensures err { OnErr result ((k : the_out) → contains out_cmp outs.new k ≡ contains out_cmp outs.old k) }
+    ensures ranged { IsDot place }
+    ensures early { IsMoment moment }
+{
+    let _ranges = (place.region(), place.serial());
+    outs.insert(OutKey {
+        subject: *subject,
+        left: left(moment),
+        place,
+    })?;
+    Ok(())
+}
+
+// The least key that a sign-out of the subject can have, and the greatest.
+pub(crate) fn out_span(subject: &[u8; 32]) -> (OutKey, OutKey)
+    ensures first { result.0 ≡ out_key subject.now 0 least_dot }
+    ensures last { result.1 ≡ out_key subject.now greatest_moment greatest_dot }
+{
+    let (least, greatest) = dot_range();
+    let key = |left: u64, place: Dot| OutKey {
+        subject: *subject,
+        left,
+        place,
+    };
+    (key(0, least), key(Moment::GREATEST, greatest))
+}
