@@ -4,6 +4,7 @@
 --   retired_of      POST /admin/retire
 --   consented_of    POST /admin/consent
 --   withdrawn_of    POST /admin/withdraw
+--   signed_out_of   POST /admin/signout
 --   administered_of   by the endpoint
 use Rattle.std.specs.Prelude.{ℕ, Bool, ◌&&◌, ◌==◌, nat_le, List, [], ◌∷◌, length, codes, Option, Some, None, is_none, Result, Ok, Err, if◌then◌else◌}
 use Rattle.std.specs.List.{list_all, slice_split}
@@ -18,6 +19,7 @@ use Rattle.tk_fact.specs.declared.sort.Sort.{Sort}
 use Rattle.tk_fact.specs.declared.sort.Sort.TheVariants.{Public, Confidential, Resource}
 use Rattle.tk_fact.specs.Subject.{is_visible, is_subject}
 use Rattle.tk_store.specs.FactSet.{FactSet}
+use Rattle.tk_ledger.specs.SignOuts.{is_signed_out}
 use Rattle.tk_ledger.specs.Views.{client_view, consent_view}
 use Rattle.tk_ledger.specs.ViewFields.{ClientFields, ConsentFields}
 use Rattle.tk_params.specs.Params.{Pairs, value_of, has_twice}
@@ -28,7 +30,7 @@ use Rattle.tk_message.specs.ScopeAsked.{scope_asked}
 use Rattle.tk_authorize.specs.declared.admin_refusal.AdminRefusal.{AdminRefusal}
 use Rattle.tk_authorize.specs.declared.admin_refusal.AdminRefusal.TheVariants.{DuplicateParameter, MissingParameter, UnknownKind, UnwantedSecret, MissingSecret, BadSecret, BadScope, BadRedirects, UnknownClient, BadSubject, WrongScope, UnknownConsent, UnknownEndpoint}
 use Rattle.tk_authorize.specs.declared.administered.Administered.{Administered}
-use Rattle.tk_authorize.specs.declared.administered.Administered.TheVariants.{Refused, Registers, Shows, Retires, Consents, Withdraws}
+use Rattle.tk_authorize.specs.declared.administered.Administered.TheVariants.{Refused, Registers, Shows, Retires, Consents, Withdraws, AlreadyOut, SignsOut}
 
 -- ---- add a client
 
@@ -213,18 +215,44 @@ withdrawn_of F params =
     if has_twice withdrawal_names params then Refused DuplicateParameter
     else withdrawn_by F (value_of (codes "consent_id") params)
 
+-- ---- sign a subject out everywhere
+
+-- a sign-out of it is held, whose moment isn't before this one
+abbrev pub signed_out_at : FactSet → ℕ → List ℕ → Administered
+signed_out_at F now subject =
+    if is_signed_out F subject now then AlreadyOut subject else SignsOut (record { subject = subject; moment = now })
+
+-- a subject that is none
+abbrev pub signed_out_as : FactSet → ℕ → List ℕ → Administered
+signed_out_as F now subject = if is_subject subject then signed_out_at F now subject else Refused BadSubject
+
+-- the subject absent
+abbrev pub signed_out_by : FactSet → ℕ → Option (List ℕ) → Administered
+signed_out_by F now None = Refused MissingParameter
+signed_out_by F now (Some subject) = signed_out_as F now subject
+
+abbrev pub sign_out_names : List (List ℕ)
+sign_out_names = codes "subject" ∷ []
+
+-- the subject twice
+abbrev pub signed_out_of : FactSet → ℕ → Pairs → Administered
+signed_out_of F now params =
+    if has_twice sign_out_names params then Refused DuplicateParameter
+    else signed_out_by F now (value_of (codes "subject") params)
+
 -- ---- by the endpoint
 
-abbrev pub administered_at : Endpoint → FactSet → Pairs → Administered
-administered_at endpoint.Authorize F params = Refused UnknownEndpoint
-administered_at endpoint.Token F params = Refused UnknownEndpoint
-administered_at endpoint.Introspect F params = Refused UnknownEndpoint
-administered_at endpoint.Revoke F params = Refused UnknownEndpoint
-administered_at endpoint.AddClient F params = registered_of params
-administered_at endpoint.ShowClient F params = shown_of F params
-administered_at endpoint.Retire F params = retired_of F params
-administered_at endpoint.Consent F params = consented_of F params
-administered_at endpoint.Withdraw F params = withdrawn_of F params
+abbrev pub administered_at : Endpoint → FactSet → ℕ → Pairs → Administered
+administered_at endpoint.Authorize F now params = Refused UnknownEndpoint
+administered_at endpoint.Token F now params = Refused UnknownEndpoint
+administered_at endpoint.Introspect F now params = Refused UnknownEndpoint
+administered_at endpoint.Revoke F now params = Refused UnknownEndpoint
+administered_at endpoint.AddClient F now params = registered_of params
+administered_at endpoint.ShowClient F now params = shown_of F params
+administered_at endpoint.Retire F now params = retired_of F params
+administered_at endpoint.Consent F now params = consented_of F params
+administered_at endpoint.Withdraw F now params = withdrawn_of F params
+administered_at endpoint.SignOut F now params = signed_out_of F now params
 
-abbrev pub administered_of : FactSet → RequestFields → Administered
-administered_of F request = administered_at request.endpoint F request.params
+abbrev pub administered_of : FactSet → ℕ → RequestFields → Administered
+administered_of F now request = administered_at request.endpoint F now request.params

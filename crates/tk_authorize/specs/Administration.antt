@@ -1,9 +1,11 @@
 -- What an administration request is answered, and the fact that it makes (own; RFC 6749, 2 for what a client is).
 --   code_of             what a refusal is called
+--   decided_out         what is done with a sign-out
 --   administered_by     what is done with a judgement
 --   administration_of   the decision: the judgement of specs/Administered, and what is done with it
-use Rattle.std.specs.Prelude.{Option, Some, None, if◌then◌else◌}
-use Rattle.tk_fact.specs.declared.body.Body.TheVariants.{ClientAdded, ClientRetired, ConsentGiven, ConsentWithdrawn}
+use Rattle.std.specs.Prelude.{ℕ, Some, None, if◌then◌else◌}
+use Rattle.tk_fact.specs.declared.body.Body.TheVariants.{ClientAdded, ClientRetired, ConsentGiven, ConsentWithdrawn, SubjectOut}
+use Rattle.tk_fact.specs.declared.subject_out.SubjectOut as out
 use Rattle.tk_store.specs.FactSet.{FactSet}
 use Rattle.tk_message.specs.declared.decision.Decision.{Decision}
 use Rattle.tk_message.specs.declared.error_code.ErrorCode.{ErrorCode}
@@ -12,12 +14,12 @@ use Rattle.tk_message.specs.declared.place.Place.{Place}
 use Rattle.tk_message.specs.declared.status.Status.TheVariants as status
 use Rattle.tk_message.specs.Decision.{answered, refused}
 use Rattle.tk_message.specs.Place.{next_in}
-use Rattle.tk_message.specs.Reply.{client_reply, consent_reply, shown_reply}
+use Rattle.tk_message.specs.Reply.{client_reply, consent_reply, shown_reply, subject_reply}
 use Rattle.tk_message.specs.RequestFields.{RequestFields}
 use Rattle.tk_authorize.specs.declared.admin_refusal.AdminRefusal.{AdminRefusal}
 use Rattle.tk_authorize.specs.declared.admin_refusal.AdminRefusal.TheVariants as refusal
 use Rattle.tk_authorize.specs.declared.administered.Administered.{Administered}
-use Rattle.tk_authorize.specs.declared.administered.Administered.TheVariants.{Refused, Registers, Shows, Retires, Consents, Withdraws}
+use Rattle.tk_authorize.specs.declared.administered.Administered.TheVariants.{Refused, Registers, Shows, Retires, Consents, Withdraws, AlreadyOut, SignsOut}
 use Rattle.tk_authorize.specs.Administered.{administered_of}
 
 abbrev pub code_of : AdminRefusal → ErrorCode
@@ -35,7 +37,10 @@ code_of refusal.WrongScope = InvalidScope
 code_of refusal.UnknownConsent = NotFound
 code_of refusal.UnknownEndpoint = NotFound
 
--- a client and a consent get the id of the next dot; what is retired or withdrawn already makes no fact
+abbrev pub decided_out : out.SubjectOut → Decision
+decided_out sign_out = record { reply = subject_reply sign_out.subject; made = Some (SubjectOut sign_out) }
+
+-- a client and a consent get the id of the next dot; what is retired, withdrawn or signed out already makes no fact
 abbrev pub administered_by : Place → Administered → Decision
 administered_by place (Refused why) = refused (code_of why)
 administered_by place (Registers client) = record { reply = client_reply status.Created (next_in place); made = Some (ClientAdded client) }
@@ -49,6 +54,8 @@ administered_by place (Withdraws consent live) = record {
   reply = consent_reply status.Ok consent;
   made = if live then Some (ConsentWithdrawn (record { consent = consent })) else None;
 }
+administered_by place (AlreadyOut subject) = answered (subject_reply subject)
+administered_by place (SignsOut sign_out) = decided_out sign_out
 
-abbrev pub administration_of : FactSet → Place → RequestFields → Decision
-administration_of F place request = administered_by place (administered_of F request)
+abbrev pub administration_of : FactSet → Place → ℕ → RequestFields → Decision
+administration_of F place now request = administered_by place (administered_of F now request)

@@ -1,11 +1,11 @@
 -- What holds of every judgement of an administration request (own): it is what makes each fact pass its check.
 use Rattle.std.specs.Prelude.{◌≡◌, None}
 use Rattle.tk_fact.specs.Check.{refusal_of}
-use Rattle.tk_fact.specs.declared.body.Body.TheVariants.{ClientAdded, ConsentGiven}
+use Rattle.tk_fact.specs.declared.body.Body.TheVariants.{ClientAdded, ConsentGiven, SubjectOut}
 use Rattle.tk_authorize.specs.declared.administered.Administered.{Administered}
-use Rattle.tk_authorize.specs.declared.administered.Administered.TheVariants.{Refused, Registers, Shows, Retires, Consents, Withdraws}
+use Rattle.tk_authorize.specs.declared.administered.Administered.TheVariants.{Refused, Registers, Shows, Retires, Consents, Withdraws, AlreadyOut, SignsOut}
 
--- the client and the consent pass their checks
+-- the client, the consent and the sign-out pass their checks
 abbrev pub IsSoundAdministered : Administered → Type 0
 IsSoundAdministered (Refused why) = Unit {0}
 IsSoundAdministered (Registers client) = refusal_of (ClientAdded client) ≡ None
@@ -13,3 +13,5 @@ IsSoundAdministered (Shows client) = Unit {0}
 IsSoundAdministered (Retires client live) = Unit {0}
 IsSoundAdministered (Consents consent) = refusal_of (ConsentGiven consent) ≡ None
 IsSoundAdministered (Withdraws consent live) = Unit {0}
+IsSoundAdministered (AlreadyOut subject) = Unit {0}
+IsSoundAdministered (SignsOut sign_out) = refusal_of (SubjectOut sign_out) ≡ None

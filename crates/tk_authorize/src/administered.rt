@@ -1,7 +1,7 @@
 //! What becomes of an administration request, and which endpoint goes through which cases.
 
 use crate::admin_refusal::AdminRefusal;
-use tk_fact::{ClientAdded, ConsentGiven, Sort};
+use tk_fact::{ClientAdded, ConsentGiven, Sort, Subject, SubjectOut};
 use tk_handle::Dot;
 use tk_scope::Scope;
 
@@ -16,6 +16,9 @@ pub(crate) enum Administered {
     Consents(ConsentGiven),
     // The consent, and whether it is live.
     Withdraws(Dot, bool),
+    // The subject was signed out, then or later.
+    AlreadyOut(Subject),
+    SignsOut(SubjectOut),
 }
 
 // What is shown of a client.
@@ -35,7 +38,9 @@ ghost use Rattle.tk_authorize.specs.SoundAdministered.{IsSoundAdministered};
 use crate::clients::{retire, show};
 use crate::consents::{consent, withdraw};
 use crate::registration::register;
+use crate::sign_outs::sign_out;
 use std::alloc::{AllocError, Global};
+use tk_handle::Moment;
 use tk_ledger::Ledger;
 use tk_message::{Endpoint, Request};
 
@@ -43,9 +48,10 @@ use tk_message::{Endpoint, Request};
 pub(crate) fn administer(
     alloc: Global,
     ledger: &Ledger,
+    now: Moment,
     request: &Request,
 ) -> Result<Administered, AllocError>
-    ensures value { IfOk result (λ a. a ≡ spec.administered_of (facts_of ledger.now) request.now) }
+    ensures value { IfOk result (λ a. a ≡ spec.administered_of (facts_of ledger.now) now request.now) }
     ensures sound { IfOk result IsSoundAdministered }
 {
     match request.endpoint {
@@ -57,5 +63,6 @@ pub(crate) fn administer(
         Endpoint::Retire => Ok(retire(ledger, &request.params)),
         Endpoint::Consent => consent(alloc, ledger, &request.params),
         Endpoint::Withdraw => Ok(withdraw(ledger, &request.params)),
+        Endpoint::SignOut => sign_out(alloc, ledger, now, &request.params),
     }
 }

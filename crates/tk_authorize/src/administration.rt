@@ -8,24 +8,29 @@ ghost use Rattle.tk_authorize.specs.SoundAdministered.{IsSoundAdministered};
 
 use crate::administered::{Administered, administer};
 use std::alloc::{AllocError, Global};
-use tk_fact::{Body, ClientRetired, ConsentWithdrawn};
+use tk_fact::{Body, ClientRetired, ConsentWithdrawn, SubjectOut};
+use tk_handle::Moment;
 use tk_ledger::Ledger;
-use tk_message::{Decision, Place, Request, Status, client_reply, consent_reply, shown_reply};
+use tk_message::{
+    Decision, Place, Request, Status, client_reply, consent_reply, shown_reply, subject_reply,
+};
 
-/// What an administration request is answered, and the fact that it makes: clients added, shown and retired, consents
-/// given and withdrawn (own). A request to another endpoint is `not_found`. An error where memory is refused.
+/// What an administration request is answered at a moment, and the fact that it makes: clients added, shown and retired,
+/// consents given and withdrawn, subjects signed out everywhere (own). A request to another endpoint is `not_found`. An
+/// error where memory is refused.
 pub fn decide_admin(
     alloc: Global,
     ledger: &Ledger,
     place: &Place,
+    now: Moment,
     request: &Request,
 ) -> Result<Decision, AllocError>
-    ensures value { IfOk result (λ d. d ≡ spec.administration_of (facts_of ledger.now) place.now request.now) }
+    ensures value { IfOk result (λ d. d ≡ spec.administration_of (facts_of ledger.now) place.now now request.now) }
 
     // The fact made, if any, passes its check.
     ensures passes { IfOk result (λ d. Passes d.made) }
 {
-    let administered = administer(alloc, ledger, request)?;
+    let administered = administer(alloc, ledger, now, request)?;
     decide_by(alloc, place, administered)
 }
 
@@ -70,5 +75,19 @@ fn decide_by(
             let made = if live { Some(withdrawal) } else { None };
             Ok(Decision { reply, made })
         }
+        Administered::AlreadyOut(subject) => Ok(Decision::answer(subject_reply(alloc, &subject)?)),
+        Administered::SignsOut(sign_out) => decide_out(alloc, sign_out),
     }
+}
+
+fn decide_out(alloc: Global, sign_out: SubjectOut) -> Result<Decision, AllocError>
+    requires { IsSoundAdministered (Administered.SignsOut sign_out) }
+    ensures value { IfOk result (λ d. d ≡ spec.decided_out sign_out) }
+    ensures passes { IfOk result (λ d. Passes d.made) }
+{
+    let reply = subject_reply(alloc, &sign_out.subject)?;
+    Ok(Decision {
+        reply,
+        made: Some(Body::SubjectOut(sign_out)),
+    })
 }

@@ -6,11 +6,12 @@
 //! for. Then the judgement becomes the reply and the fact. Who has signed in is told by the front end, and asking for a
 //! consent is its business too.
 //!
-//! `decide_admin` (own) does the same for clients that are added, shown and retired, and for consents that are given and
-//! withdrawn: an `AdminRefusal` says which case of its endpoint held. Who may ask is the deployment's to see to.
+//! `decide_admin` (own) does the same for clients that are added, shown and retired, for consents that are given and
+//! withdrawn, and for subjects that are signed out everywhere: an `AdminRefusal` says which case of its endpoint held. Who may
+//! ask is the deployment's to see to.
 //!
 //! In reading order: `Refusal`, `Denial`, `challenge`, `Asked`, `Approval`, `Judged`, `decide_authorize`; then `AdminRefusal`,
-//! `registration`, `clients`, `consents`, `Administered`, `decide_admin`. The definitions are in specs/: for the first half
+//! `registration`, `clients`, `consents`, `sign_outs`, `Administered`, `decide_admin`. The definitions are in specs/: for the first half
 //! one file for each of them, for the second `Administered` and `Administration`.
 #![tactic(auto)]
 
@@ -27,6 +28,7 @@ mod denial;
 mod judged;
 mod refusal;
 mod registration;
+mod sign_outs;
 
 pub use administration::decide_admin;
 pub use authorization::decide_authorize;

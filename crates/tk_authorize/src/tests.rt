@@ -27,7 +27,7 @@ enum Asker {
     Subject(Option<&'static str>),
     // Ann, at a moment at which codes and families have these lives.
     Ann(u64, u64, u64),
-    // An administrator, which no life, moment or word is asked for.
+    // An administrator, at the moment 1,000; no life or word is asked for.
     Admin(Endpoint),
 }
 
@@ -78,9 +78,10 @@ fn administered(
     endpoint: Endpoint,
     form: &str,
 ) -> Option<Decision> {
+    let now = Moment::new(1_000)?;
     let place = place(60, 2_592_000)?;
     let request = request(alloc, endpoint, form, None)?;
-    decide_admin(alloc, ledger, &place, &request).ok()
+    decide_admin(alloc, ledger, &place, now, &request).ok()
 }
 
 fn authorized(

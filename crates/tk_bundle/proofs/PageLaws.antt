@@ -3,7 +3,7 @@
 --   dots_are        the first dots beyond a vector are those of the page's facts
 --   page_is         a page at these dots is the page
 --   page_fits       a page has a spelling
-use Rattle.std.proofs.Common.{◌≡◌, ℕ, ◌+◌, ◌<◌, ◌≤◌, ◌^◌, ◌-◌, Bool, true, false, ◌&&◌, cond, T, nat_lt, nat_le, List, [], ◌∷◌, ◌++◌, get_or, length, map, min, filter, take, zero, suc, Option, Some, None, slice_get, refl, sym, ap, subst, ◌∙◌, append_assoc, arith}
+use Rattle.std.proofs.Common.{◌≡◌, ℕ, ◌+◌, ◌<◌, ◌≤◌, ◌^◌, ◌-◌, Bool, true, false, ◌&&◌, cond, T, nat_lt, nat_le, List, [], ◌∷◌, ◌++◌, get_or, length, map, max, min, filter, take, zero, suc, Option, Some, None, slice_get, refl, sym, ap, subst, ◌∙◌, append_assoc, arith}
 use Rattle.std.specs.List.{AllByRecursion, cons_option, flat_map}
 use Rattle.std.specs.Option.{option_map}
 use Rattle.std.specs.FinMap as sets
@@ -20,11 +20,11 @@ use Rattle.tk_fact.specs.FactBytes.{framed}
 use Rattle.tk_vector.specs.VersionVector.{Vector}
 use Rattle.tk_store.specs.FactSet.{FactSet, Facts, AllIn, dot_of}
 use Rattle.tk_store.specs.Beyond.{beyond, is_beyond}
-use Rattle.tk_store.specs.Paging.{page}
 use Rattle.tk_store.specs.Walk.{above, is_above}
 use Rattle.tk_store.proofs.EntryLaws.{AllIn-beyond}
 use Rattle.tk_store.proofs.SubsetLaws.{AllIn-take}
 use Rattle.tk_bundle.specs.declared.page.Page.{Page}
+use Rattle.tk_bundle.specs.Versions.{kind_of, newest_kind}
 use Rattle.tk_bundle.specs.Bundle.{ascends, most_facts, bundle}
 use Rattle.tk_bundle.specs.Page.{fact_at, facts_at, last_of, page_within, IsPageAt, IsPageOf}
 
@@ -42,6 +42,17 @@ pub facts_at-more : (F : FactSet) (dots : List Dot) (i : ℕ) (dot : Dot) → i 
 facts_at-more F dots i dot within is =
     sym (filter_map-append (fact_at F) (take i dots) (dot ∷ []))
     ∙ ap (facts_at F) (ap (λ d. take i dots ++ d ∷ []) is ∙ sym (take_at_read dots i dot within).1)
+
+newest_append : (last : ℕ) (fs gs : Facts) → newest_kind last (fs ++ gs) ≡ newest_kind (newest_kind last fs) gs
+newest_append last [] gs = refl
+newest_append last (f ∷ fs) gs = newest_append (max last (kind_of f.1)) fs gs
+
+-- its kind is seen too
+pub more_newest : (F : FactSet) (dots : List Dot) (i : ℕ) (dot : Dot) (before after : ℕ) → i < length dots → dot ≡ get_or dots i dot
+    → before ≡ newest_kind 0 (facts_at F (take i dots)) → after ≡ newest_kind before (facts_at F (dot ∷ [])) → after ≡ newest_kind 0 (facts_at F (take (i + 1) dots))
+more_newest F dots i dot before after within is so_far one =
+    one ∙ ap (λ last. newest_kind last (facts_at F (dot ∷ []))) so_far
+    ∙ sym (newest_append 0 (facts_at F (take i dots)) (facts_at F (dot ∷ []))) ∙ ap (newest_kind 0) (facts_at-more F dots i dot within is)
 
 -- and as bytes: one fact more is written, and has a spelling
 pub more_written : (F : FactSet) (dots : List Dot) (i : ℕ) (dot : Dot) (old before after : List ℕ) → i < length dots → dot ≡ get_or dots i dot

@@ -5,8 +5,9 @@
 use Rattle.std.specs.Prelude.{◌≡◌, ℕ, zero, suc, Bool, not, nat_lt, List, length, Option, Some, None, Result, Ok, Err, if◌then◌else◌}
 use Rattle.std.specs.Str.{bytes_eq}
 use Rattle.std.specs.Int.{w16}
-use Rattle.tk_format.specs.Format.{Format, ◌⊗◌, number, bytes_of}
+use Rattle.tk_format.specs.Format.{Format, ◌⊗◌, number, byte, bytes_of}
 use Rattle.tk_fact.specs.FactBytes.{most_bytes}
+use Rattle.tk_bundle.specs.Versions.{is_version}
 use Rattle.tk_bundle.specs.Bundle.{magic, most_facts, bundle}
 use Rattle.tk_store.specs.FactSet.{Facts}
 use Rattle.tk_bundle.specs.declared.error.FrontError.{FrontError}
@@ -25,9 +26,9 @@ or_cut (Some x) = Ok x
 abbrev pub malformed_if : {A : Type 0} → Bool → Result A FrontError → Result A FrontError
 malformed_if test others = if test then Err Malformed else others
 
--- what a bundle begins with: the bytes of the magic, and a count
-abbrev pub header : Format (List ℕ × ℕ)
-header = bytes_of (length magic) ⊗ number w16
+-- what a bundle begins with: the bytes of the magic, a version, and a count
+abbrev pub header : Format (List ℕ × (ℕ × ℕ))
+header = bytes_of (length magic) ⊗ (byte ⊗ number w16)
 
 -- the bytes behind one fact
 abbrev pub skipped : List ℕ → Result (List ℕ) FrontError
@@ -51,10 +52,12 @@ walk bytes =
     or_cut (header.read bytes) >>= λ front.
     -- another magic: Malformed
     malformed_if (not (bytes_eq front.0.0 magic))
+    -- no version of the table: Malformed
+    (malformed_if (not (is_version front.0.1.0))
     -- a count above the most of a bundle: Malformed
-    (malformed_if (nat_lt most_facts front.0.1)
+    (malformed_if (nat_lt most_facts front.0.1.1)
     -- then fact by fact
-    (skipped_many front.0.1 front.1))
+    (skipped_many front.0.1.1 front.1)))
 
 -- the walk runs out of bytes
 abbrev pub IsCut : List ℕ → Type 0

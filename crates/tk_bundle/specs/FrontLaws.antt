@@ -5,8 +5,8 @@ use Rattle.std.specs.Int.{w16, from_be_bytes}
 use Rattle.std.specs.List.{flat_map, AllByRecursion}
 use Rattle.std.proofs.lemmas.List.{take_at, take-append-le, drop-append-le, length-append, append-nil}
 use Rattle.std.proofs.lemmas.Bool.{le-ltb, ltb-false}
-use Rattle.tk_format.specs.Format.{number, number_at, number_spelling, bytes_at, bytes_of, text_spelling}
-use Rattle.tk_format.specs.Laws.{u16_exact, bytes_exact, both_exact}
+use Rattle.tk_format.specs.Format.{◌⊗◌, number, byte, number_at, number_spelling, bytes_at, bytes_of, text_spelling}
+use Rattle.tk_format.specs.Laws.{byte_exact, u16_exact, bytes_exact, both_exact}
 use Rattle.tk_format.specs.Exact.{IsBytes, IsExact, Takes, Takes-then, bind_some, guard_some, some_is, prefix_free}
 use Rattle.tk_bundle.specs.BundleLaws.{bundle_exact}
 use Rattle.tk_bundle.specs.declared.error.FrontError.{FrontError}
@@ -17,6 +17,8 @@ use Rattle.tk_handle.specs.declared.dot.Dot.{Dot}
 use Rattle.tk_fact.specs.declared.body.Body.{Body}
 use Rattle.tk_store.specs.FactSet.{Facts}
 use Rattle.tk_fact.specs.FactBytes.{fact, most_bytes, framed}
+use Rattle.tk_bundle.specs.Versions.{version_of, is_version}
+use Rattle.tk_bundle.specs.VersionLaws.{version_known}
 use Rattle.tk_bundle.specs.Bundle.{magic, most_facts, bundle}
 use Rattle.tk_bundle.specs.Front.{◌>>=◌, or_cut, malformed_if, header, skipped, skipped_many, walk}
 
@@ -86,15 +88,17 @@ many_end (suc n) bytes rest fits e =
     Ends-then bytes first.0 a.0 rest first.1 (many_end n a.0 rest first.1.rest_fits a.2)
 
 header_exact : IsExact header
-header_exact = both_exact _ _ (bytes_exact (length magic)) u16_exact
+header_exact = both_exact _ _ (bytes_exact (length magic)) (both_exact _ _ byte_exact u16_exact)
 
 pub walk_ends : (bytes rest : List ℕ) → IsBytes bytes → walk bytes ≡ Ok rest → Ends bytes rest
 walk_ends bytes rest fits e =
-    let h = bind_ok (or_cut (header.read bytes)) (λ h. malformed_if (not (bytes_eq h.0.0 magic)) (malformed_if (ltb most_facts h.0.1) (skipped_many h.0.1 h.1))) rest e in
+    let h = bind_ok (or_cut (header.read bytes)) (λ h. malformed_if (not (bytes_eq h.0.0 magic)) (malformed_if (not (is_version h.0.1.0)) (malformed_if (ltb most_facts h.0.1.1) (skipped_many h.0.1.1 h.1)))) rest e in
     let first = header_exact.takes bytes h.0 fits (cut_ok _ h.0 h.1) in
-    let p = test_ok (not (bytes_eq h.0.0.0 magic)) Malformed (malformed_if (ltb most_facts h.0.0.1) (skipped_many h.0.0.1 h.0.1)) rest h.2 in
-    let t = test_ok (ltb most_facts h.0.0.1) Malformed (skipped_many h.0.0.1 h.0.1) rest p.1 in
-    Ends-then bytes (header.spell h.0.0) h.0.1 rest first.0 (many_end h.0.0.1 h.0.1 rest first.0.rest_fits t.1)
+    let count = h.0.0.1.1 in
+    let p = test_ok (not (bytes_eq h.0.0.0 magic)) Malformed (malformed_if (not (is_version h.0.0.1.0)) (malformed_if (ltb most_facts count) (skipped_many count h.0.1))) rest h.2 in
+    let v = test_ok (not (is_version h.0.0.1.0)) Malformed (malformed_if (ltb most_facts count) (skipped_many count h.0.1)) rest p.1 in
+    let t = test_ok (ltb most_facts count) Malformed (skipped_many count h.0.1) rest v.1 in
+    Ends-then bytes (header.spell h.0.0) h.0.1 rest first.0 (many_end count h.0.1 rest first.0.rest_fits t.1)
 
 -- ---- a bundle at the front is walked over
 
@@ -118,8 +122,9 @@ walk_bundle fs rest fits =
     let count = number_spelling w16 (length fs) in
     let facts = flat_map framed.spell fs in
     let small : ltb most_facts (length fs) ≡ false = le-ltb most_facts (length fs) (leb-true (length fs) most_facts fits.0.0.1) in
-    ap walk (append_assoc magic (count ++ facts) rest ∙ ap (λ (t : List ℕ). magic ++ t) (append_assoc count facts rest))
-    ∙ rw ((bytes_exact 4).again magic (count ++ (facts ++ rest)) refl, u16_exact.again (length fs) (facts ++ rest) fits.0.0.0, small) (many_framed fs rest fits.0.1)
+    let behind = version_of fs ∷ count ++ (facts ++ rest) in
+    ap walk (ap (λ (t : List ℕ). magic ++ (version_of fs ∷ t)) (append_assoc count facts rest))
+    ∙ rw ((bytes_exact 3).again magic behind refl, u16_exact.again (length fs) (facts ++ rest) fits.0.0.0, version_known fs, small) (many_framed fs rest fits.0.1)
 
 -- ---- a walk over more bytes goes as far, and is cut where a bundle is torn
 
@@ -169,16 +174,26 @@ unfolding skipped_many
 many_on zero bytes more = refl
 many_on (suc n) bytes more = walk_on more (skipped bytes) (skipped (bytes ++ more)) (λ rest. skipped_many n rest) (skipped_on bytes more) (λ rest. many_on n rest more)
 
-header_on : (bytes more : List ℕ) (x : (List ℕ × ℕ) × List ℕ) → header.read bytes ≡ Some x → header.read (bytes ++ more) ≡ Some (x.0, x.1 ++ more)
+byte_on : (bytes more : List ℕ) (x : ℕ × List ℕ) → byte.read bytes ≡ Some x → byte.read (bytes ++ more) ≡ Some (x.0, x.1 ++ more)
+byte_on [] more x e = absurd cc
+byte_on (b ∷ bytes) more x e = ap (λ (y : ℕ × List ℕ). Some (y.0, y.1 ++ more)) (some_is (b, bytes) x e)
+
+counting_on : (bytes more : List ℕ) (x : (ℕ × ℕ) × List ℕ) → (byte ⊗ number w16).read bytes ≡ Some x → (byte ⊗ number w16).read (bytes ++ more) ≡ Some (x.0, x.1 ++ more)
+counting_on bytes more x e =
+    let v = bind_some (byte.read bytes) _ x e in
+    let n = bind_some ((number w16).read v.0.1) _ x v.2 in
+    rw (byte_on bytes more v.0 v.1, number_on v.0.1 more n.0 n.1) (ap (λ (y : (ℕ × ℕ) × List ℕ). Some (y.0, y.1 ++ more)) (some_is _ x n.2))
+
+header_on : (bytes more : List ℕ) (x : (List ℕ × (ℕ × ℕ)) × List ℕ) → header.read bytes ≡ Some x → header.read (bytes ++ more) ≡ Some (x.0, x.1 ++ more)
 header_on bytes more x e =
-    let m = bind_some ((bytes_of 4).read bytes) _ x e in
-    let n = bind_some ((number w16).read m.0.1) _ x m.2 in
-    rw (bytes_on 4 bytes more m.0 m.1, number_on m.0.1 more n.0 n.1) (ap (λ (y : (List ℕ × ℕ) × List ℕ). Some (y.0, y.1 ++ more)) (some_is _ x n.2))
+    let m = bind_some ((bytes_of 3).read bytes) _ x e in
+    let n = bind_some ((byte ⊗ number w16).read m.0.1) _ x m.2 in
+    rw (bytes_on 3 bytes more m.0 m.1, counting_on m.0.1 more n.0 n.1) (ap (λ (y : (List ℕ × (ℕ × ℕ)) × List ℕ). Some (y.0, y.1 ++ more)) (some_is _ x n.2))
 
 walk_goes_on : (bytes more : List ℕ) → GoesOn more (walk bytes) (walk (bytes ++ more))
 walk_goes_on bytes more =
     read_on more _ _ _ (header_on bytes more) (λ h.
-    unless more (not (bytes_eq h.0.0 magic)) _ _ (unless more (ltb most_facts h.0.1) _ _ (many_on h.0.1 h.1 more)))
+    unless more (not (bytes_eq h.0.0 magic)) _ _ (unless more (not (is_version h.0.1.0)) _ _ (unless more (ltb most_facts h.0.1.1) _ _ (many_on h.0.1.1 h.1 more))))
 
 -- a walk that goes on to the end is cut where the last of the bytes are taken away
 cut_before : (more : List ℕ) (r longer : Result (List ℕ) FrontError) → GoesOn more r longer → longer ≡ Ok [] → more ≢ [] → r ≡ Err Cut

@@ -2,7 +2,7 @@
 --   page_of    the facts of a page, the dot of the last, and whether more follow
 --   IsPageOf   the parts of a page in bytes are these
 --   facts_at   what a set holds at some dots
-use Rattle.std.specs.Prelude.{◌≡◌, ℕ, ◌-◌, Bool, nat_lt, List, ◌++◌, length, slice_get, Option}
+use Rattle.std.specs.Prelude.{◌≡◌, ℕ, ◌-◌, Bool, nat_lt, List, ◌∷◌, ◌++◌, length, slice_get, Option}
 use Rattle.std.specs.Int.{w16}
 use Rattle.std.specs.List.{filter_map, flat_map}
 use Rattle.tk_format.specs.Format.{number}
@@ -15,6 +15,7 @@ use Rattle.tk_vector.specs.VersionVector.{Vector}
 use Rattle.tk_store.specs.FactSet.{FactSet, Facts}
 use Rattle.tk_store.specs.Beyond.{beyond}
 use Rattle.tk_store.specs.Paging.{page, last_dot}
+use Rattle.tk_bundle.specs.Versions.{version_of}
 use Rattle.tk_bundle.specs.Bundle.{magic, most_facts, bundle_bytes}
 use Rattle.tk_bundle.specs.declared.page.Page.{Page}
 
@@ -53,9 +54,9 @@ fact_at F d = option_map (λ body. (d, body)) (sets.get F d)
 abbrev pub facts_at : FactSet → List Dot → Facts
 facts_at F dots = filter_map (fact_at F) dots
 
--- the page has what a set holds at these dots, behind the magic and their number
+-- the page has what a set holds at these dots, behind the magic, their version and their number
 pub record IsPageAt (page : Page) (F : FactSet) (dots : List Dot) (follows : Bool) : Type 0 where
-  pub bytes : page.bytes.items ≡ magic ++ ((number w16).spell (length dots) ++ flat_map framed.spell (facts_at F dots))
+  pub bytes : page.bytes.items ≡ magic ++ (version_of (facts_at F dots) ∷ (number w16).spell (length dots) ++ flat_map framed.spell (facts_at F dots))
   pub count : page.count ≡ length dots
   pub last : page.last ≡ last_of dots
   pub more : page.more ≡ follows

@@ -3,8 +3,8 @@
 use std::marker::Model;
 use tk_fact::Fact;
 
-/// What a bundle begins with (own).
-pub(crate) const MAGIC: &[u8] = b"OTB1";
+/// What a bundle begins with, before the letter of its version (own).
+pub(crate) const MAGIC: &[u8] = b"OTB";
 
 /// The most facts of a bundle (own).
 pub(crate) const MOST_FACTS: u16 = 128;
@@ -28,9 +28,10 @@ impl Model for Bundle {
 ghost use Rattle.std.specs.Prelude.{◌≡◌, ◌≢◌, ◌++◌, [], List, ℕ, IfOk, IsErrOf};
 ghost use Rattle.tk_format.specs.Reading.{Gets, GetsAll};
 ghost use Rattle.tk_store.specs.FactSet.{Facts};
-ghost use Rattle.tk_bundle.specs.Bundle.{listed, bundle, bundle_bytes};
+ghost use Rattle.tk_bundle.specs.Bundle.{counted_facts, versioned, listed, bundle, bundle_bytes, SignOutsTold};
 
 use crate::order::is_ascending;
+use crate::version::version_of;
 use std::alloc::Global;
 use tk_format::{ReadError, Reader, Spelled, read_all, read_many};
 
@@ -58,6 +59,25 @@ fn read_listed(alloc: Global, reader: &mut Reader<'_>) -> Result<Vec<Fact>, Read
     ensures { Gets (λ v. v.items) listed result reader.old reader.new }
 {
     reader.take_magic(MAGIC).ok_or(ReadError::Malformed)?;
+    read_versioned(alloc, reader)
+}
+
+// Facts behind the letter of their own version.
+fn read_versioned(alloc: Global, reader: &mut Reader<'_>) -> Result<Vec<Fact>, ReadError>
+    ensures { Gets (λ v. v.items) versioned result reader.old reader.new }
+{
+    let version = reader.take_u8().ok_or(ReadError::Malformed)?;
+    let facts = read_counted(alloc, reader)?;
+    if version == version_of(&facts) {
+        Ok(facts)
+    } else {
+        Err(ReadError::Malformed)
+    }
+}
+
+fn read_counted(alloc: Global, reader: &mut Reader<'_>) -> Result<Vec<Fact>, ReadError>
+    ensures { Gets (λ v. v.items) counted_facts result reader.old reader.new }
+{
     let count = reader.take_u16().ok_or(ReadError::Malformed)?;
     if count > MOST_FACTS {
         return Err(ReadError::Malformed);
@@ -86,4 +106,9 @@ impl Spelled for Bundle {
 /// A law: no bundle's bytes begin another's.
 pub fn none_begins_another()
     ensures { (a b : Facts) (rest : List ℕ) → bundle.Fits a → bundle.Fits b → bundle_bytes a ++ rest ≡ bundle_bytes b → (a ≡ b) × (rest ≡ []) }
+{}
+
+/// A law: a bundle begins with `OTB2` where one of its facts is a sign-out, and else with `OTB1`.
+pub fn sign_outs_told()
+    ensures { SignOutsTold }
 {}

@@ -8,6 +8,7 @@ ghost use Rattle.tk_bundle.specs.declared.error.FrontError.{FrontError as AnyErr
 
 use crate::bundle::{Bundle, MAGIC, MOST_FACTS};
 use crate::error::FrontError;
+use crate::version::is_version;
 use std::alloc::Global;
 use tk_fact::Fact;
 use tk_format::{ReadError, Reader};
@@ -40,8 +41,12 @@ fn walk(reader: &mut Reader<'_>) -> Result<(), FrontError>
     ensures { Walks result (walk reader.old) reader.new }
 {
     let front = reader.take_bytes(MAGIC.len()).ok_or(FrontError::Cut)?;
+    let version = reader.take_u8().ok_or(FrontError::Cut)?;
     let count = reader.take_u16().ok_or(FrontError::Cut)?;
     if front != MAGIC {
+        return Err(FrontError::Malformed);
+    }
+    if !is_version(version) {
         return Err(FrontError::Malformed);
     }
     if count > MOST_FACTS {

@@ -23,10 +23,12 @@ ghost use Rattle.tk_fact.specs.Check.{refusal_of};
 ghost use Rattle.tk_fact.specs.FactBytes.{framed};
 ghost use Rattle.tk_store.specs.Store.{facts_of, known_in};
 ghost use Rattle.tk_store.specs.Paging as paging;
+ghost use Rattle.tk_bundle.specs.Versions.{newest_kind, version_with};
 ghost use Rattle.tk_bundle.specs.Bundle.{magic, most_facts, bundle, bundle_bytes};
 ghost use Rattle.tk_bundle.specs.Page as spec;
 
 use crate::bundle::{MAGIC, MOST_FACTS};
+use crate::version::{kind_of, version_with};
 use std::alloc::{AllocError, Global};
 use tk_fact::Fact;
 use tk_format::Writer;
@@ -73,10 +75,8 @@ fn page_at(alloc: Global, store: &FactStore, dots: &[Dot], more: bool) -> Result
     ensures page { IfOk result (λ page. spec.IsPageAt page (facts_of store.now) dots.now more) }
     ensures fits { OnOk result (AllByRecursion framed.Fits (spec.facts_at (facts_of store.now) dots.now)) }
 {
-    let mut writer = Writer::new(alloc);
-    writer.put_bytes(MAGIC)?;
     let count = dots.len() as u16;
-    writer.put_u16(count)?;
+    let mut writer = begin_bundle(alloc, newest_at(store, dots), count)?;
     write_facts(alloc, store, dots, &mut writer)?;
     Ok(Page {
         bytes: writer.into_bytes(),
@@ -84,6 +84,38 @@ fn page_at(alloc: Global, store: &FactStore, dots: &[Dot], more: bool) -> Result
         last: last_of(dots),
         more,
     })
+}
+
+// The newest kind of the facts at these dots, each looked up.
+fn newest_at(store: &FactStore, dots: &[Dot]) -> u8
+    ensures { result ≡ newest_kind 0 (spec.facts_at (facts_of store.now) dots.now) }
+{
+    let mut newest = 0;
+    for dot in dots {
+        newest = newest_with(newest, store, *dot);
+    }
+    newest
+}
+
+// The newest kind with the fact at the dot, if there is one.
+fn newest_with(last: u8, store: &FactStore, dot: Dot) -> u8
+    ensures { result ≡ newest_kind last (spec.facts_at (facts_of store.now) (dot ∷ [])) }
+{
+    match store.get(dot) {
+        Some(fact) => last.max(kind_of(&fact.body)),
+        None => last,
+    }
+}
+
+// What stands before so many facts, whose newest kind is this one.
+fn begin_bundle(alloc: Global, newest: u8, count: u16) -> Result<Writer, AllocError>
+    ensures { IfOk result (λ writer. writer ≡ magic ++ (version_with newest ∷ (number w16).spell count)) }
+{
+    let mut writer = Writer::new(alloc);
+    writer.put_bytes(MAGIC)?;
+    writer.put_u8(version_with(newest))?;
+    writer.put_u16(count)?;
+    Ok(writer)
 }
 
 fn last_of(dots: &[Dot]) -> Option<Dot>
@@ -140,9 +172,7 @@ pub fn single(alloc: Global, fact: &Fact) -> Result<Vec<u8>, AllocError>
     ensures fits { bundle.Fits (fact.now ∷ []) }
 {
     fact.known();
-    let mut writer = Writer::new(alloc);
-    writer.put_bytes(MAGIC)?;
-    writer.put_u16(1)?;
+    let mut writer = begin_bundle(alloc, kind_of(&fact.body), 1)?;
     fact.write_framed(alloc, &mut writer)?;
     Ok(writer.into_bytes())
 }

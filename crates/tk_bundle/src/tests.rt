@@ -4,9 +4,9 @@ use crate::FrontError::{Cut, Malformed};
 use crate::{Bundle, FrontError, Page, make, read_front, single};
 use std::alloc::Global;
 use std::test::Fail;
-use tk_fact::Fact;
+use tk_fact::{Body, Fact, Subject, SubjectOut};
 use tk_format::ReadError;
-use tk_handle::{Dot, RegionNumber};
+use tk_handle::{Dot, Moment, RegionNumber};
 use tk_store::{Added, FactStore};
 use tk_vector::VersionVector;
 
@@ -32,6 +32,26 @@ const DOUBLED: &[u8] =
 const FOLLOWED: &[u8] =
     b"OTB1\x00\x01\x00+\x00\x01\x00\x00\x00\x00\x00\x00\x00\x01\x01\x00\x00\x04read\x01\x00\x16https://app.example/cbOTB";
 
+// The sign-out of ann at 1,020, at 1:5.
+const SIGNED_OUT: &[u8] =
+    b"OTB2\x00\x01\x00\x18\x00\x01\x00\x00\x00\x00\x00\x00\x00\x05\x0a\x00\x03ann\x00\x00\x00\x00\x00\x00\x03\xfc";
+
+// The same, as the version before it would spell it.
+const SIGNED_OUT_BEFORE: &[u8] =
+    b"OTB1\x00\x01\x00\x18\x00\x01\x00\x00\x00\x00\x00\x00\x00\x05\x0a\x00\x03ann\x00\x00\x00\x00\x00\x00\x03\xfc";
+
+// The client, as the version after its own would spell it.
+const ADDED_AFTER: &[u8] =
+    b"OTB2\x00\x01\x00+\x00\x01\x00\x00\x00\x00\x00\x00\x00\x01\x01\x00\x00\x04read\x01\x00\x16https://app.example/cb";
+
+// The client, the sign-out and the retirement in one bundle.
+const ALL: &[u8] =
+    b"OTB2\x00\x03\x00+\x00\x01\x00\x00\x00\x00\x00\x00\x00\x01\x01\x00\x00\x04read\x01\x00\x16https://app.example/cb\x00\x18\x00\x01\x00\x00\x00\x00\x00\x00\x00\x05\x0a\x00\x03ann\x00\x00\x00\x00\x00\x00\x03\xfc\x00\x15\x00\x02\x00\x00\x00\x00\x00\x00\x00\x01\x02\x00\x01\x00\x00\x00\x00\x00\x00\x00\x01";
+
+// The client, the sign-out and the retirement in a bundle each.
+const LOG: &[u8] =
+    b"OTB1\x00\x01\x00+\x00\x01\x00\x00\x00\x00\x00\x00\x00\x01\x01\x00\x00\x04read\x01\x00\x16https://app.example/cbOTB2\x00\x01\x00\x18\x00\x01\x00\x00\x00\x00\x00\x00\x00\x05\x0a\x00\x03ann\x00\x00\x00\x00\x00\x00\x03\xfcOTB1\x00\x01\x00\x15\x00\x02\x00\x00\x00\x00\x00\x00\x00\x01\x02\x00\x01\x00\x00\x00\x00\x00\x00\x00\x01";
+
 fn is_spelled(alloc: Global, fact: &Fact, bytes: &[u8]) -> bool {
     match fact.check() {
         Ok(()) => match single(alloc, fact) {
@@ -56,6 +76,28 @@ fn is_spelled_again(alloc: Global, bytes: &[u8]) -> bool {
 fn one_fact_has_one_spelling(rt: HostRuntime) {
     assert!(rt; is_spelled_again(rt.alloc(), ADDED), "a client");
     assert!(rt; is_spelled_again(rt.alloc(), RETIRED), "its retirement");
+    assert!(rt; is_spelled_again(rt.alloc(), SIGNED_OUT), "a sign-out");
+}
+
+fn sign_out(alloc: Global) -> Option<Fact> {
+    let region = RegionNumber::new(1)?;
+    let dot = Dot::new(region, 5)?;
+    let moment = Moment::new(1_020)?;
+    let subject = Subject::read(alloc, b"ann").ok()?;
+    let body = Body::SubjectOut(SubjectOut { subject, moment });
+    Some(Fact { dot, body })
+}
+
+#[test]
+fn a_sign_out_has_the_second_version(rt: HostRuntime) -> Result<(), Fail> {
+    let alloc = rt.alloc();
+    let fact = sign_out(alloc).ok_or("a sign-out")?;
+    assert!(rt; is_spelled(alloc, &fact, SIGNED_OUT), "written");
+    match Bundle::read(alloc, SIGNED_OUT)?.facts() {
+        [read] => assert!(rt; read.same(&fact), "read"),
+        _ => return Err("one fact")?,
+    }
+    Ok(())
 }
 
 fn is_malformed(alloc: Global, bytes: &[u8]) -> bool {
@@ -84,6 +126,19 @@ fn a_bundle_that_ends_early_is_cut(rt: HostRuntime) {
     assert!(rt; front(rt.alloc(), ADDED) == Ok(51), "all bytes");
 }
 
+#[test]
+fn no_other_version_is_read(rt: HostRuntime) {
+    let alloc = rt.alloc();
+    let rows: &[(&str, &[u8])] = &[
+        ("a sign-out in the first", SIGNED_OUT_BEFORE),
+        ("no sign-out in the second", ADDED_AFTER),
+        ("no fact in the second", b"OTB2\x00\x00"),
+    ];
+    for &(name, bytes) in rows {
+        assert!(rt; is_refused(alloc, bytes, Malformed), "{name}");
+    }
+}
+
 fn count(alloc: Global, bytes: &[u8]) -> Option<usize> {
     match Bundle::read(alloc, bytes) {
         Ok(bundle) => Some(bundle.facts().len()),
@@ -95,6 +150,7 @@ fn count(alloc: Global, bytes: &[u8]) -> Option<usize> {
 fn the_dots_of_a_bundle_rise(rt: HostRuntime) {
     let alloc = rt.alloc();
     assert!(rt; count(alloc, BOTH) == Some(2), "rising");
+    assert!(rt; count(alloc, ALL) == Some(3), "with a sign-out");
     assert!(rt; is_refused(alloc, FALLING, Malformed), "falling");
     assert!(rt; is_refused(alloc, DOUBLED, Malformed), "doubled");
 }
@@ -106,7 +162,9 @@ fn the_front_is_told_from_the_rest(rt: HostRuntime) {
         ("nothing", b"", Cut),
         ("three letters", b"OTB", Cut),
         ("five bytes of something else", b"XYZ\x00\x00", Cut),
-        ("another magic", b"OTB9\x00\x00", Malformed),
+        ("another magic", b"XTB1\x00\x00", Malformed),
+        ("no version before the first", b"OTB0\x00\x00", Malformed),
+        ("no third version", b"OTB3\x00\x00", Malformed),
         ("a count of 129", b"OTB1\x00\x81", Malformed),
         (
             "a length past the greatest",
@@ -124,6 +182,14 @@ fn the_front_is_told_from_the_rest(rt: HostRuntime) {
     );
     assert!(rt; is_malformed(alloc, FOLLOWED), "not all of the bytes");
     assert!(rt; front(alloc, b"OTB1\x00\x00") == Ok(6), "an empty bundle");
+}
+
+#[test]
+fn a_log_may_have_both_versions(rt: HostRuntime) {
+    for (start, end) in [(0, 51), (51, 83), (83, 112)] {
+        let length = front(rt.alloc(), &LOG[start..]);
+        assert!(rt; length == Ok(end - start), "from {start}");
+    }
 }
 
 fn add_copy(alloc: Global, store: &mut FactStore, fact: &Fact) -> bool {
@@ -218,5 +284,20 @@ fn a_page_is_what_the_vector_leaves(rt: HostRuntime) -> Result<(), Fail> {
         "above the first"
     );
     assert!(rt; is_empty_page(alloc, &store, &retired, first), "nothing");
+    Ok(())
+}
+
+#[test]
+fn a_page_has_the_version_of_its_facts(rt: HostRuntime) -> Result<(), Fail> {
+    let alloc = rt.alloc();
+    let none = VersionVector::new(alloc);
+    let mut store = FactStore::new(alloc);
+    assert!(rt; add_all(alloc, &mut store, ALL));
+    let out = Dot::new(RegionNumber::new(1).ok_or("a region")?, 5);
+    assert!(rt; leaves(alloc, &store, &none, None, ALL, 3, (2, 1)), "all");
+    assert!(rt;
+        leaves(alloc, &store, &none, out, RETIRED, 1, (2, 1)),
+        "above the sign-out"
+    );
     Ok(())
 }

@@ -161,6 +161,7 @@ MayServe sync path.Client = Unit {0}
 MayServe sync path.Retire = Unit {0}
 MayServe sync path.Consent = Unit {0}
 MayServe sync path.Withdraw = Unit {0}
+MayServe sync path.SignOut = Unit {0}
 MayServe sync path.Vector = sync ≡ true
 MayServe sync path.Pull = sync ≡ true
 MayServe sync path.Push = sync ≡ true
@@ -192,7 +193,8 @@ may_serve sync text =
     (pick sync (bytes_eq text (codes "/admin/client")) (Some path.Client) _ tt
     (pick sync (bytes_eq text (codes "/admin/retire")) (Some path.Retire) _ tt
     (pick sync (bytes_eq text (codes "/admin/consent")) (Some path.Consent) _ tt
-    (pick sync (bytes_eq text (codes "/admin/withdraw")) (Some path.Withdraw) _ tt (if_synced sync text))))))))
+    (pick sync (bytes_eq text (codes "/admin/withdraw")) (Some path.Withdraw) _ tt
+    (pick sync (bytes_eq text (codes "/admin/signout")) (Some path.SignOut) _ tt (if_synced sync text)))))))))
 
 -- what is served there
 abbrev MayDo : Bool → Service → Type 0
@@ -214,6 +216,7 @@ may_do sync path.Client (Some Get) h = tt
 may_do sync path.Retire (Some Get) h = tt
 may_do sync path.Consent (Some Get) h = tt
 may_do sync path.Withdraw (Some Get) h = tt
+may_do sync path.SignOut (Some Get) h = tt
 may_do sync path.Vector (Some Get) h = h
 may_do sync path.Pull (Some Get) h = tt
 may_do sync path.Push (Some Get) h = tt
@@ -225,6 +228,7 @@ may_do sync path.Client (Some Post) h = tt
 may_do sync path.Retire (Some Post) h = tt
 may_do sync path.Consent (Some Post) h = tt
 may_do sync path.Withdraw (Some Post) h = tt
+may_do sync path.SignOut (Some Post) h = tt
 may_do sync path.Vector (Some Post) h = tt
 may_do sync path.Pull (Some Post) h = h
 may_do sync path.Push (Some Post) h = h

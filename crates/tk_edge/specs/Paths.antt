@@ -11,7 +11,7 @@ use Rattle.std.specs.Str.{bytes_eq}
 use Rattle.tk_message.specs.declared.request.Endpoint.{Endpoint}
 use Rattle.tk_message.specs.declared.request.Endpoint.TheVariants as endpoint
 use Rattle.tk_edge.specs.declared.path.Path.{Path}
-use Rattle.tk_edge.specs.declared.path.Path.TheVariants.{Authorize, Token, Introspect, Revoke, Client, Retire, Consent, Withdraw, Vector, Pull, Push}
+use Rattle.tk_edge.specs.declared.path.Path.TheVariants.{Authorize, Token, Introspect, Revoke, Client, Retire, Consent, Withdraw, SignOut, Vector, Pull, Push}
 use Rattle.tk_edge.specs.declared.path.Method.{Method}
 use Rattle.tk_edge.specs.declared.path.Method.TheVariants.{Get, Post}
 use Rattle.tk_edge.specs.declared.path.Posted.TheVariants as posted
@@ -43,6 +43,7 @@ path_named sync path =
     else if bytes_eq path (codes "/admin/retire") then Some Retire
     else if bytes_eq path (codes "/admin/consent") then Some Consent
     else if bytes_eq path (codes "/admin/withdraw") then Some Withdraw
+    else if bytes_eq path (codes "/admin/signout") then Some SignOut
     else if sync then sync_named path
     else None
 
@@ -73,6 +74,7 @@ post_service Client = form_for endpoint.AddClient
 post_service Retire = form_for endpoint.Retire
 post_service Consent = form_for endpoint.Consent
 post_service Withdraw = form_for endpoint.Withdraw
+post_service SignOut = form_for endpoint.SignOut
 post_service Vector = None
 post_service Pull = Some (service.Body posted.Pull)
 post_service Push = Some (service.Body posted.Push)

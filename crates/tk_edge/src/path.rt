@@ -25,6 +25,8 @@ pub enum Path {
     Consent,
     /// `/admin/withdraw` (own).
     Withdraw,
+    /// `/admin/signout` (own).
+    SignOut,
     /// `/sync/vector` (own).
     Vector,
     /// `/sync/pull` (own).
@@ -119,6 +121,9 @@ pub(crate) fn path_named(sync: bool, path: &[u8]) -> Option<Path>
     if path == b"/admin/withdraw".as_slice() {
         return Some(Path::Withdraw);
     }
+    if path == b"/admin/signout".as_slice() {
+        return Some(Path::SignOut);
+    }
     if sync { sync_named(path) } else { None }
 }
 
@@ -185,6 +190,7 @@ impl Path {
             Path::Retire => form_for(Endpoint::Retire),
             Path::Consent => form_for(Endpoint::Consent),
             Path::Withdraw => form_for(Endpoint::Withdraw),
+            Path::SignOut => form_for(Endpoint::SignOut),
             Path::Pull => Some(Service::Body(Posted::Pull)),
             Path::Push => Some(Service::Body(Posted::Push)),
         }

@@ -11,17 +11,21 @@
 //!    `body_short`; a fact has 8,192 bytes at most.
 //! 5. `specs/Check.antt`, `src/check.rt`: the rules that it keeps.
 //! 6. `specs/Tokens.antt`, `src/tokens.rt`: whether it mints tokens or uses one. Nothing asks for this row.
-//! 7. Tests: its bytes in `src/tests.rt`, where the refused kind 10 becomes 11, a builder in `src/tests/bodies.rt`, and a
+//! 7. Tests: its bytes in `src/tests.rt`, where the refused kind 11 becomes 12, a builder in `src/tests/bodies.rt`, and a
 //!    row each in `src/tests/built.rt` and `src/tests/limits.rt`. An edit in `must-fail/` for what it means.
-//! 8. tk_bundle: whether the magic changes, `magic` of `specs/Bundle.antt` and `MAGIC` of `src/bundle.rt`. A build that
-//!    doesn't know the kind finds each bundle with such a fact malformed.
-//! 9. tk_ledger: a row in `grant_of` of `proofs/FamilyEnds.antt` for codes and one for refresh tokens. Where it is a link
-//!    of a family or says of one that it ends: `link_of`, `revoked_by` or `reuse_of` of `specs/Tokens.antt` with
-//!    `tokens.rt` and `families.rt` of `src/plain/`, and `generation_of` of `specs/Status.antt` with `status.rt` there.
-//!    Where it makes or ends a client or a consent: `specs/Clients.antt` with `clients.rt` and `consents.rt` there. All
-//!    but `grant_of` end in a row for the other kinds, so nothing asks for these rows.
-//! 10. tk_world: the request that makes such facts, and its decision.
-//! 11. Words: "nine" here, in `src/lib.rt`, in README.md and in docs/ARCHITECTURE.md, the kinds 1 to 9 and their table in
+//! 8. tk_bundle: its number in `kind_of` of `src/version.rt`, and a row of `VERSIONS` there and of `versions` in
+//!    `specs/Versions.antt`. A build that doesn't know the kind finds each bundle with such a fact malformed.
+//! 9. tk_ledger: a row in `change_in` of `specs/Changes.antt` and `change_of` of `src/change.rt`, with what it changes in
+//!    the tables; a row each in `uses_agree` of `proofs/TokenLaws.antt`, `issues` of `proofs/StandingLaws.antt`, and for codes
+//!    and for refresh tokens in `grant_of` of `proofs/FamilyEnds.antt`. Where it is a link of a family or says of one that it
+//!    ends: `link_of`, `revoked_by`, `reuse_of` or `IsStopped` of `specs/Tokens.antt` with `tokens.rt`, `families.rt` and
+//!    `sign_outs.rt` of `src/plain/`, and `generation_of` of `specs/Status.antt` with `status.rt` there. Where it makes or
+//!    ends a client or a consent: `specs/Clients.antt` with `clients.rt` and `consents.rt` there. Those of specs/ but
+//!    `change_in` end in a row for the other kinds, so nothing asks for these rows.
+//! 10. The request that makes such facts: an `Endpoint` of tk_message with its reply, the decision in tk_authorize, tk_grant or
+//!     tk_query with its row in `decision_by` of tk_region, its path in tk_edge, and perhaps a line in tokend's
+//!     `request_line.rt`.
+//! 11. Words: "ten" here, in `src/lib.rt`, in README.md and in docs/ARCHITECTURE.md, the kinds 1 to 10 and their table in
 //!     docs/FORMATS.md, the row "fact" of docs/DEFINITIONS.md.
 
 ghost use Rattle.std.specs.Prelude.{◌≡◌, ◌++◌, ◌↔◌, IfOk, IsTrue, OnOk};

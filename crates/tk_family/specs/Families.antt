@@ -23,7 +23,8 @@ use Rattle.tk_family.specs.declared.link.Link.TheVariants.{Code, Redeems, Rotate
 abbrev pub Links : Type 0
 Links = Dot → Option Link
 
--- which tokens are marked, as their reuse was seen or their client revoked them (RFC 6749, 10.4 and 10.5; RFC 7009, 2.1)
+-- which tokens are marked, as their reuse was seen, their client revoked them or their subject signed out (RFC 6749, 10.4 and
+-- 10.5; RFC 7009, 2.1; own)
 abbrev pub Marks : Type 1
 Marks = TokenId → Type 0
 

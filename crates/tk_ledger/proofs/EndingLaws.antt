@@ -98,7 +98,7 @@ issued_link (CodeIssued x) f h = refl
 issued_link body f h = absurd (none_is_not_some f h)
 
 -- a code is under itself
-under_itself : (F : FactSet) (d : Dot) (f : issued.CodeIssued) → issued_at (map.get F) d ≡ Some f → IsUnder (links_in (map.get F)) d d
+pub under_itself : (F : FactSet) (d : Dot) (f : issued.CodeIssued) → issued_at (map.get F) d ≡ Some f → IsUnder (links_in (map.get F)) d d
 under_itself F d f h =
     let x : (b : Body) × (map.get F d ≡ Some b) × (issued_in b ≡ Some f) = from_some issued_in (map.get F d) f h in
     record { path = []; leads = (refl, ap (option_and_then link_of) x.1 ∙ issued_link x.0 f x.2) }

@@ -1,7 +1,7 @@
 -- Revoked tokens and tokens of families with a bad grant aren't active, at any moment, where those facts are held. Key results:
 --   bad_grants                          a minted grant is bad exactly where it is marked or used twice
 --   family_ends, revoked_ends           in the set itself
---   family_inactive, revoked_inactive   in every greater one
+--   family_inactive, revoked_inactive, signed_out_inactive   in every greater one
 use Rattle.std.proofs.Common.{◌≡◌, ◌≢◌, ◌⊎◌, inl, inr, ℕ, Some, refl, sym, ap, subst, ◌∙◌, option_and_then}
 use Rattle.std.specs.FinMap as map
 use Rattle.tk_handle.specs.declared.dot.Dot.{Dot}
@@ -18,10 +18,11 @@ use Rattle.tk_fact.specs.declared.body.Body.TheVariants.{ClientAdded, ClientReti
 use Rattle.tk_fact.specs.Tokens.{MintedFields, minted_of}
 use Rattle.tk_store.specs.FactSet.{FactSet, IsSubset}
 use Rattle.tk_ledger.specs.Bodies.{Bodies}
-use Rattle.tk_ledger.specs.Tokens.{link_of, links_in, minted_in, IsEnded, IsMarked}
+use Rattle.tk_ledger.specs.Tokens.{link_of, links_in, minted_in, IsEnded, IsOut, IsMarked}
 use Rattle.tk_ledger.specs.Status.{IsActive}
 use Rattle.tk_ledger.specs.Ends.{FamilyEnds}
-use Rattle.tk_ledger.proofs.TokenLaws.{from_some, IsBad-below, IsEnded-below}
+use Rattle.tk_ledger.proofs.EndingLaws.{under_itself}
+use Rattle.tk_ledger.proofs.TokenLaws.{from_some, IsBad-below, IsEnded-below, IsOut-below}
 use Rattle.tk_ledger.proofs.StatusLaws.{no_code_is}
 
 -- ---- bad grants
@@ -94,3 +95,10 @@ family_inactive F G w now h d c bad under member = family_ends (map.get G) now h
 
 pub revoked_inactive : (F G : FactSet) → IsSubset F G → (now : ℕ) (h : Handle) → IsEnded (map.get F) h.id → ¬ IsActive (map.get G) now h
 revoked_inactive F G w now h e = revoked_ends (map.get G) now h (IsEnded-below F G w h.id e)
+
+-- a code whose subject signed out is a bad grant, and under itself
+pub signed_out_inactive : (F G : FactSet) → IsSubset F G → (now : ℕ) (h : Handle) (c : Dot) → IsOut (map.get F) c → IsUnder (links_in (map.get G)) h.id.dot c → ¬ IsActive (map.get G) now h
+signed_out_inactive F G w now h c gone member =
+    let before = under_itself F c gone.issued gone.issues in
+    let after = IsOut-below F G w c gone in
+    family_inactive F G w now h c c (record { link = Code; here = before.leads.1; why = inl (inr (inr (refl, gone))) }) (under_itself G c after.issued after.issues) member

@@ -324,7 +324,7 @@ IsEnded-below F G w k e = record {
 pub IsSignedOut-below : (F G : FactSet) → IsSubset F G → (subject : List ℕ) (moment : ℕ) → IsSignedOut (map.get F) subject moment → IsSignedOut (map.get G) subject moment
 IsSignedOut-below F G w subject moment s = record { place = s.place; sign_out = s.sign_out; held = w s.place (bodies.SubjectOut s.sign_out) s.held; subject_is = s.subject_is; not_before = s.not_before }
 
-IsOut-below : (F G : FactSet) → IsSubset F G → (d : Dot) → IsOut (map.get F) d → IsOut (map.get G) d
+pub IsOut-below : (F G : FactSet) → IsSubset F G → (d : Dot) → IsOut (map.get F) d → IsOut (map.get G) d
 IsOut-below F G w d o = record { issued = o.issued; issues = below-and_then issued_in F G w d o.issued o.issues; signed_out = IsSignedOut-below F G w o.issued.subject o.issued.start o.signed_out }
 
 IsStopped-below : (F G : FactSet) → IsSubset F G → (k : TokenId) → IsStopped (map.get F) k → IsStopped (map.get G) k

@@ -13,7 +13,7 @@ use Rattle.tk_fact.specs.Tokens.{MintedFields, uses_of}
 use Rattle.tk_store.specs.FactSet.{FactSet, IsSubset}
 use Rattle.tk_ledger.specs.Bodies.{Bodies}
 use Rattle.tk_ledger.specs.Clients.{IsRetired, IsLiveClient, IsWithdrawn, IsLiveConsent, is_retired, is_live_client, is_withdrawn, is_live_consent}
-use Rattle.tk_ledger.specs.Tokens.{link_of, links_in, minted_in, is_used, is_twice, is_revoked, is_ended, is_marked, is_dead, IsRevoked, IsEnded, IsMarked}
+use Rattle.tk_ledger.specs.Tokens.{link_of, links_in, minted_in, is_used, is_twice, is_revoked, is_ended, is_marked, is_dead, IsRevoked, IsEnded, IsOut, IsMarked}
 use Rattle.tk_ledger.specs.Status.{IsActive, IsKnown, IsKnownToken, Says, status_in}
 use Rattle.tk_ledger.specs.declared.status.Status.TheVariants.{Unseen, Wrong, Broken}
 
@@ -98,6 +98,10 @@ RevokedInactive = (F G : FactSet) → IsSubset F G → (now : ℕ) (h : Handle) 
 -- nor is any token that shares its code with a grant that is bad: one of its family
 abbrev pub FamilyInactive : Type 0
 FamilyInactive = (F G : FactSet) → IsSubset F G → (now : ℕ) (h : Handle) (d c : Dot) → IsBad (links_in (map.get F)) (IsMarked (map.get F)) d → IsUnder (links_in (map.get G)) d c → IsUnder (links_in (map.get G)) h.id.dot c → ¬ IsActive (map.get G) now h
+
+-- nor is any token under a code whose subject signed out, at the code's start or later
+abbrev pub SignedOutInactive : Type 0
+SignedOutInactive = (F G : FactSet) → IsSubset F G → (now : ℕ) (h : Handle) (c : Dot) → IsOut (map.get F) c → IsUnder (links_in (map.get G)) h.id.dot c → ¬ IsActive (map.get G) now h
 
 -- a code or refresh token that is minted is bad exactly where it is marked, or used twice
 abbrev pub BadGrants : Type 0

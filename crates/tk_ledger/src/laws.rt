@@ -1,6 +1,6 @@
 //! Laws of the ledger: functions with empty bodies, whose contracts hold of all sets of facts.
 
-ghost use Rattle.tk_ledger.specs.Laws.{UsedDecided, TwiceDecided, RevokedDecided, EndedDecided, MarkedDecided, DeadDecided, RetiredDecided, WithdrawnDecided, LiveClientDecided, LiveConsentDecided, UsesAgree, DeathStays, EndedStays, RetiredStays, WithdrawnStays, UnseenExactly, WrongExactly, BrokenExactly, KnownExactly, RevokedInactive, FamilyInactive, BadGrants};
+ghost use Rattle.tk_ledger.specs.Laws.{UsedDecided, TwiceDecided, RevokedDecided, EndedDecided, MarkedDecided, DeadDecided, RetiredDecided, WithdrawnDecided, LiveClientDecided, LiveConsentDecided, UsesAgree, DeathStays, EndedStays, RetiredStays, WithdrawnStays, UnseenExactly, WrongExactly, BrokenExactly, KnownExactly, RevokedInactive, SignedOutInactive, FamilyInactive, BadGrants};
 
 /// A law: each test of a set of facts says whether the relation of its name holds (own).
 pub fn tests_decide()
@@ -62,8 +62,15 @@ pub fn family_inactive()
     ensures { FamilyInactive }
 {}
 
-/// A law: a code or refresh token that is minted is bad exactly where it is used twice, was seen to be reused, or is a
-/// refresh token that its client revoked (RFC 6749, 4.1.2, 10.4 and 10.5; RFC 7009, 2.1).
+/// A law: a code or refresh token that is minted is bad exactly where it is used twice, was seen to be reused, is a
+/// refresh token that its client revoked (RFC 6749, 4.1.2, 10.4 and 10.5; RFC 7009, 2.1), or a code whose subject signed out
+/// at its start or later (own).
 pub fn bad_grants()
     ensures { BadGrants }
+{}
+
+/// A law: no token under a code whose subject signed out everywhere, at the code's start or later, is active, at any moment
+/// and whatever facts are added (own).
+pub fn signed_out_inactive()
+    ensures { SignedOutInactive }
 {}

@@ -42,7 +42,7 @@ pub use client_view::ClientView;
 pub use consent_view::ConsentView;
 pub use laws::{
     bad_grants, death_stays, ended_stays, family_inactive, retired_stays, revoked_inactive,
-    status_says, tests_decide, uses_agree, withdrawn_stays,
+    signed_out_inactive, status_says, tests_decide, uses_agree, withdrawn_stays,
 };
 pub use ledger::Ledger;
 pub use status::{Standing, State, Status};

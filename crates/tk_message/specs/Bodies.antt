@@ -2,6 +2,7 @@
 --   error_body     {"error":NAME} (RFC 6749, 5.2)
 --   client_body    {"client_id":ID} (own)
 --   consent_body   {"consent_id":ID} (own)
+--   subject_body   {"subject":SUBJECT} (own)
 --   shown_body     {"client_id":ID,"kind":KIND,"live":LIVE,"scope":SCOPE} (own)
 --   token_body     an access and a refresh token (RFC 6749, 5.1)
 --   access_body    what is said of an active access token; refresh_body, of a refresh token (RFC 7662, 2.2)
@@ -30,6 +31,9 @@ client_body client = object (member (codes "client_id") (string (client_text cli
 
 abbrev pub consent_body : Dot → Data
 consent_body consent = object (member (codes "consent_id") (string (consent_text consent)) no_members)
+
+abbrev pub subject_body : List ℕ → Data
+subject_body subject = object (member (codes "subject") (string subject) no_members)
 
 -- the name of what a client is
 abbrev pub kind_name : Sort → List ℕ

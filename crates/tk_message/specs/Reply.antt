@@ -4,6 +4,7 @@
 --   error_reply      an error, by its code
 --   client_reply     the id of a client
 --   consent_reply    the id of a consent
+--   subject_reply    the subject that was signed out
 --   shown_reply      what is known of a client
 --   redirect_reply   a redirect to the client
 --   token_reply      an access and a refresh token
@@ -23,7 +24,7 @@ use Rattle.tk_message.specs.declared.status.Status.{Status}
 use Rattle.tk_message.specs.declared.status.Status.TheVariants.{Ok, Created, Found, BadRequest, Unauthorized, NotFound, MethodNotAllowed, Conflict, LengthRequired, ContentTooLarge, ServiceUnavailable}
 use Rattle.tk_message.specs.declared.error_code.ErrorCode.{ErrorCode}
 use Rattle.tk_message.specs.ErrorCode.{error_status, error_name}
-use Rattle.tk_message.specs.Bodies.{error_body, client_body, consent_body, shown_body, token_body, access_body, refresh_body, inactive_body, taken_body}
+use Rattle.tk_message.specs.Bodies.{error_body, client_body, consent_body, subject_body, shown_body, token_body, access_body, refresh_body, inactive_body, taken_body}
 use Rattle.tk_message.specs.ReplyFields.{ReplyFields, Nothing, JsonText, OtherBytes}
 
 -- credentials are asked for with every 401 (RFC 6749, 5.2)
@@ -57,6 +58,9 @@ client_reply status client = json_reply status (client_body client)
 
 abbrev pub consent_reply : Status → Dot → ReplyFields
 consent_reply status consent = json_reply status (consent_body consent)
+
+abbrev pub subject_reply : List ℕ → ReplyFields
+subject_reply subject = json_reply Ok (subject_body subject)
 
 abbrev pub shown_reply : Dot → Sort → Bool → List ℕ → ReplyFields
 shown_reply client sort live scope = json_reply Ok (shown_body client sort live scope)

@@ -27,6 +27,12 @@ pub(crate) fn consent_body(alloc: Global, id: &str) -> Result<Value, AllocError>
     json!(in alloc; {"consent_id": id})
 }
 
+pub(crate) fn subject_body(alloc: Global, subject: &str) -> Result<Value, AllocError>
+    ensures { IfOk result (λ body. view body ≡ spec.subject_body subject.now) }
+{
+    json!(in alloc; {"subject": subject})
+}
+
 pub(crate) fn shown_body(
     alloc: Global,
     id: &str,

@@ -31,7 +31,7 @@ pub use place::{Lives, Place};
 pub use reply::{
     Payload, Reply, access_reply, bytes_reply, client_reply, consent_reply, empty_reply,
     error_reply, handle_string, inactive_reply, redirect_reply, refresh_reply, shown_reply,
-    taken_reply, token_reply,
+    subject_reply, taken_reply, token_reply,
 };
 pub use request::{Endpoint, Request};
 pub use scope::scope_asked;

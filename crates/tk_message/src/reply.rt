@@ -46,7 +46,7 @@ ghost use Rattle.tk_message.specs.Reply as spec;
 
 use crate::bodies::{
     access_body, client_body, consent_body, error_body, inactive_body, refresh_body, shown_body,
-    taken_body, token_body,
+    subject_body, taken_body, token_body,
 };
 use crate::error_code::ErrorCode;
 use serde_json::Value;
@@ -115,6 +115,14 @@ pub fn consent_reply(alloc: Global, status: Status, consent: Dot) -> Result<Repl
     let id = consent_text(alloc, consent)?;
     let body = consent_body(alloc, id.as_str())?;
     json_reply(alloc, status, &body)
+}
+
+/// The subject that was signed out (own).
+pub fn subject_reply(alloc: Global, subject: &Subject) -> Result<Reply, AllocError>
+    ensures { IfOk result (λ reply. reply ≡ spec.subject_reply subject.now) }
+{
+    let body = subject_body(alloc, subject.as_str())?;
+    json_reply(alloc, Status::Ok, &body)
 }
 
 /// An access token that lasts so many seconds, a refresh token, and the scope of the access token (RFC 6749, 5.1).

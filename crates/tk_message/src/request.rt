@@ -24,6 +24,8 @@ pub enum Endpoint {
     Consent,
     /// POST `/admin/withdraw`: withdraw a consent.
     Withdraw,
+    /// POST `/admin/signout`: sign a subject out everywhere.
+    SignOut,
 }
 
 /// A request, read from its head and body. Contracts see the bytes that its parts hold.

@@ -7,7 +7,7 @@ use Rattle.tk_message.specs.declared.decision.Decision.{Decision}
 use Rattle.tk_message.specs.declared.error_code.ErrorCode.TheVariants.{TemporarilyUnavailable}
 use Rattle.tk_message.specs.declared.place.Place.{Place}
 use Rattle.tk_message.specs.declared.request.Endpoint.{Endpoint}
-use Rattle.tk_message.specs.declared.request.Endpoint.TheVariants.{Authorize, Token, Introspect, Revoke, AddClient, ShowClient, Retire, Consent, Withdraw}
+use Rattle.tk_message.specs.declared.request.Endpoint.TheVariants.{Authorize, Token, Introspect, Revoke, AddClient, ShowClient, Retire, Consent, Withdraw, SignOut}
 use Rattle.tk_message.specs.RequestFields.{RequestFields}
 use Rattle.tk_message.specs.Decision.{answered, refused}
 use Rattle.tk_authorize.specs.Administration.{administration_of}
@@ -21,11 +21,12 @@ decision_by Authorize F place now words request = authorization_of F place now w
 decision_by Token F place now words request = grant_of F place now words request
 decision_by Introspect F place now words request = answered (introspection_of F now request)
 decision_by Revoke F place now words request = revocation_of F place now request
-decision_by AddClient F place now words request = administration_of F place request
-decision_by ShowClient F place now words request = administration_of F place request
-decision_by Retire F place now words request = administration_of F place request
-decision_by Consent F place now words request = administration_of F place request
-decision_by Withdraw F place now words request = administration_of F place request
+decision_by AddClient F place now words request = administration_of F place now request
+decision_by ShowClient F place now words request = administration_of F place now request
+decision_by Retire F place now words request = administration_of F place now request
+decision_by Consent F place now words request = administration_of F place now request
+decision_by Withdraw F place now words request = administration_of F place now request
+decision_by SignOut F place now words request = administration_of F place now request
 
 abbrev pub decision_of : FactSet → Place → ℕ → List ℕ → RequestFields → Decision
 decision_of F place now words request = decision_by request.endpoint F place now words request

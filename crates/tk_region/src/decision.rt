@@ -34,7 +34,8 @@ pub(crate) fn decide_endpoint(
         | Endpoint::ShowClient
         | Endpoint::Retire
         | Endpoint::Consent
-        | Endpoint::Withdraw => decide_admin(alloc, ledger, place, request),
+        | Endpoint::Withdraw
+        | Endpoint::SignOut => decide_admin(alloc, ledger, place, now, request),
     }
 }
 

@@ -73,8 +73,8 @@ IsInactive F h = (now : ℕ) → (¬ IsActive (map.get F) now h) × ((sort : Sor
 abbrev pub RevokedInactive : State → Type 0
 RevokedInactive s = (r : ℕ) (F : FactSet) → IsSubset F (facts_in s r) → (h : Handle) → IsEnded (map.get F) h.id → IsInactive (facts_in s r) h
 
--- where a region holds facts by which a code or refresh token is bad (used twice, seen to be reused, or revoked), each token
--- under the same code
+-- where a region holds facts by which a code or refresh token is bad (used twice, seen to be reused, revoked, or a code whose
+-- subject signed out), each token under the same code
 abbrev pub FamiliesInactive : State → Type 0
 FamiliesInactive s = (r : ℕ) (F : FactSet) → IsSubset F (facts_in s r) → (h : Handle) (d c : Dot) → IsBad (links_in (map.get F)) (IsMarked (map.get F)) d
     → IsUnder (links_in (map.get (facts_in s r))) d c → IsUnder (links_in (map.get (facts_in s r))) h.id.dot c → IsInactive (facts_in s r) h

@@ -76,6 +76,11 @@ abbrev pub retire_of : List (List ℕ) → Option (List ℕ)
 retire_of (id ∷ []) = request_of (codes "POST") (codes "/admin/retire") none_text none_text (codes "client_id=" ++ id)
 retire_of form = None
 
+-- SUBJECT
+abbrev pub sign_out_of : List (List ℕ) → Option (List ℕ)
+sign_out_of (subject ∷ []) = request_of (codes "POST") (codes "/admin/signout") none_text none_text (codes "subject=" ++ subject)
+sign_out_of form = None
+
 -- ID
 abbrev pub look_of : List (List ℕ) → Option (List ℕ)
 look_of (id ∷ []) = request_of (codes "GET") (codes "/admin/client?client_id=" ++ id) none_text none_text none_text
@@ -87,5 +92,6 @@ asked_of name form =
     if bytes_eq name (codes "req") then whole_of form
     else if bytes_eq name (codes "client") then client_of form
     else if bytes_eq name (codes "retire") then retire_of form
+    else if bytes_eq name (codes "signout") then sign_out_of form
     else if bytes_eq name (codes "look") then look_of form
     else None

@@ -73,8 +73,9 @@ pub fn revoked_tokens_are_inactive(
 }
 
 /// Families with a bad grant are inactive: where a region holds facts by which a code or refresh token was used twice, was
-/// seen to be reused, or is a refresh token that its client revoked, each token under the same code is active at no moment,
-/// and introspection tells nobody of it (RFC 6749, 4.1.2, 10.4 and 10.5).
+/// seen to be reused, is a refresh token that its client revoked, or a code whose subject signed out at its start or later,
+/// each token under the same code is active at no moment, and introspection tells nobody of it (RFC 6749, 4.1.2, 10.4 and
+/// 10.5).
 pub fn families_with_a_bad_grant_are_inactive(
     world: &mut World,
     events: &[Event],

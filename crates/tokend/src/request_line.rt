@@ -9,11 +9,12 @@ use itoa::Buffer;
 use std::alloc::{AllocError, Global};
 
 /// The request of a line by its first field, and by those behind the moment; None where there is none. A line has one of
-/// these forms, and the last three stand for a whole one:
+/// these forms, and the last four stand for a whole one:
 ///
 /// - `req R NOW METHOD TARGET AUTH SUBJECT BODY`, where `-` means none for the last three; AUTH is what follows `Basic `
 /// - `client R NOW KIND SECRET SCOPE URIS`, where the secret `-` means none
 /// - `retire R NOW ID`
+/// - `signout R NOW SUBJECT`
 /// - `look R NOW ID`
 ///
 /// METHOD is capital letters. The request is the bytes of a head of HTTP/1.1, an empty line and the body; a POST says how long
@@ -29,6 +30,9 @@ pub(crate) fn asked(alloc: Global, name: &str, form: &[&str]) -> Result<Option<V
     }
     if name == "retire" {
         return retire(alloc, form);
+    }
+    if name == "signout" {
+        return sign_out(alloc, form);
     }
     if name == "look" {
         return look(alloc, form);
@@ -90,6 +94,18 @@ fn retire(alloc: Global, form: &[&str]) -> Result<Option<Vec<u8>>, AllocError>
         [id] => {
             let body = joined(alloc, "client_id=", id)?;
             request_of(alloc, "POST", "/admin/retire", "-", "-", body.as_str())
+        }
+        _ => Ok(None),
+    }
+}
+
+fn sign_out(alloc: Global, form: &[&str]) -> Result<Option<Vec<u8>>, AllocError>
+    ensures { IfOk result (λ request. bytes_in request ≡ spec.sign_out_of (texts form.now)) }
+{
+    match form {
+        [subject] => {
+            let body = joined(alloc, "subject=", subject)?;
+            request_of(alloc, "POST", "/admin/signout", "-", "-", body.as_str())
         }
         _ => Ok(None),
     }

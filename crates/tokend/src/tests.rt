@@ -22,6 +22,7 @@ mod requests;
 mod rings;
 mod rotation;
 mod serving;
+mod signed_out;
 mod states;
 mod unserved;
 mod verifiers;

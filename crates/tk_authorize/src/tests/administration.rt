@@ -84,6 +84,21 @@ static WITHDRAWN: [Row; 9] = [
     ("a consent that was never given", "consent_id=g9-9", NOT_FOUND),
 ];
 
+// One who signed out before is signed out again; one who did so at this moment, or later by another clock, isn't.
+#[rattlefmt::skip]
+static SIGNED_OUT: [Row; 10] = [
+    ("a subject", "subject=ann&client_id=c9-9", (200, "{\"subject\":\"ann\"}", Makes::SignOut("ann", 1_000))),
+    ("a quotation mark and a backslash", "subject=a%22b%5Cc", (200, "{\"subject\":\"a\\\"b\\\\c\"}", Makes::SignOut("a\"b\\c", 1_000))),
+    ("one who signed out before", "subject=joe", (200, "{\"subject\":\"joe\"}", Makes::SignOut("joe", 1_000))),
+    ("one who signed out at the moment", "subject=bob", (200, "{\"subject\":\"bob\"}", Makes::Nothing)),
+    ("one who signed out later", "subject=eve", (200, "{\"subject\":\"eve\"}", Makes::Nothing)),
+    ("the subject twice", "subject=ann&subject=ann", BAD_REQUEST),
+    ("no subject", "client_id=c1-1", BAD_REQUEST),
+    ("a subject without a value", "subject=", BAD_REQUEST),
+    ("a subject with a space", "subject=a+b", BAD_REQUEST),
+    ("a subject with a delete", "subject=a%7F", BAD_REQUEST),
+];
+
 static ELSEWHERE: [Row; 1] = [("another endpoint", "client_id=c1-1", NOT_FOUND)];
 
 #[test]
@@ -114,6 +129,16 @@ fn consents_are_withdrawn_once(rt: HostRuntime) {
         rt.alloc(),
         Asker::Admin(Endpoint::Withdraw),
         &WITHDRAWN,
+    );
+}
+
+#[test]
+fn subjects_are_signed_out(rt: HostRuntime) {
+    are_answered(
+        &rt,
+        rt.alloc(),
+        Asker::Admin(Endpoint::SignOut),
+        &SIGNED_OUT,
     );
 }
 

@@ -1,6 +1,6 @@
 //! The facts that requests make.
 
-use tk_fact::{Body, ClientAdded, CodeIssued, ConsentGiven, Sort};
+use tk_fact::{Body, ClientAdded, CodeIssued, ConsentGiven, Sort, SubjectOut};
 use tk_handle::Dot;
 
 /// A region and a serial.
@@ -18,6 +18,8 @@ pub(super) enum Makes {
     ConsentOf(At, &'static str, &'static str),
     Retirement(At),
     Withdrawal(At),
+    // The subject and the moment.
+    SignOut(&'static str, u64),
     Code(Issued),
 }
 
@@ -62,6 +64,10 @@ fn is_consent(consent: &ConsentGiven, client: At, subject: &str, scope: &str) ->
         && consent.scope.text() == scope
 }
 
+fn is_sign_out(sign_out: &SubjectOut, subject: &str, moment: u64) -> bool {
+    sign_out.subject.as_str() == subject && sign_out.moment.seconds() == moment
+}
+
 fn is_challenge(code: &CodeIssued, want: Option<(bool, &str)>) -> bool {
     match (&code.challenge, want) {
         (Some(challenge), Some((is_s256, text))) => {
@@ -102,6 +108,9 @@ pub(super) fn is_made(made: &Option<Body>, makes: &Makes) -> bool {
         (Some(Body::ClientRetired(end)), Makes::Retirement(client)) => is_at(end.client, client),
         (Some(Body::ConsentWithdrawn(end)), Makes::Withdrawal(consent)) => {
             is_at(end.consent, consent)
+        }
+        (Some(Body::SubjectOut(sign_out)), Makes::SignOut(subject, moment)) => {
+            is_sign_out(sign_out, subject, moment)
         }
         (Some(Body::CodeIssued(code)), Makes::Code(issued)) => is_code(code, &issued),
         _ => false,

@@ -37,6 +37,7 @@ const REFUSED: &[(Told, &[Sent])] = &[
         ("GET to retire", b"GET /admin/retire HTTP/1.1\r\n\r\n"),
         ("GET for a consent", b"GET /admin/consent HTTP/1.1\r\n\r\n"),
         ("GET to withdraw", b"GET /admin/withdraw HTTP/1.1\r\n\r\n"),
+        ("GET to sign out", b"GET /admin/signout HTTP/1.1\r\n\r\n"),
         ("a wrong method before a doubled field", b"HEAD /token HTTP/1.1\r\nContent-Length: 0\r\nContent-Length: 0\r\n\r\n"),
     ]),
     (GET_AND_POST, &[

@@ -1,10 +1,12 @@
-//! Consents, redirects and the texts of handles.
+//! Consents, subjects, redirects and the texts of handles.
 
 use super::{dot, handle, is_told};
 use crate::{
-    Payload, Reply, Status, bytes_reply, consent_reply, handle_string, redirect_reply, taken_reply,
+    Payload, Reply, Status, bytes_reply, consent_reply, handle_string, redirect_reply,
+    subject_reply, taken_reply,
 };
 use std::alloc::Global;
+use tk_fact::Subject;
 use tk_handle::{Handle, Kind};
 
 fn consented(alloc: Global, status: Status) -> Option<Reply> {
@@ -19,6 +21,25 @@ fn a_consent_goes_under_its_status(rt: HostRuntime) {
             is_told(consented(rt.alloc(), status), number, body),
             "{number}"
         );
+    }
+}
+
+// Subjects, and how they are told: what a string of JSON can't hold as it is stands behind a backslash (RFC 8259, 7).
+static SUBJECTS: [(&str, &str); 3] = [
+    ("ann", "{\"subject\":\"ann\"}"),
+    ("a\"b\\c", "{\"subject\":\"a\\\"b\\\\c\"}"),
+    ("!/~", "{\"subject\":\"!/~\"}"),
+];
+
+fn signed_out(alloc: Global, name: &str) -> Option<Reply> {
+    let subject = Subject::read(alloc, name.as_bytes()).ok()?;
+    subject_reply(alloc, &subject).ok()
+}
+
+#[test]
+fn a_subject_is_told_as_json(rt: HostRuntime) {
+    for (name, body) in &SUBJECTS {
+        assert!(rt; is_told(signed_out(rt.alloc(), name), 200, body), "{body}");
     }
 }
 

@@ -20,6 +20,8 @@ const LINES: &[(&str, &[u8])] = &[
     ("client with too many fields", b"client 1 1000 public - read https://app.example/cb https://app.example/cd"),
     ("retire without an id", b"retire 1 1003"),
     ("retire of two ids", b"retire 1 1003 c1-1 c1-2"),
+    ("signout without a subject", b"signout 1 1020"),
+    ("signout of two subjects", b"signout 1 1020 ann bob"),
     ("look without an id", b"look 1 1001"),
     ("look at two ids", b"look 1 1001 c1-1 c1-2"),
     ("pull after a region alone", b"pull 1 - 1"),

@@ -57,6 +57,8 @@ const SHORT: &[(&str, &str, &str)] = &[
     ("a client without a kind", "client 1 1000 - - read https://app.example/cb", "req 1 1000 POST /admin/client - - kind=-&scope=read&redirects=https://app.example/cb"),
     ("a look", "look 1 1000 c1-1", "req 1 1000 GET /admin/client?client_id=c1-1 - - -"),
     ("a retirement", "retire 1 1000 c1-1", "req 1 1000 POST /admin/retire - - client_id=c1-1"),
+    ("a sign-out", "signout 1 1000 ann", "req 1 1000 POST /admin/signout - - subject=ann"),
+    ("a sign-out of a dash", "signout 1 1000 -", "req 1 1000 POST /admin/signout - - subject=-"),
 ];
 
 #[test]

@@ -1,0 +1,95 @@
+//! Subjects that are signed out everywhere: the cases in their order.
+
+ghost use Rattle.std.specs.Prelude.{◌≡◌, IfOk};
+ghost use Rattle.std.specs.Option.{option_copied};
+ghost use Rattle.tk_store.specs.Store.{facts_of};
+ghost use Rattle.tk_ledger.specs.SignOuts.{is_signed_out};
+ghost use Rattle.tk_params.specs.Params.{has_twice};
+ghost use Rattle.tk_authorize.specs.Administered as spec;
+ghost use Rattle.tk_authorize.specs.SoundAdministered.{IsSoundAdministered};
+
+use crate::admin_refusal::AdminRefusal;
+use crate::administered::Administered;
+use std::alloc::{AllocError, Global};
+use tk_fact::{Subject, SubjectError, SubjectOut};
+use tk_handle::Moment;
+use tk_ledger::Ledger;
+use tk_message::Params;
+
+pub(crate) fn sign_out(
+    alloc: Global,
+    ledger: &Ledger,
+    now: Moment,
+    params: &Params,
+) -> Result<Administered, AllocError>
+    ensures value { IfOk result (λ a. a ≡ spec.signed_out_of (facts_of ledger.now) now params.now) }
+    ensures sound { IfOk result IsSoundAdministered }
+{
+    if is_subject_twice(params) {
+        return Ok(Administered::Refused(AdminRefusal::DuplicateParameter));
+    }
+    sign_out_by(alloc, ledger, now, params.value("subject"))
+}
+
+fn is_subject_twice(params: &Params) -> bool
+    ensures { result ≡ has_twice spec.sign_out_names params.now }
+{
+    let names = ["subject"];
+    params.has_twice(&names)
+}
+
+fn sign_out_by(
+    alloc: Global,
+    ledger: &Ledger,
+    now: Moment,
+    subject: Option<&str>,
+) -> Result<Administered, AllocError>
+    ensures value { IfOk result (λ a. a ≡ spec.signed_out_by (facts_of ledger.now) now (option_copied subject.entry)) }
+    ensures sound { IfOk result IsSoundAdministered }
+{
+    let Some(subject) = subject else {
+        return Ok(Administered::Refused(AdminRefusal::MissingParameter));
+    };
+    sign_out_as(alloc, ledger, now, subject)
+}
+
+fn sign_out_as(
+    alloc: Global,
+    ledger: &Ledger,
+    now: Moment,
+    subject: &str,
+) -> Result<Administered, AllocError>
+    ensures value { IfOk result (λ a. a ≡ spec.signed_out_as (facts_of ledger.now) now subject.now) }
+    ensures sound { IfOk result IsSoundAdministered }
+{
+    match Subject::read(alloc, subject.as_bytes()) {
+        Ok(subject) => Ok(sign_out_at(ledger, now, subject)),
+        Err(SubjectError::Malformed) => Ok(Administered::Refused(AdminRefusal::BadSubject)),
+        Err(SubjectError::Memory) => Err(AllocError),
+    }
+}
+
+fn sign_out_at(ledger: &Ledger, now: Moment, subject: Subject) -> Administered
+    ensures value { result ≡ spec.signed_out_at (facts_of ledger.now) now subject }
+    ensures sound { IsSoundAdministered result }
+{
+    if is_out(ledger, now, &subject) {
+        return Administered::AlreadyOut(subject);
+    }
+    // The proof reads from this call that it is a subject.
+    let _name = subject.as_str();
+    Administered::SignsOut(SubjectOut {
+        subject,
+        moment: now,
+    })
+}
+
+// Whether the subject was signed out at the moment, or later.
+fn is_out(ledger: &Ledger, now: Moment, subject: &Subject) -> bool
+    ensures { result ≡ is_signed_out (facts_of ledger.now) subject.now now }
+{
+    match ledger.signed_out(subject) {
+        Some(last) => now.seconds() <= last.seconds(),
+        None => false,
+    }
+}
