@@ -1,7 +1,10 @@
 pub mod BundleLaws
 pub mod ConsistencyLaws
+pub mod EventForms
 pub mod HonestLaws
+pub mod NumberTexts
 pub mod PartLaws
 pub mod PromiseLaws
+pub mod Putting
 pub mod RegionLaws
 pub mod RunLaws

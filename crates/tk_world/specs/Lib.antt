@@ -6,11 +6,21 @@
 --   World         Step, Run, seen_by
 --   Promises      what is promised of introspection: TellsOfSets, IntrospectAlike, RevokedInactive, FamiliesInactive
 --   Parts         what the parts of a step may end with
+--   Fields        the numbers and texts that a line's fields stand for
+--   RequestLine   the requests of lines, whole and short
+--   Line          the lines that are events, and the words that these draw
+--   Put           what writing leaves of an output
+--   Printed       what is printed of an event
 pub mod AskedFields
 pub mod Bundles
+pub mod Fields
+pub mod Line
 pub mod Parts
+pub mod Printed
 pub mod Promises
+pub mod Put
 pub mod Regions
+pub mod RequestLine
 pub mod State
 pub mod World
 pub use Rattle.tk_bundle.specs.Bundle

@@ -1,5 +1,8 @@
 //! Runs of a world, told by their outcomes.
 
+mod lines;
+mod replies;
+
 use crate::{Event, Outcome, Settings, World};
 use std::alloc::Global;
 use std::test::Fail;

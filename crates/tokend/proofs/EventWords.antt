@@ -1,8 +1,8 @@
 -- The words of a script's events, and their lengths, as the list of events grows.
 use Rattle.std.proofs.Common.{ℕ, zero, suc, List, [], ◌∷◌, ◌++◌, length, slice_get, Option, IfSome}
 use Rattle.tk_world.specs.declared.event.Event.{Event}
-use Rattle.tokend.specs.Line.{HasWords, words_at}
-use Rattle.tokend.specs.Script.{AreShort, IsTooLong}
+use Rattle.tk_world.specs.Line.{HasWords}
+use Rattle.tokend.specs.Script.{AreShort, IsTooLong, words_at}
 
 each_pushed : {X : Type 0} (P : ℕ → X → Type 0) (xs : List X) (x : X) → ((k : ℕ) → IfSome (slice_get xs k) (P k)) → P (length xs) x → (k : ℕ) → IfSome (slice_get (xs ++ x ∷ []) k) (P k)
 each_pushed P [] x each last zero = last

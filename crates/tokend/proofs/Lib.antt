@@ -1,12 +1,9 @@
 pub mod Commands
 pub mod Connections
-pub mod EventForms
 pub mod EventWords
 pub mod Loads
 pub mod Loopbacks
-pub mod NumberTexts
 pub mod OneSet
-pub mod Putting
 pub mod Runs
 pub mod ScriptEvents
 pub mod Tasks

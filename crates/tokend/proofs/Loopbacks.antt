@@ -3,7 +3,7 @@ use Rattle.std.proofs.Common.{◌≡◌, ℕ, List, Option, Some, None, Result, 
 use Rattle.std.specs.Prelude.{IfSome, IfErr, OnOk}
 use Rattle.std.specs.Io.KnownBytes.{Appends}
 use Rattle.clap.specs.Words.{Text}
-use Rattle.tokend.specs.Put.{AppendsFront}
+use Rattle.tk_world.specs.Put.{AppendsFront}
 use Rattle.tokend.specs.Task.{AsksToLoop}
 use Rattle.tokend.specs.LoopbackRun.{IsLoopbackRun, PrintsLoopback, BeginsLoopback, IsLoopbackFault, IsSocketFault, LeavesLoopback}
 use Rattle.tokend.specs.ProgramRun.{IsDone, IsFaultFor, Leaves}

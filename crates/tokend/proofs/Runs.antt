@@ -4,7 +4,7 @@ use Rattle.std.specs.Prelude.{IfSome, IfErr, OnOk, OnErr, MatchResult}
 use Rattle.std.specs.Io.KnownBytes.{Appends, Keeps}
 use Rattle.clap.specs.Words.{Text}
 use Rattle.tk_region.specs.SettingsFields.{SettingsFields}
-use Rattle.tokend.specs.Put.{AppendsFront}
+use Rattle.tk_world.specs.Put.{AppendsFront}
 use Rattle.tokend.specs.Serving.{Announces, IsFileFault, IsServiceFault, LeavesService}
 use Rattle.tokend.specs.Task.{script_task, Asks, AsksToServe}
 use Rattle.tokend.specs.ScriptRun.{IsScriptRun, PrintsScript, BeginsScript, IsScriptFault, LeavesScript}

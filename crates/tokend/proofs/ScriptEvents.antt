@@ -7,7 +7,7 @@ use Rattle.std.proofs.lemmas.List.{length-map, map_push, take-map}
 use Rattle.std.proofs.lemmas.List.Elements.{filter-append}
 use Rattle.std.proofs.lemmas.List.FromFn.{get_or-enumerate_from, length-enumerate_from}
 use Rattle.tk_world.specs.declared.event.Event.{Event}
-use Rattle.tokend.specs.Line.{IsEventLine}
+use Rattle.tk_world.specs.Line.{IsEventLine}
 use Rattle.tokend.specs.Script.{lines_of, is_told, AreEvents, IsBadLine, IsFirstBad}
 
 -- ---- one more line

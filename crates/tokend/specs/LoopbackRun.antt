@@ -10,8 +10,8 @@ use Rattle.tk_world.specs.declared.event.Event.{Event}
 use Rattle.tk_world.specs.declared.event.Outcome.{Outcome}
 use Rattle.tokend.specs.Script.{greatest_length, lines_of, AreEvents, AreShort, IsFirstBad}
 use Rattle.tokend.specs.ScriptRun.{IsScriptFault}
-use Rattle.tokend.specs.Printed.{lines_text}
-use Rattle.tokend.specs.Put.{AppendsFront}
+use Rattle.tk_world.specs.Printed.{lines_text}
+use Rattle.tk_world.specs.Put.{AppendsFront}
 use Rattle.tokend.specs.declared.fault.Fault.{Fault}
 use Rattle.tokend.specs.declared.fault.Fault.TheVariants.{BadLine, CannotListen, Memory, Output}
 

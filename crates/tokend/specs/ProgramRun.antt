@@ -11,7 +11,7 @@ use Rattle.clap.specs.Words.{Text, kind_of}
 use Rattle.tk_region.specs.SettingsFields.{SettingsFields}
 use Rattle.tokend.specs.Serving.{Announces, BeginsAnnouncement}
 use Rattle.tokend.specs.Task.{script_task, Asks, AsksToLoop, AsksToServe, AsksToShow, IsNoShow, IsRefusalOf}
-use Rattle.tokend.specs.Put.{AppendsFront}
+use Rattle.tk_world.specs.Put.{AppendsFront}
 use Rattle.tokend.specs.ScriptRun.{PrintsScript, BeginsScript, IsScriptFault}
 use Rattle.tokend.specs.LoopbackRun.{PrintsLoopback, BeginsLoopback, IsLoopbackFault}
 use Rattle.tokend.specs.Status.{fault_text}

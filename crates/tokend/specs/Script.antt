@@ -1,15 +1,16 @@
 -- The events of a script.
 --   lines_of       its lines; is_told, which of them should be events
 --   AreEvents      the events of lines, in order
+--   words_at       the words of an event, by its place
 --   AreShort       events of which no request is too long; IsBadLine, a line that is no event, or whose request is too long
 --   IsFirstBad     the number of the first such line of those that should be events
 --   IsInputFault   why an input gives no script
 --   IsFaultOf      why a script gives no events
-use Rattle.std.specs.Prelude.{◌≡◌, ◌<◌, ◌⊎◌, ℕ, ◌+◌, ◌==◌, ⊤, Bool, false, true, not, List, [], ◌∷◌, ◌++◌, length, filter, slice_get, vec_len, Option, Some, IfSome}
+use Rattle.std.specs.Prelude.{◌≡◌, ◌<◌, ◌⊎◌, ℕ, ◌+◌, ◌*◌, ◌==◌, ⊤, Bool, false, true, not, List, [], ◌∷◌, ◌++◌, length, filter, slice_get, vec_len, Option, Some, IfSome}
 use Rattle.std.specs.List.{AllZip, slice_split}
 use Rattle.tk_world.specs.declared.event.Event.{Event}
 use Rattle.tk_world.specs.declared.event.Event.TheVariants.{Request}
-use Rattle.tokend.specs.Line.{IsEventLine, IsNoEventLine}
+use Rattle.tk_world.specs.Line.{IsEventLine, IsNoEventLine}
 use Rattle.tokend.specs.declared.fault.Fault.{Fault}
 use Rattle.tokend.specs.declared.fault.Fault.TheVariants.{BadLine, CannotRead, Memory, ScriptTooLong}
 
@@ -29,6 +30,12 @@ is_told (b ∷ rest) = not (b == 35)
 -- an event for each of the lines that are told, in order
 abbrev pub AreEvents : List (List ℕ) → List Event → Type 0
 AreEvents lines events = AllZip IsEventLine (filter is_told lines) events
+
+-- the six words of an event, by its place among the events
+abbrev pub words_at : ℕ → List ℕ
+words_at place =
+    let first = 6 * place in
+    first ∷ (first + 1) ∷ (first + 2) ∷ (first + 3) ∷ (first + 4) ∷ (first + 5) ∷ []
 
 -- the event is a request of more bytes than it may have, where there is such a number
 abbrev pub IsTooLong : Option ℕ → Event → Type 0

@@ -11,10 +11,10 @@ use Rattle.tk_world.specs.State.{State, new_state}
 use Rattle.tk_world.specs.World.{Facts, Run}
 use Rattle.tk_world.specs.declared.event.Event.{Event}
 use Rattle.tk_world.specs.declared.event.Outcome.{Outcome}
-use Rattle.tokend.specs.Line.{HasWords, words_at}
-use Rattle.tokend.specs.Script.{greatest_length, lines_of, AreEvents, IsFirstBad, IsInputFault}
-use Rattle.tokend.specs.Printed.{lines_text}
-use Rattle.tokend.specs.Put.{AppendsFront}
+use Rattle.tk_world.specs.Line.{HasWords}
+use Rattle.tokend.specs.Script.{greatest_length, lines_of, AreEvents, IsFirstBad, IsInputFault, words_at}
+use Rattle.tk_world.specs.Printed.{lines_text}
+use Rattle.tk_world.specs.Put.{AppendsFront}
 use Rattle.tokend.specs.declared.fault.Fault.{Fault}
 use Rattle.tokend.specs.declared.fault.Fault.TheVariants.{BadLine, Output}
 

@@ -5,7 +5,7 @@
 --   LeavesService        what such a fault leaves of the output
 use Rattle.std.specs.Prelude.{⊤, ℕ, ◌==◌, List, [], ◌∷◌, ◌++◌, Option, codes, decimal, if◌then◌else◌}
 use Rattle.std.specs.Io.KnownBytes.{Appends, Keeps}
-use Rattle.tokend.specs.Put.{AppendsFront}
+use Rattle.tk_world.specs.Put.{AppendsFront}
 use Rattle.tokend.specs.declared.fault.Fault.{Fault}
 use Rattle.tokend.specs.declared.fault.Fault.TheVariants.{BadLogFile, BadSeedFile, CannotListen, CannotOpen, CannotReadFile, Memory, Output}
 

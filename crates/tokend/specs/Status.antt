@@ -2,17 +2,12 @@
 --   status_of     the exit status of each
 --   fault_text    what is told of it
 --   input_fault   the one of an input that fails
---   line_fault    that of a line with a vector that isn't read
 --   IsUnread      that of a file that can't be read, by its name; IsUnopened, that can't be opened
 use Rattle.std.specs.Prelude.{◌≡◌, ⊤, ℕ, string_bytes, List, [], ◌∷◌, ◌++◌, codes, decimal, Option, Some, None}
 use Rattle.std.specs.declared.io.ErrorKind.{ErrorKind}
 use Rattle.std.specs.declared.io.ErrorKind.TheVariants.{OutOfMemory}
-use Rattle.tk_format.specs.declared.error.ReadError.{ReadError}
-use Rattle.tk_format.specs.declared.error.ReadError.TheVariants as read
 use Rattle.tokend.specs.declared.fault.Fault.{Fault}
 use Rattle.tokend.specs.declared.fault.Fault.TheVariants.{Words, CannotRead, CannotReadFile, CannotOpen, CannotListen, ScriptTooLong, BadLine, BadSeedFile, BadLogFile, Memory, Output}
-use Rattle.tokend.specs.declared.fault.LineError.{LineError}
-use Rattle.tokend.specs.declared.fault.LineError.TheVariants as line
 
 -- 1 for memory and devices, 2 for words, scripts, seeds and logs
 abbrev pub status_of : Fault → ℕ
@@ -32,11 +27,6 @@ status_of Output = 1
 abbrev pub input_fault : ErrorKind → Fault
 input_fault OutOfMemory = Memory
 input_fault kind = CannotRead
-
--- a line with malformed bytes is bad
-abbrev pub line_fault : ReadError → LineError
-line_fault read.Malformed = line.Bad
-line_fault read.Memory = line.Memory
 
 -- a line of its own; the words' fault is told as clap does, and an output that failed by its status alone
 abbrev pub fault_text : Fault → Option (List ℕ)

@@ -1,16 +1,14 @@
 ghost use Rattle.std.specs.Prelude.{◌≡◌, ◌++◌, ◌∷◌, [], codes, decimal, string_bytes, IfSome};
 ghost use Rattle.std.specs.IoError.{error_kind};
 ghost use Rattle.tokend.specs.declared.fault.Fault.TheVariants as fault;
-ghost use Rattle.tokend.specs.declared.fault.LineError.TheVariants as line;
-ghost use Rattle.tokend.specs.Put.{Prints};
-ghost use Rattle.tokend.specs.Status.{fault_text, input_fault, line_fault, status_of, IsUnopened, IsUnread};
+ghost use Rattle.tk_world.specs.Put.{Prints};
+ghost use Rattle.tokend.specs.Status.{fault_text, input_fault, status_of, IsUnopened, IsUnread};
 ghost use Rattle.tokend.specs.Serving.{IsFileFault};
 
-use crate::put::put_all;
 use itoa::Buffer;
 use std::alloc::{AllocError, AllocFailed, Global};
 use std::io::{self, Write};
-use tk_format::ReadError;
+use tk_world::put_all;
 
 /// What ends the program before its end.
 #[derive(Debug, Drop)]
@@ -132,42 +130,6 @@ impl From<io::Error> for Fault {
         match error.kind() {
             io::ErrorKind::OutOfMemory => Fault::Memory,
             _ => Fault::CannotRead,
-        }
-    }
-}
-
-/// Why a line gives no event.
-#[derive(Clone, Copy, Debug, PartialEq, Eq)]
-pub enum LineError {
-    /// The line has another form, or a number out of its range.
-    Bad,
-    /// Memory ran out.
-    Memory,
-}
-
-impl From<AllocError> for LineError {
-    ghost from_gives = { λ _ e. e ≡ line.Memory };
-
-    fn from(_error: AllocError) -> LineError {
-        LineError::Memory
-    }
-}
-
-impl<T: Drop> From<AllocFailed<T>> for LineError {
-    ghost from_gives = { λ _ e. e ≡ line.Memory };
-
-    fn from(_error: AllocFailed<T>) -> LineError {
-        LineError::Memory
-    }
-}
-
-impl From<ReadError> for LineError {
-    ghost from_gives = { λ error e. e ≡ line_fault error };
-
-    fn from(error: ReadError) -> LineError {
-        match error {
-            ReadError::Malformed => LineError::Bad,
-            ReadError::Memory => LineError::Memory,
         }
     }
 }

@@ -4,7 +4,6 @@ ghost use Rattle.std.specs.Prelude.{◌≡◌, ◌≢◌, ◌⊎◌, ℕ, List, 
 ghost use Rattle.tokend.specs.Loading.{Loads, TakesOne};
 ghost use Rattle.tokend.specs.declared.load.LoadFault.TheVariants as fault;
 
-use crate::put::rest_of;
 use std::alloc::{AllocError, AllocFailed, Global};
 use std::io::Read;
 use tk_bundle::{FrontError, read_front};
@@ -58,7 +57,7 @@ fn load_bytes(alloc: Global, region: &mut Region, log: &[u8]) -> Result<u64, Loa
     let mut rest = log;
     while !rest.is_empty() {
         match take_front(alloc, region, rest) {
-            Ok(Some(count)) => rest = rest_of(rest, count),
+            Ok(Some(count)) => (_, rest) = rest.split_at(count),
             Ok(None) => return Ok(rest.len() as u64),
             Err(fault) => return Err(fault),
         }

@@ -2,30 +2,22 @@
 //!
 //! `tokend script` reads events as lines from the standard input, runs all of them in a world of regions, and prints one
 //! line for each; `tokend loopback` does the same with each request through a socket. `tokend serve` answers HTTP requests of one region on 127.0.0.1, the log before each reply. What an event
-//! or a request does is decided below; here stand the words, the lines, sockets, files and clocks, and the exit statuses:
+//! or a request does is decided below, and what its line says and prints; here stand the words, the script, sockets, files and clocks, and the exit statuses:
 //! 0 done, 1 memory or a device, 2 bad words, or a bad script, seed or log.
 //!
-//! In reading order: `options` (the words of the command line), `script` (the input as events), `line` (one line),
-//! `request_line` (its request), `fields` (its numbers and texts), `print` (outcomes as lines) over `put` (what a failed
-//! output leaves), `reply_parts` (what a line tells of a reply); `draw` (random words), `timed` (a connection's time),
+//! In reading order: `options` (the words of the command line), `script` (the input as events); `draw` (random words), `timed` (a connection's time),
 //! `log_file`, `load` (logs new and old), `serve` (connections), `loopback` (a script's requests as connections); `fault` (what may go wrong, and how it is told), `program`
 //! (all of it in order); `promises` says what all of this is for. The definitions are in specs/, listed in `Lib`.
 #![tactic(auto)]
 
 mod draw;
 mod fault;
-mod fields;
-mod line;
 mod load;
 mod log_file;
 mod loopback;
 mod options;
-mod print;
 mod program;
 pub mod promises;
-mod put;
-mod reply_parts;
-mod request_line;
 mod script;
 mod serve;
 #[cfg(test)]

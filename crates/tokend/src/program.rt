@@ -2,9 +2,9 @@
 
 ghost use Rattle.std.specs.Prelude.{◌≡◌, ◌≤◌, OnOk, OnErr, IfErr, MatchResult, map};
 ghost use Rattle.std.specs.Io.KnownBytes.{Keeps};
-ghost use Rattle.tokend.specs.Printed.{lines_text};
+ghost use Rattle.tk_world.specs.Printed.{lines_text};
 ghost use Rattle.tokend.specs.ProgramRun.{IsDone, IsFaultFor, IsQuiet, Leaves, Tells};
-ghost use Rattle.tokend.specs.Put.{Prints};
+ghost use Rattle.tk_world.specs.Put.{Prints};
 ghost use Rattle.tokend.specs.LoopbackRun.{PrintsLoopback, IsLoopbackFault, LeavesLoopback};
 ghost use Rattle.tokend.specs.ScriptRun.{PrintsScript, IsScriptFault, LeavesScript};
 ghost use Rattle.tokend.specs.Status.{status_of};
@@ -13,7 +13,6 @@ ghost use Rattle.tokend.specs.declared.fault.Fault.{Fault as FaultValue};
 use crate::fault::{Fault, tell};
 use crate::loopback::{LONGEST, run_by_sockets};
 use crate::options::{Task, options};
-use crate::print::print_outcomes;
 use crate::script::{read_events, read_script};
 use crate::serve::serve;
 use clap::Error;
@@ -24,7 +23,7 @@ use std::io::{self, Read, Write};
 use std::net::{Net, TcpListener, TcpStream};
 use std::rt::Files;
 use std::time::Clock;
-use tk_world::{Event, Outcome, Settings, World};
+use tk_world::{Event, Outcome, Settings, World, print_outcomes};
 
 /// Does what the words ask for, the first of them being the program's name, and gives the exit status: 0 done,
 /// 1 memory or a device, 2 bad words or a bad script. A fault is told on `faults`, whose own failures are ignored.

@@ -1,11 +1,11 @@
 ghost use Rattle.std.specs.Prelude.{◌≡◌, ◌≤◌, ◌<◌, ◌^◌, ◌↔◌, ℕ, IfOk, IfErr, IfSome, length, slice_get, vec_len, IsTrue};
-ghost use Rattle.tokend.specs.Line.{HasWords, words_at};
-ghost use Rattle.tokend.specs.Script.{greatest_length, lines_of, AreEvents, AreShort, IsFaultOf, IsInputFault, IsTooLong};
+ghost use Rattle.tk_world.specs.Line.{HasWords};
+ghost use Rattle.tokend.specs.Script.{greatest_length, lines_of, AreEvents, AreShort, IsFaultOf, IsInputFault, IsTooLong, words_at};
 
-use crate::fault::{Fault, LineError};
-use crate::line::event;
+use crate::fault::Fault;
 use std::alloc::Global;
 use std::io::Read;
+use tk_format::ReadError;
 use tk_world::Event;
 
 /// The greatest length of a script, in bytes.
@@ -48,11 +48,11 @@ pub(crate) fn read_events(
         if matches!(line, [] | [b'#', ..]) {
             continue;
         }
-        match event(alloc, line, words_of(events.len() as u64)) {
+        match Event::read_line(alloc, line, words_of(events.len() as u64)) {
             Ok(event) if is_too_long(&event, longest) => return Err(Fault::BadLine(at as u64 + 1)),
             Ok(event) => events.push(event)?,
-            Err(LineError::Bad) => return Err(Fault::BadLine(at as u64 + 1)),
-            Err(LineError::Memory) => return Err(Fault::Memory),
+            Err(ReadError::Malformed) => return Err(Fault::BadLine(at as u64 + 1)),
+            Err(ReadError::Memory) => return Err(Fault::Memory),
         }
     }
     Ok(events)

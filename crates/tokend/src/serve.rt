@@ -7,7 +7,7 @@ ghost use Rattle.tk_region.specs.RegionFields.{Gains};
 ghost use Rattle.tk_region.specs.SettingsFields.{IsSettings};
 ghost use Rattle.tk_store.specs.FactSet.{Facts};
 ghost use Rattle.tokend.specs.CommandLine.{settings_of};
-ghost use Rattle.tokend.specs.Put.{Prints, joined_text};
+ghost use Rattle.tk_world.specs.Put.{Prints, joined_text};
 ghost use Rattle.tokend.specs.Serving.{announced, both_lines, listening_line, Announces, IsFileFault, IsServiceFault, LeavesService};
 
 use crate::draw::{draw, generator};
@@ -15,7 +15,6 @@ use crate::fault::{Fault, cannot_read};
 use crate::load::{LoadFault, load};
 use crate::log_file::open_log;
 use crate::options::Service;
-use crate::put::put_all;
 use crate::timed::{TimedSink, TimedSource};
 use itoa::Buffer;
 use rand_chacha::ChaCha20Rng;
@@ -28,6 +27,7 @@ use std::time::Clock;
 use tk_edge::{Discard, Edge, Fault as EdgeFault, Served, Sink, Source};
 use tk_handle::{Moment, RegionNumber};
 use tk_region::Region;
+use tk_world::put_all;
 
 /// How many bytes of a client are dropped behind its request.
 const DROPPED: usize = 65_536;

@@ -17,7 +17,6 @@ mod pages;
 mod plain_path;
 mod public_client;
 mod refreshed_twice;
-mod replies;
 mod requests;
 mod rings;
 mod rotation;

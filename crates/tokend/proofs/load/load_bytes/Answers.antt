@@ -10,8 +10,8 @@ pub loop-rest-preserved : goal.loop-rest-preserved
 loop-rest-preserved c =
     let one : TakesOne c.loop-rest.region c.loop-rest.rest.now (Ok (Some c.in-Ok-Some.count)) c.take_front.new.region =
     subst (λ o. TakesOne c.loop-rest.region c.loop-rest.rest.now (Ok o) c.take_front.new.region) c.in-Ok-Some.field-0-is c.in-Ok-Some.ensures in
-    front_more c.args.region.now c.loop-rest.region c.take_front.new.region c.args.log.now c.loop-rest.rest.now c.rest_of-rest.result.now one.1.0
-    c.loop-rest.invariant one.1.1 (parts_taken c.loop-rest.rest.now c.in-Ok-Some.count c.rest_of-rest.result.now one.1.0 one.1.3 c.rest_of-rest.ensures) one.1.4
+    front_more c.args.region.now c.loop-rest.region c.take_front.new.region c.args.log.now c.loop-rest.rest.now c.split_at.result.1.now one.1.0
+    c.loop-rest.invariant one.1.1 (parts_taken c.loop-rest.rest.now c.in-Ok-Some.count c.split_at.result.1.now one.1.0 one.1.3 c.split_at.ensures.back) one.1.4
 
 pub returns-in-Ok-None : goal.returns-in-Ok-None
 returns-in-Ok-None c =

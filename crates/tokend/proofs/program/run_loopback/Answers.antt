@@ -1,5 +1,5 @@
 use Rattle.std.proofs.Common.{rules}
-use Rattle.tokend.specs.Printed.{lines_text}
+use Rattle.tk_world.specs.Printed.{lines_text}
 use Rattle.tokend.specs.LoopbackRun.{IsLoopbackRun}
 use Rattle.tokend.proofs.Loopbacks.{loopback_begun, loopback_printed}
 use Rattle.tokend.proofs.program.run_loopback.Goals as goal

@@ -1,5 +1,5 @@
 use Rattle.std.proofs.Common.{rules}
-use Rattle.tokend.specs.Printed.{lines_text}
+use Rattle.tk_world.specs.Printed.{lines_text}
 use Rattle.tokend.specs.ScriptRun.{IsScriptRun}
 use Rattle.tokend.proofs.Runs.{script_begun, script_printed}
 use Rattle.tokend.proofs.program.run_script.Goals as goal

@@ -3,7 +3,7 @@ use borrow.Author.Tests.{tests}
 use Rattle.std.proofs.lemmas.Grind.{common_steps}
 use Rattle.std.proofs.lemmas.Iterator.Splits.{YieldsList-from_slice_split}
 use Rattle.std.proofs.lemmas.Iterator.Consumers.{YieldsList-from_enumerate, YieldsList-so_far, YieldsList-turn, YieldsList-end}
-use Rattle.tokend.specs.Line.{IsEventLine}
+use Rattle.tk_world.specs.Line.{IsEventLine}
 use Rattle.tokend.specs.Script.{is_told, lines_of, IsTooLong}
 use Rattle.tokend.proofs.EventWords.{short_pushed, words_pushed}
 use Rattle.tokend.proofs.ScriptEvents.{told_line, all_lines, first_bad, grown_told}
@@ -21,12 +21,12 @@ loop-at-preserved c =
       events = grown_told c.loop-at.yielded (c.in-Some.at, c.in-Some.line) c.loop-at.events.items _ c.in-Ok.event (search rules) c.loop-at.invariant.events told (search rules);
     }
 
-pub returns-in-Err-Bad-clause-fault : goal.returns-in-Err-Bad-clause-fault
-returns-in-Err-Bad-clause-fault c =
+pub returns-in-Err-Malformed-clause-fault : goal.returns-in-Err-Malformed-clause-fault
+returns-in-Err-Malformed-clause-fault c =
     let told : is_told c.in-Some.line.now ≡ true = told_line c.in-Some.line.now (grind arith) (λ e. grind arith) in
     let some = YieldsList-so_far (YieldsList-from_enumerate (YieldsList-from_slice_split _ (λ b. b == 10) c.args.script.now (cc) (cc) (cc) (λ x b q k. search (rules, tests))) (cc)) c.loop-at.yielded _ c.loop-at.yielded_by in
     let turn = YieldsList-turn (YieldsList-from_enumerate (YieldsList-from_slice_split _ (λ b. b == 10) c.args.script.now (cc) (cc) (cc) (λ x b q k. search (rules, tests))) (cc)) c.loop-at.yielded _ c.loop-at.yielded_by _ _ (c.in-Some.at, c.in-Some.line) c.in-Some.is c.next.ensures.steps in
-    first_bad c.args.longest c.args.script.now c.loop-at.yielded (c.in-Some.at, c.in-Some.line) c.loop-at.events.items some turn c.loop-at.invariant.events told (inl (c.event.ensures.bad (cc)))
+    first_bad c.args.longest c.args.script.now c.loop-at.yielded (c.in-Some.at, c.in-Some.line) c.loop-at.events.items some turn c.loop-at.invariant.events told (inl (c.read_line.ensures.malformed (cc)))
 
 pub returns-in-Ok-clause-fault : goal.returns-in-Ok-clause-fault
 returns-in-Ok-clause-fault c =

@@ -1,6 +1,6 @@
 use Rattle.std.proofs.Common.{ℕ, ◌≤◌, IfSome, length, slice_get, vec_len}
-use Rattle.tokend.specs.Line.{HasWords, words_at}
-use Rattle.tokend.specs.Script.{AreEvents, AreShort}
+use Rattle.tk_world.specs.Line.{HasWords}
+use Rattle.tokend.specs.Script.{AreEvents, AreShort, words_at}
 use Rattle.tokend.proofs.ScriptEvents.{lines_in}
 use Rattle.tokend.proofs.script.read_events.Given as goal
 

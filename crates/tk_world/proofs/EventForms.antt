@@ -1,0 +1,192 @@
+-- The forms of events' fields: what fields that are given by their number and their texts are, and which have no event.
+use Rattle.std.proofs.Common.{◌≡◌, ◌≢◌, ℕ, ◌<◌, ◌≤◌, ◌^◌, List, [], ◌∷◌, length, get_or, slice_index_or, drop, codes, decimal, Option, Some, None, Bor, refl, sym, ap, ◌∙◌, subst, arith}
+use Rattle.std.specs.List.{All, AllWithin, HoldsAt, slice_split}
+use Rattle.std.proofs.lemmas.List.{get_or-map, length-map}
+use Rattle.std.proofs.lemmas.List.Elements.{All-map, All-from_all_within}
+use Rattle.tk_format.specs.Decimals.{decimal_in}
+use Rattle.tk_format.proofs.DecimalLaws.{decimal_found, no_decimal}
+use Rattle.tk_handle.specs.declared.dot.Dot.{Dot}
+use Rattle.tk_handle.specs.Ranges.{IsRegion, IsMoment}
+use Rattle.tk_vector.specs.VersionVector.{Vector}
+use Rattle.tk_vector.specs.VectorText.{IsVectorText, IsNoVectorText}
+use Rattle.tk_world.specs.declared.event.Event.{Event}
+use Rattle.tk_world.specs.declared.event.Event.TheVariants.{Open, Request, Pull, Deliver}
+use Rattle.std.specs.Prelude.{Vec}
+use Rattle.std.specs.declared.alloc.Global.{Global}
+use Rattle.tk_world.specs.Fields.{is_space, region_in, moment_in, IsCursorText, IsNoCursorText}
+use Rattle.tk_world.specs.RequestLine.{asked_of}
+use Rattle.tk_world.specs.Line.{texts, IsPrintable, IsEventForm, IsNoEventForm, IsEventLine, IsNoEventLine}
+use Rattle.tk_world.proofs.NumberTexts.{region_found, moment_found, no_region, no_moment}
+
+-- the text at an index, empty past the end; a slice pattern reads its texts with this default
+abbrev pub text_at : List (Bor (List ℕ)) → ℕ → List ℕ
+text_at fields i = (slice_index_or fields i (record { ref_ptr = (0, 0); now = [] })).now
+
+-- ---- between the two ways to give fields
+
+pub one : (fs : List (Bor (List ℕ))) → length fs ≡ 1 → texts fs ≡ text_at fs 0 ∷ []
+one [] e = absurd (omega (arith, e))
+one (x ∷ []) e = refl
+one (x ∷ y ∷ fs) e = absurd (omega (arith, e))
+
+two : (fs : List (Bor (List ℕ))) → length fs ≡ 2 → texts fs ≡ text_at fs 0 ∷ text_at fs 1 ∷ []
+two [] e = absurd (omega (arith, e))
+two (x ∷ fs) e = ap (λ l. x.now ∷ l) (one fs (omega (arith, e)))
+
+three : (fs : List (Bor (List ℕ))) → length fs ≡ 3 → texts fs ≡ text_at fs 0 ∷ text_at fs 1 ∷ text_at fs 2 ∷ []
+three [] e = absurd (omega (arith, e))
+three (x ∷ fs) e = ap (λ l. x.now ∷ l) (two fs (omega (arith, e)))
+
+pub four : (fs : List (Bor (List ℕ))) → length fs ≡ 4 → texts fs ≡ text_at fs 0 ∷ text_at fs 1 ∷ text_at fs 2 ∷ text_at fs 3 ∷ []
+four [] e = absurd (omega (arith, e))
+four (x ∷ fs) e = ap (λ l. x.now ∷ l) (three fs (omega (arith, e)))
+
+three_up : (fs : List (Bor (List ℕ))) → 3 ≤ length fs → texts fs ≡ text_at fs 0 ∷ text_at fs 1 ∷ text_at fs 2 ∷ texts (drop 3 fs)
+three_up [] e = absurd (omega (arith, e))
+three_up (x ∷ []) e = absurd (omega (arith, e))
+three_up (x ∷ y ∷ []) e = absurd (omega (arith, e))
+three_up (x ∷ y ∷ z ∷ fs) e = refl
+
+count : (fs : List (Bor (List ℕ))) (l : List (List ℕ)) → texts fs ≡ l → length fs ≡ length l
+count [] [] e = refl
+count [] (a ∷ l) e = absurd (cc)
+count (x ∷ fs) [] e = absurd (cc)
+count (x ∷ fs) (a ∷ l) e = let rest : texts fs ≡ l = cc in let n = count fs l rest in omega (arith, n)
+
+-- ---- names
+
+first_letter : {a b : ℕ} {s t : List ℕ} → a ∷ s ≡ b ∷ t → a ≡ b
+first_letter e = cc
+
+-- no request's first field is that of another event
+no_request_named : (name other : List ℕ) (form : List (List ℕ)) (request : List ℕ) → asked_of name form ≡ Some request → asked_of other form ≡ None → name ≢ other
+no_request_named name other form request h none same = some_is_not_none request (sym h ∙ ap (λ n. asked_of n form) same ∙ none)
+  where
+    some_is_not_none : (q : List ℕ) → ¬ (Some q ≡ None)
+    some_is_not_none q h = cc
+
+-- ---- fields of an event
+
+module _ (fs : List (Bor (List ℕ))) where
+  pub open_there : (region : ℕ) → length fs ≡ 2 → text_at fs 0 ≡ codes "open" → region_in (text_at fs 1) ≡ Some region → IsEventForm (texts fs) (Open region)
+  open_there region long name at =
+      let at_region = region_found (text_at fs 1) region at in
+      (rw (two fs long, name, at_region.1) refl, at_region.0)
+
+  pub deliver_there : (bundle region : ℕ) → length fs ≡ 3 → text_at fs 0 ≡ codes "deliver" → decimal_in (text_at fs 1) ≡ Some bundle → region_in (text_at fs 2) ≡ Some region → IsEventForm (texts fs) (Deliver bundle region)
+  deliver_there bundle region long name number at =
+      let given = decimal_found (text_at fs 1) bundle number in
+      let at_region = region_found (text_at fs 2) region at in
+      (rw (three fs long, name, given.spelled, at_region.1) refl, given.fits, at_region.0)
+
+  pub pull_there : (region : ℕ) (vector : Vector) (after : Option Dot) → length fs ≡ 4 → text_at fs 0 ≡ codes "pull" → region_in (text_at fs 1) ≡ Some region → IsVectorText (text_at fs 2) vector → IsCursorText (text_at fs 3) after
+      → IsEventForm (texts fs) (Pull region vector after)
+  pull_there region vector after long name at is place =
+      let at_region = region_found (text_at fs 1) region at in
+      (text_at fs 2, text_at fs 3, rw (four fs long, name, at_region.1) refl, at_region.0, is, place)
+
+  pub request_there : (region now : ℕ) (words : List ℕ) (request : Vec ℕ Global) → 3 ≤ length fs → region_in (text_at fs 1) ≡ Some region → moment_in (text_at fs 2) ≡ Some now → asked_of (text_at fs 0) (texts (drop 3 fs)) ≡ Some request.items → IsEventForm (texts fs) (Request region now words request)
+  request_there region now words request long at then is =
+      let at_region = region_found (text_at fs 1) region at in
+      let at_moment = moment_found (text_at fs 2) now then in
+      (text_at fs 0, texts (drop 3 fs), rw (three_up fs long, at_region.1, at_moment.1) refl, at_region.0, at_moment.0, is)
+
+-- ---- fields of no event
+
+module _ (fs : List (Bor (List ℕ))) where
+  -- `open` alone has two fields
+  pub open_bad : length fs ≡ 2 → region_in (text_at fs 1) ≡ None → IsNoEventForm (texts fs)
+  open_bad long none (Open region) h =
+      let parts = sym (two fs long) ∙ h.0 in
+      let same : text_at fs 1 ≡ decimal region = cc in
+      no_region (text_at fs 1) region none h.1 same
+  open_bad long none (Request region now words request) h = absurd (omega (arith, count fs _ h.2))
+  open_bad long none (Pull region vector after) h = absurd (omega (arith, count fs _ h.2))
+  open_bad long none (Deliver bundle region) h = absurd (omega (arith, count fs _ h.0))
+
+  -- three fields that begin with `deliver` are no other event's
+  deliver_only : length fs ≡ 3 → text_at fs 0 ≡ codes "deliver" → ((bundle region : ℕ) → text_at fs 1 ≡ decimal bundle → bundle < 2 ^ 64 → text_at fs 2 ≡ decimal region → IsRegion region → ⊥) → IsNoEventForm (texts fs)
+  deliver_only long name none (Open region) h = absurd (omega (arith, count fs _ h.0))
+  deliver_only long name none (Request region now words request) h =
+      let parts = sym (three_up fs (omega arith)) ∙ h.2 in
+      let same : h.0 ≡ codes "deliver" = cc in
+      no_request_named h.0 (codes "deliver") h.1 request.items h.5 refl same
+  deliver_only long name none (Pull region vector after) h = absurd (omega (arith, count fs _ h.2))
+  deliver_only long name none (Deliver bundle region) h =
+      let parts = sym (three fs long) ∙ h.0 in
+      none bundle region (cc) h.1 (cc) h.2
+
+  pub deliver_bad_bundle : length fs ≡ 3 → text_at fs 0 ≡ codes "deliver" → decimal_in (text_at fs 1) ≡ None → IsNoEventForm (texts fs)
+  deliver_bad_bundle long name none = deliver_only long name (λ bundle region same high at is. no_decimal (text_at fs 1) bundle none high same)
+
+  pub deliver_bad_region : length fs ≡ 3 → text_at fs 0 ≡ codes "deliver" → region_in (text_at fs 2) ≡ None → IsNoEventForm (texts fs)
+  deliver_bad_region long name none = deliver_only long name (λ bundle region same high at is. no_region (text_at fs 2) region none is at)
+
+  -- nor are four that begin with `pull`
+  pull_only : length fs ≡ 4 → text_at fs 0 ≡ codes "pull" → ((region : ℕ) (vector : Vector) (after : Option Dot) → text_at fs 1 ≡ decimal region → IsRegion region → IsVectorText (text_at fs 2) vector → IsCursorText (text_at fs 3) after → ⊥) → IsNoEventForm (texts fs)
+  pull_only long name none (Open region) h = absurd (omega (arith, count fs _ h.0))
+  pull_only long name none (Request region now words request) h =
+      let parts = sym (three_up fs (omega arith)) ∙ h.2 in
+      let same : h.0 ≡ codes "pull" = cc in
+      no_request_named h.0 (codes "pull") h.1 request.items h.5 refl same
+  pull_only long name none (Pull region vector after) h =
+      let parts = sym (four fs long) ∙ h.2 in
+      let entries : h.0 ≡ text_at fs 2 = cc in
+      let place : h.1 ≡ text_at fs 3 = cc in
+      none region vector after (cc) h.3 (subst (λ t. IsVectorText t vector) entries h.4) (subst (λ t. IsCursorText t after) place h.5)
+  pull_only long name none (Deliver bundle region) h = absurd (omega (arith, count fs _ h.0))
+
+  pub pull_bad_region : length fs ≡ 4 → text_at fs 0 ≡ codes "pull" → region_in (text_at fs 1) ≡ None → IsNoEventForm (texts fs)
+  pull_bad_region long name none = pull_only long name (λ region vector after at is entries place. no_region (text_at fs 1) region none is at)
+
+  pub pull_bad_vector : length fs ≡ 4 → text_at fs 0 ≡ codes "pull" → IsNoVectorText (text_at fs 2) → IsNoEventForm (texts fs)
+  pull_bad_vector long name none = pull_only long name (λ region vector after at is entries place. none vector entries)
+
+  pub pull_bad_cursor : length fs ≡ 4 → text_at fs 0 ≡ codes "pull" → IsNoCursorText (text_at fs 3) → IsNoEventForm (texts fs)
+  pull_bad_cursor long name none = pull_only long name (λ region vector after at is entries place. none after place)
+
+  -- other fields, of which there are three or more, are a request's if they are an event's
+  pub record IsOther : Type 0 where
+    pub long : 3 ≤ length fs
+    pub deliver : length fs ≡ 3 → text_at fs 0 ≢ codes "deliver"
+    pub pull : length fs ≡ 4 → text_at fs 0 ≢ codes "pull"
+
+  request_only : IsOther → ((region now : ℕ) (request : List ℕ) → text_at fs 1 ≡ decimal region → IsRegion region → text_at fs 2 ≡ decimal now → IsMoment now → asked_of (text_at fs 0) (texts (drop 3 fs)) ≡ Some request → ⊥) → IsNoEventForm (texts fs)
+  request_only other none (Open region) h = let long = other.long in absurd (omega (arith, count fs _ h.0))
+  request_only other none (Request region now words request) h =
+      let parts = sym (three_up fs other.long) ∙ h.2 in
+      let name : h.0 ≡ text_at fs 0 = cc in
+      let form : h.1 ≡ texts (drop 3 fs) = cc in
+      none region now request.items (cc) h.3 (cc) h.4 (subst (λ t. asked_of (text_at fs 0) t ≡ Some request.items) form (subst (λ t. asked_of t h.1 ≡ Some request.items) name h.5))
+  request_only other none (Pull region vector after) h =
+      let long = count fs _ h.2 in
+      let parts = sym (four fs long) ∙ h.2 in
+      other.pull long (cc)
+  request_only other none (Deliver bundle region) h =
+      let long = count fs _ h.0 in
+      let parts = sym (three fs long) ∙ h.0 in
+      other.deliver long (cc)
+
+  pub request_bad_region : IsOther → region_in (text_at fs 1) ≡ None → IsNoEventForm (texts fs)
+  request_bad_region other none = request_only other (λ region now request at is then late form. no_region (text_at fs 1) region none is at)
+
+  pub request_bad_moment : IsOther → moment_in (text_at fs 2) ≡ None → IsNoEventForm (texts fs)
+  request_bad_moment other none = request_only other (λ region now request at is then late form. no_moment (text_at fs 2) now none late then)
+
+-- ---- lines
+
+module _ (line : List ℕ) (fs : List (Bor (List ℕ))) (parts : texts fs ≡ slice_split is_space line) where
+  pub line_there : (event : Event) → IsPrintable line → AllWithin (λ f. 0 < length f.now) fs 0 (length fs) → IsEventForm (texts fs) event → IsEventLine line event
+  line_there event plain each form = record {
+    printable = plain;
+    parted = subst (All (λ field. 0 < length field)) parts (All-map (λ field. 0 < length field) (λ f. f.now) fs (All-from_all_within (λ f. 0 < length f.now) fs each));
+    form = subst (λ fields. IsEventForm fields event) parts form;
+  }
+
+  -- a line with an empty field
+  pub line_bad : (k : ℕ) × (k < length fs) × HoldsAt (λ f. length f.now ≡ 0) fs k → IsNoEventLine line
+  line_bad (k, there, empty) event h =
+      let d : Bor (List ℕ) = record { ref_ptr = (0, 0); now = [] } in
+      let long = h.parted k [] (omega (arith, ap length parts, length-map fs (λ (f : Bor (List ℕ)). f.now))) in
+      let same = sym (ap (λ l. get_or l k []) parts) ∙ get_or-map (λ (f : Bor (List ℕ)). f.now) fs k d [] there in
+      omega (arith, empty d, ap length same)

@@ -1,0 +1,60 @@
+-- The lines that are events, and the words that these draw.
+--   IsEventForm     the event of a line's fields
+--   IsEventLine     the event of a line
+--   HasWords        the words of a request
+use Rattle.std.specs.Prelude.{◌≡◌, ◌≤◌, ◌<◌, ◌^◌, ⊤, ℕ, List, [], ◌∷◌, map, length, codes, decimal, Vec, Option, Some}
+use Rattle.std.specs.declared.alloc.Global.{Global}
+use Rattle.std.specs.Option.{option_map}
+use Rattle.std.specs.Borrow.{Bor}
+use Rattle.std.specs.List.{All, slice_split}
+use Rattle.tk_handle.specs.Ranges.{IsRegion, IsMoment}
+use Rattle.tk_vector.specs.VectorText.{IsVectorText}
+use Rattle.tk_world.specs.declared.event.Event.{Event}
+use Rattle.tk_world.specs.declared.event.Event.TheVariants.{Open, Request, Pull, Deliver}
+use Rattle.tk_world.specs.Fields.{is_space, IsCursorText}
+use Rattle.tk_world.specs.RequestLine.{asked_of}
+
+-- the bytes are spaces and visible ASCII
+abbrev pub IsPrintable : List ℕ → Type 0
+IsPrintable line = All (λ b. (32 ≤ b) × (b ≤ 126)) line
+
+-- a `&[&str]` as texts
+abbrev pub texts : List (Bor (List ℕ)) → List (List ℕ)
+texts fields = map (λ field. field.now) fields
+
+-- the bytes of what may be there
+abbrev pub bytes_in : Option (Vec ℕ Global) → Option (List ℕ)
+bytes_in bytes = option_map (λ v. v.items) bytes
+
+-- `open R`, NAME R NOW and a request's form, `pull R VECTOR AFTER`, and `deliver B R`
+abbrev pub IsEventForm : List (List ℕ) → Event → Type 0
+IsEventForm fields (Open region) = (fields ≡ codes "open" ∷ decimal region ∷ []) × IsRegion region
+IsEventForm fields (Request region now words bytes) =
+    (name : List ℕ) × (form : List (List ℕ)) × (fields ≡ name ∷ decimal region ∷ decimal now ∷ form)
+    × IsRegion region × IsMoment now × (asked_of name form ≡ Some bytes.items)
+IsEventForm fields (Pull region vector after) =
+    (entries : List ℕ) × (place : List ℕ) × (fields ≡ codes "pull" ∷ decimal region ∷ entries ∷ place ∷ [])
+    × IsRegion region × IsVectorText entries vector × IsCursorText place after
+IsEventForm fields (Deliver bundle region) =
+    (fields ≡ codes "deliver" ∷ decimal bundle ∷ decimal region ∷ []) × (bundle < 2 ^ 64) × IsRegion region
+
+-- they are no event's
+abbrev pub IsNoEventForm : List (List ℕ) → Type 0
+IsNoEventForm fields = (event : Event) → ¬ (IsEventForm fields event)
+
+-- the line's fields are parted by single spaces, and have the event's form
+pub record IsEventLine (line : List ℕ) (event : Event) : Type 0 where
+  pub printable : IsPrintable line
+  pub parted : All (λ field. 0 < length field) (slice_split is_space line)
+  pub form : IsEventForm (slice_split is_space line) event
+
+-- the line has another form, or a number out of its range
+abbrev pub IsNoEventLine : List ℕ → Type 0
+IsNoEventLine line = (event : Event) → ¬ (IsEventLine line event)
+
+-- a request has these words, and other events have none
+abbrev pub HasWords : List ℕ → Event → Type 0
+HasWords words (Open region) = ⊤
+HasWords words (Request region now drawn bytes) = drawn ≡ words
+HasWords words (Pull region vector after) = ⊤
+HasWords words (Deliver bundle region) = ⊤

@@ -1,0 +1,79 @@
+//! Events as lines of text.
+
+ghost use Rattle.std.specs.Prelude.{◌≡◌, ◌↔◌, IfOk, IfSome, IsErrOf, IsSome};
+ghost use Rattle.tk_world.specs.Line.{IsPrintable, texts, IsEventForm, IsNoEventForm, IsEventLine, IsNoEventLine, HasWords};
+
+use crate::event::Event;
+use crate::fields::{cursor, fields, moment, region};
+use crate::request_line::asked;
+use std::alloc::Global;
+use tk_format::{ReadError, read_decimal};
+use tk_vector::VersionVector;
+
+impl Event {
+    /// The event of a line without its end, and with the words that a request draws. A line has one of these forms:
+    ///
+    /// - `open R`
+    /// - `req R NOW METHOD TARGET AUTH SUBJECT BODY`, where `-` means none for the last three; AUTH is what follows `Basic `
+    /// - `client R NOW KIND SECRET SCOPE URIS`, where the secret `-` means none
+    /// - `retire R NOW ID`
+    /// - `signout R NOW SUBJECT`
+    /// - `look R NOW ID`
+    /// - `pull R VECTOR AFTER`
+    /// - `deliver B R`
+    ///
+    /// Fields have one byte or more of `%x21-7E` and are parted by one space. R is the number of a region, NOW a moment,
+    /// B a bundle's number from 0; VECTOR is `-`, or entries `R:S` of rising regions that are joined by commas; AFTER is `-`, or
+    /// a dot `R:S`, above which the page begins. `req` gives the bytes of a head of HTTP/1.1, an empty line and the body, with
+    /// METHOD capital letters, and the four forms behind it stand for such a one. Malformed says that the line has none of
+    /// these forms, or a number out of its range.
+    pub fn read_line(alloc: Global, line: &[u8], words: [u64; 6]) -> Result<Event, ReadError>
+        ensures found { IfOk result (IsEventLine line.now) }
+        ensures words { IfOk result (HasWords words) }
+        ensures malformed { IsErrOf result ReadError.Malformed → IsNoEventLine line.now }
+    {
+        let fields = fields(alloc, printable(line).ok_or(ReadError::Malformed)?)?;
+        if fields.iter().any(|field| field.is_empty()) {
+            return Err(ReadError::Malformed);
+        }
+        event_of(alloc, &fields, words)
+    }
+}
+
+// The event of a line's fields.
+fn event_of(alloc: Global, fields: &[&str], words: [u64; 6]) -> Result<Event, ReadError>
+    ensures found { IfOk result (IsEventForm (texts fields.now)) }
+    ensures words { IfOk result (HasWords words) }
+    ensures malformed { IsErrOf result ReadError.Malformed → IsNoEventForm (texts fields.now) }
+{
+    match fields {
+        ["open", at] => Ok(Event::Open(region(at).ok_or(ReadError::Malformed)?)),
+        ["pull", at, entries, after] => Ok(Event::Pull {
+            region: region(at).ok_or(ReadError::Malformed)?,
+            after: cursor(after).ok_or(ReadError::Malformed)?,
+            vector: VersionVector::read_text(alloc, entries.as_bytes())?,
+        }),
+        ["deliver", bundle, to] => Ok(Event::Deliver {
+            bundle: read_decimal(bundle.as_bytes()).ok_or(ReadError::Malformed)?,
+            region: region(to).ok_or(ReadError::Malformed)?,
+        }),
+        [name, at, now, form @ ..] => Ok(Event::Request {
+            region: region(at).ok_or(ReadError::Malformed)?,
+            now: moment(now).ok_or(ReadError::Malformed)?,
+            words,
+            bytes: asked(alloc, name, form)?.ok_or(ReadError::Malformed)?,
+        }),
+        _ => Err(ReadError::Malformed),
+    }
+}
+
+// The text of a line that has no bytes but spaces and visible ASCII.
+fn printable(line: &[u8]) -> Option<&str>
+    ensures text { IfSome result (λ text. text.now ≡ line.now) }
+    ensures printable { IsSome result ↔ IsPrintable line.now }
+{
+    if !line.iter().all(|b| matches!(b, b' '..=b'~')) {
+        return None;
+    }
+    str::from_utf8(line).ok()
+}

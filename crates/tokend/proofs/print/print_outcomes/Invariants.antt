@@ -1,8 +1,0 @@
-use Rattle.std.proofs.Common.{take}
-use Rattle.std.specs.Io.KnownBytes.{Appends}
-use Rattle.tokend.specs.Printed.{lines_text}
-use Rattle.tokend.proofs.print.print_outcomes.Given as goal
-
--- a line is written for each event so far
-abbrev pub invariant-loop-at : goal.invariant-loop-at
-invariant-loop-at g l = Appends (g.O.Write.contents l.fn.output) (g.O.Write.contents l.output) (lines_text (take l.at l.events) (take l.at l.outcomes))
