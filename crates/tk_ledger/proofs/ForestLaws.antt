@@ -43,7 +43,7 @@ use Rattle.tk_ledger.specs.Index.{IsTied, IsCodes, code_cmp, code_key, codes_of,
 use Rattle.tk_ledger.specs.declared.change.Change.{Change}
 use Rattle.tk_ledger.specs.declared.change.Change.TheVariants as change
 use Rattle.tk_ledger.specs.declared.subject_keys.CodeKey.{CodeKey}
-use Rattle.tk_ledger.proofs.TokenLaws.{is_marked-sound, is_marked-complete, IsMarked-below}
+use Rattle.tk_ledger.proofs.TokenLaws.{refresh_is, code_is, is_marked-sound, is_marked-complete, IsMarked-below}
 use Rattle.tk_ledger.proofs.SameLaws.{same_token-true, same_token-itself}
 use Rattle.tk_ledger.proofs.KeyLaws.{same_tests, at_itself, token_tied}
 use Rattle.tk_ledger.proofs.EndingLaws.{Revokes, SignsOut, link_under, marks_by_one}
@@ -123,16 +123,6 @@ raised_by : (f g L N : Links) (q : Dot) → ((x : Dot) → L x ≡ f x) → ((x 
 raised_by f g L N q h i r = subst (λ (x : Links). IsRaised x N q) (sym (λ j x. h x j)) (subst (λ (x : Links). IsRaised f x q) (sym (λ j x. i x j)) r)
 
 -- ---- what waits no more
-
-refresh_is : (k : Kind) → is_refresh k ≡ true → k ≡ kind.Refresh
-refresh_is kind.Code h = absurd (true≢false (sym h))
-refresh_is kind.Access h = absurd (true≢false (sym h))
-refresh_is kind.Refresh h = refl
-
-code_is : (k : Kind) → is_code k ≡ true → k ≡ kind.Code
-code_is kind.Code h = refl
-code_is kind.Access h = absurd (true≢false (sym h))
-code_is kind.Refresh h = absurd (true≢false (sym h))
 
 token_by : (k : TokenId) (d : Dot) (j : Kind) → d ≡ k.dot → j ≡ k.kind → record { dot = d; kind = j } ≡ k
 token_by k d j h i = λ x. record { dot = h x; kind = i x }

@@ -219,12 +219,12 @@ reusing : (k : TokenId) (b : Body) → reuse_of k b ≡ true → (r : seen.Reuse
 reusing k (ReuseSeen x) h = (x, refl, same_token-true x.token k h)
 reusing k body h = absurd (true≢false (sym h))
 
-refresh_is : (k : Kind) → is_refresh k ≡ true → k ≡ kind.Refresh
+pub refresh_is : (k : Kind) → is_refresh k ≡ true → k ≡ kind.Refresh
 refresh_is kind.Code h = absurd (true≢false (sym h))
 refresh_is kind.Access h = absurd (true≢false (sym h))
 refresh_is kind.Refresh h = refl
 
-code_is : (k : Kind) → is_code k ≡ true → k ≡ kind.Code
+pub code_is : (k : Kind) → is_code k ≡ true → k ≡ kind.Code
 code_is kind.Code h = refl
 code_is kind.Access h = absurd (true≢false (sym h))
 code_is kind.Refresh h = absurd (true≢false (sym h))

@@ -1,34 +1,15 @@
-//! The program from its words and its input to its output, standard error and status.
-mod advance;
-mod afterwards;
-mod beginning;
-mod command_line;
-mod cut_off;
-mod deliveries;
+//! The program from its words and its input to its output, standard error and status, where that takes more than text: bytes,
+//! lengths, long scripts, devices that fail, files and sockets. What text can say stands in the worked examples of `rows/`.
 mod devices;
 mod fakes;
-mod gone_elsewhere;
-mod header_credentials;
 mod lines;
 mod loading;
 mod loopback;
 mod order;
-mod pages;
-mod plain_path;
-mod public_client;
-mod refreshed_twice;
-mod requests;
 mod rings;
-mod rotation;
 mod serving;
-mod signed_out;
-mod states;
-mod unserved;
-mod verifiers;
-mod world;
 
 use crate::program::run_program;
-use beginning::SCRIPT;
 use std::test::Fail;
 
 /// What a run is given, and what it must give.
@@ -41,6 +22,9 @@ struct Row<'a> {
     faults: &'a str,
     status: u8,
 }
+
+/// The words of a script without options.
+const SCRIPT: [&str; 2] = ["tokend", "script"];
 
 /// Words that are refused, and what is told of them.
 const CAP_ALONE: [&str; 3] = ["tokend", "script", "--cap"];

@@ -1,8 +1,7 @@
 //! Readers and writers that fail: what was written by then, what is told, and the status.
 
-use super::beginning::SCRIPT;
 use super::fakes::{FailingReader, FailingWriter};
-use super::{CAP_ALONE, CAP_ALONE_TOLD};
+use super::{CAP_ALONE, CAP_ALONE_TOLD, SCRIPT};
 use crate::program::run_program;
 use std::io::ErrorKind;
 use std::test::Fail;

@@ -10,7 +10,7 @@ pub struct FailingReader<'a> {
 }
 
 impl<'a> FailingReader<'a> {
-    pub fn new(left: &'a [u8], kind: ErrorKind) -> Self {
+    pub(super) fn new(left: &'a [u8], kind: ErrorKind) -> Self {
         FailingReader { left, kind }
     }
 }
@@ -40,7 +40,7 @@ pub struct FailingWriter {
 
 impl FailingWriter {
     /// One that takes some bytes, and nothing more.
-    pub fn new(rt: &HostRuntime, room: usize) -> Self {
+    pub(super) fn new(rt: &HostRuntime, room: usize) -> Self {
         FailingWriter {
             taken: Vec::new(rt.alloc()),
             room,
@@ -52,14 +52,14 @@ impl FailingWriter {
     }
 
     /// One that takes a byte at a time, and is interrupted where it has taken this many.
-    pub fn interrupted(rt: &HostRuntime, place: usize) -> Self {
+    pub(super) fn interrupted(rt: &HostRuntime, place: usize) -> Self {
         let mut writer = Self::new(rt, place);
         (writer.step, writer.kind) = (1, ErrorKind::Interrupted);
         writer
     }
 
     /// One that takes all, and fails when it is to pass it on.
-    pub fn stuck(rt: &HostRuntime) -> Self {
+    pub(super) fn stuck(rt: &HostRuntime) -> Self {
         let mut writer = Self::new(rt, usize::MAX);
         writer.is_stuck = true;
         writer

@@ -1,7 +1,6 @@
 //! Lines that are no events.
 
-use super::beginning::SCRIPT;
-use super::{refused, run_row};
+use super::{SCRIPT, refused, run_row};
 use std::test::Fail;
 
 #[rattlefmt::skip]

@@ -1,6 +1,5 @@
 //! Old logs: what is taken in, what is dropped, and what is refused.
 
-use super::beginning::{CONSENTED, PATH_EVENTS, put_events};
 use super::fakes::FailingReader;
 use crate::load::{LoadFault, load};
 use crate::script::{LIMIT, read_events};
@@ -14,7 +13,15 @@ use tk_message::Status;
 use tk_region::Region;
 use tk_world::{Event, Settings};
 
-// What requests for a client, a consent, a code and its tokens are answered: four facts.
+// A region, and requests for a client, a consent, and a code bound to a challenge with its tokens (RFC 6749, 4.1; RFC 7636).
+const REQUESTS: &[u8] = b"open 1
+client 1 1000 confidential s3cret read+write https://app.example/cb
+req 1 1000 POST /admin/consent - - client_id=c1-1&subject=ann&scope=read+write
+req 1 1000 GET /authorize?response_type=code&client_id=c1-1&state=xyz&code_challenge=E9Melhoa2OwvFrEMTJguCHaoeK1t8URWbuGJSstw-cM&code_challenge_method=S256 - ann -
+req 1 1010 POST /token - - grant_type=authorization_code&code=AQEAAQAAAAAAAAADAAAAAAAAABIAAAAAAAAAEwAAAAAAAAAU&client_id=c1-1&client_secret=s3cret&code_verifier=dBjftJeZ4CVP-mB92K27uhbUJU1p1r_wW1gFWFOEjXk
+";
+
+// What these requests are answered: four facts.
 const STATUSES: [Status; 4] = [Status::Created, Status::Created, Status::Found, Status::Ok];
 
 pub(super) fn new_region(alloc: Global, number: u16) -> Option<Region> {
@@ -23,15 +30,12 @@ pub(super) fn new_region(alloc: Global, number: u16) -> Option<Region> {
     Some(Region::new(alloc, number, settings))
 }
 
-// The events of these requests. The one that opens the region draws words too.
-fn requests(alloc: Global) -> Option<Vec<Event>> {
-    let (mut script, mut told) = (String::new(alloc), String::new(alloc));
-    put_events(&mut script, &mut told, CONSENTED).ok()?;
-    put_events(&mut script, &mut told, PATH_EVENTS).ok()?;
+// The events of these lines. The one that opens the region draws words too.
+fn events_of(alloc: Global, script: &[u8]) -> Option<Vec<Event>> {
     if script.len() > LIMIT {
         return None;
     }
-    read_events(alloc, script.as_bytes(), None).ok()
+    read_events(alloc, script, None).ok()
 }
 
 // Whether the request is answered with this status.
@@ -81,7 +85,7 @@ fn log_of(alloc: Global, region: Region, events: &[Event]) -> Option<Vec<u8>> {
 
 fn log_of_requests(alloc: Global) -> Option<Vec<u8>> {
     let region = new_region(alloc, 1)?;
-    let events = requests(alloc)?;
+    let events = events_of(alloc, REQUESTS)?;
     log_of(alloc, region, events.as_slice())
 }
 

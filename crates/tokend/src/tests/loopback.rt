@@ -1,6 +1,5 @@
-//! Scripts whose requests go through sockets, where they differ from others, and what both tell of what isn't there.
+//! How long a request may be that goes through a socket.
 
-use super::beginning::{LOOPBACK, NOT_FOUND, Script, run_each};
 use super::{printed, refused, run_row};
 use crate::fault::Fault;
 use crate::loopback::LONGEST;
@@ -9,31 +8,7 @@ use std::alloc::{AllocError, Global};
 use std::test::Fail;
 use tk_world::Event;
 
-#[rattlefmt::skip]
-const BY_SOCKETS: &[Script<'static>] = &[
-    ("a region and a bundle that are not there", &[
-        ("deliver 0 1", "no region"),
-        ("look 1 0 c1-1", "no region"),
-        ("pull 1 - -", "no region"),
-        ("open 1", "opened 1"),
-        ("open 1", "number taken"),
-        ("deliver 0 1", "no bundle"),
-        ("pull 1 - -", "bundle 0 0 - end"),
-        ("deliver 0 1", "took 0"),
-        ("look 1 0 c1-1", NOT_FOUND),
-    ]),
-    // A body that isn't read keeps no reply back.
-    ("a body for a path that takes none", &[
-        ("open 1", "opened 1"),
-        ("req 1 0 POST /nowhere - - a=b", NOT_FOUND),
-        ("req 1 0 GET /token - - a=b", r#"reply 405 {"error":"method_not_allowed"}"#),
-    ]),
-];
-
-#[test]
-fn what_is_not_there_is_told_likewise(rt: HostRuntime) -> Result<(), Fail> {
-    run_each(&rt, &(&LOOPBACK, &[]), BY_SOCKETS)
-}
+const LOOPBACK: [&str; 2] = ["tokend", "loopback"];
 
 // How many bytes the request of a script of one line has.
 fn length_of(alloc: Global, script: &[u8]) -> Option<u64> {

@@ -1,28 +1,11 @@
 //! Which fault is told where there are two, and the longest script.
 
-use super::beginning::SCRIPT;
 use super::fakes::FailingReader;
-use super::{CAP_ALONE, CAP_ALONE_TOLD, printed, refused, run_row};
+use super::{CAP_ALONE, CAP_ALONE_TOLD, SCRIPT, printed, refused, run_row};
 use crate::program::run_program;
 use crate::script::LIMIT;
 use std::io::ErrorKind;
 use std::test::Fail;
-
-// Scripts whose bad lines have these numbers.
-#[rattlefmt::skip]
-const BAD: &[(&str, &[u8], &str)] = &[
-    ("the first of two", b"open 0\nopen 0\n", "tokend: bad line 1\n"),
-    ("comments and empty lines count", b"# one\n\nopen 1\n#\nopen 0\nclose\n", "tokend: bad line 5\n"),
-    ("the last lacks its end", b"open 1\nopen", "tokend: bad line 2\n"),
-];
-
-#[test]
-fn the_first_bad_line_is_told(rt: HostRuntime) -> Result<(), Fail> {
-    for &(name, input, faults) in BAD {
-        run_row(&rt, &refused(name, &SCRIPT, input, faults))?;
-    }
-    Ok(())
-}
 
 #[test]
 fn bad_words_come_before_the_input(rt: HostRuntime) -> Result<(), Fail> {

@@ -1,12 +1,12 @@
 //! A service: its words, its files, its port, and a connection.
 
-use super::beginning::joined;
 use super::fakes::FailingWriter;
 use super::loading::new_region;
 use super::{Row, refused, run_row};
 use crate::draw::generator;
 use crate::program::run_program;
 use crate::serve::serve_on;
+use std::alloc::{AllocError, Global};
 use std::io::{self, Read, Write};
 use std::net::{Ipv4Addr, OpenListener, OpenStream, Shutdown, TcpListener, TcpStream};
 use std::test::Fail;
@@ -22,6 +22,15 @@ fn files_at(rt: &HostRuntime) -> Result<(TcpListener, String), Fail> {
     let dir = dir.as_str();
     let place = format!(in rt.alloc(); "{dir}/tokend-{port}")?;
     Ok((listener, place))
+}
+
+// One text of these parts.
+fn joined(alloc: Global, parts: &[&str]) -> Result<String, AllocError> {
+    let mut text = String::new(alloc);
+    for part in parts {
+        text.push_str(part)?;
+    }
+    Ok(text)
 }
 
 // The name of a new file with these bytes.
