@@ -1,11 +1,14 @@
 -- What a service prints before its first connection (own).
 --   announced            how many bytes of an old log were dropped, where any were, and the port that is listened on
---   Announces            it was written; BeginsAnnouncement, a beginning of it
+--   Announces            it was written; AnnouncesDrop, with so many bytes; BeginsAnnouncement, a beginning of it
+--   connection_fault     what is told of a fault that befell a connection
 --   IsFileFault          what may be wrong with its files; IsServiceFault, with all of it
 --   LeavesService        what such a fault leaves of the output
 use Rattle.std.specs.Prelude.{⊤, ℕ, ◌==◌, List, [], ◌∷◌, ◌++◌, Option, codes, decimal, if◌then◌else◌}
 use Rattle.std.specs.Io.KnownBytes.{Appends, Keeps}
 use Rattle.tk_world.specs.Put.{AppendsFront}
+use Rattle.tk_edge.specs.declared.tell.Fault.{Fault as EdgeFault}
+use Rattle.tk_edge.specs.declared.tell.Fault.TheVariants as edge
 use Rattle.tokend.specs.declared.fault.Fault.{Fault}
 use Rattle.tokend.specs.declared.fault.Fault.TheVariants.{BadLogFile, BadSeedFile, CannotListen, CannotOpen, CannotReadFile, Memory, Output}
 
@@ -18,11 +21,21 @@ both_lines dropped port = codes "dropped " ++ (decimal dropped ++ (codes " bytes
 abbrev pub announced : ℕ → ℕ → List ℕ
 announced dropped port = if dropped == 0 then listening_line port else both_lines dropped port
 
+abbrev pub AnnouncesDrop : ℕ → Option (List ℕ) → Option (List ℕ) → Type 0
+AnnouncesDrop dropped old new = (port : ℕ) × Appends old new (announced dropped port)
+
 abbrev pub Announces : Option (List ℕ) → Option (List ℕ) → Type 0
-Announces old new = (dropped : ℕ) × (port : ℕ) × Appends old new (announced dropped port)
+Announces old new = (dropped : ℕ) × AnnouncesDrop dropped old new
 
 abbrev pub BeginsAnnouncement : Option (List ℕ) → Option (List ℕ) → Type 0
 BeginsAnnouncement old new = (dropped : ℕ) × (port : ℕ) × AppendsFront old new (announced dropped port)
+
+-- a line of its own
+abbrev pub connection_fault : EdgeFault → List ℕ
+connection_fault edge.Read = codes "fault read" ++ 10 ∷ []
+connection_fault edge.Write = codes "fault write" ++ 10 ∷ []
+connection_fault edge.Log = codes "fault log" ++ 10 ∷ []
+connection_fault edge.Memory = codes "fault memory" ++ 10 ∷ []
 
 -- of the seed, the old log and the new one
 abbrev pub IsFileFault : Fault → Type 0

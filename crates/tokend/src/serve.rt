@@ -8,7 +8,7 @@ ghost use Rattle.tk_region.specs.SettingsFields.{IsSettings};
 ghost use Rattle.tk_store.specs.FactSet.{Facts};
 ghost use Rattle.tokend.specs.CommandLine.{settings_of};
 ghost use Rattle.tk_world.specs.Put.{Prints, joined_text};
-ghost use Rattle.tokend.specs.Serving.{announced, both_lines, listening_line, Announces, IsFileFault, IsServiceFault, LeavesService};
+ghost use Rattle.tokend.specs.Serving.{announced, both_lines, connection_fault, listening_line, Announces, AnnouncesDrop, IsFileFault, IsServiceFault, LeavesService};
 
 use crate::draw::{draw, generator};
 use crate::fault::{Fault, cannot_read};
@@ -115,7 +115,7 @@ fn announce_and_serve<R, L: Sink, O: Write, E: Write>(
 ) -> Result<(), Fault>
 where
     R: AllocGlobal + Clock + Net<Listener = TcpListener, Stream = TcpStream>,
-    ensures done { OnOk result (Announces (O.contents output.old) (O.contents output.new)) }
+    ensures done { OnOk result (AnnouncesDrop dropped (O.contents output.old) (O.contents output.new)) }
     ensures fault { IfErr result IsServiceFault }
     ensures left { IfErr result (λ fault. LeavesService fault (O.contents output.old) (O.contents output.new)) }
     ensures silent { OnErr result (Keeps (E.contents faults.old) (E.contents faults.new)) }
@@ -173,7 +173,7 @@ fn listen<R: Net<Listener = TcpListener, Stream = TcpStream>, O: Write>(
     dropped: u64,
     output: &mut O,
 ) -> Result<TcpListener, Fault>
-    ensures done { OnOk result (Announces (O.contents output.old) (O.contents output.new)) }
+    ensures done { OnOk result (AnnouncesDrop dropped (O.contents output.old) (O.contents output.new)) }
     ensures fault { IfErr result IsServiceFault }
     ensures left { IfErr result (λ fault. LeavesService fault (O.contents output.old) (O.contents output.new)) }
 {
@@ -337,13 +337,14 @@ fn drain<S: Source>(source: &mut S, piece: &mut [u8]) {
     }
 }
 
-// What befell a connection.
-fn tell_fault<E: Write>(faults: &mut E, fault: EdgeFault) -> io::Result<()> {
-    let line: &[u8] = match fault {
-        EdgeFault::Read => b"fault read\n",
-        EdgeFault::Write => b"fault write\n",
-        EdgeFault::Log => b"fault log\n",
-        EdgeFault::Memory => b"fault memory\n",
-    };
-    put_all(faults, &[line])
+// Tells what befell a connection, in a line of its own. Where the writer fails, it has the beginning of the line.
+fn tell_fault<E: Write>(faults: &mut E, fault: EdgeFault) -> io::Result<()>
+    ensures { Prints result (E.contents faults.old) (E.contents faults.new) (connection_fault fault) }
+{
+    match fault {
+        EdgeFault::Read => put_all(faults, &[b"fault read\n"]),
+        EdgeFault::Write => put_all(faults, &[b"fault write\n"]),
+        EdgeFault::Log => put_all(faults, &[b"fault log\n"]),
+        EdgeFault::Memory => put_all(faults, &[b"fault memory\n"]),
+    }
 }
