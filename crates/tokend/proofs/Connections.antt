@@ -1,5 +1,8 @@
 -- What connections leave of a region.
-use Rattle.std.proofs.Common.{◌≡◌, ℕ, Bool, true, false, List, [], ◌++◌, take, Option, Some, None, Result, Ok, Err, inl, inr, refl, sym, subst}
+use Rattle.std.proofs.Common.{◌≡◌, ℕ, Bool, true, false, List, [], ◌∷◌, ◌++◌, take, Option, Some, None, Result, Ok, Err, inl, inr, refl, sym, ap, subst, ◌∙◌, ◌+◌, length}
+use Rattle.std.proofs.KnownBytes.{Keeps-refl}
+use Rattle.std.proofs.lemmas.List.{append-nil, length-append}
+use Rattle.rand_chacha.specs.ChaCha.{ChaCha}
 use Rattle.tk_format.specs.Format.{whole}
 use Rattle.tk_store.specs.FactSet.{Facts}
 use Rattle.tk_store.specs.Joining.{JoinsFacts}
@@ -23,6 +26,10 @@ use Rattle.tk_edge.specs.declared.edge.Served.{Served}
 use Rattle.tk_edge.specs.declared.edge.Served.TheVariants.{Nothing, Done}
 use Rattle.tk_edge.specs.declared.tell.Fault.{Fault}
 use Rattle.tk_edge.specs.declared.tell.Fault.TheVariants.{Read, Write, Log, Memory}
+use Rattle.tk_world.specs.Put.{Prints}
+use Rattle.tokend.specs.Connection.{unknown, AreConnections, IsConnection, Running, Serves, Told}
+use Rattle.tokend.specs.Draw.{six, past_six}
+use Rattle.tokend.specs.Serving.{connection_fault}
 use Rattle.tokend.proofs.Loads.{gains_more, gains_nothing}
 
 same_gains : (old new : RegionFields) → new ≡ old → (fs : Facts) × Gains old fs new
@@ -73,18 +80,60 @@ served_gains asked old new log writer sealed (Err Write) h = answered_gains aske
 served_gains asked old new log writer sealed (Err Read) h = same_gains old new h.0
 served_gains asked old new log writer sealed (Err Memory) h = short_gains asked.sync asked.known old new h.0
 
-pub connection_gains : (asked : Asked) (old new : EdgeFields) (log writer : Change) (result : Result Served Fault)
-    → (old.sealed ≡ false → IsServed asked (record { before = old.region; after = new.region }) log writer new.sealed result)
-    → (old.sealed ≡ true → new ≡ old) → (fs : Facts) × Gains old.region fs new.region
-connection_gains asked old new log writer result unsealed shut =
+-- so does one by a socket
+connected_gains : (now : ℕ) (words : List ℕ) (old new : EdgeFields) (log : Change) (result : Result Served Fault)
+    → IsConnection now words old new log result → (fs : Facts) × Gains old.region fs new.region
+connected_gains now words old new log result h =
     elim old.sealed as (λ b. old.sealed ≡ b → (fs : Facts) × Gains old.region fs new.region) [
-      | true ↦ λ e. subst (λ n. (fs : Facts) × Gains old.region fs n.region) (sym (shut e)) (same_gains old.region old.region refl)
-      | false ↦ λ e. served_gains asked old.region new.region log writer new.sealed result (unsealed e)
+      | true ↦ λ e. subst (λ n. (fs : Facts) × Gains old.region fs n.region) (sym (h.shut e).0) (same_gains old.region old.region refl)
+      | false ↦ λ e. served_gains (record { sync = old.sync; known = None; now = now; words = words }) old.region new.region log unknown new.sealed result (h.served e)
     ] refl
 
+-- one that wasn't read changes nothing
+pub unread : (now : ℕ) (words : List ℕ) (edge : EdgeFields) (log : Option (List ℕ)) → IsConnection now words edge edge (record { before = log; after = log }) (Err Read)
+unread now words edge log = record {
+  served = λ unsealed. (refl, (Keeps-refl log, tt, unsealed));
+  shut = λ _. (refl, refl, inr refl);
+  sync = refl;
+}
+
 -- and one after the other
-pub gains_twice : (old mid new : RegionFields) → ((fs : Facts) × Gains old fs mid) → ((fs : Facts) × Gains mid fs new) → (fs : Facts) × Gains old fs new
+gains_twice : (old mid new : RegionFields) → ((fs : Facts) × Gains old fs mid) → ((fs : Facts) × Gains mid fs new) → (fs : Facts) × Gains old fs new
 gains_twice old mid new h k = (h.0 ++ k.0, gains_more old mid new h.0 k.0 h.1 k.1)
 
-pub gains_none : (region : RegionFields) → (fs : Facts) × Gains region fs region
-gains_none region = same_gains region region refl
+pub connections_gain : (words : ChaCha) (old : Running) (ends : List (Result Served Fault)) (new : Running) → AreConnections words old ends new
+    → (fs : Facts) × Gains old.edge.region fs new.edge.region
+connections_gain words old [] new same = same_gains old.edge.region new.edge.region (ap (λ r. r.edge.region) same)
+connections_gain words old (end ∷ ends) new h =
+    gains_twice old.edge.region h.0.edge.region new.edge.region
+    (connected_gains h.1.0.0 (six words) old.edge h.0.edge (record { before = old.log; after = h.0.log }) end h.1.0.1)
+    (connections_gain (past_six words) h.0 ends new h.2)
+
+-- the generator behind the words of so many
+abbrev pub behind : ChaCha → List (Result Served Fault) → ChaCha
+behind words [] = words
+behind words (end ∷ ends) = behind (past_six words) ends
+
+one_more : (words : ChaCha) (old : Running) (ends : List (Result Served Fault)) (mid : Running) (end : Result Served Fault) (new : Running)
+    → AreConnections words old ends mid → Serves (six (behind words ends)) mid end new → AreConnections words old (ends ++ end ∷ []) new
+one_more words old [] mid end new same h = (new, subst (λ o. Serves (six words) o end new) same h, refl)
+one_more words old (first ∷ ends) mid end new h k = (h.0, h.1, one_more (past_six words) h.0 ends mid end new h.2 k)
+
+behind_more : (words : ChaCha) (ends : List (Result Served Fault)) (end : Result Served Fault) → behind words (ends ++ end ∷ []) ≡ past_six (behind words ends)
+behind_more words [] end = refl
+behind_more words (first ∷ ends) end = behind_more (past_six words) ends end
+
+-- so many, and where the generator stands then
+abbrev pub HasServed : ChaCha → Running → ℕ → Running → ChaCha → Type 0
+HasServed start old count mid words =
+    (ends : List (Result Served Fault)) × (length ends ≡ count) × AreConnections start old ends mid × (words ≡ behind start ends)
+
+pub serves_next : (start : ChaCha) (old : Running) (count : ℕ) (mid : Running) (words : ChaCha) → HasServed start old count mid words
+    → (drawn : List ℕ) (past : ChaCha) (end : Result Served Fault) (new : Running) → drawn ≡ six words → past ≡ past_six words
+    → Serves drawn mid end new → HasServed start old (count + 1) new past
+serves_next start old count mid words h drawn past end new d p s = (
+  h.0 ++ end ∷ [],
+  length-append h.0 (end ∷ []) ∙ ap (λ n. n + 1) h.1,
+  one_more start old h.0 mid end new h.2 (subst (λ w. Serves w mid end new) (d ∙ ap six h.3) s),
+  p ∙ (ap past_six h.3 ∙ sym (behind_more start h.0 end)),
+)

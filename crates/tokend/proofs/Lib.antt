@@ -6,5 +6,6 @@ pub mod Loopbacks
 pub mod OneSet
 pub mod Runs
 pub mod ScriptEvents
+pub mod SiteLaws
 pub mod Tasks
 pub mod TypedNumber

@@ -5,8 +5,10 @@
 --   Script        the events of a script, their words, and its first bad line
 --   Loading       what an old log brings to a region
 --   Serving       what a service prints before its first connection, and what may keep it from that
+--   Connection    what connections do to an edge, its log and what is told of faults
 --   Status        the exit status of a fault
 --   ScriptRun     what a script comes to when it is run
+--   Sites         what events do where requests go through sockets
 --   LoopbackRun   and when its requests go through sockets
 --   ProgramRun    what a run of the program comes to
 pub mod CommandLine
@@ -15,7 +17,9 @@ pub mod Draw
 pub mod Script
 pub mod Loading
 pub mod Serving
+pub mod Connection
 pub mod Status
 pub mod ScriptRun
+pub mod Sites
 pub mod LoopbackRun
 pub mod ProgramRun

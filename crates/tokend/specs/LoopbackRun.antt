@@ -1,4 +1,4 @@
--- What a script comes to when its requests go through sockets, of which nothing is known but that each event has its outcome (own).
+-- What a script comes to when its requests go through sockets, of whose bytes nothing is known (own).
 --   longest               how long a request may be
 --   IsLoopbackRun         its lines
 --   PrintsLoopback        these are what was written; BeginsLoopback, a beginning of them
@@ -10,6 +10,8 @@ use Rattle.tk_world.specs.declared.event.Event.{Event}
 use Rattle.tk_world.specs.declared.event.Outcome.{Outcome}
 use Rattle.tokend.specs.Script.{greatest_length, lines_of, AreEvents, AreShort, IsFirstBad}
 use Rattle.tokend.specs.ScriptRun.{IsScriptFault}
+use Rattle.tokend.specs.Sites.{Sites, no_sites, SiteRun}
+use Rattle.tk_region.specs.SettingsFields.{SettingsFields}
 use Rattle.tk_world.specs.Printed.{lines_text}
 use Rattle.tk_world.specs.Put.{AppendsFront}
 use Rattle.tokend.specs.declared.fault.Fault.{Fault}
@@ -19,14 +21,16 @@ use Rattle.tokend.specs.declared.fault.Fault.TheVariants.{BadLine, CannotListen,
 abbrev pub longest : ℕ
 longest = 16384
 
--- the script is short enough, and so are its requests; each of its events has an outcome, and the lines are these outcomes'
+-- the script is short enough, and so are its requests; its events are run, and the lines are their outcomes'
 pub record IsLoopbackRun (script : List ℕ) (lines : List ℕ) : Type 0 where
   pub short : length script ≤ greatest_length
   pub events : List Event
   pub outcomes : List Outcome
   pub found : AreEvents (lines_of script) events
   pub within : AreShort (Some longest) events
-  pub each : length outcomes ≡ length events
+  pub settings : SettingsFields
+  pub after : Sites
+  pub run : SiteRun (no_sites settings) events outcomes after
   pub printed : lines ≡ lines_text events outcomes
 
 -- the lines that the input's script comes to were written behind what the output had

@@ -1,12 +1,15 @@
 //! A script's events, with each request through a socket of this machine. In a world they are run without one.
 
-ghost use Rattle.std.specs.Prelude.{◌≡◌, IfOk, IfErr, length};
+ghost use Rattle.std.specs.Prelude.{◌≡◌, IfOk, IfErr};
 ghost use Rattle.tokend.specs.LoopbackRun.{IsSocketFault};
+ghost use Rattle.tokend.specs.Connection.{unknown, IsConnection};
+ghost use Rattle.tokend.specs.Sites.{no_sites, place_of, IsAsking, IsDelivery, IsKept, IsOpening, IsPull, IsReplied, IsReplyOf, SiteRun, SiteStep, Sites, told_of};
 
 use crate::fault::Fault;
 use crate::serve::serve_at;
 use std::alloc::Global;
 use std::io::{self, Read, Write};
+use std::marker::Model;
 use std::net::{Ipv4Addr, Net, OpenListener, OpenStream, Shutdown, TcpListener, TcpStream};
 use std::time::Clock;
 use tk_bundle::Page;
@@ -28,7 +31,7 @@ pub(crate) fn run_by_sockets<R>(
 ) -> Result<Vec<Outcome>, Fault>
 where
     R: AllocGlobal + Clock + Net<Listener = TcpListener, Stream = TcpStream>,
-    ensures each { IfOk result (λ outcomes. length outcomes.items ≡ length events.now) }
+    ensures run { IfOk result (λ outcomes. (end : Sites) × SiteRun (no_sites settings) events.now outcomes.items end) }
     ensures fault { IfErr result IsSocketFault }
 {
     let Ok(listener) = TcpListener::bind(rt, (Ipv4Addr::new(127, 0, 0, 1), 0)) else {
@@ -52,8 +55,21 @@ struct Regions {
     bundles: Vec<Vec<u8>>,
 }
 
+impl Model for Regions {
+    ghost use Rattle.std.specs.Prelude.{map};
+    ghost use Rattle.tokend.specs.Sites.{Sites, coded_sites};
+
+    ghost Value = { Sites };
+
+    ghost coded = { coded_sites };
+
+    ghost view = { λ w. record { settings = w.settings; edges = w.edges.items; bundles = map (λ b. b.items) w.bundles.items } };
+}
+
 impl Regions {
-    fn new(alloc: Global, settings: Settings) -> Regions {
+    fn new(alloc: Global, settings: Settings) -> Regions
+        ensures { result ≡ no_sites settings }
+    {
         Regions {
             alloc,
             settings,
@@ -65,7 +81,8 @@ impl Regions {
     fn step<R>(&mut self, rt: &R, listener: &TcpListener, event: &Event) -> Result<Outcome, Fault>
     where
         R: AllocGlobal + Clock + Net<Listener = TcpListener, Stream = TcpStream>,
-        ensures { IfErr result IsSocketFault }
+        ensures done { IfOk result (λ outcome. SiteStep self.old event.now outcome self.new) }
+        ensures fault { IfErr result IsSocketFault }
     {
         match event {
             Event::Open(number) => Ok(self.open(*number)),
@@ -74,10 +91,7 @@ impl Regions {
                 now,
                 words,
                 bytes,
-            } => match self.find(*region) {
-                Some(edge) => request(rt, listener, edge, *now, words, bytes),
-                None => Ok(Outcome::NoRegion),
-            },
+            } => self.ask(rt, listener, *region, *now, words, bytes),
             Event::Pull {
                 region,
                 vector,
@@ -87,13 +101,38 @@ impl Regions {
         }
     }
 
-    fn find(&mut self, number: RegionNumber) -> Option<&mut Edge> {
-        self.edges
-            .iter_mut()
-            .find(|edge| edge.region().number() == number)
+    fn ask<R>(
+        &mut self,
+        rt: &R,
+        listener: &TcpListener,
+        number: RegionNumber,
+        now: Moment,
+        words: &[u64; 6],
+        bytes: &[u8],
+    ) -> Result<Outcome, Fault>
+    where
+        R: AllocGlobal + Clock + Net<Listener = TcpListener, Stream = TcpStream>,
+        ensures done { IfOk result (λ outcome. IsAsking number now words.now self.old outcome self.new) }
+        ensures fault { IfErr result IsSocketFault }
+    {
+        match self.find(number) {
+            Some(at) => request(rt, listener, &mut self.edges[at], now, words, bytes),
+            None => Ok(Outcome::NoRegion),
+        }
     }
 
-    fn open(&mut self, number: RegionNumber) -> Outcome {
+    // Where the region of the number stands.
+    fn find(&self, number: RegionNumber) -> Option<usize>
+        ensures { result ≡ place_of number self.now }
+    {
+        self.edges
+            .iter()
+            .position(|edge| edge.region().number() == number)
+    }
+
+    fn open(&mut self, number: RegionNumber) -> Outcome
+        ensures { IsOpening number self.old result self.new }
+    {
         if self.find(number).is_some() {
             return Outcome::NumberTaken;
         }
@@ -104,15 +143,12 @@ impl Regions {
         }
     }
 
-    fn pull(
-        &mut self,
-        number: RegionNumber,
-        vector: &VersionVector,
-        after: Option<Dot>,
-    ) -> Outcome {
+    fn pull(&mut self, number: RegionNumber, vector: &VersionVector, after: Option<Dot>) -> Outcome
+        ensures { IsPull number vector.now after self.old result self.new }
+    {
         let alloc = self.alloc;
         let page = match self.find(number) {
-            Some(edge) => edge.region().page(alloc, vector, after),
+            Some(at) => self.edges[at].region().page(alloc, vector, after),
             None => return Outcome::NoRegion,
         };
         match page {
@@ -122,7 +158,9 @@ impl Regions {
     }
 
     // Puts a page behind the other bundles.
-    fn keep(&mut self, page: Page) -> Outcome {
+    fn keep(&mut self, page: Page) -> Outcome
+        ensures { IsKept page self.old result self.new }
+    {
         let made = Outcome::Bundle {
             index: self.bundles.len() as u64,
             count: page.count,
@@ -135,23 +173,28 @@ impl Regions {
         }
     }
 
-    // None of these regions refuses what another made; a world's contract says so.
-    fn deliver(&mut self, bundle: u64, number: RegionNumber) -> Outcome {
-        let Some(at) = self
-            .edges
-            .iter()
-            .position(|edge| edge.region().number() == number)
-        else {
+    fn deliver(&mut self, bundle: u64, number: RegionNumber) -> Outcome
+        ensures { IsDelivery bundle number self.old result self.new }
+    {
+        let Some(at) = self.find(number) else {
             return Outcome::NoRegion;
         };
         let Some(bytes) = self.bundles.get(bundle as usize) else {
             return Outcome::NoBundle;
         };
-        match self.edges[at].region_mut().take_in(self.alloc, bytes) {
-            Ok(new) => Outcome::Took(new),
-            Err(TakeError::Memory) => Outcome::Memory,
-            Err(_) => Outcome::NoBundle,
-        }
+        let taken = self.edges[at].region_mut().take_in(self.alloc, bytes);
+        told(taken)
+    }
+}
+
+// What a delivery is told to have come to. None of these regions refuses what another made; a world's contract says so.
+fn told(taken: Result<u16, TakeError>) -> Outcome
+    ensures { result ≡ told_of taken }
+{
+    match taken {
+        Ok(new) => Outcome::Took(new),
+        Err(TakeError::Memory) => Outcome::Memory,
+        Err(_) => Outcome::NoBundle,
     }
 }
 
@@ -166,7 +209,8 @@ fn request<R>(
 ) -> Result<Outcome, Fault>
 where
     R: AllocGlobal + Clock + Net<Listener = TcpListener, Stream = TcpStream>,
-    ensures { IfErr result IsSocketFault }
+    ensures done { IfOk result (λ outcome. IsReplied now words.now edge.old outcome edge.new) }
+    ensures fault { IfErr result IsSocketFault }
 {
     let Ok(client) = send(rt, listener, bytes) else {
         return Err(Fault::CannotListen);
@@ -197,7 +241,9 @@ fn serve_client<R: AllocGlobal + Clock>(
     edge: &mut Edge,
     now: Moment,
     words: &[u64; 6],
-) -> Result<Served, EdgeFault> {
+) -> Result<Served, EdgeFault>
+    ensures { IsConnection now words.now edge.old edge.new unknown result }
+{
     let mut buf = [0u8; 8192];
     match listener.accept() {
         Ok((stream, _)) => serve_at(rt, &stream, edge, &mut Discard, &mut buf, now, words),
@@ -207,7 +253,8 @@ fn serve_client<R: AllocGlobal + Clock>(
 
 // What the client's end reads until the region's end is closed.
 fn read_reply(alloc: Global, mut client: TcpStream, status: Status) -> Result<Outcome, Fault>
-    ensures { IfErr result IsSocketFault }
+    ensures done { IfOk result (IsReplyOf status) }
+    ensures fault { IfErr result IsSocketFault }
 {
     let mut bytes = Vec::new(alloc);
     match client.read_to_end(&mut bytes) {

@@ -1,12 +1,16 @@
 //! The server: connections one after the other, the log before each reply.
 
-ghost use Rattle.std.specs.Prelude.{◌≡◌, IfErr, OnOk, OnErr};
+ghost use Rattle.std.specs.Prelude.{◌≡◌, ℕ, List, length, IfErr, OnOk, OnErr, Result, Err};
 ghost use Rattle.std.specs.Io.KnownBytes.{Keeps};
+ghost use Rattle.tk_edge.specs.Failures.{Rose};
+ghost use Rattle.tk_edge.specs.declared.edge.Served.{Served as AnyEnd};
+ghost use Rattle.tk_edge.specs.declared.tell.Fault.{Fault as AnyFault};
 ghost use Rattle.tk_handle.specs.Ranges.{IsRegion};
 ghost use Rattle.tk_region.specs.RegionFields.{Gains};
 ghost use Rattle.tk_region.specs.SettingsFields.{IsSettings};
 ghost use Rattle.tk_store.specs.FactSet.{Facts};
 ghost use Rattle.tokend.specs.CommandLine.{settings_of};
+ghost use Rattle.tokend.specs.Connection.{AreConnections, IsConnection, Told, so_many};
 ghost use Rattle.tk_world.specs.Put.{Prints, joined_text};
 ghost use Rattle.tokend.specs.Serving.{announced, both_lines, connection_fault, listening_line, Announces, AnnouncesDrop, IsFileFault, IsServiceFault, LeavesService};
 
@@ -245,15 +249,26 @@ pub fn serve_on<R: AllocGlobal + Clock, L: Sink, E: Write>(
     faults: &mut E,
 )
     // The region's number and settings are the same, and facts were joined to its own.
-    ensures { (fs : Facts) × Gains edge.old.region fs edge.new.region }
+    ensures gains { (fs : Facts) × Gains edge.old.region fs edge.new.region }
+    // Each connection begins where the one before it ended, with words that none had before it.
+    ensures connections { (ends : List (Result AnyEnd AnyFault)) × (length ends ≡ so_many requests) × AreConnections words.old
+        (record { edge = edge.old; log = L.holds log.old; faults = E.contents faults.old }) ends
+        (record { edge = edge.new; log = L.holds log.new; faults = E.contents faults.new }) }
 {
     let mut buf = [0u8; 8192];
     for _ in 0..requests.unwrap_or(u64::MAX) {
         let words = draw(words);
         let served = serve_next(rt, listener, edge, log, &mut buf, &words);
-        if let Err(fault) = served {
-            let _ = tell_fault(faults, fault);
-        }
+        tell_end(faults, served);
+    }
+}
+
+// A writer that fails is ignored, and each line begins anew.
+fn tell_end<E: Write>(faults: &mut E, end: Result<Served, EdgeFault>)
+    ensures { Told end (E.contents faults.old) (E.contents faults.new) }
+{
+    if let Err(fault) = end {
+        let _ = tell_fault(faults, fault);
     }
 }
 
@@ -265,7 +280,8 @@ fn serve_next<R: AllocGlobal + Clock, L: Sink>(
     buf: &mut [u8; 8192],
     words: &[u64; 6],
 ) -> Result<Served, EdgeFault>
-    ensures { (fs : Facts) × Gains edge.old.region fs edge.new.region }
+    ensures connection { (now : ℕ) × IsConnection now words.now edge.old edge.new (record { before = L.holds log.old; after = L.holds log.new }) result }
+    ensures log_fault { result ≡ Err EdgeFault.Log → Rose (L.failed log.old) (L.failed log.new) }
 {
     match listener.accept() {
         Ok((stream, _)) => serve_stream(rt, &stream, edge, log, buf, words),
@@ -282,7 +298,8 @@ fn serve_stream<R: AllocGlobal + Clock, L: Sink>(
     buf: &mut [u8; 8192],
     words: &[u64; 6],
 ) -> Result<Served, EdgeFault>
-    ensures { (fs : Facts) × Gains edge.old.region fs edge.new.region }
+    ensures connection { (now : ℕ) × IsConnection now words.now edge.old edge.new (record { before = L.holds log.old; after = L.holds log.new }) result }
+    ensures log_fault { result ≡ Err EdgeFault.Log → Rose (L.failed log.old) (L.failed log.new) }
 {
     match moment(rt) {
         Ok(now) => serve_at(rt, stream, edge, log, buf, now, words),
@@ -300,7 +317,8 @@ pub(crate) fn serve_at<R: AllocGlobal + Clock, L: Sink>(
     now: Moment,
     words: &[u64; 6],
 ) -> Result<Served, EdgeFault>
-    ensures { (fs : Facts) × Gains edge.old.region fs edge.new.region }
+    ensures connection { IsConnection now words.now edge.old edge.new (record { before = L.holds log.old; after = L.holds log.new }) result }
+    ensures log_fault { result ≡ Err EdgeFault.Log → Rose (L.failed log.old) (L.failed log.new) }
 {
     let Ok(mut source) = TimedSource::new(stream, rt) else {
         return Err(EdgeFault::Read);

@@ -12,7 +12,9 @@ returns-in-Ok-clause-done g c =
       outcomes = c.in_ok-outcomes.outcomes.items;
       found = search rules;
       within = search rules;
-      each = search rules;
+      settings = c.args.settings;
+      after = c.in_ok-outcomes.ensures.run.0;
+      run = search rules;
       printed = search rules;
     } in
     loopback_printed _ c.in_ok-script.script.items _ _ _ c.in_ok-script.ensures.whole lines c.in-Ok.ensures
@@ -25,7 +27,9 @@ returns-clause-left g c =
       outcomes = c.in_ok-outcomes.outcomes.items;
       found = search rules;
       within = search rules;
-      each = search rules;
+      settings = c.args.settings;
+      after = c.in_ok-outcomes.ensures.run.0;
+      run = search rules;
       printed = search rules;
     } in
     loopback_begun _ c.in_ok-script.script.items _ _ _ c.in_ok-script.ensures.whole lines c.in-Err.ensures

@@ -1,7 +1,8 @@
-use Rattle.tk_store.specs.FactSet.{Facts}
-use Rattle.tk_region.specs.RegionFields.{Gains}
+use Rattle.tokend.proofs.Connections.{HasServed}
 use Rattle.tokend.proofs.serve.serve_on.Given as goal
 
--- the connections so far joined facts to the region
+-- the connections so far, each with words of its own
 abbrev pub invariant-loop : goal.invariant-loop
-invariant-loop g l = (fs : Facts) × Gains l.fn.edge.region fs l.edge.region
+invariant-loop g l =
+    HasServed l.fn.words (record { edge = l.fn.edge; log = g.L.Sink.holds l.fn.log; faults = g.E.Write.contents l.fn.faults }) l.counter
+    (record { edge = l.edge; log = g.L.Sink.holds l.log; faults = g.E.Write.contents l.faults }) l.words

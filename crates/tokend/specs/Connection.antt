@@ -1,0 +1,59 @@
+-- What connections by sockets do to an edge, its log and what is told of faults; what their clients sent, and were sent, isn't known (own).
+--   IsShutOut       what one ends with whose edge is sealed
+--   IsConnection    one, at a moment and with six words, by what it ends with
+--   Told            what is told of what it ended with
+--   so_many         how many are served
+--   AreConnections  one after the other, by what they end with
+use Rattle.std.specs.Prelude.{◌≡◌, ◌⊎◌, ℕ, ◌-◌, ◌^◌, true, false, List, [], ◌∷◌, Option, None, Result, Ok, Err}
+use Rattle.std.specs.Option.{unwrap_or}
+use Rattle.std.specs.Io.KnownBytes.{Keeps}
+use Rattle.rand_chacha.specs.ChaCha.{ChaCha}
+use Rattle.tk_world.specs.Put.{AppendsFront}
+use Rattle.tk_edge.specs.EdgeFields.{EdgeFields}
+use Rattle.tk_edge.specs.Served.{IsServed, IsTurnedAway}
+use Rattle.tk_edge.specs.Told.{Change}
+use Rattle.tk_edge.specs.declared.edge.Served.{Served}
+use Rattle.tk_edge.specs.declared.tell.Fault.{Fault}
+use Rattle.tk_edge.specs.declared.tell.Fault.TheVariants.{Read}
+use Rattle.tokend.specs.Draw.{six, past_six}
+use Rattle.tokend.specs.Serving.{connection_fault}
+
+-- of a socket, before and after
+abbrev pub unknown : Change
+unknown = record { before = None; after = None }
+
+-- it was answered 503, or no answer came through, or it wasn't read
+abbrev pub IsShutOut : Result Served Fault → Type 0
+IsShutOut result = IsTurnedAway unknown result ⊎ (result ≡ Err Read)
+
+-- an edge serves it; one that is sealed stays as it was, and so does its log
+pub record IsConnection (now : ℕ) (words : List ℕ) (old new : EdgeFields) (log : Change) (result : Result Served Fault) : Type 0 where
+  pub served : old.sealed ≡ false → IsServed (record { sync = old.sync; known = None; now = now; words = words })
+      (record { before = old.region; after = new.region }) log unknown new.sealed result
+  pub shut : old.sealed ≡ true → (new ≡ old) × (log.after ≡ log.before) × IsShutOut result
+  pub sync : new.sync ≡ old.sync
+
+-- a fault's line, or its beginning where the writer fails; nothing else
+abbrev pub Told : Result Served Fault → Option (List ℕ) → Option (List ℕ) → Type 0
+Told (Ok served) old new = Keeps old new
+Told (Err fault) old new = AppendsFront old new (connection_fault fault)
+
+-- an edge, what its log holds and what was told of faults
+pub record Running : Type 0 where
+  pub edge : EdgeFields
+  pub log : Option (List ℕ)
+  pub faults : Option (List ℕ)
+
+-- one, at some moment
+abbrev pub Serves : List ℕ → Running → Result Served Fault → Running → Type 0
+Serves words old end new =
+    ((now : ℕ) × IsConnection now words old.edge new.edge (record { before = old.log; after = new.log }) end) × Told end old.faults new.faults
+
+-- as many as are asked for, or without end, of which the count of a `u64` is all that can be said
+abbrev pub so_many : Option ℕ → ℕ
+so_many requests = unwrap_or requests (2 ^ 64 - 1)
+
+-- each with the next six words of the generator
+abbrev pub AreConnections : ChaCha → Running → List (Result Served Fault) → Running → Type 0
+AreConnections words old [] new = new ≡ old
+AreConnections words old (end ∷ ends) new = (mid : Running) × Serves (six words) old end mid × AreConnections (past_six words) mid ends new
