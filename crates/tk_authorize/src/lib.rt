@@ -32,6 +32,3 @@ mod sign_outs;
 
 pub use administration::decide_admin;
 pub use authorization::decide_authorize;
-
-#[cfg(test)]
-mod tests;

@@ -18,6 +18,3 @@ mod refusal;
 mod rotate;
 
 pub use granted::decide_token;
-
-#[cfg(test)]
-mod tests;

@@ -24,6 +24,3 @@ mod revoked;
 pub use introspection::decide_introspect;
 pub use laws::says_active;
 pub use revocation::decide_revoke;
-
-#[cfg(test)]
-mod tests;

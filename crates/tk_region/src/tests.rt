@@ -1,7 +1,12 @@
-//! A region that makes facts and takes bundles in: what it answers, and the bytes of what it then holds.
+//! A region that makes facts and takes bundles in: what it answers, and the bytes of what it then holds. The requests of each
+//! endpoint are here too, in the lowest crate that has all of them: `authorize` (with administration), `grant` and `query`.
 
+mod authorize;
+mod grant;
 mod pages;
+mod query;
 mod settings;
+mod spelled;
 mod unknown;
 
 use crate::step::prepare;

@@ -30,6 +30,3 @@ pub use print::print_outcomes;
 pub use put::put_all;
 pub use tk_region::Settings;
 pub use world::World;
-
-#[cfg(test)]
-mod tests;

@@ -8,6 +8,7 @@ mod loopback;
 mod order;
 mod rings;
 mod serving;
+mod worlds;
 
 use crate::program::run_program;
 use std::test::Fail;

@@ -11,11 +11,11 @@ mod made;
 mod refusals;
 mod registrations;
 
-use crate::{decide_admin, decide_authorize};
 use facts::ledger;
 use made::{Makes, is_made};
 use std::alloc::Global;
 use std::process::Abort;
+use tk_authorize::{decide_admin, decide_authorize};
 use tk_handle::{Moment, RegionNumber, Serial};
 use tk_ledger::Ledger;
 use tk_message::{Decision, Endpoint, Lives, Params, Payload, Place, Reply, Request};

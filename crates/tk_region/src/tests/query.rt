@@ -5,13 +5,13 @@
 mod introspection;
 mod revocation;
 
-use crate::{decide_introspect, decide_revoke};
+use super::spelled::{is_made, ledger_of};
 use std::alloc::Global;
 use std::process::Abort;
-use tk_fact::{Body, Fact};
 use tk_handle::{Moment, RegionNumber, Serial};
 use tk_ledger::Ledger;
 use tk_message::{Decision, Endpoint, Lives, Params, Payload, Place, Reply, Request};
+use tk_query::{decide_introspect, decide_revoke};
 
 // What a request is called, what is sent, and when; the status and the body that it is answered; and the bytes of the fact that it makes,
 // as it would stand at 1:9, or none.
@@ -39,20 +39,8 @@ static FACTS: [&[u8]; 13] = [
     b"\x00\x02\x00\x00\x00\x00\x00\x00\x00\x04\x08\x00\x01\x00\x00\x00\x00\x00\x00\x00\x05\x02t\x12vj>r\xc5\xa5\x96bbX\xce\x7f$\xab\x02\xe7K\xba\x9cZ\x05\xb3|\xdc\x9c\xe25\xfc\xec\x13\x00\x02\x00\x00\x00\x00\x00\x00\x00\x03",
 ];
 
-// Whether the fact of these bytes is added; not so where memory is refused.
-fn adds(alloc: Global, ledger: &mut Ledger, bytes: &[u8]) -> bool {
-    match Fact::read(alloc, bytes) {
-        Ok(fact) => fact.check().is_ok() && ledger.add(fact).is_ok(),
-        Err(_) => false,
-    }
-}
-
 fn ledger(rt: &impl Abort, alloc: Global) -> Ledger {
-    let mut ledger = Ledger::new(alloc);
-    for bytes in &FACTS {
-        assert!(rt; adds(alloc, &mut ledger, bytes), "a fact is added");
-    }
-    ledger
+    ledger_of(rt, alloc, &FACTS)
 }
 
 fn place() -> Option<Place> {
@@ -105,21 +93,6 @@ fn is_reply(reply: &Reply, status: u16, body: &str) -> bool {
         && reply.status.number() == status
         && reply.www == (status == 401)
         && reply.location.is_none()
-}
-
-// Whether the fact says what the one of these bytes does; there is none where there are no bytes.
-fn is_made(alloc: Global, made: &Option<Body>, bytes: &[u8]) -> bool {
-    match made {
-        Some(made) => says(alloc, made, bytes),
-        None => bytes.is_empty(),
-    }
-}
-
-fn says(alloc: Global, made: &Body, bytes: &[u8]) -> bool {
-    match Fact::read(alloc, bytes) {
-        Ok(fact) => made.same(&fact.body),
-        Err(_) => false,
-    }
 }
 
 fn is_answered(alloc: Global, ledger: &Ledger, endpoint: Endpoint, row: &Row) -> bool {

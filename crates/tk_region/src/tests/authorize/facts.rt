@@ -1,8 +1,8 @@
 //! A ledger of clients, of ann's consents and of others' sign-outs, from facts in bytes.
 
+use crate::tests::spelled::ledger_of;
 use std::alloc::Global;
 use std::process::Abort;
-use tk_fact::Fact;
 use tk_ledger::Ledger;
 
 // In order: public c1-1 and ann's consent g1-2; confidential c2-1 with two URIs, ann's consents g2-2 and g2-3, the withdrawal of the
@@ -26,21 +26,9 @@ static FACTS: [&[u8]; 15] = [
     b"\x00\x02\x00\x00\x00\x00\x00\x00\x00\x0d\x0a\x00\x03joe\x00\x00\x00\x00\x00\x00\x03\xe7",
 ];
 
-// Whether the fact of these bytes is added; not so where memory is refused.
-fn adds(alloc: Global, ledger: &mut Ledger, bytes: &[u8]) -> bool {
-    match Fact::read(alloc, bytes) {
-        Ok(fact) => fact.check().is_ok() && ledger.add(fact).is_ok(),
-        Err(_) => false,
-    }
-}
-
 /// Public c1-1; confidential c2-1 with two URIs; public c2-7, retired; the resource server c2-9. Ann's consents: g1-2 and
 /// g2-10 for all that the client may ask; for c2-1 g2-2 to `read`, and g2-3 (withdrawn), g2-5 and g2-6 to `read write`. Signed out are bob at 1,000, eve
 /// at 1,001 and joe at 999.
 pub(super) fn ledger(rt: &impl Abort, alloc: Global) -> Ledger {
-    let mut ledger = Ledger::new(alloc);
-    for bytes in &FACTS {
-        assert!(rt; adds(alloc, &mut ledger, bytes), "a fact is added");
-    }
-    ledger
+    ledger_of(rt, alloc, &FACTS)
 }
