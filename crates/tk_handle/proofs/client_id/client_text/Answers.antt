@@ -1,0 +1,5 @@
+use Rattle.std.proofs.Common.{rules}
+use Rattle.tk_handle.proofs.client_id.client_text.Goals as goal
+
+pub returns : goal.returns
+returns c = search rules

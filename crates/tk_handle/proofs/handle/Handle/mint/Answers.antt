@@ -1,0 +1,5 @@
+use Rattle.std.proofs.Common.{rules}
+use Rattle.tk_handle.proofs.handle.Handle.mint.Goals as goal
+
+pub returns : goal.returns
+returns c = search rules
