@@ -1,7 +1,7 @@
 -- What connections leave of a region.
 use Rattle.std.proofs.Common.{◌≡◌, ℕ, Bool, true, false, List, [], ◌∷◌, ◌++◌, take, Option, Some, None, Result, Ok, Err, inl, inr, refl, sym, ap, subst, ◌∙◌, ◌+◌, length}
 use Rattle.std.proofs.KnownBytes.{Keeps-refl}
-use Rattle.std.proofs.lemmas.List.{append-nil, length-append}
+use Rattle.std.proofs.lemmas.List.{length-append}
 use Rattle.rand_chacha.specs.ChaCha.{ChaCha}
 use Rattle.tk_format.specs.Format.{whole}
 use Rattle.tk_store.specs.FactSet.{Facts}
@@ -26,10 +26,8 @@ use Rattle.tk_edge.specs.declared.edge.Served.{Served}
 use Rattle.tk_edge.specs.declared.edge.Served.TheVariants.{Nothing, Done}
 use Rattle.tk_edge.specs.declared.tell.Fault.{Fault}
 use Rattle.tk_edge.specs.declared.tell.Fault.TheVariants.{Read, Write, Log, Memory}
-use Rattle.tk_world.specs.Put.{Prints}
-use Rattle.tokend.specs.Connection.{unknown, AreConnections, IsConnection, Running, Serves, Told}
+use Rattle.tokend.specs.Connection.{unknown, AreConnections, IsConnection, Running, Serves}
 use Rattle.tokend.specs.Draw.{six, past_six}
-use Rattle.tokend.specs.Serving.{connection_fault}
 use Rattle.tokend.proofs.Loads.{gains_more, gains_nothing}
 
 same_gains : (old new : RegionFields) → new ≡ old → (fs : Facts) × Gains old fs new
