@@ -1,6 +1,7 @@
 -- What an authorisation request is answered, and the fact that a code was issued (RFC 6749, 4.1.2 and 4.1.2.1).
 --   authorization_of   the decision
 --   kept_state         the state that is given back
+--   code_reply         where a browser is sent with a code
 --   code_issued        the fact
 use Rattle.std.specs.Prelude.{ℕ, if◌then◌else◌, List, [], ◌∷◌, codes, slice_index, Option, Some, None}
 use Rattle.tk_handle.specs.declared.dot.Dot.{Dot}
@@ -15,6 +16,7 @@ use Rattle.tk_ledger.specs.Status.{digest_of}
 use Rattle.tk_params.specs.Params.{value_of}
 use Rattle.tk_message.specs.declared.decision.Decision.{Decision}
 use Rattle.tk_message.specs.declared.place.Place.{Place}
+use Rattle.tk_message.specs.declared.reply.Reply.{Reply}
 use Rattle.tk_message.specs.Decision.{answered, refused}
 use Rattle.tk_message.specs.ErrorCode.{error_name}
 use Rattle.tk_message.specs.Place.{next_in}
@@ -56,13 +58,17 @@ code_issued place now code target approval = record {
   challenge = approval.challenge;
 }
 
+-- a code at the URI (RFC 6749, 4.1.2)
+abbrev pub code_reply : List ℕ → Handle → Option (List ℕ) → Reply
+code_reply uri code state = redirect_reply uri (codes "code") (handle_text code) state
+
 -- an error in place (RFC 6749, 3.1.2.4), an error at the URI (4.1.2.1), or a code there and the fact that it was issued (4.1.2)
 abbrev pub decided_by : Place → ℕ → List ℕ → Option (List ℕ) → Judged → Decision
 decided_by place now words state (Refused why) = refused (refusal_code why)
 decided_by place now words state (Denied target why) =
     answered (redirect_reply target.uri (codes "error") (error_name (denial_code why)) state)
 decided_by place now words state (Approved target approval) = record {
-  reply = redirect_reply target.uri (codes "code") (handle_text (code_handle (next_in place) words)) state;
+  reply = code_reply target.uri (code_handle (next_in place) words) state;
   made = Some (body.CodeIssued (code_issued place now (code_handle (next_in place) words) target approval));
 }
 

@@ -7,7 +7,7 @@ use tk_message::ErrorCode;
 
 /// Why an administration request is refused: the first that holds, in the order that specs/Administration.antt has for
 /// its endpoint (own).
-#[derive(Clone, Copy, Debug, PartialEq, Eq)]
+#[derive(Clone, Copy)]
 pub(crate) enum AdminRefusal {
     /// A parameter that is known there occurs twice.
     DuplicateParameter,

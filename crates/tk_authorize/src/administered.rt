@@ -6,7 +6,7 @@ use tk_handle::Dot;
 use tk_scope::Scope;
 
 // What becomes of an administration request.
-#[derive(Debug, Drop)]
+#[derive(Drop)]
 pub(crate) enum Administered {
     Refused(AdminRefusal),
     Registers(ClientAdded),
@@ -22,7 +22,7 @@ pub(crate) enum Administered {
 }
 
 // What is shown of a client.
-#[derive(Debug, Drop)]
+#[derive(Drop)]
 pub(crate) struct ShownClient {
     pub(crate) client: Dot,
     pub(crate) sort: Sort,

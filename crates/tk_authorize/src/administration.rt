@@ -6,10 +6,10 @@ ghost use Rattle.tk_message.specs.Decision.{Passes};
 ghost use Rattle.tk_authorize.specs.Administration as spec;
 ghost use Rattle.tk_authorize.specs.SoundAdministered.{IsSoundAdministered};
 
-use crate::administered::{Administered, administer};
+use crate::administered::{Administered, ShownClient, administer};
 use std::alloc::{AllocError, Global};
-use tk_fact::{Body, ClientRetired, ConsentWithdrawn, SubjectOut};
-use tk_handle::Moment;
+use tk_fact::{Body, ClientAdded, ClientRetired, ConsentGiven, ConsentWithdrawn, SubjectOut};
+use tk_handle::{Dot, Moment};
 use tk_ledger::Ledger;
 use tk_message::{
     Decision, Place, Request, Status, client_reply, consent_reply, shown_reply, subject_reply,
@@ -45,39 +45,79 @@ fn decide_by(
 {
     match administered {
         Administered::Refused(why) => Decision::refuse(alloc, why.code()),
-        Administered::Registers(client) => {
-            let reply = client_reply(alloc, Status::Created, place.next_dot())?;
-            Ok(Decision {
-                reply,
-                made: Some(Body::ClientAdded(client)),
-            })
-        }
-        Administered::Shows(shown) => {
-            let reply = shown_reply(alloc, shown.client, &shown.sort, shown.live, &shown.scope)?;
-            Ok(Decision::answer(reply))
-        }
-        Administered::Retires(client, live) => {
-            let reply = client_reply(alloc, Status::Ok, client)?;
-            let retirement = Body::ClientRetired(ClientRetired { client });
-            let made = if live { Some(retirement) } else { None };
-            Ok(Decision { reply, made })
-        }
-        Administered::Consents(consent) => {
-            let reply = consent_reply(alloc, Status::Created, place.next_dot())?;
-            Ok(Decision {
-                reply,
-                made: Some(Body::ConsentGiven(consent)),
-            })
-        }
-        Administered::Withdraws(consent, live) => {
-            let reply = consent_reply(alloc, Status::Ok, consent)?;
-            let withdrawal = Body::ConsentWithdrawn(ConsentWithdrawn { consent });
-            let made = if live { Some(withdrawal) } else { None };
-            Ok(Decision { reply, made })
-        }
+        Administered::Registers(client) => decide_registered(alloc, place, client),
+        Administered::Shows(shown) => decide_shown(alloc, &shown),
+        Administered::Retires(client, live) => decide_retired(alloc, client, live),
+        Administered::Consents(consent) => decide_consented(alloc, place, consent),
+        Administered::Withdraws(consent, live) => decide_withdrawn(alloc, consent, live),
         Administered::AlreadyOut(subject) => Ok(Decision::answer(subject_reply(alloc, &subject)?)),
         Administered::SignsOut(sign_out) => decide_out(alloc, sign_out),
     }
+}
+
+fn decide_registered(
+    alloc: Global,
+    place: &Place,
+    client: ClientAdded,
+) -> Result<Decision, AllocError>
+    requires { IsSoundAdministered (Administered.Registers client) }
+    ensures value { IfOk result (λ d. d ≡ spec.decided_registered place.now client) }
+    ensures passes { IfOk result (λ d. Passes d.made) }
+{
+    let reply = client_reply(alloc, Status::Created, place.next_dot())?;
+    Ok(Decision {
+        reply,
+        made: Some(Body::ClientAdded(client)),
+    })
+}
+
+fn decide_shown(alloc: Global, shown: &ShownClient) -> Result<Decision, AllocError>
+    ensures { IfOk result (λ d. d ≡ spec.decided_shown shown.now) }
+{
+    let reply = shown_reply(alloc, shown.client, &shown.sort, shown.live, &shown.scope)?;
+    Ok(Decision::answer(reply))
+}
+
+fn decide_retired(alloc: Global, client: Dot, live: bool) -> Result<Decision, AllocError>
+    ensures value { IfOk result (λ d. d ≡ spec.decided_retired client live) }
+    ensures passes { IfOk result (λ d. Passes d.made) }
+{
+    let reply = client_reply(alloc, Status::Ok, client)?;
+    let made = if live {
+        Some(Body::ClientRetired(ClientRetired { client }))
+    } else {
+        None
+    };
+    Ok(Decision { reply, made })
+}
+
+fn decide_consented(
+    alloc: Global,
+    place: &Place,
+    consent: ConsentGiven,
+) -> Result<Decision, AllocError>
+    requires { IsSoundAdministered (Administered.Consents consent) }
+    ensures value { IfOk result (λ d. d ≡ spec.decided_consented place.now consent) }
+    ensures passes { IfOk result (λ d. Passes d.made) }
+{
+    let reply = consent_reply(alloc, Status::Created, place.next_dot())?;
+    Ok(Decision {
+        reply,
+        made: Some(Body::ConsentGiven(consent)),
+    })
+}
+
+fn decide_withdrawn(alloc: Global, consent: Dot, live: bool) -> Result<Decision, AllocError>
+    ensures value { IfOk result (λ d. d ≡ spec.decided_withdrawn consent live) }
+    ensures passes { IfOk result (λ d. Passes d.made) }
+{
+    let reply = consent_reply(alloc, Status::Ok, consent)?;
+    let made = if live {
+        Some(Body::ConsentWithdrawn(ConsentWithdrawn { consent }))
+    } else {
+        None
+    };
+    Ok(Decision { reply, made })
 }
 
 fn decide_out(alloc: Global, sign_out: SubjectOut) -> Result<Decision, AllocError>

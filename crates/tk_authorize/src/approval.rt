@@ -15,7 +15,7 @@ use tk_match::Challenge;
 use tk_scope::Scope;
 
 // What a code is issued for.
-#[derive(Debug, Drop)]
+#[derive(Drop)]
 pub(crate) struct Approval {
     pub(crate) consent: Dot,
     pub(crate) subject: Subject,

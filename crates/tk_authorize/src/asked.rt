@@ -15,7 +15,7 @@ use tk_message::{Params, scope_asked};
 use tk_scope::Scope;
 
 // What a code is asked for.
-#[derive(Debug, Drop)]
+#[derive(Drop)]
 pub(crate) struct Asked {
     pub(crate) scope: Scope,
     pub(crate) challenge: Option<Challenge>,

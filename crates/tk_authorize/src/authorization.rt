@@ -16,7 +16,8 @@ use std::alloc::{AllocError, Global};
 use tk_fact::{Body, CodeIssued};
 use tk_handle::{Dot, Handle, Kind, Moment, TokenId};
 use tk_ledger::Ledger;
-use tk_message::{Decision, Place, Request, handle_string, redirect_reply};
+use tk_match::Uri;
+use tk_message::{Decision, Place, Reply, Request, handle_string, redirect_reply};
 
 /// What an authorisation request is answered, and the fact that a code was issued, at the place's dot (RFC 6749, 4.1.1 to
 /// 4.1.2.1; RFC 7636, 4.3 and 4.4). A code takes the first three words. A bad client or redirection URI is told in place, and
@@ -66,8 +67,7 @@ fn decide_by(
         }
         Judged::Approved(target, approval) => {
             let code = code_handle(place.next_dot(), words);
-            let text = handle_string(alloc, &code)?;
-            let reply = redirect_reply(alloc, target.uri.as_str(), "code", text.as_str(), state)?;
+            let reply = code_reply(alloc, &target.uri, &code, state)?;
             let fact = code_issued(place, now, &code, target, approval);
             Ok(Decision {
                 reply,
@@ -85,6 +85,19 @@ fn code_handle(next: Dot, words: &[u64; 6]) -> Handle
         kind: Kind::Code,
     };
     Handle::mint(id, [words[0], words[1], words[2]])
+}
+
+// A browser is sent to the URI with the code.
+fn code_reply(
+    alloc: Global,
+    uri: &Uri,
+    code: &Handle,
+    state: Option<&str>,
+) -> Result<Reply, AllocError>
+    ensures { IfOk result (λ reply. reply ≡ spec.code_reply uri.now code.now (option_copied state.entry)) }
+{
+    let text = handle_string(alloc, code)?;
+    redirect_reply(alloc, uri.as_str(), "code", text.as_str(), state)
 }
 
 fn code_issued(

@@ -6,7 +6,7 @@ ghost use Rattle.tk_authorize.specs.Denial.{denial_code};
 use tk_message::ErrorCode;
 
 /// Why a request is denied, told at the client's redirection URI: the first that holds, in this order (RFC 6749, 4.1.2.1).
-#[derive(Clone, Copy, Debug, PartialEq, Eq)]
+#[derive(Clone, Copy)]
 pub(crate) enum Denial {
     /// A parameter other than the client's and the URI's occurs twice (RFC 6749, 3.1).
     DuplicateParameter,

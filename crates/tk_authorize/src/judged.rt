@@ -19,7 +19,7 @@ use tk_match::{Pick, RedirectError, Uri};
 use tk_message::Params;
 
 // Where an answer goes, and whom a code is issued to.
-#[derive(Debug, Drop)]
+#[derive(Drop)]
 pub(crate) struct Target {
     pub(crate) client: Dot,
     pub(crate) uri: Uri,
@@ -28,7 +28,7 @@ pub(crate) struct Target {
 }
 
 // What a request comes to.
-#[derive(Debug, Drop)]
+#[derive(Drop)]
 pub(crate) enum Judged {
     Refused(Refusal),
     Denied(Target, Denial),

@@ -7,7 +7,7 @@ use tk_message::ErrorCode;
 
 /// Why a request is refused in place, and never redirected: the first that holds, in this order (RFC 6749, 3.1.2.4 and
 /// 4.1.2.1).
-#[derive(Clone, Copy, Debug, PartialEq, Eq)]
+#[derive(Clone, Copy)]
 pub(crate) enum Refusal {
     /// `client_id` or `redirect_uri` occurs twice (RFC 6749, 3.1).
     DuplicateClientOrRedirect,

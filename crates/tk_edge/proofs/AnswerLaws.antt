@@ -4,6 +4,7 @@
 --   answers_request  what was prepared for a request is its answer
 --   short_of         want of memory leaves the region as it was, or with the first facts of a bundle; short_answer, over bytes
 --   pulls            a page is given, and nothing changes
+--   unread           a reader is at no fault where a reply fails; faults_as, one fault
 --   served           what replying to what arrived comes to is what a connection does; faulted, where it fails
 use Rattle.std.proofs.Common.{◌≡◌, ◌≢◌, ℕ, Bool, List, [], Option, None, Some, Result, Ok, Err, IfOk, OnErr, refl, subst, inl, inr}
 use Rattle.std.specs.declared.alloc.AllocError.{AllocError}
@@ -19,8 +20,9 @@ use Rattle.tk_edge.specs.Arrivals.{AnswersArrival, IsShort}
 use Rattle.tk_edge.specs.Exchanges.{Exchanges, page_reply}
 use Rattle.tk_edge.specs.Heard.{Arrives, IsArrival, MayArrive}
 use Rattle.tk_edge.specs.Pulls.{wanted}
-use Rattle.tk_edge.specs.Served.{Asked, Replies, IsServed}
+use Rattle.tk_edge.specs.Served.{Asked, Step, Replies, IsServed}
 use Rattle.tk_edge.specs.Told.{AnswerFields, Change}
+use Rattle.tk_edge.specs.declared.edge.Served.{Served}
 use Rattle.tk_edge.specs.declared.edge.Served.TheVariants.{Done}
 use Rattle.tk_edge.specs.declared.exchange.Exchange.TheVariants.{Vector, Pull, Push}
 use Rattle.tk_edge.specs.declared.hear.Arrival.{Arrival}
@@ -65,6 +67,13 @@ pub pulls : (r : RegionFields) (sent : List ℕ) (result : Result AnswerFields A
 pulls r sent (Ok a) h = (h, refl)
 pulls r sent (Err e) h = refl
 
+-- a fault, as a connection's end and as a telling's
+abbrev fails : Fault → Result Served Fault
+fails fault = Err fault
+
+abbrev told_fault : Fault → Result Status Fault
+told_fault fault = Err fault
+
 module _ (asked : Asked) (came : Arrival) (old new seen : RegionFields) (same : old ≡ seen) (log writer : Change) (sealed : Bool) (arrives : Arrives asked.sync asked.known came) (spoke : came ≢ Heard Silence) where
   -- by the region as contracts see it
   as_seen : (result : Result Status Fault) → Replies asked.now asked.words came (record { before = old; after = new }) log writer sealed result
@@ -81,3 +90,15 @@ module _ (asked : Asked) (came : Arrival) (old new seen : RegionFields) (same : 
   faulted Write told = (came, arrives, spoke, as_seen (Err Write) told)
   faulted Log told = (came, arrives, spoke, as_seen (Err Log) told)
   faulted Memory told = let short = as_seen (Err Memory) told in (short_of asked.sync asked.known asked.now asked.words came seen new short.0 arrives short.1, short.2)
+
+-- what failed is not the reader
+pub unread : (now : ℕ) (words : List ℕ) (came : Arrival) (region : Step) (log writer : Change) (sealed : Bool) (fault : Fault)
+    → Replies now words came region log writer sealed (Err fault) → fails fault ≢ fails Read
+unread now words came region log writer sealed Read told = absurd told
+unread now words came region log writer sealed Write told = λ is. cc
+unread now words came region log writer sealed Log told = λ is. cc
+unread now words came region log writer sealed Memory told = λ is. cc
+
+-- a fault of a connection is one of the telling
+pub faults_as : (fault other : Fault) → fails fault ≡ fails other → told_fault fault ≡ told_fault other
+faults_as fault other is = cc

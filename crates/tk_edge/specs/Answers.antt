@@ -1,4 +1,5 @@
 -- What a stream of bytes is answered, with the fact that is made for it (own).
+--   told_by      an answer of such bytes; rendered, of a reply
 --   answer_by    the answer to what was heard; refused_by, to what isn't handed to the region
 --   made_by      the fact that the region makes for it, if any
 --   AnswersBy    what answering so, with such a fact, may end with; Answers, what was heard
@@ -8,6 +9,7 @@ use Rattle.tk_handle.specs.declared.dot.Dot.{Dot}
 use Rattle.tk_fact.specs.declared.body.Body.{Body}
 use Rattle.tk_message.specs.Reply.{error_reply}
 use Rattle.tk_message.specs.ReplyFields.{ReplyFields}
+use Rattle.tk_message.specs.declared.status.Status.{Status}
 use Rattle.tk_message.specs.declared.status.Status.TheVariants as status
 use Rattle.tk_region.specs.RegionFields.{RegionFields, Gains}
 use Rattle.tk_region.specs.Step.{prepared_of, listed, IsNextFact}
@@ -18,9 +20,13 @@ use Rattle.tk_edge.specs.declared.hear.Heard.{Heard}
 use Rattle.tk_edge.specs.declared.hear.Heard.TheVariants.{Silence, Refused, Asked}
 use Rattle.tk_edge.specs.declared.refusal.Refusal.{Refusal}
 
--- a reply with the methods allowed, if it names them, and the record of the fact made, if any
+-- the bytes of a reply of this status, and the record of the fact made, if any
+abbrev pub told_by : Status → List ℕ → Option (List ℕ) → AnswerFields
+told_by status bytes logged = record { status = status; bytes = bytes; logged = logged }
+
+-- a reply with the methods allowed, if it names them
 abbrev pub rendered : ReplyFields → Option (List ℕ) → Option (List ℕ) → AnswerFields
-rendered reply allowed logged = record { status = reply.status; bytes = reply_bytes reply allowed; logged = logged }
+rendered reply allowed logged = told_by reply.status (reply_bytes reply allowed) logged
 
 abbrev pub refused_by : Refusal → AnswerFields
 refused_by why = rendered (error_reply (code_of why)) (allowed_by why) None

@@ -111,15 +111,37 @@ fn send(alloc: Global, region: &mut Region, prepared: Prepared) -> Result<Answer
     requires { IfSome prepared.fact (IsNextFact region.old) }
     ensures { spec.AnswersBy region.old (spec.rendered prepared.reply None prepared.logged) prepared.fact result region.new }
 {
-    let parts = &prepared;
-    let bytes = render(alloc, &parts.reply, None)?;
-    let Handled { reply, logged } = region.commit(prepared)?;
-    let status = reply.status;
-    Ok(Answer {
-        status,
+    match render(alloc, &prepared.reply, None) {
+        Ok(bytes) => commit(region, prepared, bytes),
+        Err(error) => Err(forgone(prepared, error)),
+    }
+}
+
+// What was prepared is not added.
+fn forgone(_prepared: Prepared, error: AllocError) -> AllocError {
+    error
+}
+
+// Adds the fact, whose reply has these bytes.
+fn commit(region: &mut Region, prepared: Prepared, bytes: Vec<u8>) -> Result<Answer, AllocError>
+    requires { IfSome prepared.fact (IsNextFact region.old) }
+    ensures { spec.AnswersBy region.old (spec.told_by prepared.reply.status bytes.items prepared.logged) prepared.fact result region.new }
+{
+    let Ok(handled) = region.commit(prepared) else {
+        return Err(AllocError);
+    };
+    Ok(told_by(handled, bytes))
+}
+
+fn told_by(handled: Handled, bytes: Vec<u8>) -> Answer
+    ensures { result ≡ spec.told_by handled.reply.status bytes.items handled.logged }
+{
+    let Handled { reply, logged } = handled;
+    Answer {
+        status: reply.status,
         bytes,
         logged,
-    })
+    }
 }
 
 // A reply that no fact was made for.

@@ -31,7 +31,7 @@ pub enum Served {
     Done(Status),
 }
 
-ghost use Rattle.std.specs.Prelude.{◌≡◌, ◌≢◌, ℕ, true, false, List, length, Some, Err, IfOk, OnOk, OnErr};
+ghost use Rattle.std.specs.Prelude.{◌≡◌, ◌≢◌, ℕ, Bool, true, false, List, length, Option, Some, Err, IfOk, OnOk, OnErr};
 ghost use Rattle.std.specs.Borrow.{Lends, sem};
 ghost use Rattle.tk_region.specs.contracts.region.Region.{the_row as region_row};
 ghost use Rattle.tk_edge.specs.contracts.edge.Edge.{the_row as edge_row};
@@ -39,7 +39,7 @@ ghost use Rattle.tk_edge.specs.Answers.{refused_by};
 ghost use Rattle.tk_edge.specs.Arrivals.{AnswersArrival, IsShort};
 ghost use Rattle.tk_edge.specs.Failures.{Rose};
 ghost use Rattle.tk_edge.specs.Told.{IsFaultOfDevice};
-ghost use Rattle.tk_edge.specs.Heard.{IsArrival, MayArrive};
+ghost use Rattle.tk_edge.specs.Heard.{Arrives, IsArrival, MayArrive};
 ghost use Rattle.tk_edge.specs.Heads.{head_limit};
 ghost use Rattle.tk_edge.specs.Served.{IsServed, IsTurnedAway, Replies};
 ghost use Rattle.tk_edge.specs.declared.hear.Arrival.{Arrival as AnyArrival};
@@ -151,10 +151,7 @@ impl Edge {
             return turn_away(alloc, writer);
         }
         let came = hear(alloc, self.sync, reader, buf)?;
-        if is_silent(&came) {
-            return Ok(Served::Nothing);
-        }
-        match reply(
+        serve_arrival(
             alloc,
             &mut self.region,
             &mut self.sealed,
@@ -163,10 +160,37 @@ impl Edge {
             now,
             words,
             &came,
-        ) {
-            Ok(status) => Ok(Served::Done(status)),
-            Err(fault) => Err(fault),
-        }
+        )
+    }
+}
+
+// Serves what arrived at an edge that isn't sealed.
+fn serve_arrival<L: Sink, W: Sink>(
+    alloc: Global,
+    region: &mut Region,
+    sealed: &mut bool,
+    log: &mut L,
+    writer: &mut W,
+    now: Moment,
+    words: &[u64; 6],
+    came: &Arrival,
+) -> Result<Served, Fault>
+    requires { sealed.old ≡ false }
+    ensures served { (sync : Bool) (known : Option (List ℕ)) → Arrives sync known came.now → IsServed
+        (record { sync = sync; known = known; now = now; words = words.now })
+        (record { before = region.old; after = region.new })
+        (record { before = L.holds log.old; after = L.holds log.new })
+        (record { before = W.holds writer.old; after = W.holds writer.new }) sealed.new result }
+    ensures read { result ≢ Err Fault.Read }
+    ensures writer_fault { result ≡ Err Fault.Write → Rose (W.failed writer.old) (W.failed writer.new) }
+    ensures log_fault { result ≡ Err Fault.Log → Rose (L.failed log.old) (L.failed log.new) }
+{
+    if is_silent(came) {
+        return Ok(Served::Nothing);
+    }
+    match reply(alloc, region, sealed, log, writer, now, words, came) {
+        Ok(status) => Ok(Served::Done(status)),
+        Err(fault) => Err(fault),
     }
 }
 
@@ -208,10 +232,10 @@ fn turn_away<W: Sink>(alloc: Global, writer: &mut W) -> Result<Served, Fault>
     let Ok(away) = refuse(alloc, Refusal::Sealed) else {
         return Err(Fault::Memory);
     };
-    if put_all(writer, &away.bytes).is_err() {
-        return Err(Fault::Write);
+    match put_all(writer, &away.bytes) {
+        Ok(()) => Ok(Served::Done(away.status)),
+        Err(_) => Err(Fault::Write),
     }
-    Ok(Served::Done(away.status))
 }
 
 // What the bytes of a stream that then ends come to.

@@ -10,7 +10,7 @@ ghost use Rattle.tk_edge.specs.HeadFields.{AreFields, IsField, values_named, has
 use httparse::spans::HeaderSpan;
 
 // What a head has under a name.
-#[derive(Clone, Copy, Debug)]
+#[derive(Clone, Copy)]
 pub(crate) enum Field<'b> {
     Absent,
     Value(&'b [u8]),
@@ -18,7 +18,7 @@ pub(crate) enum Field<'b> {
 }
 
 // The fields that are read.
-#[derive(Clone, Copy, Debug)]
+#[derive(Clone, Copy)]
 pub(crate) struct Fields<'b> {
     pub(crate) authorization: Field<'b>,
     pub(crate) subject: Field<'b>,

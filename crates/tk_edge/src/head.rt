@@ -10,7 +10,7 @@ use httparse::Status;
 use httparse::spans::{HeaderSpan, RequestSpans, parse_request};
 
 // What stands at the front of a stream: a head, or none. The first `filled` bytes of the buffer are those that were read.
-#[derive(Clone, Copy, Debug, PartialEq, Eq)]
+#[derive(Clone, Copy)]
 pub(crate) enum HeadRead {
     Whole { filled: usize, spans: RequestSpans },
     Missing { filled: usize },

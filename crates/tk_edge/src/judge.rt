@@ -13,7 +13,7 @@ use tk_format::{Numeral, read_numeral};
 use tk_message::Endpoint;
 
 // What a head asks for: nothing that is served, what its query asks, the region's vector, or what a body of so many bytes asks.
-#[derive(Clone, Copy, Debug, PartialEq, Eq)]
+#[derive(Clone, Copy)]
 pub(crate) enum Judged {
     Refused(Refusal),
     Query(Endpoint),

@@ -36,14 +36,14 @@ pub enum Path {
 }
 
 // How it is asked for.
-#[derive(Clone, Copy, Debug, PartialEq, Eq)]
+#[derive(Clone, Copy)]
 pub(crate) enum Method {
     Get,
     Post,
 }
 
 // What a path serves under a method.
-#[derive(Clone, Copy, Debug, PartialEq, Eq)]
+#[derive(Clone, Copy)]
 pub(crate) enum Service {
     // What the query asks of an endpoint.
     Query(Endpoint),
@@ -54,7 +54,7 @@ pub(crate) enum Service {
 }
 
 // What a body is for.
-#[derive(Clone, Copy, Debug, PartialEq, Eq)]
+#[derive(Clone, Copy)]
 pub(crate) enum Posted {
     // The parameters of an endpoint.
     Form(Endpoint),

@@ -4,7 +4,7 @@ use tk_handle::Dot;
 use tk_vector::VersionVector;
 
 // The dot above which the page begins, or none, and what who asks holds already.
-#[derive(Debug, Drop)]
+#[derive(Drop)]
 pub(crate) struct Wanted {
     pub(crate) after: Option<Dot>,
     pub(crate) vector: VersionVector,

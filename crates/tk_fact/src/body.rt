@@ -11,8 +11,8 @@
 //!    `body_short`; a fact has 8,192 bytes at most.
 //! 5. `specs/Check.antt`, `src/check.rt`: the rules that it keeps.
 //! 6. `specs/Tokens.antt`, `src/tokens.rt`: whether it mints tokens or uses one. Nothing asks for this row.
-//! 7. Tests: its bytes in `src/tests.rt`, where the refused kind 11 becomes 12, a builder in `src/tests/bodies.rt`, and a
-//!    row each in `src/tests/built.rt` and `src/tests/limits.rt`. An edit in `must-fail/` for what it means.
+//! 7. Tests, in tk_bundle: its bytes in `src/tests/facts.rt`, where the refused kind 11 becomes 12, a builder in
+//!    `src/tests/facts/bodies.rt`, and a row each in `built.rt` and `limits.rt` beside it. An edit in `must-fail/` for what it means.
 //! 8. tk_bundle: its number in `kind_of` of `src/version.rt`, and a row of `VERSIONS` there and of `versions` in
 //!    `specs/Versions.antt`. A build that doesn't know the kind finds each bundle with such a fact malformed.
 //! 9. tk_ledger: a row in `change_in` of `specs/Changes.antt` and `change_of` of `src/change.rt`, with what it changes in
@@ -77,34 +77,16 @@ impl Body {
         ensures { IfOk result (λ copy. copy ≡ self.now) }
     {
         match self {
-            Body::ClientAdded(fields) => {
-                let fields = fields.copy(alloc)?;
-                Ok(Body::ClientAdded(fields))
-            }
+            Body::ClientAdded(fields) => fields.copy(alloc).map(Body::ClientAdded),
             Body::ClientRetired(fields) => Ok(Body::ClientRetired(*fields)),
-            Body::ConsentGiven(fields) => {
-                let fields = fields.copy(alloc)?;
-                Ok(Body::ConsentGiven(fields))
-            }
+            Body::ConsentGiven(fields) => fields.copy(alloc).map(Body::ConsentGiven),
             Body::ConsentWithdrawn(fields) => Ok(Body::ConsentWithdrawn(*fields)),
-            Body::CodeIssued(fields) => {
-                let fields = fields.copy(alloc)?;
-                Ok(Body::CodeIssued(fields))
-            }
-            Body::CodeRedeemed(fields) => {
-                let fields = fields.copy(alloc)?;
-                Ok(Body::CodeRedeemed(fields))
-            }
-            Body::RefreshRotated(fields) => {
-                let fields = fields.copy(alloc)?;
-                Ok(Body::RefreshRotated(fields))
-            }
+            Body::CodeIssued(fields) => fields.copy(alloc).map(Body::CodeIssued),
+            Body::CodeRedeemed(fields) => fields.copy(alloc).map(Body::CodeRedeemed),
+            Body::RefreshRotated(fields) => fields.copy(alloc).map(Body::RefreshRotated),
             Body::TokenRevoked(fields) => Ok(Body::TokenRevoked(*fields)),
             Body::ReuseSeen(fields) => Ok(Body::ReuseSeen(*fields)),
-            Body::SubjectOut(fields) => {
-                let fields = fields.copy(alloc)?;
-                Ok(Body::SubjectOut(fields))
-            }
+            Body::SubjectOut(fields) => fields.copy(alloc).map(Body::SubjectOut),
         }
     }
 
@@ -150,29 +132,20 @@ impl Body {
     pub(crate) fn read(alloc: Global, reader: &mut Reader<'_>) -> Result<Body, ReadError>
         ensures { Gets (λ b. b) body result reader.old reader.new }
     {
-        match reader.take_u8().ok_or(ReadError::Malformed)? {
-            1 => Ok(Body::ClientAdded(ClientAdded::read(alloc, reader)?)),
-            2 => {
-                let fields = ClientRetired::read(reader).ok_or(ReadError::Malformed)?;
-                Ok(Body::ClientRetired(fields))
-            }
-            3 => Ok(Body::ConsentGiven(ConsentGiven::read(alloc, reader)?)),
-            4 => {
-                let fields = ConsentWithdrawn::read(reader).ok_or(ReadError::Malformed)?;
-                Ok(Body::ConsentWithdrawn(fields))
-            }
-            5 => Ok(Body::CodeIssued(CodeIssued::read(alloc, reader)?)),
-            6 => Ok(Body::CodeRedeemed(CodeRedeemed::read(alloc, reader)?)),
-            7 => Ok(Body::RefreshRotated(RefreshRotated::read(alloc, reader)?)),
-            8 => {
-                let fields = TokenRevoked::read(reader).ok_or(ReadError::Malformed)?;
-                Ok(Body::TokenRevoked(fields))
-            }
-            9 => {
-                let fields = ReuseSeen::read(reader).ok_or(ReadError::Malformed)?;
-                Ok(Body::ReuseSeen(fields))
-            }
-            10 => Ok(Body::SubjectOut(SubjectOut::read(alloc, reader)?)),
+        let Some(kind) = reader.take_u8() else {
+            return Err(ReadError::Malformed);
+        };
+        match kind {
+            1 => ClientAdded::read(alloc, reader).map(Body::ClientAdded),
+            2 => ClientRetired::read(reader).map(Body::ClientRetired),
+            3 => ConsentGiven::read(alloc, reader).map(Body::ConsentGiven),
+            4 => ConsentWithdrawn::read(reader).map(Body::ConsentWithdrawn),
+            5 => CodeIssued::read(alloc, reader).map(Body::CodeIssued),
+            6 => CodeRedeemed::read(alloc, reader).map(Body::CodeRedeemed),
+            7 => RefreshRotated::read(alloc, reader).map(Body::RefreshRotated),
+            8 => TokenRevoked::read(reader).map(Body::TokenRevoked),
+            9 => ReuseSeen::read(reader).map(Body::ReuseSeen),
+            10 => SubjectOut::read(alloc, reader).map(Body::SubjectOut),
             _ => Err(ReadError::Malformed),
         }
     }

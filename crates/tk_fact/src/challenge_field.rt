@@ -44,7 +44,9 @@ fn read_with(
 ) -> Result<Option<Challenge>, ReadError>
     ensures { GetsBy (via (challenge_with is_s256) challenge_bytes) result reader.old reader.new }
 {
-    let bytes = reader.take_text().ok_or(ReadError::Malformed)?;
+    let Some(bytes) = reader.take_text() else {
+        return Err(ReadError::Malformed);
+    };
     let method = if is_s256 {
         b"S256".as_slice()
     } else {

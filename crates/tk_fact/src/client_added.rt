@@ -27,10 +27,16 @@ impl ClientAdded {
     pub(crate) fn copy(&self, alloc: Global) -> Result<ClientAdded, AllocError>
         ensures { IfOk result (λ copy. copy ≡ self.now) }
     {
+        let Ok(scope) = self.scope.copy(alloc) else {
+            return Err(AllocError);
+        };
+        let Ok(redirects) = self.redirects.copy(alloc) else {
+            return Err(AllocError);
+        };
         Ok(ClientAdded {
             sort: self.sort,
-            scope: self.scope.copy(alloc)?,
-            redirects: self.redirects.copy(alloc)?,
+            scope,
+            redirects,
         })
     }
 
@@ -53,14 +59,18 @@ impl ClientAdded {
     pub(crate) fn read(alloc: Global, reader: &mut Reader<'_>) -> Result<ClientAdded, ReadError>
         ensures { Gets (λ f. f) client_added result reader.old reader.new }
     {
-        let sort = Sort::read(reader).ok_or(ReadError::Malformed)?;
+        let Some(sort) = Sort::read(reader) else {
+            return Err(ReadError::Malformed);
+        };
         let scope = read_scope(alloc, reader)?;
-        let redirects = read_redirects(alloc, reader)?;
-        Ok(ClientAdded {
-            sort,
-            scope,
-            redirects,
-        })
+        match read_redirects(alloc, reader) {
+            Ok(redirects) => Ok(ClientAdded {
+                sort,
+                scope,
+                redirects,
+            }),
+            Err(error) => Err(error),
+        }
     }
 
     pub(crate) fn write(&self, writer: &mut Writer) -> Result<(), AllocError>

@@ -1,7 +1,7 @@
 //! The fact that an authorization code was issued.
 
 ghost use Rattle.std.specs.Prelude.{◌≡◌, ◌++◌, ◌↔◌, IfOk, IsTrue, OnOk};
-ghost use Rattle.tk_fact.specs.Kinds.{code_issued};
+ghost use Rattle.tk_fact.specs.Kinds.{code_issued, code_times, code_bindings};
 ghost use Rattle.tk_format.specs.Reading.{Gets};
 
 use crate::challenge_field::{
@@ -50,6 +50,18 @@ impl CodeIssued {
     pub(crate) fn copy(&self, alloc: Global) -> Result<CodeIssued, AllocError>
         ensures { IfOk result (λ copy. copy ≡ self.now) }
     {
+        let Ok(subject) = self.subject.copy(alloc) else {
+            return Err(AllocError);
+        };
+        let Ok(scope) = self.scope.copy(alloc) else {
+            return Err(AllocError);
+        };
+        let Ok(uri) = self.uri.copy(alloc) else {
+            return Err(AllocError);
+        };
+        let Ok(challenge) = copy_challenge(alloc, &self.challenge) else {
+            return Err(AllocError);
+        };
         Ok(CodeIssued {
             client: self.client,
             consent: self.consent,
@@ -57,11 +69,11 @@ impl CodeIssued {
             start: self.start,
             expiry: self.expiry,
             family_end: self.family_end,
-            subject: self.subject.copy(alloc)?,
-            scope: self.scope.copy(alloc)?,
-            uri: self.uri.copy(alloc)?,
+            subject,
+            scope,
+            uri,
             sent: self.sent,
-            challenge: copy_challenge(alloc, &self.challenge)?,
+            challenge,
         })
     }
 
@@ -106,23 +118,33 @@ impl CodeIssued {
         let expiry = Moment::read(reader).ok_or(ReadError::Malformed)?;
         let family_end = Moment::read(reader).ok_or(ReadError::Malformed)?;
         let subject = Subject::read_from(alloc, reader)?;
-        let scope = read_scope(alloc, reader)?;
-        let uri = read_uri(alloc, reader)?;
-        let sent = read_flag(reader).ok_or(ReadError::Malformed)?;
-        let challenge = read_challenge(alloc, reader)?;
-        Ok(CodeIssued {
-            client,
-            consent,
-            digest,
-            start,
-            expiry,
-            family_end,
-            subject,
-            scope,
-            uri,
-            sent,
-            challenge,
-        })
+        let scope = match read_scope(alloc, reader) {
+            Ok(scope) => scope,
+            Err(error) => return Err(error),
+        };
+        let uri = match read_uri(alloc, reader) {
+            Ok(uri) => uri,
+            Err(error) => return Err(error),
+        };
+        let Some(sent) = read_flag(reader) else {
+            return Err(ReadError::Malformed);
+        };
+        match read_challenge(alloc, reader) {
+            Ok(challenge) => Ok(CodeIssued {
+                client,
+                consent,
+                digest,
+                start,
+                expiry,
+                family_end,
+                subject,
+                scope,
+                uri,
+                sent,
+                challenge,
+            }),
+            Err(error) => Err(error),
+        }
     }
 
     pub(crate) fn write(&self, writer: &mut Writer) -> Result<(), AllocError>
@@ -131,15 +153,27 @@ impl CodeIssued {
     {
         self.client.write(writer)?;
         self.consent.write(writer)?;
+        self.write_times(writer)?;
+        self.subject.write(writer)?;
+        write_scope(&self.scope, writer)?;
+        self.write_bindings(writer)
+    }
+
+    fn write_times(&self, writer: &mut Writer) -> Result<(), AllocError>
+        ensures { OnOk result (writer.new ≡ writer.old ++ code_times.spell (self.now.digest, (self.now.start, (self.now.expiry, self.now.family_end)))) }
+    {
         writer.put_bytes(&self.digest)?;
         self.start.write(writer)?;
         self.expiry.write(writer)?;
-        self.family_end.write(writer)?;
-        self.subject.write(writer)?;
-        write_scope(&self.scope, writer)?;
+        self.family_end.write(writer)
+    }
+
+    fn write_bindings(&self, writer: &mut Writer) -> Result<(), AllocError>
+        requires { code_issued.Fits self.now }
+        ensures { OnOk result (writer.new ≡ writer.old ++ code_bindings.spell (self.now.uri, (self.now.sent, self.now.challenge))) }
+    {
         write_uri(&self.uri, writer)?;
         write_flag(self.sent, writer)?;
-        write_challenge(&self.challenge, writer)?;
-        Ok(())
+        write_challenge(&self.challenge, writer)
     }
 }

@@ -26,11 +26,17 @@ impl CodeRedeemed {
     pub(crate) fn copy(&self, alloc: Global) -> Result<CodeRedeemed, AllocError>
         ensures { IfOk result (λ copy. copy ≡ self.now) }
     {
+        let Ok(access) = self.access.copy(alloc) else {
+            return Err(AllocError);
+        };
+        let Ok(refresh) = self.refresh.copy(alloc) else {
+            return Err(AllocError);
+        };
         Ok(CodeRedeemed {
             code: self.code,
             start: self.start,
-            access: self.access.copy(alloc)?,
-            refresh: self.refresh.copy(alloc)?,
+            access,
+            refresh,
         })
     }
 
@@ -55,16 +61,22 @@ impl CodeRedeemed {
     pub(crate) fn read(alloc: Global, reader: &mut Reader<'_>) -> Result<CodeRedeemed, ReadError>
         ensures { Gets (λ f. f) code_redeemed result reader.old reader.new }
     {
-        let code = Dot::read(reader).ok_or(ReadError::Malformed)?;
-        let start = Moment::read(reader).ok_or(ReadError::Malformed)?;
+        let Some(code) = Dot::read(reader) else {
+            return Err(ReadError::Malformed);
+        };
+        let Some(start) = Moment::read(reader) else {
+            return Err(ReadError::Malformed);
+        };
         let access = MintedToken::read(alloc, reader)?;
-        let refresh = MintedToken::read(alloc, reader)?;
-        Ok(CodeRedeemed {
-            code,
-            start,
-            access,
-            refresh,
-        })
+        match MintedToken::read(alloc, reader) {
+            Ok(refresh) => Ok(CodeRedeemed {
+                code,
+                start,
+                access,
+                refresh,
+            }),
+            Err(error) => Err(error),
+        }
     }
 
     pub(crate) fn write(&self, writer: &mut Writer) -> Result<(), AllocError>

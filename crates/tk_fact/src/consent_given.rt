@@ -26,10 +26,16 @@ impl ConsentGiven {
     pub(crate) fn copy(&self, alloc: Global) -> Result<ConsentGiven, AllocError>
         ensures { IfOk result (λ copy. copy ≡ self.now) }
     {
+        let Ok(subject) = self.subject.copy(alloc) else {
+            return Err(AllocError);
+        };
+        let Ok(scope) = self.scope.copy(alloc) else {
+            return Err(AllocError);
+        };
         Ok(ConsentGiven {
             client: self.client,
-            subject: self.subject.copy(alloc)?,
-            scope: self.scope.copy(alloc)?,
+            subject,
+            scope,
         })
     }
 
@@ -52,14 +58,18 @@ impl ConsentGiven {
     pub(crate) fn read(alloc: Global, reader: &mut Reader<'_>) -> Result<ConsentGiven, ReadError>
         ensures { Gets (λ f. f) consent_given result reader.old reader.new }
     {
-        let client = Dot::read(reader).ok_or(ReadError::Malformed)?;
+        let Some(client) = Dot::read(reader) else {
+            return Err(ReadError::Malformed);
+        };
         let subject = Subject::read_from(alloc, reader)?;
-        let scope = read_scope(alloc, reader)?;
-        Ok(ConsentGiven {
-            client,
-            subject,
-            scope,
-        })
+        match read_scope(alloc, reader) {
+            Ok(scope) => Ok(ConsentGiven {
+                client,
+                subject,
+                scope,
+            }),
+            Err(error) => Err(error),
+        }
     }
 
     pub(crate) fn write(&self, writer: &mut Writer) -> Result<(), AllocError>

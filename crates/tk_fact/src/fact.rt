@@ -24,7 +24,8 @@ impl Model for Fact {
     ghost inverse = { λ p. record { dot = p.0; body = p.1 } };
 }
 
-ghost use Rattle.std.specs.Prelude.{◌≡◌, ◌≢◌, ◌≤◌, ◌++◌, ◌↔◌, length, None, Some, IfOk, IfErr, IsErrOf, IsTrue, OnErr, OnOk};
+ghost use Rattle.std.specs.Prelude.{◌≡◌, ◌≢◌, ◌≤◌, ◌++◌, ◌↔◌, length, false, None, Some, IfOk, IfErr, IsErrOf, IsTrue, OnErr, OnOk};
+ghost use Rattle.tk_fact.specs.FactBytes.{passes};
 ghost use Rattle.tk_format.specs.Reading.{Gets, GetsAll};
 
 use crate::check::{FactError, check_body};
@@ -126,16 +127,30 @@ impl Spelled for Fact {
     ghost format = { fact };
 
     fn read_from(alloc: Global, reader: &mut Reader<'_>) -> Result<Fact, ReadError> {
-        let dot = Dot::read(reader).ok_or(ReadError::Malformed)?;
-        let body = Body::read(alloc, reader)?;
-        let fact = Fact { dot, body };
-        match fact.check() {
-            Ok(()) => Ok(fact),
-            Err(_) => Err(ReadError::Malformed),
+        let Some(dot) = Dot::read(reader) else {
+            return Err(ReadError::Malformed);
+        };
+        match Body::read(alloc, reader) {
+            Ok(body) => checked(Fact { dot, body }),
+            Err(error) => Err(error),
         }
     }
 
     ghost exact = { fact_exact };
+}
+
+// The fact where it passes its check.
+fn checked(read: Fact) -> Result<Fact, ReadError>
+    ensures ok { IfOk result (λ f. (f ≡ read) × IsTrue (passes f)) }
+    ensures err { IfErr result (λ e. (e ≡ ReadError.Malformed) × (passes read ≡ false)) }
+{
+    match read.check() {
+        Ok(()) => Ok(read),
+        Err(_) => {
+            drop(read);
+            Err(ReadError::Malformed)
+        }
+    }
 }
 
 // A fact behind its length, as bundles have it.
@@ -145,7 +160,9 @@ impl FromBytes for Fact {
     ghost value_at = { framed.read };
 
     fn read_from(alloc: Global, reader: &mut Reader<'_>) -> Result<Fact, ReadError> {
-        let bytes = reader.take_text().ok_or(ReadError::Malformed)?;
+        let Some(bytes) = reader.take_text() else {
+            return Err(ReadError::Malformed);
+        };
         if bytes.len() > Fact::MOST_BYTES {
             return Err(ReadError::Malformed);
         }

@@ -55,6 +55,3 @@ pub use subject::{Subject, SubjectError};
 pub use subject_out::SubjectOut;
 pub use token_revoked::TokenRevoked;
 pub use tokens::Minted;
-
-#[cfg(test)]
-mod tests;

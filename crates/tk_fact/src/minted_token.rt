@@ -26,10 +26,13 @@ impl MintedToken {
     pub(crate) fn copy(&self, alloc: Global) -> Result<MintedToken, AllocError>
         ensures { IfOk result (λ copy. copy ≡ self.now) }
     {
+        let Ok(scope) = self.scope.copy(alloc) else {
+            return Err(AllocError);
+        };
         Ok(MintedToken {
             digest: self.digest,
             end: self.end,
-            scope: self.scope.copy(alloc)?,
+            scope,
         })
     }
 
@@ -51,10 +54,16 @@ impl MintedToken {
     pub(crate) fn read(alloc: Global, reader: &mut Reader<'_>) -> Result<MintedToken, ReadError>
         ensures { Gets (λ m. m) minted_field result reader.old reader.new }
     {
-        let digest = read_digest(reader).ok_or(ReadError::Malformed)?;
-        let end = Moment::read(reader).ok_or(ReadError::Malformed)?;
-        let scope = read_scope(alloc, reader)?;
-        Ok(MintedToken { digest, end, scope })
+        let Some(digest) = read_digest(reader) else {
+            return Err(ReadError::Malformed);
+        };
+        let Some(end) = Moment::read(reader) else {
+            return Err(ReadError::Malformed);
+        };
+        match read_scope(alloc, reader) {
+            Ok(scope) => Ok(MintedToken { digest, end, scope }),
+            Err(error) => Err(error),
+        }
     }
 
     pub(crate) fn write(&self, writer: &mut Writer) -> Result<(), AllocError>

@@ -20,9 +20,13 @@ pub(crate) fn known_redirects(redirects: &Redirects)
 pub(crate) fn read_redirects(alloc: Global, reader: &mut Reader<'_>) -> Result<Redirects, ReadError>
     ensures { Gets (λ r. r) redirects_field result reader.old reader.new }
 {
-    let count = reader.take_u8().ok_or(ReadError::Malformed)?;
+    let Some(count) = reader.take_u8() else {
+        return Err(ReadError::Malformed);
+    };
     let uris = read_texts(alloc, count, reader)?;
-    match Redirects::kept(alloc, &uris) {
+    let kept = Redirects::kept(alloc, &uris);
+    drop(uris);
+    match kept {
         Ok(redirects) => Ok(redirects),
         Err(RedirectError::Empty) => Err(ReadError::Malformed),
         Err(RedirectError::TooMany) => Err(ReadError::Malformed),

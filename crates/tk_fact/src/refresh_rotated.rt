@@ -28,12 +28,18 @@ impl RefreshRotated {
     pub(crate) fn copy(&self, alloc: Global) -> Result<RefreshRotated, AllocError>
         ensures { IfOk result (λ copy. copy ≡ self.now) }
     {
+        let Ok(access) = self.access.copy(alloc) else {
+            return Err(AllocError);
+        };
+        let Ok(refresh) = self.refresh.copy(alloc) else {
+            return Err(AllocError);
+        };
         Ok(RefreshRotated {
             parent: self.parent,
             generation: self.generation,
             start: self.start,
-            access: self.access.copy(alloc)?,
-            refresh: self.refresh.copy(alloc)?,
+            access,
+            refresh,
         })
     }
 
@@ -60,18 +66,26 @@ impl RefreshRotated {
     pub(crate) fn read(alloc: Global, reader: &mut Reader<'_>) -> Result<RefreshRotated, ReadError>
         ensures { Gets (λ f. f) refresh_rotated result reader.old reader.new }
     {
-        let parent = Dot::read(reader).ok_or(ReadError::Malformed)?;
-        let generation = reader.take_u16().ok_or(ReadError::Malformed)?;
-        let start = Moment::read(reader).ok_or(ReadError::Malformed)?;
+        let Some(parent) = Dot::read(reader) else {
+            return Err(ReadError::Malformed);
+        };
+        let Some(generation) = reader.take_u16() else {
+            return Err(ReadError::Malformed);
+        };
+        let Some(start) = Moment::read(reader) else {
+            return Err(ReadError::Malformed);
+        };
         let access = MintedToken::read(alloc, reader)?;
-        let refresh = MintedToken::read(alloc, reader)?;
-        Ok(RefreshRotated {
-            parent,
-            generation,
-            start,
-            access,
-            refresh,
-        })
+        match MintedToken::read(alloc, reader) {
+            Ok(refresh) => Ok(RefreshRotated {
+                parent,
+                generation,
+                start,
+                access,
+                refresh,
+            }),
+            Err(error) => Err(error),
+        }
     }
 
     pub(crate) fn write(&self, writer: &mut Writer) -> Result<(), AllocError>

@@ -17,12 +17,15 @@ pub(crate) fn known_scope(scope: &Scope)
 pub(crate) fn read_scope(alloc: Global, reader: &mut Reader<'_>) -> Result<Scope, ReadError>
     ensures { Gets (λ s. s) scope_field result reader.old reader.new }
 {
-    let bytes = reader.take_text().ok_or(ReadError::Malformed)?;
+    let Some(bytes) = reader.take_text() else {
+        return Err(ReadError::Malformed);
+    };
     match Scope::read(alloc, bytes) {
         Ok(scope) => {
             if scope.text().as_bytes() == bytes {
                 Ok(scope)
             } else {
+                drop(scope);
                 Err(ReadError::Malformed)
             }
         }

@@ -112,7 +112,9 @@ impl Subject {
     pub(crate) fn read_from(alloc: Global, reader: &mut Reader<'_>) -> Result<Subject, ReadError>
         ensures { Gets (λ subject. subject) subject_field result reader.old reader.new }
     {
-        let bytes = reader.take_text().ok_or(ReadError::Malformed)?;
+        let Some(bytes) = reader.take_text() else {
+            return Err(ReadError::Malformed);
+        };
         match Subject::read(alloc, bytes) {
             Ok(subject) => Ok(subject),
             Err(SubjectError::Malformed) => Err(ReadError::Malformed),

@@ -22,8 +22,11 @@ impl SubjectOut {
     pub(crate) fn copy(&self, alloc: Global) -> Result<SubjectOut, AllocError>
         ensures { IfOk result (λ copy. copy ≡ self.now) }
     {
+        let Ok(subject) = self.subject.copy(alloc) else {
+            return Err(AllocError);
+        };
         Ok(SubjectOut {
-            subject: self.subject.copy(alloc)?,
+            subject,
             moment: self.moment,
         })
     }
@@ -45,7 +48,9 @@ impl SubjectOut {
         ensures { Gets (λ f. f) subject_out result reader.old reader.new }
     {
         let subject = Subject::read_from(alloc, reader)?;
-        let moment = Moment::read(reader).ok_or(ReadError::Malformed)?;
+        let Some(moment) = Moment::read(reader) else {
+            return Err(ReadError::Malformed);
+        };
         Ok(SubjectOut { subject, moment })
     }
 

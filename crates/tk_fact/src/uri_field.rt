@@ -18,7 +18,9 @@ pub(crate) fn known_uri(uri: &Uri)
 pub(crate) fn read_uri(alloc: Global, reader: &mut Reader<'_>) -> Result<Uri, ReadError>
     ensures { Gets (λ u. u) uri_field result reader.old reader.new }
 {
-    let bytes = reader.take_text().ok_or(ReadError::Malformed)?;
+    let Some(bytes) = reader.take_text() else {
+        return Err(ReadError::Malformed);
+    };
     match Uri::read(alloc, bytes) {
         Ok(uri) => Ok(uri),
         Err(RedirectError::Memory) => Err(ReadError::Memory),

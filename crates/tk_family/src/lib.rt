@@ -42,6 +42,3 @@ pub use laws::{
 pub use link::{Link, fits, grant, named, rank, used};
 pub use steps::Steps;
 pub use top::Top;
-
-#[cfg(test)]
-mod tests;

@@ -27,6 +27,3 @@ fn digits(text: &[u8]) -> Option<u64>
     };
     text.parse::<u64>().ok()
 }
-
-#[cfg(test)]
-mod tests;

@@ -34,6 +34,3 @@ pub use numeral::{Numeral, read_numeral};
 pub use reader::Reader;
 pub use spelled::{Spelled, read_all};
 pub use writer::Writer;
-
-#[cfg(test)]
-mod tests;

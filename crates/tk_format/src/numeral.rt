@@ -73,6 +73,3 @@ fn digit_of(digit: u8) -> u64
 {
     u64::from(digit - b'0')
 }
-
-#[cfg(test)]
-mod tests;

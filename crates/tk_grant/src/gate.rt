@@ -14,7 +14,7 @@ use tk_handle::{Dot, Handle, Kind, Moment, TokenId};
 use tk_ledger::{Ledger, Standing, State, Status};
 
 // Whether the code or refresh token that was sent serves.
-#[derive(Debug, Drop)]
+#[derive(Drop)]
 pub(crate) enum Gate<'a> {
     // It doesn't.
     Shut(Refusal),

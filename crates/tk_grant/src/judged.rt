@@ -4,7 +4,7 @@ use tk_handle::{Dot, Moment, TokenId};
 use tk_scope::Scope;
 
 // What tokens are minted for: they descend from the code or refresh token that was sent.
-#[derive(Debug, Drop)]
+#[derive(Drop)]
 pub(crate) struct Grant {
     // Where the fact stands that minted what was sent.
     pub(crate) from: Dot,
@@ -17,7 +17,7 @@ pub(crate) struct Grant {
 }
 
 // What a token request comes to.
-#[derive(Debug, Drop)]
+#[derive(Drop)]
 pub(crate) enum Judged {
     Refused(Refusal),
     // The code or refresh token was used before.

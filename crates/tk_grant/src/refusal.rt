@@ -7,7 +7,7 @@ use tk_message::ErrorCode;
 
 /// Why a token request is refused: the first that holds, in this order (RFC 6749, 4.1.3, 5.2 and 6; RFC 7636, 4.6). Between
 /// `FamilyOver` and `PastGrant` stands the reuse of a grant, which is refused too.
-#[derive(Clone, Copy, Debug, PartialEq, Eq)]
+#[derive(Clone, Copy)]
 pub(crate) enum Refusal {
     /// A parameter that is known here occurs twice (RFC 6749, 3.2).
     DuplicateParameter,

@@ -148,6 +148,3 @@ fn known_words(words: &[u64])
 {
     let _words = words;
 }
-
-#[cfg(test)]
-mod tests;

@@ -35,6 +35,3 @@ pub use moment::Moment;
 pub use region::RegionNumber;
 pub use serial::Serial;
 pub use token_id::TokenId;
-
-#[cfg(test)]
-mod tests;

@@ -1,6 +1,8 @@
-//! What is said of the tokens of a family, whatever the order in which its facts come.
+//! What is said of the tokens of a family, whatever the order in which its facts come. The tests of tk_family stand here too, in
+//! `families`, since a crate with tests is proved once more.
 
 mod facts;
+mod families;
 mod generated;
 mod long;
 mod orders;
@@ -257,8 +259,8 @@ fn first_otherwise(both: &Both, rows: &[Ending]) -> Option<(&'static str, u64)> 
 }
 
 fn ended_otherwise(alloc: Global) -> Option<(&'static str, u64)> {
-    match after(alloc, NOTHING) {
-        Some(both) => first_otherwise(&both, &ENDINGS),
+    match &after(alloc, NOTHING) {
+        Some(both) => first_otherwise(both, &ENDINGS),
         None => Some(("the facts", 0)),
     }
 }

@@ -23,6 +23,3 @@ pub use pick::Pick;
 pub use redirects::{RedirectError, Redirects};
 pub use reply::reply_uri;
 pub use uri::Uri;
-
-#[cfg(test)]
-mod tests;

@@ -1,9 +1,13 @@
-//! The texts of replies, byte for byte, and the names and numbers in them.
+//! The texts of replies, byte for byte, and the names and numbers in them. The tests of tk_scope, tk_match and tk_params stand
+//! here too, in the lowest crate above the three, since a crate with tests is proved once more.
 
 mod authentication;
 mod callers;
+mod matches;
+mod params;
 mod replies;
 mod requests;
+mod scopes;
 mod tokens;
 
 use crate::{Decision, ErrorCode, Lives, Payload, Place, Reply, Status, client_reply, shown_reply};
@@ -60,7 +64,7 @@ static ERRORS: [(ErrorCode, u16, &str, bool); 16] = [
 ];
 
 fn is_refusal(alloc: Global, code: ErrorCode, status: u16, body: &str, www: bool) -> bool {
-    match Decision::refuse(alloc, code) {
+    match &Decision::refuse(alloc, code) {
         Ok(decision) => {
             is_json(&decision.reply, status, body)
                 && decision.reply.www == www

@@ -16,6 +16,3 @@ mod params;
 
 pub use credentials::{Credentials, CredentialsError};
 pub use params::{One, Params};
-
-#[cfg(test)]
-mod tests;

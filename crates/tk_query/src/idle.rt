@@ -2,7 +2,7 @@
 
 /// Why there is nothing to revoke, which is no error: the first that holds, in this order (RFC 7009, 2.2). Between
 /// `DeadFamily` and `Revoked` stands a token of another client's, which is refused.
-#[derive(Clone, Copy, Debug, PartialEq, Eq)]
+#[derive(Clone, Copy)]
 pub(crate) enum Idle {
     /// The text is no handle.
     NoHandle,

@@ -3,7 +3,7 @@
 use tk_ledger::Standing;
 
 // What is known of a token to who asks.
-#[derive(Debug, Drop)]
+#[derive(Drop)]
 pub(crate) enum Introspected<'a> {
     Refused(Refusal),
     // It isn't active, or isn't the asker's to see.

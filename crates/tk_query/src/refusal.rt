@@ -6,7 +6,7 @@ ghost use Rattle.tk_query.specs.Refusal.{refusal_code};
 use tk_message::ErrorCode;
 
 /// Why a request is refused: the first that holds, in this order (RFC 7662, 2.1 and 2.3; RFC 7009, 2.1 and 2.2.1).
-#[derive(Clone, Copy, Debug, PartialEq, Eq)]
+#[derive(Clone, Copy)]
 pub(crate) enum Refusal {
     /// A parameter that is known here occurs twice (RFC 6749, 3.2).
     DuplicateParameter,

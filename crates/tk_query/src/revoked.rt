@@ -3,7 +3,7 @@
 use tk_fact::TokenRevoked;
 
 // What a revocation comes to.
-#[derive(Debug, Drop)]
+#[derive(Drop)]
 pub(crate) enum Revocation {
     Refused(Refusal),
     // Nothing is left to revoke.

@@ -54,7 +54,7 @@ fn bundle_of(alloc: Global, facts: &[Retired]) -> Option<Vec<u8>> {
 }
 
 fn is_bundle(alloc: Global, bytes: &[u8], facts: &[Retired]) -> bool {
-    match bundle_of(alloc, facts) {
+    match &bundle_of(alloc, facts) {
         Some(bundle) => bundle.as_slice() == bytes,
         None => false,
     }
@@ -62,7 +62,7 @@ fn is_bundle(alloc: Global, bytes: &[u8], facts: &[Retired]) -> bool {
 
 // Whether the region holds these facts alone: by their number, and as one bundle.
 fn holds(alloc: Global, region: &Region, facts: &[Retired]) -> bool {
-    match region.page(alloc, &VersionVector::new(alloc), None) {
+    match &region.page(alloc, &VersionVector::new(alloc), None) {
         Ok(page) => {
             region.len() == facts.len() as u64 && is_bundle(alloc, page.bytes.as_slice(), facts)
         }
@@ -242,7 +242,7 @@ fn is_recorded(handled: &Handled, record: &[u8]) -> bool {
 // Whether the region makes the fact, and records it.
 fn makes(alloc: Global, region: &mut Region, fact: Retired) -> Option<bool> {
     let handled = retire(alloc, region, fact.1)?;
-    match bundle_of(alloc, &[fact]) {
+    match &bundle_of(alloc, &[fact]) {
         Some(record) => Some(is_recorded(&handled, record.as_slice())),
         None => None,
     }
@@ -250,7 +250,7 @@ fn makes(alloc: Global, region: &mut Region, fact: Retired) -> Option<bool> {
 
 // Whether the region makes no fact, for its cap.
 fn is_full(alloc: Global, region: &mut Region) -> bool {
-    match retire(alloc, region, (1, 9)) {
+    match &retire(alloc, region, (1, 9)) {
         Some(refused) => {
             let body = "{\"error\":\"temporarily_unavailable\"}";
             refused.logged.is_none() && is_json(&refused.reply, 503, body)

@@ -21,6 +21,3 @@ mod tokens;
 
 pub use error::ScopeError;
 pub use scope::{MAX_BYTES, MAX_TOKENS, Scope};
-
-#[cfg(test)]
-mod tests;

@@ -23,6 +23,3 @@ pub use join::stores_join;
 pub use laws::paging_completes;
 pub use store::{AddError, Added, FactStore};
 pub use walk::Facts;
-
-#[cfg(test)]
-mod tests;

@@ -95,11 +95,12 @@ impl FactStore {
     {
         match self.facts.get(fact.dot) {
             Some(held) => {
-                if held.body.same(&fact.body) {
-                    Ok(Added::Held)
-                } else {
-                    Err(AddError::Conflict)
+                let is_held = held.body.same(&fact.body);
+                drop(fact);
+                if is_held {
+                    return Ok(Added::Held);
                 }
+                Err(AddError::Conflict)
             }
             None => match add_new(&mut self.facts, &mut self.front, fact) {
                 Ok(()) => Ok(Added::New),
@@ -190,7 +191,7 @@ fn add_new(facts: &mut Table, front: &mut VersionVector, fact: Fact) -> Result<(
     let dot = fact.dot;
     facts.put(fact)?;
     if let Err(error) = advance(facts, front, dot) {
-        facts.take(dot);
+        drop(facts.take(dot));
         return Err(error);
     }
     Ok(())

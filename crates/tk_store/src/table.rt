@@ -79,7 +79,7 @@ impl Table {
     {
         let dot = fact.dot;
         let _serial = dot.serial();
-        self.held.insert(dot, fact)?;
+        drop(self.held.insert(dot, fact)?);
         Ok(())
     }
 

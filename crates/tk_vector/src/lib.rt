@@ -18,6 +18,3 @@ mod vector;
 
 pub use join::{Join, JoinError};
 pub use vector::{VersionVector, vectors_join};
-
-#[cfg(test)]
-mod tests;

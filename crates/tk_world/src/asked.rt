@@ -4,7 +4,7 @@ use std::marker::Model;
 use tk_handle::Moment;
 
 /// The bytes of a stream, and what comes with them: the moment, and six random words.
-#[derive(Debug, Drop)]
+#[derive(Drop)]
 pub(crate) struct Asked<'a> {
     pub(crate) now: Moment,
     pub(crate) words: &'a [u64; 6],

@@ -1,16 +1,18 @@
 -- What the words of the command line ask for, by what clap says of them.
-use Rattle.std.proofs.Common.{◌≡◌, ℕ, true, List, Option, Some, None, option_map, Result, Ok, Err, inl, inr, refl, sym, ap, subst, ◌∙◌, codes}
+use Rattle.std.proofs.Common.{◌≡◌, ℕ, true, List, [], Option, Some, None, option_map, Result, Ok, Err, inl, inr, refl, sym, ap, subst, ◌∙◌, codes}
 use Rattle.std.specs.Prelude.{string_bytes}
-use Rattle.std.specs.Prelude.{◌⊎◌, IfErr, IfNone, IsErrAnd}
-use Rattle.clap.specs.Words.{App, HasMatchesOf, Row, Text, FailsBy, IsAmong, fault_of, first_of, is_simple_and_free, kind_of, subcommand_of, subcommand_rows_of}
+use Rattle.std.specs.Prelude.{◌⊎◌, IfErr, IfNone, IfOk, IfSome}
+use Rattle.clap.specs.Words.{App, HasMatchesOf, Row, Text, FailsBy, fault_of, first_of, is_simple_and_free, kind_of, subcommand_of, subcommand_rows_of}
 use Rattle.clap.specs.declared.parser.matches.ArgMatches.{ArgMatches}
 use Rattle.clap.specs.declared.error.Error.{Error}
 use Rattle.clap.specs.declared.error.kind.ErrorKind.TheVariants as kind
 use Rattle.tk_handle.specs.Ranges.{greatest_region}
 use Rattle.tk_region.specs.SettingsFields.{greatest_code, greatest_access, greatest_refresh, greatest_family, greatest_cap}
 use Rattle.tokend.specs.CommandLine.{HasNumber, HasNumbers, HasService, greatest_port, tokend_app}
-use Rattle.tokend.specs.Task.{IsNoService, IsNoTask, IsRefusalOf}
+use Rattle.tokend.specs.Task.{Asks, IsNoService, IsNoTask, IsRefusalOf, IsTask}
 use Rattle.tokend.specs.declared.options.Numbers.{Numbers}
+use Rattle.tokend.specs.declared.options.Service.{Service}
+use Rattle.tokend.specs.declared.options.Task.{Task}
 use Rattle.tokend.specs.declared.options.Task.TheVariants.{Script, Loopback, Serve}
 
 -- the rows of a subcommand are one
@@ -56,7 +58,7 @@ no_loopback found rows named at none (Serve service) h = not_serve (other_name f
     not_serve e = absurd (cc)
 
 -- nor is a service without its own
-pub no_service : (found : Option (Text × List Row)) (rows : List Row) → option_map (λ p. p.0) found ≡ Some (codes "serve")
+no_service : (found : Option (Text × List Row)) (rows : List Row) → option_map (λ p. p.0) found ≡ Some (codes "serve")
     → option_map (λ p. p.1) found ≡ Some rows → IsNoService rows → IsNoTask found
 no_service found rows named at none (Script numbers) h = not_script (other_name found h.0 _ _ named h.1)
   where
@@ -68,6 +70,29 @@ no_service found rows named at none (Loopback numbers) h = not_loopback (other_n
     not_loopback e = absurd (cc)
 no_service found rows named at none (Serve service) h =
     none service (subst (λ r. HasService r service) (sym (one_rows found rows h.0 _ at h.1)) h.2)
+
+-- a subcommand and its rows
+found_is : (found : Option (Text × List Row)) (name : Text) (rows : List Row) → option_map (λ p. p.0) found ≡ Some name
+    → option_map (λ p. p.1) found ≡ Some rows → found ≡ Some (name, rows)
+found_is None name rows named at = absurd (cc)
+found_is (Some (n, r)) name rows named at = cc
+
+-- a service is the task
+pub is_service : {E : Type 0} (found : Option (Text × List Row)) (rows : List Row) (r : Result (Option Task) E)
+    → option_map (λ p. p.0) found ≡ Some (codes "serve") → option_map (λ p. p.1) found ≡ Some rows
+    → IfOk r (λ read. IfSome read (λ t. (s : Service) × (t ≡ Serve s) × HasService rows s)) → IfOk r (λ read. IfSome read (IsTask found))
+is_service found rows (Ok (Some task)) named at h =
+    subst (λ t. IsTask found t) (sym h.1) (rows, found_is found _ rows named at, h.2)
+is_service found rows (Ok None) named at h = tt
+is_service found rows (Err e) named at h = tt
+
+-- and where there is none, there is no task
+pub is_no_service : {E : Type 0} (found : Option (Text × List Row)) (rows : List Row) (r : Result (Option Task) E)
+    → option_map (λ p. p.0) found ≡ Some (codes "serve") → option_map (λ p. p.1) found ≡ Some rows
+    → IfOk r (λ read. IfNone read (IsNoService rows)) → IfOk r (λ read. IfNone read (IsNoTask found))
+is_no_service found rows (Ok (Some task)) named at h = tt
+is_no_service found rows (Ok None) named at h = no_service found rows named at h
+is_no_service found rows (Err e) named at h = tt
 
 -- where one of the numbers is none, the rows have no settings
 module _ {T : Type 0} (rows : List Row) (r : Option T) where
@@ -120,12 +145,25 @@ fails_by app words r is h =
     subst (λ a. (is_simple_and_free a ≡ true → FailsBy (fault_of a words) r)) is h refl
 
 -- and where it gives up, that is why
-pub refused_by : {T U : Type 0} (words : List Text) (r : Result T Error) (e : Error) (s : Result U Error) → r ≡ Err e
-    → FailsBy (fault_of tokend_app words) r → IsErrAnd s (λ y. y ≡ e)
-    → IfErr s (λ y. (kind_of y ≡ kind.OutOfMemory) ⊎ IsRefusalOf words (kind_of y))
-refused_by words r e (Ok x) is fails same = tt
-refused_by {T} words r e (Err y) is fails same =
+pub refused_by : {T : Type 0} (words : List Text) (r : Result T Error) (e : Error) → r ≡ Err e → FailsBy (fault_of tokend_app words) r
+    → (kind_of e ≡ kind.OutOfMemory) ⊎ IsRefusalOf words (kind_of e)
+refused_by {T} words r e is fails =
     elim (subst (λ (q : Result T Error). FailsBy (fault_of tokend_app words) q) is fails) [
-      | inl memory ↦ inl (ap kind_of same ∙ memory)
-      | inr among ↦ inr (inl (subst (λ z. IsAmong (kind_of z) (fault_of tokend_app words)) (sym same) among))
+      | inl memory ↦ inl memory
+      | inr among ↦ inr (inl among)
     ]
+
+-- where it finds none, the matches' task is the words'
+pub asked_by : (words : List Text) (m : ArgMatches) (r : Result Task Error) → fault_of tokend_app words ≡ []
+    → subcommand_rows_of m ≡ subcommand_of tokend_app words → IfOk r (IsTask (subcommand_rows_of m)) → IfOk r (Asks words)
+asked_by words m (Ok task) none same h = (none, subst (λ found. IsTask found task) same h)
+asked_by words m (Err e) none same h = tt
+
+-- and where they have none, the words have none
+pub unasked_by : (words : List Text) (m : ArgMatches) (r : Result Task Error) → fault_of tokend_app words ≡ []
+    → subcommand_rows_of m ≡ subcommand_of tokend_app words
+    → IfErr r (λ e. (kind_of e ≡ kind.OutOfMemory) ⊎ ((kind_of e ≡ kind.MissingSubcommand) × IsNoTask (subcommand_rows_of m)))
+    → IfErr r (λ e. (kind_of e ≡ kind.OutOfMemory) ⊎ IsRefusalOf words (kind_of e))
+unasked_by words m (Ok task) none same h = tt
+unasked_by words m (Err e) none same (inl memory) = inl memory
+unasked_by words m (Err e) none same (inr missing) = inr (inr (missing.0, none, subst IsNoTask same missing.1))

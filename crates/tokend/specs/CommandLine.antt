@@ -46,14 +46,16 @@ script_app = with_setting_rules (new_app (codes "script"))
 abbrev pub loopback_app : App
 loopback_app = with_setting_rules (new_app (codes "loopback"))
 
--- `serve`, with the region's number, the port and the seed, which must be given; the log, an old log, and how many connections
+-- the seed, which must be given; the log, and an old log
+abbrev pub with_file_rules : App → App
+with_file_rules app =
+    with_rule (with_rule (with_rule app (file_rule (codes "seed") true)) (file_rule (codes "log") false)) (file_rule (codes "load") false)
+
+-- `serve`, with the region's number and the port, which must be given; the files, and how many connections
 abbrev pub serve_app : App
-serve_app = with_setting_rules (with_rule (with_rule (with_rule (with_rule (with_rule (with_rule (new_app (codes "serve"))
+serve_app = with_setting_rules (with_rule (with_file_rules (with_rule (with_rule (new_app (codes "serve"))
     (range_rule (codes "region") 1 greatest_region true))
-    (range_rule (codes "port") 0 greatest_port true))
-    (file_rule (codes "seed") true))
-    (file_rule (codes "log") false))
-    (file_rule (codes "load") false))
+    (range_rule (codes "port") 0 greatest_port true)))
     (range_rule (codes "requests") 0 greatest_requests false))
 
 -- the program has a version, and wants a subcommand; of events there are these two

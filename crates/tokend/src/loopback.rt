@@ -37,10 +37,25 @@ where
     let Ok(listener) = TcpListener::bind(rt, (Ipv4Addr::new(127, 0, 0, 1), 0)) else {
         return Err(Fault::CannotListen);
     };
+    run_on(rt, &listener, settings, events)
+}
+
+// Runs them with the requests through this listener.
+fn run_on<R>(
+    rt: &R,
+    listener: &TcpListener,
+    settings: Settings,
+    events: &[Event],
+) -> Result<Vec<Outcome>, Fault>
+where
+    R: AllocGlobal + Clock + Net<Listener = TcpListener, Stream = TcpStream>,
+    ensures run { IfOk result (λ outcomes. (end : Sites) × SiteRun (no_sites settings) events.now outcomes.items end) }
+    ensures fault { IfErr result IsSocketFault }
+{
     let mut regions = Regions::new(rt.alloc(), settings);
     let mut outcomes = Vec::new(rt.alloc());
     for event in events {
-        let outcome = regions.step(rt, &listener, event)?;
+        let outcome = regions.step(rt, listener, event)?;
         outcomes.push(outcome)?;
     }
     Ok(outcomes)

@@ -5,11 +5,12 @@
 //! or a request does is decided below, and what its line says and prints; here stand the words, the script, sockets, files and clocks, and the exit statuses:
 //! 0 done, 1 memory or a device, 2 bad words, or a bad script, seed or log.
 //!
-//! In reading order: `options` (the words of the command line), `script` (the input as events); `draw` (random words), `timed` (a connection's time),
+//! In reading order: `command_line` (what clap is told), `options` (what the words ask for), `script` (the input as events); `draw` (random words), `timed` (a connection's time),
 //! `log_file`, `load` (logs new and old), `serve` (connections), `loopback` (a script's requests as connections); `fault` (what may go wrong, and how it is told), `program`
 //! (all of it in order); `promises` says what all of this is for. The definitions are in specs/, listed in `Lib`.
 #![tactic(auto)]
 
+mod command_line;
 mod draw;
 mod fault;
 mod load;

@@ -1,16 +1,19 @@
+//! What the words of the command line ask for.
+
 ghost use Rattle.std.specs.Prelude.{◌≡◌, ◌⊎◌, ◌<◌, ◌^◌, ℕ, IfOk, IfErr, IfSome, IfNone, map, false};
-ghost use Rattle.clap.specs.Words.{app_of, kind_of, with_rule, rows_of, found_of, subcommand_rows_of};
+ghost use Rattle.clap.specs.Words.{kind_of, rows_of, found_of, subcommand_rows_of};
 ghost use Rattle.clap.specs.declared.error.kind.ErrorKind.TheVariants as kind;
-ghost use Rattle.clap.specs.declared.builder.command.Command.TheViews.{out-Command};
+ghost use Rattle.tokend.specs.declared.options.Service.{Service as ServiceValue};
+ghost use Rattle.tokend.specs.declared.options.Task.TheVariants as task;
 ghost use Rattle.tk_region.specs.SettingsFields.{IsSettings};
-ghost use Rattle.tokend.specs.CommandLine.{events_app, loopback_app, script_app, serve_app, settings_of, tokend_app, file_rule, number_rule, range_rule, with_setting_rules, ReadsNumber, HasNumber, HasNumbers, HasService, HasText};
+ghost use Rattle.tokend.specs.CommandLine.{settings_of, ReadsNumber, HasNumber, HasNumbers, HasService, HasText};
 ghost use Rattle.tokend.specs.Task.{Asks, IsTask, IsNoService, IsNoTask, IsNoText, IsRefusalOf};
 ghost use Rattle.tokend.specs.declared.options.Numbers.{Numbers as NumbersValue};
 
+use crate::command_line::tokend_command;
 use crate::fault::Fault;
-use clap::builder::ValueParser;
 use clap::error::ErrorKind;
-use clap::{Arg, ArgMatches, Command, Error};
+use clap::{ArgMatches, Command, Error};
 use std::alloc::{AllocError, Global};
 use std::convert::AsStr;
 use std::rt::Env;
@@ -68,12 +71,38 @@ pub fn options<'a, S: AsStr>(alloc: Global, words: &'a [S]) -> Result<Task, Erro
     ensures task { IfOk result (Asks (map S.text words.entry.now)) }
     ensures refused { IfErr result (λ e. (kind_of e ≡ kind.OutOfMemory) ⊎ IsRefusalOf (map S.text words.entry.now) (kind_of e)) }
 {
-    let mut command = tokend_command(alloc)?;
-    let matches = command.try_get_matches_from_mut(words)?;
-    let task = read_matches(alloc, &matches)?;
-    match task {
-        Some(task) => Ok(task),
-        None => Err(command.error(ErrorKind::MissingSubcommand, "no subcommand was read")?),
+    let Ok(mut command) = tokend_command(alloc) else {
+        return Err(Error::from(AllocError));
+    };
+    match command.try_get_matches_from_mut(words) {
+        Ok(matches) => read_task(alloc, &mut command, &matches),
+        Err(error) => Err(error),
+    }
+}
+
+// What the matches of this command ask for.
+fn read_task(
+    alloc: Global,
+    command: &mut Command<'_>,
+    matches: &ArgMatches<'_>,
+) -> Result<Task, Error>
+    ensures task { IfOk result (IsTask (subcommand_rows_of matches.now)) }
+    ensures refused { IfErr result (λ e. (kind_of e ≡ kind.OutOfMemory) ⊎ ((kind_of e ≡ kind.MissingSubcommand) × IsNoTask (subcommand_rows_of matches.now))) }
+{
+    match read_matches(alloc, matches) {
+        Ok(Some(task)) => Ok(task),
+        Ok(None) => Err(no_subcommand(command)),
+        Err(error) => Err(Error::from(error)),
+    }
+}
+
+// The fault of words without a subcommand, or that there is no memory to tell of it.
+fn no_subcommand(command: &mut Command<'_>) -> Error
+    ensures { (kind_of result ≡ kind.OutOfMemory) ⊎ (kind_of result ≡ kind.MissingSubcommand) }
+{
+    match command.error(ErrorKind::MissingSubcommand, "no subcommand was read") {
+        Ok(error) => error,
+        Err(error) => Error::from(error),
     }
 }
 
@@ -82,202 +111,36 @@ pub(crate) fn words<R: Env + AllocGlobal>(rt: &R) -> Result<Vec<String>, Fault>
     ensures { IfErr result IsNoText }
 {
     match env::args(rt) {
-        Ok(words) => Ok(words.collect(rt.alloc())?),
-        Err(error) if error.kind() == io::ErrorKind::OutOfMemory => Err(Fault::Memory),
-        Err(_) => {
-            let message = "invalid UTF-8 was detected in one or more arguments";
-            let mut command = tokend_command(rt.alloc())?;
-            Err(Fault::Words(command.error(ErrorKind::InvalidValue, message)?))
-        }
+        Ok(words) => match words.collect(rt.alloc()) {
+            Ok(words) => Ok(words),
+            Err(_) => Err(Fault::Memory),
+        },
+        Err(error) => Err(unread_words(rt.alloc(), error.kind())),
     }
 }
 
-fn tokend_command<'a>(alloc: Global) -> Result<Command<'a>, AllocError>
-    ensures { IfOk result (λ c. app_of c ≡ tokend_app) }
+// The fault of words that couldn't be read.
+fn unread_words(alloc: Global, kind: io::ErrorKind) -> Fault
+    ensures { IsNoText result }
 {
-    let events = events_command(alloc)?;
-    events.subcommand(serve_command(alloc)?)
+    if kind == io::ErrorKind::OutOfMemory {
+        return Fault::Memory;
+    }
+    match tokend_command(alloc) {
+        Ok(mut command) => no_text(&mut command),
+        Err(_) => Fault::Memory,
+    }
 }
 
-// The program with the two subcommands that run events.
-fn events_command<'a>(alloc: Global) -> Result<Command<'a>, AllocError>
-    ensures { IfOk result (λ c. app_of c ≡ events_app) }
+// The fault of words that are no UTF-8, or that there is no memory to tell of it.
+fn no_text(command: &mut Command<'_>) -> Fault
+    ensures { IsNoText result }
 {
-    Command::new(alloc, "tokend")
-        .version("0.1.0")
-        .about("An authorisation server whose regions merge")
-        .subcommand_required(true)
-        .subcommand(script_command(alloc)?)?
-        .subcommand(loopback_command(alloc)?)
-}
-
-fn script_command<'a>(alloc: Global) -> Result<Command<'a>, AllocError>
-    ensures shape { IfOk result (λ c. app_of c ≡ script_app) }
-    ensures local { IfOk result (λ c. (out-Command c).has_globals ≡ false) }
-{
-    let script = Command::new(alloc, "script").about(
-        "Runs events, given as lines on the standard input",
-    );
-    let script = with_settings(alloc, script)?;
-    Ok(script)
-}
-
-fn loopback_command<'a>(alloc: Global) -> Result<Command<'a>, AllocError>
-    ensures shape { IfOk result (λ c. app_of c ≡ loopback_app) }
-    ensures local { IfOk result (λ c. (out-Command c).has_globals ≡ false) }
-{
-    let loopback = Command::new(alloc, "loopback").about(
-        "Runs such events, each request through a socket on 127.0.0.1",
-    );
-    let loopback = with_settings(alloc, loopback)?;
-    Ok(loopback)
-}
-
-fn serve_command<'a>(alloc: Global) -> Result<Command<'a>, AllocError>
-    ensures shape { IfOk result (λ c. app_of c ≡ serve_app) }
-    ensures local { IfOk result (λ c. (out-Command c).has_globals ≡ false) }
-{
-    let serve = Command::new(alloc, "serve").about(
-        "Serves requests over HTTP on 127.0.0.1, one connection after the other",
-    );
-    let region =
-        "The number of the region that is served, 1 to 65535, like no other's and never used again [required]";
-    let port = "The port that is listened on, 0 to 65535, 0 for a free one [required]";
-    let serve = with_range(
-        alloc,
-        serve,
-        "region",
-        region,
-        1,
-        Service::GREATEST_REGION,
-        true,
-    )?;
-    let serve = with_range(alloc, serve, "port", port, 0, Service::GREATEST_PORT, true)?;
-    let seed =
-        "The file of 32 secret random bytes that handles are made from, another for each start [required]";
-    let log = "A new file that each fact made is appended to before its reply [default: none]";
-    let load = "The log of an earlier run, whose facts are taken in first [default: none]";
-    let requests = "How many connections are served, 0 to 4294967295 [default: without end]";
-    let serve = with_file(alloc, serve, "seed", seed, true)?;
-    let serve = with_file(alloc, serve, "log", log, false)?;
-    let serve = with_file(alloc, serve, "load", load, false)?;
-    let most = Service::GREATEST_REQUESTS;
-    let serve = with_range(alloc, serve, "requests", requests, 0, most, false)?;
-    let serve = with_settings(alloc, serve)?;
-    Ok(serve)
-}
-
-// The command with the five settings of a region, each with its default.
-fn with_settings<'a>(alloc: Global, command: Command<'a>) -> Result<Command<'a>, AllocError>
-    requires { (out-Command command).has_globals ≡ false }
-    ensures rules { IfOk result (λ c. app_of c ≡ with_setting_rules (app_of command.entry)) }
-    ensures local { IfOk result (λ c. (out-Command c).has_globals ≡ false) }
-{
-    let code = "How many seconds a code lives, 1 to 600";
-    let access = "How many seconds an access token lives, 1 to 86400";
-    let refresh = "How many seconds a refresh token lives, 1 to 31536000";
-    let family = "How many seconds a code and all tokens that descend from it live, 1 to 315360000";
-    let cap = "The greatest serial of a fact that a region makes, 1 to 9223372036854775806";
-    let greatest_cap = "9223372036854775806";
-    let command = with_number(alloc, command, "code", code, Settings::GREATEST_CODE, "60")?;
-    let command = with_number(
-        alloc,
-        command,
-        "access",
-        access,
-        Settings::GREATEST_ACCESS,
-        "3600",
-    )?;
-    let command = with_number(
-        alloc,
-        command,
-        "refresh",
-        refresh,
-        Settings::GREATEST_REFRESH,
-        "86400",
-    )?;
-    let command = with_number(
-        alloc,
-        command,
-        "family",
-        family,
-        Settings::GREATEST_FAMILY,
-        "2592000",
-    )?;
-    let command = with_number(
-        alloc,
-        command,
-        "cap",
-        cap,
-        Settings::GREATEST_CAP,
-        greatest_cap,
-    )?;
-    Ok(command)
-}
-
-// The command with an option that takes a number between these, and has no default.
-fn with_range<'a>(
-    alloc: Global,
-    command: Command<'a>,
-    id: &'a str,
-    help: &'a str,
-    least: u64,
-    greatest: u64,
-    is_wanted: bool,
-) -> Result<Command<'a>, AllocError>
-    requires { (out-Command command).has_globals ≡ false }
-    ensures rule { IfOk result (λ c. app_of c ≡ with_rule (app_of command.entry) (range_rule id.entry.now least greatest is_wanted)) }
-    ensures local { IfOk result (λ c. (out-Command c).has_globals ≡ false) }
-{
-    let arg = Arg::new(alloc, id)
-        .long(id)
-        .value_name("N")
-        .help(help)
-        .value_parser(ValueParser::Unsigned(least, greatest))
-        .required(is_wanted);
-    command.arg(arg)
-}
-
-// The command with an option that takes the name of a file.
-fn with_file<'a>(
-    alloc: Global,
-    command: Command<'a>,
-    id: &'a str,
-    help: &'a str,
-    is_wanted: bool,
-) -> Result<Command<'a>, AllocError>
-    requires { (out-Command command).has_globals ≡ false }
-    ensures rule { IfOk result (λ c. app_of c ≡ with_rule (app_of command.entry) (file_rule id.entry.now is_wanted)) }
-    ensures local { IfOk result (λ c. (out-Command c).has_globals ≡ false) }
-{
-    let arg = Arg::new(alloc, id)
-        .long(id)
-        .value_name("FILE")
-        .help(help)
-        .required(is_wanted);
-    command.arg(arg)
-}
-
-// The command with an option that takes a number from 1 to the greatest, and has a default.
-fn with_number<'a>(
-    alloc: Global,
-    command: Command<'a>,
-    id: &'a str,
-    help: &'a str,
-    greatest: u64,
-    default: &'a str,
-) -> Result<Command<'a>, AllocError>
-    requires { (out-Command command).has_globals ≡ false }
-    ensures rule { IfOk result (λ c. app_of c ≡ with_rule (app_of command.entry) (number_rule id.entry.now default.entry.now greatest)) }
-    ensures local { IfOk result (λ c. (out-Command c).has_globals ≡ false) }
-{
-    let arg = Arg::new(alloc, id)
-        .long(id)
-        .value_name("N")
-        .help(help)
-        .value_parser(ValueParser::Unsigned(1, greatest))
-        .default_value(default);
-    command.arg(arg)
+    let message = "invalid UTF-8 was detected in one or more arguments";
+    match command.error(ErrorKind::InvalidValue, message) {
+        Ok(error) => Fault::Words(error),
+        Err(_) => Fault::Memory,
+    }
 }
 
 impl Numbers {
@@ -309,7 +172,7 @@ impl Service {
 }
 
 // What the matches say. A subcommand is always there, and so are its numbers: clap has seen to it.
-#[tactic(auto, using(crate::proofs::Tasks::no_script, crate::proofs::Tasks::no_loopback, crate::proofs::Tasks::no_service))]
+#[tactic(auto, using(crate::proofs::Tasks::no_script, crate::proofs::Tasks::no_loopback, crate::proofs::Tasks::is_service))]
 fn read_matches(alloc: Global, matches: &ArgMatches<'_>) -> Result<Option<Task>, AllocError>
     ensures task { IfOk result (λ task. IfSome task (IsTask (subcommand_rows_of matches.now))) }
     ensures none { IfOk result (λ task. IfNone task (IsNoTask (subcommand_rows_of matches.now))) }
@@ -330,12 +193,20 @@ fn read_matches(alloc: Global, matches: &ArgMatches<'_>) -> Result<Option<Task>,
         };
     }
     if name == "serve" {
-        return match read_service(alloc, values)? {
-            Some(service) => Ok(Some(Task::Serve(service))),
-            None => Ok(None),
-        };
+        return read_serve(alloc, values);
     }
     Ok(None)
+}
+
+fn read_serve(alloc: Global, matches: &ArgMatches<'_>) -> Result<Option<Task>, AllocError>
+    ensures task { IfOk result (λ read. IfSome read (λ t. (s : ServiceValue) × (t ≡ task.Serve s) × HasService (rows_of (found_of matches.now)) s)) }
+    ensures none { IfOk result (λ read. IfNone read (IsNoService (rows_of (found_of matches.now)))) }
+{
+    match read_service(alloc, matches) {
+        Ok(Some(service)) => Ok(Some(Task::Serve(service))),
+        Ok(None) => Ok(None),
+        Err(error) => Err(error),
+    }
 }
 
 #[tactic(auto, using(crate::proofs::Tasks::without_settings, crate::proofs::Tasks::without_region, crate::proofs::Tasks::without_port, crate::proofs::Tasks::without_seed))]

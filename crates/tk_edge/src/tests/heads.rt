@@ -116,14 +116,17 @@ fn answers_long(alloc: Global, edge: &mut Edge, long: Long, told: Told) -> bool 
     }
 }
 
-// Whether both are answered so by one edge, and only the first makes a fact.
+// Whether the edge answers both so, and only the first makes a fact.
+fn are_filled_at(alloc: Global, edge: &mut Edge) -> bool {
+    answers_long(alloc, edge, FORM_16384, ADDED)
+        && answers_long(alloc, edge, FORM_16385, LARGE)
+        && edge.region().len() == 1
+}
+
+// The same of a new edge.
 fn are_filled(alloc: Global) -> bool {
     match new_edge(alloc) {
-        Some(mut edge) => {
-            answers_long(alloc, &mut edge, FORM_16384, ADDED)
-                && answers_long(alloc, &mut edge, FORM_16385, LARGE)
-                && edge.region().len() == 1
-        }
+        Some(mut edge) => are_filled_at(alloc, &mut edge),
         None => false,
     }
 }

@@ -145,17 +145,20 @@ fn first_other(alloc: Global, edge: &mut Edge, pushes: &[Push]) -> &'static str 
     ""
 }
 
-// The same of an edge over this region, once it has answered the rows.
+// The same, once it has answered the rows.
+fn other_behind(alloc: Global, edge: &mut Edge, rows: &[Row], pushes: &[Push]) -> &'static str {
+    let wrong = first_wrong(alloc, edge, rows);
+    if wrong.is_empty() {
+        first_other(alloc, edge, pushes)
+    } else {
+        wrong
+    }
+}
+
+// The same of an edge over this region that holds nothing yet.
 fn other_at(alloc: Global, region: u16, rows: &[Row], pushes: &[Push]) -> &'static str {
     match new_edge_of(alloc, region, true) {
-        Some(mut edge) => {
-            let wrong = first_wrong(alloc, &mut edge, rows);
-            if wrong.is_empty() {
-                first_other(alloc, &mut edge, pushes)
-            } else {
-                wrong
-            }
-        }
+        Some(mut edge) => other_behind(alloc, &mut edge, rows, pushes),
         None => "an edge",
     }
 }

@@ -94,7 +94,20 @@ fn serve(
     Some((end, calls))
 }
 
-// Whether a connection of a new edge ends so.
+// How a connection of a new edge ends.
+fn end_of(
+    alloc: Global,
+    texts: (&[u8], &[u8]),
+    steps: Steps,
+    failing: Failing,
+) -> Option<(End, Calls)> {
+    match new_edge(alloc) {
+        Some(mut edge) => serve(alloc, &mut edge, texts, steps, failing),
+        None => None,
+    }
+}
+
+// Whether it ends so.
 fn comes_to(
     alloc: Global,
     texts: (&[u8], &[u8]),
@@ -102,11 +115,8 @@ fn comes_to(
     failing: Failing,
     want: &End,
 ) -> bool {
-    match new_edge(alloc) {
-        Some(mut edge) => match serve(alloc, &mut edge, texts, steps, failing) {
-            Some((end, _)) => end == *want,
-            None => false,
-        },
+    match end_of(alloc, texts, steps, failing) {
+        Some((end, _)) => end == *want,
         None => false,
     }
 }
@@ -182,12 +192,10 @@ fn a_writer_that_fails_leaves_fact_and_record(rt: HostRuntime) {
     assert!(rt; ends(rt.alloc(), last, &DONE), "no call is left");
 }
 
-// An edge whose log has failed.
-fn sealed(alloc: Global) -> Option<Edge> {
+// Serves a request whose log fails.
+fn seal(alloc: Global, edge: &mut Edge) {
     let failing = [NEVER, NEVER, Fails::At(0)];
-    let mut edge = new_edge(alloc)?;
-    let _end = serve(alloc, &mut edge, (REQUEST, CREATED), (STEP, STEP), failing);
-    Some(edge)
+    let _end = serve(alloc, edge, (REQUEST, CREATED), (STEP, STEP), failing);
 }
 
 #[rattlefmt::skip]
@@ -216,44 +224,49 @@ fn is_answered_away(alloc: Global, edge: &mut Edge) -> bool {
     }
 }
 
-// Whether it is so once, again, and without devices.
-fn turned_away(alloc: Global) -> (bool, bool, bool) {
-    match sealed(alloc) {
-        Some(mut edge) => {
-            let once = is_turned_away(alloc, &mut edge);
-            let again = is_turned_away(alloc, &mut edge);
-            (once, again, is_answered_away(alloc, &mut edge))
-        }
-        None => (false, false, false),
+#[rattlefmt::skip]
+const HALF_AWAY: End = End { result: Err(Fault::Write), facts: 1, sealed: true, logged: Some(0), written: Some(STEP) };
+
+// Whether a client's side that fails at it is a fault, with one piece of the reply given.
+fn is_write_fault(alloc: Global, edge: &mut Edge) -> bool {
+    let failing = [NEVER, Fails::At(1), NEVER];
+    match serve(alloc, edge, (REQUEST, AWAY), (STEP, STEP), failing) {
+        Some((end, (_, _, _, failures))) => end == HALF_AWAY && failures == 1,
+        None => false,
+    }
+}
+
+// What holds of a sealed edge: it turns away once, again, and without devices, and a write that fails is a fault.
+fn sealed_ends(alloc: Global, edge: &mut Edge) -> [bool; 4] {
+    seal(alloc, edge);
+    [
+        is_turned_away(alloc, edge),
+        is_turned_away(alloc, edge),
+        is_answered_away(alloc, edge),
+        is_write_fault(alloc, edge),
+    ]
+}
+
+// The same of a new one.
+fn sealed(alloc: Global) -> [bool; 4] {
+    match new_edge(alloc) {
+        Some(mut edge) => sealed_ends(alloc, &mut edge),
+        None => [false; 4],
     }
 }
 
 #[test]
 fn a_sealed_edge_turns_away_without_reading(rt: HostRuntime) {
-    let (once, again, without) = turned_away(rt.alloc());
+    let [once, again, without, _] = sealed(rt.alloc());
     assert!(rt; once, "once");
     assert!(rt; again, "again");
     assert!(rt; without, "without devices");
 }
 
-#[rattlefmt::skip]
-const HALF_AWAY: End = End { result: Err(Fault::Write), facts: 1, sealed: true, logged: Some(0), written: Some(STEP) };
-
-// Whether a client's side that fails at a sealed edge is a fault, with one piece of the reply given.
-fn is_write_fault(alloc: Global) -> bool {
-    let failing = [NEVER, Fails::At(1), NEVER];
-    match sealed(alloc) {
-        Some(mut edge) => match serve(alloc, &mut edge, (REQUEST, AWAY), (STEP, STEP), failing) {
-            Some((end, (_, _, _, failures))) => end == HALF_AWAY && failures == 1,
-            None => false,
-        },
-        None => false,
-    }
-}
-
 #[test]
 fn a_writer_that_fails_at_a_sealed_edge_is_a_fault(rt: HostRuntime) {
-    assert!(rt; is_write_fault(rt.alloc()));
+    let [_, _, _, fault] = sealed(rt.alloc());
+    assert!(rt; fault);
 }
 
 #[rattlefmt::skip]
@@ -261,11 +274,8 @@ const NOTHING: End = End { result: Ok(Served::Nothing), facts: 0, sealed: false,
 
 // Whether a stream without a byte is answered with nothing, and nothing is called for it.
 fn is_nothing(alloc: Global) -> bool {
-    match new_edge(alloc) {
-        Some(mut edge) => match serve(alloc, &mut edge, (b"", b""), (STEP, STEP), SOUND) {
-            Some((end, (_, puts, writes, _))) => end == NOTHING && puts == 0 && writes == 0,
-            None => false,
-        },
+    match end_of(alloc, (b"", b""), (STEP, STEP), SOUND) {
+        Some((end, (_, puts, writes, _))) => end == NOTHING && puts == 0 && writes == 0,
         None => false,
     }
 }

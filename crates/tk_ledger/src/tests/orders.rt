@@ -154,8 +154,8 @@ fn first_miss(
     rows: &[Row],
 ) -> Option<(usize, &'static str)> {
     for order in 0..orders {
-        let miss = match in_order(alloc, facts, order) {
-            Some(both) => missed(&both, rows),
+        let miss = match &in_order(alloc, facts, order) {
+            Some(both) => missed(both, rows),
             None => Some("the facts"),
         };
         if let Some(row) = miss {
@@ -190,8 +190,8 @@ pub(super) fn found(
 ) -> Option<Option<Dot>> {
     let client = dot(client)?;
     match Subject::read(alloc, subject) {
-        Ok(subject) => match Scope::read(alloc, scope) {
-            Ok(scope) => both_find(both, client, &subject, &scope),
+        Ok(subject) => match &Scope::read(alloc, scope) {
+            Ok(scope) => both_find(both, client, &subject, scope),
             Err(_) => None,
         },
         Err(_) => None,

@@ -78,8 +78,8 @@ fn is_last(both: &Both, subject: &Subject, want: Option<u64>) -> bool {
 }
 
 fn last_is(alloc: Global, both: &Both, subject: &[u8], want: Option<u64>) -> bool {
-    match Subject::read(alloc, subject) {
-        Ok(subject) => is_last(both, &subject, want),
+    match &Subject::read(alloc, subject) {
+        Ok(subject) => is_last(both, subject, want),
         Err(_) => false,
     }
 }
@@ -87,10 +87,10 @@ fn last_is(alloc: Global, both: &Both, subject: &[u8], want: Option<u64>) -> boo
 // The order and the subject of which another moment is told.
 fn other_last(alloc: Global) -> Option<usize> {
     for order in 0..6 {
-        match in_order(alloc, &OUTS, order) {
+        match &in_order(alloc, &OUTS, order) {
             Some(both) => {
                 for &(subject, want) in LAST {
-                    if !last_is(alloc, &both, subject, want) {
+                    if !last_is(alloc, both, subject, want) {
                         return Some(order);
                     }
                 }

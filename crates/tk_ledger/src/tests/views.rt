@@ -52,7 +52,7 @@ fn are_shown(ledger: &Ledger) -> bool {
 }
 
 fn are_shown_after(alloc: Global) -> bool {
-    match after(alloc, ((2, 1), Says::ClientRetired(CLIENT))) {
+    match &after(alloc, ((2, 1), Says::ClientRetired(CLIENT))) {
         Some(both) => are_shown(&both.ledger),
         None => false,
     }
@@ -111,8 +111,8 @@ fn first_found_otherwise(alloc: Global, both: &Both) -> Option<&'static str> {
 
 // The same, among these consents.
 fn found_otherwise(alloc: Global) -> Option<&'static str> {
-    match in_order(alloc, &CONSENTS, 0) {
-        Some(both) => first_found_otherwise(alloc, &both),
+    match &in_order(alloc, &CONSENTS, 0) {
+        Some(both) => first_found_otherwise(alloc, both),
         None => Some("the facts"),
     }
 }
@@ -166,8 +166,8 @@ fn first_wrong(both: &Both) -> Option<&'static str> {
 
 // The same, where the client revoked the access token.
 fn wrong_when_revoked(alloc: Global) -> Option<&'static str> {
-    match in_order(alloc, &revoked_in_advance(ACCESS, CLIENT), 0) {
-        Some(both) => first_wrong(&both),
+    match &in_order(alloc, &revoked_in_advance(ACCESS, CLIENT), 0) {
+        Some(both) => first_wrong(both),
         None => Some("the facts"),
     }
 }
@@ -189,8 +189,8 @@ fn is_full(alloc: Global, both: &mut Both) -> bool {
 }
 
 fn is_full_after(alloc: Global) -> bool {
-    match in_order(alloc, &BEFORE_GRANTS, 0) {
-        Some(mut both) => is_full(alloc, &mut both),
+    match &mut in_order(alloc, &BEFORE_GRANTS, 0) {
+        Some(both) => is_full(alloc, both),
         None => false,
     }
 }

@@ -71,8 +71,8 @@ fn is_redirect(reply: &Reply, uri: &str) -> bool {
 
 fn is_sent_back(alloc: Global, redirect: &Redirect) -> bool {
     let (uri, name, value, state, want) = *redirect;
-    match redirect_reply(alloc, uri, name, value, state) {
-        Ok(reply) => is_redirect(&reply, want),
+    match &redirect_reply(alloc, uri, name, value, state) {
+        Ok(reply) => is_redirect(reply, want),
         Err(_) => false,
     }
 }
@@ -93,7 +93,7 @@ static HANDLES: [(u16, u64, Kind, [u64; 3], &str); 3] = [
 ];
 
 fn has_text(alloc: Global, handle: &Handle, want: &str) -> bool {
-    match handle_string(alloc, handle) {
+    match &handle_string(alloc, handle) {
         Ok(text) => text.as_str() == want,
         Err(_) => false,
     }
@@ -141,8 +141,8 @@ fn sent(alloc: Global, bytes: &[u8]) -> Option<Reply> {
 #[test]
 fn bytes_are_carried_as_they_are(rt: HostRuntime) {
     for wanted in [b"OTV1\x00\x00".as_slice(), b"".as_slice()] {
-        match sent(rt.alloc(), wanted) {
-            Some(reply) => assert!(rt; carries(&reply, wanted)),
+        match &sent(rt.alloc(), wanted) {
+            Some(reply) => assert!(rt; carries(reply, wanted)),
             None => assert!(rt; false, "memory"),
         }
     }

@@ -22,7 +22,7 @@ static SCOPES: [(&str, Option<&str>, Option<&str>); 12] = [
 ];
 
 fn is_asked(alloc: Global, whole: &Scope, sent: Option<&str>, want: Option<&str>) -> bool {
-    match scope_asked(alloc, whole, sent) {
+    match &scope_asked(alloc, whole, sent) {
         Ok(Some(scope)) => want == Some(scope.text()),
         Ok(None) => want.is_none(),
         Err(_) => false,

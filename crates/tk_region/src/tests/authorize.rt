@@ -139,7 +139,7 @@ fn is_answer(reply: &Reply, status: u16, text: &str) -> bool {
 }
 
 fn is_answered(alloc: Global, ledger: &Ledger, asker: Asker, text: &str, answer: &Answer) -> bool {
-    match decided(alloc, ledger, asker, text) {
+    match &decided(alloc, ledger, asker, text) {
         Some(decision) => {
             is_answer(&decision.reply, answer.0, answer.1) && is_made(&decision.made, &answer.2)
         }

@@ -80,7 +80,7 @@ fn is_reply(reply: &Reply, status: u16, body: &str) -> bool {
 
 fn is_answered(alloc: Global, ledger: &Ledger, row: &Row) -> bool {
     let (_, form, now, status, body, bytes) = *row;
-    match decided(alloc, ledger, now, form) {
+    match &decided(alloc, ledger, now, form) {
         Some(decision) => {
             is_reply(&decision.reply, status, body) && is_made(alloc, &decision.made, bytes)
         }

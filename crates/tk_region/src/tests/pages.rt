@@ -17,8 +17,8 @@ fn entries(vector: &VersionVector) -> Option<(u64, u64, u64)> {
 
 fn told(alloc: Global) -> Option<(u64, u64, u64)> {
     let region = with_first(alloc)?;
-    match region.vector(alloc) {
-        Ok(vector) => entries(&vector),
+    match &region.vector(alloc) {
+        Ok(vector) => entries(vector),
         Err(_) => None,
     }
 }
@@ -30,7 +30,7 @@ fn a_region_tells_what_it_holds(rt: HostRuntime) {
 
 // Whether the page is the bundle of these facts, and no more follow.
 fn is_page(alloc: Global, page: &Page, facts: &[Retired]) -> bool {
-    match bundle_of(alloc, facts) {
+    match &bundle_of(alloc, facts) {
         Some(bundle) => bundle.as_slice() == page.bytes.as_slice() && !page.more,
         None => false,
     }
@@ -43,8 +43,8 @@ fn sends(
     after: Option<Dot>,
     facts: &[Retired],
 ) -> bool {
-    match region.page(alloc, vector, after) {
-        Ok(page) => is_page(alloc, &page, facts),
+    match &region.page(alloc, vector, after) {
+        Ok(page) => is_page(alloc, page, facts),
         Err(_) => false,
     }
 }
@@ -62,8 +62,8 @@ const PAGES: &[(&str, u64, &[Retired])] = &[
 fn is_sent(alloc: Global, vector: &str, serial: u64, facts: &[Retired]) -> Option<bool> {
     let after = Dot::new(RegionNumber::new(1)?, serial);
     let region = with_first(alloc)?;
-    match VersionVector::read_text(alloc, vector.as_bytes()) {
-        Ok(vector) => Some(sends(alloc, &region, &vector, after, facts)),
+    match &VersionVector::read_text(alloc, vector.as_bytes()) {
+        Ok(vector) => Some(sends(alloc, &region, vector, after, facts)),
         Err(_) => None,
     }
 }

@@ -97,7 +97,7 @@ fn is_reply(reply: &Reply, status: u16, body: &str) -> bool {
 
 fn is_answered(alloc: Global, ledger: &Ledger, endpoint: Endpoint, row: &Row) -> bool {
     let (_, form, now, status, body, bytes) = *row;
-    match decided(alloc, ledger, endpoint, form, now) {
+    match &decided(alloc, ledger, endpoint, form, now) {
         Some(decision) => {
             is_reply(&decision.reply, status, body) && is_made(alloc, &decision.made, bytes)
         }

@@ -31,7 +31,7 @@ pub(super) fn is_made(alloc: Global, made: &Option<Body>, bytes: &[u8]) -> bool 
 }
 
 fn says(alloc: Global, made: &Body, bytes: &[u8]) -> bool {
-    match Fact::read(alloc, bytes) {
+    match &Fact::read(alloc, bytes) {
         Ok(fact) => made.same(&fact.body),
         Err(_) => false,
     }

@@ -1,9 +1,6 @@
 use Rattle.std.proofs.Common.{rules}
 use Rattle.tk_fact.proofs.uri_field.read_uri.Goals as goal
 
-pub returns-in_err-bytes : goal.returns-in_err-bytes
-returns-in_err-bytes c = search rules
-
 pub returns-in-Ok : goal.returns-in-Ok
 returns-in-Ok c = search rules
 

@@ -1,0 +1,30 @@
+use Rattle.std.proofs.Common.{rules, refl}
+use Rattle.tk_edge.proofs.AnswerLaws.{served, faulted, unread, faults_as}
+use Rattle.tk_edge.proofs.StreamLaws.{hears_nothing}
+use Rattle.tk_edge.specs.declared.tell.Fault.TheVariants.{Write, Log}
+use Rattle.tk_edge.proofs.edge.serve_arrival.Goals as goal
+
+pub returns-then-is_silent-clause-served : goal.returns-then-is_silent-clause-served
+returns-then-is_silent-clause-served g c = λ sync known arrives.
+    (hears_nothing sync known _ (c.is_silent.ensures.silent (search rules)) arrives, search rules)
+
+pub returns-in-Ok-clause-served : goal.returns-in-Ok-clause-served
+returns-in-Ok-clause-served g c = λ sync known arrives.
+    served (record { sync = sync; known = known; now = c.args.now; words = c.args.words.now }) c.args.came.now
+    c.args.region.now c.reply.new.region c.args.region.now refl _ _ c.reply.new.sealed
+    arrives (c.is_silent.ensures.spoke (search rules)) c.in-Ok.status c.in-Ok.ensures.replies
+
+pub returns-in-Err-clause-served : goal.returns-in-Err-clause-served
+returns-in-Err-clause-served g c = λ sync known arrives.
+    faulted (record { sync = sync; known = known; now = c.args.now; words = c.args.words.now }) c.args.came.now
+    c.args.region.now c.reply.new.region c.args.region.now refl _ _ c.reply.new.sealed
+    arrives (c.is_silent.ensures.spoke (search rules)) c.in-Err.fault c.in-Err.ensures.replies
+
+pub returns-in-Err-clause-read : goal.returns-in-Err-clause-read
+returns-in-Err-clause-read g c = unread c.args.now c.args.words.now c.args.came.now _ _ _ _ c.in-Err.fault c.in-Err.ensures.replies
+
+pub returns-in-Err-clause-writer_fault : goal.returns-in-Err-clause-writer_fault
+returns-in-Err-clause-writer_fault g c = λ is. c.in-Err.ensures.faults.writer (faults_as c.in-Err.fault Write is)
+
+pub returns-in-Err-clause-log_fault : goal.returns-in-Err-clause-log_fault
+returns-in-Err-clause-log_fault g c = λ is. c.in-Err.ensures.faults.log (faults_as c.in-Err.fault Log is)
