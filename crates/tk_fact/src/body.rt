@@ -137,14 +137,22 @@ impl Body {
         };
         match kind {
             1 => ClientAdded::read(alloc, reader).map(Body::ClientAdded),
-            2 => ClientRetired::read(reader).map(Body::ClientRetired),
+            2 => ClientRetired::read(reader)
+                .map(Body::ClientRetired)
+                .ok_or(ReadError::Malformed),
             3 => ConsentGiven::read(alloc, reader).map(Body::ConsentGiven),
-            4 => ConsentWithdrawn::read(reader).map(Body::ConsentWithdrawn),
+            4 => ConsentWithdrawn::read(reader)
+                .map(Body::ConsentWithdrawn)
+                .ok_or(ReadError::Malformed),
             5 => CodeIssued::read(alloc, reader).map(Body::CodeIssued),
             6 => CodeRedeemed::read(alloc, reader).map(Body::CodeRedeemed),
             7 => RefreshRotated::read(alloc, reader).map(Body::RefreshRotated),
-            8 => TokenRevoked::read(reader).map(Body::TokenRevoked),
-            9 => ReuseSeen::read(reader).map(Body::ReuseSeen),
+            8 => TokenRevoked::read(reader)
+                .map(Body::TokenRevoked)
+                .ok_or(ReadError::Malformed),
+            9 => ReuseSeen::read(reader)
+                .map(Body::ReuseSeen)
+                .ok_or(ReadError::Malformed),
             10 => SubjectOut::read(alloc, reader).map(Body::SubjectOut),
             _ => Err(ReadError::Malformed),
         }

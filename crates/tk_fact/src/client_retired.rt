@@ -2,10 +2,10 @@
 
 ghost use Rattle.std.specs.Prelude.{◌≡◌, ◌++◌, OnOk};
 ghost use Rattle.tk_fact.specs.Kinds.{client_retired};
-ghost use Rattle.tk_format.specs.Reading.{Gets};
+ghost use Rattle.tk_format.specs.Reading.{Reads};
 
 use std::alloc::AllocError;
-use tk_format::{ReadError, Reader, Writer};
+use tk_format::{Reader, Writer};
 use tk_handle::Dot;
 
 /// A client was retired (own).
@@ -22,13 +22,11 @@ impl ClientRetired {
         self.client.known();
     }
 
-    pub(crate) fn read(reader: &mut Reader<'_>) -> Result<ClientRetired, ReadError>
-        ensures { Gets (λ f. f) client_retired result reader.old reader.new }
+    pub(crate) fn read(reader: &mut Reader<'_>) -> Option<ClientRetired>
+        ensures { Reads (λ f. f) client_retired result reader.old reader.new }
     {
-        let Some(client) = Dot::read(reader) else {
-            return Err(ReadError::Malformed);
-        };
-        Ok(ClientRetired { client })
+        let client = Dot::read(reader)?;
+        Some(ClientRetired { client })
     }
 
     pub(crate) fn write(&self, writer: &mut Writer) -> Result<(), AllocError>

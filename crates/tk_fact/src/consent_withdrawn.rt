@@ -2,10 +2,10 @@
 
 ghost use Rattle.std.specs.Prelude.{◌≡◌, ◌++◌, OnOk};
 ghost use Rattle.tk_fact.specs.Kinds.{consent_withdrawn};
-ghost use Rattle.tk_format.specs.Reading.{Gets};
+ghost use Rattle.tk_format.specs.Reading.{Reads};
 
 use std::alloc::AllocError;
-use tk_format::{ReadError, Reader, Writer};
+use tk_format::{Reader, Writer};
 use tk_handle::Dot;
 
 /// A consent was withdrawn (own).
@@ -22,13 +22,11 @@ impl ConsentWithdrawn {
         self.consent.known();
     }
 
-    pub(crate) fn read(reader: &mut Reader<'_>) -> Result<ConsentWithdrawn, ReadError>
-        ensures { Gets (λ f. f) consent_withdrawn result reader.old reader.new }
+    pub(crate) fn read(reader: &mut Reader<'_>) -> Option<ConsentWithdrawn>
+        ensures { Reads (λ f. f) consent_withdrawn result reader.old reader.new }
     {
-        let Some(consent) = Dot::read(reader) else {
-            return Err(ReadError::Malformed);
-        };
-        Ok(ConsentWithdrawn { consent })
+        let consent = Dot::read(reader)?;
+        Some(ConsentWithdrawn { consent })
     }
 
     pub(crate) fn write(&self, writer: &mut Writer) -> Result<(), AllocError>

@@ -2,10 +2,10 @@
 
 ghost use Rattle.std.specs.Prelude.{◌≡◌, ◌++◌, OnOk};
 ghost use Rattle.tk_fact.specs.Kinds.{reuse_seen};
-ghost use Rattle.tk_format.specs.Reading.{Gets};
+ghost use Rattle.tk_format.specs.Reading.{Reads};
 
 use std::alloc::AllocError;
-use tk_format::{ReadError, Reader, Writer};
+use tk_format::{Reader, Writer};
 use tk_handle::TokenId;
 
 /// A code or a refresh token was used again, which kills its family (RFC 6749, 4.1.2 and 10.4).
@@ -22,13 +22,11 @@ impl ReuseSeen {
         self.token.known();
     }
 
-    pub(crate) fn read(reader: &mut Reader<'_>) -> Result<ReuseSeen, ReadError>
-        ensures { Gets (λ f. f) reuse_seen result reader.old reader.new }
+    pub(crate) fn read(reader: &mut Reader<'_>) -> Option<ReuseSeen>
+        ensures { Reads (λ f. f) reuse_seen result reader.old reader.new }
     {
-        let Some(token) = TokenId::read(reader) else {
-            return Err(ReadError::Malformed);
-        };
-        Ok(ReuseSeen { token })
+        let token = TokenId::read(reader)?;
+        Some(ReuseSeen { token })
     }
 
     pub(crate) fn write(&self, writer: &mut Writer) -> Result<(), AllocError>

@@ -2,11 +2,11 @@
 
 ghost use Rattle.std.specs.Prelude.{◌≡◌, ◌++◌, OnOk};
 ghost use Rattle.tk_fact.specs.Kinds.{token_revoked};
-ghost use Rattle.tk_format.specs.Reading.{Gets};
+ghost use Rattle.tk_format.specs.Reading.{Reads};
 
 use crate::digest::read_digest;
 use std::alloc::AllocError;
-use tk_format::{ReadError, Reader, Writer};
+use tk_format::{Reader, Writer};
 use tk_handle::{Dot, TokenId};
 
 /// A client revoked an access or refresh token (RFC 7009, 2). The fact that mints the token may come later: the
@@ -30,19 +30,13 @@ impl TokenRevoked {
         self.client.known();
     }
 
-    pub(crate) fn read(reader: &mut Reader<'_>) -> Result<TokenRevoked, ReadError>
-        ensures { Gets (λ f. f) token_revoked result reader.old reader.new }
+    pub(crate) fn read(reader: &mut Reader<'_>) -> Option<TokenRevoked>
+        ensures { Reads (λ f. f) token_revoked result reader.old reader.new }
     {
-        let Some(token) = TokenId::read(reader) else {
-            return Err(ReadError::Malformed);
-        };
-        let Some(digest) = read_digest(reader) else {
-            return Err(ReadError::Malformed);
-        };
-        let Some(client) = Dot::read(reader) else {
-            return Err(ReadError::Malformed);
-        };
-        Ok(TokenRevoked {
+        let token = TokenId::read(reader)?;
+        let digest = read_digest(reader)?;
+        let client = Dot::read(reader)?;
+        Some(TokenRevoked {
             token,
             digest,
             client,
