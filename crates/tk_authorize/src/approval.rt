@@ -49,6 +49,7 @@ fn approve_by_subject(
     ensures { IfOk result (λ approval. approval ≡ spec.approval_by_subject (facts_of ledger.now) client asked (option_copied subject.entry)) }
 {
     let Some(subject) = subject else {
+        drop(asked);
         return Ok(Err(Denial::MissingSubject));
     };
     match Subject::read(alloc, subject) {
@@ -56,8 +57,13 @@ fn approve_by_subject(
             let consent = ledger.consent_for(client, &subject, &asked.scope);
             Ok(approval_by_consent(subject, asked, consent))
         }
-        Err(SubjectError::Malformed) => Ok(Err(Denial::MalformedSubject)),
-        Err(SubjectError::Memory) => Err(AllocError),
+        Err(why) => {
+            drop(asked);
+            match why {
+                SubjectError::Malformed => Ok(Err(Denial::MalformedSubject)),
+                SubjectError::Memory => Err(AllocError),
+            }
+        }
     }
 }
 

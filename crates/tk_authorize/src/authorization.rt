@@ -62,12 +62,17 @@ fn decide_by(
         Judged::Refused(why) => Decision::refuse(alloc, why.code()),
         Judged::Denied(target, why) => {
             let uri = target.uri.as_str();
-            let reply = redirect_reply(alloc, uri, "error", why.code().name(), state)?;
-            Ok(Decision::answer(reply))
+            let reply = redirect_reply(alloc, uri, "error", why.code().name(), state);
+            drop(target);
+            Ok(Decision::answer(reply?))
         }
         Judged::Approved(target, approval) => {
             let code = code_handle(place.next_dot(), words);
-            let reply = code_reply(alloc, &target.uri, &code, state)?;
+            let Ok(reply) = code_reply(alloc, &target.uri, &code, state) else {
+                drop(target);
+                drop(approval);
+                return Err(AllocError);
+            };
             let fact = code_issued(place, now, &code, target, approval);
             Ok(Decision {
                 reply,

@@ -162,9 +162,20 @@ fn register_with(
     ensures value { IfOk result (λ a. a ≡ spec.registered_with sort (Some scope) redirects.now) }
     ensures sound { IfOk result IsSoundAdministered }
 {
-    let uris = split_spaces(alloc, redirects.as_bytes())?;
-    let redirects = read_redirects(alloc, uris.as_slice())?;
-    Ok(register_to(sort, scope, redirects))
+    match split_redirects(alloc, redirects) {
+        Ok(redirects) => Ok(register_to(sort, scope, redirects)),
+        Err(error) => {
+            drop(scope);
+            Err(error)
+        }
+    }
+}
+
+fn split_redirects(alloc: Global, text: &str) -> Result<Option<Redirects>, AllocError>
+    ensures { IfOk result (λ redirects. redirects ≡ spec.registered (slice_split spec.is_space text.now)) }
+{
+    let uris = split_spaces(alloc, text.as_bytes())?;
+    read_redirects(alloc, uris.as_slice())
 }
 
 // The pieces between single spaces.

@@ -27,6 +27,3 @@ pub use error::FrontError;
 pub use front::read_front;
 pub use page::{Page, make, single};
 pub use paging::pages_complete;
-
-#[cfg(test)]
-mod tests;

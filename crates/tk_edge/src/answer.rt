@@ -85,10 +85,12 @@ pub(crate) fn refuse(alloc: Global, why: Refusal) -> Result<Answer, AllocError>
     ensures { IfOk result (λ answer. answer ≡ spec.refused_by why) }
 {
     let reply = error_reply(alloc, why.code())?;
-    let bytes = render(alloc, &reply, why.allowed())?;
+    let status = reply.status;
+    let bytes = render(alloc, &reply, why.allowed());
+    drop(reply);
     Ok(Answer {
-        status: reply.status,
-        bytes,
+        status,
+        bytes: bytes?,
         logged: None,
     })
 }
@@ -113,13 +115,11 @@ fn send(alloc: Global, region: &mut Region, prepared: Prepared) -> Result<Answer
 {
     match render(alloc, &prepared.reply, None) {
         Ok(bytes) => commit(region, prepared, bytes),
-        Err(error) => Err(forgone(prepared, error)),
+        Err(error) => {
+            drop(prepared);
+            Err(error)
+        }
     }
-}
-
-// What was prepared is not added.
-fn forgone(_prepared: Prepared, error: AllocError) -> AllocError {
-    error
 }
 
 // Adds the fact, whose reply has these bytes.

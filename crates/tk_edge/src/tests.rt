@@ -8,6 +8,7 @@ mod refusals;
 mod serving;
 
 use crate::Edge;
+use itoa::Buffer;
 use std::alloc::Global;
 use tk_handle::{Moment, RegionNumber};
 use tk_region::{Region, Settings};
@@ -51,16 +52,20 @@ const MISSING: Told = ("404 Not Found", "", b"{\"error\":\"not_found\"}");
 #[rattlefmt::skip]
 const LARGE: Told = ("413 Content Too Large", "", b"{\"error\":\"too_large\"}");
 
-// The head and then the body.
-fn is_joined(bytes: &[u8], head: &[u8], body: &[u8]) -> bool {
-    match bytes.split_at_checked(head.len()) {
-        Some((front, rest)) => front == head && rest == body,
-        None => false,
+// Whether the bytes are these parts, one behind the other.
+fn are_joined(bytes: &[u8], parts: &[&[u8]]) -> bool {
+    let mut rest = bytes;
+    for part in parts {
+        match rest.strip_prefix(*part) {
+            Some(behind) => rest = behind,
+            None => return false,
+        }
     }
+    rest.is_empty()
 }
 
-// Whether the bytes are this reply; not so where memory is refused.
-fn is_reply(alloc: Global, bytes: &[u8], told: Told) -> bool {
+// Whether the bytes are this reply.
+fn is_reply(bytes: &[u8], told: Told) -> bool {
     let (line, field, body) = told;
     if line.is_empty() {
         return bytes.is_empty();
@@ -70,14 +75,20 @@ fn is_reply(alloc: Global, bytes: &[u8], told: Told) -> bool {
         Some(b'{') => "Content-Type: application/json\r\n",
         Some(_) => "Content-Type: application/octet-stream\r\n",
     };
-    let fixed = "Cache-Control: no-store\r\nPragma: no-cache\r\nConnection: close\r\n";
-    let length = body.len();
-    match format!(in alloc;
-        "HTTP/1.1 {line}\r\n{kind}Content-Length: {length}\r\n{fixed}{field}\r\n"
-    ) {
-        Ok(head) => is_joined(bytes, head.as_bytes(), body),
-        Err(_) => false,
-    }
+    let mut digits = Buffer::new();
+    let parts = [
+        b"HTTP/1.1 ",
+        line.as_bytes(),
+        b"\r\n",
+        kind.as_bytes(),
+        b"Content-Length: ",
+        digits.format(body.len()).as_bytes(),
+        b"\r\nCache-Control: no-store\r\nPragma: no-cache\r\nConnection: close\r\n",
+        field.as_bytes(),
+        b"\r\n",
+        body,
+    ];
+    are_joined(bytes, &parts)
 }
 
 // Whether the edge answers the bytes so, with the words of the event.
@@ -85,8 +96,8 @@ fn answers(alloc: Global, edge: &mut Edge, now: u64, event: u64, bytes: &[u8], t
     let Some(now) = Moment::new(now) else {
         return false;
     };
-    match edge.answer(alloc, now, &words_at(event), bytes) {
-        Ok(answer) => is_reply(alloc, answer.bytes.as_slice(), told),
+    match &edge.answer(alloc, now, &words_at(event), bytes) {
+        Ok(answer) => is_reply(answer.bytes.as_slice(), told),
         Err(_) => false,
     }
 }
@@ -95,7 +106,10 @@ fn answers(alloc: Global, edge: &mut Edge, now: u64, event: u64, bytes: &[u8], t
 fn refuses(alloc: Global, bytes: &[u8], told: Told) -> bool {
     match new_edge(alloc) {
         Some(mut edge) => {
-            answers(alloc, &mut edge, 1_000, 0, bytes, told) && edge.region().len() == 0
+            let is_told = answers(alloc, &mut edge, 1_000, 0, bytes, told);
+            let held = edge.region().len();
+            drop(edge);
+            is_told && held == 0
         }
         None => false,
     }

@@ -4,15 +4,15 @@
 //!
 //! 1. `src/KIND.rt`: its struct, with derives where all of the fields are plain, or else with `copy` and `same`; `known`,
 //!    `read`, `write`. Two lines of `src/lib.rt` declare and export it.
-//! 2. This file: the import, the variant, and a row each in `copy`, `same`, `known`, `read` and `write`, the last two with
-//!    a number that no kind ever had. Only `same` compiles without its row.
+//! 2. This file: the import, the variant, and a row each in `copy`, `same`, `known`, `read`, `number` and `write_fields`,
+//!    `read` and `number` with a number that no kind ever had. Only `same` compiles without its row.
 //! 3. `specs/Kinds.antt`: the format of its fields. `specs/FactBytes.antt`: its row in `kinds`, with the number.
 //! 4. `specs/FactLaws.antt`: the law of its fields, and its row in `body_exact`. `specs/LengthLaws.antt`: its row in
 //!    `body_short`; a fact has 8,192 bytes at most.
 //! 5. `specs/Check.antt`, `src/check.rt`: the rules that it keeps.
 //! 6. `specs/Tokens.antt`, `src/tokens.rt`: whether it mints tokens or uses one. Nothing asks for this row.
-//! 7. Tests, in tk_bundle: its bytes in `src/tests/facts.rt`, where the refused kind 11 becomes 12, a builder in
-//!    `src/tests/facts/bodies.rt`, and a row each in `built.rt` and `limits.rt` beside it. An edit in `must-fail/` for what it means.
+//! 7. Tests, in tk_region, below `src/tests/bundle`: its bytes in `facts.rt`, where the refused kind 11 becomes 12, a builder in
+//!    `facts/bodies.rt`, and a row each in `built.rt` and `limits.rt` beside it. An edit in `must-fail/` for what it means.
 //! 8. tk_bundle: its number in `kind_of` of `src/version.rt`, and a row of `VERSIONS` there and of `versions` in
 //!    `specs/Versions.antt`. A build that doesn't know the kind finds each bundle with such a fact malformed.
 //! 9. tk_ledger: a row in `change_in` of `specs/Changes.antt` and `change_of` of `src/change.rt`, with what it changes in
@@ -28,7 +28,7 @@
 //! 11. Words: "ten" here, in `src/lib.rt`, in README.md and in docs/ARCHITECTURE.md, the kinds 1 to 10 and their table in
 //!     docs/FORMATS.md, the row "fact" of docs/DEFINITIONS.md.
 
-ghost use Rattle.std.specs.Prelude.{◌≡◌, ◌++◌, ◌↔◌, IfOk, IsTrue, OnOk};
+ghost use Rattle.std.specs.Prelude.{◌≡◌, ◌++◌, ◌∷◌, ◌↔◌, drop, IfOk, IsTrue, OnOk};
 ghost use Rattle.tk_format.specs.Reading.{Gets};
 
 use crate::client_added::ClientAdded;
@@ -158,52 +158,50 @@ impl Body {
         }
     }
 
-    #[tactic(auto, unfolding(crate::specs::FactBytes::kinds))]
     pub(crate) fn write(&self, writer: &mut Writer) -> Result<(), AllocError>
         requires { body.Fits self.now }
         ensures { OnOk result (writer.new ≡ writer.old ++ body.spell self.now) }
     {
+        writer.put_u8(self.number())?;
+        self.write_fields(writer)
+    }
+
+    // The number of its kind.
+    #[tactic(auto, unfolding(crate::specs::FactBytes::kinds))]
+    fn number(&self) -> u8
+        ensures { body.spell self.now ≡ result ∷ drop 1 (body.spell self.now) }
+    {
         match self {
-            Body::ClientAdded(fields) => {
-                writer.put_u8(1)?;
-                fields.write(writer)
-            }
-            Body::ClientRetired(fields) => {
-                writer.put_u8(2)?;
-                fields.write(writer)
-            }
-            Body::ConsentGiven(fields) => {
-                writer.put_u8(3)?;
-                fields.write(writer)
-            }
-            Body::ConsentWithdrawn(fields) => {
-                writer.put_u8(4)?;
-                fields.write(writer)
-            }
-            Body::CodeIssued(fields) => {
-                writer.put_u8(5)?;
-                fields.write(writer)
-            }
-            Body::CodeRedeemed(fields) => {
-                writer.put_u8(6)?;
-                fields.write(writer)
-            }
-            Body::RefreshRotated(fields) => {
-                writer.put_u8(7)?;
-                fields.write(writer)
-            }
-            Body::TokenRevoked(fields) => {
-                writer.put_u8(8)?;
-                fields.write(writer)
-            }
-            Body::ReuseSeen(fields) => {
-                writer.put_u8(9)?;
-                fields.write(writer)
-            }
-            Body::SubjectOut(fields) => {
-                writer.put_u8(10)?;
-                fields.write(writer)
-            }
+            Body::ClientAdded(_) => 1,
+            Body::ClientRetired(_) => 2,
+            Body::ConsentGiven(_) => 3,
+            Body::ConsentWithdrawn(_) => 4,
+            Body::CodeIssued(_) => 5,
+            Body::CodeRedeemed(_) => 6,
+            Body::RefreshRotated(_) => 7,
+            Body::TokenRevoked(_) => 8,
+            Body::ReuseSeen(_) => 9,
+            Body::SubjectOut(_) => 10,
+        }
+    }
+
+    // Writes what comes behind the number.
+    #[tactic(auto, unfolding(crate::specs::FactBytes::kinds))]
+    fn write_fields(&self, writer: &mut Writer) -> Result<(), AllocError>
+        requires { body.Fits self.now }
+        ensures { OnOk result (writer.new ≡ writer.old ++ drop 1 (body.spell self.now)) }
+    {
+        match self {
+            Body::ClientAdded(fields) => fields.write(writer),
+            Body::ClientRetired(fields) => fields.write(writer),
+            Body::ConsentGiven(fields) => fields.write(writer),
+            Body::ConsentWithdrawn(fields) => fields.write(writer),
+            Body::CodeIssued(fields) => fields.write(writer),
+            Body::CodeRedeemed(fields) => fields.write(writer),
+            Body::RefreshRotated(fields) => fields.write(writer),
+            Body::TokenRevoked(fields) => fields.write(writer),
+            Body::ReuseSeen(fields) => fields.write(writer),
+            Body::SubjectOut(fields) => fields.write(writer),
         }
     }
 }

@@ -5,7 +5,7 @@ use tk_family::Link;
 use tk_handle::{Dot, Moment, TokenId};
 
 // What one fact changes in the tables.
-#[derive(Clone, Copy, Debug)]
+#[derive(Clone, Copy)]
 pub(crate) enum Change {
     // A client is added at the fact's dot.
     Add,

@@ -1,7 +1,7 @@
 //! The table of clients.
 
 // What is known of a client: whether it was added, and whether it was retired, which may come first.
-#[derive(Clone, Copy, Debug)]
+#[derive(Clone, Copy)]
 pub(crate) struct ClientRow {
     pub(crate) added: bool,
     pub(crate) retired: bool,

@@ -4,7 +4,7 @@ use tk_handle::Dot;
 
 // A consent, by the client that it was given to and the digest of the subject that gave it, so that those of one subject
 // to one client stand together, by their dots.
-#[derive(Clone, Copy, Debug, PartialEq, Eq, PartialOrd, Ord)]
+#[derive(Clone, Copy, PartialEq, Eq, PartialOrd, Ord)]
 pub(crate) struct ConsentKey {
     pub(crate) client: Dot,
     pub(crate) subject: [u8; 32],

@@ -9,7 +9,7 @@ use tk_family::Forest;
 use tk_handle::Dot;
 
 // What the facts say, kept by what is asked.
-#[derive(Debug, Drop)]
+#[derive(Drop)]
 pub(crate) struct Index {
     pub(crate) clients: BTreeMap<Dot, ClientRow>,
     pub(crate) consents: BTreeSet<ConsentKey>,

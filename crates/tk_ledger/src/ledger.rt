@@ -2,6 +2,7 @@
 
 use crate::index::Index;
 use std::alloc::Global;
+use std::fmt;
 use std::marker::Model;
 use tk_store::FactStore;
 
@@ -10,7 +11,7 @@ use tk_store::FactStore;
 /// With n facts, `add` costs O(log n) for each dot that comes under a code by the fact and for each link that names one
 /// of these. `client`, `consent`, `revoked` and `status` make a fixed number of look-ups, of O(log n) each, and
 /// `consent_for` one for each consent of the subject to the client. None of them takes memory.
-#[derive(Debug, Drop)]
+#[derive(Drop)]
 pub struct Ledger {
     pub(crate) store: FactStore,
     pub(crate) index: Index,
@@ -30,6 +31,13 @@ impl Model for Ledger {
     ghost view = { λ l. l.store };
 
     ghost invariant = { λ l. IsIndexed (facts_of l.store) l.index };
+}
+
+// Its facts and tables are many, and hold digests of tokens: it shows its name alone.
+impl fmt::Debug for Ledger {
+    fn fmt<W: fmt::Write>(&self, f: &mut fmt::Formatter<W>) -> fmt::Result {
+        f.debug_struct("Ledger").finish_non_exhaustive()
+    }
 }
 
 ghost use Rattle.std.specs.Prelude.{◌≡◌, ◌≢◌, ◌↔◌, ◌+◌, ◌^◌, ◌<◌, ◌≤◌, ℕ, None, IsTrue};
@@ -193,7 +201,7 @@ fn add_new(store: &mut FactStore, index: &mut Index, fact: Fact) -> Result<Added
         Ok(added) => match follow(store, index, dot, &change) {
             Ok(()) => Ok(added),
             Err(_) => {
-                store.take_back(dot);
+                drop(store.take_back(dot));
                 Err(AddError::Memory)
             }
         },

@@ -3,7 +3,7 @@
 use tk_handle::Dot;
 
 // A token, its digest, and the client that revoked it.
-#[derive(Clone, Copy, Debug, PartialEq, Eq, PartialOrd, Ord)]
+#[derive(Clone, Copy, PartialEq, Eq, PartialOrd, Ord)]
 pub(crate) struct Revocation {
     pub(crate) dot: Dot,
     // The number of the token's kind.

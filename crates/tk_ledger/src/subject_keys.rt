@@ -3,14 +3,14 @@
 use tk_handle::Dot;
 
 // A code, by the digest of its subject, SHA-256.
-#[derive(Clone, Copy, Debug, PartialEq, Eq, PartialOrd, Ord)]
+#[derive(Clone, Copy, PartialEq, Eq, PartialOrd, Ord)]
 pub(crate) struct CodeKey {
     pub(crate) subject: [u8; 32],
     pub(crate) code: Dot,
 }
 
 // A sign-out, by the digest of its subject, so that the last of a subject comes first.
-#[derive(Clone, Copy, Debug, PartialEq, Eq, PartialOrd, Ord)]
+#[derive(Clone, Copy, PartialEq, Eq, PartialOrd, Ord)]
 pub(crate) struct OutKey {
     pub(crate) subject: [u8; 32],
     // The seconds from its moment to the last of all.

@@ -37,6 +37,3 @@ pub use request::{Endpoint, Request};
 pub use scope::scope_asked;
 pub use status::Status;
 pub use tk_params::{Credentials, CredentialsError, One, Params};
-
-#[cfg(test)]
-mod tests;

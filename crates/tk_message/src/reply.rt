@@ -61,7 +61,7 @@ pub fn error_reply(alloc: Global, code: ErrorCode) -> Result<Reply, AllocError>
     ensures { IfOk result (λ reply. reply ≡ spec.error_reply code) }
 {
     let body = error_body(alloc, code.name())?;
-    json_reply(alloc, code.status(), &body)
+    told(alloc, code.status(), body)
 }
 
 /// The id of the client that was added at the dot (own).
@@ -70,7 +70,7 @@ pub fn client_reply(alloc: Global, status: Status, client: Dot) -> Result<Reply,
 {
     let id = client_text(alloc, client)?;
     let body = client_body(alloc, id.as_str())?;
-    json_reply(alloc, status, &body)
+    told(alloc, status, body)
 }
 
 /// What is known of the client that was added at the dot (own).
@@ -85,7 +85,15 @@ pub fn shown_reply(
 {
     let id = client_text(alloc, client)?;
     let body = shown_body(alloc, id.as_str(), sort, live, scope.text())?;
-    json_reply(alloc, Status::Ok, &body)
+    told(alloc, Status::Ok, body)
+}
+
+// Lets the body go once it is written.
+fn told(alloc: Global, status: Status, body: Value) -> Result<Reply, AllocError>
+    requires { IsWritable (view body) }
+    ensures { IfOk result (λ reply. reply ≡ spec.json_reply status (view body)) }
+{
+    json_reply(alloc, status, &body)
 }
 
 // Writes the JSON of every reply.
@@ -114,7 +122,7 @@ pub fn consent_reply(alloc: Global, status: Status, consent: Dot) -> Result<Repl
 {
     let id = consent_text(alloc, consent)?;
     let body = consent_body(alloc, id.as_str())?;
-    json_reply(alloc, status, &body)
+    told(alloc, status, body)
 }
 
 /// The subject that was signed out (own).
@@ -122,7 +130,7 @@ pub fn subject_reply(alloc: Global, subject: &Subject) -> Result<Reply, AllocErr
     ensures { IfOk result (λ reply. reply ≡ spec.subject_reply subject.now) }
 {
     let body = subject_body(alloc, subject.as_str())?;
-    json_reply(alloc, Status::Ok, &body)
+    told(alloc, Status::Ok, body)
 }
 
 /// An access token that lasts so many seconds, a refresh token, and the scope of the access token (RFC 6749, 5.1).
@@ -144,7 +152,7 @@ pub fn token_reply(
         refresh.as_str(),
         scope.text(),
     )?;
-    json_reply(alloc, Status::Ok, &body)
+    told(alloc, Status::Ok, body)
 }
 
 /// What is said of an active access token: its client, its end and start, its scope and its subject (RFC 7662, 2.2).
@@ -167,7 +175,7 @@ pub fn access_reply(
         scope.text(),
         subject.as_str(),
     )?;
-    json_reply(alloc, Status::Ok, &body)
+    told(alloc, Status::Ok, body)
 }
 
 /// What is said of an active refresh token: the same, but for the type (RFC 7662, 2.2).
@@ -190,7 +198,7 @@ pub fn refresh_reply(
         scope.text(),
         subject.as_str(),
     )?;
-    json_reply(alloc, Status::Ok, &body)
+    told(alloc, Status::Ok, body)
 }
 
 /// What is said of a token that isn't active: that alone (RFC 7662, 2.2).
@@ -198,7 +206,7 @@ pub fn inactive_reply(alloc: Global) -> Result<Reply, AllocError>
     ensures { IfOk result (λ reply. reply ≡ spec.inactive_reply) }
 {
     let body = inactive_body(alloc)?;
-    json_reply(alloc, Status::Ok, &body)
+    told(alloc, Status::Ok, body)
 }
 
 /// A status, and nothing else. No memory is taken.
@@ -252,7 +260,7 @@ pub fn taken_reply(alloc: Global, count: u16) -> Result<Reply, AllocError>
     ensures { IfOk result (λ reply. reply ≡ spec.taken_reply count) }
 {
     let body = taken_body(alloc, count)?;
-    json_reply(alloc, Status::Ok, &body)
+    told(alloc, Status::Ok, body)
 }
 
 /// Bytes that are no text, as a bundle's, with 200 OK. No memory is taken.

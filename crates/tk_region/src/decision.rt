@@ -52,6 +52,7 @@ pub(crate) fn capped(
     ensures under { IfOk result (λ d. IfSome d.made (λ _. place.now.next ≤ cap)) }
 {
     if decision.made.is_some() && cap < place.next.number() {
+        drop(decision);
         return Decision::refuse(alloc, ErrorCode::TemporarilyUnavailable);
     }
     Ok(decision)

@@ -42,7 +42,8 @@ impl Model for Handled {
     ghost view = { λ h. record { reply = h.reply; logged = option_map (λ v. v.items) h.logged } };
 }
 
-ghost use Rattle.std.specs.Prelude.{◌≡◌, IfOk, IfSome};
+ghost use Rattle.std.specs.Prelude.{◌≡◌, IfOk, IfSome, Some, None};
+ghost use Rattle.tk_fact.specs.Check.{refusal_of};
 ghost use Rattle.tk_message.specs.Decision.{Passes};
 ghost use Rattle.tk_region.specs.Step as spec;
 
@@ -74,19 +75,28 @@ fn with_record(alloc: Global, next: Dot, decision: Decision) -> Result<Prepared,
 {
     let Decision { reply, made } = decision;
     match made {
-        Some(body) => {
-            let fact = Fact { dot: next, body };
-            let logged = single(alloc, &fact)?;
-            Ok(Prepared {
-                reply,
-                fact: Some(fact),
-                logged: Some(logged),
-            })
-        }
+        Some(body) => recorded(alloc, reply, Fact { dot: next, body }),
         None => Ok(Prepared {
             reply,
             fact: None,
             logged: None,
         }),
     }
+}
+
+// The reply and the fact, with the record of the fact.
+fn recorded(alloc: Global, reply: Reply, fact: Fact) -> Result<Prepared, AllocError>
+    requires { refusal_of fact.1 ≡ None }
+    ensures { IfOk result (λ p. p ≡ spec.prepared_at fact.0 (record { reply = reply; made = Some fact.1 })) }
+{
+    let Ok(logged) = single(alloc, &fact) else {
+        drop(fact);
+        drop(reply);
+        return Err(AllocError);
+    };
+    Ok(Prepared {
+        reply,
+        fact: Some(fact),
+        logged: Some(logged),
+    })
 }

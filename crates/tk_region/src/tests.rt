@@ -1,8 +1,11 @@
-//! A region that makes facts and takes bundles in: what it answers, and the bytes of what it then holds. The requests of each
-//! endpoint are here too, in the lowest crate that has all of them: `authorize` (with administration), `grant` and `query`.
+//! A region that makes facts and takes bundles in: what it answers, and the bytes of what it then holds. The tests of the crates
+//! below are here too: the requests of each endpoint in `authorize` (with administration), `grant` and `query`, replies and what they
+//! are made of in `message`, and bundles and what they are made of in `bundle`.
 
 mod authorize;
+mod bundle;
 mod grant;
+mod message;
 mod pages;
 mod query;
 mod settings;
@@ -116,20 +119,21 @@ fn retire(alloc: Global, region: &mut Region, client: (u16, u64)) -> Option<Hand
 // Of region 1, and of region 2 itself.
 const FIRST: [Retired; 2] = [((1, 1), (1, 9)), ((2, 1), (1, 8))];
 
-// Region 2 with both, below its cap.
-fn with_first(alloc: Global) -> Option<Region> {
-    let mut region = new_region(alloc, 5)?;
-    let taken = take(alloc, &mut region, &FIRST[..1]);
-    if taken == Some(Ok(1)) && retire(alloc, &mut region, (1, 8)).is_some() {
-        Some(region)
-    } else {
-        None
-    }
+// Whether region 2 gets both.
+fn fill(alloc: Global, region: &mut Region) -> bool {
+    take(alloc, region, &FIRST[..1]) == Some(Ok(1)) && retire(alloc, region, (1, 8)).is_some()
 }
 
 // A bundle's facts, what taking it in answers, and what the region then holds.
+type Taken = (
+    &'static str,
+    &'static [Retired],
+    Result<u16, TakeError>,
+    &'static [Retired],
+);
+
 #[rattlefmt::skip]
-const BUNDLES: &[(&str, &[Retired], Result<u16, TakeError>, &[Retired])] = &[
+static BUNDLES: [Taken; 15] = [
     ("nothing", &[], Ok(0), &FIRST),
     ("a new fact", &[((1, 3), (1, 9))], Ok(1), &[((1, 1), (1, 9)), ((1, 3), (1, 9)), ((2, 1), (1, 8))]),
     ("all that is held", &FIRST, Ok(0), &FIRST),
@@ -148,22 +152,25 @@ const BUNDLES: &[(&str, &[Retired], Result<u16, TakeError>, &[Retired])] = &[
 ];
 
 // Whether the region with the first facts answers so to the bundle, and what it then holds.
-fn takes(
-    alloc: Global,
-    facts: &[Retired],
-    want: Result<u16, TakeError>,
-    after: &[Retired],
-) -> Option<bool> {
-    let mut region = with_first(alloc)?;
-    let taken = take(alloc, &mut region, facts);
-    Some(taken == Some(want) && holds(alloc, &region, after))
+fn takes_in(alloc: Global, region: &mut Region, row: &Taken) -> bool {
+    fill(alloc, region) && take(alloc, region, row.1) == Some(row.2) && holds(alloc, region, row.3)
+}
+
+fn takes(alloc: Global, row: &Taken) -> bool {
+    match new_region(alloc, 5) {
+        Some(mut region) => {
+            let is_so = takes_in(alloc, &mut region, row);
+            drop(region);
+            is_so
+        }
+        None => false,
+    }
 }
 
 #[test]
 fn a_bundle_is_taken_in_or_changes_nothing(rt: HostRuntime) {
-    for &(name, facts, want, after) in BUNDLES {
-        let is_taken = takes(rt.alloc(), facts, want, after);
-        assert!(rt; is_taken == Some(true), "{name}");
+    for row in &BUNDLES {
+        assert!(rt; takes(rt.alloc(), row), "{}", row.0);
     }
 }
 
@@ -178,11 +185,24 @@ fn first_good(alloc: Global, region: &mut Region, bytes: &[u8]) -> Option<usize>
 }
 
 // The same of a bundle with its next fact, and whether the region is left as it was.
-fn first_torn(alloc: Global) -> Option<(Option<usize>, bool)> {
-    let mut region = with_first(alloc)?;
+fn first_torn_in(alloc: Global, region: &mut Region) -> Option<(Option<usize>, bool)> {
+    if !fill(alloc, region) {
+        return None;
+    }
     let bytes = bundle_of(alloc, &[((1, 2), (1, 9)), ((2, 2), (1, 9))])?;
-    let good = first_good(alloc, &mut region, bytes.as_slice());
-    Some((good, holds(alloc, &region, &FIRST)))
+    let good = first_good(alloc, region, bytes.as_slice());
+    Some((good, holds(alloc, region, &FIRST)))
+}
+
+fn first_torn(alloc: Global) -> Option<(Option<usize>, bool)> {
+    match new_region(alloc, 5) {
+        Some(mut region) => {
+            let torn = first_torn_in(alloc, &mut region);
+            drop(region);
+            torn
+        }
+        None => None,
+    }
 }
 
 #[test]
@@ -192,7 +212,7 @@ fn a_torn_bundle_is_malformed(rt: HostRuntime) {
 
 // Bundles in the order in which they come, and how many facts of each are new.
 #[rattlefmt::skip]
-const DELIVERIES: &[(&str, &[Retired], u16)] = &[
+static DELIVERIES: [(&str, &[Retired], u16); 4] = [
     ("the newer one", &[((1, 3), (1, 9)), ((3, 1), (1, 9))], 2),
     ("the older one", &[((1, 1), (1, 9)), ((1, 2), (1, 9))], 2),
     ("the newer one again", &[((1, 3), (1, 9)), ((3, 1), (1, 9))], 0),
@@ -204,22 +224,39 @@ const DELIVERED: [Retired; 5] = [((1, 1), (1, 9)), ((1, 2), (1, 9)), ((1, 3), (1
 
 // The first of them that isn't taken in so.
 fn first_refused(alloc: Global, region: &mut Region) -> Option<&'static str> {
-    for &(name, facts, new) in DELIVERIES {
-        if take(alloc, region, facts) != Some(Ok(new)) {
-            return Some(name);
+    for row in &DELIVERIES {
+        if take(alloc, region, row.1) != Some(Ok(row.2)) {
+            return Some(row.0);
         }
     }
     None
 }
 
+// The same, or what isn't held after all.
+fn first_missed_in(alloc: Global, region: &mut Region) -> Option<&'static str> {
+    let refused = first_refused(alloc, region);
+    if refused.is_none() && !holds(alloc, region, &DELIVERED) {
+        return Some("four bundles");
+    }
+    refused
+}
+
+fn first_missed(alloc: Global) -> Option<&'static str> {
+    match new_region(alloc, 5) {
+        Some(mut region) => {
+            let missed = first_missed_in(alloc, &mut region);
+            drop(region);
+            missed
+        }
+        None => Some("a region"),
+    }
+}
+
 #[test]
-fn bundles_come_in_any_order(rt: HostRuntime) -> Result<(), Fail> {
-    let alloc = rt.alloc();
-    let mut region = new_region(alloc, 5).ok_or("a region")?;
-    let refused = first_refused(alloc, &mut region);
-    assert!(rt; refused.is_none(), "{refused:?}");
-    assert!(rt; holds(alloc, &region, &DELIVERED), "four bundles");
-    Ok(())
+fn bundles_come_in_any_order(rt: HostRuntime) {
+    if let Some(name) = first_missed(rt.alloc()) {
+        panic!(rt; "{name}");
+    }
 }
 
 fn is_json(reply: &Reply, status: u16, body: &str) -> bool {
@@ -241,19 +278,29 @@ fn is_recorded(handled: &Handled, record: &[u8]) -> bool {
 
 // Whether the region makes the fact, and records it.
 fn makes(alloc: Global, region: &mut Region, fact: Retired) -> Option<bool> {
-    let handled = retire(alloc, region, fact.1)?;
-    match &bundle_of(alloc, &[fact]) {
-        Some(record) => Some(is_recorded(&handled, record.as_slice())),
+    let record = bundle_of(alloc, &[fact])?;
+    match retire(alloc, region, fact.1) {
+        Some(handled) => {
+            let is_so = is_recorded(&handled, record.as_slice());
+            drop(handled);
+            Some(is_so)
+        }
         None => None,
     }
 }
 
+fn is_refused(handled: &Handled) -> bool {
+    let body = "{\"error\":\"temporarily_unavailable\"}";
+    handled.logged.is_none() && is_json(&handled.reply, 503, body)
+}
+
 // Whether the region makes no fact, for its cap.
 fn is_full(alloc: Global, region: &mut Region) -> bool {
-    match &retire(alloc, region, (1, 9)) {
-        Some(refused) => {
-            let body = "{\"error\":\"temporarily_unavailable\"}";
-            refused.logged.is_none() && is_json(&refused.reply, 503, body)
+    match retire(alloc, region, (1, 9)) {
+        Some(handled) => {
+            let is_so = is_refused(&handled);
+            drop(handled);
+            is_so
         }
         None => false,
     }
@@ -262,21 +309,47 @@ fn is_full(alloc: Global, region: &mut Region) -> bool {
 // The facts of region 2, whose cap is 2.
 const MADE: &[Retired] = &[((2, 1), (1, 7)), ((2, 2), (1, 8))];
 
+// The first of them that isn't made and recorded.
+fn first_unmade(alloc: Global, region: &mut Region) -> Option<Retired> {
+    for &fact in MADE {
+        if makes(alloc, region, fact) != Some(true) {
+            return Some(fact);
+        }
+    }
+    None
+}
+
+// The same, whether none is made above the cap, and whether region 2 holds what was made.
+fn made_in(alloc: Global, region: &mut Region) -> (Option<Retired>, bool, bool) {
+    let unmade = first_unmade(alloc, region);
+    let is_full = is_full(alloc, region);
+    let is_kept = region.number().number() == 2 && holds(alloc, region, MADE);
+    (unmade, is_full, is_kept)
+}
+
+fn made(alloc: Global) -> Option<(Option<Retired>, bool, bool)> {
+    match new_region(alloc, 2) {
+        Some(mut region) => {
+            let made = made_in(alloc, &mut region);
+            drop(region);
+            Some(made)
+        }
+        None => None,
+    }
+}
+
 #[test]
 fn a_fact_is_recorded_and_none_is_above_the_cap(rt: HostRuntime) -> Result<(), Fail> {
-    let alloc = rt.alloc();
-    let mut region = new_region(alloc, 2).ok_or("a region")?;
-    for &fact in MADE {
-        assert!(rt; makes(alloc, &mut region, fact) == Some(true), "{fact:?}");
-    }
-    assert!(rt; is_full(alloc, &mut region), "above the cap");
-    assert!(rt; region.number().number() == 2 && holds(alloc, &region, MADE));
+    let (unmade, is_full, is_kept) = made(rt.alloc()).ok_or("a region")?;
+    assert!(rt; unmade.is_none(), "{unmade:?}");
+    assert!(rt; is_full, "above the cap");
+    assert!(rt; is_kept);
     Ok(())
 }
 
 // What a bundle of three may leave: none of its facts, the first, the first two, or all.
 #[rattlefmt::skip]
-const LEFT: [&[Retired]; 4] = [
+static LEFT: [&[Retired]; 4] = [
     &FIRST,
     &[((1, 1), (1, 9)), ((1, 2), (1, 9)), ((2, 1), (1, 8))],
     &[((1, 1), (1, 9)), ((1, 2), (1, 9)), ((1, 3), (1, 9)), ((2, 1), (1, 8))],
@@ -284,24 +357,43 @@ const LEFT: [&[Retired]; 4] = [
 ];
 
 // Where a bundle of three is taken in: what that answers, how many of its facts are then held, and whether they are the first.
-fn left(alloc: Global) -> Option<(Result<u16, TakeError>, usize, bool)> {
-    let mut region = with_first(alloc)?;
+fn left_in(alloc: Global, region: &mut Region) -> Option<(Result<u16, TakeError>, usize, bool)> {
+    if !fill(alloc, region) {
+        return None;
+    }
     let facts = [((1, 2), (1, 9)), ((1, 3), (1, 9)), ((3, 1), (1, 9))];
-    let result = take(alloc, &mut region, &facts)?;
+    let result = take(alloc, region, &facts)?;
     let new = match region.len() {
         2 => 0,
         3 => 1,
         4 => 2,
         _ => 3,
     };
-    Some((result, new, holds(alloc, &region, LEFT[new])))
+    Some((result, new, holds(alloc, region, LEFT[new])))
+}
+
+fn left(alloc: Global) -> Option<(Result<u16, TakeError>, usize, bool)> {
+    match new_region(alloc, 5) {
+        Some(mut region) => {
+            let left = left_in(alloc, &mut region);
+            drop(region);
+            left
+        }
+        None => None,
+    }
+}
+
+// All of them, or the first where memory is refused.
+fn is_left(left: (Result<u16, TakeError>, usize, bool)) -> bool {
+    match left {
+        (Ok(count), new, are_first) => (count, new, are_first) == (3, 3, true),
+        (Err(error), _, are_first) => error == TakeError::Memory && are_first,
+    }
 }
 
 #[test]
 fn memory_leaves_the_first_facts(rt: HostRuntime) -> Result<(), Fail> {
-    match left(rt.alloc()).ok_or("no memory")? {
-        (Ok(count), new, are_first) => assert_eq!(rt; (count, new, are_first), (3, 3, true)),
-        (Err(error), _, are_first) => assert!(rt; error == TakeError::Memory && are_first),
-    }
+    let left = left(rt.alloc()).ok_or("no memory")?;
+    assert!(rt; is_left(left), "{left:?}");
     Ok(())
 }

@@ -4,7 +4,7 @@
 --   request_of      those, where METHOD is one
 --   asked_of        the request of any line, by its first field and by those behind the moment
 use Rattle.std.specs.Prelude.{ℕ, Bool, nat_le, ◌&&◌, List, [], ◌∷◌, ◌++◌, length, codes, decimal, Option, Some, None, if◌then◌else◌}
-use Rattle.std.specs.List.{list_all}
+use Rattle.std.specs.List.{concat, list_all}
 use Rattle.std.specs.Str.{bytes_eq}
 
 -- ---- what a field gives, where `-` means none
@@ -59,12 +59,14 @@ whole_of form = None
 
 -- ---- short lines
 
-abbrev pub secret_pair : List ℕ → List ℕ
-secret_pair secret = if bytes_eq secret none_text then [] else codes "&secret=" ++ secret
+-- the text, where the value is given
+abbrev pub given : List ℕ → List ℕ → List ℕ
+given value text = if bytes_eq value none_text then [] else text
 
 abbrev pub client_form : List ℕ → List ℕ → List ℕ → List ℕ → List ℕ
-client_form kind secret scope uris =
-    codes "kind=" ++ (kind ++ (secret_pair secret ++ (codes "&scope=" ++ (scope ++ (codes "&redirects=" ++ uris)))))
+client_form kind secret scope uris = concat (
+    codes "kind=" ∷ kind ∷ given secret (codes "&secret=") ∷ given secret secret
+    ∷ codes "&scope=" ∷ scope ∷ codes "&redirects=" ∷ uris ∷ [])
 
 -- KIND SECRET SCOPE URIS
 abbrev pub client_of : List (List ℕ) → Option (List ℕ)
@@ -73,17 +75,17 @@ client_of form = None
 
 -- ID
 abbrev pub retire_of : List (List ℕ) → Option (List ℕ)
-retire_of (id ∷ []) = request_of (codes "POST") (codes "/admin/retire") none_text none_text (codes "client_id=" ++ id)
+retire_of (id ∷ []) = request_of (codes "POST") (codes "/admin/retire") none_text none_text (concat (codes "client_id=" ∷ id ∷ []))
 retire_of form = None
 
 -- SUBJECT
 abbrev pub sign_out_of : List (List ℕ) → Option (List ℕ)
-sign_out_of (subject ∷ []) = request_of (codes "POST") (codes "/admin/signout") none_text none_text (codes "subject=" ++ subject)
+sign_out_of (subject ∷ []) = request_of (codes "POST") (codes "/admin/signout") none_text none_text (concat (codes "subject=" ∷ subject ∷ []))
 sign_out_of form = None
 
 -- ID
 abbrev pub look_of : List (List ℕ) → Option (List ℕ)
-look_of (id ∷ []) = request_of (codes "GET") (codes "/admin/client?client_id=" ++ id) none_text none_text none_text
+look_of (id ∷ []) = request_of (codes "GET") (concat (codes "/admin/client?client_id=" ∷ id ∷ [])) none_text none_text none_text
 look_of form = None
 
 -- by the first field

@@ -1,6 +1,6 @@
 //! The requests of lines: a whole one, and short ones that stand for a whole one.
 
-ghost use Rattle.std.specs.Prelude.{◌≡◌, ◌++◌, IfOk, string_bytes};
+ghost use Rattle.std.specs.Prelude.{◌≡◌, IfOk, string_bytes};
 ghost use Rattle.std.specs.List.{list_all};
 ghost use Rattle.tk_world.specs.Line.{bytes_in, texts};
 ghost use Rattle.tk_world.specs.RequestLine as spec;
@@ -66,17 +66,27 @@ fn client_form(
 ) -> Result<String, AllocError>
     ensures { IfOk result (λ text. string_bytes text ≡ spec.client_form kind.now secret.now scope.now uris.now) }
 {
-    let mut form = String::from_str(alloc, "kind=")?;
-    form.push_str(kind)?;
-    if secret != "-" {
-        form.push_str("&secret=")?;
-        form.push_str(secret)?;
+    [
+        "kind=",
+        kind,
+        given(secret, "&secret="),
+        given(secret, secret),
+        "&scope=",
+        scope,
+        "&redirects=",
+        uris,
+    ]
+    .concat(alloc)
+}
+
+// The text, where the value is given.
+fn given<'a>(value: &str, text: &'a str) -> &'a str
+    ensures { result.now ≡ spec.given value.now text.now }
+{
+    if value == "-" {
+        return "";
     }
-    form.push_str("&scope=")?;
-    form.push_str(scope)?;
-    form.push_str("&redirects=")?;
-    form.push_str(uris)?;
-    Ok(form)
+    text
 }
 
 fn retire(alloc: Global, form: &[&str]) -> Result<Option<Vec<u8>>, AllocError>
@@ -84,7 +94,7 @@ fn retire(alloc: Global, form: &[&str]) -> Result<Option<Vec<u8>>, AllocError>
 {
     match form {
         [id] => {
-            let body = joined(alloc, "client_id=", id)?;
+            let body = ["client_id=", id].concat(alloc)?;
             request_of(alloc, "POST", "/admin/retire", "-", "-", body.as_str())
         }
         _ => Ok(None),
@@ -96,7 +106,7 @@ fn sign_out(alloc: Global, form: &[&str]) -> Result<Option<Vec<u8>>, AllocError>
 {
     match form {
         [subject] => {
-            let body = joined(alloc, "subject=", subject)?;
+            let body = ["subject=", subject].concat(alloc)?;
             request_of(alloc, "POST", "/admin/signout", "-", "-", body.as_str())
         }
         _ => Ok(None),
@@ -108,19 +118,11 @@ fn look(alloc: Global, form: &[&str]) -> Result<Option<Vec<u8>>, AllocError>
 {
     match form {
         [id] => {
-            let target = joined(alloc, "/admin/client?client_id=", id)?;
+            let target = ["/admin/client?client_id=", id].concat(alloc)?;
             request_of(alloc, "GET", target.as_str(), "-", "-", "-")
         }
         _ => Ok(None),
     }
-}
-
-fn joined(alloc: Global, first: &str, second: &str) -> Result<String, AllocError>
-    ensures { IfOk result (λ text. string_bytes text ≡ first.now ++ second.now) }
-{
-    let mut text = String::from_str(alloc, first)?;
-    text.push_str(second)?;
-    Ok(text)
 }
 
 // ---- a whole request

@@ -1,26 +1,76 @@
 -- What a run of the program by sockets comes to, by what its pieces do.
-use Rattle.std.proofs.Common.{◌≡◌, ℕ, List, Option, Some, None, Result, Ok, Err, subst, inl, inr}
+use Rattle.std.proofs.Common.{◌≡◌, ℕ, List, Option, Some, None, Result, Ok, Err, subst, sym, inl, inr}
 use Rattle.std.specs.Prelude.{IfSome, IfErr, OnOk}
 use Rattle.std.specs.Io.KnownBytes.{Appends}
 use Rattle.clap.specs.Words.{Text}
 use Rattle.tk_world.specs.Put.{AppendsFront}
 use Rattle.tokend.specs.Task.{AsksToLoop}
-use Rattle.tokend.specs.LoopbackRun.{IsLoopbackRun, PrintsLoopback, BeginsLoopback, IsLoopbackFault, IsSocketFault, LeavesLoopback}
+use Rattle.tokend.specs.LoopbackRun.{IsLoopbackRun, PrintsLoopback, IsLoopbackFault, IsSocketFault, LeavesLoopback}
 use Rattle.tokend.specs.ProgramRun.{IsDone, IsFaultFor, Leaves}
 use Rattle.tokend.specs.declared.fault.Fault.{Fault}
 use Rattle.tokend.specs.declared.fault.Fault.TheVariants.{BadLine, BadLogFile, BadSeedFile, CannotListen, CannotOpen, CannotRead, CannotReadFile, Memory, Output, ScriptTooLong, Words}
 
--- where the input's bytes are known, they are the script
-pub loopback_printed : (input : Option (List ℕ)) (script lines : List ℕ) (old new : Option (List ℕ))
-    → IfSome input (λ bytes. script ≡ bytes) → IsLoopbackRun script lines → Appends old new lines → PrintsLoopback input old new
-loopback_printed None script lines old new whole run appended = (lines, tt, appended)
-loopback_printed (Some bytes) script lines old new whole run appended = (lines, subst (λ s. IsLoopbackRun s lines) whole run, appended)
+-- the lines of a script that was read were written
+pub loopback_printed : {T : Type 0} (script lines : List ℕ) (old new : Option (List ℕ)) (r : Result T Fault)
+    → IsLoopbackRun script lines → OnOk r (Appends old new lines) → OnOk r (PrintsLoopback (Some script) old new)
+loopback_printed script lines old new (Ok x) run appended = (lines, run, appended)
+loopback_printed script lines old new (Err fault) run appended = tt
 
--- and so is the beginning of its lines
-pub loopback_begun : (input : Option (List ℕ)) (script lines : List ℕ) (old new : Option (List ℕ))
-    → IfSome input (λ bytes. script ≡ bytes) → IsLoopbackRun script lines → AppendsFront old new lines → BeginsLoopback input old new
-loopback_begun None script lines old new whole run begun = (lines, tt, begun)
-loopback_begun (Some bytes) script lines old new whole run begun = (lines, subst (λ s. IsLoopbackRun s lines) whole run, begun)
+-- and a beginning of them, where the output failed
+pub loopback_begun : {T : Type 0} (script lines : List ℕ) (old new : Option (List ℕ)) (r : Result T Fault)
+    → IsLoopbackRun script lines → IfErr r (λ fault. (fault ≡ Output) × AppendsFront old new lines)
+    → IfErr r (λ fault. LeavesLoopback (Some script) fault old new)
+loopback_begun script lines old new (Ok x) run begun = tt
+loopback_begun script lines old new (Err fault) run begun =
+    subst (λ f. LeavesLoopback (Some script) f old new) (sym begun.0) (lines, run, begun.1)
+
+-- where the input's bytes are known, they are the script
+pub loopback_is_input : {T : Type 0} (input : Option (List ℕ)) (script : List ℕ) (old new : Option (List ℕ)) (r : Result T Fault)
+    → IfSome input (λ bytes. script ≡ bytes) → OnOk r (PrintsLoopback (Some script) old new) → OnOk r (PrintsLoopback input old new)
+loopback_is_input None script old new (Ok x) whole h = (h.0, tt, h.2)
+loopback_is_input (Some bytes) script old new (Ok x) whole h = subst (λ s. PrintsLoopback (Some s) old new) whole h
+loopback_is_input input script old new (Err fault) whole h = tt
+
+looped_fault_of : (input : Option (List ℕ)) (script : List ℕ) (fault : Fault) → IfSome input (λ bytes. script ≡ bytes)
+    → IsLoopbackFault (Some script) fault → IsLoopbackFault input fault
+looped_fault_of (Some bytes) script fault whole h = subst (λ s. IsLoopbackFault (Some s) fault) whole h
+looped_fault_of None script (Words error) whole h = h
+looped_fault_of None script CannotRead whole h = h
+looped_fault_of None script (CannotReadFile name) whole h = h
+looped_fault_of None script (CannotOpen name) whole h = h
+looped_fault_of None script CannotListen whole h = h
+looped_fault_of None script BadSeedFile whole h = h
+looped_fault_of None script BadLogFile whole h = h
+looped_fault_of None script ScriptTooLong whole h = tt
+looped_fault_of None script (BadLine number) whole h = tt
+looped_fault_of None script Memory whole h = h
+looped_fault_of None script Output whole h = h
+
+pub loopback_faults_of_input : {T : Type 0} (input : Option (List ℕ)) (script : List ℕ) (r : Result T Fault) → IfSome input (λ bytes. script ≡ bytes)
+    → IfErr r (IsLoopbackFault (Some script)) → IfErr r (IsLoopbackFault input)
+loopback_faults_of_input input script (Ok x) whole h = tt
+loopback_faults_of_input input script (Err fault) whole h = looped_fault_of input script fault whole h
+
+looped_leaves : (input : Option (List ℕ)) (script : List ℕ) (fault : Fault) (old new : Option (List ℕ)) → IfSome input (λ bytes. script ≡ bytes)
+    → LeavesLoopback (Some script) fault old new → LeavesLoopback input fault old new
+looped_leaves (Some bytes) script fault old new whole h = subst (λ s. LeavesLoopback (Some s) fault old new) whole h
+looped_leaves None script (Words error) old new whole h = h
+looped_leaves None script CannotRead old new whole h = h
+looped_leaves None script (CannotReadFile name) old new whole h = h
+looped_leaves None script (CannotOpen name) old new whole h = h
+looped_leaves None script CannotListen old new whole h = h
+looped_leaves None script BadSeedFile old new whole h = h
+looped_leaves None script BadLogFile old new whole h = h
+looped_leaves None script ScriptTooLong old new whole h = h
+looped_leaves None script (BadLine number) old new whole h = h
+looped_leaves None script Memory old new whole h = h
+looped_leaves None script Output old new whole h = (h.0, tt, h.2)
+
+pub loopback_left_by_input : {T : Type 0} (input : Option (List ℕ)) (script : List ℕ) (r : Result T Fault) (old new : Option (List ℕ))
+    → IfSome input (λ bytes. script ≡ bytes) → IfErr r (λ fault. LeavesLoopback (Some script) fault old new)
+    → IfErr r (λ fault. LeavesLoopback input fault old new)
+loopback_left_by_input input script (Ok x) old new whole h = tt
+loopback_left_by_input input script (Err fault) old new whole h = looped_leaves input script fault old new whole h
 
 -- what is wrong with sockets is wrong with the script
 pub socket_fault : (input : Option (List ℕ)) (fault : Fault) → IsSocketFault fault → IsLoopbackFault input fault

@@ -7,7 +7,7 @@ use Rattle.tk_region.specs.SettingsFields.{SettingsFields}
 use Rattle.tk_world.specs.Put.{AppendsFront}
 use Rattle.tokend.specs.Serving.{Announces, IsFileFault, IsServiceFault, LeavesService}
 use Rattle.tokend.specs.Task.{script_task, Asks, AsksToServe}
-use Rattle.tokend.specs.ScriptRun.{IsScriptRun, PrintsScript, BeginsScript, IsScriptFault, LeavesScript}
+use Rattle.tokend.specs.ScriptRun.{IsScriptRun, PrintsScript, IsScriptFault, LeavesScript}
 use Rattle.tokend.specs.ProgramRun.{IsDone, IsFaultFor, IsQuiet, Leaves, Tells}
 use Rattle.tokend.specs.Status.{fault_text, status_of}
 use Rattle.tokend.specs.CommandLine.{settings_of}
@@ -16,17 +16,67 @@ use Rattle.tokend.specs.declared.options.Task.TheVariants.{Script}
 use Rattle.tokend.specs.declared.fault.Fault.{Fault}
 use Rattle.tokend.specs.declared.fault.Fault.TheVariants.{BadLine, BadLogFile, BadSeedFile, CannotListen, CannotOpen, CannotRead, CannotReadFile, Memory, Output, ScriptTooLong, Words}
 
--- where the input's bytes are known, they are the script
-pub script_printed : (settings : SettingsFields) (input : Option (List ℕ)) (script lines : List ℕ) (old new : Option (List ℕ))
-    → IfSome input (λ bytes. script ≡ bytes) → IsScriptRun settings script lines → Appends old new lines → PrintsScript settings input old new
-script_printed settings None script lines old new whole run appended = (lines, tt, appended)
-script_printed settings (Some bytes) script lines old new whole run appended = (lines, subst (λ s. IsScriptRun settings s lines) whole run, appended)
+-- the lines of a script that was read were written
+pub script_printed : {T : Type 0} (settings : SettingsFields) (script lines : List ℕ) (old new : Option (List ℕ)) (r : Result T Fault)
+    → IsScriptRun settings script lines → OnOk r (Appends old new lines) → OnOk r (PrintsScript settings (Some script) old new)
+script_printed settings script lines old new (Ok x) run appended = (lines, run, appended)
+script_printed settings script lines old new (Err fault) run appended = tt
 
--- and so is the beginning of its lines
-pub script_begun : (settings : SettingsFields) (input : Option (List ℕ)) (script lines : List ℕ) (old new : Option (List ℕ))
-    → IfSome input (λ bytes. script ≡ bytes) → IsScriptRun settings script lines → AppendsFront old new lines → BeginsScript settings input old new
-script_begun settings None script lines old new whole run begun = (lines, tt, begun)
-script_begun settings (Some bytes) script lines old new whole run begun = (lines, subst (λ s. IsScriptRun settings s lines) whole run, begun)
+-- and a beginning of them, where the output failed
+pub script_begun : {T : Type 0} (settings : SettingsFields) (script lines : List ℕ) (old new : Option (List ℕ)) (r : Result T Fault)
+    → IsScriptRun settings script lines → IfErr r (λ fault. (fault ≡ Output) × AppendsFront old new lines)
+    → IfErr r (λ fault. LeavesScript settings (Some script) fault old new)
+script_begun settings script lines old new (Ok x) run begun = tt
+script_begun settings script lines old new (Err fault) run begun =
+    subst (λ f. LeavesScript settings (Some script) f old new) (sym begun.0) (lines, run, begun.1)
+
+-- where the input's bytes are known, they are the script
+pub script_is_input : {T : Type 0} (settings : SettingsFields) (input : Option (List ℕ)) (script : List ℕ) (old new : Option (List ℕ)) (r : Result T Fault)
+    → IfSome input (λ bytes. script ≡ bytes) → OnOk r (PrintsScript settings (Some script) old new) → OnOk r (PrintsScript settings input old new)
+script_is_input settings None script old new (Ok x) whole h = (h.0, tt, h.2)
+script_is_input settings (Some bytes) script old new (Ok x) whole h = subst (λ s. PrintsScript settings (Some s) old new) whole h
+script_is_input settings input script old new (Err fault) whole h = tt
+
+input_fault_of : (input : Option (List ℕ)) (script : List ℕ) (fault : Fault) → IfSome input (λ bytes. script ≡ bytes)
+    → IsScriptFault (Some script) fault → IsScriptFault input fault
+input_fault_of (Some bytes) script fault whole h = subst (λ s. IsScriptFault (Some s) fault) whole h
+input_fault_of None script (Words error) whole h = h
+input_fault_of None script CannotRead whole h = h
+input_fault_of None script (CannotReadFile name) whole h = h
+input_fault_of None script (CannotOpen name) whole h = h
+input_fault_of None script CannotListen whole h = h
+input_fault_of None script BadSeedFile whole h = h
+input_fault_of None script BadLogFile whole h = h
+input_fault_of None script ScriptTooLong whole h = tt
+input_fault_of None script (BadLine number) whole h = tt
+input_fault_of None script Memory whole h = h
+input_fault_of None script Output whole h = h
+
+pub faults_of_input : {T : Type 0} (input : Option (List ℕ)) (script : List ℕ) (r : Result T Fault) → IfSome input (λ bytes. script ≡ bytes)
+    → IfErr r (IsScriptFault (Some script)) → IfErr r (IsScriptFault input)
+faults_of_input input script (Ok x) whole h = tt
+faults_of_input input script (Err fault) whole h = input_fault_of input script fault whole h
+
+input_leaves : (settings : SettingsFields) (input : Option (List ℕ)) (script : List ℕ) (fault : Fault) (old new : Option (List ℕ))
+    → IfSome input (λ bytes. script ≡ bytes) → LeavesScript settings (Some script) fault old new → LeavesScript settings input fault old new
+input_leaves settings (Some bytes) script fault old new whole h = subst (λ s. LeavesScript settings (Some s) fault old new) whole h
+input_leaves settings None script (Words error) old new whole h = h
+input_leaves settings None script CannotRead old new whole h = h
+input_leaves settings None script (CannotReadFile name) old new whole h = h
+input_leaves settings None script (CannotOpen name) old new whole h = h
+input_leaves settings None script CannotListen old new whole h = h
+input_leaves settings None script BadSeedFile old new whole h = h
+input_leaves settings None script BadLogFile old new whole h = h
+input_leaves settings None script ScriptTooLong old new whole h = h
+input_leaves settings None script (BadLine number) old new whole h = h
+input_leaves settings None script Memory old new whole h = h
+input_leaves settings None script Output old new whole h = (h.0, tt, h.2)
+
+pub left_by_input : {T : Type 0} (settings : SettingsFields) (input : Option (List ℕ)) (script : List ℕ) (r : Result T Fault) (old new : Option (List ℕ))
+    → IfSome input (λ bytes. script ≡ bytes) → IfErr r (λ fault. LeavesScript settings (Some script) fault old new)
+    → IfErr r (λ fault. LeavesScript settings input fault old new)
+left_by_input settings input script (Ok x) old new whole h = tt
+left_by_input settings input script (Err fault) old new whole h = input_leaves settings input script fault old new whole h
 
 -- a script's fault is the program's, where the words ask for a script
 pub script_fault : (words : List Text) (input : Option (List ℕ)) (settings : SettingsFields) → Asks words (script_task settings)
@@ -85,6 +135,12 @@ pub service_quiet : {T : Type 0} (words : List Text) (old new : Option (List ℕ
     → OnOk r (IsQuiet words old new)
 service_quiet words old new (Ok x) asks = inr asks
 service_quiet words old new (Err fault) asks = tt
+
+-- a run that tells nothing
+pub untold : {T : Type 0} (words : List Text) (r : Result T Fault) (faults : Option (List ℕ)) → OnOk r (IsQuiet words faults faults)
+untold words (Ok x) None = inl tt
+untold words (Ok x) (Some bytes) = inl refl
+untold words (Err fault) faults = tt
 
 -- what is written behind what was kept
 appends_behind : (a b c : Option (List ℕ)) (text : List ℕ) → Keeps a b → Appends b c text → Appends a c text

@@ -1,7 +1,7 @@
 //! The command line, as clap is told of it: three subcommands and their options.
 
-ghost use Rattle.std.specs.Prelude.{◌≡◌, IfOk, false};
-ghost use Rattle.clap.specs.Words.{app_of, with_rule};
+ghost use Rattle.std.specs.Prelude.{◌≡◌, IfOk, IsOkAnd, false};
+ghost use Rattle.clap.specs.Words.{app_of, with_rule, with_subcommand};
 ghost use Rattle.clap.specs.declared.builder.command.Command.TheViews.{out-Command};
 ghost use Rattle.tokend.specs.CommandLine.{events_app, loopback_app, script_app, serve_app, tokend_app, file_rule, number_rule, range_rule, with_file_rules, with_setting_rules};
 
@@ -15,20 +15,37 @@ use tk_world::Settings;
 pub(crate) fn tokend_command<'a>(alloc: Global) -> Result<Command<'a>, AllocError>
     ensures { IfOk result (λ c. app_of c ≡ tokend_app) }
 {
-    let events = events_command(alloc)?;
-    events.subcommand(serve_command(alloc)?)
+    match events_command(alloc) {
+        Ok(events) => with_made(events, serve_command(alloc)),
+        Err(error) => Err(error),
+    }
 }
 
 // The program with the two subcommands that run events.
 fn events_command<'a>(alloc: Global) -> Result<Command<'a>, AllocError>
     ensures { IfOk result (λ c. app_of c ≡ events_app) }
 {
-    Command::new(alloc, "tokend")
+    let program = Command::new(alloc, "tokend")
         .version("0.1.0")
         .about("An authorisation server whose regions merge")
-        .subcommand_required(true)
-        .subcommand(script_command(alloc)?)?
-        .subcommand(loopback_command(alloc)?)
+        .subcommand_required(true);
+    match with_made(program, script_command(alloc)) {
+        Ok(program) => with_made(program, loopback_command(alloc)),
+        Err(error) => Err(error),
+    }
+}
+
+// The command with a subcommand, where that was made.
+fn with_made<'a>(
+    command: Command<'a>,
+    made: Result<Command<'a>, AllocError>,
+) -> Result<Command<'a>, AllocError>
+    ensures { IfOk result (λ c. IsOkAnd made.entry (λ subcommand. (out-Command subcommand).has_globals ≡ false → app_of c ≡ with_subcommand (app_of command.entry) (app_of subcommand).top)) }
+{
+    match made {
+        Ok(subcommand) => command.subcommand(subcommand),
+        Err(error) => Err(error),
+    }
 }
 
 fn script_command<'a>(alloc: Global) -> Result<Command<'a>, AllocError>

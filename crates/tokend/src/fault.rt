@@ -11,7 +11,7 @@ use std::io::{self, Write};
 use tk_world::put_all;
 
 /// What ends the program before its end.
-#[derive(Debug, Drop)]
+#[derive(Drop)]
 pub enum Fault {
     /// The words of the command line, told as `clap` does.
     Words(clap::Error),

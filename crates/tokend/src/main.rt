@@ -6,7 +6,7 @@
 //! 0 done, 1 memory or a device, 2 bad words, or a bad script, seed or log.
 //!
 //! In reading order: `command_line` (what clap is told), `options` (what the words ask for), `script` (the input as events); `draw` (random words), `timed` (a connection's time),
-//! `log_file`, `load` (logs new and old), `serve` (connections), `loopback` (a script's requests as connections); `fault` (what may go wrong, and how it is told), `program`
+//! `log_file`, `load` (logs new and old), `start` (a service before its first connection), `serve` (connections), `loopback` (a script's requests as connections); `fault` (what may go wrong, and how it is told), `program`
 //! (all of it in order); `promises` says what all of this is for. The definitions are in specs/, listed in `Lib`.
 #![tactic(auto)]
 
@@ -21,6 +21,7 @@ mod program;
 pub mod promises;
 mod script;
 mod serve;
+mod start;
 #[cfg(test)]
 mod tests;
 mod timed;

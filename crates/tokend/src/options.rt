@@ -21,7 +21,7 @@ use std::{env, io};
 use tk_world::Settings;
 
 /// What the program is asked to do.
-#[derive(Debug, Drop)]
+#[derive(Drop)]
 pub enum Task {
     /// Runs the lines of the standard input, in regions with these settings.
     Script(Numbers),
@@ -32,7 +32,7 @@ pub enum Task {
 }
 
 /// The numbers of a region's settings, each in the range of [`Settings`].
-#[derive(Clone, Copy, Debug, PartialEq, Eq)]
+#[derive(Clone, Copy)]
 pub struct Numbers {
     /// How many seconds a code lives.
     pub code: u64,
@@ -47,7 +47,7 @@ pub struct Numbers {
 }
 
 /// A region that is served, and how.
-#[derive(Debug, Drop)]
+#[derive(Drop)]
 pub struct Service {
     /// Its settings.
     pub numbers: Numbers,

@@ -1,14 +1,18 @@
 //! All of the program in order, over any reader and writers.
 
-ghost use Rattle.std.specs.Prelude.{◌≡◌, ◌≤◌, OnOk, OnErr, IfErr, MatchResult, map};
-ghost use Rattle.std.specs.Io.KnownBytes.{Keeps};
+ghost use Rattle.std.specs.Prelude.{◌≡◌, ◌≤◌, List, Some, OnOk, OnErr, IfErr, MatchResult, length, map};
+ghost use Rattle.std.specs.Io.KnownBytes.{Appends, Keeps};
 ghost use Rattle.tk_world.specs.Printed.{lines_text};
+ghost use Rattle.clap.specs.Words.{Text};
 ghost use Rattle.tokend.specs.ProgramRun.{IsDone, IsFaultFor, IsQuiet, Leaves, Tells};
-ghost use Rattle.tk_world.specs.Put.{Prints};
+ghost use Rattle.tk_world.specs.Put.{AppendsFront, Prints};
 ghost use Rattle.tokend.specs.LoopbackRun.{PrintsLoopback, IsLoopbackFault, LeavesLoopback};
+ghost use Rattle.tokend.specs.Script.{greatest_length};
 ghost use Rattle.tokend.specs.ScriptRun.{PrintsScript, IsScriptFault, LeavesScript};
 ghost use Rattle.tokend.specs.Status.{status_of};
+ghost use Rattle.tokend.specs.Task.{Asks};
 ghost use Rattle.tokend.specs.declared.fault.Fault.{Fault as FaultValue};
+ghost use Rattle.tokend.specs.declared.fault.Fault.TheVariants as fault;
 
 use crate::fault::{Fault, tell};
 use crate::loopback::{LONGEST, run_by_sockets};
@@ -84,9 +88,7 @@ where
     ensures silent { OnErr result (Keeps (E.contents faults.old) (E.contents faults.new)) }
 {
     match options(rt.alloc(), words) {
-        Ok(Task::Script(numbers)) => run_script(rt.alloc(), numbers.settings(), input, output),
-        Ok(Task::Loopback(numbers)) => run_loopback(rt, numbers.settings(), input, output),
-        Ok(Task::Serve(service)) => serve(rt, &service, output, faults),
+        Ok(task) => run_task(rt, &task, input, output, faults),
         Err(error) => match error.kind() {
             ErrorKind::DisplayHelp | ErrorKind::DisplayVersion => match show(output, &error) {
                 Ok(()) => Ok(()),
@@ -95,6 +97,30 @@ where
             ErrorKind::OutOfMemory => Err(Fault::Memory),
             _ => Err(Fault::Words(error)),
         },
+    }
+}
+
+// Does a task that some words ask for.
+fn run_task<R, I: Read, O: Write, E: Write>(
+    rt: &R,
+    task: &Task,
+    input: &mut I,
+    output: &mut O,
+    faults: &mut E,
+) -> Result<(), Fault>
+where
+    R: AllocGlobal + Files + Clock + Net<Listener = TcpListener, Stream = TcpStream>,
+    requires { (words : List Text) × Asks words task.now }
+    ensures done { (words : List Text) → Asks words task.now → OnOk result (IsDone words (I.remaining input.old) (O.contents output.old) (O.contents output.new)) }
+    ensures fault { (words : List Text) → Asks words task.now → IfErr result (IsFaultFor words (I.remaining input.old)) }
+    ensures left { (words : List Text) → Asks words task.now → IfErr result (λ fault. Leaves words (I.remaining input.old) fault (O.contents output.old) (O.contents output.new)) }
+    ensures quiet { (words : List Text) → Asks words task.now → OnOk result (IsQuiet words (E.contents faults.old) (E.contents faults.new)) }
+    ensures silent { OnErr result (Keeps (E.contents faults.old) (E.contents faults.new)) }
+{
+    match task {
+        Task::Script(numbers) => run_script(rt.alloc(), numbers.settings(), input, output),
+        Task::Loopback(numbers) => run_loopback(rt, numbers.settings(), input, output),
+        Task::Serve(service) => serve(rt, service, output, faults),
     }
 }
 
@@ -115,13 +141,32 @@ fn run_script<I: Read, O: Write>(
     ensures fault { IfErr result (IsScriptFault (I.remaining input.old)) }
     ensures left { IfErr result (λ fault. LeavesScript settings (I.remaining input.old) fault (O.contents output.old) (O.contents output.new)) }
 {
-    let script = read_script(alloc, input)?;
-    let events = read_events(alloc, script.as_slice(), None)?;
+    match read_script(alloc, input) {
+        Ok(script) => run_text(alloc, settings, script.as_slice(), output),
+        Err(fault) => Err(fault),
+    }
+}
+
+// Runs a script that was read.
+fn run_text<O: Write>(
+    alloc: Global,
+    settings: Settings,
+    script: &[u8],
+    output: &mut O,
+) -> Result<(), Fault>
+    requires { length script.now ≤ greatest_length }
+    ensures done { OnOk result (PrintsScript settings (Some script.now) (O.contents output.old) (O.contents output.new)) }
+    ensures fault { IfErr result (IsScriptFault (Some script.now)) }
+    ensures left { IfErr result (λ fault. LeavesScript settings (Some script.now) fault (O.contents output.old) (O.contents output.new)) }
+{
+    let events = match read_events(alloc, script, None) {
+        Ok(events) => events,
+        Err(fault) => return Err(fault),
+    };
     let mut world = World::new(alloc, settings);
-    let outcomes = world.run(events.as_slice())?;
-    match print_all(output, events.as_slice(), outcomes.as_slice()) {
-        Ok(()) => Ok(()),
-        Err(_) => Err(Fault::Output),
+    match world.run(events.as_slice()) {
+        Ok(outcomes) => print_lines(output, events.as_slice(), outcomes.as_slice()),
+        Err(_) => Err(Fault::Memory),
     }
 }
 
@@ -138,10 +183,46 @@ where
     ensures fault { IfErr result (IsLoopbackFault (I.remaining input.old)) }
     ensures left { IfErr result (λ fault. LeavesLoopback (I.remaining input.old) fault (O.contents output.old) (O.contents output.new)) }
 {
-    let script = read_script(rt.alloc(), input)?;
-    let events = read_events(rt.alloc(), script.as_slice(), Some(LONGEST))?;
-    let outcomes = run_by_sockets(rt, settings, events.as_slice())?;
-    match print_all(output, events.as_slice(), outcomes.as_slice()) {
+    match read_script(rt.alloc(), input) {
+        Ok(script) => loop_text(rt, settings, script.as_slice(), output),
+        Err(fault) => Err(fault),
+    }
+}
+
+// Runs a script that was read, with each request through a socket.
+fn loop_text<R, O: Write>(
+    rt: &R,
+    settings: Settings,
+    script: &[u8],
+    output: &mut O,
+) -> Result<(), Fault>
+where
+    R: AllocGlobal + Clock + Net<Listener = TcpListener, Stream = TcpStream>,
+    requires { length script.now ≤ greatest_length }
+    ensures done { OnOk result (PrintsLoopback (Some script.now) (O.contents output.old) (O.contents output.new)) }
+    ensures fault { IfErr result (IsLoopbackFault (Some script.now)) }
+    ensures left { IfErr result (λ fault. LeavesLoopback (Some script.now) fault (O.contents output.old) (O.contents output.new)) }
+{
+    let events = match read_events(rt.alloc(), script, Some(LONGEST)) {
+        Ok(events) => events,
+        Err(fault) => return Err(fault),
+    };
+    match run_by_sockets(rt, settings, events.as_slice()) {
+        Ok(outcomes) => print_lines(output, events.as_slice(), outcomes.as_slice()),
+        Err(fault) => Err(fault),
+    }
+}
+
+// Prints the lines; where the output fails, it has the beginning of them.
+fn print_lines<O: Write>(
+    output: &mut O,
+    events: &[Event],
+    outcomes: &[Outcome],
+) -> Result<(), Fault>
+    ensures done { OnOk result (Appends (O.contents output.old) (O.contents output.new) (lines_text events.now outcomes.now)) }
+    ensures fault { IfErr result (λ f. (f ≡ fault.Output) × AppendsFront (O.contents output.old) (O.contents output.new) (lines_text events.now outcomes.now)) }
+{
+    match print_all(output, events, outcomes) {
         Ok(()) => Ok(()),
         Err(_) => Err(Fault::Output),
     }

@@ -12,25 +12,23 @@ ghost use Rattle.tk_store.specs.FactSet.{Facts};
 ghost use Rattle.tokend.specs.CommandLine.{settings_of};
 ghost use Rattle.tokend.specs.Connection.{AreConnections, IsConnection, Told, so_many};
 ghost use Rattle.tk_world.specs.Put.{Prints, joined_text};
-ghost use Rattle.tokend.specs.Serving.{announced, both_lines, connection_fault, listening_line, Announces, AnnouncesDrop, IsFileFault, IsServiceFault, LeavesService};
+ghost use Rattle.tokend.specs.Serving.{announced, both_lines, connection_fault, listening_line, Announces, AnnouncesDrop, IsServiceFault, LeavesService};
 
-use crate::draw::{draw, generator};
-use crate::fault::{Fault, cannot_read};
-use crate::load::{LoadFault, load};
+use crate::draw::draw;
+use crate::fault::Fault;
 use crate::log_file::open_log;
 use crate::options::Service;
+use crate::start::{Start, begin, load_old};
 use crate::timed::{TimedSink, TimedSource};
 use itoa::Buffer;
 use rand_chacha::ChaCha20Rng;
 use std::alloc::Global;
-use std::fs::OpenOptions;
-use std::io::{self, Read, Write};
+use std::io::{self, Write};
 use std::net::{Ipv4Addr, Net, OpenListener, OpenStream, Shutdown, TcpListener, TcpStream};
 use std::rt::Files;
 use std::time::Clock;
 use tk_edge::{Discard, Edge, Fault as EdgeFault, Served, Sink, Source};
-use tk_handle::{Moment, RegionNumber};
-use tk_region::Region;
+use tk_handle::Moment;
 use tk_world::put_all;
 
 /// How many bytes of a client are dropped behind its request.
@@ -53,58 +51,56 @@ where
     ensures left { IfErr result (λ fault. LeavesService fault (O.contents output.old) (O.contents output.new)) }
     ensures silent { OnErr result (Keeps (E.contents faults.old) (E.contents faults.new)) }
 {
-    let (mut start, dropped) = match begin(rt, service) {
-        Ok(begun) => begun,
-        Err(fault) => return Err(fault),
-    };
-    let Some(path) = &service.log else {
-        return announce_and_serve(
-            rt,
-            service,
-            dropped,
-            &mut start,
-            &mut Discard,
-            output,
-            faults,
-        );
-    };
-    match open_log(rt, path) {
-        Ok(mut log) => announce_and_serve(
-            rt, service, dropped, &mut start, &mut log, output, faults,
-        ),
+    match begin(rt, service) {
+        Ok(mut start) => load_and_serve(rt, service, &mut start, output, faults),
         Err(fault) => Err(fault),
     }
 }
 
-// A region at the start of its service, and its random words.
-#[derive(Drop)]
-struct Start {
-    edge: Edge,
-    words: ChaCha20Rng,
+// Takes in the facts of the old log, where there is one, and serves.
+fn load_and_serve<R, O: Write, E: Write>(
+    rt: &R,
+    service: &Service,
+    start: &mut Start,
+    output: &mut O,
+    faults: &mut E,
+) -> Result<(), Fault>
+where
+    R: AllocGlobal + Files + Clock + Net<Listener = TcpListener, Stream = TcpStream>,
+    ensures done { OnOk result (Announces (O.contents output.old) (O.contents output.new)) }
+    ensures fault { IfErr result IsServiceFault }
+    ensures left { IfErr result (λ fault. LeavesService fault (O.contents output.old) (O.contents output.new)) }
+    ensures silent { OnErr result (Keeps (E.contents faults.old) (E.contents faults.new)) }
+{
+    match load_old(rt, start.edge.region_mut(), &service.load) {
+        Ok(dropped) => log_and_serve(rt, service, dropped, start, output, faults),
+        Err(fault) => Err(fault),
+    }
 }
 
-// The region with the facts of its old log, and how many bytes of that were dropped.
-fn begin<R: AllocGlobal + Files>(rt: &R, service: &Service) -> Result<(Start, u64), Fault>
-    requires settings { IsSettings (settings_of service.now.numbers) }
-    requires region { IsRegion service.now.region }
-    ensures { IfErr result IsFileFault }
+// Opens the new log, where there is one, and serves. So many bytes of the old one were dropped.
+fn log_and_serve<R, O: Write, E: Write>(
+    rt: &R,
+    service: &Service,
+    dropped: u64,
+    start: &mut Start,
+    output: &mut O,
+    faults: &mut E,
+) -> Result<(), Fault>
+where
+    R: AllocGlobal + Files + Clock + Net<Listener = TcpListener, Stream = TcpStream>,
+    ensures done { OnOk result (AnnouncesDrop dropped (O.contents output.old) (O.contents output.new)) }
+    ensures fault { IfErr result IsServiceFault }
+    ensures left { IfErr result (λ fault. LeavesService fault (O.contents output.old) (O.contents output.new)) }
+    ensures silent { OnErr result (Keeps (E.contents faults.old) (E.contents faults.new)) }
 {
-    let seed = match read_seed(rt, &service.seed) {
-        Ok(seed) => seed,
-        Err(fault) => return Err(fault),
+    let Some(path) = &service.log else {
+        return announce_and_serve(rt, service, dropped, start, &mut Discard, output, faults);
     };
-    let number = RegionNumber::new(service.region).unwrap();
-    let words = generator(seed, number);
-    let mut region = Region::new(rt.alloc(), number, service.numbers.settings());
-    let mut dropped = 0;
-    if let Some(path) = &service.load {
-        match load_file(rt, &mut region, path) {
-            Ok(count) => dropped = count,
-            Err(fault) => return Err(fault),
-        }
+    match open_log(rt, path) {
+        Ok(mut log) => announce_and_serve(rt, service, dropped, start, &mut log, output, faults),
+        Err(fault) => Err(fault),
     }
-    let edge = Edge::new(region, true);
-    Ok((Start { edge, words }, dropped))
 }
 
 // Listens, says so, and serves.
@@ -131,42 +127,6 @@ where
             Ok(())
         }
         Err(fault) => Err(fault),
-    }
-}
-
-// The 32 bytes of a seed file.
-fn read_seed<R: AllocGlobal + Files>(rt: &R, path: &str) -> Result<[u8; 32], Fault>
-    ensures { IfErr result IsFileFault }
-{
-    let Ok(mut file) = OpenOptions::new().read(true).open(rt, path) else {
-        return Err(cannot_read(rt.alloc(), path));
-    };
-    let mut seed = [0u8; 32];
-    if let Err(error) = file.read_exact(&mut seed) {
-        if error.kind() == io::ErrorKind::UnexpectedEof {
-            return Err(Fault::BadSeedFile);
-        }
-        return Err(cannot_read(rt.alloc(), path));
-    }
-    match file.read(&mut [0u8; 1]) {
-        Ok(0) => Ok(seed),
-        Ok(_) => Err(Fault::BadSeedFile),
-        Err(_) => Err(cannot_read(rt.alloc(), path)),
-    }
-}
-
-// Takes an old log in, and answers how many bytes at its end were dropped.
-fn load_file<R: AllocGlobal + Files>(rt: &R, region: &mut Region, path: &str) -> Result<u64, Fault>
-    ensures { IfErr result IsFileFault }
-{
-    let Ok(mut file) = OpenOptions::new().read(true).open(rt, path) else {
-        return Err(cannot_read(rt.alloc(), path));
-    };
-    match load(rt.alloc(), region, &mut file) {
-        Ok(dropped) => Ok(dropped),
-        Err(LoadFault::Bad) => Err(Fault::BadLogFile),
-        Err(LoadFault::Read) => Err(cannot_read(rt.alloc(), path)),
-        Err(LoadFault::Memory) => Err(Fault::Memory),
     }
 }
 

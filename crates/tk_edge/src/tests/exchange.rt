@@ -100,7 +100,11 @@ pub(super) fn first_wrong(alloc: Global, edge: &mut Edge, rows: &[Row]) -> &'sta
 // The same of an edge over a region that holds nothing yet.
 fn first_wrong_at(alloc: Global, region: u16, rows: &[Row]) -> &'static str {
     match new_edge_of(alloc, region, true) {
-        Some(mut edge) => first_wrong(alloc, &mut edge, rows),
+        Some(mut edge) => {
+            let wrong = first_wrong(alloc, &mut edge, rows);
+            drop(edge);
+            wrong
+        }
         None => "an edge",
     }
 }
@@ -155,7 +159,11 @@ fn first_misjudged(alloc: Global, edge: &mut Edge) -> &'static str {
 
 fn misjudged(alloc: Global) -> &'static str {
     match new_edge_of(alloc, 1, true) {
-        Some(mut edge) => first_misjudged(alloc, &mut edge),
+        Some(mut edge) => {
+            let wrong = first_misjudged(alloc, &mut edge);
+            drop(edge);
+            wrong
+        }
         None => "an edge",
     }
 }

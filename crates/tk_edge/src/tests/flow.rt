@@ -61,7 +61,9 @@ fn flow(alloc: Global) -> (&'static str, u64) {
     match new_edge(alloc) {
         Some(mut edge) => {
             let wrong = first_wrong(alloc, &mut edge);
-            (wrong, edge.region().len())
+            let held = edge.region().len();
+            drop(edge);
+            (wrong, held)
         }
         None => ("an edge", 0),
     }

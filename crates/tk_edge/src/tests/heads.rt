@@ -126,7 +126,11 @@ fn are_filled_at(alloc: Global, edge: &mut Edge) -> bool {
 // The same of a new edge.
 fn are_filled(alloc: Global) -> bool {
     match new_edge(alloc) {
-        Some(mut edge) => are_filled_at(alloc, &mut edge),
+        Some(mut edge) => {
+            let are_filled = are_filled_at(alloc, &mut edge);
+            drop(edge);
+            are_filled
+        }
         None => false,
     }
 }

@@ -6,80 +6,67 @@ use crate::Edge;
 use std::alloc::{AllocError, Global};
 use tk_format::Writer;
 
-fn put_dot(writer: &mut Writer, region: u16, serial: u64) -> Result<(), AllocError> {
-    writer.put_u16(region)?;
-    writer.put_u64(serial)
-}
-
 // Two tokens: of each a digest, a moment, and the scope `read`.
-fn put_minted(writer: &mut Writer) -> Result<(), AllocError> {
-    for _ in 0..2 {
-        writer.put_bytes(&[7; 32])?;
-        writer.put_u64(5_000)?;
-        writer.put_text(b"read")?;
+const MINTED: &[&[u8]] = &[
+    &[7; 32],
+    b"\x00\x00\x00\x00\x00\x00\x13\x88\x00\x04read",
+    &[7; 32],
+    b"\x00\x00\x00\x00\x00\x00\x13\x88\x00\x04read",
+];
+
+// Rotations at 8:1 and 8:2, each of the refresh token of the other, of generations 2 and 1.
+const ROTATED: &[&[u8]] = &[
+    b"\x00\x7b\x00\x08\x00\x00\x00\x00\x00\x00\x00\x01\x07\x00\x08\x00\x00\x00\x00\x00\x00\x00\x02\x00\x02\x00\x00\x00\x00\x00\x00\x03\xe8",
+    b"\x00\x7b\x00\x08\x00\x00\x00\x00\x00\x00\x00\x02\x07\x00\x08\x00\x00\x00\x00\x00\x00\x00\x01\x00\x01\x00\x00\x00\x00\x00\x00\x03\xe8",
+];
+
+// A redemption at 8:3, whose code is the client 1:1.
+const REDEEMED: &[u8] =
+    b"\x00\x79\x00\x08\x00\x00\x00\x00\x00\x00\x00\x03\x06\x00\x01\x00\x00\x00\x00\x00\x00\x00\x01\x00\x00\x00\x00\x00\x00\x03\xe8";
+
+fn put_each(writer: &mut Writer, parts: &[&[u8]]) -> Result<(), AllocError> {
+    for part in parts {
+        writer.put_bytes(part)?;
     }
     Ok(())
 }
 
-// A rotation at 8:1 or 8:2, of the refresh token of the other.
-fn put_rotated(
-    writer: &mut Writer,
-    serial: u64,
-    parent: u64,
-    generation: u16,
-) -> Result<(), AllocError> {
-    writer.put_u16(123)?;
-    put_dot(writer, 8, serial)?;
-    writer.put_u8(7)?;
-    put_dot(writer, 8, parent)?;
-    writer.put_u16(generation)?;
-    writer.put_u64(1_000)?;
-    put_minted(writer)
-}
-
-// Each rotates the other's, and then a redemption whose code is the client.
+// The two rotations, and then the redemption.
 fn put_ring(writer: &mut Writer) -> Result<(), AllocError> {
-    writer.put_bytes(b"OTB1")?;
-    writer.put_u16(3)?;
-    put_rotated(writer, 1, 2, 2)?;
-    put_rotated(writer, 2, 1, 1)?;
-    writer.put_u16(121)?;
-    put_dot(writer, 8, 3)?;
-    writer.put_u8(6)?;
-    put_dot(writer, 1, 1)?;
-    writer.put_u64(1_000)?;
-    put_minted(writer)
-}
-
-// So many retirements of the client 1:1 at 3:1 and on, and a retirement of another client at the dot.
-fn put_many(writer: &mut Writer, count: u16, last: (u16, u64)) -> Result<(), AllocError> {
-    writer.put_bytes(b"OTB1")?;
-    writer.put_u16(count.saturating_add(1))?;
-    for serial in 1..=u64::from(count) {
-        writer.put_u16(21)?;
-        put_dot(writer, 3, serial)?;
-        writer.put_u8(2)?;
-        put_dot(writer, 1, 1)?;
+    writer.put_bytes(b"OTB1\x00\x03")?;
+    for fact in [ROTATED[0], ROTATED[1], REDEEMED] {
+        writer.put_bytes(fact)?;
+        put_each(writer, MINTED)?;
     }
-    writer.put_u16(21)?;
-    put_dot(writer, last.0, last.1)?;
-    writer.put_u8(2)?;
-    put_dot(writer, 1, 9)
+    Ok(())
 }
 
-// The largest facts that there can be: clients with a secret, the longest scope and eight of the longest URIs.
+// The client 1:1 is retired at 3:1 and on, so many times, and then another client at the dot.
+fn put_many(writer: &mut Writer, count: u16, last: (u16, u64)) -> Result<(), AllocError> {
+    put_each(writer, &[b"OTB1", &count.saturating_add(1).to_be_bytes()])?;
+    for serial in 1..=u64::from(count) {
+        let rest = b"\x02\x00\x01\x00\x00\x00\x00\x00\x00\x00\x01";
+        put_each(writer, &[b"\x00\x15\x00\x03", &serial.to_be_bytes(), rest])?;
+    }
+    let (region, serial) = (last.0.to_be_bytes(), last.1.to_be_bytes());
+    let rest = b"\x02\x00\x01\x00\x00\x00\x00\x00\x00\x00\x09";
+    put_each(writer, &[b"\x00\x15", &region, &serial, rest])
+}
+
+// What stands behind the dot of one of the largest facts that there can be: a client with a secret, the longest scope and eight of
+// the longest URIs.
+const LARGEST: &[&[u8]] = &[b"\x01\x01", &[7; 32], b"\x04\x00", &[b's'; 1_024], b"\x08"];
+
+const LONGEST_URI: &[&[u8]] = &[b"\x02\x00", &[b'u'; 512]];
+
+// As many of them as a bundle has at most.
 fn put_largest(writer: &mut Writer) -> Result<(), AllocError> {
-    writer.put_bytes(b"OTB1")?;
-    writer.put_u16(128)?;
-    for serial in 1..=128 {
-        writer.put_u16(5_183)?;
-        put_dot(writer, 5, serial)?;
-        writer.put_bytes(b"\x01\x01")?;
-        writer.put_bytes(&[7; 32])?;
-        writer.put_text(&[b's'; 1_024])?;
-        writer.put_u8(8)?;
+    writer.put_bytes(b"OTB1\x00\x80")?;
+    for serial in 1..=128u64 {
+        put_each(writer, &[b"\x14\x3f\x00\x05", &serial.to_be_bytes()])?;
+        put_each(writer, LARGEST)?;
         for _ in 0..8 {
-            writer.put_text(&[b'u'; 512])?;
+            put_each(writer, LONGEST_URI)?;
         }
     }
     Ok(())
@@ -158,7 +145,11 @@ fn other_behind(alloc: Global, edge: &mut Edge, rows: &[Row], pushes: &[Push]) -
 // The same of an edge over this region that holds nothing yet.
 fn other_at(alloc: Global, region: u16, rows: &[Row], pushes: &[Push]) -> &'static str {
     match new_edge_of(alloc, region, true) {
-        Some(mut edge) => other_behind(alloc, &mut edge, rows, pushes),
+        Some(mut edge) => {
+            let other = other_behind(alloc, &mut edge, rows, pushes);
+            drop(edge);
+            other
+        }
         None => "an edge",
     }
 }

@@ -102,7 +102,11 @@ fn end_of(
     failing: Failing,
 ) -> Option<(End, Calls)> {
     match new_edge(alloc) {
-        Some(mut edge) => serve(alloc, &mut edge, texts, steps, failing),
+        Some(mut edge) => {
+            let end = serve(alloc, &mut edge, texts, steps, failing);
+            drop(edge);
+            end
+        }
         None => None,
     }
 }
@@ -250,7 +254,11 @@ fn sealed_ends(alloc: Global, edge: &mut Edge) -> [bool; 4] {
 // The same of a new one.
 fn sealed(alloc: Global) -> [bool; 4] {
     match new_edge(alloc) {
-        Some(mut edge) => sealed_ends(alloc, &mut edge),
+        Some(mut edge) => {
+            let ends = sealed_ends(alloc, &mut edge);
+            drop(edge);
+            ends
+        }
         None => [false; 4],
     }
 }
@@ -340,7 +348,11 @@ fn std_serves(alloc: Global) -> bool {
         return false;
     };
     match new_edge(alloc) {
-        Some(mut edge) => is_served_by_std(alloc, &mut edge, now),
+        Some(mut edge) => {
+            let is_served = is_served_by_std(alloc, &mut edge, now);
+            drop(edge);
+            is_served
+        }
         None => false,
     }
 }

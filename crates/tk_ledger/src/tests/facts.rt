@@ -94,15 +94,20 @@ fn issued(alloc: Global, at: Place, word: u64, by: (Place, Place)) -> Option<Vec
     joined(alloc, &[&at, b"\x05", &client, &consent, &digest, CODE_END])
 }
 
-// A fact that uses a token, of these bytes between its dot and those of the new tokens.
-fn minted(alloc: Global, at: Place, uses: [&[u8]; 3], words: (u64, u64)) -> Option<Vec<u8>> {
+// A fact of the kind of this number that uses what was minted at a dot, with what is behind the dot, for new tokens.
+fn minted(
+    alloc: Global,
+    at: Place,
+    number: &[u8],
+    (used, generation): (Place, &[u8]),
+    words: (u64, u64),
+) -> Option<Vec<u8>> {
     let access = digest((at, Kind::Access, words.0))?;
     let refresh = digest((at, Kind::Refresh, words.1))?;
-    let [number, used, generation] = uses;
     let parts: [&[u8]; 9] = [
         &spelled(at),
         number,
-        used,
+        &spelled(used),
         generation,
         START,
         &access,
@@ -122,45 +127,45 @@ fn revoked(alloc: Global, at: Place, token: Token, client: Place) -> Option<Vec<
     )
 }
 
+// A fact whose number is followed by a dot, and then by what is behind it.
+fn naming(alloc: Global, at: Place, number: &[u8], named: Place, behind: &[u8]) -> Option<Vec<u8>> {
+    joined(alloc, &[&spelled(at), number, &spelled(named), behind])
+}
+
+fn given(alloc: Global, at: Place, client: Place, scope: &[u8]) -> Option<Vec<u8>> {
+    let (at, client) = (spelled(at), spelled(client));
+    joined(alloc, &[&at, b"\x03", &client, ANN, scope])
+}
+
+fn signed_out(alloc: Global, at: Place, subject: &[u8], moment: u64) -> Option<Vec<u8>> {
+    let (at, moment) = (spelled(at), moment.to_be_bytes());
+    joined(alloc, &[&at, b"\x0a", subject, &moment])
+}
+
 // The bytes of a fact.
 fn bytes_of(alloc: Global, told: &Told) -> Option<Vec<u8>> {
     let (place, says) = *told;
-    let at = spelled(place);
     match says {
-        Says::ClientAdded => joined(alloc, &[&at, ADDED]),
-        Says::ClientRetired(client) => joined(alloc, &[&at, b"\x02", &spelled(client)]),
-        Says::ConsentGiven(client, scope) => {
-            joined(alloc, &[&at, b"\x03", &spelled(client), ANN, scope])
-        }
-        Says::ConsentWithdrawn(consent) => joined(alloc, &[&at, b"\x04", &spelled(consent)]),
+        Says::ClientAdded => joined(alloc, &[&spelled(place), ADDED]),
+        Says::ClientRetired(client) => naming(alloc, place, b"\x02", client, b""),
+        Says::ConsentGiven(client, scope) => given(alloc, place, client, scope),
+        Says::ConsentWithdrawn(consent) => naming(alloc, place, b"\x04", consent, b""),
         Says::CodeIssued(word, client, consent) => issued(alloc, place, word, (client, consent)),
-        Says::CodeRedeemed(code, words) => {
-            minted(alloc, place, [b"\x06", &spelled(code), b""], words)
-        }
+        Says::CodeRedeemed(code, words) => minted(alloc, place, b"\x06", (code, b""), words),
         Says::RefreshRotated(parent, generation, words) => {
             let generation = generation.to_be_bytes();
-            minted(
-                alloc,
-                place,
-                [b"\x07", &spelled(parent), &generation],
-                words,
-            )
+            minted(alloc, place, b"\x07", (parent, &generation), words)
         }
         Says::TokenRevoked(token, client) => revoked(alloc, place, token, client),
-        Says::ReuseSeen(token, kind) => {
-            joined(alloc, &[&at, b"\x09", &spelled(token), &[kind.number()]])
-        }
-        Says::SubjectOut(subject, moment) => {
-            joined(alloc, &[&at, b"\x0a", subject, &moment.to_be_bytes()])
-        }
+        Says::ReuseSeen(token, kind) => naming(alloc, place, b"\x09", token, &[kind.number()]),
+        Says::SubjectOut(subject, moment) => signed_out(alloc, place, subject, moment),
     }
 }
 
 /// The fact that is read from its bytes, where there is memory for it.
 pub(super) fn fact(alloc: Global, told: &Told) -> Option<Fact> {
-    let bytes = bytes_of(alloc, told)?;
-    match Fact::read(alloc, bytes.as_slice()) {
-        Ok(fact) => Some(fact),
-        Err(_) => None,
+    match &bytes_of(alloc, told) {
+        Some(bytes) => Fact::read(alloc, bytes.as_slice()).ok(),
+        None => None,
     }
 }

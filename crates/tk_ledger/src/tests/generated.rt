@@ -152,14 +152,20 @@ fn are_alike(alloc: Global, both: &Both) -> bool {
     true
 }
 
-// How many facts both hold, where they say the same of all.
-fn alike(alloc: Global, seed: u64) -> Option<u64> {
-    let mut both = Both::new(alloc);
-    if are_filled(alloc, &mut both, seed) && are_alike(alloc, &both) {
+// How many facts both are filled with, where they say the same of all.
+fn filled_alike(alloc: Global, both: &mut Both, seed: u64) -> Option<u64> {
+    if are_filled(alloc, both, seed) && are_alike(alloc, both) {
         Some(both.ledger.store().len())
     } else {
         None
     }
+}
+
+fn alike(alloc: Global, seed: u64) -> Option<u64> {
+    let mut both = Both::new(alloc);
+    let held = filled_alike(alloc, &mut both, seed);
+    drop(both);
+    held
 }
 
 #[test]

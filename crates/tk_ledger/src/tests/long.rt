@@ -17,7 +17,7 @@ fn is_taken(alloc: Global, ledger: &mut Ledger, told: &Told) -> bool {
 
 // A code, and its redemption.
 fn is_issued(alloc: Global, ledger: &mut Ledger) -> bool {
-    for told in &BEFORE_GRANTS {
+    for told in BEFORE_GRANTS {
         if !is_taken(alloc, ledger, told) {
             return false;
         }
@@ -42,6 +42,7 @@ fn rotated(alloc: Global, rotations: u16) -> Option<Ledger> {
     if is_issued(alloc, &mut ledger) && is_rotated(alloc, &mut ledger, rotations) {
         Some(ledger)
     } else {
+        drop(ledger);
         None
     }
 }
@@ -64,7 +65,9 @@ fn told(ledger: &Ledger, now: Moment, token: &Handle) -> (bool, u64) {
 fn told_after(alloc: Global, rotations: u16) -> Option<(bool, u64)> {
     let (now, token) = (Moment::new(1_020)?, last(rotations)?);
     let ledger = rotated(alloc, rotations)?;
-    Some(told(&ledger, now, &token))
+    let told = told(&ledger, now, &token);
+    drop(ledger);
+    Some(told)
 }
 
 #[test]
@@ -98,7 +101,9 @@ fn timed<C: Clock>(rt: &C, ledger: &Ledger, token: &Handle) -> Result<Duration, 
 fn timed_after<C: Clock>(rt: &C, alloc: Global, rotations: u16) -> Result<Duration, Fail> {
     let token = last(rotations).ok_or("a token")?;
     let ledger = rotated(alloc, rotations).ok_or("a fact isn't taken")?;
-    timed(rt, &ledger, &token)
+    let time = timed(rt, &ledger, &token);
+    drop(ledger);
+    time
 }
 
 // A walk from parent to parent would take 10,001 steps in place of 2.

@@ -34,7 +34,10 @@ pub(super) fn add_to_ledger(alloc: Global, ledger: &mut Ledger, told: &Told) -> 
     let fact = fact(alloc, told)?;
     match fact.check() {
         Ok(()) => Some(ledger.add(fact)),
-        Err(_) => None,
+        Err(_) => {
+            drop(fact);
+            None
+        }
     }
 }
 
@@ -42,7 +45,10 @@ fn add_to_plain(alloc: Global, plain: &mut PlainLedger, told: &Told) -> Addition
     let fact = fact(alloc, told)?;
     match fact.check() {
         Ok(()) => Some(plain.add(fact)),
-        Err(_) => None,
+        Err(_) => {
+            drop(fact);
+            None
+        }
     }
 }
 
@@ -67,7 +73,7 @@ pub(super) fn copied(alloc: Global, facts: &[Told]) -> Option<Vec<Told>> {
 }
 
 // Those left are added, if they can be: each time one of them, told by a remainder.
-fn are_added(alloc: Global, both: &mut Both, left: &mut Vec<Told>, order: usize) -> bool {
+fn are_left_added(alloc: Global, both: &mut Both, left: &mut Vec<Told>, order: usize) -> bool {
     let mut order = order;
     for count in (1..=left.len()).rev() {
         let at = order % count;
@@ -82,15 +88,24 @@ fn are_added(alloc: Global, both: &mut Both, left: &mut Vec<Told>, order: usize)
     true
 }
 
+// Whether the facts are added in the order that has this number, and all of them are held then.
+fn are_added(alloc: Global, both: &mut Both, facts: &[Told], order: usize) -> bool {
+    match &mut copied(alloc, facts) {
+        Some(left) => {
+            are_left_added(alloc, both, left, order)
+                && both.ledger.store().len() == facts.len() as u64
+        }
+        None => false,
+    }
+}
+
 // The facts, added in the order that has this number, where all of them are held then.
 pub(super) fn in_order(alloc: Global, facts: &[Told], order: usize) -> Option<Both> {
-    let mut left = copied(alloc, facts)?;
     let mut both = Both::new(alloc);
-    if are_added(alloc, &mut both, &mut left, order)
-        && both.ledger.store().len() == facts.len() as u64
-    {
+    if are_added(alloc, &mut both, facts, order) {
         Some(both)
     } else {
+        drop(both);
         None
     }
 }
@@ -146,6 +161,23 @@ fn missed(both: &Both, rows: &[Row]) -> Option<&'static str> {
     None
 }
 
+// The same, where the facts are added in the order that has this number.
+fn missed_in_order(
+    alloc: Global,
+    facts: &[Told],
+    order: usize,
+    rows: &[Row],
+) -> Option<&'static str> {
+    match in_order(alloc, facts, order) {
+        Some(both) => {
+            let missed = missed(&both, rows);
+            drop(both);
+            missed
+        }
+        None => Some("the facts"),
+    }
+}
+
 // The order and the first row of which another thing is said, at 1,020, in any of the orders in which the facts may come.
 fn first_miss(
     alloc: Global,
@@ -154,21 +186,22 @@ fn first_miss(
     rows: &[Row],
 ) -> Option<(usize, &'static str)> {
     for order in 0..orders {
-        let miss = match &in_order(alloc, facts, order) {
-            Some(both) => missed(both, rows),
-            None => Some("the facts"),
-        };
-        if let Some(row) = miss {
+        if let Some(row) = missed_in_order(alloc, facts, order, rows) {
             return Some((order, row));
         }
     }
     None
 }
 
-/// Asserts what is said of the tokens, at 1,020, in all of the orders in which the facts may come.
-pub(super) fn tells(rt: &impl Abort, alloc: Global, facts: &[Told], orders: usize, rows: &[Row]) {
-    let miss = first_miss(alloc, facts, orders, rows);
-    assert!(rt; miss.is_none(), "{miss:?}");
+/// A name, facts, how many of their orders are tried, and what is to be said of tokens then.
+pub(super) type Case = (&'static str, &'static [Told], usize, &'static [Row]);
+
+/// Asserts what is said of the tokens of each case, at 1,020, in all of the orders in which its facts may come.
+pub(super) fn tells(rt: &impl Abort, alloc: Global, cases: &[Case]) {
+    for &(name, facts, orders, rows) in cases {
+        let miss = first_miss(alloc, facts, orders, rows);
+        assert!(rt; miss.is_none(), "{name}: {miss:?}");
+    }
 }
 
 fn both_find(both: &Both, client: Dot, subject: &Subject, scope: &Scope) -> Option<Option<Dot>> {
@@ -181,6 +214,20 @@ fn both_find(both: &Both, client: Dot, subject: &Subject, scope: &Scope) -> Opti
 }
 
 // The consent that both find for the client, the subject and the scope; None where not the same.
+fn found_for(
+    alloc: Global,
+    both: &Both,
+    client: Dot,
+    subject: &Subject,
+    scope: &[u8],
+) -> Option<Option<Dot>> {
+    match &Scope::read(alloc, scope) {
+        Ok(scope) => both_find(both, client, subject, scope),
+        Err(_) => None,
+    }
+}
+
+// The same, of texts.
 pub(super) fn found(
     alloc: Global,
     both: &Both,
@@ -189,11 +236,8 @@ pub(super) fn found(
     scope: &[u8],
 ) -> Option<Option<Dot>> {
     let client = dot(client)?;
-    match Subject::read(alloc, subject) {
-        Ok(subject) => match &Scope::read(alloc, scope) {
-            Ok(scope) => both_find(both, client, &subject, scope),
-            Err(_) => None,
-        },
+    match &Subject::read(alloc, subject) {
+        Ok(subject) => found_for(alloc, both, client, subject, scope),
         Err(_) => None,
     }
 }

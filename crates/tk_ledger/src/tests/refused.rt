@@ -2,13 +2,11 @@
 //! docs/ARCHITECTURE.md tells; where none is refused, all facts are held.
 
 use super::facts::{ANN, Place, Says, Token, Told, dot, handle};
-use super::orders::{Row, add_to_ledger, copied};
-use super::{
-    ACCESS, ADDED, GIVEN, ISSUED, REDEEMED_TWICE, REFRESHED_TWICE, REVOKED_BY, TWO_REDEMPTIONS,
-    TWO_ROTATIONS, revoked_in_advance, revoked_rows,
-};
+use super::orders::{Case, Row, add_to_ledger, copied};
+use super::{ADDED, AT_ONCE, CUT_OFF, GIVEN, ISSUED, REVOKED_BY};
 use crate::{ClientView, ConsentView, Ledger, Standing, Status};
 use std::alloc::Global;
+use std::process::Abort;
 use std::test::Fail;
 use tk_fact::Subject;
 use tk_family::Steps;
@@ -19,7 +17,7 @@ use tk_store::AddError;
 const PLACES: [Place; 6] = [(1, 1), (1, 2), (1, 3), (1, 4), (1, 5), (2, 1)];
 
 // One fact of each kind and more, those that wait before the code that all of them are under.
-const FACTS: [Told; 12] = [
+const FACTS: &[Told] = &[
     // What waits for others: rotations, a revocation and a redemption.
     ((1, 5), Says::RefreshRotated((1, 4), 1, (7, 8))),
     (
@@ -40,7 +38,7 @@ const FACTS: [Told; 12] = [
 ];
 
 // The tokens that any of the places may have minted.
-const TOKENS: [Token; 18] = [
+const TOKENS: &[Token] = &[
     ((1, 1), Kind::Code, 24),
     ((1, 1), Kind::Access, 7),
     ((1, 1), Kind::Refresh, 8),
@@ -99,29 +97,37 @@ fn same_statuses(left: &Status<'_>, right: &Status<'_>) -> bool {
     }
 }
 
+fn same_views(left: &ClientView<'_>, right: &ClientView<'_>) -> bool {
+    left.sort == right.sort
+        && left.scope.same(right.scope)
+        && left.redirects.same(right.redirects)
+        && left.live == right.live
+}
+
 fn same_clients(left: &Option<ClientView<'_>>, right: &Option<ClientView<'_>>) -> bool {
-    match (left, right) {
-        (Some(left), Some(right)) => {
-            left.sort == right.sort
-                && left.scope.same(right.scope)
-                && left.redirects.same(right.redirects)
-                && left.live == right.live
-        }
-        (None, None) => true,
-        _ => false,
+    match left {
+        Some(left) => match right {
+            Some(right) => same_views(left, right),
+            None => false,
+        },
+        None => right.is_none(),
     }
 }
 
+fn same_grants(left: &ConsentView<'_>, right: &ConsentView<'_>) -> bool {
+    left.client == right.client
+        && left.subject.same(right.subject)
+        && left.scope.same(right.scope)
+        && left.live == right.live
+}
+
 fn same_consents(left: &Option<ConsentView<'_>>, right: &Option<ConsentView<'_>>) -> bool {
-    match (left, right) {
-        (Some(left), Some(right)) => {
-            left.client == right.client
-                && left.subject.same(right.subject)
-                && left.scope.same(right.scope)
-                && left.live == right.live
-        }
-        (None, None) => true,
-        _ => false,
+    match left {
+        Some(left) => match right {
+            Some(right) => same_grants(left, right),
+            None => false,
+        },
+        None => right.is_none(),
     }
 }
 
@@ -192,6 +198,7 @@ fn fresh(alloc: Global, facts: &[Told]) -> Option<Ledger> {
     if are_added(alloc, &mut ledger, facts) {
         Some(ledger)
     } else {
+        drop(ledger);
         None
     }
 }
@@ -228,13 +235,17 @@ fn next_is_taken(
     asked: &Asked<'_>,
 ) -> Option<bool> {
     let before = fresh(alloc, facts)?;
-    is_taken(alloc, ledger, &before, told, asked)
+    let is_taken = is_taken(alloc, ledger, &before, told, asked);
+    drop(before);
+    is_taken
 }
 
 // Whether the ledger answers as a fresh one of all facts does.
 fn is_as_fresh(alloc: Global, ledger: &Ledger, facts: &[Told], asked: &Asked<'_>) -> Option<bool> {
     let all = fresh(alloc, facts)?;
-    Some(ledger.store().len() == facts.len() as u64 && agree(ledger, &all, asked))
+    let is_so = ledger.store().len() == facts.len() as u64 && agree(ledger, &all, asked);
+    drop(all);
+    Some(is_so)
 }
 
 fn all_are_taken(
@@ -254,7 +265,9 @@ fn all_are_taken(
 // Whether a ledger takes all facts in this order, and then answers as a fresh one does.
 fn are_taken(alloc: Global, facts: &[Told], asked: &Asked<'_>) -> Option<bool> {
     let mut ledger = Ledger::new(alloc);
-    all_are_taken(alloc, &mut ledger, facts, asked)
+    let are_taken = all_are_taken(alloc, &mut ledger, facts, asked);
+    drop(ledger);
+    are_taken
 }
 
 // The facts in their order, and then in the reverse, where each waits for what it names.
@@ -267,30 +280,39 @@ fn are_taken_both_ways(alloc: Global, facts: &[Told], asked: &Asked<'_>) -> Opti
     are_taken(alloc, facts.as_slice(), asked)
 }
 
-// The same, and what is asked after each refusal.
-fn change_no_answer(alloc: Global, facts: &[Told], tokens: &[Token]) -> Option<bool> {
+// The same, and what is asked after each refusal, of the subject among others.
+fn change_no_answer_of(
+    alloc: Global,
+    facts: &[Told],
+    tokens: &[Token],
+    subject: &Subject,
+) -> Option<bool> {
     let now = Moment::new(1_020)?;
-    match Subject::read(alloc, b"ann") {
-        Ok(subject) => match Scope::read(alloc, b"read") {
-            Ok(scope) => {
-                let asked = Asked {
-                    now,
-                    tokens,
-                    subject: &subject,
-                    scope: &scope,
-                };
-                are_taken_both_ways(alloc, facts, &asked)
-            }
-            Err(_) => None,
-        },
+    match &Scope::read(alloc, b"read") {
+        Ok(scope) => {
+            let asked = Asked {
+                now,
+                tokens,
+                subject,
+                scope,
+            };
+            are_taken_both_ways(alloc, facts, &asked)
+        }
+        Err(_) => None,
+    }
+}
+
+fn change_no_answer(alloc: Global, facts: &[Told], tokens: &[Token]) -> Option<bool> {
+    match &Subject::read(alloc, b"ann") {
+        Ok(subject) => change_no_answer_of(alloc, facts, tokens, subject),
         Err(_) => None,
     }
 }
 
 fn tokens_of(alloc: Global, rows: &[Row]) -> Option<Vec<Token>> {
     let mut tokens = Vec::new(alloc);
-    for (_, token, _) in rows {
-        if tokens.push(*token).is_err() {
+    for row in rows {
+        if tokens.push(row.1).is_err() {
             return None;
         }
     }
@@ -303,33 +325,38 @@ fn row_changes_no_answer(alloc: Global, facts: &[Told], rows: &[Row]) -> Option<
     change_no_answer(alloc, facts, tokens.as_slice())
 }
 
+// Asserts that it is so, which isn't known where memory is refused outside the ledger that is looked at.
+fn is_told(rt: &impl Abort, name: &str, told: Option<bool>) -> Result<(), Fail> {
+    let is_so = told.ok_or("no memory")?;
+    assert!(rt; is_so, "{name}");
+    Ok(())
+}
+
+// Asserts the same of the facts of each case, and of the tokens of which it says something.
+fn change_no_answers(rt: &impl Abort, alloc: Global, cases: &[Case]) -> Result<(), Fail> {
+    for &(name, facts, _, rows) in cases {
+        is_told(rt, name, row_changes_no_answer(alloc, facts, rows))?;
+    }
+    Ok(())
+}
+
 #[test]
 fn a_fact_that_is_refused_memory_changes_no_answer(rt: HostRuntime) -> Result<(), Fail> {
-    let told = change_no_answer(rt.alloc(), &FACTS, &TOKENS);
-    assert!(rt; told.ok_or("no memory")?);
-    Ok(())
+    let told = change_no_answer(rt.alloc(), FACTS, TOKENS);
+    is_told(&rt, "each kind", told)
 }
 
 #[test]
 fn being_cut_off_and_refused_memory_changes_no_answer(rt: HostRuntime) -> Result<(), Fail> {
-    let told = row_changes_no_answer(rt.alloc(), &TWO_REDEMPTIONS, &REDEEMED_TWICE);
-    assert!(rt; told.ok_or("no memory")?);
-    Ok(())
+    change_no_answers(&rt, rt.alloc(), CUT_OFF)
 }
 
 #[test]
 fn two_refreshes_at_once_and_refused_memory_change_no_answer(rt: HostRuntime) -> Result<(), Fail> {
-    let told = row_changes_no_answer(rt.alloc(), &TWO_ROTATIONS, &REFRESHED_TWICE);
-    assert!(rt; told.ok_or("no memory")?);
-    Ok(())
+    change_no_answers(&rt, rt.alloc(), AT_ONCE)
 }
 
 #[test]
 fn advance_revocation_and_refused_memory_changes_no_answer(rt: HostRuntime) -> Result<(), Fail> {
-    for (client, access) in REVOKED_BY {
-        let facts = revoked_in_advance(ACCESS, client);
-        let told = row_changes_no_answer(rt.alloc(), &facts, &revoked_rows(access));
-        assert!(rt; told.ok_or("no memory")?, "{client:?}");
-    }
-    Ok(())
+    change_no_answers(&rt, rt.alloc(), REVOKED_BY)
 }

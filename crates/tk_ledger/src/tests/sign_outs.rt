@@ -1,7 +1,7 @@
 //! Sign-outs of a subject: which families they end, in every order of the facts, and the last of them.
 
 use super::facts::{ANN, Says, Told};
-use super::orders::{Both, Row, Said, in_order, tells};
+use super::orders::{Both, Case, Row, in_order, tells};
 use super::{ADDED, CODE, DEAD, GIVEN, ISSUED, LIVE, REDEEMED, USED};
 use std::alloc::Global;
 use tk_fact::Subject;
@@ -9,39 +9,36 @@ use tk_handle::{Kind, Moment};
 
 const BOB: &[u8] = b"\x00\x03bob";
 
-// A family whose code began at 1,000, and one fact more.
-fn family(last: Told) -> [Told; 5] {
-    [ADDED, GIVEN, ISSUED, REDEEMED, last]
-}
+const ENDED: &[Row] = &[
+    ("the code", CODE, DEAD),
+    ("access of 1:4", ((1, 4), Kind::Access, 42), DEAD),
+    ("refresh of 1:4", ((1, 4), Kind::Refresh, 45), DEAD),
+];
 
-fn rows(code: Said, tokens: Said) -> [Row; 3] {
-    [
-        ("the code", CODE, code),
-        ("access of 1:4", ((1, 4), Kind::Access, 42), tokens),
-        ("refresh of 1:4", ((1, 4), Kind::Refresh, 45), tokens),
-    ]
-}
+const KEPT: &[Row] = &[
+    ("the code", CODE, USED),
+    ("access of 1:4", ((1, 4), Kind::Access, 42), LIVE),
+    ("refresh of 1:4", ((1, 4), Kind::Refresh, 45), LIVE),
+];
 
-// Who signs out, and when; what is said of the code, and of both tokens.
-const SIGN_OUTS: &[(&[u8], u64, Said, Said)] = &[
+// A family whose code began at 1,000, who signs out, and when; what is said of the code and of both tokens then.
+#[rattlefmt::skip]
+const SIGN_OUTS: &[Case] = &[
     // The code began in this very second: it is born dead.
-    (ANN, 1_000, DEAD, DEAD),
-    (ANN, 1_020, DEAD, DEAD),
-    (ANN, 253_402_300_799, DEAD, DEAD),
-    (ANN, 999, USED, LIVE),
-    (BOB, 1_020, USED, LIVE),
+    ("in the second of the code", &[ADDED, GIVEN, ISSUED, REDEEMED, ((2, 1), Says::SubjectOut(ANN, 1_000))], 120, ENDED),
+    ("after it", &[ADDED, GIVEN, ISSUED, REDEEMED, ((2, 1), Says::SubjectOut(ANN, 1_020))], 120, ENDED),
+    ("at the last moment", &[ADDED, GIVEN, ISSUED, REDEEMED, ((2, 1), Says::SubjectOut(ANN, 253_402_300_799))], 120, ENDED),
+    ("before it", &[ADDED, GIVEN, ISSUED, REDEEMED, ((2, 1), Says::SubjectOut(ANN, 999))], 120, KEPT),
+    ("another subject", &[ADDED, GIVEN, ISSUED, REDEEMED, ((2, 1), Says::SubjectOut(BOB, 1_020))], 120, KEPT),
 ];
 
 #[test]
 fn a_sign_out_kills_what_began_before_it(rt: HostRuntime) {
-    for &(subject, moment, code, tokens) in SIGN_OUTS {
-        let facts = family(((2, 1), Says::SubjectOut(subject, moment)));
-        tells(&rt, rt.alloc(), &facts, 120, &rows(code, tokens));
-    }
+    tells(&rt, rt.alloc(), SIGN_OUTS);
 }
 
 // Two of ann, the later of which isn't the last that came, and one of bob.
-const OUTS: [Told; 3] = [
+const OUTS: &[Told] = &[
     ((1, 1), Says::SubjectOut(ANN, 1_020)),
     ((1, 2), Says::SubjectOut(BOB, 5_000)),
     ((2, 1), Says::SubjectOut(ANN, 1_000)),
@@ -84,18 +81,31 @@ fn last_is(alloc: Global, both: &Both, subject: &[u8], want: Option<u64>) -> boo
     }
 }
 
-// The order and the subject of which another moment is told.
+fn are_last(alloc: Global, both: &Both) -> bool {
+    for &(subject, want) in LAST {
+        if !last_is(alloc, both, subject, want) {
+            return false;
+        }
+    }
+    true
+}
+
+fn are_last_in_order(alloc: Global, order: usize) -> bool {
+    match in_order(alloc, OUTS, order) {
+        Some(both) => {
+            let are_last = are_last(alloc, &both);
+            drop(both);
+            are_last
+        }
+        None => false,
+    }
+}
+
+// The order in which another moment is told of a subject.
 fn other_last(alloc: Global) -> Option<usize> {
     for order in 0..6 {
-        match &in_order(alloc, &OUTS, order) {
-            Some(both) => {
-                for &(subject, want) in LAST {
-                    if !last_is(alloc, both, subject, want) {
-                        return Some(order);
-                    }
-                }
-            }
-            None => return Some(order),
+        if !are_last_in_order(alloc, order) {
+            return Some(order);
         }
     }
     None

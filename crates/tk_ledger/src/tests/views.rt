@@ -3,7 +3,8 @@
 use super::facts::{Place, READ, READ_WRITE, Says, Token, Told, dot, handle};
 use super::orders::{Both, add_to_both, found, in_order};
 use super::{
-    ACCESS, ADDED, ANOTHER_CLIENT, BEFORE_GRANTS, CLIENT, CONSENT, after, revoked_in_advance,
+    ACCESS, ACCESS_BY_CLIENT, ADDED, ANOTHER_CLIENT, BEFORE_GRANTS, CLIENT, CLIENT_GONE, CONSENT,
+    holds,
 };
 use crate::{ClientView, ConsentView, Ledger};
 use std::alloc::Global;
@@ -52,8 +53,12 @@ fn are_shown(ledger: &Ledger) -> bool {
 }
 
 fn are_shown_after(alloc: Global) -> bool {
-    match &after(alloc, ((2, 1), Says::ClientRetired(CLIENT))) {
-        Some(both) => are_shown(&both.ledger),
+    match in_order(alloc, CLIENT_GONE, 0) {
+        Some(both) => {
+            let are_shown = are_shown(&both.ledger);
+            drop(both);
+            are_shown
+        }
         None => false,
     }
 }
@@ -64,7 +69,7 @@ fn a_client_and_a_consent_are_shown(rt: HostRuntime) {
 }
 
 // Consents at 1:2 for `read`, at 1:3 and 1:5 for `read write`; that at 1:3 is withdrawn.
-const CONSENTS: [Told; 5] = [
+const CONSENTS: &[Told] = &[
     ADDED,
     ((1, 5), Says::ConsentGiven(CLIENT, READ_WRITE)),
     ((1, 3), Says::ConsentGiven(CLIENT, READ_WRITE)),
@@ -81,7 +86,7 @@ type Sought = (
     Option<Place>,
 );
 
-const SCOPES: [Sought; 5] = [
+const SCOPES: &[Sought] = &[
     ("the least", CLIENT, b"ann", b"read", Some((1, 2))),
     // That at 1:3 includes the scope and is less, but was withdrawn.
     ("the only", CLIENT, b"ann", b"write read", Some((1, 5))),
@@ -101,7 +106,7 @@ fn is_found(alloc: Global, both: &Both, row: &Sought) -> bool {
 
 // The first row for which another consent is found.
 fn first_found_otherwise(alloc: Global, both: &Both) -> Option<&'static str> {
-    for row in &SCOPES {
+    for row in SCOPES {
         if !is_found(alloc, both, row) {
             return Some(row.0);
         }
@@ -111,22 +116,25 @@ fn first_found_otherwise(alloc: Global, both: &Both) -> Option<&'static str> {
 
 // The same, among these consents.
 fn found_otherwise(alloc: Global) -> Option<&'static str> {
-    match &in_order(alloc, &CONSENTS, 0) {
-        Some(both) => first_found_otherwise(alloc, both),
+    match in_order(alloc, CONSENTS, 0) {
+        Some(both) => {
+            let wrong = first_found_otherwise(alloc, &both);
+            drop(both);
+            wrong
+        }
         None => Some("the facts"),
     }
 }
 
 #[test]
 fn the_least_consent_that_includes_the_scope_is_found(rt: HostRuntime) {
-    let wrong = found_otherwise(rt.alloc());
-    assert!(rt; wrong.is_none(), "{wrong:?}");
+    holds(&rt, found_otherwise(rt.alloc()));
 }
 
 // A question whether a token was revoked: its name, the token, one of its digest, a client, and the answer.
 type Question = (&'static str, Token, Token, Place, bool);
 
-const QUESTIONS: [Question; 4] = [
+const QUESTIONS: &[Question] = &[
     ("as it was revoked", ACCESS, ACCESS, CLIENT, true),
     ("another client", ACCESS, ACCESS, ANOTHER_CLIENT, false),
     (
@@ -156,7 +164,7 @@ fn is_answered(both: &Both, question: &Question) -> Option<bool> {
 
 // The first question that one of the ledgers answers otherwise.
 fn first_wrong(both: &Both) -> Option<&'static str> {
-    for question in &QUESTIONS {
+    for question in QUESTIONS {
         if is_answered(both, question) != Some(true) {
             return Some(question.0);
         }
@@ -166,16 +174,19 @@ fn first_wrong(both: &Both) -> Option<&'static str> {
 
 // The same, where the client revoked the access token.
 fn wrong_when_revoked(alloc: Global) -> Option<&'static str> {
-    match &in_order(alloc, &revoked_in_advance(ACCESS, CLIENT), 0) {
-        Some(both) => first_wrong(both),
+    match in_order(alloc, ACCESS_BY_CLIENT, 0) {
+        Some(both) => {
+            let wrong = first_wrong(&both);
+            drop(both);
+            wrong
+        }
         None => Some("the facts"),
     }
 }
 
 #[test]
 fn a_revocation_is_told_by_token_digest_and_client(rt: HostRuntime) {
-    let wrong = wrong_when_revoked(rt.alloc());
-    assert!(rt; wrong.is_none(), "{wrong:?}");
+    holds(&rt, wrong_when_revoked(rt.alloc()));
 }
 
 // Another fact at the client's dot.
@@ -189,8 +200,12 @@ fn is_full(alloc: Global, both: &mut Both) -> bool {
 }
 
 fn is_full_after(alloc: Global) -> bool {
-    match &mut in_order(alloc, &BEFORE_GRANTS, 0) {
-        Some(both) => is_full(alloc, both),
+    match in_order(alloc, BEFORE_GRANTS, 0) {
+        Some(mut both) => {
+            let is_full = is_full(alloc, &mut both);
+            drop(both);
+            is_full
+        }
         None => false,
     }
 }

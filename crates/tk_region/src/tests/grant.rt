@@ -5,7 +5,7 @@
 mod granted;
 mod refused;
 
-use super::spelled::{is_made, ledger_of};
+use super::spelled::{fill, is_made};
 use std::alloc::Global;
 use std::process::Abort;
 use tk_grant::decide_token;
@@ -31,10 +31,6 @@ static FACTS: [&[u8]; 7] = [
     b"\x00\x02\x00\x00\x00\x00\x00\x00\x00\x01\x01\x00\x00\x04read\x01\x00\x16https://app.example/cb",
 ];
 
-fn ledger(rt: &impl Abort, alloc: Global) -> Ledger {
-    ledger_of(rt, alloc, &FACTS)
-}
-
 fn place() -> Option<Place> {
     Some(Place {
         number: RegionNumber::new(1)?,
@@ -58,12 +54,19 @@ fn request(alloc: Global, form: &str) -> Option<Request> {
     })
 }
 
+fn decided_by(alloc: Global, ledger: &Ledger, now: Moment, request: &Request) -> Option<Decision> {
+    let place = place()?;
+    let words = [42, 43, 44, 45, 46, 47];
+    decide_token(alloc, ledger, &place, now, &words, request).ok()
+}
+
 // None where memory is refused.
 fn decided(alloc: Global, ledger: &Ledger, now: u64, form: &str) -> Option<Decision> {
-    let (now, place) = (Moment::new(now)?, place()?);
-    let request = request(alloc, form)?;
-    let words = [42, 43, 44, 45, 46, 47];
-    decide_token(alloc, ledger, &place, now, &words, &request).ok()
+    let now = Moment::new(now)?;
+    match request(alloc, form) {
+        Some(request) => decided_by(alloc, ledger, now, &request),
+        None => None,
+    }
 }
 
 // Whether the reply has that status, and is that JSON text.
@@ -78,19 +81,41 @@ fn is_reply(reply: &Reply, status: u16, body: &str) -> bool {
         && reply.location.is_none()
 }
 
+fn is_decision(alloc: Global, decision: &Decision, row: &Row) -> bool {
+    is_reply(&decision.reply, row.3, row.4) && is_made(alloc, &decision.made, row.5)
+}
+
 fn is_answered(alloc: Global, ledger: &Ledger, row: &Row) -> bool {
-    let (_, form, now, status, body, bytes) = *row;
-    match &decided(alloc, ledger, now, form) {
+    match decided(alloc, ledger, row.2, row.1) {
         Some(decision) => {
-            is_reply(&decision.reply, status, body) && is_made(alloc, &decision.made, bytes)
+            let is_so = is_decision(alloc, &decision, row);
+            drop(decision);
+            is_so
         }
         None => false,
     }
 }
 
-fn are_answered(rt: &impl Abort, alloc: Global, rows: &[Row]) {
-    let ledger = ledger(rt, alloc);
+fn first_other_in(alloc: Global, ledger: &mut Ledger, rows: &[Row]) -> Option<&'static str> {
+    if !fill(alloc, ledger, &FACTS) {
+        return Some("the ledger");
+    }
     for row in rows {
-        assert!(rt; is_answered(alloc, &ledger, row), "{}", row.0);
+        if !is_answered(alloc, ledger, row) {
+            return Some(row.0);
+        }
+    }
+    None
+}
+
+// The first row that is answered otherwise.
+fn first_other(alloc: Global, rows: &[Row]) -> Option<&'static str> {
+    let mut ledger = Ledger::new(alloc);
+    first_other_in(alloc, &mut ledger, rows)
+}
+
+fn are_answered(rt: &impl Abort, alloc: Global, rows: &[Row]) {
+    if let Some(name) = first_other(alloc, rows) {
+        panic!(rt; "{name}");
     }
 }

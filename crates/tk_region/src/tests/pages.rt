@@ -1,6 +1,6 @@
 //! What a region tells that it holds, and the page that another one is sent.
 
-use super::{FIRST, Retired, bundle_of, with_first};
+use super::{FIRST, Retired, bundle_of, fill, new_region};
 use crate::Region;
 use std::alloc::Global;
 use tk_bundle::Page;
@@ -15,11 +15,24 @@ fn entries(vector: &VersionVector) -> Option<(u64, u64, u64)> {
     Some((vector.get(one), vector.get(two), vector.get(three)))
 }
 
-fn told(alloc: Global) -> Option<(u64, u64, u64)> {
-    let region = with_first(alloc)?;
+fn told_in(alloc: Global, region: &mut Region) -> Option<(u64, u64, u64)> {
+    if !fill(alloc, region) {
+        return None;
+    }
     match &region.vector(alloc) {
         Ok(vector) => entries(vector),
         Err(_) => None,
+    }
+}
+
+fn told(alloc: Global) -> Option<(u64, u64, u64)> {
+    match new_region(alloc, 5) {
+        Some(mut region) => {
+            let told = told_in(alloc, &mut region);
+            drop(region);
+            told
+        }
+        None => None,
     }
 }
 
@@ -50,7 +63,9 @@ fn sends(
 }
 
 // The vector of a text, the serial of region 1 above which the page begins (0 for all), and the facts of the page.
-const PAGES: &[(&str, u64, &[Retired])] = &[
+type Sent = (&'static str, u64, &'static [Retired]);
+
+static PAGES: [Sent; 6] = [
     ("-", 0, &FIRST),
     ("-", 1, &[((2, 1), (1, 8))]),
     ("1:1", 0, &[((2, 1), (1, 8))]),
@@ -59,19 +74,28 @@ const PAGES: &[(&str, u64, &[Retired])] = &[
     ("1:1,2:1", 0, &[]),
 ];
 
-fn is_sent(alloc: Global, vector: &str, serial: u64, facts: &[Retired]) -> Option<bool> {
-    let after = Dot::new(RegionNumber::new(1)?, serial);
-    let region = with_first(alloc)?;
-    match &VersionVector::read_text(alloc, vector.as_bytes()) {
-        Ok(vector) => Some(sends(alloc, &region, vector, after, facts)),
+fn sends_above(alloc: Global, region: &Region, row: &Sent) -> Option<bool> {
+    let after = Dot::new(RegionNumber::new(1)?, row.1);
+    match &VersionVector::read_text(alloc, row.0.as_bytes()) {
+        Ok(vector) => Some(sends(alloc, region, vector, after, row.2)),
         Err(_) => None,
+    }
+}
+
+fn is_sent(alloc: Global, row: &Sent) -> bool {
+    match new_region(alloc, 5) {
+        Some(mut region) => {
+            let is_so = fill(alloc, &mut region) && sends_above(alloc, &region, row) == Some(true);
+            drop(region);
+            is_so
+        }
+        None => false,
     }
 }
 
 #[test]
 fn a_page_is_what_another_region_lacks(rt: HostRuntime) {
-    for &(vector, serial, facts) in PAGES {
-        let is_sent = is_sent(rt.alloc(), vector, serial, facts);
-        assert!(rt; is_sent == Some(true), "{vector} above {serial}");
+    for row in &PAGES {
+        assert!(rt; is_sent(rt.alloc(), row), "{} above {}", row.0, row.1);
     }
 }

@@ -5,7 +5,7 @@
 mod introspection;
 mod revocation;
 
-use super::spelled::{is_made, ledger_of};
+use super::spelled::{fill, is_made};
 use std::alloc::Global;
 use std::process::Abort;
 use tk_handle::{Moment, RegionNumber, Serial};
@@ -39,10 +39,6 @@ static FACTS: [&[u8]; 13] = [
     b"\x00\x02\x00\x00\x00\x00\x00\x00\x00\x04\x08\x00\x01\x00\x00\x00\x00\x00\x00\x00\x05\x02t\x12vj>r\xc5\xa5\x96bbX\xce\x7f$\xab\x02\xe7K\xba\x9cZ\x05\xb3|\xdc\x9c\xe25\xfc\xec\x13\x00\x02\x00\x00\x00\x00\x00\x00\x00\x03",
 ];
 
-fn ledger(rt: &impl Abort, alloc: Global) -> Ledger {
-    ledger_of(rt, alloc, &FACTS)
-}
-
 fn place() -> Option<Place> {
     Some(Place {
         number: RegionNumber::new(1)?,
@@ -66,6 +62,14 @@ fn request(alloc: Global, endpoint: Endpoint, form: &str) -> Option<Request> {
     })
 }
 
+fn decided_by(alloc: Global, ledger: &Ledger, now: Moment, request: &Request) -> Option<Decision> {
+    let place = place()?;
+    match request.endpoint {
+        Endpoint::Introspect => decide_introspect(alloc, ledger, now, request).ok(),
+        _ => decide_revoke(alloc, ledger, &place, now, request).ok(),
+    }
+}
+
 // None where memory is refused.
 fn decided(
     alloc: Global,
@@ -74,11 +78,10 @@ fn decided(
     form: &str,
     now: u64,
 ) -> Option<Decision> {
-    let (now, place) = (Moment::new(now)?, place()?);
-    let request = request(alloc, endpoint, form)?;
-    match endpoint {
-        Endpoint::Introspect => decide_introspect(alloc, ledger, now, &request).ok(),
-        _ => decide_revoke(alloc, ledger, &place, now, &request).ok(),
+    let now = Moment::new(now)?;
+    match request(alloc, endpoint, form) {
+        Some(request) => decided_by(alloc, ledger, now, &request),
+        None => None,
     }
 }
 
@@ -95,19 +98,46 @@ fn is_reply(reply: &Reply, status: u16, body: &str) -> bool {
         && reply.location.is_none()
 }
 
+fn is_decision(alloc: Global, decision: &Decision, row: &Row) -> bool {
+    is_reply(&decision.reply, row.3, row.4) && is_made(alloc, &decision.made, row.5)
+}
+
 fn is_answered(alloc: Global, ledger: &Ledger, endpoint: Endpoint, row: &Row) -> bool {
-    let (_, form, now, status, body, bytes) = *row;
-    match &decided(alloc, ledger, endpoint, form, now) {
+    match decided(alloc, ledger, endpoint, row.1, row.2) {
         Some(decision) => {
-            is_reply(&decision.reply, status, body) && is_made(alloc, &decision.made, bytes)
+            let is_so = is_decision(alloc, &decision, row);
+            drop(decision);
+            is_so
         }
         None => false,
     }
 }
 
-fn are_answered(rt: &impl Abort, alloc: Global, endpoint: Endpoint, rows: &[Row]) {
-    let ledger = ledger(rt, alloc);
+fn first_other_in(
+    alloc: Global,
+    ledger: &mut Ledger,
+    endpoint: Endpoint,
+    rows: &[Row],
+) -> Option<&'static str> {
+    if !fill(alloc, ledger, &FACTS) {
+        return Some("the ledger");
+    }
     for row in rows {
-        assert!(rt; is_answered(alloc, &ledger, endpoint, row), "{}", row.0);
+        if !is_answered(alloc, ledger, endpoint, row) {
+            return Some(row.0);
+        }
+    }
+    None
+}
+
+// The first row that is answered otherwise.
+fn first_other(alloc: Global, endpoint: Endpoint, rows: &[Row]) -> Option<&'static str> {
+    let mut ledger = Ledger::new(alloc);
+    first_other_in(alloc, &mut ledger, endpoint, rows)
+}
+
+fn are_answered(rt: &impl Abort, alloc: Global, endpoint: Endpoint, rows: &[Row]) {
+    if let Some(name) = first_other(alloc, endpoint, rows) {
+        panic!(rt; "{name}");
     }
 }

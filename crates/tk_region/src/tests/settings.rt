@@ -1,13 +1,12 @@
 //! Settings: where their ranges end, and what they tell.
 
 use crate::Settings;
-use std::test::Fail;
 
 const GREATEST_CAP: u64 = 9_223_372_036_854_775_806;
 
 // Code, access, refresh, family, cap, and whether they are settings.
 #[rattlefmt::skip]
-const SETTINGS: &[(&str, [u64; 5], bool)] = &[
+static SETTINGS: [(&str, [u64; 5], bool); 12] = [
     ("the least", [1, 1, 1, 1, 1], true),
     ("the greatest", [600, 86_400, 31_536_000, 315_360_000, GREATEST_CAP], true),
     ("no life of a code", [0, 1, 1, 1, 1], false),
@@ -22,20 +21,26 @@ const SETTINGS: &[(&str, [u64; 5], bool)] = &[
     ("a cap at the greatest serial", [1, 1, 1, 1, GREATEST_CAP + 1], false),
 ];
 
-#[test]
-fn settings_end_where_their_ranges_do(rt: HostRuntime) {
-    for &(name, [code, access, refresh, family, cap], want) in SETTINGS {
-        let settings = Settings::new(code, access, refresh, family, cap);
-        assert_eq!(rt; settings.is_some(), want, "{name}");
-    }
+fn are_settings([code, access, refresh, family, cap]: [u64; 5]) -> bool {
+    Settings::new(code, access, refresh, family, cap).is_some()
 }
 
 #[test]
-fn settings_are_told_as_they_were_given(rt: HostRuntime) -> Result<(), Fail> {
-    let settings = Settings::new(60, 3_600, 86_400, 2_592_000, 7).ok_or("settings")?;
+fn settings_end_where_their_ranges_do(rt: HostRuntime) {
+    for row in &SETTINGS {
+        assert!(rt; are_settings(row.1) == row.2, "{}", row.0);
+    }
+}
+
+// The four lives, and the cap.
+fn told() -> Option<[u64; 5]> {
+    let settings = Settings::new(60, 3_600, 86_400, 2_592_000, 7)?;
     let lives = settings.lives();
-    assert!(rt; (lives.code, lives.access) == (60, 3_600));
-    assert!(rt; (lives.refresh, lives.family) == (86_400, 2_592_000));
-    assert!(rt; settings.cap() == 7);
-    Ok(())
+    let cap = settings.cap();
+    Some([lives.code, lives.access, lives.refresh, lives.family, cap])
+}
+
+#[test]
+fn settings_are_told_as_they_were_given(rt: HostRuntime) {
+    assert!(rt; told() == Some([60, 3_600, 86_400, 2_592_000, 7]));
 }

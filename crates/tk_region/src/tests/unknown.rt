@@ -1,15 +1,16 @@
 //! Requests for what isn't there, decided and handled alike.
 
 use super::{holds, is_json, new_region};
-use crate::Region;
+use crate::{Handled, Prepared, Region};
 use std::alloc::Global;
-use std::test::Fail;
 use tk_handle::Moment;
 use tk_message::{Endpoint, Params, Request};
 
 // Requests for what no fact speaks of.
+type Unknown = (&'static str, Endpoint, &'static [u8]);
+
 #[rattlefmt::skip]
-const UNKNOWN: &[(&str, Endpoint, &[u8])] = &[
+static UNKNOWN: [Unknown; 3] = [
     ("a client to show", Endpoint::ShowClient, b"client_id=c9-9"),
     ("a client to retire", Endpoint::Retire, b"client_id=c9-9"),
     ("a consent to withdraw", Endpoint::Withdraw, b"consent_id=g9-9"),
@@ -29,39 +30,76 @@ fn request_of(alloc: Global, endpoint: Endpoint, input: &[u8]) -> Option<Request
 
 const NOT_FOUND: &str = "{\"error\":\"not_found\"}";
 
+fn refuses(prepared: &Prepared) -> bool {
+    prepared.fact.is_none() && is_json(&prepared.reply, 404, NOT_FOUND)
+}
+
 fn is_decided(alloc: Global, region: &Region, now: Moment, request: &Request) -> bool {
     match region.decide(alloc, now, &[7; 6], request) {
-        Ok(prepared) => prepared.fact.is_none() && is_json(&prepared.reply, 404, NOT_FOUND),
+        Ok(prepared) => {
+            let is_so = refuses(&prepared);
+            drop(prepared);
+            is_so
+        }
         Err(_) => false,
     }
+}
+
+fn is_refused(handled: &Handled) -> bool {
+    handled.logged.is_none() && is_json(&handled.reply, 404, NOT_FOUND)
 }
 
 fn is_handled(alloc: Global, region: &mut Region, now: Moment, request: &Request) -> bool {
     match region.handle(alloc, now, &[7; 6], request) {
-        Ok(handled) => handled.logged.is_none() && is_json(&handled.reply, 404, NOT_FOUND),
+        Ok(handled) => {
+            let is_so = is_refused(&handled);
+            drop(handled);
+            is_so
+        }
         Err(_) => false,
     }
 }
 
-fn is_not_found(
-    alloc: Global,
-    region: &mut Region,
-    endpoint: Endpoint,
-    input: &[u8],
-) -> Option<bool> {
+fn is_not_found(alloc: Global, region: &mut Region, request: &Request) -> Option<bool> {
     let now = Moment::new(1_000)?;
-    let request = request_of(alloc, endpoint, input)?;
-    Some(is_decided(alloc, region, now, &request) && is_handled(alloc, region, now, &request))
+    Some(is_decided(alloc, region, now, request) && is_handled(alloc, region, now, request))
+}
+
+fn is_unknown(alloc: Global, region: &mut Region, row: &Unknown) -> bool {
+    match request_of(alloc, row.1, row.2) {
+        Some(request) => is_not_found(alloc, region, &request) == Some(true),
+        None => false,
+    }
+}
+
+// The first that is found, or else whether a fact is held.
+fn first_found_in(alloc: Global, region: &mut Region) -> Option<&'static str> {
+    for row in &UNKNOWN {
+        if !is_unknown(alloc, region, row) {
+            return Some(row.0);
+        }
+    }
+    if holds(alloc, region, &[]) {
+        None
+    } else {
+        Some("what is unknown")
+    }
+}
+
+fn first_found(alloc: Global) -> Option<&'static str> {
+    match new_region(alloc, 2) {
+        Some(mut region) => {
+            let found = first_found_in(alloc, &mut region);
+            drop(region);
+            found
+        }
+        None => Some("a region"),
+    }
 }
 
 #[test]
-fn what_is_unknown_is_not_found(rt: HostRuntime) -> Result<(), Fail> {
-    let alloc = rt.alloc();
-    let mut region = new_region(alloc, 2).ok_or("a region")?;
-    for &(name, endpoint, input) in UNKNOWN {
-        let is_unknown = is_not_found(alloc, &mut region, endpoint, input);
-        assert!(rt; is_unknown == Some(true), "{name}");
+fn what_is_unknown_is_not_found(rt: HostRuntime) {
+    if let Some(name) = first_found(rt.alloc()) {
+        panic!(rt; "{name}");
     }
-    assert!(rt; holds(alloc, &region, &[]), "what is unknown");
-    Ok(())
 }

@@ -4,7 +4,7 @@ use super::fakes::FailingReader;
 use crate::load::{LoadFault, load};
 use crate::script::{LIMIT, read_events};
 use std::alloc::Global;
-use std::io::ErrorKind;
+use std::io::{ErrorKind, Read};
 use std::test::Fail;
 use tk_bundle::read_front;
 use tk_edge::{Counted, Edge, Served};
@@ -53,10 +53,13 @@ fn is_served(
     result == Ok(Served::Done(status))
 }
 
-// The log of a region that was asked for these.
-fn log_of(alloc: Global, region: Region, events: &[Event]) -> Option<Vec<u8>> {
-    let mut edge = Edge::new(region, true);
-    let mut log = Counted::new(Vec::new(alloc));
+// Whether the requests among these are answered with the statuses.
+fn are_served(
+    alloc: Global,
+    edge: &mut Edge,
+    log: &mut Counted<Vec<u8>>,
+    events: &[Event],
+) -> bool {
     let mut left = STATUSES.as_slice();
     for event in events {
         if let (
@@ -70,31 +73,49 @@ fn log_of(alloc: Global, region: Region, events: &[Event]) -> Option<Vec<u8>> {
         ) = (event, left)
         {
             let request = (*now, words, bytes.as_slice());
-            if !is_served(alloc, &mut edge, &mut log, request, *status) {
-                return None;
+            if !is_served(alloc, edge, log, request, *status) {
+                return false;
             }
             left = rest;
         }
     }
-    if left.is_empty() {
-        Some(log.inner)
-    } else {
-        None
-    }
+    left.is_empty()
+}
+
+// The log of a region that was asked for these.
+fn log_of(alloc: Global, events: &[Event]) -> Option<Vec<u8>> {
+    let mut edge = Edge::new(new_region(alloc, 1)?, true);
+    let mut log = Counted::new(Vec::new(alloc));
+    let are_served = are_served(alloc, &mut edge, &mut log, events);
+    are_served.then_some(log.inner)
 }
 
 fn log_of_requests(alloc: Global) -> Option<Vec<u8>> {
-    let region = new_region(alloc, 1)?;
-    let events = events_of(alloc, REQUESTS)?;
-    log_of(alloc, region, events.as_slice())
+    match &events_of(alloc, REQUESTS) {
+        Some(events) => log_of(alloc, events.as_slice()),
+        None => None,
+    }
 }
 
-// What loading the bytes into a region of this number gives, and how many facts that has then.
+// What loading the reader's bytes into a region of this number gives, and how many facts that has then.
+fn loaded_by<I: Read>(
+    alloc: Global,
+    number: u16,
+    reader: &mut I,
+) -> Option<(Result<u64, LoadFault>, u64)> {
+    match &mut new_region(alloc, number) {
+        Some(region) => {
+            let result = load(alloc, region, reader);
+            Some((result, region.len()))
+        }
+        None => None,
+    }
+}
+
+// The same of these bytes.
 fn loaded(alloc: Global, number: u16, log: &[u8]) -> Option<(Result<u64, LoadFault>, u64)> {
-    let mut region = new_region(alloc, number)?;
     let mut reader = log;
-    let result = load(alloc, &mut region, &mut reader);
-    Some((result, region.len()))
+    loaded_by(alloc, number, &mut reader)
 }
 
 // How many records begin the log, up to five, how long the last of them is, and how many bytes stand behind it.
@@ -158,9 +179,7 @@ fn a_log_of_something_else_is_refused(rt: HostRuntime) -> Result<(), Fail> {
 #[test]
 fn a_log_that_cannot_be_read_brings_nothing(rt: HostRuntime) -> Result<(), Fail> {
     let log = log_of_requests(rt.alloc()).ok_or("a log")?;
-    let mut region = new_region(rt.alloc(), 2).ok_or("a region")?;
     let mut reader = FailingReader::new(&log, ErrorKind::Other);
-    let result = load(rt.alloc(), &mut region, &mut reader);
-    assert!(rt; (result, region.len()) == (Err(LoadFault::Read), 0));
+    assert!(rt; loaded_by(rt.alloc(), 2, &mut reader) == Some((Err(LoadFault::Read), 0)));
     Ok(())
 }

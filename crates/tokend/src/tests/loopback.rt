@@ -15,13 +15,12 @@ fn length_of(alloc: Global, script: &[u8]) -> Option<u64> {
     if script.len() > LIMIT {
         return None;
     }
-    let events = match read_events(alloc, script, None) {
-        Ok(events) => events,
-        Err(_) => return None,
-    };
-    match events.as_slice() {
-        [Event::Request { bytes, .. }] => Some(bytes.len() as u64),
-        _ => None,
+    match &read_events(alloc, script, None) {
+        Ok(events) => match events.as_slice() {
+            [Event::Request { bytes, .. }] => Some(bytes.len() as u64),
+            _ => None,
+        },
+        Err(_) => None,
     }
 }
 
@@ -29,7 +28,7 @@ fn length_of(alloc: Global, script: &[u8]) -> Option<u64> {
 fn is_refused(alloc: Global, script: &[u8], longest: u64) -> bool {
     script.len() <= LIMIT
         && matches!(
-            read_events(alloc, script, Some(longest)),
+            &read_events(alloc, script, Some(longest)),
             Err(Fault::BadLine(1))
         )
 }

@@ -12,16 +12,20 @@ use std::net::{Ipv4Addr, OpenListener, OpenStream, Shutdown, TcpListener, TcpStr
 use std::test::Fail;
 use std::{env, fs};
 use tk_edge::{Discard, Edge};
-use tk_handle::RegionNumber;
+use tk_region::Region;
 
 // What names of files begin with that no other test uses at once: the port of a listener, while that is held.
 fn files_at(rt: &HostRuntime) -> Result<(TcpListener, String), Fail> {
     let listener = TcpListener::bind(rt, (Ipv4Addr::new(127, 0, 0, 1), 0u16))?;
-    let port = listener.local_addr()?.port();
+    let place = place_of(rt, listener.local_addr()?.port())?;
+    Ok((listener, place))
+}
+
+fn place_of(rt: &HostRuntime, port: u16) -> Result<String, Fail> {
     let dir = env::temp_dir(rt)?;
     let dir = dir.as_str();
     let place = format!(in rt.alloc(); "{dir}/tokend-{port}")?;
-    Ok((listener, place))
+    Ok(place)
 }
 
 // One text of these parts.
@@ -54,15 +58,29 @@ fn refuse(
     run_row(rt, &Row { status, ..row })
 }
 
+// A seed file of these bytes is refused.
+fn refuse_seed(rt: &HostRuntime, place: &str, bytes: &[u8]) -> Result<(), Fail> {
+    let seed = new_file(rt, place, "length", bytes)?;
+    let told = "tokend: bad seed file\n";
+    refuse(rt, (seed.as_str(), "--code", "60"), told, 2)?;
+    fs::remove_file(rt, seed.as_str())?;
+    Ok(())
+}
+
 #[test]
 fn seeds_of_another_length_are_told_of(rt: HostRuntime) -> Result<(), Fail> {
     let (_held, place) = files_at(&rt)?;
-    let bad = "tokend: bad seed file\n";
-    for bytes in [[7u8; 31].as_slice(), [7u8; 33].as_slice()] {
-        let seed = new_file(&rt, place.as_str(), "length", bytes)?;
-        refuse(&rt, (seed.as_str(), "--code", "60"), bad, 2)?;
-        fs::remove_file(&rt, seed.as_str())?;
-    }
+    refuse_seed(&rt, place.as_str(), &[7u8; 31])?;
+    refuse_seed(&rt, place.as_str(), &[7u8; 33])
+}
+
+// A log of some text is refused, as an old one and as a new one.
+fn refuse_log(rt: &HostRuntime, place: &str, seed: &str) -> Result<(), Fail> {
+    let text = new_file(rt, place, "text", b"not a bundle")?;
+    let told = "tokend: bad log file\n";
+    refuse(rt, (seed, "--load", text.as_str()), told, 2)?;
+    refuse(rt, (seed, "--log", text.as_str()), told, 2)?;
+    fs::remove_file(rt, text.as_str())?;
     Ok(())
 }
 
@@ -70,27 +88,36 @@ fn seeds_of_another_length_are_told_of(rt: HostRuntime) -> Result<(), Fail> {
 fn logs_that_do_not_serve_are_told_of(rt: HostRuntime) -> Result<(), Fail> {
     let (_held, place) = files_at(&rt)?;
     let seed = new_file(&rt, place.as_str(), "seed", &[7u8; 32])?;
-    let text = new_file(&rt, place.as_str(), "text", b"not a bundle")?;
-    let bad = "tokend: bad log file\n";
-    refuse(&rt, (seed.as_str(), "--load", text.as_str()), bad, 2)?;
-    refuse(&rt, (seed.as_str(), "--log", text.as_str()), bad, 2)?;
+    refuse_log(&rt, place.as_str(), seed.as_str())?;
     fs::remove_file(&rt, seed.as_str())?;
-    fs::remove_file(&rt, text.as_str())?;
     Ok(())
+}
+
+// No file has this name, so it can't be read as a seed or as an old log.
+fn refuse_unread(rt: &HostRuntime, seed: &str, none: &str) -> Result<(), Fail> {
+    let told = joined(rt.alloc(), &["tokend: cannot read ", none, "\n"])?;
+    refuse(rt, (none, "--code", "60"), told.as_str(), 1)?;
+    refuse(rt, (seed, "--load", none), told.as_str(), 1)
+}
+
+// Nor is it a folder where a new log could be.
+fn refuse_unopened(rt: &HostRuntime, seed: &str, none: &str) -> Result<(), Fail> {
+    let apart = joined(rt.alloc(), &[none, "/log"])?;
+    let told = joined(rt.alloc(), &["tokend: cannot open ", apart.as_str(), "\n"])?;
+    refuse(rt, (seed, "--log", apart.as_str()), told.as_str(), 1)
+}
+
+fn refuse_none(rt: &HostRuntime, place: &str, seed: &str) -> Result<(), Fail> {
+    let none = joined(rt.alloc(), &[place, "-none"])?;
+    refuse_unread(rt, seed, none.as_str())?;
+    refuse_unopened(rt, seed, none.as_str())
 }
 
 #[test]
 fn files_that_are_not_there_are_told_of(rt: HostRuntime) -> Result<(), Fail> {
     let (_held, place) = files_at(&rt)?;
     let seed = new_file(&rt, place.as_str(), "there", &[7u8; 32])?;
-    let none = joined(rt.alloc(), &[place.as_str(), "-none"])?;
-    let apart = joined(rt.alloc(), &[none.as_str(), "/log"])?;
-    let unread = joined(rt.alloc(), &["tokend: cannot read ", none.as_str(), "\n"])?;
-    let unopened = joined(rt.alloc(), &["tokend: cannot open ", apart.as_str(), "\n"])?;
-    let (unread, unopened) = (unread.as_str(), unopened.as_str());
-    refuse(&rt, (none.as_str(), "--code", "60"), unread, 1)?;
-    refuse(&rt, (seed.as_str(), "--load", none.as_str()), unread, 1)?;
-    refuse(&rt, (seed.as_str(), "--log", apart.as_str()), unopened, 1)?;
+    refuse_none(&rt, place.as_str(), seed.as_str())?;
     fs::remove_file(&rt, seed.as_str())?;
     Ok(())
 }
@@ -114,27 +141,38 @@ fn ends(rt: &HostRuntime, words: &[&str]) -> bool {
     output.taken.as_slice() == b"drop".as_slice() && faults.is_empty() && status == 1
 }
 
-#[test]
-fn a_service_says_where_it_listens(rt: HostRuntime) -> Result<(), Fail> {
-    let (_held, place) = files_at(&rt)?;
-    let seed = new_file(&rt, place.as_str(), "key", &[7u8; 32])?;
-    let cut = new_file(&rt, place.as_str(), "cut", b"OTB")?;
-    let key = joined(rt.alloc(), &["--seed=", seed.as_str()])?;
-    let load = joined(rt.alloc(), &["--load=", cut.as_str()])?;
-    let (key, load) = (key.as_str(), load.as_str());
+// Whether a service of this seed and this old log listens, and whether it ends.
+fn is_told(rt: &HostRuntime, seed: &str, cut: &str) -> Result<(bool, bool), Fail> {
+    let key = joined(rt.alloc(), &["--seed=", seed])?;
+    let load = joined(rt.alloc(), &["--load=", cut])?;
     let words = [
         "tokend",
         "serve",
         "--region=1",
         "--port=0",
-        key,
-        load,
+        key.as_str(),
+        load.as_str(),
         "--requests=0",
     ];
-    assert!(rt; listens(&rt, &words));
-    assert!(rt; ends(&rt, &words));
+    Ok((listens(rt, &words), ends(rt, &words)))
+}
+
+// The same of a log that was cut.
+fn is_cut_told(rt: &HostRuntime, place: &str, seed: &str) -> Result<(bool, bool), Fail> {
+    let cut = new_file(rt, place, "cut", b"OTB")?;
+    let is_told = is_told(rt, seed, cut.as_str())?;
+    fs::remove_file(rt, cut.as_str())?;
+    Ok(is_told)
+}
+
+#[test]
+fn a_service_says_where_it_listens(rt: HostRuntime) -> Result<(), Fail> {
+    let (_held, place) = files_at(&rt)?;
+    let seed = new_file(&rt, place.as_str(), "key", &[7u8; 32])?;
+    let (listens, ends) = is_cut_told(&rt, place.as_str(), seed.as_str())?;
+    assert!(rt; listens);
+    assert!(rt; ends);
     fs::remove_file(&rt, seed.as_str())?;
-    fs::remove_file(&rt, cut.as_str())?;
     Ok(())
 }
 
@@ -151,10 +189,10 @@ fn ask(rt: &HostRuntime, listener: &TcpListener) -> io::Result<TcpStream> {
     Ok(client)
 }
 
-// How many bytes of faults are told of one connection.
-fn serve_one(rt: &HostRuntime, listener: &TcpListener) -> Option<usize> {
-    let mut edge = Edge::new(new_region(rt.alloc(), 1)?, true);
-    let mut words = generator([7u8; 32], RegionNumber::new(1)?);
+// How many bytes of faults are told of one connection to this region.
+fn serve_one(rt: &HostRuntime, listener: &TcpListener, region: Region) -> usize {
+    let mut words = generator([7u8; 32], region.number());
+    let mut edge = Edge::new(region, true);
     let mut faults = Vec::new(rt.alloc());
     let mut log = Discard;
     serve_on(
@@ -166,14 +204,15 @@ fn serve_one(rt: &HostRuntime, listener: &TcpListener) -> Option<usize> {
         &mut words,
         &mut faults,
     );
-    Some(faults.len())
+    faults.len()
 }
 
 #[test]
 fn a_connection_is_served(rt: HostRuntime) -> Result<(), Fail> {
     let listener = TcpListener::bind(&rt, (Ipv4Addr::new(127, 0, 0, 1), 0u16))?;
     let mut client = ask(&rt, &listener)?;
-    assert!(rt; serve_one(&rt, &listener) == Some(0));
+    let region = new_region(rt.alloc(), 1).ok_or("a region")?;
+    assert!(rt; serve_one(&rt, &listener, region) == 0);
     let mut reply = Vec::new(rt.alloc());
     client.read_to_end(&mut reply)?;
     assert!(rt; reply.as_slice() == NOT_FOUND);

@@ -2,6 +2,7 @@
 
 use super::{Does, Place, dot, link};
 use std::alloc::Global;
+use std::process::Abort;
 use tk_family::{Forest, Steps, Top};
 use tk_handle::{Dot, Kind, TokenId};
 
@@ -22,7 +23,6 @@ enum Stands {
 enum Step {
     // Puts a link where none is, which raises the dots at these places.
     Put(Row, &'static [Place]),
-    Mark(Place, Kind),
     // 10,000 rotations at 1:1 and on, each of the one before, the first of the redemption at this place.
     Rotate(Place),
     // Whether all of these stand so.
@@ -104,9 +104,17 @@ fn are_dots(dots: &[Dot], places: &[Place]) -> bool {
 
 // Whether the dots at these places are raised, in this order.
 fn raises(forest: &mut Forest, row: Row, places: &[Place]) -> bool {
-    match put(forest, row) {
+    match &put(forest, row) {
         Some(dots) => are_dots(dots.as_slice(), places),
         None => false,
+    }
+}
+
+// How many dots are raised.
+fn raised(forest: &mut Forest, row: Row) -> Option<usize> {
+    match &put(forest, row) {
+        Some(dots) => Some(dots.len()),
+        None => None,
     }
 }
 
@@ -126,7 +134,7 @@ fn are_rotated(forest: &mut Forest, first: Place) -> bool {
     let mut parent = first;
     for generation in 1..=10_000_u16 {
         let at = (1, u64::from(generation));
-        if put(forest, (at, Does::Rotates(generation), parent)).is_none() {
+        if raised(forest, (at, Does::Rotates(generation), parent)).is_none() {
             return false;
         }
         parent = at;
@@ -137,22 +145,32 @@ fn are_rotated(forest: &mut Forest, first: Place) -> bool {
 fn is_done(forest: &mut Forest, step: Step) -> bool {
     match step {
         Step::Put(row, places) => raises(forest, row, places),
-        Step::Mark(at, kind) => is_marked(forest, at, kind),
         Step::Rotate(first) => are_rotated(forest, first),
         Step::Top(places, want) => are_at(forest, places, want),
         Step::Look(at, want, is_used) => is_seen(forest, at, want, is_used),
     }
 }
 
-// The index of the first step that goes otherwise, in a forest of its own.
-fn otherwise(alloc: Global, steps: &[Step]) -> Option<usize> {
-    let mut forest = Forest::new(alloc);
+// The index of the first step that goes otherwise.
+fn first_otherwise(forest: &mut Forest, steps: &[Step]) -> Option<usize> {
     for (index, step) in steps.iter().enumerate() {
-        if !is_done(&mut forest, *step) {
+        if !is_done(forest, *step) {
             return Some(index);
         }
     }
     None
+}
+
+// The same, in a forest of its own.
+fn otherwise(alloc: Global, steps: &[Step]) -> Option<usize> {
+    let mut forest = Forest::new(alloc);
+    first_otherwise(&mut forest, steps)
+}
+
+// Asserts that each step goes as it is to.
+fn goes(rt: &impl Abort, alloc: Global, steps: &[Step]) {
+    let wrong = otherwise(alloc, steps);
+    assert!(rt; wrong.is_none(), "step {wrong:?}");
 }
 
 // A code, its redemption, and two rotations of its refresh token.
@@ -190,8 +208,7 @@ const CODE_LAST: &[Step] = &[
 
 #[test]
 fn a_code_that_comes_last_raises_its_dead_family(rt: HostRuntime) {
-    let wrong = otherwise(rt.alloc(), CODE_LAST);
-    assert!(rt; wrong.is_none(), "step {wrong:?}");
+    goes(&rt, rt.alloc(), CODE_LAST);
 }
 
 // How many dots the family raises in the order of this number: one of those left at a time, told by a remainder.
@@ -202,7 +219,7 @@ fn raised_in_order(forest: &mut Forest, order: usize) -> Option<usize> {
         let place = digits % (last + 1);
         digits /= last + 1;
         left.swap(place, last);
-        sum = sum.saturating_add(put(forest, left[last])?.len());
+        sum = sum.saturating_add(raised(forest, left[last])?);
     }
     Some(sum)
 }
@@ -234,8 +251,7 @@ const CHILD_LATE: &[Step] = &[
 
 #[test]
 fn a_late_child_of_a_dead_family_is_dead(rt: HostRuntime) {
-    let wrong = otherwise(rt.alloc(), CHILD_LATE);
-    assert!(rt; wrong.is_none(), "step {wrong:?}");
+    goes(&rt, rt.alloc(), CHILD_LATE);
 }
 
 const LIVES: Stands = Stands::Lives(CODE);
@@ -254,27 +270,45 @@ const MARKS: &[(&str, Place, Kind, Stands)] = &[
     ("a token of no link", (9, 9), Kind::Refresh, LIVES),
 ];
 
-// Whether a family of three stands so, whose token is marked before all of them or behind them.
-fn is_when_marked(alloc: Global, mark: Step, want: Stands, before: bool) -> bool {
-    let code = Step::Put(ISSUED, &[CODE]);
-    let first = Step::Put(REDEEMED, &[FIRST]);
-    let left = Step::Put(ROTATED, &[LEFT]);
-    let top = Step::Top(&[CODE, FIRST, LEFT], want);
+const THREE: &[Place] = &[CODE, FIRST, LEFT];
+
+const PUT_THREE: &[Step] = &[
+    Step::Put(ISSUED, &[CODE]),
+    Step::Put(REDEEMED, &[FIRST]),
+    Step::Put(ROTATED, &[LEFT]),
+];
+
+// Whether a token is marked before all three of a family are put or behind them.
+fn are_put_and_marked(forest: &mut Forest, at: Place, kind: Kind, before: bool) -> bool {
     if before {
-        otherwise(alloc, &[mark, code, first, left, top]).is_none()
+        is_marked(forest, at, kind) && first_otherwise(forest, PUT_THREE).is_none()
     } else {
-        otherwise(alloc, &[code, first, left, mark, top]).is_none()
+        first_otherwise(forest, PUT_THREE).is_none() && is_marked(forest, at, kind)
     }
+}
+
+// Whether all three stand so then.
+fn is_when_marked(alloc: Global, at: Place, kind: Kind, want: Stands, before: bool) -> bool {
+    let mut forest = Forest::new(alloc);
+    are_put_and_marked(&mut forest, at, kind, before) && are_at(&forest, THREE, want)
+}
+
+// The first mark by which something stands otherwise, and whether it comes before.
+fn marked_otherwise(alloc: Global) -> Option<(&'static str, bool)> {
+    for &(name, at, kind, want) in MARKS {
+        for before in [true, false] {
+            if !is_when_marked(alloc, at, kind, want, before) {
+                return Some((name, before));
+            }
+        }
+    }
+    None
 }
 
 #[test]
 fn a_mark_may_come_before_its_token(rt: HostRuntime) {
-    for &(name, at, kind, want) in MARKS {
-        for before in [true, false] {
-            let is_so = is_when_marked(rt.alloc(), Step::Mark(at, kind), want, before);
-            assert!(rt; is_so, "{name}, {before}");
-        }
-    }
+    let wrong = marked_otherwise(rt.alloc());
+    assert!(rt; wrong.is_none(), "{wrong:?}");
 }
 
 // Rotations that name each other, a redemption of a redemption, and a generation that is left out.
@@ -294,8 +328,7 @@ const STRAYS: &[Step] = &[
 
 #[test]
 fn what_leads_to_no_code_is_broken(rt: HostRuntime) {
-    let wrong = otherwise(rt.alloc(), STRAYS);
-    assert!(rt; wrong.is_none(), "step {wrong:?}");
+    goes(&rt, rt.alloc(), STRAYS);
 }
 
 const LONG_LIVES: Stands = Stands::Lives((2, 1));
@@ -320,6 +353,5 @@ const LONG: &[Step] = &[
 
 #[test]
 fn look_ups_are_the_same_at_every_generation(rt: HostRuntime) {
-    let wrong = otherwise(rt.alloc(), LONG);
-    assert!(rt; wrong.is_none(), "step {wrong:?}");
+    goes(&rt, rt.alloc(), LONG);
 }

@@ -1,8 +1,7 @@
 //! A ledger of clients, of ann's consents and of others' sign-outs, from facts in bytes.
 
-use crate::tests::spelled::ledger_of;
+use crate::tests::spelled;
 use std::alloc::Global;
-use std::process::Abort;
 use tk_ledger::Ledger;
 
 // In order: public c1-1 and ann's consent g1-2; confidential c2-1 with two URIs, ann's consents g2-2 and g2-3, the withdrawal of the
@@ -29,6 +28,6 @@ static FACTS: [&[u8]; 15] = [
 /// Public c1-1; confidential c2-1 with two URIs; public c2-7, retired; the resource server c2-9. Ann's consents: g1-2 and
 /// g2-10 for all that the client may ask; for c2-1 g2-2 to `read`, and g2-3 (withdrawn), g2-5 and g2-6 to `read write`. Signed out are bob at 1,000, eve
 /// at 1,001 and joe at 999.
-pub(super) fn ledger(rt: &impl Abort, alloc: Global) -> Ledger {
-    ledger_of(rt, alloc, &FACTS)
+pub(super) fn fill(alloc: Global, ledger: &mut Ledger) -> bool {
+    spelled::fill(alloc, ledger, &FACTS)
 }

@@ -59,8 +59,9 @@ fn ending(times: (u64, u64, u64)) -> Row {
 
 #[test]
 fn a_code_and_its_family_end_after_their_lives(rt: HostRuntime) {
-    for &(now, code, family, expiry, family_end) in &ENDS {
-        let row = ending((now, expiry, family_end));
-        are_answered(&rt, rt.alloc(), Asker::Ann(now, code, family), &[row]);
+    for ends in &ENDS {
+        let row = ending((ends.0, ends.3, ends.4));
+        let ann = Asker::Ann(ends.0, ends.1, ends.2);
+        are_answered(&rt, rt.alloc(), ann, &[row]);
     }
 }

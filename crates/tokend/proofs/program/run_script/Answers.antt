@@ -1,35 +1,14 @@
-use Rattle.std.proofs.Common.{rules}
-use Rattle.tk_world.specs.Printed.{lines_text}
-use Rattle.tokend.specs.ScriptRun.{IsScriptRun}
-use Rattle.tokend.proofs.Runs.{script_begun, script_printed}
+use Rattle.tokend.proofs.Runs.{faults_of_input, left_by_input, script_is_input}
 use Rattle.tokend.proofs.program.run_script.Goals as goal
 
 pub returns-in-Ok-clause-done : goal.returns-in-Ok-clause-done
 returns-in-Ok-clause-done g c =
-    let ran = c.in_ok-outcomes.ensures.run in
-    let lines : IsScriptRun c.args.settings c.in_ok-script.script.items (lines_text c.as_slice-3.result.now c.as_slice-4.result.now) = record {
-      short = search rules;
-      events = c.in_ok-events.events.items;
-      outcomes = c.in_ok-outcomes.outcomes.items;
-      after = c.run.new.self;
-      found = search rules;
-      words = search rules;
-      run = (ran.0, search rules);
-      printed = search rules;
-    } in
-    script_printed c.args.settings _ c.in_ok-script.script.items _ _ _ c.in_ok-script.ensures.whole lines c.in-Ok.ensures
+    script_is_input c.args.settings _ c.in-Ok.script.items _ _ c.run_text.result c.in-Ok.ensures.whole (rw c.as_slice.ensures.value at c.run_text.ensures.done)
 
-pub returns-clause-left : goal.returns-clause-left
-returns-clause-left g c =
-    let ran = c.in_ok-outcomes.ensures.run in
-    let lines : IsScriptRun c.args.settings c.in_ok-script.script.items (lines_text c.as_slice-3.result.now c.as_slice-4.result.now) = record {
-      short = search rules;
-      events = c.in_ok-events.events.items;
-      outcomes = c.in_ok-outcomes.outcomes.items;
-      after = c.run.new.self;
-      found = search rules;
-      words = search rules;
-      run = (ran.0, search rules);
-      printed = search rules;
-    } in
-    script_begun c.args.settings _ c.in_ok-script.script.items _ _ _ c.in_ok-script.ensures.whole lines c.in-Err.ensures
+pub returns-in-Ok-clause-fault : goal.returns-in-Ok-clause-fault
+returns-in-Ok-clause-fault g c =
+    faults_of_input _ c.in-Ok.script.items c.run_text.result c.in-Ok.ensures.whole (rw c.as_slice.ensures.value at c.run_text.ensures.fault)
+
+pub returns-in-Ok-clause-left : goal.returns-in-Ok-clause-left
+returns-in-Ok-clause-left g c =
+    left_by_input c.args.settings _ c.in-Ok.script.items c.run_text.result _ _ c.in-Ok.ensures.whole (rw c.as_slice.ensures.value at c.run_text.ensures.left)

@@ -1,0 +1,93 @@
+//! The start of a service: its seed, and its old log.
+
+ghost use Rattle.std.specs.Prelude.{IfErr};
+ghost use Rattle.tk_handle.specs.Ranges.{IsRegion};
+ghost use Rattle.tk_region.specs.SettingsFields.{IsSettings};
+ghost use Rattle.tokend.specs.CommandLine.{settings_of};
+ghost use Rattle.tokend.specs.Serving.{IsFileFault};
+
+use crate::draw::generator;
+use crate::fault::{Fault, cannot_read};
+use crate::load::{LoadFault, load};
+use crate::options::Service;
+use rand_chacha::ChaCha20Rng;
+use std::fs::OpenOptions;
+use std::io::{self, Read};
+use std::rt::Files;
+use tk_edge::Edge;
+use tk_handle::RegionNumber;
+use tk_region::Region;
+
+/// A region at the start of its service, and its random words.
+#[derive(Drop)]
+pub(crate) struct Start {
+    pub edge: Edge,
+    pub words: ChaCha20Rng,
+}
+
+/// The region without a fact, and its random words by the seed.
+pub(crate) fn begin<R: AllocGlobal + Files>(rt: &R, service: &Service) -> Result<Start, Fault>
+    requires settings { IsSettings (settings_of service.now.numbers) }
+    requires region { IsRegion service.now.region }
+    ensures { IfErr result IsFileFault }
+{
+    match read_seed(rt, &service.seed) {
+        Ok(seed) => {
+            let number = RegionNumber::new(service.region).unwrap();
+            let region = Region::new(rt.alloc(), number, service.numbers.settings());
+            let (edge, words) = (Edge::new(region, true), generator(seed, number));
+            Ok(Start { edge, words })
+        }
+        Err(fault) => Err(fault),
+    }
+}
+
+/// Takes the old log of this name in, where there is one, and answers how many bytes at its end were dropped.
+pub(crate) fn load_old<R: AllocGlobal + Files>(
+    rt: &R,
+    region: &mut Region,
+    load: &Option<String>,
+) -> Result<u64, Fault>
+    ensures { IfErr result IsFileFault }
+{
+    match load {
+        Some(path) => load_file(rt, region, path),
+        None => Ok(0),
+    }
+}
+
+// Takes an old log in, and answers how many bytes at its end were dropped.
+fn load_file<R: AllocGlobal + Files>(rt: &R, region: &mut Region, path: &str) -> Result<u64, Fault>
+    ensures { IfErr result IsFileFault }
+{
+    let Ok(mut file) = OpenOptions::new().read(true).open(rt, path) else {
+        return Err(cannot_read(rt.alloc(), path));
+    };
+    match load(rt.alloc(), region, &mut file) {
+        Ok(dropped) => Ok(dropped),
+        Err(LoadFault::Bad) => Err(Fault::BadLogFile),
+        Err(LoadFault::Read) => Err(cannot_read(rt.alloc(), path)),
+        Err(LoadFault::Memory) => Err(Fault::Memory),
+    }
+}
+
+// The 32 bytes of a seed file.
+fn read_seed<R: AllocGlobal + Files>(rt: &R, path: &str) -> Result<[u8; 32], Fault>
+    ensures { IfErr result IsFileFault }
+{
+    let Ok(mut file) = OpenOptions::new().read(true).open(rt, path) else {
+        return Err(cannot_read(rt.alloc(), path));
+    };
+    let mut seed = [0u8; 32];
+    if let Err(error) = file.read_exact(&mut seed) {
+        if error.kind() == io::ErrorKind::UnexpectedEof {
+            return Err(Fault::BadSeedFile);
+        }
+        return Err(cannot_read(rt.alloc(), path));
+    }
+    match file.read(&mut [0u8; 1]) {
+        Ok(0) => Ok(seed),
+        Ok(_) => Err(Fault::BadSeedFile),
+        Err(_) => Err(cannot_read(rt.alloc(), path)),
+    }
+}
