@@ -13,8 +13,7 @@
 //!
 //! In reading order: `Ledger`, `ClientView`, `ConsentView`, `Status`, `Standing`, `State`. The definitions are in specs/:
 //! `Clients`, `Tokens`, `Status`, `Standings`, `Ends`; then `Changes`, `Index` and `ByTop` for the index. The functions of
-//! `laws` have empty bodies: they are laws of these definitions, stated in specs/Laws.antt. `plain` computes the definitions
-//! by walks over the facts, for the tests to compare with.
+//! `laws` have empty bodies: they are laws of these definitions, stated in specs/Laws.antt.
 #![tactic(auto)]
 
 mod change;
@@ -46,8 +45,3 @@ pub use laws::{
 };
 pub use ledger::Ledger;
 pub use status::{Standing, State, Status};
-
-#[cfg(test)]
-mod plain;
-#[cfg(test)]
-mod tests;

@@ -5,6 +5,7 @@
 mod authorize;
 mod bundle;
 mod grant;
+mod ledger;
 mod message;
 mod pages;
 mod query;

@@ -2,10 +2,10 @@
 
 use super::facts::{ANN, Place, READ_WRITE, Says, Token, dot, handle};
 use super::orders::{Both, add_to_both, found, in_short};
-use crate::{ClientView, ConsentView};
 use std::alloc::Global;
 use std::test::Fail;
 use tk_handle::{Dot, Kind};
+use tk_ledger::{ClientView, ConsentView};
 use tk_store::AddError;
 
 const PLACES: [Place; 8] = [

@@ -7,14 +7,14 @@ ghost use Rattle.tk_store.specs.Store.{facts_of};
 ghost use Rattle.tk_ledger.specs.Status as spec;
 
 use super::clients::is_live_client;
+use super::compare::same_digests;
 use super::consents::is_live_consent;
 use super::families::{is_dead, is_ended};
+use super::root::Root;
 use super::tokens::{is_used, root_above};
-use crate::compare::same_digests;
-use crate::root::Root;
-use crate::status::{Standing, State, Status};
 use tk_fact::{Body, Fact, Minted};
 use tk_handle::{Handle, Kind, Moment, TokenId};
+use tk_ledger::{Standing, State, Status};
 use tk_store::FactStore;
 
 // Where the token of a handle stands.

@@ -8,10 +8,10 @@ ghost use Rattle.tk_store.specs.Store.{facts_of};
 ghost use Rattle.tk_ledger.specs.Clients as spec;
 ghost use Rattle.tk_ledger.specs.Views.{consent_view};
 
-use crate::compare::{same_bytes, same_dots};
-use crate::consent_view::ConsentView;
+use super::compare::{same_bytes, same_dots};
 use tk_fact::{Body, CodeIssued, ConsentGiven, Fact, Subject};
 use tk_handle::Dot;
+use tk_ledger::ConsentView;
 use tk_scope::Scope;
 use tk_store::FactStore;
 

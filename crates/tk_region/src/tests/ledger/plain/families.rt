@@ -6,11 +6,10 @@ ghost use Rattle.tk_fact.specs.Tokens.{shown_minted};
 ghost use Rattle.tk_store.specs.Store.{facts_of};
 ghost use Rattle.tk_ledger.specs.Tokens as spec;
 
-use super::compare::{names_dot, same_tokens};
+use super::compare::{names_dot, same_digests, same_dots, same_tokens};
+use super::root::Root;
 use super::sign_outs::is_out;
 use super::tokens::{code_above, is_twice, link_of, minted_at, root_above};
-use crate::compare::{same_digests, same_dots};
-use crate::root::Root;
 use tk_fact::{Body, Fact, Minted};
 use tk_family::{Link, grant};
 use tk_handle::{Dot, Kind, TokenId};

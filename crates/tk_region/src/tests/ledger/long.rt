@@ -3,13 +3,13 @@
 use super::BEFORE_GRANTS;
 use super::facts::{Says, Told, handle};
 use super::orders::add_to_ledger;
-use crate::{Ledger, State, Status};
 use std::alloc::Global;
 use std::rt::Clock;
 use std::test::Fail;
 use std::time::{Duration, Instant};
 use tk_family::Steps;
 use tk_handle::{Handle, Kind, Moment};
+use tk_ledger::{Ledger, State, Status};
 
 fn is_taken(alloc: Global, ledger: &mut Ledger, told: &Told) -> bool {
     matches!(add_to_ledger(alloc, ledger, told), Some(Ok(_)))

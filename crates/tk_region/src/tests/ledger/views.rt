@@ -6,10 +6,10 @@ use super::{
     ACCESS, ACCESS_BY_CLIENT, ADDED, ANOTHER_CLIENT, BEFORE_GRANTS, CLIENT, CLIENT_GONE, CONSENT,
     holds,
 };
-use crate::{ClientView, ConsentView, Ledger};
 use std::alloc::Global;
 use tk_fact::Sort;
 use tk_handle::{Dot, Kind};
+use tk_ledger::{ClientView, ConsentView, Ledger};
 use tk_store::{AddError, Added};
 
 fn is_retired_client(client: &ClientView<'_>) -> bool {

@@ -1,4 +1,4 @@
-//! The ledger computed afresh: each function is a definition of specs/, read aloud over the facts of a store. It takes no
+//! The ledger computed afresh: each function is a definition of tk_ledger, read aloud over the facts of a store. It takes no
 //! memory, and walks the store. Tests compare the ledger with it.
 
 mod clients;
@@ -6,6 +6,7 @@ mod compare;
 mod consents;
 mod families;
 mod ledger;
+mod root;
 mod sign_outs;
 mod status;
 mod tokens;

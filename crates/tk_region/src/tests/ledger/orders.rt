@@ -1,13 +1,13 @@
 //! Ledgers of facts that came in any order, and what they say: each beside a plain one, that says the same.
 
 use super::facts::{Place, Token, Told, dot, fact, handle};
-use crate::plain::PlainLedger;
-use crate::{Ledger, State, Status};
+use super::plain::PlainLedger;
 use std::alloc::Global;
 use std::process::Abort;
 use tk_fact::Subject;
 use tk_family::Steps;
 use tk_handle::{Dot, Moment};
+use tk_ledger::{Ledger, State, Status};
 use tk_scope::Scope;
 use tk_store::{AddError, Added};
 

@@ -6,8 +6,8 @@ ghost use Rattle.tk_store.specs.Store.{facts_of};
 ghost use Rattle.tk_ledger.specs.SignOuts as spec;
 ghost use Rattle.tk_ledger.specs.Tokens as tokens_of;
 
+use super::compare::same_bytes;
 use super::tokens::issued_at;
-use crate::compare::same_bytes;
 use tk_fact::{Body, CodeIssued, Fact, Subject};
 use tk_handle::{Dot, Moment};
 use tk_store::FactStore;

@@ -1,5 +1,5 @@
-//! What is said of the tokens of a family, whatever the order in which its facts come. The tests of tk_family stand here too, in
-//! `families`, since a crate with tests is proved once more.
+//! What is said of the tokens of a family, whatever the order in which its facts come: the tests of tk_ledger and, in `families`, of
+//! tk_family, which stand here since a crate with tests is proved once more. `plain` is a ledger that walks its facts, to compare with.
 
 mod facts;
 mod families;
@@ -7,16 +7,17 @@ mod generated;
 mod long;
 mod minted;
 mod orders;
+mod plain;
 mod refused;
 mod sign_outs;
 mod views;
 
-use crate::State;
 use facts::{Place, READ_WRITE, Says, Token, Told};
 use minted::{ended_otherwise, is_told};
 use orders::{Case, Row, Said, tells};
 use std::process::Abort;
 use tk_handle::Kind;
+use tk_ledger::State;
 
 /// Asserts that nothing goes otherwise than it is to; else its name is told.
 fn holds(rt: &impl Abort, otherwise: Option<&str>) {

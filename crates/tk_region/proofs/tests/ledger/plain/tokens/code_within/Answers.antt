@@ -3,7 +3,7 @@ use Rattle.std.specs.FinMap as map
 use Rattle.tk_family.specs.Walks.{is_code_link, code_by}
 use Rattle.tk_ledger.specs.Tokens.{links_in}
 use Rattle.tk_family.proofs.WalkSteps.{walk_here, walk_on, walk_lost, walk_over}
-use Rattle.tk_ledger.proofs.plain.tokens.code_within.Goals as goal
+use Rattle.tk_region.proofs.tests.ledger.plain.tokens.code_within.Goals as goal
 
 pub returns-then-is_code : goal.returns-then-is_code
 returns-then-is_code c =

@@ -3,10 +3,10 @@
 use super::facts::{Token, dot, handle};
 use super::orders::{Both, Said, in_order, is_said};
 use super::{CLIENT, FAMILY, LAST_ACCESS, LAST_REFRESH, LIVE, OVER, PAST, USED, USED_REFRESH};
-use crate::{Standing, State, Status};
 use std::alloc::Global;
 use tk_family::Steps;
 use tk_handle::{Dot, Moment};
+use tk_ledger::{Standing, State, Status};
 
 // A row of a table, and its moment.
 type Ending = (&'static str, Token, u64, Said);

@@ -6,10 +6,10 @@ ghost use Rattle.tk_store.specs.Store.{facts_of};
 ghost use Rattle.tk_ledger.specs.Clients as spec;
 ghost use Rattle.tk_ledger.specs.Views.{client_view};
 
-use crate::client_view::ClientView;
-use crate::compare::same_dots;
+use super::compare::same_dots;
 use tk_fact::{Body, ClientAdded, Fact};
 use tk_handle::Dot;
+use tk_ledger::ClientView;
 use tk_store::FactStore;
 
 pub(crate) fn view_client(facts: &FactStore, dot: Dot) -> Option<ClientView<'_>>

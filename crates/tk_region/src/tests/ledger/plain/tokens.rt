@@ -10,9 +10,8 @@ ghost use Rattle.tk_store.specs.Store.{facts_of};
 ghost use Rattle.tk_store.specs.FactSet.{any_fact};
 ghost use Rattle.tk_ledger.specs.Tokens as spec;
 
-use super::compare::names_token;
-use crate::compare::same_dots;
-use crate::root::Root;
+use super::compare::{names_token, same_dots};
+use super::root::Root;
 use tk_fact::{Body, CodeIssued, Fact, Minted};
 use tk_family::{Link, fits, named, rank, used};
 use tk_handle::{Dot, TokenId};

@@ -4,13 +4,13 @@
 use super::facts::{ANN, Place, Says, Token, Told, dot, handle};
 use super::orders::{Case, Row, add_to_ledger, copied};
 use super::{ADDED, AT_ONCE, CUT_OFF, GIVEN, ISSUED, REVOKED_BY};
-use crate::{ClientView, ConsentView, Ledger, Standing, Status};
 use std::alloc::Global;
 use std::process::Abort;
 use std::test::Fail;
 use tk_fact::Subject;
 use tk_family::Steps;
 use tk_handle::{Dot, Handle, Kind, Moment};
+use tk_ledger::{ClientView, ConsentView, Ledger, Standing, Status};
 use tk_scope::Scope;
 use tk_store::AddError;
 

@@ -5,12 +5,10 @@ use super::consents::{find_consent, view_consent};
 use super::families::is_revoked as is_revoked_by;
 use super::sign_outs::is_signed_out as is_signed_out_by;
 use super::status::of_handle;
-use crate::client_view::ClientView;
-use crate::consent_view::ConsentView;
-use crate::status::Status;
 use std::alloc::Global;
 use tk_fact::{Fact, Subject};
 use tk_handle::{Dot, Handle, Moment, TokenId};
+use tk_ledger::{ClientView, ConsentView, Status};
 use tk_scope::Scope;
 use tk_store::{AddError, Added, FactStore};
 
