@@ -19,9 +19,9 @@
 //!    the tables; a row each in `uses_agree` of `proofs/TokenLaws.antt`, `issues` of `proofs/StandingLaws.antt`, and for codes
 //!    and for refresh tokens in `grant_of` of `proofs/FamilyEnds.antt`. Where it is a link of a family or says of one that it
 //!    ends: `link_of`, `revoked_by`, `reuse_of` or `IsStopped` of `specs/Tokens.antt` with `tokens.rt`, `families.rt` and
-//!    `sign_outs.rt` of `src/plain/`, and `generation_of` of `specs/Status.antt` with `status.rt` there. Where it makes or
-//!    ends a client or a consent: `specs/Clients.antt` with `clients.rt` and `consents.rt` there. Those of specs/ but
-//!    `change_in` end in a row for the other kinds, so nothing asks for these rows.
+//!    `sign_outs.rt` in tk_region, below `src/tests/ledger/plain`, and `generation_of` of `specs/Status.antt` with `status.rt`
+//!    there. Where it makes or ends a client or a consent: `specs/Clients.antt` with `clients.rt` and `consents.rt` there. Those
+//!    of specs/ but `change_in` end in a row for the other kinds, so nothing asks for these rows.
 //! 10. The request that makes such facts: an `Endpoint` of tk_message with its reply, the decision in tk_authorize, tk_grant or
 //!     tk_query with its row in `decision_by` of tk_region, its path in tk_edge, and perhaps a line in tokend's
 //!     `request_line.rt`.

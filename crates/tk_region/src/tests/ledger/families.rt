@@ -2,17 +2,10 @@
 
 mod forests;
 
+use super::facts::dot;
 use super::holds;
 use tk_family::{Link, fits, grant, named, rank, used};
-use tk_handle::{Dot, Kind, RegionNumber, TokenId};
-
-// A region and a serial.
-type Place = (u16, u64);
-
-fn dot(place: Place) -> Option<Dot> {
-    let region = RegionNumber::new(place.0)?;
-    Dot::new(region, place.1)
-}
+use tk_handle::{Dot, Kind, TokenId};
 
 // What a link does: a rotation has a generation.
 #[derive(Clone, Copy)]

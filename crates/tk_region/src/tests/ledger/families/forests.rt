@@ -1,6 +1,7 @@
 //! Forests: the tops of their dots, and the look-ups that they take.
 
-use super::{Does, Place, dot, link};
+use super::super::facts::{Place, dot};
+use super::{Does, link};
 use std::alloc::Global;
 use std::process::Abort;
 use tk_family::{Forest, Steps, Top};

@@ -13,7 +13,7 @@ use tk_scope::Scope;
 use tk_store::{AddError, Added, FactStore};
 
 // A set of facts, walked for each answer.
-#[derive(Debug, Drop)]
+#[derive(Drop)]
 pub(crate) struct PlainLedger {
     store: FactStore,
 }
