@@ -10,7 +10,7 @@ pub(crate) const MAGIC: &[u8] = b"OTB";
 pub(crate) const MOST_FACTS: u16 = 128;
 
 /// Facts, strictly ascending by dot, at most 128 of them.
-#[derive(Debug, Drop)]
+#[derive(Drop)]
 pub struct Bundle {
     facts: Vec<Fact>,
 }

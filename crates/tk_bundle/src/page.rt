@@ -3,7 +3,7 @@
 use tk_handle::Dot;
 
 /// What a pull gives: a bundle, and what it says of the facts to come.
-#[derive(Debug, Drop)]
+#[derive(Drop)]
 pub struct Page {
     /// The bundle.
     pub bytes: Vec<u8>,

@@ -4,7 +4,7 @@ use std::marker::Model;
 use tk_message::Status;
 
 /// A reply as bytes, with the record of the fact that was made for it. Contracts see the bytes that its parts hold.
-#[derive(Debug, Drop)]
+#[derive(Drop)]
 pub struct Answer {
     /// The status of the reply.
     pub status: Status,

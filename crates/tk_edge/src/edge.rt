@@ -5,7 +5,7 @@ use tk_region::Region;
 
 /// A region behind its connections. Other regions may exchange facts over it or not. It is sealed once its log has failed,
 /// since what it would then answer might be lost. Contracts see the region, whether facts are exchanged, and whether it is sealed.
-#[derive(Debug, Drop)]
+#[derive(Drop)]
 pub struct Edge {
     region: Region,
     sync: bool,

@@ -3,7 +3,7 @@
 use std::marker::Model;
 
 /// What another region asks for (own).
-#[derive(Debug, Drop)]
+#[derive(Drop)]
 pub enum Exchange {
     /// The region's vector.
     Vector,
@@ -14,7 +14,7 @@ pub enum Exchange {
 }
 
 /// The bytes of a body, which may be hostile.
-#[derive(Debug, Drop)]
+#[derive(Drop)]
 pub struct Sent {
     bytes: Vec<u8>,
 }

@@ -7,7 +7,7 @@ use crate::device::{Failed, Sink, Source};
 use std::alloc::Global;
 
 /// Which calls of a device fail, by their numbers from 0.
-#[derive(Clone, Copy, Debug, PartialEq, Eq)]
+#[derive(Clone, Copy)]
 pub enum Fails {
     /// None.
     Never,

@@ -5,7 +5,7 @@ use crate::refusal::Refusal;
 use tk_message::Request;
 
 /// What arrived over a connection.
-#[derive(Debug, Drop)]
+#[derive(Drop)]
 pub enum Arrival {
     /// What anyone may send.
     Heard(Heard),
@@ -14,7 +14,7 @@ pub enum Arrival {
 }
 
 /// What came over a connection, whoever sent it.
-#[derive(Debug, Drop)]
+#[derive(Drop)]
 pub enum Heard {
     /// Nothing: the stream ended before its first byte.
     Silence,

@@ -46,7 +46,7 @@ use tk_format::{ReadError, Reader, Writer};
 
 /// What a fact says: one of ten kinds (own). The ranges told of their fields are those of a fact that passes its
 /// check.
-#[derive(Debug, Drop)]
+#[derive(Drop)]
 pub enum Body {
     /// A client was registered (RFC 6749, 2).
     ClientAdded(ClientAdded),

@@ -13,7 +13,7 @@ use tk_match::Redirects;
 use tk_scope::Scope;
 
 /// A client was registered (RFC 6749, 2). Its id is the fact's own dot.
-#[derive(Debug, Drop)]
+#[derive(Drop)]
 pub struct ClientAdded {
     /// What the client is, with the digest of its secret where it has one (RFC 6749, 2.1).
     pub sort: Sort,

@@ -9,7 +9,7 @@ use tk_format::{Reader, Writer};
 use tk_handle::Dot;
 
 /// A client was retired (own).
-#[derive(Clone, Copy, Debug, PartialEq, Eq)]
+#[derive(Clone, Copy, PartialEq, Eq)]
 pub struct ClientRetired {
     /// Where the client was added.
     pub client: Dot,

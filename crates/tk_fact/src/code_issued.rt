@@ -20,7 +20,7 @@ use tk_scope::Scope;
 
 /// An authorization code was issued (RFC 6749, 4.1.2), and with it a family begins: the code, and the tokens that
 /// descend from it.
-#[derive(Debug, Drop)]
+#[derive(Drop)]
 pub struct CodeIssued {
     /// Where the client was added that the code was issued to.
     pub client: Dot,

@@ -10,7 +10,7 @@ use tk_format::{ReadError, Reader, Writer};
 use tk_handle::{Dot, Moment};
 
 /// A code was redeemed for an access token and a refresh token (RFC 6749, 4.1.3 and 4.1.4).
-#[derive(Debug, Drop)]
+#[derive(Drop)]
 pub struct CodeRedeemed {
     /// Where the code was issued.
     pub code: Dot,

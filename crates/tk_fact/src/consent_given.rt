@@ -12,7 +12,7 @@ use tk_handle::Dot;
 use tk_scope::Scope;
 
 /// A subject let a client have a scope (RFC 6749, 4.1). The consent's id is the fact's own dot.
-#[derive(Debug, Drop)]
+#[derive(Drop)]
 pub struct ConsentGiven {
     /// Where the client was added that the consent was given to.
     pub client: Dot,

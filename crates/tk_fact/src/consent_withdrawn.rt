@@ -9,7 +9,7 @@ use tk_format::{Reader, Writer};
 use tk_handle::Dot;
 
 /// A consent was withdrawn (own).
-#[derive(Clone, Copy, Debug, PartialEq, Eq)]
+#[derive(Clone, Copy, PartialEq, Eq)]
 pub struct ConsentWithdrawn {
     /// Where the consent was given.
     pub consent: Dot,

@@ -5,7 +5,7 @@ use std::marker::Model;
 use tk_handle::Dot;
 
 /// A body at its dot (own). Contracts see the pair of both.
-#[derive(Debug, Drop)]
+#[derive(Drop)]
 pub struct Fact {
     /// Where the fact stands; a set has one fact at a dot.
     pub dot: Dot,

@@ -12,7 +12,7 @@ use tk_handle::Moment;
 use tk_scope::Scope;
 
 /// What a fact says of an access or refresh token that it mints (RFC 6749, 1.4 and 1.5). Its start stands in the fact.
-#[derive(Debug, Drop)]
+#[derive(Drop)]
 pub struct MintedToken {
     /// SHA-256 of the token's handle.
     pub digest: [u8; 32],

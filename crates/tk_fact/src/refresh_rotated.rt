@@ -10,7 +10,7 @@ use tk_format::{ReadError, Reader, Writer};
 use tk_handle::{Dot, Moment};
 
 /// A refresh token was used for a new access token and a new refresh token (RFC 6749, 6).
-#[derive(Debug, Drop)]
+#[derive(Drop)]
 pub struct RefreshRotated {
     /// Where the fact stands that minted the refresh token that was used.
     pub parent: Dot,

@@ -9,7 +9,7 @@ use tk_format::{Reader, Writer};
 use tk_handle::TokenId;
 
 /// A code or a refresh token was used again, which kills its family (RFC 6749, 4.1.2 and 10.4).
-#[derive(Clone, Copy, Debug, PartialEq, Eq)]
+#[derive(Clone, Copy, PartialEq, Eq)]
 pub struct ReuseSeen {
     /// The name of what was used again, whose kind isn't an access token.
     pub token: TokenId,

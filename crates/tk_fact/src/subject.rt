@@ -3,7 +3,7 @@
 use std::marker::Model;
 
 /// The name of a resource owner (RFC 6749, 1.1): 1 to 128 visible ASCII bytes (own). Contracts see its bytes.
-#[derive(Debug, Drop)]
+#[derive(Drop)]
 pub struct Subject {
     text: String,
 }

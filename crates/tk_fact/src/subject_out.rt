@@ -10,7 +10,7 @@ use tk_format::{ReadError, Reader, Writer};
 use tk_handle::Moment;
 
 /// A subject signed out everywhere (own): its families whose code didn't begin after the moment are dead.
-#[derive(Debug, Drop)]
+#[derive(Drop)]
 pub struct SubjectOut {
     /// Who signed out (RFC 6749, 1.1).
     pub subject: Subject,

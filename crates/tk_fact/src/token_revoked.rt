@@ -11,7 +11,7 @@ use tk_handle::{Dot, TokenId};
 
 /// A client revoked an access or refresh token (RFC 7009, 2). The fact that mints the token may come later: the
 /// revocation works where that one names the same digest, under a code of the same client.
-#[derive(Clone, Copy, Debug, PartialEq, Eq)]
+#[derive(Clone, Copy, PartialEq, Eq)]
 pub struct TokenRevoked {
     /// The name of the token, whose kind isn't a code.
     pub token: TokenId,

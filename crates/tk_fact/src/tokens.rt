@@ -11,7 +11,7 @@ use tk_handle::{Kind, Moment, TokenId};
 use tk_scope::Scope;
 
 /// What a fact says of a code or token that it mints (own).
-#[derive(Clone, Copy, Debug)]
+#[derive(Clone, Copy)]
 pub struct Minted<'a> {
     /// SHA-256 of the token's handle.
     pub digest: &'a [u8; 32],

@@ -20,7 +20,7 @@ use tk_handle::{Dot, TokenId};
 /// No look-up walks: each dot keeps the code that it is under, and each code whether its family is dead. With n links
 /// and marks, `mark`, `top` and `used` cost O(log n), and `put` O(log n) for each dot that comes under a code by it and
 /// for each link that names one of these.
-#[derive(Debug, Drop)]
+#[derive(Drop)]
 pub struct Forest {
     alloc: Global,
     rows: BTreeMap<Dot, Row>,

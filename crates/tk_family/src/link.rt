@@ -6,7 +6,7 @@ ghost use Rattle.tk_family.specs.Families.{named_by, used_by, grant_at, fits as 
 use tk_handle::{Dot, Kind, TokenId};
 
 /// What a fact does in a family (own). Any dot and any generation may stand in it.
-#[derive(Clone, Copy, Debug, PartialEq, Eq)]
+#[derive(Clone, Copy)]
 pub enum Link {
     /// It mints a code (RFC 6749, 4.1.2).
     Code,

@@ -8,7 +8,7 @@ use crate::link::Link;
 use tk_handle::{Dot, Kind};
 
 /// How many links use a token (own).
-#[derive(Clone, Copy, Debug, PartialEq, Eq)]
+#[derive(Clone, Copy)]
 pub(crate) enum Uses {
     /// None.
     Never,
@@ -54,7 +54,7 @@ impl Uses {
 }
 
 /// What is kept at a dot: its link, marks and uses, and what follows from all links and marks (own).
-#[derive(Clone, Copy, Debug)]
+#[derive(Clone, Copy)]
 pub(crate) struct Row {
     /// What was put there.
     pub link: Option<Link>,

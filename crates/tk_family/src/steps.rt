@@ -5,7 +5,7 @@ ghost use Rattle.std.specs.Prelude.{◌≡◌, ◌+◌, ◌^◌, ◌<◌, ◌≤
 use std::marker::Model;
 
 /// How many look-ups were made, 0 to 18,446,744,073,709,551,615 (own). Contracts see the number.
-#[derive(Debug, Drop)]
+#[derive(Drop)]
 pub struct Steps {
     count: u64,
 }

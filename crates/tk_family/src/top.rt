@@ -3,7 +3,7 @@
 use tk_handle::Dot;
 
 /// Where a dot stands among links and marks (own).
-#[derive(Clone, Copy, Debug, PartialEq, Eq)]
+#[derive(Clone, Copy, PartialEq, Eq)]
 pub enum Top {
     /// No link is there.
     Absent,

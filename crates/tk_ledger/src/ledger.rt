@@ -2,7 +2,6 @@
 
 use crate::index::Index;
 use std::alloc::Global;
-use std::fmt;
 use std::marker::Model;
 use tk_store::FactStore;
 
@@ -31,13 +30,6 @@ impl Model for Ledger {
     ghost view = { λ l. l.store };
 
     ghost invariant = { λ l. IsIndexed (facts_of l.store) l.index };
-}
-
-// Its facts and tables are many, and hold digests of tokens: it shows its name alone.
-impl fmt::Debug for Ledger {
-    fn fmt<W: fmt::Write>(&self, f: &mut fmt::Formatter<W>) -> fmt::Result {
-        f.debug_struct("Ledger").finish_non_exhaustive()
-    }
 }
 
 ghost use Rattle.std.specs.Prelude.{◌≡◌, ◌≢◌, ◌↔◌, ◌+◌, ◌^◌, ◌<◌, ◌≤◌, ℕ, None, IsTrue};

@@ -26,7 +26,7 @@ pub enum State {
 }
 
 /// What is known of a token under a code.
-#[derive(Debug, Drop)]
+#[derive(Drop)]
 pub struct Standing<'a> {
     /// The client that the code was issued to.
     pub client: Dot,
@@ -57,7 +57,7 @@ impl<'a> Model for Standing<'a> {
 }
 
 /// Where the token of a handle stands (own).
-#[derive(Debug, Drop)]
+#[derive(Drop)]
 pub enum Status<'a> {
     /// No fact stands at the token's dot.
     Unseen,

@@ -3,7 +3,7 @@
 use std::marker::Model;
 
 /// What a client sends ahead, and must later prove to know the verifier of (RFC 7636, 4.2 and 4.3).
-#[derive(Debug, Drop)]
+#[derive(Drop)]
 pub struct Challenge {
     is_s256: bool,
     text: String,

@@ -4,7 +4,7 @@ use crate::uri::Uri;
 use std::marker::Model;
 
 /// The redirection URIs of a client, as they were registered: 1 to 8, equal ones counted (RFC 6749, 3.1.2).
-#[derive(Debug, Drop)]
+#[derive(Drop)]
 pub struct Redirects {
     uris: Vec<Uri>,
 }

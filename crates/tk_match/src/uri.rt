@@ -3,7 +3,7 @@
 use std::marker::Model;
 
 /// A redirection URI that may be kept: 1 to 512 visible ASCII bytes, none of them `#`. Contracts see its bytes.
-#[derive(Debug, Drop)]
+#[derive(Drop)]
 pub struct Uri {
     text: String,
 }

@@ -9,7 +9,7 @@ use std::alloc::{AllocError, Global};
 use tk_fact::Body;
 
 /// What a request is answered, and the fact that it makes.
-#[derive(Debug, Drop)]
+#[derive(Drop)]
 pub struct Decision {
     /// The reply, which goes out once the fact is held.
     pub reply: Reply,

@@ -6,7 +6,7 @@ ghost use Rattle.tk_message.specs.Place.{next_in};
 use tk_handle::{Dot, RegionNumber, Serial};
 
 /// How long what is issued lasts, in seconds (own).
-#[derive(Clone, Copy, Debug, PartialEq, Eq)]
+#[derive(Clone, Copy)]
 pub struct Lives {
     /// A code (RFC 6749, 4.1.2 recommends ten minutes at most).
     pub code: u64,
@@ -19,7 +19,7 @@ pub struct Lives {
 }
 
 /// Where a request is decided (own).
-#[derive(Debug, Drop)]
+#[derive(Drop)]
 pub struct Place {
     /// The region's number.
     pub number: RegionNumber,

@@ -4,7 +4,7 @@ use crate::status::Status;
 use std::marker::Model;
 
 /// What a request is answered. Contracts see the bytes that its parts hold.
-#[derive(Debug, Drop)]
+#[derive(Drop)]
 pub struct Reply {
     /// The status code (RFC 9110, 15).
     pub status: Status,
@@ -17,7 +17,7 @@ pub struct Reply {
 }
 
 /// What a reply carries.
-#[derive(Debug, Drop)]
+#[derive(Drop)]
 pub enum Payload {
     /// Nothing.
     Empty,

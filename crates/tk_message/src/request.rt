@@ -29,7 +29,7 @@ pub enum Endpoint {
 }
 
 /// A request, read from its head and body. Contracts see the bytes that its parts hold.
-#[derive(Debug, Drop)]
+#[derive(Drop)]
 pub struct Request {
     /// What it is sent to.
     pub endpoint: Endpoint,

@@ -5,7 +5,7 @@ use std::marker::Model;
 
 /// What a request presents of a client (RFC 6749, 2.3.1): an id and a secret, either of which may be absent. What comes from
 /// the parameters is borrowed from them. Contracts see the bytes.
-#[derive(Debug, Drop)]
+#[derive(Drop)]
 pub struct Credentials<'a> {
     id: Option<CowStr<'a>>,
     secret: Option<CowStr<'a>>,

@@ -4,7 +4,7 @@ use std::marker::Model;
 
 /// The parameters of a form or a query, in the order in which they were sent. Names and values are texts; one without a
 /// value counts as omitted (RFC 6749, 3.1 and 3.2). Contracts see the list of their bytes.
-#[derive(Debug, Drop)]
+#[derive(Drop)]
 pub struct Params {
     pairs: Vec<(String, String)>,
 }
@@ -19,7 +19,7 @@ impl Model for Params {
 }
 
 /// What stands under a name.
-#[derive(Clone, Copy, Debug, PartialEq, Eq)]
+#[derive(Clone, Copy, PartialEq, Eq)]
 pub enum One<'a> {
     /// Nothing.
     Absent,

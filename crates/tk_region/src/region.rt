@@ -6,7 +6,7 @@ use tk_handle::RegionNumber;
 use tk_ledger::Ledger;
 
 /// A region. Contracts see its number, its settings and its facts.
-#[derive(Debug, Drop)]
+#[derive(Drop)]
 pub struct Region {
     number: RegionNumber,
     settings: Settings,

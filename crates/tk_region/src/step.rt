@@ -5,7 +5,7 @@ use tk_fact::Fact;
 use tk_message::Reply;
 
 /// A reply, and the fact that is to be added before it goes out. Contracts see the bytes that its parts hold.
-#[derive(Debug, Drop)]
+#[derive(Drop)]
 pub struct Prepared {
     /// The reply.
     pub reply: Reply,
@@ -25,7 +25,7 @@ impl Model for Prepared {
 }
 
 /// A reply, and the record of the fact that was added. Contracts see the bytes that its parts hold.
-#[derive(Debug, Drop)]
+#[derive(Drop)]
 pub struct Handled {
     /// The reply.
     pub reply: Reply,

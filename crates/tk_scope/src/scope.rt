@@ -3,7 +3,7 @@
 use std::marker::Model;
 
 /// A set of scope-tokens: at least one, and no more than the limits on its text allow.
-#[derive(Debug, Drop)]
+#[derive(Drop)]
 pub struct Scope {
     /// The printed form: the tokens in byte order, without doubles, with one space between each two.
     text: String,

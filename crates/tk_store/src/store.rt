@@ -7,7 +7,7 @@ use tk_fact::Fact;
 use tk_vector::VersionVector;
 
 /// A set of facts, each of which passes its check, no two at one dot.
-#[derive(Debug, Drop)]
+#[derive(Drop)]
 pub struct FactStore {
     facts: Table,
     // Up to which serial the facts of each region are all held.
@@ -30,7 +30,7 @@ impl Model for FactStore {
 }
 
 /// How an addition ended.
-#[derive(Clone, Copy, Debug, PartialEq, Eq)]
+#[derive(Clone, Copy, PartialEq, Eq)]
 pub enum Added {
     /// The dot was free.
     New,

@@ -6,7 +6,7 @@ use tk_fact::Fact;
 use tk_handle::Dot;
 
 // Each fact at its own dot.
-#[derive(Debug, Drop)]
+#[derive(Drop)]
 pub(crate) struct Table {
     held: BTreeMap<Dot, Fact>,
 }

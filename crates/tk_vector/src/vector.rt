@@ -4,7 +4,7 @@ use std::marker::Model;
 use tk_handle::{Dot, RegionNumber, Serial};
 
 /// One entry for each region of which something is known (own; version vectors as in replicated data types).
-#[derive(Debug, Drop)]
+#[derive(Drop)]
 pub struct VersionVector {
     // Ascending by region.
     entries: Vec<(RegionNumber, Serial)>,

@@ -3,7 +3,7 @@
 use std::marker::Model;
 
 /// A bundle that a region made, in bytes. Contracts see its facts.
-#[derive(Debug, Drop)]
+#[derive(Drop)]
 pub struct MadeBundle {
     bytes: Vec<u8>,
 }

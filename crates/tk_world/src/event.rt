@@ -5,7 +5,7 @@ use tk_message::Status;
 use tk_vector::VersionVector;
 
 /// What may happen to a world.
-#[derive(Debug, Drop)]
+#[derive(Drop)]
 pub enum Event {
     /// A region opens under this number, with no fact.
     Open(RegionNumber),
@@ -30,7 +30,7 @@ pub enum Event {
 }
 
 /// How an event ended.
-#[derive(Debug, Drop)]
+#[derive(Drop)]
 pub enum Outcome {
     /// The region is open.
     Opened,

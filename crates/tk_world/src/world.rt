@@ -7,7 +7,7 @@ use tk_edge::Edge;
 use tk_region::{Region, Settings};
 
 /// Regions under their numbers, and the bundles that they made, which any of them may be handed in any order.
-#[derive(Debug, Drop)]
+#[derive(Drop)]
 pub struct World {
     alloc: Global,
     settings: Settings,
