@@ -77,16 +77,16 @@ impl Body {
         ensures { IfOk result (λ copy. copy ≡ self.now) }
     {
         match self {
-            Body::ClientAdded(fields) => fields.copy(alloc).map(Body::ClientAdded),
+            Body::ClientAdded(fields) => Ok(Body::ClientAdded(fields.copy(alloc)?)),
             Body::ClientRetired(fields) => Ok(Body::ClientRetired(*fields)),
-            Body::ConsentGiven(fields) => fields.copy(alloc).map(Body::ConsentGiven),
+            Body::ConsentGiven(fields) => Ok(Body::ConsentGiven(fields.copy(alloc)?)),
             Body::ConsentWithdrawn(fields) => Ok(Body::ConsentWithdrawn(*fields)),
-            Body::CodeIssued(fields) => fields.copy(alloc).map(Body::CodeIssued),
-            Body::CodeRedeemed(fields) => fields.copy(alloc).map(Body::CodeRedeemed),
-            Body::RefreshRotated(fields) => fields.copy(alloc).map(Body::RefreshRotated),
+            Body::CodeIssued(fields) => Ok(Body::CodeIssued(fields.copy(alloc)?)),
+            Body::CodeRedeemed(fields) => Ok(Body::CodeRedeemed(fields.copy(alloc)?)),
+            Body::RefreshRotated(fields) => Ok(Body::RefreshRotated(fields.copy(alloc)?)),
             Body::TokenRevoked(fields) => Ok(Body::TokenRevoked(*fields)),
             Body::ReuseSeen(fields) => Ok(Body::ReuseSeen(*fields)),
-            Body::SubjectOut(fields) => fields.copy(alloc).map(Body::SubjectOut),
+            Body::SubjectOut(fields) => Ok(Body::SubjectOut(fields.copy(alloc)?)),
         }
     }
 
@@ -136,24 +136,28 @@ impl Body {
             return Err(ReadError::Malformed);
         };
         match kind {
-            1 => ClientAdded::read(alloc, reader).map(Body::ClientAdded),
-            2 => ClientRetired::read(reader)
-                .map(Body::ClientRetired)
-                .ok_or(ReadError::Malformed),
-            3 => ConsentGiven::read(alloc, reader).map(Body::ConsentGiven),
-            4 => ConsentWithdrawn::read(reader)
-                .map(Body::ConsentWithdrawn)
-                .ok_or(ReadError::Malformed),
-            5 => CodeIssued::read(alloc, reader).map(Body::CodeIssued),
-            6 => CodeRedeemed::read(alloc, reader).map(Body::CodeRedeemed),
-            7 => RefreshRotated::read(alloc, reader).map(Body::RefreshRotated),
-            8 => TokenRevoked::read(reader)
-                .map(Body::TokenRevoked)
-                .ok_or(ReadError::Malformed),
-            9 => ReuseSeen::read(reader)
-                .map(Body::ReuseSeen)
-                .ok_or(ReadError::Malformed),
-            10 => SubjectOut::read(alloc, reader).map(Body::SubjectOut),
+            1 => Ok(Body::ClientAdded(ClientAdded::read(alloc, reader)?)),
+            2 => match ClientRetired::read(reader) {
+                Some(fields) => Ok(Body::ClientRetired(fields)),
+                None => Err(ReadError::Malformed),
+            },
+            3 => Ok(Body::ConsentGiven(ConsentGiven::read(alloc, reader)?)),
+            4 => match ConsentWithdrawn::read(reader) {
+                Some(fields) => Ok(Body::ConsentWithdrawn(fields)),
+                None => Err(ReadError::Malformed),
+            },
+            5 => Ok(Body::CodeIssued(CodeIssued::read(alloc, reader)?)),
+            6 => Ok(Body::CodeRedeemed(CodeRedeemed::read(alloc, reader)?)),
+            7 => Ok(Body::RefreshRotated(RefreshRotated::read(alloc, reader)?)),
+            8 => match TokenRevoked::read(reader) {
+                Some(fields) => Ok(Body::TokenRevoked(fields)),
+                None => Err(ReadError::Malformed),
+            },
+            9 => match ReuseSeen::read(reader) {
+                Some(fields) => Ok(Body::ReuseSeen(fields)),
+                None => Err(ReadError::Malformed),
+            },
+            10 => Ok(Body::SubjectOut(SubjectOut::read(alloc, reader)?)),
             _ => Err(ReadError::Malformed),
         }
     }

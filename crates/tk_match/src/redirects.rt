@@ -46,7 +46,7 @@ impl From<AllocError> for RedirectError {
     }
 }
 
-ghost use Rattle.std.specs.Prelude.{◌≡◌, ◌↔◌, ◌⊎◌, All, Any, IfOk, IfErr, OnOk, IsErrOf, IsTrue, None, Some, true, false, map};
+ghost use Rattle.std.specs.Prelude.{◌≡◌, ◌↔◌, ◌⊎◌, ◌++◌, ◌∷◌, [], All, Any, IfOk, IfErr, OnOk, IsErrOf, IsTrue, None, Some, true, false, map};
 ghost use Rattle.std.specs.List.{list_all};
 ghost use Rattle.std.specs.Option.{option_copied};
 ghost use Rattle.std.specs.Str.{IsUtf8};
@@ -163,10 +163,23 @@ fn read_each(alloc: Global, texts: &[&[u8]]) -> Result<Vec<Uri>, RedirectError>
 {
     let mut uris = Vec::with_capacity(alloc, texts.len())?;
     for text in texts {
-        let uri = Uri::read(alloc, text)?;
-        uris.push(uri).map_err(AllocError::from)?;
+        put_read(alloc, &mut uris, text)?;
     }
     Ok(uris)
+}
+
+// Reads one more URI behind the others.
+fn put_read(alloc: Global, uris: &mut Vec<Uri>, text: &[u8]) -> Result<(), RedirectError>
+    ensures ok { OnOk result (uris.new.items ≡ uris.old.items ++ (text.now ∷ [])) }
+    ensures rule { OnOk result (is_uri text.now ≡ true) }
+    ensures err { IfErr result (λ e. (e ≡ RedirectError.Bad) ⊎ (e ≡ RedirectError.Memory)) }
+    ensures bad { IsErrOf result RedirectError.Bad → is_uri text.now ≡ false }
+{
+    let uri = Uri::read(alloc, text)?;
+    match uris.push(uri) {
+        Ok(()) => Ok(()),
+        Err(_) => Err(RedirectError::Memory),
+    }
 }
 
 fn check_absolute(alloc: Global, uris: &[Uri]) -> Result<(), RedirectError>

@@ -1,6 +1,6 @@
 //! A region that makes facts and takes bundles in: what it answers, and the bytes of what it then holds. The tests of the crates
 //! below are here too: the requests of each endpoint in `authorize` (with administration), `grant` and `query`, replies and what they
-//! are made of in `message`, and bundles and what they are made of in `bundle`.
+//! are made of in `message`, bundles and what they are made of in `bundle`, and ledgers and families in `ledger`.
 
 mod authorize;
 mod bundle;
