@@ -1,13 +1,11 @@
 //! A region that makes facts and takes bundles in: what it answers, and the bytes of what it then holds. The tests of the crates
-//! below are here too: the requests of each endpoint in `authorize` (with administration), `grant` and `query`, replies and what they
-//! are made of in `message`, and bundles and what they are made of in `bundle`.
+//! below are here too: replies and what they are made of in `message`, and bundles and what they are made of in `bundle`. What each
+//! endpoint answers is in the rows of `rows/`; `authorize` has what no script says of it.
 
 mod authorize;
 mod bundle;
-mod grant;
 mod message;
 mod pages;
-mod query;
 mod settings;
 mod spelled;
 mod unknown;

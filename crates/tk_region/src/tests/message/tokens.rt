@@ -11,9 +11,7 @@ use tk_scope::Scope;
 
 // How long the access token lasts, and the reply, with the texts of the handles as another program encodes them.
 #[rattlefmt::skip]
-static GIVEN: [(u64, &str); 3] = [
-    (3_600,
-        "{\"access_token\":\"AQIAAQAAAAAAAAAEAAAAAAAAABgAAAAAAAAAGQAAAAAAAAAa\",\"expires_in\":3600,\"refresh_token\":\"AQMAAQAAAAAAAAAEAAAAAAAAABsAAAAAAAAAHAAAAAAAAAAd\",\"scope\":\"read write\",\"token_type\":\"Bearer\"}"),
+static GIVEN: [(u64, &str); 2] = [
     (0,
         "{\"access_token\":\"AQIAAQAAAAAAAAAEAAAAAAAAABgAAAAAAAAAGQAAAAAAAAAa\",\"expires_in\":0,\"refresh_token\":\"AQMAAQAAAAAAAAAEAAAAAAAAABsAAAAAAAAAHAAAAAAAAAAd\",\"scope\":\"read write\",\"token_type\":\"Bearer\"}"),
     (18_446_744_073_709_551_615,
