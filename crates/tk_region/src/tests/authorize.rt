@@ -1,5 +1,5 @@
 //! What a script can't say of the requests of browsers and administrators: subjects that no line holds, the end of a code behind that of
-//! its family, and a path that isn't an administrator's.
+//! its family, the digest of a secret and the order of URIs, and an endpoint that isn't an administrator's.
 //!
 //! Each is decided at region 1, whose next fact stands at serial 3, at the moment 1,000; a code is made with the words 18 to 23.
 
@@ -15,8 +15,8 @@ use tk_message::{Decision, Endpoint, Lives, Params, Payload, Place, Reply, Reque
 enum Asker {
     // Somebody with a browser, who has signed in as the subject, where a family has this life.
     Subject(&'static [u8], u64),
-    // An administrator.
-    Admin,
+    // An administrator, by this endpoint.
+    Admin(Endpoint),
 }
 
 // What a request is called, who asks, and with what; the status, the URI to go to or else the JSON text, and the bytes of the fact that it
@@ -35,14 +35,17 @@ const THIRTY_DAYS: u64 = 2_592_000;
 
 // The name of a subject has letters, no space, and ASCII alone.
 #[rattlefmt::skip]
-static ROWS: [Row; 5] = [
+static ROWS: [Row; 6] = [
     ("a subject without a letter", Asker::Subject(b"", THIRTY_DAYS), "response_type=code&client_id=c2-9&state=xyz", 302, "https://client.example.com/cb?error=access_denied&state=xyz", b""),
     ("a subject with a space", Asker::Subject(b"an n", THIRTY_DAYS), "response_type=code&client_id=c2-9&state=xyz", 302, "https://client.example.com/cb?error=access_denied&state=xyz", b""),
     ("a subject beyond ASCII", Asker::Subject(b"Ann\xc3\xa9", THIRTY_DAYS), "response_type=code&client_id=c2-9&state=xyz", 302, "https://client.example.com/cb?error=access_denied&state=xyz", b""),
     // The code's own end is at 1,060, its family's at 1,001.
     ("a family that ends before its code", Asker::Subject(b"ann", 1), "client_id=c2-9&response_type=code", 302, "https://client.example.com/cb?code=AQEAAQAAAAAAAAADAAAAAAAAABIAAAAAAAAAEwAAAAAAAAAU",
         b"\x00\x01\x00\x00\x00\x00\x00\x00\x00\x03\x05\x00\x02\x00\x00\x00\x00\x00\x00\x00\x09\x00\x02\x00\x00\x00\x00\x00\x00\x00\x0akxhl@\xdez\x1ci'\x1e\x12\x7f\x9eR\xabX\x87|\xf3\x8csk\x0d)\xf0\x1e\x1c\x1f\xdb\xdc\xb4\x00\x00\x00\x00\x00\x00\x03\xe8\x00\x00\x00\x00\x00\x00\x04$\x00\x00\x00\x00\x00\x00\x03\xe9\x00\x03ann\x00\x04read\x00\x1dhttps://client.example.com/cb\x00\x00"),
-    ("another endpoint", Asker::Admin, "client_id=c1-1", 404, "{\"error\":\"not_found\"}", b""),
+    // SHA-256 of `abc` (FIPS 180-4, the example of one block).
+    ("a client with a secret", Asker::Admin(Endpoint::AddClient), "kind=confidential&secret=abc&scope=write+read&redirects=https://b.example/cb+a:b?c%3Dd", 201, "{\"client_id\":\"c1-3\"}",
+        b"\x00\x01\x00\x00\x00\x00\x00\x00\x00\x03\x01\x01\xbax\x16\xbf\x8f\x01\xcf\xeaAA@\xde]\xae\x22#\xb0\x03a\xa3\x96\x17z\x9c\xb4\x10\xffa\xf2\x00\x15\xad\x00\x0aread write\x02\x00\x14https://b.example/cb\x00\x07a:b?c=d"),
+    ("another endpoint", Asker::Admin(Endpoint::Authorize), "client_id=c1-1", 404, "{\"error\":\"not_found\"}", b""),
 ];
 
 fn place(family: u64) -> Option<Place> {
@@ -58,10 +61,15 @@ fn place(family: u64) -> Option<Place> {
     })
 }
 
-fn request(alloc: Global, text: &str, subject: Option<Vec<u8>>) -> Option<Request> {
+fn request(
+    alloc: Global,
+    endpoint: Endpoint,
+    text: &str,
+    subject: Option<Vec<u8>>,
+) -> Option<Request> {
     match Params::read(alloc, text.as_bytes()) {
         Ok(params) => Some(Request {
-            endpoint: Endpoint::Authorize,
+            endpoint,
             params,
             authorization: None,
             subject,
@@ -81,16 +89,21 @@ fn authorized(
     let place = place(family)?;
     let subject = Vec::from_slice(alloc, name).ok()?;
     let words = [18, 19, 20, 21, 22, 23];
-    match request(alloc, text, Some(subject)) {
+    match request(alloc, Endpoint::Authorize, text, Some(subject)) {
         Some(request) => decide_authorize(alloc, ledger, &place, now, &words, &request).ok(),
         None => None,
     }
 }
 
-fn administered(alloc: Global, ledger: &Ledger, text: &str) -> Option<Decision> {
+fn administered(
+    alloc: Global,
+    ledger: &Ledger,
+    endpoint: Endpoint,
+    text: &str,
+) -> Option<Decision> {
     let now = Moment::new(1_000)?;
     let place = place(THIRTY_DAYS)?;
-    match request(alloc, text, None) {
+    match request(alloc, endpoint, text, None) {
         Some(request) => decide_admin(alloc, ledger, &place, now, &request).ok(),
         None => None,
     }
@@ -100,7 +113,7 @@ fn administered(alloc: Global, ledger: &Ledger, text: &str) -> Option<Decision> 
 fn decided(alloc: Global, ledger: &Ledger, asker: Asker, text: &str) -> Option<Decision> {
     match asker {
         Asker::Subject(name, family) => authorized(alloc, ledger, text, name, family),
-        Asker::Admin => administered(alloc, ledger, text),
+        Asker::Admin(endpoint) => administered(alloc, ledger, endpoint, text),
     }
 }
 
