@@ -1,17 +1,15 @@
 //! A region that makes facts and takes bundles in: what it answers, and the bytes of what it then holds. The tests of the crates
-//! below are here too: the requests of each endpoint in `authorize` (with administration), `grant` and `query`, replies and what they
-//! are made of in `message`, bundles and what they are made of in `bundle`, and ledgers and families in `ledger`.
+//! below are here too: replies and what they are made of in `message`, bundles and what they are made of in `bundle`, and ledgers
+//! and families in `ledger`. What each endpoint answers is in the rows of `rows/`; `authorize` has what no script says of it.
 
 mod authorize;
 mod bundle;
-mod grant;
 mod ledger;
 mod message;
-mod pages;
-mod query;
 mod settings;
 mod spelled;
 mod unknown;
+mod vector;
 
 use crate::step::prepare;
 use crate::{Handled, Region, Settings, TakeError};
@@ -209,55 +207,6 @@ fn first_torn(alloc: Global) -> Option<(Option<usize>, bool)> {
 #[test]
 fn a_torn_bundle_is_malformed(rt: HostRuntime) {
     assert_eq!(rt; first_torn(rt.alloc()), Some((None, true)));
-}
-
-// Bundles in the order in which they come, and how many facts of each are new.
-#[rattlefmt::skip]
-static DELIVERIES: [(&str, &[Retired], u16); 4] = [
-    ("the newer one", &[((1, 3), (1, 9)), ((3, 1), (1, 9))], 2),
-    ("the older one", &[((1, 1), (1, 9)), ((1, 2), (1, 9))], 2),
-    ("the newer one again", &[((1, 3), (1, 9)), ((3, 1), (1, 9))], 0),
-    ("one that reaches into both", &[((1, 2), (1, 9)), ((1, 3), (1, 9)), ((1, 4), (1, 9))], 1),
-];
-
-#[rattlefmt::skip]
-const DELIVERED: [Retired; 5] = [((1, 1), (1, 9)), ((1, 2), (1, 9)), ((1, 3), (1, 9)), ((1, 4), (1, 9)), ((3, 1), (1, 9))];
-
-// The first of them that isn't taken in so.
-fn first_refused(alloc: Global, region: &mut Region) -> Option<&'static str> {
-    for row in &DELIVERIES {
-        if take(alloc, region, row.1) != Some(Ok(row.2)) {
-            return Some(row.0);
-        }
-    }
-    None
-}
-
-// The same, or what isn't held after all.
-fn first_missed_in(alloc: Global, region: &mut Region) -> Option<&'static str> {
-    let refused = first_refused(alloc, region);
-    if refused.is_none() && !holds(alloc, region, &DELIVERED) {
-        return Some("four bundles");
-    }
-    refused
-}
-
-fn first_missed(alloc: Global) -> Option<&'static str> {
-    match new_region(alloc, 5) {
-        Some(mut region) => {
-            let missed = first_missed_in(alloc, &mut region);
-            drop(region);
-            missed
-        }
-        None => Some("a region"),
-    }
-}
-
-#[test]
-fn bundles_come_in_any_order(rt: HostRuntime) {
-    if let Some(name) = first_missed(rt.alloc()) {
-        panic!(rt; "{name}");
-    }
 }
 
 fn is_json(reply: &Reply, status: u16, body: &str) -> bool {

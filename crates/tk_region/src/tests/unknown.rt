@@ -1,7 +1,7 @@
-//! Requests for what isn't there, decided and handled alike.
+//! Requests for what isn't there, handled by a region itself: programs decide and commit apart, and rows show that.
 
 use super::{holds, is_json, new_region};
-use crate::{Handled, Prepared, Region};
+use crate::{Handled, Region};
 use std::alloc::Global;
 use tk_handle::Moment;
 use tk_message::{Endpoint, Params, Request};
@@ -30,21 +30,6 @@ fn request_of(alloc: Global, endpoint: Endpoint, input: &[u8]) -> Option<Request
 
 const NOT_FOUND: &str = "{\"error\":\"not_found\"}";
 
-fn refuses(prepared: &Prepared) -> bool {
-    prepared.fact.is_none() && is_json(&prepared.reply, 404, NOT_FOUND)
-}
-
-fn is_decided(alloc: Global, region: &Region, now: Moment, request: &Request) -> bool {
-    match region.decide(alloc, now, &[7; 6], request) {
-        Ok(prepared) => {
-            let is_so = refuses(&prepared);
-            drop(prepared);
-            is_so
-        }
-        Err(_) => false,
-    }
-}
-
 fn is_refused(handled: &Handled) -> bool {
     handled.logged.is_none() && is_json(&handled.reply, 404, NOT_FOUND)
 }
@@ -62,7 +47,7 @@ fn is_handled(alloc: Global, region: &mut Region, now: Moment, request: &Request
 
 fn is_not_found(alloc: Global, region: &mut Region, request: &Request) -> Option<bool> {
     let now = Moment::new(1_000)?;
-    Some(is_decided(alloc, region, now, request) && is_handled(alloc, region, now, request))
+    Some(is_handled(alloc, region, now, request))
 }
 
 fn is_unknown(alloc: Global, region: &mut Region, row: &Unknown) -> bool {

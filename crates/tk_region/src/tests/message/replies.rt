@@ -1,64 +1,21 @@
-//! Consents, subjects, redirects and the texts of handles.
+//! Redirects, the texts of handles, and replies between regions.
 
 use super::{dot, handle, is_told};
 use std::alloc::Global;
-use tk_fact::Subject;
 use tk_handle::{Handle, Kind};
-use tk_message::{
-    Payload, Reply, Status, bytes_reply, consent_reply, handle_string, redirect_reply,
-    subject_reply, taken_reply,
-};
-
-fn consented(alloc: Global, status: Status) -> Option<Reply> {
-    consent_reply(alloc, status, dot(7, 41)?).ok()
-}
-
-#[test]
-fn a_consent_goes_under_its_status(rt: HostRuntime) {
-    let body = "{\"consent_id\":\"g7-41\"}";
-    for (status, number) in [(Status::Created, 201), (Status::Ok, 200)] {
-        assert!(rt;
-            is_told(consented(rt.alloc(), status), number, body),
-            "{number}"
-        );
-    }
-}
-
-// Subjects, and how they are told: what a string of JSON can't hold as it is stands behind a backslash (RFC 8259, 7).
-static SUBJECTS: [(&str, &str); 3] = [
-    ("ann", "{\"subject\":\"ann\"}"),
-    ("a\"b\\c", "{\"subject\":\"a\\\"b\\\\c\"}"),
-    ("!/~", "{\"subject\":\"!/~\"}"),
-];
-
-fn signed_out(alloc: Global, name: &str) -> Option<Reply> {
-    let subject = Subject::read(alloc, name.as_bytes()).ok()?;
-    subject_reply(alloc, &subject).ok()
-}
-
-#[test]
-fn a_subject_is_told_as_json(rt: HostRuntime) {
-    for row in &SUBJECTS {
-        let reply = signed_out(rt.alloc(), row.0);
-        assert!(rt; is_told(reply, 200, row.1), "{}", row.1);
-    }
-}
+use tk_message::{Payload, Reply, bytes_reply, handle_string, redirect_reply, taken_reply};
 
 // A URI, a name, its value, the state, and where the browser is sent.
 #[rattlefmt::skip]
 type Redirect = (&'static str, &'static str, &'static str, Option<&'static str>, &'static str);
 
 #[rattlefmt::skip]
-static REDIRECTS: [Redirect; 7] = [
-    // The replies of RFC 6749, 4.1.2 and 4.1.2.1.
+static REDIRECTS: [Redirect; 4] = [
+    // The reply of RFC 6749, 4.1.2.
     ("https://client.example.com/cb", "code", "SplxlOBeZQQYbYS6WxSbIA", Some("xyz"), "https://client.example.com/cb?code=SplxlOBeZQQYbYS6WxSbIA&state=xyz"),
-    ("https://client.example.com/cb", "error", "access_denied", Some("xyz"), "https://client.example.com/cb?error=access_denied&state=xyz"),
-    ("https://client.example.com/cb", "error", "access_denied", None, "https://client.example.com/cb?error=access_denied"),
     // A URI with a query, and an empty state, which is sent back.
     ("https://app.example/cb?t=1", "code", "a-_b", Some(""), "https://app.example/cb?t=1&code=a-_b&state="),
     ("https://app.example/cb?t=1", "code", "a-_b", None, "https://app.example/cb?t=1&code=a-_b"),
-    // Form encoding, of a state that would say more.
-    ("https://app.example/cb", "error", "invalid_scope", Some("a ~*&code=b#c%"), "https://app.example/cb?error=invalid_scope&state=a+%7E*%26code%3Db%23c%25"),
     ("app:/cb", "code", "", Some("x+y"), "app:/cb?code=&state=x%2By"),
 ];
 

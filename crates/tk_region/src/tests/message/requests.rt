@@ -1,46 +1,25 @@
-//! What requests bring, and the scopes that they ask for.
+//! What requests bring.
 
 use super::request;
 use std::alloc::Global;
 use tk_message::{Endpoint, Request, scope_asked};
 use tk_scope::Scope;
 
-// What is sent, and what is asked for of `read write`: None where it can't be given.
-static SCOPES: [(&str, Option<&str>, Option<&str>); 12] = [
-    ("none", None, Some("read write")),
-    ("less", Some("write"), Some("write")),
-    ("the whole", Some("read write"), Some("read write")),
-    ("another order", Some("write read"), Some("read write")),
-    ("a token twice", Some("read read"), Some("read")),
-    ("another token", Some("admin"), None),
-    ("the whole and more", Some("admin read write"), None),
-    ("a token in capitals", Some("Read"), None),
-    ("no token", Some(""), None),
-    ("two spaces", Some("read  write"), None),
-    ("a space behind", Some("read "), None),
-    ("a quotation mark", Some("\"read\""), None),
-];
+fn is_none_asked(alloc: Global, whole: &Scope) -> bool {
+    matches!(scope_asked(alloc, whole, Some("")), Ok(None))
+}
 
-fn is_asked(alloc: Global, whole: &Scope, sent: Option<&str>, want: Option<&str>) -> bool {
-    match scope_asked(alloc, whole, sent) {
-        Ok(Some(scope)) => want == Some(scope.text()),
-        Ok(None) => want.is_none(),
+fn is_none_of(alloc: Global, whole: &[u8]) -> bool {
+    match Scope::read(alloc, whole) {
+        Ok(whole) => is_none_asked(alloc, &whole),
         Err(_) => false,
     }
 }
 
-fn is_asked_for(alloc: Global, sent: Option<&str>, want: Option<&str>) -> bool {
-    match Scope::read(alloc, b"write read") {
-        Ok(whole) => is_asked(alloc, &whole, sent, want),
-        Err(_) => false,
-    }
-}
-
+// A parameter without a value counts as absent, so no request asks for this.
 #[test]
-fn a_scope_is_asked_for_within_the_whole(rt: HostRuntime) {
-    for row in &SCOPES {
-        assert!(rt; is_asked_for(rt.alloc(), row.1, row.2), "{}", row.0);
-    }
+fn a_scope_without_a_token_is_none(rt: HostRuntime) {
+    assert!(rt; is_none_of(rt.alloc(), b"write read"));
 }
 
 // The values of `Authorization` and of `X-Subject`.
