@@ -2,11 +2,7 @@
 //! lengths, long scripts, devices that fail, files and sockets. What text can say stands in the worked examples of `rows/`.
 mod devices;
 mod fakes;
-mod lines;
 mod loading;
-mod loopback;
-mod order;
-mod rings;
 mod serving;
 mod worlds;
 
@@ -34,18 +30,6 @@ const CAP_ALONE_TOLD: &str = "error: a value is required for '--cap <N>' but non
 
 For more information, try '--help'.
 ";
-
-/// A run that prints this.
-fn printed<'a>(name: &'a str, words: &'a [&'a str], input: &'a [u8], output: &'a str) -> Row<'a> {
-    Row {
-        name,
-        words,
-        input,
-        output,
-        faults: "",
-        status: 0,
-    }
-}
 
 /// A run that is refused.
 fn refused<'a>(name: &'a str, words: &'a [&'a str], input: &'a [u8], faults: &'a str) -> Row<'a> {
@@ -83,17 +67,4 @@ fn unwanted(name: &str, output: &[u8], faults: &[u8], status: u8) -> Fail {
     let end = str::from_utf8(end).unwrap_or("no text");
     let faults = str::from_utf8(faults).unwrap_or("no text");
     Fail::new(format_args!("{name}: status {status}: {faults}: {end}"))
-}
-
-/// What is printed of a script, where it ends well.
-fn printed_of(rt: &HostRuntime, script: &[u8]) -> Option<Vec<u8>> {
-    let mut input = script;
-    let mut output = Vec::new(rt.alloc());
-    let mut faults = Vec::new(rt.alloc());
-    let status = run_program(rt, &SCRIPT, &mut input, &mut output, &mut faults);
-    if status == 0 && faults.is_empty() {
-        Some(output)
-    } else {
-        None
-    }
 }

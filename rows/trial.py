@@ -1,0 +1,139 @@
+"""trial: one run of a program for a row, with its files, its devices and its connections."""
+import contextlib
+import os
+import re
+import resource
+import select
+import socket
+import struct
+import subprocess
+import tempfile
+
+SECONDS = 60
+LISTENING = re.compile(rb"^listening 127\.0\.0\.1:(\d+)\n", re.M)
+
+
+class Ran:
+    """What came of a run."""
+
+    def __init__(self):
+        self.output, self.errors, self.status = b"", b"", None  # no status where it had to be ended
+        self.replies = []  # what came back of each connection
+        self.files = {}  # what each file had then that the row speaks of; None where there was none
+
+    def port(self):
+        """The port that a service told, as text."""
+        told = LISTENING.search(self.output)
+        return told and told[1]
+
+
+def reset_behind(sent):
+    """A connection that gives these bytes, and then fails."""
+    with socket.create_server(("127.0.0.1", 0)) as server:
+        client = socket.create_connection(server.getsockname())
+        here, _ = server.accept()
+    client.sendall(sent)
+    client.setsockopt(socket.SOL_SOCKET, socket.SO_LINGER, struct.pack("ii", 1, 0))  # it closes by a reset
+    client.close()
+    return here.detach()
+
+
+def opened(how, row, room):
+    """A descriptor in the place of an input or an output that fails."""
+    if how == "folder":
+        return os.open(room, os.O_RDONLY)
+    if how == "reset":
+        return reset_behind(row.sent())
+    if how == "full":
+        return os.open("/dev/full", os.O_WRONLY)
+    if how == "shut":
+        reader, writer = os.pipe()
+        os.close(reader)
+        return writer
+    with tempfile.TemporaryFile() as file:
+        return os.dup(file.fileno())
+
+
+@contextlib.contextmanager
+def limited(row):
+    """What is started meanwhile can't write more to a file than the row's output takes."""
+    sizes = [how for how, _ in row.devices.values() if isinstance(how, int)]
+    before = resource.getrlimit(resource.RLIMIT_FSIZE)
+    resource.setrlimit(resource.RLIMIT_FSIZE, (sizes[0] if sizes else before[0], before[1]))
+    try:
+        yield
+    finally:
+        resource.setrlimit(resource.RLIMIT_FSIZE, before)
+
+
+def started(program, words, row, room, ends):
+    """The program, begun. Where an output fails it is told so, and isn't ended by a signal."""
+    with limited(row):
+        return subprocess.Popen(["tokend"] + words, executable=os.path.abspath(program), cwd=room, restore_signals=not ends,
+                                stdin=ends.get("0<", subprocess.PIPE), stdout=ends.get("1>", subprocess.PIPE),
+                                stderr=ends.get("2>", subprocess.PIPE))
+
+
+def wait_for_port(process, ran):
+    """Reads on until the port is told. There may come none."""
+    while not ran.port():
+        ready, _, _ = select.select([process.stdout], [], [], SECONDS)
+        piece = os.read(process.stdout.fileno(), 65536) if ready else b""
+        if not piece:
+            return
+        ran.output += piece
+
+
+def answered(port, sent):
+    """What comes back of a connection that sends this."""
+    said = b""
+    try:
+        with socket.create_connection(("127.0.0.1", port), SECONDS) as connection:
+            connection.sendall(sent)
+            connection.shutdown(socket.SHUT_WR)
+            while piece := connection.recv(65536):
+                said += piece
+    except OSError:
+        pass  # what came before stands
+    return said
+
+
+def talk(process, row, ran):
+    """Makes the row's connections, sends it its events, and waits for its end."""
+    if row.connections:
+        wait_for_port(process, ran)
+    if ran.port():
+        ran.replies = [answered(int(ran.port()), sent) for sent, _ in row.connections]
+    sent = row.sent() if "0<" not in row.devices else None
+    try:
+        output, errors = process.communicate(sent, SECONDS)
+    except subprocess.TimeoutExpired:
+        process.kill()
+        process.communicate()
+        return
+    ran.output += output or b""
+    ran.errors += errors or b""
+    ran.status = process.returncode
+
+
+def run(program, words, row):
+    """What comes of the row, run by the program with these words, in an empty folder but for the row's files."""
+    ran, ends = Ran(), {}
+    with tempfile.TemporaryDirectory() as room, contextlib.ExitStack() as stack:
+        for name, content in row.files.items():
+            with open(os.path.join(room, name), "wb") as file:
+                file.write(content)
+        for sign, (how, _) in row.devices.items():
+            ends[sign] = opened(how, row, room)
+            stack.callback(os.close, ends[sign])
+        with started(program, words, row, room, ends) as process:
+            talk(process, row, ran)
+        taken = {sign: os.pread(end, 1 << 20, 0) for sign, end in ends.items() if isinstance(row.devices[sign][0], int)}
+        ran.output += taken.get("1>", b"")
+        ran.errors += taken.get("2>", b"")
+        for name in row.afterwards:
+            path = os.path.join(room, name)
+            if os.path.isfile(path):
+                with open(path, "rb") as file:
+                    ran.files[name] = file.read()
+    return ran
