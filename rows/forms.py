@@ -340,7 +340,7 @@ def all_rows():
     if not rows:
         raise Bad("rows: no row")
     for row in rows:
-        if not (row.words or row.events):
+        if not (row.words or row.events or row.devices):
             raise Bad("%s: nothing in the row %s" % (row.place, row.name))
         row.use()
     for other in others:
