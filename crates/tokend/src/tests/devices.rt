@@ -1,8 +1,9 @@
-//! Readers and writers that fail: what was written by then, what is told, and the status.
+//! Readers and writers that fail as no device of a machine can be told to: what was written by then, what is told, and the status.
 
 use super::fakes::{FailingReader, FailingWriter};
 use super::{CAP_ALONE, CAP_ALONE_TOLD, SCRIPT};
 use crate::program::run_program;
+use std::alloc::AllocError;
 use std::io::ErrorKind;
 use std::test::Fail;
 
@@ -13,9 +14,6 @@ type Input = (&'static str, &'static [u8], ErrorKind, &'static str);
 
 #[rattlefmt::skip]
 const INPUTS: &[Input] = &[
-    ("at once", b"", ErrorKind::Other, CANNOT_READ),
-    ("in mid-stream", b"open 1\nopen 2\n", ErrorKind::Other, CANNOT_READ),
-    ("after a bad line", b"open 0\n", ErrorKind::BrokenPipe, CANNOT_READ),
     ("interrupted", b"open 1\n", ErrorKind::Interrupted, CANNOT_READ),
     ("for memory", b"open 1\n", ErrorKind::OutOfMemory, "tokend: memory\n"),
 ];
@@ -97,56 +95,6 @@ fn by_output(rt: &HostRuntime, run: &Run<'_>, mut output: FailingWriter, length:
     (status, output.failures, is_front, faults.is_empty())
 }
 
-fn within(rt: &HostRuntime, run: &Run<'_>, room: usize) -> Ended {
-    by_output(rt, run, FailingWriter::new(rt, room), room)
-}
-
-// A line for each region from 1 on, of this word and its number.
-fn numbered(rt: &HostRuntime, word: &str, count: u16) -> Result<String, Fail> {
-    let mut lines = String::new(rt.alloc());
-    for region in 0..count {
-        writeln!(lines, "{word} {}", region.saturating_add(1))?;
-    }
-    Ok(lines)
-}
-
-const CUT_OFF: Ended = (1, 1, true, true);
-
-// The first room of these that doesn't end a run of 2,000 lines.
-fn long_within(rt: &HostRuntime, rooms: &[usize]) -> Result<Option<usize>, Fail> {
-    let (script, printed) = (numbered(rt, "open", 2000)?, numbered(rt, "opened", 2000)?);
-    let long: Run<'_> = (&SCRIPT, script.as_bytes(), printed.as_str());
-    for &room in rooms {
-        if within(rt, &long, room) != CUT_OFF {
-            return Ok(Some(room));
-        }
-    }
-    Ok(None)
-}
-
-#[test]
-fn an_output_that_fails_ends_the_run(rt: HostRuntime) -> Result<(), Fail> {
-    let opened: Run<'_> = (&SCRIPT, b"open 1\nopen 2\n", "opened 1\nopened 2\n");
-    assert!(rt; within(&rt, &opened, 0) == CUT_OFF);
-    assert!(rt; within(&rt, &opened, 9) == CUT_OFF);
-    assert!(rt; within(&rt, &(&["tokend", "--help"], b"", ""), 0) == CUT_OFF);
-    let ended = long_within(&rt, &[0, 1, 8191, 8192, 8193, 20_000])?;
-    assert!(rt; ended == None, "{}", ended.unwrap_or(0));
-    Ok(())
-}
-
-#[test]
-fn an_output_that_fails_has_the_beginning_of_the_lines(rt: HostRuntime) {
-    for room in 0..LINES.len() {
-        assert!(rt; within(&rt, &EVENTS, room) == CUT_OFF, "{room}");
-    }
-}
-
-#[test]
-fn an_output_with_just_enough_room_gets_all(rt: HostRuntime) {
-    assert!(rt; within(&rt, &EVENTS, LINES.len()) == (0, 0, true, true));
-}
-
 #[test]
 fn an_output_that_is_interrupted_gets_all(rt: HostRuntime) {
     for place in 0..LINES.len() {
@@ -175,28 +123,83 @@ fn by_faults(rt: &HostRuntime, run: &Run<'_>, mut faults: FailingWriter, length:
 const REFUSED: Ended = (2, 1, true, true);
 
 #[test]
-fn a_standard_error_that_fails_changes_nothing(rt: HostRuntime) {
-    let refused: Run<'_> = (&SCRIPT, b"open 0\n", "tokend: bad line 1\n");
-    assert!(rt; by_faults(&rt, &refused, FailingWriter::new(&rt, 0), 0) == REFUSED);
-}
-
-#[test]
-fn a_standard_error_that_fails_has_the_beginning(rt: HostRuntime) {
-    for run in REFUSALS {
-        for room in 0..run.2.len() {
-            let ended = by_faults(&rt, run, FailingWriter::new(&rt, room), room);
-            assert!(rt; ended == REFUSED, "{}: {room}", run.2);
-        }
-    }
-}
-
-#[test]
 fn a_standard_error_that_is_interrupted_gets_all(rt: HostRuntime) {
     for run in REFUSALS {
         for place in 0..run.2.len() {
             let faults = FailingWriter::interrupted(&rt, place);
             let ended = by_faults(&rt, run, faults, run.2.len());
             assert!(rt; ended == REFUSED, "{}: {place}", run.2);
+        }
+    }
+}
+
+// How often an output of so much room failed.
+fn output_tries(rt: &HostRuntime, run: &Run<'_>, room: usize) -> u64 {
+    let (_, failures, _, _) = by_output(rt, run, FailingWriter::new(rt, room), room);
+    failures
+}
+
+// A line for each region from 1 on, of this word and its number.
+fn numbered(rt: &HostRuntime, word: &str, count: u16) -> Result<String, AllocError> {
+    let mut lines = String::new(rt.alloc());
+    for region in 0..count {
+        writeln!(lines, "{word} {}", region.saturating_add(1))?;
+    }
+    Ok(lines)
+}
+
+// The first room of these in which the output of 2,000 lines doesn't fail once.
+fn long_tries(rt: &HostRuntime, rooms: &[usize]) -> Result<Option<usize>, AllocError> {
+    let script = numbered(rt, "open", 2000)?;
+    let long: Run<'_> = (&SCRIPT, script.as_bytes(), "");
+    for &room in rooms {
+        if output_tries(rt, &long, room) != 1 {
+            return Ok(Some(room));
+        }
+    }
+    Ok(None)
+}
+
+#[test]
+fn an_output_that_fails_is_tried_once(rt: HostRuntime) -> Result<(), Fail> {
+    let opened: Run<'_> = (&SCRIPT, b"open 1\nopen 2\n", "");
+    assert!(rt; output_tries(&rt, &opened, 0) == 1);
+    assert!(rt; output_tries(&rt, &opened, 9) == 1);
+    assert!(rt; output_tries(&rt, &(&["tokend", "--help"], b"", ""), 0) == 1);
+    for room in 0..LINES.len() {
+        assert!(rt; output_tries(&rt, &EVENTS, room) == 1, "{room}");
+    }
+    let room = long_tries(&rt, &[0, 1, 8191, 8192, 8193, 20_000])?;
+    assert!(rt; room == None, "{}", room.unwrap_or(0));
+    Ok(())
+}
+
+// How often a standard error of so much room failed.
+fn faults_tries(rt: &HostRuntime, run: &Run<'_>, room: usize) -> u64 {
+    let (_, failures, _, _) = by_faults(rt, run, FailingWriter::new(rt, room), room);
+    failures
+}
+
+// Inputs that a device of a machine can be made of: here only how often standard error is tried.
+#[rattlefmt::skip]
+const OTHER_INPUTS: &[Input] = &[
+    ("at once", b"", ErrorKind::Other, CANNOT_READ),
+    ("in mid-stream", b"open 1\nopen 2\n", ErrorKind::Other, CANNOT_READ),
+    ("after a bad line", b"open 0\n", ErrorKind::BrokenPipe, CANNOT_READ),
+];
+
+#[test]
+fn a_standard_error_that_fails_is_tried_once(rt: HostRuntime) {
+    assert!(rt; faults_tries(&rt, &(&SCRIPT, b"open 0\n", ""), 0) == 1);
+    for run in REFUSALS {
+        for room in 0..run.2.len() {
+            assert!(rt; faults_tries(&rt, run, room) == 1, "{}: {room}", run.2);
+        }
+    }
+    for input in OTHER_INPUTS {
+        for room in 0..input.3.len() {
+            let (_, failures, _, _) = of_input(&rt, input, room);
+            assert!(rt; failures == 1, "{} at {room}", input.0);
         }
     }
 }

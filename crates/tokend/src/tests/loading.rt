@@ -1,4 +1,4 @@
-//! Old logs: what is taken in, what is dropped, and what is refused.
+//! Old logs that are refused or fail behind their last byte: what a region holds of them then.
 
 use super::fakes::FailingReader;
 use crate::load::{LoadFault, load};
@@ -6,7 +6,6 @@ use crate::script::{LIMIT, read_events};
 use std::alloc::Global;
 use std::io::{ErrorKind, Read};
 use std::test::Fail;
-use tk_bundle::read_front;
 use tk_edge::{Counted, Edge, Served};
 use tk_handle::{Moment, RegionNumber};
 use tk_message::Status;
@@ -24,7 +23,7 @@ req 1 1010 POST /token - - grant_type=authorization_code&code=AQEAAQAAAAAAAAADAA
 // What these requests are answered: four facts.
 const STATUSES: [Status; 4] = [Status::Created, Status::Created, Status::Found, Status::Ok];
 
-pub(super) fn new_region(alloc: Global, number: u16) -> Option<Region> {
+fn new_region(alloc: Global, number: u16) -> Option<Region> {
     let number = RegionNumber::new(number)?;
     let settings = Settings::new(60, 3_600, 86_400, 2_592_000, Settings::GREATEST_CAP)?;
     Some(Region::new(alloc, number, settings))
@@ -118,56 +117,15 @@ fn loaded(alloc: Global, number: u16, log: &[u8]) -> Option<(Result<u64, LoadFau
     loaded_by(alloc, number, &mut reader)
 }
 
-// How many records begin the log, up to five, how long the last of them is, and how many bytes stand behind it.
-fn records(alloc: Global, log: &[u8]) -> (u8, usize, usize) {
-    let (mut rest, mut last) = (log, 0);
-    for count in 0..5 {
-        let Ok((_, length)) = read_front(alloc, rest) else {
-            return (count, last, rest.len());
-        };
-        (_, rest) = rest.split_at(length);
-        last = length;
-    }
-    (5, last, rest.len())
-}
-
+// What `rows/` says of a log that is refused, but for what the region holds then.
 #[test]
-fn a_log_has_a_record_for_each_fact(rt: HostRuntime) -> Result<(), Fail> {
-    let log = log_of_requests(rt.alloc()).ok_or("a log")?;
-    assert!(rt; records(rt.alloc(), &log) == (4, 141, 0));
-    Ok(())
-}
-
-#[test]
-fn a_whole_log_brings_all_its_facts(rt: HostRuntime) -> Result<(), Fail> {
-    let log = log_of_requests(rt.alloc()).ok_or("a log")?;
-    assert!(rt; loaded(rt.alloc(), 2, &log) == Some((Ok(0), 4)));
-    assert!(rt; loaded(rt.alloc(), 2, b"") == Some((Ok(0), 0)));
-    Ok(())
-}
-
-#[test]
-fn what_a_cut_left_of_a_record_is_dropped(rt: HostRuntime) -> Result<(), Fail> {
-    let log = log_of_requests(rt.alloc()).ok_or("a log")?;
-    for cut in 1..=141usize {
-        let front = log.get(..log.len().saturating_sub(cut)).unwrap_or(b"");
-        let dropped = Some((Ok(141 - cut as u64), 3));
-        assert!(rt; loaded(rt.alloc(), 2, front) == dropped, "cut by {cut}");
-    }
-    Ok(())
-}
-
-#[test]
-fn a_log_of_something_else_is_refused(rt: HostRuntime) -> Result<(), Fail> {
+fn a_log_of_something_else_brings_what_stands_before(rt: HostRuntime) -> Result<(), Fail> {
     let alloc = rt.alloc();
     let mut log = log_of_requests(alloc).ok_or("a log")?;
     // The region's own facts, which it hasn't made.
     assert!(rt; loaded(alloc, 1, &log) == Some((Err(LoadFault::Bad), 0)));
-    // A byte behind the last record that begins none: dropped, since five more might.
-    log.push(b'x')?;
-    assert!(rt; loaded(alloc, 2, &log) == Some((Ok(1), 4)));
-    // Six of them begin none.
-    log.extend_from_slice(b"xxxxx")?;
+    // Six bytes behind the last record that begin none.
+    log.extend_from_slice(b"xxxxxx")?;
     assert!(rt; loaded(alloc, 2, &log) == Some((Err(LoadFault::Bad), 4)));
     if let Some(first) = log.first_mut() {
         *first = b'x';
