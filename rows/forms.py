@@ -6,12 +6,13 @@ import re
 HERE = os.path.dirname(os.path.abspath(__file__))
 SHARED = "beginnings.rows"
 ESCAPES = {"n": 10, "r": 13, "t": 9, "\\": 92}
-PIECE = re.compile(r"(?P<plain>[^\\]+)|\\(?P<one>[nrt\\])|\\x(?P<byte>[0-9a-f]{2})|\\\{(?P<text>[^{}]*)(?P<how>[*/])(?P<count>[1-9]\d{0,6})\}|\\(?P<any>\?)")
+PIECE = re.compile(r"(?P<plain>[^\\]+)|\\(?P<one>[nrt\\])|\\x(?P<byte>[0-9a-f]{2})|\\(?P<any>\?)"
+                   r"|\\\{(?P<text>[^{}]*)(?P<how>[*/])(?P<count>[1-9]\d{0,6})\}")
 NAME = re.compile(r"[A-Za-z0-9][A-Za-z0-9._-]*")
 COUNTED = re.compile(r"(?<!\\)\{(n: [^{}]*|[-+*/%() 0-9]*n[-+*/%() 0-9]*)\}")
 EVENT = re.compile(r"[A-Za-z]|[>\\] |[>\\]$")
 # What can be done to a row's standard input, and in the place of what an output takes.
-INPUTS, OUTPUTS = ("folder", "reset"), ("full", "shut")
+INPUTS, OUTPUTS = ("folder", "reset", "interrupted"), ("full", "shut")
 
 
 class Bad(Exception):
@@ -238,7 +239,9 @@ def read(part, lines, known):
             put(part, line, place, known)
         empty, was_answer = 0, is_answer
     if part.connections and not part.connections[-1][1]:
-        raise Bad("%s: nothing comes back of a connection of %s" % (part.place, part.name))
+        raise Bad("%s: no reply to the last connection of %s" % (part.place, part.name))
+    if part.connections and "1>" in part.devices:
+        raise Bad("%s: connections to a service whose port nobody is told" % part.devices["1>"][1])
     for sign, lines in ("1>", part.said()), ("2>", part.errors):
         how, place = part.devices.get(sign, (0, ""))
         if how not in OUTPUTS and how > sum(len(line) for line, _ in lines):
@@ -267,7 +270,7 @@ def rows_in(place, name, lines, known, tables):
     each = [(p, line[2:]) for p, line in lines if line.startswith("% ")]
     rest = [(p, line) for p, line in lines if not line.startswith("% ")]
     if len(each) > 1 or bool(each) != any("{it}" in line for _, line in rest):
-        raise Bad("%s: {it} in a row that isn't run for each of something, or what it is run for without {it}, or twice" % place)
+        raise Bad("%s: a row has one line of what it is run for where it has {it}, and else none" % place)
     if not each:
         return [read(Part(place, True, name), rest, known)]
     return [read(Part(place, True, "%s, %s" % (name, what)), [(p, line.replace("{it}", it)) for p, line in rest], known)
@@ -317,8 +320,8 @@ def parts_in(name, shared):
             rows += rows_in(place, text, lines, known, tables)
         elif sign == "||":
             tables[text] = Table(place, text, lines)
-        elif text in known:
-            raise Bad("%s: a second beginning %s" % (place, text))
+        elif text in known or any("{it}" in line for _, line in lines):
+            raise Bad("%s: a second beginning %s, or one with {it}" % (place, text))
         else:
             known[text] = read(Part(place, False, text), lines, known)
     own = {text: part for text, part in known.items() if text not in shared}

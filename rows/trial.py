@@ -1,13 +1,18 @@
 """trial: one run of a program for a row, with its files, its devices and its connections."""
+import array
 import contextlib
+import fcntl
 import os
 import re
 import resource
 import select
+import signal
 import socket
 import struct
 import subprocess
 import tempfile
+import termios
+import time
 
 SECONDS = 60
 LISTENING = re.compile(rb"^listening 127\.0\.0\.1:(\d+)\n", re.M)
@@ -36,6 +41,38 @@ def reset_behind(sent):
     client.setsockopt(socket.SOL_SOCKET, socket.SO_LINGER, struct.pack("ii", 1, 0))  # it closes by a reset
     client.close()
     return here.detach()
+
+
+def waiting(sent):
+    """A connection that gives these bytes, and its other end. A signal that stops the program while it waits interrupts the read."""
+    here, there = socket.socketpair()
+    there.sendall(sent)
+    here.setsockopt(socket.SOL_SOCKET, socket.SO_RCVTIMEO, struct.pack("ll", SECONDS, 0))  # without a limit the read goes on
+    return here.detach(), there
+
+
+def is_in(process, state):
+    """Whether the program comes into this state: `S`, it waits, or `T`, it was stopped."""
+    end = time.monotonic() + SECONDS
+    while time.monotonic() < end:
+        with open("/proc/%d/stat" % process.pid) as file:
+            now = file.read().rpartition(")")[2].split()[0]
+        if now in (state, "Z"):
+            return now == state
+        time.sleep(0.001)
+    return False
+
+
+def interrupt(process, here):
+    """Interrupts the read with which the program waits for more than it was given."""
+    unread, end = array.array("i", [1]), time.monotonic() + SECONDS
+    while unread[0] and process.poll() is None and time.monotonic() < end:
+        fcntl.ioctl(here, termios.FIONREAD, unread)
+        time.sleep(0.001)
+    if process.returncode is None and is_in(process, "S"):
+        process.send_signal(signal.SIGSTOP)
+        is_in(process, "T")
+        process.send_signal(signal.SIGCONT)
 
 
 def opened(how, row, room):
@@ -123,10 +160,17 @@ def run(program, words, row):
         for name, content in row.files.items():
             with open(os.path.join(room, name), "wb") as file:
                 file.write(content)
+        there = None
         for sign, (how, _) in row.devices.items():
-            ends[sign] = opened(how, row, room)
+            if how == "interrupted":
+                ends[sign], there = waiting(row.sent())
+            else:
+                ends[sign] = opened(how, row, room)
             stack.callback(os.close, ends[sign])
         with started(program, words, row, room, ends) as process:
+            if there:
+                interrupt(process, ends["0<"])
+                there.close()  # so that one that goes on comes to an end
             talk(process, row, ran)
         taken = {sign: os.pread(end, 1 << 20, 0) for sign, end in ends.items() if isinstance(row.devices[sign][0], int)}
         ran.output += taken.get("1>", b"")

@@ -14,7 +14,6 @@ type Input = (&'static str, &'static [u8], ErrorKind, &'static str);
 
 #[rattlefmt::skip]
 const INPUTS: &[Input] = &[
-    ("interrupted", b"open 1\n", ErrorKind::Interrupted, CANNOT_READ),
     ("for memory", b"open 1\n", ErrorKind::OutOfMemory, "tokend: memory\n"),
 ];
 
@@ -186,6 +185,7 @@ const OTHER_INPUTS: &[Input] = &[
     ("at once", b"", ErrorKind::Other, CANNOT_READ),
     ("in mid-stream", b"open 1\nopen 2\n", ErrorKind::Other, CANNOT_READ),
     ("after a bad line", b"open 0\n", ErrorKind::BrokenPipe, CANNOT_READ),
+    ("interrupted", b"open 1\n", ErrorKind::Interrupted, CANNOT_READ),
 ];
 
 #[test]
