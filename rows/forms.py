@@ -11,7 +11,7 @@ PIECE = re.compile(r"(?P<plain>[^\\]+)|\\(?P<one>[nrt\\])|\\x(?P<byte>[0-9a-f]{2
 NAME = re.compile(r"[A-Za-z0-9][A-Za-z0-9._-]*")
 COUNTED = re.compile(r"(?<!\\)\{(n: [^{}]*|[-+*/%() 0-9]*n[-+*/%() 0-9]*)\}")
 EVENT = re.compile(r"[A-Za-z]|[>\\] |[>\\]$")
-# What can be done to a row's standard input, and in the place of what an output takes.
+# What stands behind `0<`, and behind `1>` and `2>` where that is no number.
 INPUTS, OUTPUTS = ("folder", "reset", "interrupted"), ("full", "shut")
 
 
@@ -105,6 +105,14 @@ def is_between(line):
     return line.startswith(("  ", "#")) or not line.strip()
 
 
+def end_of(sign, lines, at):
+    """Where what comes several times ends, which begins at this line: an event and its answer, or all before a line **."""
+    stops = [k for k in range(at, len(lines)) if (lines[k][1] == "**" if sign == "**" else not is_between(lines[k][1]))]
+    if sign == "**":
+        return stops[0] if stops else None
+    return stops[1] if len(stops) > 1 else len(lines)
+
+
 def repeated(lines):
     """The lines, with those that come several times as often as they come."""
     out, at = [], 0
@@ -115,23 +123,13 @@ def repeated(lines):
         if sign not in ("*", "**"):
             out.append((place, line))
             continue
-        times, begin = number_in(text, 1, 10000, place), at
-        if sign == "**":
-            while at < len(lines) and lines[at][1] != "**":
-                at += 1
-            end, more = at, at + 1
-        else:
-            while at < len(lines) and is_between(lines[at][1]):
-                at += 1
-            at += 1
-            while at < len(lines) and is_between(lines[at][1]):
-                at += 1
-            end = more = at
-        body = lines[begin:end]
-        if more > len(lines) or not any(EVENT.match(l) for _, l in body) or not all(EVENT.match(l) or is_between(l) for _, l in body):
+        times, end = number_in(text, 1, 10000, place), end_of(sign, lines, at)
+        body = lines[at:end]
+        told = [l for _, l in body if l.strip() and not l.startswith("#")]
+        if end is None or not told or not EVENT.match(told[0]) or not all(EVENT.match(l) or l.startswith("  ") for l in told):
             raise Bad("%s: no event that comes %d times" % (place, times))
         out += [(p, counted(l, n, times, p)) for n in range(1, times + 1) for p, l in body]
-        at = more
+        at = end + 1 if sign == "**" else end
     return out
 
 
@@ -245,7 +243,7 @@ def read(part, lines, known):
     for sign, lines in ("1>", part.said()), ("2>", part.errors):
         how, place = part.devices.get(sign, (0, ""))
         if how not in OUTPUTS and how > sum(len(line) for line, _ in lines):
-            raise Bad("%s: %d bytes of fewer" % (place, how))
+            raise Bad("%s: fewer than %d bytes are said" % (place, how))
     return part
 
 
