@@ -12,7 +12,7 @@ NAME = re.compile(r"[A-Za-z0-9][A-Za-z0-9._-]*")
 COUNTED = re.compile(r"(?<!\\)\{(n: [^{}]*|[-+*/%() 0-9]*n[-+*/%() 0-9]*)\}")
 EVENT = re.compile(r"[A-Za-z]|[>\\] |[>\\]$")
 # What stands behind `0<`, and behind `1>` and `2>` where that is no number.
-INPUTS, OUTPUTS = ("folder", "reset", "interrupted"), ("full", "shut")
+INPUTS, OUTPUTS = ("folder", "reset", "interrupted"), ("full", "shut", "interrupted")
 
 
 class Bad(Exception):

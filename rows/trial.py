@@ -43,14 +43,6 @@ def reset_behind(sent):
     return here.detach()
 
 
-def waiting(sent):
-    """A connection that gives these bytes, and its other end. A signal that stops the program while it waits interrupts the read."""
-    here, there = socket.socketpair()
-    there.sendall(sent)
-    here.setsockopt(socket.SOL_SOCKET, socket.SO_RCVTIMEO, struct.pack("ll", SECONDS, 0))  # without a limit the read goes on
-    return here.detach(), there
-
-
 def is_in(process, state):
     """Whether the program comes into this state: `S`, it waits, or `T`, it was stopped."""
     end = time.monotonic() + SECONDS
@@ -63,16 +55,45 @@ def is_in(process, state):
     return False
 
 
-def interrupt(process, here):
-    """Interrupts the read with which the program waits for more than it was given."""
-    unread, end = array.array("i", [1]), time.monotonic() + SECONDS
-    while unread[0] and process.poll() is None and time.monotonic() < end:
-        fcntl.ioctl(here, termios.FIONREAD, unread)
-        time.sleep(0.001)
-    if process.returncode is None and is_in(process, "S"):
-        process.send_signal(signal.SIGSTOP)
-        is_in(process, "T")
-        process.send_signal(signal.SIGCONT)
+class Interrupted:
+    """A connection on which the program waits, as an input behind these bytes or as an output before its first byte."""
+
+    def __init__(self, sign, sent):
+        here, self.there = socket.socketpair()
+        # Only with a limit of time does a signal that stops the program interrupt it; without one it goes on.
+        for option in (socket.SO_RCVTIMEO, socket.SO_SNDTIMEO):
+            here.setsockopt(socket.SOL_SOCKET, option, struct.pack("ll", SECONDS, 0))
+        self.filled = 0
+        if sign == "0<":
+            self.there.sendall(sent)
+        while sign != "0<":
+            try:
+                self.filled += here.send(bytes(1024), socket.MSG_DONTWAIT)
+            except BlockingIOError:
+                break
+        self.here = here.detach()
+
+    def interrupt(self, process):
+        """Interrupts the program where it waits; an output takes all then, and an input ends."""
+        unread, end = array.array("i", [not self.filled]), time.monotonic() + SECONDS
+        while unread[0] and process.poll() is None and time.monotonic() < end:
+            fcntl.ioctl(self.here, termios.FIONREAD, unread)
+            time.sleep(0.001)
+        if process.returncode is None and is_in(process, "S"):
+            process.send_signal(signal.SIGSTOP)
+            is_in(process, "T")
+            process.send_signal(signal.SIGCONT)
+        if self.filled:
+            self.there.recv(self.filled, socket.MSG_WAITALL)
+        else:
+            self.there.close()
+
+    def taken(self):
+        """What came to an output, whose program has ended."""
+        try:
+            return self.there.recv(1 << 20, socket.MSG_DONTWAIT)
+        except BlockingIOError:
+            return b""
 
 
 def opened(how, row, room):
@@ -136,12 +157,12 @@ def answered(port, sent):
 
 
 def talk(process, row, ran):
-    """Makes the row's connections, sends it its events, and waits for its end."""
+    """Makes the row's connections, sends the program its events, and waits for its end."""
     if row.connections:
         wait_for_port(process, ran)
     if ran.port():
         ran.replies = [answered(int(ran.port()), sent) for sent, _ in row.connections]
-    sent = row.sent() if "0<" not in row.devices else None
+    sent = row.sent() if process.stdin else None
     try:
         output, errors = process.communicate(sent, SECONDS)
     except subprocess.TimeoutExpired:
@@ -153,26 +174,35 @@ def talk(process, row, ran):
     ran.status = process.returncode
 
 
+def interrupted(process, row, halts):
+    """Interrupts the program where it waits, with its events before it."""
+    if process.stdin:
+        with contextlib.suppress(BrokenPipeError):
+            process.stdin.write(row.sent())
+            process.stdin.close()
+        process.stdin = None
+    for halt in halts:
+        halt.interrupt(process)
+
+
 def run(program, words, row):
     """What comes of the row, run by the program with these words, in an empty folder but for the row's files."""
-    ran, ends = Ran(), {}
+    ran, ends, halts = Ran(), {}, {}
     with tempfile.TemporaryDirectory() as room, contextlib.ExitStack() as stack:
         for name, content in row.files.items():
             with open(os.path.join(room, name), "wb") as file:
                 file.write(content)
-        there = None
         for sign, (how, _) in row.devices.items():
             if how == "interrupted":
-                ends[sign], there = waiting(row.sent())
-            else:
-                ends[sign] = opened(how, row, room)
+                halts[sign] = Interrupted(sign, row.sent())
+            ends[sign] = halts[sign].here if sign in halts else opened(how, row, room)
             stack.callback(os.close, ends[sign])
         with started(program, words, row, room, ends) as process:
-            if there:
-                interrupt(process, ends["0<"])
-                there.close()  # so that one that goes on comes to an end
+            if halts:
+                interrupted(process, row, halts.values())
             talk(process, row, ran)
         taken = {sign: os.pread(end, 1 << 20, 0) for sign, end in ends.items() if isinstance(row.devices[sign][0], int)}
+        taken.update((sign, halt.taken()) for sign, halt in halts.items() if sign != "0<")
         ran.output += taken.get("1>", b"")
         ran.errors += taken.get("2>", b"")
         for name in row.afterwards:

@@ -1,6 +1,6 @@
-//! What no text and no device of a machine can say, which `rows/` says the rest of: inputs and outputs that are interrupted or
-//! fail in another way, how often one that failed is tried, what is printed of outcomes that no event has, and what a region
-//! holds whose old log was refused.
+//! What no text and no device of a machine can say; `rows/` says the rest. An output that is interrupted at any place, how often
+//! one that failed is tried, an input that wants memory, what is printed of outcomes that no event has, what a world answers no
+//! byte, and what a region holds whose old log was refused.
 mod devices;
 mod fakes;
 mod loading;

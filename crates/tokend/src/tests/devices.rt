@@ -103,13 +103,6 @@ fn an_output_that_is_interrupted_gets_all(rt: HostRuntime) {
     }
 }
 
-#[test]
-fn an_output_that_keeps_its_bytes_fails(rt: HostRuntime) {
-    let opened: Run<'_> = (&SCRIPT, b"open 1\n", "opened 1\n");
-    let ended = by_output(&rt, &opened, FailingWriter::stuck(&rt), 9);
-    assert!(rt; ended == (1, 0, true, true));
-}
-
 // What came of a refused run over this standard error, which should have so much.
 fn by_faults(rt: &HostRuntime, run: &Run<'_>, mut faults: FailingWriter, length: usize) -> Ended {
     let &(words, mut input, told) = run;

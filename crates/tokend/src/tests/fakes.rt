@@ -27,14 +27,13 @@ impl Read for FailingReader<'_> {
 }
 
 /// A writer that takes so many bytes, at most so many at a time, and then fails, where it's interrupted only once. It
-/// counts its failures. One that is stuck fails when it is to pass on what it took.
+/// counts its failures.
 #[derive(Drop)]
 pub struct FailingWriter {
     pub taken: Vec<u8>,
     room: usize,
     step: usize,
     kind: ErrorKind,
-    is_stuck: bool,
     pub failures: u64,
 }
 
@@ -46,7 +45,6 @@ impl FailingWriter {
             room,
             step: usize::MAX,
             kind: ErrorKind::BrokenPipe,
-            is_stuck: false,
             failures: 0,
         }
     }
@@ -55,13 +53,6 @@ impl FailingWriter {
     pub(super) fn interrupted(rt: &HostRuntime, place: usize) -> Self {
         let mut writer = Self::new(rt, place);
         (writer.step, writer.kind) = (1, ErrorKind::Interrupted);
-        writer
-    }
-
-    /// One that takes all, and fails when it is to pass it on.
-    pub(super) fn stuck(rt: &HostRuntime) -> Self {
-        let mut writer = Self::new(rt, usize::MAX);
-        writer.is_stuck = true;
         writer
     }
 }
@@ -82,9 +73,6 @@ impl Write for FailingWriter {
     }
 
     fn flush(&mut self) -> io::Result<()> {
-        if self.is_stuck {
-            return Err(io::Error::from(ErrorKind::BrokenPipe));
-        }
         Ok(())
     }
 }
