@@ -22,8 +22,6 @@ pub mod promises;
 mod script;
 mod serve;
 mod start;
-#[cfg(test)]
-mod tests;
 mod timed;
 
 use fault::Fault;
