@@ -10,7 +10,7 @@ use tk_bundle::{FrontError, read_front};
 use tk_region::{Region, TakeError};
 
 /// Why a log isn't loaded to its end. The facts of the bundles before stay.
-#[derive(Clone, Copy, PartialEq, Eq)]
+#[derive(Clone, Copy)]
 pub enum LoadFault {
     /// Something stands in it that is no bundle, or a bundle that the region refuses.
     Bad,
