@@ -126,9 +126,10 @@ def limited(row):
 
 def started(program, words, row, room, ends):
     """The program, begun. Where an output fails it is told so, and isn't ended by a signal."""
+    given = subprocess.PIPE if row.sent() else subprocess.DEVNULL
     with limited(row):
         return subprocess.Popen(["tokend"] + words, executable=os.path.abspath(program), cwd=room, restore_signals=not ends,
-                                stdin=ends.get("0<", subprocess.PIPE), stdout=ends.get("1>", subprocess.PIPE),
+                                stdin=ends.get("0<", given), stdout=ends.get("1>", subprocess.PIPE),
                                 stderr=ends.get("2>", subprocess.PIPE))
 
 
