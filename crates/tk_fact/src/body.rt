@@ -11,16 +11,15 @@
 //!    `body_short`; a fact has 8,192 bytes at most.
 //! 5. `specs/Check.antt`, `src/check.rt`: the rules that it keeps.
 //! 6. `specs/Tokens.antt`, `src/tokens.rt`: whether it mints tokens or uses one. Nothing asks for this row.
-//! 7. Tests, in tk_region, below `src/tests/bundle`: its bytes in `facts.rt`, where the refused kind 11 becomes 12, a builder in
-//!    `facts/bodies.rt`, and a row each in `built.rt` and `limits.rt` beside it. An edit in `must-fail/` for what it means.
+//! 7. Rows: its bytes in `rows/bytes_facts.rows`, at its limits, and one past each among the bytes of no fact, where the kind 11 becomes
+//!    12; `rows/bytes_made.rows` makes one. An edit in `must-fail/` for what it means.
 //! 8. tk_bundle: its number in `kind_of` of `src/version.rt`, and a row of `VERSIONS` there and of `versions` in
 //!    `specs/Versions.antt`. A build that doesn't know the kind finds each bundle with such a fact malformed.
 //! 9. tk_ledger: a row in `change_in` of `specs/Changes.antt` and `change_of` of `src/change.rt`, with what it changes in
 //!    the tables; a row each in `uses_agree` of `proofs/TokenLaws.antt`, `issues` of `proofs/StandingLaws.antt`, and for codes
 //!    and for refresh tokens in `grant_of` of `proofs/FamilyEnds.antt`. Where it is a link of a family or says of one that it
-//!    ends: `link_of`, `revoked_by`, `reuse_of` or `IsStopped` of `specs/Tokens.antt` with `tokens.rt`, `families.rt` and
-//!    `sign_outs.rt` in tk_region, below `src/tests/ledger/plain`, and `generation_of` of `specs/Status.antt` with `status.rt`
-//!    there. Where it makes or ends a client or a consent: `specs/Clients.antt` with `clients.rt` and `consents.rt` there. Those
+//!    ends: `link_of`, `revoked_by`, `reuse_of` or `IsStopped` of `specs/Tokens.antt`, and `generation_of` of `specs/Status.antt`. Where
+//!    it makes or ends a client or a consent: `specs/Clients.antt`. With each what says the same in tk_edge, `src/tests/ledger/plain.rt`. Those
 //!    of specs/ but `change_in` end in a row for the other kinds, so nothing asks for these rows.
 //! 10. The request that makes such facts: an `Endpoint` of tk_message with its reply, the decision in tk_authorize, tk_grant or
 //!     tk_query with its row in `decision_by` of tk_region, its path in tk_edge, and perhaps a line in tokend's

@@ -10,7 +10,7 @@ use tk_format::{Reader, Writer};
 
 /// What a client is (RFC 6749, 2.1; a resource client stands for a resource server that asks about tokens), with
 /// the SHA-256 digest of its secret where it has one.
-#[derive(Clone, Copy, Debug, PartialEq, Eq)]
+#[derive(Clone, Copy, PartialEq, Eq)]
 pub enum Sort {
     /// It can't keep a secret, and has none.
     Public,

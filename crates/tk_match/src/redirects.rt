@@ -154,7 +154,6 @@ impl Redirects {
     }
 }
 
-#[tactic(auto, using(crate::proofs::UriLists::bad_text))]
 fn read_each(alloc: Global, texts: &[&[u8]]) -> Result<Vec<Uri>, RedirectError>
     ensures ok { IfOk result (λ uris. uris.items ≡ map (λ x. x.now) texts.now) }
     ensures rule { OnOk result (list_all is_uri (map (λ x. x.now) texts.now) ≡ true) }

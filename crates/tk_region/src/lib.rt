@@ -20,6 +20,3 @@ pub use region::Region;
 pub use settings::Settings;
 pub use step::{Handled, Prepared};
 pub use take::TakeError;
-
-#[cfg(test)]
-mod tests;

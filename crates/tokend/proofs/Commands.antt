@@ -1,24 +1,21 @@
 -- Commands, option by option.
-use Rattle.std.proofs.Common.{◌≡◌, ap, codes, false, subst, sym, Result, Ok, Err, ◌∙◌}
+use Rattle.std.proofs.Common.{◌≡◌, ℕ, ◌+◌, ◌<◌, ◌++◌, ◌∷◌, [], List, get_or, length, map, take, append_assoc, ap, false, subst, sym, Result, Ok, Err, ◌∙◌}
+use Rattle.std.proofs.lemmas.Grind.{take_at_read}
+use Rattle.std.proofs.lemmas.List.{map-append}
 use Rattle.std.specs.Prelude.{IfOk, IsOkAnd}
-use Rattle.clap.specs.Words.{AddsSubcommand, App, app_of, with_rule, with_subcommand}
+use Rattle.clap.specs.Simple.{on_top}
+use Rattle.clap.specs.Words.{AddsSubcommand, App, Rule, app_of, with_rule, with_subcommand}
+use Rattle.tokend.specs.CommandLine.{with_rules}
 use Rattle.clap.specs.declared.builder.command.Command.{Command}
 use Rattle.clap.specs.declared.builder.command.Command.TheViews.{out-Command}
-use Rattle.tk_region.specs.SettingsFields.{greatest_code, greatest_access, greatest_refresh, greatest_family, greatest_cap}
-use Rattle.tokend.specs.CommandLine.{number_rule, with_setting_rules}
 
--- the five settings, one after the other
-pub five_rules : (start a b c d e : App) → a ≡ with_rule start (number_rule (codes "code") (codes "60") greatest_code)
-    → b ≡ with_rule a (number_rule (codes "access") (codes "3600") greatest_access)
-    → c ≡ with_rule b (number_rule (codes "refresh") (codes "86400") greatest_refresh)
-    → d ≡ with_rule c (number_rule (codes "family") (codes "2592000") greatest_family)
-    → e ≡ with_rule d (number_rule (codes "cap") (codes "9223372036854775806") greatest_cap)
-    → e ≡ with_setting_rules start
-five_rules start a b c d e is-a is-b is-c is-d is-e =
-    is-e ∙ ap (λ x. with_rule x (number_rule (codes "cap") (codes "9223372036854775806") greatest_cap))
-    (is-d ∙ ap (λ x. with_rule x (number_rule (codes "family") (codes "2592000") greatest_family))
-    (is-c ∙ ap (λ x. with_rule x (number_rule (codes "refresh") (codes "86400") greatest_refresh))
-    (is-b ∙ ap (λ x. with_rule x (number_rule (codes "access") (codes "3600") greatest_access)) is-a)))
+-- the rule of one choice more, behind those of the choices before it
+pub choice_more : {C : Type 0} (f : C → Rule) (start mid new : App) (xs : List C) (i : ℕ) (d : C) (made : Rule) → i < length xs
+    → mid ≡ with_rules start (map f (take i xs)) → new ≡ with_rule mid made → made ≡ f (get_or xs i d) → new ≡ with_rules start (map f (take (i + 1) xs))
+choice_more f start mid new xs i d made lt is-mid is-new is =
+    is-new ∙ ap (λ r. with_rule mid r) is ∙ ap (λ a. with_rule a (f (get_or xs i d))) is-mid
+    ∙ ap (λ rs. on_top (λ s. record s { rules = rs }) start) (append_assoc start.top.rules (map f (take i xs)) (f (get_or xs i d) ∷ []))
+    ∙ ap (with_rules start) (sym (map-append f (take i xs) (get_or xs i d ∷ [])) ∙ ap (map f) (sym (take_at_read xs i d lt).1))
 
 -- what is made is so, where it is made
 pub if_ok : {T E : Type 0} {P Q : T → Type 0} (r : Result T E) → ((x : T) → P x → Q x) → IfOk r P → IfOk r Q

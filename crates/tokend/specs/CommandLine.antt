@@ -1,11 +1,13 @@
 -- The command line, as clap's contracts see it.
-use Rattle.std.specs.Prelude.{◌≡◌, ℕ, ◌≤◌, List, [], ◌∷◌, Option, Some, IfSome, IfNone, String, codes, option_map, string_bytes, Bool, true, false}
+use Rattle.std.specs.Prelude.{◌≡◌, ℕ, ◌≤◌, List, [], ◌∷◌, ◌++◌, Option, Some, IfSome, IfNone, String, codes, option_map, string_bytes, Bool, true, false}
 use Rattle.std.specs.Str.Parse.{IsNumeral, digits_value, without_leading_plus}
-use Rattle.clap.specs.Words.{App, Row, Rule, Text, first_of, new_app, new_rule, one_of, with_rule, with_subcommand}
+use Rattle.clap.specs.Words.{App, Row, Rule, Text, first_of, new_app, new_rule, one_of, with_subcommand}
 use Rattle.clap.specs.Simple.{on_top}
 use Rattle.tk_region.specs.SettingsFields.{SettingsFields, greatest_code, greatest_access, greatest_refresh, greatest_family, greatest_cap}
 use Rattle.tk_handle.specs.Ranges.{greatest_region}
 use Rattle.clap.specs.declared.builder.value_parser.ValueParser.TheVariants as parser
+use Rattle.tokend.specs.declared.command_line.Takes.{Takes}
+use Rattle.tokend.specs.declared.command_line.Takes.TheVariants as takes
 use Rattle.tokend.specs.declared.options.Numbers.{Numbers}
 use Rattle.tokend.specs.declared.options.Service.{Service}
 
@@ -30,33 +32,46 @@ range_rule id least greatest is_wanted =
 abbrev pub file_rule : Text → Bool → Rule
 file_rule id is_wanted = record (new_rule id) { long = Some id; value_names = 1; required = is_wanted }
 
+-- an option of this name that takes this
+abbrev pub choice_rule : Text → Takes → Rule
+choice_rule id (takes.File is_wanted) = file_rule id is_wanted
+choice_rule id (takes.Range least greatest is_wanted) = range_rule id least greatest is_wanted
+choice_rule id (takes.Number greatest default) = number_rule id default.now greatest
+
+-- a command with these options behind its own
+abbrev pub with_rules : App → List Rule → App
+with_rules app rules = on_top (λ s. record s { rules = s.rules ++ rules }) app
+
 -- a life of each sort in seconds, and the serial cap: a minute, an hour, a day, thirty days, the greatest
-abbrev pub with_setting_rules : App → App
-with_setting_rules app =
-    with_rule (with_rule (with_rule (with_rule (with_rule app
-    (number_rule (codes "code") (codes "60") greatest_code))
-    (number_rule (codes "access") (codes "3600") greatest_access))
-    (number_rule (codes "refresh") (codes "86400") greatest_refresh))
-    (number_rule (codes "family") (codes "2592000") greatest_family))
-    (number_rule (codes "cap") (codes "9223372036854775806") greatest_cap)
+abbrev pub setting_rules : List Rule
+setting_rules =
+    number_rule (codes "code") (codes "60") greatest_code
+    ∷ number_rule (codes "access") (codes "3600") greatest_access
+    ∷ number_rule (codes "refresh") (codes "86400") greatest_refresh
+    ∷ number_rule (codes "family") (codes "2592000") greatest_family
+    ∷ number_rule (codes "cap") (codes "9223372036854775806") greatest_cap
+    ∷ []
 
 abbrev pub script_app : App
-script_app = with_setting_rules (new_app (codes "script"))
+script_app = with_rules (new_app (codes "script")) setting_rules
 
 abbrev pub loopback_app : App
-loopback_app = with_setting_rules (new_app (codes "loopback"))
+loopback_app = with_rules (new_app (codes "loopback")) setting_rules
 
--- the seed, which must be given; the log, and an old log
-abbrev pub with_file_rules : App → App
-with_file_rules app =
-    with_rule (with_rule (with_rule app (file_rule (codes "seed") true)) (file_rule (codes "log") false)) (file_rule (codes "load") false)
+-- of a service: the region's number and the port, which must be given; the seed, which must be too; the log, and an old log; and how
+-- many connections
+abbrev pub service_rules : List Rule
+service_rules =
+    range_rule (codes "region") 1 greatest_region true
+    ∷ range_rule (codes "port") 0 greatest_port true
+    ∷ file_rule (codes "seed") true
+    ∷ file_rule (codes "log") false
+    ∷ file_rule (codes "load") false
+    ∷ range_rule (codes "requests") 0 greatest_requests false
+    ∷ []
 
--- `serve`, with the region's number and the port, which must be given; the files, and how many connections
 abbrev pub serve_app : App
-serve_app = with_setting_rules (with_rule (with_file_rules (with_rule (with_rule (new_app (codes "serve"))
-    (range_rule (codes "region") 1 greatest_region true))
-    (range_rule (codes "port") 0 greatest_port true)))
-    (range_rule (codes "requests") 0 greatest_requests false))
+serve_app = with_rules (with_rules (new_app (codes "serve")) service_rules) setting_rules
 
 -- the program has a version, and wants a subcommand; of events there are these two
 abbrev pub events_app : App

@@ -19,7 +19,7 @@ const NEVER_WAITS: usize = 8192;
 
 /// What a connection's client sends, until the time is over: past that, a read fails.
 #[derive(Drop)]
-pub struct TimedSource<'a, C> {
+pub(crate) struct TimedSource<'a, C> {
     stream: &'a TcpStream,
     clock: &'a C,
     start: Instant,
@@ -32,7 +32,7 @@ pub struct TimedSource<'a, C> {
 impl<'a, C: Clock> TimedSource<'a, C> {
     /// A connection that was just accepted, of which no read has failed. It fails where the clock does, or the limit can't
     /// be set.
-    pub fn new(stream: &'a TcpStream, clock: &'a C) -> io::Result<TimedSource<'a, C>>
+    pub(crate) fn new(stream: &'a TcpStream, clock: &'a C) -> io::Result<TimedSource<'a, C>>
         ensures { IfOk result (λ source. source.failures ≡ 0) }
     {
         let start = Instant::now(clock)?;
@@ -103,7 +103,7 @@ impl<'a, C: Clock> Source for TimedSource<'a, C> {
 
 /// What is sent to a connection's client, until the same time is over: past that, a write fails.
 #[derive(Drop)]
-pub struct TimedSink<'a, C> {
+pub(crate) struct TimedSink<'a, C> {
     stream: &'a TcpStream,
     clock: &'a C,
     start: Instant,
@@ -114,7 +114,7 @@ pub struct TimedSink<'a, C> {
 
 impl<'a, C: Clock> TimedSink<'a, C> {
     /// The other side of the connection that `source` reads, of which no write has failed.
-    pub fn new(source: &TimedSource<'a, C>) -> TimedSink<'a, C>
+    pub(crate) fn new(source: &TimedSource<'a, C>) -> TimedSink<'a, C>
         ensures { result.failures ≡ 0 }
     {
         TimedSink {

@@ -1,0 +1,46 @@
+//! When what is said of the last tokens of a family ends.
+
+use super::facts::Token;
+use super::orders::{Both, Said, in_order, is_said};
+use super::{FAMILY, LAST_ACCESS, LAST_REFRESH, LIVE, OVER, PAST, USED, USED_REFRESH};
+use std::alloc::Global;
+
+// A row of a table, and its moment.
+type Ending = (&'static str, Token, u64, Said);
+
+// From its end on a token is past, and from the family's end on it is over.
+const ENDINGS: &[Ending] = &[
+    ("access", LAST_ACCESS, 4_609, LIVE),
+    ("access", LAST_ACCESS, 4_610, PAST),
+    ("refresh", LAST_REFRESH, 87_409, LIVE),
+    ("refresh", LAST_REFRESH, 87_410, PAST),
+    ("refresh", LAST_REFRESH, 89_999, PAST),
+    ("refresh", LAST_REFRESH, 90_000, OVER),
+    // It is past since 87,410, but was used: that is told first.
+    ("used", USED_REFRESH, 89_999, USED),
+    // The end of the family is told before its use.
+    ("used", USED_REFRESH, 90_000, OVER),
+    ("access", LAST_ACCESS, 253_402_300_799, OVER),
+];
+
+// The first row of which another thing is said.
+fn first_otherwise(both: &Both, rows: &[Ending]) -> Option<(&'static str, u64)> {
+    for (row, token, now, want) in rows {
+        if !is_said(both, *now, *token, *want) {
+            return Some((row, *now));
+        }
+    }
+    None
+}
+
+// The same, of a family.
+pub(super) fn ended_otherwise(alloc: Global) -> Option<(&'static str, u64)> {
+    match in_order(alloc, FAMILY, 0) {
+        Some(both) => {
+            let wrong = first_otherwise(&both, ENDINGS);
+            drop(both);
+            wrong
+        }
+        None => Some(("the facts", 0)),
+    }
+}

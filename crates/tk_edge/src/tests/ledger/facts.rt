@@ -1,0 +1,169 @@
+//! What facts say, their bytes, as they come from other regions, and the handles of the tokens that they mint.
+//!
+//! Clients have the scope `read write`; a code begins at 1,000 and ends at 1,060, its family at 90,000; its tokens begin
+//! at 1,010, the access token ends at 4,610 and the refresh token at 87,410.
+
+use std::alloc::Global;
+use tk_fact::Fact;
+use tk_handle::{Dot, Handle, Kind, RegionNumber, TokenId};
+
+/// A region and a serial.
+pub(super) type Place = (u16, u64);
+
+/// Where a token is minted, its kind, and its words.
+pub(super) type Token = (Place, Kind, u64);
+
+/// What a fact says. Pairs of words are those of an access token and of a refresh token.
+#[derive(Clone, Copy)]
+pub(super) enum Says {
+    ClientAdded,
+    ClientRetired(Place),
+    /// To the client, for the scope that is spelled so.
+    ConsentGiven(Place, &'static [u8]),
+    ConsentWithdrawn(Place),
+    /// With these words, to the client, by the consent.
+    CodeIssued(u64, Place, Place),
+    CodeRedeemed(Place, (u64, u64)),
+    /// Of what was minted there, to the tokens of the generation.
+    RefreshRotated(Place, u16, (u64, u64)),
+    /// By the client.
+    TokenRevoked(Token, Place),
+    ReuseSeen(Place, Kind),
+    /// By the subject that is spelled so, at the moment.
+    SubjectOut(&'static [u8], u64),
+}
+
+/// Where a fact stands, and what it says.
+pub(super) type Told = (Place, Says);
+
+pub(super) fn dot(place: Place) -> Option<Dot> {
+    let region = RegionNumber::new(place.0)?;
+    Dot::new(region, place.1)
+}
+
+/// A handle of the token, of the words of that number.
+pub(super) fn handle(token: Token) -> Option<Handle> {
+    let (place, kind, word) = token;
+    let dot = dot(place)?;
+    Some(Handle::mint(TokenId { dot, kind }, [word; 3]))
+}
+
+fn digest(token: Token) -> Option<[u8; 32]> {
+    Some(handle(token)?.digest())
+}
+
+// The bytes of a dot.
+fn spelled(place: Place) -> [u8; 10] {
+    let [high, low] = place.0.to_be_bytes();
+    let [a, b, c, d, e, f, g, h] = place.1.to_be_bytes();
+    [high, low, a, b, c, d, e, f, g, h]
+}
+
+fn joined(alloc: Global, parts: &[&[u8]]) -> Option<Vec<u8>> {
+    let mut joined = Vec::new(alloc);
+    for part in parts {
+        if joined.extend_from_slice(part).is_err() {
+            return None;
+        }
+    }
+    Some(joined)
+}
+
+pub(super) const ANN: &[u8] = b"\x00\x03ann";
+
+pub(super) const READ_WRITE: &[u8] = b"\x00\x0aread write";
+
+const ADDED: &[u8] = b"\x01\x00\x00\x0aread write\x01\x00\x16https://app.example/cb";
+
+// The moments of a code, and all behind them.
+const CODE_END: &[u8] = b"\x00\x00\x00\x00\x00\x00\x03\xe8\x00\x00\x00\x00\x00\x00\x04\x24\
+    \x00\x00\x00\x00\x00\x01\x5f\x90\x00\x03ann\x00\x0aread write\x00\x16https://app.example/cb\x00\x00";
+
+// The moments of tokens, with the scopes behind their ends.
+const START: &[u8] = b"\x00\x00\x00\x00\x00\x00\x03\xf2";
+
+const ACCESS_END: &[u8] = b"\x00\x00\x00\x00\x00\x00\x12\x02\x00\x0aread write";
+
+const REFRESH_END: &[u8] = b"\x00\x00\x00\x00\x00\x01\x55\x72\x00\x0aread write";
+
+fn issued(alloc: Global, at: Place, word: u64, by: (Place, Place)) -> Option<Vec<u8>> {
+    let digest = digest((at, Kind::Code, word))?;
+    let (at, client, consent) = (spelled(at), spelled(by.0), spelled(by.1));
+    joined(alloc, &[&at, b"\x05", &client, &consent, &digest, CODE_END])
+}
+
+// A fact of the kind of this number that uses what was minted at a dot, with what is behind the dot, for new tokens.
+fn minted(
+    alloc: Global,
+    at: Place,
+    number: &[u8],
+    (used, generation): (Place, &[u8]),
+    words: (u64, u64),
+) -> Option<Vec<u8>> {
+    let access = digest((at, Kind::Access, words.0))?;
+    let refresh = digest((at, Kind::Refresh, words.1))?;
+    let parts: [&[u8]; 9] = [
+        &spelled(at),
+        number,
+        &spelled(used),
+        generation,
+        START,
+        &access,
+        ACCESS_END,
+        &refresh,
+        REFRESH_END,
+    ];
+    joined(alloc, &parts)
+}
+
+fn revoked(alloc: Global, at: Place, token: Token, client: Place) -> Option<Vec<u8>> {
+    let digest = digest(token)?;
+    let (at, dot, client) = (spelled(at), spelled(token.0), spelled(client));
+    joined(
+        alloc,
+        &[&at, b"\x08", &dot, &[token.1.number()], &digest, &client],
+    )
+}
+
+// A fact whose number is followed by a dot, and then by what is behind it.
+fn naming(alloc: Global, at: Place, number: &[u8], named: Place, behind: &[u8]) -> Option<Vec<u8>> {
+    joined(alloc, &[&spelled(at), number, &spelled(named), behind])
+}
+
+fn given(alloc: Global, at: Place, client: Place, scope: &[u8]) -> Option<Vec<u8>> {
+    let (at, client) = (spelled(at), spelled(client));
+    joined(alloc, &[&at, b"\x03", &client, ANN, scope])
+}
+
+fn signed_out(alloc: Global, at: Place, subject: &[u8], moment: u64) -> Option<Vec<u8>> {
+    let (at, moment) = (spelled(at), moment.to_be_bytes());
+    joined(alloc, &[&at, b"\x0a", subject, &moment])
+}
+
+// The bytes of a fact.
+fn bytes_of(alloc: Global, told: &Told) -> Option<Vec<u8>> {
+    let (place, says) = *told;
+    match says {
+        Says::ClientAdded => joined(alloc, &[&spelled(place), ADDED]),
+        Says::ClientRetired(client) => naming(alloc, place, b"\x02", client, b""),
+        Says::ConsentGiven(client, scope) => given(alloc, place, client, scope),
+        Says::ConsentWithdrawn(consent) => naming(alloc, place, b"\x04", consent, b""),
+        Says::CodeIssued(word, client, consent) => issued(alloc, place, word, (client, consent)),
+        Says::CodeRedeemed(code, words) => minted(alloc, place, b"\x06", (code, b""), words),
+        Says::RefreshRotated(parent, generation, words) => {
+            let generation = generation.to_be_bytes();
+            minted(alloc, place, b"\x07", (parent, &generation), words)
+        }
+        Says::TokenRevoked(token, client) => revoked(alloc, place, token, client),
+        Says::ReuseSeen(token, kind) => naming(alloc, place, b"\x09", token, &[kind.number()]),
+        Says::SubjectOut(subject, moment) => signed_out(alloc, place, subject, moment),
+    }
+}
+
+/// The fact that is read from its bytes, where there is memory for it.
+pub(super) fn fact(alloc: Global, told: &Told) -> Option<Fact> {
+    match &bytes_of(alloc, told) {
+        Some(bytes) => Fact::read(alloc, bytes.as_slice()).ok(),
+        None => None,
+    }
+}

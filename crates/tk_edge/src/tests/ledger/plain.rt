@@ -1,0 +1,357 @@
+//! The ledger computed afresh: what docs/DEFINITIONS.md says, written down once more without a contract, by a walk over the facts of a
+//! store for each answer. It takes no memory. Tests compare the ledger with it.
+
+use std::alloc::Global;
+use tk_fact::{Body, ClientAdded, CodeIssued, ConsentGiven, Fact, Subject};
+use tk_handle::{Dot, Handle, Kind, Moment, TokenId};
+use tk_ledger::{ClientView, ConsentView, Standing, State, Status};
+use tk_scope::Scope;
+use tk_store::{AddError, Added, FactStore};
+
+// ---- clients and consents
+
+fn client_at(facts: &FactStore, at: Dot) -> Option<&ClientAdded> {
+    match &facts.get(at)?.body {
+        Body::ClientAdded(client) => Some(client),
+        _ => None,
+    }
+}
+
+// Whether a client was added at the dot and no retirement of it is held.
+fn is_live_client(facts: &FactStore, client: Dot) -> bool {
+    for fact in facts.facts() {
+        match &fact.body {
+            Body::ClientRetired(retired) if retired.client == client => return false,
+            _ => {}
+        }
+    }
+    client_at(facts, client).is_some()
+}
+
+fn consent_at(facts: &FactStore, at: Dot) -> Option<&ConsentGiven> {
+    match &facts.get(at)?.body {
+        Body::ConsentGiven(consent) => Some(consent),
+        _ => None,
+    }
+}
+
+fn is_withdrawn(facts: &FactStore, consent: Dot) -> bool {
+    for fact in facts.facts() {
+        match &fact.body {
+            Body::ConsentWithdrawn(withdrawn) if withdrawn.consent == consent => return true,
+            _ => {}
+        }
+    }
+    false
+}
+
+fn gives(consent: &ConsentGiven, client: Dot, subject: &Subject) -> bool {
+    consent.client == client && consent.subject.as_bytes() == subject.as_bytes()
+}
+
+// Whether the consent of a code is live.
+fn is_live_consent(facts: &FactStore, code: &CodeIssued) -> bool {
+    match consent_at(facts, code.consent) {
+        Some(consent) => {
+            gives(consent, code.client, &code.subject) && !is_withdrawn(facts, code.consent)
+        }
+        None => false,
+    }
+}
+
+// Whether the fact is a live consent of the client and subject for the scope.
+fn consents(facts: &FactStore, fact: &Fact, client: Dot, subject: &Subject, scope: &Scope) -> bool {
+    match &fact.body {
+        Body::ConsentGiven(consent) => {
+            gives(consent, client, subject)
+                && scope.within(&consent.scope)
+                && !is_withdrawn(facts, fact.dot)
+        }
+        _ => false,
+    }
+}
+
+// ---- families
+
+// Whether the fact at the dot is what the parent of a rotation of this generation is.
+fn is_parent(facts: &FactStore, at: Dot, generation: u16) -> bool {
+    match facts.get(at) {
+        Some(fact) => match &fact.body {
+            Body::CodeRedeemed(_) => generation == 1,
+            Body::RefreshRotated(before) => u32::from(before.generation) + 1
+                == u32::from(generation),
+            _ => false,
+        },
+        None => false,
+    }
+}
+
+fn issued_at(facts: &FactStore, at: Dot) -> Option<&CodeIssued> {
+    match &facts.get(at)?.body {
+        Body::CodeIssued(code) => Some(code),
+        _ => None,
+    }
+}
+
+// The fact above this one in its family.
+fn parent(facts: &FactStore, body: &Body) -> Option<Dot> {
+    match body {
+        Body::CodeRedeemed(fact) if issued_at(facts, fact.code).is_some() => Some(fact.code),
+        Body::RefreshRotated(fact) if is_parent(facts, fact.parent, fact.generation) => {
+            Some(fact.parent)
+        }
+        _ => None,
+    }
+}
+
+// The code that the tokens of the fact at the dot are under: at most 10,001 parents lead to it.
+fn code_above(facts: &FactStore, dot: Dot) -> Option<Dot> {
+    let mut at = dot;
+    for _ in 0..10_002 {
+        if issued_at(facts, at).is_some() {
+            return Some(at);
+        }
+        at = parent(facts, &facts.get(at)?.body)?;
+    }
+    None
+}
+
+fn uses(body: &Body, token: &TokenId) -> bool {
+    match body {
+        Body::CodeRedeemed(fact) => token.dot == fact.code && token.kind == Kind::Code,
+        Body::RefreshRotated(fact) => token.dot == fact.parent && token.kind == Kind::Refresh,
+        _ => false,
+    }
+}
+
+// How many facts use the token.
+fn uses_of(facts: &FactStore, token: &TokenId) -> u32 {
+    let mut count = 0_u32;
+    for fact in facts.facts() {
+        if uses(&fact.body, token) {
+            count = count.saturating_add(1);
+        }
+    }
+    count
+}
+
+fn is_reused(facts: &FactStore, token: &TokenId) -> bool {
+    for fact in facts.facts() {
+        match &fact.body {
+            Body::ReuseSeen(seen) if seen.token == *token => return true,
+            _ => {}
+        }
+    }
+    false
+}
+
+// Whether the client of the code that it is under revoked the token.
+fn is_ended(facts: &FactStore, token: &TokenId) -> Option<bool> {
+    let fact = facts.get(token.dot)?;
+    let code = issued_at(facts, code_above(facts, token.dot)?)?;
+    match fact.minted(token.kind) {
+        Some(minted) => Some(is_revoked(facts, token, minted.digest, code.client)),
+        None => None,
+    }
+}
+
+fn is_revoked(facts: &FactStore, token: &TokenId, digest: &[u8; 32], client: Dot) -> bool {
+    for fact in facts.facts() {
+        match &fact.body {
+            Body::TokenRevoked(revoked)
+                if revoked.token == *token
+                    && revoked.digest == *digest
+                    && revoked.client == client => {
+                return true;
+            }
+            _ => {}
+        }
+    }
+    false
+}
+
+// Whether the subject signed out at the moment, or later.
+fn is_out(facts: &FactStore, subject: &Subject, moment: Moment) -> bool {
+    for fact in facts.facts() {
+        match &fact.body {
+            Body::SubjectOut(out)
+                if out.subject.as_bytes() == subject.as_bytes()
+                    && moment.seconds() <= out.moment.seconds() => {
+                return true;
+            }
+            _ => {}
+        }
+    }
+    false
+}
+
+// The token of a fact whose marks and uses count: its code, or else its refresh token.
+fn grant_of(fact: &Fact) -> Option<TokenId> {
+    let kind = match &fact.body {
+        Body::CodeIssued(_) => Kind::Code,
+        Body::CodeRedeemed(_) | Body::RefreshRotated(_) => Kind::Refresh,
+        _ => return None,
+    };
+    Some(TokenId {
+        dot: fact.dot,
+        kind,
+    })
+}
+
+// Whether the grant was stopped: a refresh token that was revoked, a code whose subject signed out.
+fn is_stopped(facts: &FactStore, token: &TokenId) -> bool {
+    match issued_at(facts, token.dot) {
+        Some(code) => is_out(facts, &code.subject, code.start),
+        None => is_ended(facts, token) == Some(true),
+    }
+}
+
+// Whether the fact's grant was used again, stopped, or used by two facts.
+fn is_bad(facts: &FactStore, fact: &Fact) -> bool {
+    match grant_of(fact) {
+        Some(token) => {
+            is_reused(facts, &token) || is_stopped(facts, &token) || uses_of(facts, &token) > 1
+        }
+        None => false,
+    }
+}
+
+// Whether the family of the code is dead.
+fn is_dead(facts: &FactStore, code: Dot) -> bool {
+    for fact in facts.facts() {
+        if is_bad(facts, fact) && code_above(facts, fact.dot) == Some(code) {
+            return true;
+        }
+    }
+    false
+}
+
+// ---- the ledger
+
+/// A set of facts, walked for each answer.
+#[derive(Drop)]
+pub(super) struct PlainLedger {
+    store: FactStore,
+}
+
+ghost use Rattle.std.specs.Prelude.{◌≡◌, None};
+ghost use Rattle.tk_fact.specs.Check.{refusal_of};
+
+impl PlainLedger {
+    pub(super) fn new(alloc: Global) -> PlainLedger {
+        PlainLedger {
+            store: FactStore::new(alloc),
+        }
+    }
+
+    pub(super) fn add(&mut self, fact: Fact) -> Result<Added, AddError>
+        requires { refusal_of fact.1 ≡ None }
+    {
+        self.store.add(fact)
+    }
+
+    pub(super) fn client(&self, dot: Dot) -> Option<ClientView<'_>> {
+        let client = client_at(&self.store, dot)?;
+        Some(ClientView {
+            sort: &client.sort,
+            scope: &client.scope,
+            redirects: &client.redirects,
+            live: is_live_client(&self.store, dot),
+        })
+    }
+
+    pub(super) fn consent(&self, dot: Dot) -> Option<ConsentView<'_>> {
+        let consent = consent_at(&self.store, dot)?;
+        Some(ConsentView {
+            client: consent.client,
+            subject: &consent.subject,
+            scope: &consent.scope,
+            live: !is_withdrawn(&self.store, dot),
+        })
+    }
+
+    // The least dot of a live consent of the client and subject for the scope.
+    pub(super) fn consent_for(&self, client: Dot, subject: &Subject, scope: &Scope) -> Option<Dot> {
+        for fact in self.store.facts() {
+            if consents(&self.store, fact, client, subject, scope) {
+                return Some(fact.dot);
+            }
+        }
+        None
+    }
+
+    pub(super) fn revoked(&self, token: &TokenId, digest: &[u8; 32], client: Dot) -> bool {
+        is_revoked(&self.store, token, digest, client)
+    }
+
+    // Whether the subject signed out at the moment, or later.
+    pub(super) fn is_signed_out(&self, subject: &Subject, moment: Moment) -> bool {
+        is_out(&self.store, subject, moment)
+    }
+
+    // Where the token of a handle stands: the first case that holds.
+    pub(super) fn status(&self, now: Moment, handle: &Handle) -> Status<'_> {
+        let facts = &self.store;
+        let Some(fact) = facts.get(handle.id.dot) else {
+            return Status::Unseen;
+        };
+        let Some(minted) = fact.minted(handle.id.kind) else {
+            return Status::Wrong;
+        };
+        if *minted.digest != handle.digest() {
+            return Status::Wrong;
+        }
+        let Some(code) = code_above(facts, fact.dot) else {
+            return Status::Broken(minted.expiry);
+        };
+        let Some(issued) = issued_at(facts, code) else {
+            return Status::Broken(minted.expiry);
+        };
+        Status::Known(Standing {
+            client: issued.client,
+            subject: &issued.subject,
+            code,
+            scope: minted.scope,
+            start: minted.start,
+            expiry: minted.expiry,
+            family_end: issued.family_end,
+            generation: generation(&fact.body),
+            state: state(facts, now, &handle.id, minted.expiry, code, issued),
+        })
+    }
+}
+
+// How many rotations lie between the code and the tokens of the fact.
+fn generation(body: &Body) -> u16 {
+    match body {
+        Body::RefreshRotated(fact) => fact.generation,
+        _ => 0,
+    }
+}
+
+// The first state that holds.
+fn state(
+    facts: &FactStore,
+    now: Moment,
+    token: &TokenId,
+    expiry: Moment,
+    code: Dot,
+    issued: &CodeIssued,
+) -> State {
+    let is_access = token.kind == Kind::Access;
+    if is_dead(facts, code) {
+        State::Dead
+    } else if !(is_live_client(facts, issued.client) && is_live_consent(facts, issued)) {
+        State::Withdrawn
+    } else if issued.family_end.seconds() <= now.seconds() {
+        State::Over
+    } else if !is_access && uses_of(facts, token) > 0 {
+        State::Used
+    } else if expiry.seconds() <= now.seconds() {
+        State::Past
+    } else if is_access && is_ended(facts, token) == Some(true) {
+        State::Ended
+    } else {
+        State::Live
+    }
+}

@@ -1,0 +1,209 @@
+//! What no program calls: what a vector covers, how vectors and stores are joined and walked over, what is taken back, the text of a
+//! dot, and what a fact uses. All else of the crates below is in the rows of `rows/`.
+
+ghost use Rattle.std.specs.Prelude.{◌≡◌, None};
+ghost use Rattle.tk_fact.specs.Check.{refusal_of};
+
+use std::alloc::{AllocError, Global};
+use tk_fact::{Body, ClientRetired, Fact};
+use tk_handle::{Dot, Kind, RegionNumber, TokenId};
+use tk_store::{Added, FactStore};
+use tk_vector::{Join, VersionVector};
+
+// A region and a serial.
+type Place = (u16, u64);
+
+fn dot((region, serial): Place) -> Option<Dot> {
+    Dot::new(RegionNumber::new(region)?, serial)
+}
+
+fn place(dot: Dot) -> Place {
+    (dot.region().number(), dot.serial())
+}
+
+// ---- vectors
+
+// The entries of the regions 1 and 2.
+fn entries(vector: &VersionVector) -> Option<(u64, u64)> {
+    let one = RegionNumber::new(1)?;
+    let two = RegionNumber::new(2)?;
+    Some((vector.get(one), vector.get(two)))
+}
+
+// Both entries, whether 2:8 is covered, and whether 2:9 is.
+fn told(vector: &VersionVector) -> Option<(u64, u64, bool, bool)> {
+    let (first, second) = entries(vector)?;
+    let (last, next) = (dot((2, 8))?, dot((2, 9))?);
+    Some((first, second, vector.covers(last), vector.covers(next)))
+}
+
+// The same of the first one once it is joined with the other; none where that isn't below it then.
+fn joined(vector: &mut VersionVector, other: &VersionVector) -> Option<(u64, u64, bool, bool)> {
+    match vector.join_from(other) {
+        Ok(()) if other.below(vector) => told(vector),
+        _ => None,
+    }
+}
+
+fn joined_text(alloc: Global, vector: &mut VersionVector) -> Option<(u64, u64, bool, bool)> {
+    match &VersionVector::read_text(alloc, b"1:3,2:7") {
+        Ok(other) => joined(vector, other),
+        Err(_) => None,
+    }
+}
+
+fn joined_texts(alloc: Global) -> Option<(u64, u64, bool, bool)> {
+    match &mut VersionVector::read_text(alloc, b"1:2,2:8") {
+        Ok(vector) => joined_text(alloc, vector),
+        Err(_) => None,
+    }
+}
+
+#[test]
+fn two_vectors_are_joined(rt: HostRuntime) {
+    assert!(rt; joined_texts(rt.alloc()) == Some((3, 8, true, false)));
+}
+
+fn lower(vector: &mut VersionVector) -> Option<(u64, u64)> {
+    vector.lower(RegionNumber::new(2)?, 3);
+    entries(vector)
+}
+
+fn lowered(alloc: Global) -> Option<(u64, u64)> {
+    match &mut VersionVector::read_text(alloc, b"1:5,2:7") {
+        Ok(vector) => lower(vector),
+        Err(_) => None,
+    }
+}
+
+#[test]
+fn an_entry_is_lowered(rt: HostRuntime) {
+    assert!(rt; lowered(rt.alloc()) == Some((5, 3)));
+}
+
+// ---- stores
+
+fn retirement(at: Dot) -> Fact
+    ensures { refusal_of result.1 ≡ None }
+{
+    Fact {
+        dot: at,
+        body: Body::ClientRetired(ClientRetired { client: at }),
+    }
+}
+
+// Adds retirements at the places, which differ, in this order.
+fn add_each(store: &mut FactStore, places: &[Place]) -> bool {
+    for at in places {
+        if add(store, *at) != Some(true) {
+            return false;
+        }
+    }
+    true
+}
+
+fn add(store: &mut FactStore, at: Place) -> Option<bool> {
+    let at = dot(at)?;
+    Some(store.add(retirement(at)) == Ok(Added::New))
+}
+
+fn walks(store: &FactStore, places: &[Place]) -> bool {
+    let mut facts = store.facts();
+    for at in places {
+        match facts.next() {
+            Some(fact) if place(fact.dot) == *at => {}
+            _ => return false,
+        }
+    }
+    facts.next().is_none()
+}
+
+// Whether there is a fact to be taken back.
+fn take_back(store: &mut FactStore, at: Dot) -> bool {
+    match store.take_back(at) {
+        Some(fact) => {
+            let is_there = fact.dot == at;
+            drop(fact);
+            is_there
+        }
+        None => false,
+    }
+}
+
+// The same of 1:3, and the front of region 1 before and after it.
+fn taken_back(store: &mut FactStore) -> Option<(u64, bool, u64)> {
+    let at = dot((1, 3))?;
+    let before = store.vector().get(at.region());
+    let is_there = take_back(store, at);
+    Some((before, is_there, store.vector().get(at.region())))
+}
+
+// The same once the other facts are joined; none where these aren't below the whole then, or a walk over it isn't as it is to be.
+fn join(store: &mut FactStore, other: &FactStore) -> Option<(u64, bool, u64)> {
+    match store.join_from(other) {
+        Ok(()) if other.below(store) && walks(store, &[(1, 1), (1, 2), (1, 3), (2, 1)]) => {
+            taken_back(store)
+        }
+        _ => None,
+    }
+}
+
+fn joined_stores(alloc: Global) -> Option<(u64, bool, u64)> {
+    let mut store = FactStore::new(alloc);
+    let mut other = FactStore::new(alloc);
+    if add_each(&mut store, &[(1, 2)]) && add_each(&mut other, &[(2, 1), (1, 3), (1, 1)]) {
+        join(&mut store, &other)
+    } else {
+        None
+    }
+}
+
+#[test]
+fn two_stores_are_joined_and_a_fact_is_taken_back(rt: HostRuntime) {
+    assert!(rt; joined_stores(rt.alloc()) == Some((3, true, 2)));
+}
+
+// ---- dots and facts
+
+// Whether the text was written, and not refused memory, and is this one.
+fn is_written(written: Result<String, AllocError>, text: &str) -> bool {
+    match written {
+        Ok(written) => written.as_str() == text,
+        Err(_) => false,
+    }
+}
+
+fn has_text(alloc: Global) -> Option<bool> {
+    let dot = dot((20, 300))?;
+    Some(is_written(format!(in alloc; "{dot}"), "20:300"))
+}
+
+#[test]
+fn a_dot_has_a_text(rt: HostRuntime) {
+    assert!(rt; has_text(rt.alloc()) == Some(true));
+}
+
+// The redemption of the code of 1:4.
+const REDEEMED_CODE: &[u8] =
+    b"\x00\x01\x00\x00\x00\x00\x00\x00\x00\x05\x06\x00\x01\x00\x00\x00\x00\x00\x00\x00\x04\x00\x00\x00\x00\x00\x00\x03\xf20123456789abcdef0123456789abcdef\x00\x00\x00\x00\x00\x00\x05\x1e\x00\x04readfedcba9876543210fedcba9876543210\x00\x00\x00\x00\x00\x00#(\x00\x04read";
+
+fn used(alloc: Global) -> Option<TokenId> {
+    match Fact::read(alloc, REDEEMED_CODE) {
+        Ok(fact) => {
+            let used = fact.uses();
+            drop(fact);
+            used
+        }
+        Err(_) => None,
+    }
+}
+
+fn is_code_used(alloc: Global) -> Option<bool> {
+    let (dot, kind) = (dot((1, 4))?, Kind::Code);
+    Some(used(alloc) == Some(TokenId { dot, kind }))
+}
+
+#[test]
+fn a_fact_uses_a_code(rt: HostRuntime) {
+    assert!(rt; is_code_used(rt.alloc()) == Some(true));
+}
