@@ -1,5 +1,5 @@
-//! What no program calls: what a vector covers, how vectors and stores are joined and walked over, what is taken back, the text of a
-//! dot, and what a fact uses. All else of the crates below is in the rows of `rows/`.
+//! What no program calls: what a vector covers, how vectors, stores and ledgers are joined and stores walked over, what is taken back, another
+//! body at a dot (a region asks before it adds), the text of a dot, and what a fact uses. All else of the crates below is in the rows of `rows/`.
 
 ghost use Rattle.std.specs.Prelude.{◌≡◌, None};
 ghost use Rattle.tk_fact.specs.Check.{refusal_of};
@@ -7,7 +7,8 @@ ghost use Rattle.tk_fact.specs.Check.{refusal_of};
 use std::alloc::{AllocError, Global};
 use tk_fact::{Body, ClientRetired, Fact};
 use tk_handle::{Dot, Kind, RegionNumber, TokenId};
-use tk_store::{Added, FactStore};
+use tk_ledger::Ledger;
+use tk_store::{AddError, Added, FactStore};
 use tk_vector::{Join, VersionVector};
 
 // A region and a serial.
@@ -83,12 +84,12 @@ fn an_entry_is_lowered(rt: HostRuntime) {
 
 // ---- stores
 
-fn retirement(at: Dot) -> Fact
+fn retirement(at: Dot, client: Dot) -> Fact
     ensures { refusal_of result.1 ≡ None }
 {
     Fact {
         dot: at,
-        body: Body::ClientRetired(ClientRetired { client: at }),
+        body: Body::ClientRetired(ClientRetired { client }),
     }
 }
 
@@ -104,7 +105,7 @@ fn add_each(store: &mut FactStore, places: &[Place]) -> bool {
 
 fn add(store: &mut FactStore, at: Place) -> Option<bool> {
     let at = dot(at)?;
-    Some(store.add(retirement(at)) == Ok(Added::New))
+    Some(store.add(retirement(at, at)) == Ok(Added::New))
 }
 
 fn walks(store: &FactStore, places: &[Place]) -> bool {
@@ -161,6 +162,49 @@ fn joined_stores(alloc: Global) -> Option<(u64, bool, u64)> {
 #[test]
 fn two_stores_are_joined_and_a_fact_is_taken_back(rt: HostRuntime) {
     assert!(rt; joined_stores(rt.alloc()) == Some((3, true, 2)));
+}
+
+type Ends = Result<Added, AddError>;
+
+// How the addition of 1:2 ends, and then those of the same body, and of another one.
+fn added(store: &mut FactStore) -> Option<[Ends; 3]> {
+    let (at, other) = (dot((1, 2))?, dot((9, 9))?);
+    let first = store.add(retirement(at, at));
+    let same = store.add(retirement(at, at));
+    Some([first, same, store.add(retirement(at, other))])
+}
+
+#[test]
+fn a_dot_has_one_body(rt: HostRuntime) {
+    let ends = added(&mut FactStore::new(rt.alloc()));
+    assert!(rt; ends == Some([Ok(Added::New), Ok(Added::Held), Err(AddError::Conflict)]));
+}
+
+// ---- ledgers
+
+// Whether a ledger of a fact at the one dot is joined with one of a fact at the other.
+fn are_joined(ledger: &mut Ledger, other: &mut Ledger, one: Dot, two: Dot) -> bool {
+    ledger.add(retirement(one, one)) == Ok(Added::New)
+        && other.add(retirement(two, one)) == Ok(Added::New)
+        && ledger.join_from(other) == Ok(())
+        && other.below(ledger)
+        && !ledger.below(other)
+        && ledger.store().len() == 2
+}
+
+fn joined_ledgers(alloc: Global) -> Option<bool> {
+    let (one, two) = (dot((1, 1))?, dot((2, 1))?);
+    let mut ledger = Ledger::new(alloc);
+    let mut other = Ledger::new(alloc);
+    let are_joined = are_joined(&mut ledger, &mut other, one, two);
+    drop(ledger);
+    drop(other);
+    Some(are_joined)
+}
+
+#[test]
+fn two_ledgers_are_joined(rt: HostRuntime) {
+    assert!(rt; joined_ledgers(rt.alloc()) == Some(true));
 }
 
 // ---- dots and facts
