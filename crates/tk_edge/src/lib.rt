@@ -6,7 +6,7 @@
 //! In reading order:
 //!
 //! - [`Source`] and [`Sink`], what bytes come from and go to, by what they hold and how often they failed; [`Counted`] makes
-//!   them of std's readers and writers, [`Discard`] takes all, [`FrailSource`] and [`FrailSink`] fail when they are told to;
+//!   them of std's readers and writers, [`Discard`] takes all;
 //! - `head`, `field`, `body`: what is read of a request;
 //! - [`Path`] and `judge`: what a head asks for, or the [`Refusal`] of it, by ordered cases;
 //! - [`Arrival`], what a stream comes to: [`Heard`], whoever sent it, or an [`Exchange`] between regions; `answer`, what it is
@@ -25,7 +25,6 @@ mod device;
 mod edge;
 mod exchange;
 mod field;
-mod frail;
 mod given;
 mod head;
 mod hear;
@@ -44,7 +43,6 @@ pub use counted::Counted;
 pub use device::{Failed, Sink, Source};
 pub use edge::{Edge, Served};
 pub use exchange::{Exchange, Sent};
-pub use frail::{Fails, FrailSink, FrailSource};
 pub use hear::{Arrival, Heard};
 pub use laws::{hears_all, one_meaning};
 pub use path::Path;

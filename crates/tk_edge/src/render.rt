@@ -154,7 +154,6 @@ fn assembled<'a>(
 }
 
 // The pieces in order, with room for so many bytes at first.
-#[tactic(auto, using(crate::proofs::PieceLaws::concat_take_more))]
 fn joined(alloc: Global, room: usize, pieces: &[&[u8]]) -> Result<Vec<u8>, AllocError>
     ensures { IfOk result (λ bytes. bytes.items ≡ concat (map (λ p. p.now) pieces.now)) }
 {

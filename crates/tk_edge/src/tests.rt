@@ -1,6 +1,7 @@
 //! What no row of `rows/` can show: connections over devices that fail at each of their calls, in `serving`; and of the crates below, which
 //! have no tests, regions and ledgers to which memory is refused, ledgers beside a plain one, and in `uncalled` what no program calls.
 
+mod frail;
 mod ledger;
 mod region;
 mod serving;

@@ -1,7 +1,8 @@
 //! Connections over memory that fails: what each device holds then, and what the edge.
 
+use super::frail::{Fails, FrailSink, FrailSource};
 use super::new_edge;
-use crate::{Discard, Edge, Fails, Fault, FrailSink, FrailSource, Served, Sink, Source};
+use crate::{Discard, Edge, Fault, Served, Sink, Source};
 use std::alloc::Global;
 use tk_handle::Moment;
 use tk_message::Status;

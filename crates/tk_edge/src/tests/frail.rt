@@ -1,9 +1,9 @@
-//! A source and a sink in memory that fail when they are told to, for tests.
+//! A source and a sink in memory that fail when they are told to.
 
 ghost use Rattle.std.specs.Prelude.{◌≡◌, ◌<◌, ◌≤◌, []};
 ghost use Rattle.tk_edge.specs.Failures.{one_more};
 
-use crate::device::{Failed, Sink, Source};
+use crate::{Failed, Sink, Source};
 use std::alloc::Global;
 
 /// Which calls of a device fail, by their numbers from 0.

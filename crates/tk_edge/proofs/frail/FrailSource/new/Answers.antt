@@ -1,5 +1,0 @@
-use Rattle.std.proofs.Common.{rules}
-use Rattle.tk_edge.proofs.frail.FrailSource.new.Goals as goal
-
-pub returns-clause-given : goal.returns-clause-given
-returns-clause-given c = search rules
