@@ -1,4 +1,4 @@
-use Rattle.std.proofs.Common.{subst}
+use Rattle.std.proofs.Common.{subst, rules}
 use Rattle.tk_edge.specs.EdgeFields.{EdgeFields}
 use Rattle.tk_edge.specs.Served.{IsServed}
 use Rattle.tk_edge.specs.Told.{Change}
@@ -12,3 +12,6 @@ returns-clause-served g c = λ unsealed.
     subst (λ (e : EdgeFields). IsServed (record { sync = e.sync; known = known; now = c.args.now; words = c.args.words.now })
     (record { before = e.region; after = c.serve_arrival.new.region }) log writer c.serve_arrival.new.sealed c.serve_arrival.result) c.self.view_is
     (c.serve_arrival.ensures.served c.self.inside.sync known c.in_ok-came.ensures.came)
+
+pub returns-then-self-clause-untouched : goal.returns-then-self-clause-untouched
+returns-then-self-clause-untouched g c = search rules
