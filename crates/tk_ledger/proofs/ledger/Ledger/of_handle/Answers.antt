@@ -1,4 +1,4 @@
-use Rattle.std.proofs.Common.{◌≡◌, ap, sym, ◌∙◌, Some}
+use Rattle.std.proofs.Common.{◌≡◌, ap, sym, ◌∙◌, Some, rules}
 use Rattle.std.specs.Option.{option_copied, option_map}
 use Rattle.std.specs.FinMap as map
 use Rattle.tk_handle.specs.declared.dot.Dot.{Dot}
@@ -15,3 +15,6 @@ returns-clause-value c =
     (found_body c.args.handle.now.id.dot (map.get c.args.self.now c.args.handle.now.id.dot) c.in-Some.fact.now (sym (ap option_copied c.in-Some.is) ∙ c.look.ensures.value) ∙ ap (λ (b : Body). Some b) (sym body))
     (ap (λ (b : Body). with_digest (digest_of c.args.handle.now) (minted_of b c.args.handle.now.id.kind)) body ∙ sym c.minted_as.ensures ∙ ap (option_map shown_minted) c.in-Some-minted_as.is)
     c.top-top.ensures.value
+
+pub returns-in_default-clause-at_least : goal.returns-in_default-clause-at_least
+returns-in_default-clause-at_least c = search rules
