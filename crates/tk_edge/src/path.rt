@@ -7,7 +7,7 @@ ghost use Rattle.tk_edge.specs.Paths as spec;
 use tk_message::Endpoint;
 
 /// What is served under a path.
-#[derive(Clone, Copy, Debug, PartialEq, Eq)]
+#[derive(Clone, Copy)]
 pub enum Path {
     /// `/authorize` (RFC 6749, 3.1).
     Authorize,
@@ -197,7 +197,7 @@ impl Path {
     }
 
     /// Its methods, as `Allow` names them (RFC 9110, 10.2.1).
-    pub fn allowed(self) -> &'static [u8]
+    pub(crate) fn allowed(self) -> &'static [u8]
         ensures { result.now ≡ spec.allowed_at self }
     {
         match self {

@@ -8,7 +8,7 @@ use crate::path::Path;
 use tk_message::ErrorCode;
 
 /// Why a request isn't handed to its region, in the order in which it is asked.
-#[derive(Clone, Copy, Debug, PartialEq, Eq)]
+#[derive(Clone, Copy)]
 pub enum Refusal {
     /// The log has failed, and no fact may be made any more (own).
     Sealed,
@@ -34,7 +34,7 @@ pub enum Refusal {
 
 impl Refusal {
     /// What it is called in the reply.
-    pub fn code(self) -> ErrorCode
+    pub(crate) fn code(self) -> ErrorCode
         ensures { result ≡ spec.code_of self }
     {
         match self {
@@ -48,7 +48,7 @@ impl Refusal {
     }
 
     /// The methods that the reply names.
-    pub fn allowed(self) -> Option<&'static [u8]>
+    pub(crate) fn allowed(self) -> Option<&'static [u8]>
         ensures { option_copied result ≡ spec.allowed_by self }
     {
         match self {

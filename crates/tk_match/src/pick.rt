@@ -9,7 +9,7 @@ ghost use Rattle.tk_match.specs.Redirects.{is_uri};
 use crate::uri::Uri;
 
 /// Which registered URI a request means (RFC 6749, 3.1.2.3).
-#[derive(Clone, Copy, PartialEq, Eq)]
+#[derive(Clone, Copy)]
 pub enum Pick<'a> {
     /// The registered URI that was sent, or the only one where none was.
     Uri(&'a [u8]),

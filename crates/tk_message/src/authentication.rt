@@ -3,7 +3,7 @@
 use tk_handle::Dot;
 
 /// Whom credentials prove.
-#[derive(Clone, Copy, PartialEq, Eq)]
+#[derive(Clone, Copy)]
 pub enum Auth {
     /// The live client that was added at the dot.
     Client(Dot),

@@ -4,7 +4,7 @@ use tk_handle::Dot;
 
 /// Who sends a request to the token, introspection or revocation endpoint: the cases that these share, in the order in which
 /// they are asked.
-#[derive(Clone, Copy, PartialEq, Eq)]
+#[derive(Clone, Copy)]
 pub enum Caller {
     /// A parameter that is known there occurs twice (RFC 6749, 3.2).
     DuplicateParameter,

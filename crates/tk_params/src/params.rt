@@ -19,7 +19,7 @@ impl Model for Params {
 }
 
 /// What stands under a name.
-#[derive(Clone, Copy, PartialEq, Eq)]
+#[derive(Clone, Copy)]
 pub enum One<'a> {
     /// Nothing.
     Absent,

@@ -3,7 +3,7 @@
 use std::marker::Model;
 
 /// The lives of what is issued, in seconds, and the serial cap, up to which a region makes facts (own).
-#[derive(Clone, Copy, Debug, PartialEq, Eq)]
+#[derive(Clone, Copy)]
 pub struct Settings {
     code: u64,
     access: u64,

@@ -53,7 +53,7 @@ impl Fault {
 
 /// Tells a fault on `faults`, in a line of its own: a fault of the words as clap does, and an output that failed by the
 /// status alone. Where the writer fails, it has the beginning of the line.
-pub fn tell<E: Write>(faults: &mut E, fault: &Fault) -> io::Result<()>
+pub(crate) fn tell<E: Write>(faults: &mut E, fault: &Fault) -> io::Result<()>
     ensures { IfSome (fault_text fault.now) (Prints result (E.contents faults.old) (E.contents faults.new)) }
 {
     match fault {

@@ -22,7 +22,11 @@ pub enum LoadFault {
 
 /// Takes in the bundles of a log in order, and answers how many bytes at its end were dropped: the beginning of a record
 /// that was cut. The log is read whole first.
-pub fn load<I: Read>(alloc: Global, region: &mut Region, reader: &mut I) -> Result<u64, LoadFault>
+pub(crate) fn load<I: Read>(
+    alloc: Global,
+    region: &mut Region,
+    reader: &mut I,
+) -> Result<u64, LoadFault>
     // Where the reader doesn't tell its bytes, this holds of some log.
     ensures { (log : List ℕ) × IfSome (I.remaining reader.old) (λ bytes. log ≡ bytes) × Loads region.old log result region.new }
 {

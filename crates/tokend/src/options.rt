@@ -67,7 +67,7 @@ pub struct Service {
 
 /// What the words ask for, the first of them being the program's name. An error is a mistake in the words, a
 /// request for help or the version, or want of memory, as its kind says.
-pub fn options<'a, S: AsStr>(alloc: Global, words: &'a [S]) -> Result<Task, Error>
+pub(crate) fn options<'a, S: AsStr>(alloc: Global, words: &'a [S]) -> Result<Task, Error>
     ensures task { IfOk result (Asks (map S.text words.entry.now)) }
     ensures refused { IfErr result (λ e. (kind_of e ≡ kind.OutOfMemory) ⊎ IsRefusalOf (map S.text words.entry.now) (kind_of e)) }
 {

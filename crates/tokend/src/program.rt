@@ -32,7 +32,7 @@ use tk_world::{Event, Outcome, Settings, World, print_outcomes};
 /// Does what the words ask for, the first of them being the program's name, and gives the exit status: 0 done,
 /// 1 memory or a device, 2 bad words or a bad script. A fault is told on `faults`, whose own failures are ignored.
 /// The output is written in small pieces and flushed at the end.
-pub fn run_program<R, S: AsStr, I: Read, O: Write, E: Write>(
+pub(crate) fn run_program<R, S: AsStr, I: Read, O: Write, E: Write>(
     rt: &R,
     words: &[S],
     input: &mut I,

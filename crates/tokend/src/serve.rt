@@ -199,7 +199,7 @@ fn put_and_flush<O: Write>(output: &mut O, pieces: &[&[u8]]) -> io::Result<()>
 /// Serves the connections of a listener, one after the other: so many of them, or without end. Six words are drawn for
 /// each before it is read. A fault is told in a line on `faults`, whose own failures are ignored; an accept or a clock
 /// that fails counts as a connection that wasn't read.
-pub fn serve_on<R: AllocGlobal + Clock, L: Sink, E: Write>(
+pub(crate) fn serve_on<R: AllocGlobal + Clock, L: Sink, E: Write>(
     rt: &R,
     listener: &TcpListener,
     requests: Option<u64>,

@@ -1,5 +1,0 @@
-use Rattle.std.proofs.Common.{rules}
-use Rattle.tk_edge.proofs.refusal.Refusal.code.Goals as goal
-
-pub returns-in-TooLarge : goal.returns-in-TooLarge
-returns-in-TooLarge c = search rules

@@ -1,0 +1,5 @@
+use Rattle.std.proofs.Common.{rules}
+use Rattle.tk_ledger.proofs.ledger.Ledger.agrees.Goals as goal
+
+pub returns : goal.returns
+returns c = search rules
