@@ -2,18 +2,17 @@
 
 ghost use Rattle.std.specs.Prelude.{◌≡◌, IfOk};
 ghost use Rattle.tk_store.specs.Store.{facts_of};
-ghost use Rattle.tk_message.specs.Decision.{Passes};
+ghost use Rattle.tk_message.specs.Decision.{answered, Passes};
+ghost use Rattle.tk_message.specs.Reply.{subject_reply};
 ghost use Rattle.tk_authorize.specs.Administration as spec;
 ghost use Rattle.tk_authorize.specs.SoundAdministered.{IsSoundAdministered};
 
 use crate::administered::{Administered, ShownClient, administer};
 use std::alloc::{AllocError, Global};
-use tk_fact::{Body, ClientAdded, ClientRetired, ConsentGiven, ConsentWithdrawn, SubjectOut};
+use tk_fact::{Body, ClientAdded, ClientRetired, ConsentGiven, ConsentWithdrawn, Subject, SubjectOut};
 use tk_handle::{Dot, Moment};
 use tk_ledger::Ledger;
-use tk_message::{
-    Decision, Place, Request, Status, client_reply, consent_reply, shown_reply, subject_reply,
-};
+use tk_message::{Decision, Place, Request, Status, Told};
 
 /// What an administration request is answered at a moment, and the fact that it makes: clients added, shown and retired,
 /// consents given and withdrawn, subjects signed out everywhere (own). A request to another endpoint is `not_found`. An
@@ -50,7 +49,7 @@ fn decide_by(
         Administered::Retires(client, live) => decide_retired(alloc, client, live),
         Administered::Consents(consent) => decide_consented(alloc, place, consent),
         Administered::Withdraws(consent, live) => decide_withdrawn(alloc, consent, live),
-        Administered::AlreadyOut(subject) => Ok(Decision::answer(subject_reply(alloc, &subject)?)),
+        Administered::AlreadyOut(subject) => decide_already_out(alloc, &subject),
         Administered::SignsOut(sign_out) => decide_out(alloc, sign_out),
     }
 }
@@ -64,7 +63,7 @@ fn decide_registered(
     ensures value { IfOk result (λ d. d ≡ spec.decided_registered place.now client) }
     ensures passes { IfOk result (λ d. Passes d.made) }
 {
-    let reply = client_reply(alloc, Status::Created, place.next_dot())?;
+    let reply = Told::Client(Status::Created, place.next_dot()).reply(alloc)?;
     Ok(Decision {
         reply,
         made: Some(Body::ClientAdded(client)),
@@ -74,15 +73,15 @@ fn decide_registered(
 fn decide_shown(alloc: Global, shown: &ShownClient) -> Result<Decision, AllocError>
     ensures { IfOk result (λ d. d ≡ spec.decided_shown shown.now) }
 {
-    let reply = shown_reply(alloc, shown.client, &shown.sort, shown.live, &shown.scope)?;
-    Ok(Decision::answer(reply))
+    let told = Told::Shown(shown.client, &shown.sort, shown.live, &shown.scope);
+    Ok(Decision::answer(told.reply(alloc)?))
 }
 
 fn decide_retired(alloc: Global, client: Dot, live: bool) -> Result<Decision, AllocError>
     ensures value { IfOk result (λ d. d ≡ spec.decided_retired client live) }
     ensures passes { IfOk result (λ d. Passes d.made) }
 {
-    let reply = client_reply(alloc, Status::Ok, client)?;
+    let reply = Told::Client(Status::Ok, client).reply(alloc)?;
     let made = if live {
         Some(Body::ClientRetired(ClientRetired { client }))
     } else {
@@ -100,7 +99,7 @@ fn decide_consented(
     ensures value { IfOk result (λ d. d ≡ spec.decided_consented place.now consent) }
     ensures passes { IfOk result (λ d. Passes d.made) }
 {
-    let reply = consent_reply(alloc, Status::Created, place.next_dot())?;
+    let reply = Told::Consent(Status::Created, place.next_dot()).reply(alloc)?;
     Ok(Decision {
         reply,
         made: Some(Body::ConsentGiven(consent)),
@@ -111,7 +110,7 @@ fn decide_withdrawn(alloc: Global, consent: Dot, live: bool) -> Result<Decision,
     ensures value { IfOk result (λ d. d ≡ spec.decided_withdrawn consent live) }
     ensures passes { IfOk result (λ d. Passes d.made) }
 {
-    let reply = consent_reply(alloc, Status::Ok, consent)?;
+    let reply = Told::Consent(Status::Ok, consent).reply(alloc)?;
     let made = if live {
         Some(Body::ConsentWithdrawn(ConsentWithdrawn { consent }))
     } else {
@@ -120,12 +119,19 @@ fn decide_withdrawn(alloc: Global, consent: Dot, live: bool) -> Result<Decision,
     Ok(Decision { reply, made })
 }
 
+fn decide_already_out(alloc: Global, subject: &Subject) -> Result<Decision, AllocError>
+    ensures { IfOk result (λ d. d ≡ answered (subject_reply subject.now)) }
+{
+    let reply = Told::Subject(subject).reply(alloc)?;
+    Ok(Decision::answer(reply))
+}
+
 fn decide_out(alloc: Global, sign_out: SubjectOut) -> Result<Decision, AllocError>
     requires { IsSoundAdministered (Administered.SignsOut sign_out) }
     ensures value { IfOk result (λ d. d ≡ spec.decided_out sign_out) }
     ensures passes { IfOk result (λ d. Passes d.made) }
 {
-    let reply = subject_reply(alloc, &sign_out.subject)?;
+    let reply = Told::Subject(&sign_out.subject).reply(alloc)?;
     Ok(Decision {
         reply,
         made: Some(Body::SubjectOut(sign_out)),

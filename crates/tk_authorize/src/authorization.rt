@@ -67,19 +67,34 @@ fn decide_by(
             Ok(Decision::answer(reply?))
         }
         Judged::Approved(target, approval) => {
-            let code = code_handle(place.next_dot(), words);
-            let Ok(reply) = code_reply(alloc, &target.uri, &code, state) else {
-                drop(target);
-                drop(approval);
-                return Err(AllocError);
-            };
-            let fact = code_issued(place, now, &code, target, approval);
-            Ok(Decision {
-                reply,
-                made: Some(Body::CodeIssued(fact)),
-            })
+            decide_approved(alloc, place, now, words, state, target, approval)
         }
     }
+}
+
+fn decide_approved(
+    alloc: Global,
+    place: &Place,
+    now: Moment,
+    words: &[u64; 6],
+    state: Option<&str>,
+    target: Target,
+    approval: Approval,
+) -> Result<Decision, AllocError>
+    ensures value { IfOk result (λ d. d ≡ spec.decided_by place.now now words.now (option_copied state.entry) (Judged.Approved target approval)) }
+    ensures passes { IfOk result (λ d. Passes d.made) }
+{
+    let code = code_handle(place.next_dot(), words);
+    let Ok(reply) = code_reply(alloc, &target.uri, &code, state) else {
+        drop(target);
+        drop(approval);
+        return Err(AllocError);
+    };
+    let fact = code_issued(place, now, &code, target, approval);
+    Ok(Decision {
+        reply,
+        made: Some(Body::CodeIssued(fact)),
+    })
 }
 
 fn code_handle(next: Dot, words: &[u64; 6]) -> Handle

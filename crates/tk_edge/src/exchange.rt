@@ -38,7 +38,7 @@ use crate::answer::{Answer, answer_with};
 use crate::pull::read_wanted;
 use std::alloc::{AllocError, Global};
 use tk_format::ReadError;
-use tk_message::{ErrorCode, Reply, bytes_reply, error_reply, taken_reply};
+use tk_message::{ErrorCode, Reply, Told, bytes_reply, error_reply};
 use tk_region::{Region, TakeError};
 
 impl Sent {
@@ -112,7 +112,7 @@ fn taken_answer(alloc: Global, taken: Result<u16, TakeError>) -> Result<Reply, A
     ensures { IfOk result (spec.IsTakenReply taken) }
 {
     match taken {
-        Ok(count) => taken_reply(alloc, count),
+        Ok(count) => Told::Taken(count).reply(alloc),
         Err(TakeError::Malformed) => error_reply(alloc, ErrorCode::Malformed),
         Err(TakeError::OwnNumber) => error_reply(alloc, ErrorCode::OwnNumber),
         Err(TakeError::Conflict) => error_reply(alloc, ErrorCode::Conflict),

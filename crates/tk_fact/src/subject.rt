@@ -86,16 +86,16 @@ impl Subject {
         self.text.as_bytes()
     }
 
-    /// The same subject, in memory of its own; an error where memory is refused.
-    pub fn copy(&self, alloc: Global) -> Result<Subject, AllocError>
+    // The same subject, in memory of its own; an error where memory is refused.
+    pub(crate) fn copy(&self, alloc: Global) -> Result<Subject, AllocError>
         ensures { IfOk result (λ subject. subject ≡ self.now) }
     {
         let text = String::from_str(alloc, self.as_str())?;
         Ok(Subject { text })
     }
 
-    /// Whether both have the same name.
-    pub fn same(&self, other: &Subject) -> bool
+    // Whether both have the same name.
+    pub(crate) fn same(&self, other: &Subject) -> bool
         ensures { IsTrue result ↔ (self.now ≡ other.now) }
     {
         self.as_str() == other.as_str()

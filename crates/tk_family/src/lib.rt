@@ -4,9 +4,8 @@
 //! defined over the links and marks of a set, given by their look-ups, so that one text serves every way to keep them.
 //! Links may come from anyone, in any order: what a link names may be missing, or not fit, and rotations may form a ring.
 //!
-//! `named`, `fits` and `rank` are functions of links, for the walk from a token to its code; `used` and `grant` tell which
-//! tokens a link uses and mints. `Forest` keeps links and marks so that no look-up walks, and `Steps` counts its look-ups.
-//! The other functions are laws, with empty bodies.
+//! `Forest` keeps links and marks so that no look-up walks, and `Steps` counts its look-ups. The functions are laws, with empty
+//! bodies.
 //!
 //! A forest has a row for each dot. `look` reads rows, and `write` writes them; `gather` finds what hangs below a dot,
 //! `put` puts a link by these, `mark` marks a token, and `find` answers. What the rows keep is `IsForest` of
@@ -39,6 +38,6 @@ pub use laws::{
     chain_length, death_stays, one_code, rank_falls, twice_stays, under_stays, walk_ends,
     walk_finds,
 };
-pub use link::{Link, fits, grant, named, rank, used};
+pub use link::Link;
 pub use steps::Steps;
 pub use top::Top;

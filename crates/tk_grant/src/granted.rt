@@ -11,7 +11,7 @@ use std::alloc::{AllocError, Global};
 use tk_fact::{Body, CodeRedeemed, MintedToken, RefreshRotated, ReuseSeen};
 use tk_handle::{Dot, Handle, Kind, Moment, TokenId};
 use tk_ledger::Ledger;
-use tk_message::{Decision, ErrorCode, Place, Reply, Request, error_reply, token_reply};
+use tk_message::{Decision, ErrorCode, Place, Reply, Request, Told, error_reply};
 
 /// What a token request is answered, and the fact that it makes, at the place's dot: a code was redeemed, a refresh token
 /// rotated, or a reuse of one seen (RFC 6749, 4.1.3, 4.1.4, 5, 6 and 10.4; RFC 7636, 4.5 and 4.6). The access token takes the
@@ -53,38 +53,65 @@ fn decide_by(
                 made: Some(Body::ReuseSeen(ReuseSeen { token })),
             })
         }
-        Judged::Redeems(grant) => {
-            let reply = reply_for(alloc, place, now, words, &grant)?;
-            let code = grant.from;
-            let (access, refresh) = tokens(place, now, words, grant);
-            let fact = CodeRedeemed {
-                code,
-                start: now,
-                access,
-                refresh,
-            };
-            Ok(Decision {
-                reply,
-                made: Some(Body::CodeRedeemed(fact)),
-            })
-        }
+        Judged::Redeems(grant) => decide_redeemed(alloc, place, now, words, grant),
         Judged::Rotates(generation, grant) => {
-            let reply = reply_for(alloc, place, now, words, &grant)?;
-            let parent = grant.from;
-            let (access, refresh) = tokens(place, now, words, grant);
-            let fact = RefreshRotated {
-                parent,
-                generation,
-                start: now,
-                access,
-                refresh,
-            };
-            Ok(Decision {
-                reply,
-                made: Some(Body::RefreshRotated(fact)),
-            })
+            decide_rotated(alloc, place, now, words, generation, grant)
         }
     }
+}
+
+fn decide_redeemed(
+    alloc: Global,
+    place: &Place,
+    now: Moment,
+    words: &[u64; 6],
+    grant: Grant,
+) -> Result<Decision, AllocError>
+    requires { IsSoundJudged now (Judged.Redeems grant) }
+    ensures value { IfOk result (λ d. d ≡ spec.granted_by place.now now words.now (Judged.Redeems grant)) }
+    ensures passes { IfOk result (λ d. Passes d.made) }
+{
+    let reply = reply_for(alloc, place, now, words, &grant)?;
+    let code = grant.from;
+    let (access, refresh) = tokens(place, now, words, grant);
+    let fact = CodeRedeemed {
+        code,
+        start: now,
+        access,
+        refresh,
+    };
+    Ok(Decision {
+        reply,
+        made: Some(Body::CodeRedeemed(fact)),
+    })
+}
+
+fn decide_rotated(
+    alloc: Global,
+    place: &Place,
+    now: Moment,
+    words: &[u64; 6],
+    generation: u16,
+    grant: Grant,
+) -> Result<Decision, AllocError>
+    requires { IsSoundJudged now (Judged.Rotates generation grant) }
+    ensures value { IfOk result (λ d. d ≡ spec.granted_by place.now now words.now (Judged.Rotates generation grant)) }
+    ensures passes { IfOk result (λ d. Passes d.made) }
+{
+    let reply = reply_for(alloc, place, now, words, &grant)?;
+    let parent = grant.from;
+    let (access, refresh) = tokens(place, now, words, grant);
+    let fact = RefreshRotated {
+        parent,
+        generation,
+        start: now,
+        access,
+        refresh,
+    };
+    Ok(Decision {
+        reply,
+        made: Some(Body::RefreshRotated(fact)),
+    })
 }
 
 // Both tokens, as the fact has them.
@@ -129,7 +156,7 @@ fn reply_for(
     let lifetime = end.seconds() - now.seconds();
     let access = access_handle(next, words);
     let refresh = refresh_handle(next, words);
-    token_reply(alloc, &access, lifetime, &refresh, &grant.access)
+    Told::Tokens(&access, lifetime, &refresh, &grant.access).reply(alloc)
 }
 
 fn access_handle(next: Dot, words: &[u64; 6]) -> Handle

@@ -29,9 +29,9 @@ impl Kind {
         }
     }
 
-    /// Takes a kind from the front, None where the byte there is no kind's number. What the reader has left then is not
-    /// said.
-    pub fn read(reader: &mut Reader<'_>) -> Option<Kind>
+    // Takes a kind from the front, None where the byte there is no kind's number. What the reader has left then is not
+    // said.
+    pub(crate) fn read(reader: &mut Reader<'_>) -> Option<Kind>
         ensures { Reads (λ k. k) kind result reader.old reader.new }
     {
         match reader.take_u8()? {

@@ -8,6 +8,7 @@
 --   Bodies           the JSON bodies of replies, as values
 --   ReplyFields      what contracts see of a reply
 --   Reply            json_reply and the replies of each kind
+--   Told             the reply to each of what a request may be told in JSON
 --   Decision         answered, refused; Passes, that the fact made passes its check
 --   Place            next_in, where the next fact stands
 pub mod Authentication
@@ -21,6 +22,7 @@ pub mod ReplyFields
 pub mod RequestFields
 pub mod ScopeAsked
 pub mod Status
+pub mod Told
 pub use Rattle.tk_fact.specs.Check
 pub use Rattle.tk_handle.specs.ClientId
 pub use Rattle.tk_handle.specs.ConsentId

@@ -8,6 +8,7 @@ ghost use Rattle.tk_message.specs.Bodies as spec;
 use serde_json::{Map, Value, put};
 use std::alloc::{AllocError, Global};
 use tk_fact::Sort;
+use tk_ledger::Standing;
 
 pub(crate) fn error_body(alloc: Global, name: &str) -> Result<Value, AllocError>
     ensures { IfOk result (λ body. view body ≡ spec.error_body name.now) }
@@ -137,39 +138,33 @@ pub(crate) fn token_body(
 pub(crate) fn access_body(
     alloc: Global,
     client: &str,
-    expiry: u64,
-    start: u64,
-    scope: &str,
-    subject: &str,
+    standing: &Standing<'_>,
 ) -> Result<Value, AllocError>
     ensures { IfOk result (λ body. view body ≡ object (member (codes "active") (boolean true)
         (member (codes "client_id") (string client.now)
-        (member (codes "exp") (number (unsigned expiry))
-        (member (codes "iat") (number (unsigned start))
-        (member (codes "scope") (string scope.now)
-        (member (codes "sub") (string subject.now)
+        (member (codes "exp") (number (unsigned standing.now.expiry))
+        (member (codes "iat") (number (unsigned standing.now.start))
+        (member (codes "scope") (string standing.now.scope)
+        (member (codes "sub") (string standing.now.subject)
         (member (codes "token_type") (string (codes "Bearer")) no_members)))))))) }
 {
-    let members = active_members(alloc, client, expiry, start, scope, subject)?;
+    let members = active_members(alloc, client, standing)?;
     object_with(alloc, members, "token_type", "Bearer")
 }
 
 pub(crate) fn refresh_body(
     alloc: Global,
     client: &str,
-    expiry: u64,
-    start: u64,
-    scope: &str,
-    subject: &str,
+    standing: &Standing<'_>,
 ) -> Result<Value, AllocError>
     ensures { IfOk result (λ body. view body ≡ object (member (codes "active") (boolean true)
         (member (codes "client_id") (string client.now)
-        (member (codes "exp") (number (unsigned expiry))
-        (member (codes "iat") (number (unsigned start))
-        (member (codes "scope") (string scope.now)
-        (member (codes "sub") (string subject.now) no_members))))))) }
+        (member (codes "exp") (number (unsigned standing.now.expiry))
+        (member (codes "iat") (number (unsigned standing.now.start))
+        (member (codes "scope") (string standing.now.scope)
+        (member (codes "sub") (string standing.now.subject) no_members))))))) }
 {
-    let members = active_members(alloc, client, expiry, start, scope, subject)?;
+    let members = active_members(alloc, client, standing)?;
     Ok(Value::Object(members))
 }
 
@@ -177,24 +172,21 @@ pub(crate) fn refresh_body(
 fn active_members(
     alloc: Global,
     client: &str,
-    expiry: u64,
-    start: u64,
-    scope: &str,
-    subject: &str,
+    standing: &Standing<'_>,
 ) -> Result<Map<String, Value>, AllocError>
     ensures { IfOk result (λ all. members_view all.entries ≡ member (codes "active") (boolean true)
         (member (codes "client_id") (string client.now)
-        (member (codes "exp") (number (unsigned expiry))
-        (member (codes "iat") (number (unsigned start))
-        (member (codes "scope") (string scope.now)
-        (member (codes "sub") (string subject.now) no_members)))))) }
+        (member (codes "exp") (number (unsigned standing.now.expiry))
+        (member (codes "iat") (number (unsigned standing.now.start))
+        (member (codes "scope") (string standing.now.scope)
+        (member (codes "sub") (string standing.now.subject) no_members)))))) }
 {
     let members = with(alloc, Map::new(alloc), "active", Value::from(true))?;
     let members = with_text(alloc, members, "client_id", client)?;
-    let members = with(alloc, members, "exp", Value::from(expiry))?;
-    let members = with(alloc, members, "iat", Value::from(start))?;
-    let members = with_text(alloc, members, "scope", scope)?;
-    with_text(alloc, members, "sub", subject)
+    let members = with(alloc, members, "exp", Value::from(standing.expiry.seconds()))?;
+    let members = with(alloc, members, "iat", Value::from(standing.start.seconds()))?;
+    let members = with_text(alloc, members, "scope", standing.scope.text())?;
+    with_text(alloc, members, "sub", standing.subject.as_str())
 }
 
 pub(crate) fn inactive_body(alloc: Global) -> Result<Value, AllocError>

@@ -52,7 +52,8 @@ use crate::error_code::ErrorCode;
 use serde_json::Value;
 use std::alloc::{AllocError, Global};
 use tk_fact::{Sort, Subject};
-use tk_handle::{Dot, Handle, Moment, client_text, consent_text};
+use tk_handle::{Dot, Handle, client_text, consent_text};
+use tk_ledger::Standing;
 use tk_match::reply_uri;
 use tk_scope::Scope;
 
@@ -64,8 +65,8 @@ pub fn error_reply(alloc: Global, code: ErrorCode) -> Result<Reply, AllocError>
     told(alloc, code.status(), body)
 }
 
-/// The id of the client that was added at the dot (own).
-pub fn client_reply(alloc: Global, status: Status, client: Dot) -> Result<Reply, AllocError>
+// The id of the client that was added at the dot (own).
+pub(crate) fn client_reply(alloc: Global, status: Status, client: Dot) -> Result<Reply, AllocError>
     ensures { IfOk result (λ reply. reply ≡ spec.client_reply status client) }
 {
     let id = client_text(alloc, client)?;
@@ -73,8 +74,8 @@ pub fn client_reply(alloc: Global, status: Status, client: Dot) -> Result<Reply,
     told(alloc, status, body)
 }
 
-/// What is known of the client that was added at the dot (own).
-pub fn shown_reply(
+// What is known of the client that was added at the dot (own).
+pub(crate) fn shown_reply(
     alloc: Global,
     client: Dot,
     sort: &Sort,
@@ -116,8 +117,8 @@ fn asks_credentials(status: Status) -> bool
     matches!(status, Status::Unauthorized)
 }
 
-/// The id of the consent that was given at the dot (own).
-pub fn consent_reply(alloc: Global, status: Status, consent: Dot) -> Result<Reply, AllocError>
+// The id of the consent that was given at the dot (own).
+pub(crate) fn consent_reply(alloc: Global, status: Status, consent: Dot) -> Result<Reply, AllocError>
     ensures { IfOk result (λ reply. reply ≡ spec.consent_reply status consent) }
 {
     let id = consent_text(alloc, consent)?;
@@ -125,16 +126,16 @@ pub fn consent_reply(alloc: Global, status: Status, consent: Dot) -> Result<Repl
     told(alloc, status, body)
 }
 
-/// The subject that was signed out (own).
-pub fn subject_reply(alloc: Global, subject: &Subject) -> Result<Reply, AllocError>
+// The subject that was signed out (own).
+pub(crate) fn subject_reply(alloc: Global, subject: &Subject) -> Result<Reply, AllocError>
     ensures { IfOk result (λ reply. reply ≡ spec.subject_reply subject.now) }
 {
     let body = subject_body(alloc, subject.as_str())?;
     told(alloc, Status::Ok, body)
 }
 
-/// An access token that lasts so many seconds, a refresh token, and the scope of the access token (RFC 6749, 5.1).
-pub fn token_reply(
+// An access token that lasts so many seconds, a refresh token, and the scope of the access token (RFC 6749, 5.1).
+pub(crate) fn token_reply(
     alloc: Global,
     access: &Handle,
     lifetime: u64,
@@ -155,54 +156,26 @@ pub fn token_reply(
     told(alloc, Status::Ok, body)
 }
 
-/// What is said of an active access token: its client, its end and start, its scope and its subject (RFC 7662, 2.2).
-pub fn access_reply(
-    alloc: Global,
-    client: Dot,
-    expiry: Moment,
-    start: Moment,
-    scope: &Scope,
-    subject: &Subject,
-) -> Result<Reply, AllocError>
-    ensures { IfOk result (λ reply. reply ≡ spec.access_reply client expiry start scope.now subject.now) }
+// What is said of an active access token: its client, its end and start, its scope and its subject (RFC 7662, 2.2).
+pub(crate) fn access_reply(alloc: Global, standing: &Standing<'_>) -> Result<Reply, AllocError>
+    ensures { IfOk result (λ reply. reply ≡ spec.access_reply standing.now.client standing.now.expiry standing.now.start standing.now.scope standing.now.subject) }
 {
-    let id = client_text(alloc, client)?;
-    let body = access_body(
-        alloc,
-        id.as_str(),
-        expiry.seconds(),
-        start.seconds(),
-        scope.text(),
-        subject.as_str(),
-    )?;
+    let id = client_text(alloc, standing.client)?;
+    let body = access_body(alloc, id.as_str(), standing)?;
     told(alloc, Status::Ok, body)
 }
 
-/// What is said of an active refresh token: the same, but for the type (RFC 7662, 2.2).
-pub fn refresh_reply(
-    alloc: Global,
-    client: Dot,
-    expiry: Moment,
-    start: Moment,
-    scope: &Scope,
-    subject: &Subject,
-) -> Result<Reply, AllocError>
-    ensures { IfOk result (λ reply. reply ≡ spec.refresh_reply client expiry start scope.now subject.now) }
+// What is said of an active refresh token: the same, but for the type (RFC 7662, 2.2).
+pub(crate) fn refresh_reply(alloc: Global, standing: &Standing<'_>) -> Result<Reply, AllocError>
+    ensures { IfOk result (λ reply. reply ≡ spec.refresh_reply standing.now.client standing.now.expiry standing.now.start standing.now.scope standing.now.subject) }
 {
-    let id = client_text(alloc, client)?;
-    let body = refresh_body(
-        alloc,
-        id.as_str(),
-        expiry.seconds(),
-        start.seconds(),
-        scope.text(),
-        subject.as_str(),
-    )?;
+    let id = client_text(alloc, standing.client)?;
+    let body = refresh_body(alloc, id.as_str(), standing)?;
     told(alloc, Status::Ok, body)
 }
 
-/// What is said of a token that isn't active: that alone (RFC 7662, 2.2).
-pub fn inactive_reply(alloc: Global) -> Result<Reply, AllocError>
+// What is said of a token that isn't active: that alone (RFC 7662, 2.2).
+pub(crate) fn inactive_reply(alloc: Global) -> Result<Reply, AllocError>
     ensures { IfOk result (λ reply. reply ≡ spec.inactive_reply) }
 {
     let body = inactive_body(alloc)?;
@@ -255,8 +228,8 @@ pub fn handle_string(alloc: Global, handle: &Handle) -> Result<String, AllocErro
     String::from_str(alloc, text)
 }
 
-/// How many facts of a bundle were new (own).
-pub fn taken_reply(alloc: Global, count: u16) -> Result<Reply, AllocError>
+// How many facts of a bundle were new (own).
+pub(crate) fn taken_reply(alloc: Global, count: u16) -> Result<Reply, AllocError>
     ensures { IfOk result (λ reply. reply ≡ spec.taken_reply count) }
 {
     let body = taken_body(alloc, count)?;

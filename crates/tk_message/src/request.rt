@@ -59,8 +59,8 @@ ghost use Rattle.std.specs.Prelude.{◌≡◌};
 ghost use Rattle.std.specs.Option.{option_copied};
 
 impl Request {
-    /// The bytes of `Authorization`.
-    pub fn authorization(&self) -> Option<&[u8]>
+    // The bytes of `Authorization`.
+    pub(crate) fn authorization(&self) -> Option<&[u8]>
         ensures { option_copied result ≡ self.now.authorization }
     {
         match &self.authorization {

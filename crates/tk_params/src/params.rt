@@ -67,8 +67,8 @@ impl Params {
         }
     }
 
-    /// Whether a name occurs twice or more, which no request may have (RFC 6749, 3.1 and 3.2).
-    pub fn is_twice(&self, name: &str) -> bool
+    // Whether a name occurs twice or more, which no request may have (RFC 6749, 3.1 and 3.2).
+    pub(crate) fn is_twice(&self, name: &str) -> bool
         ensures { result ≡ is_twice name.now self.now }
     {
         match self.one(name) {

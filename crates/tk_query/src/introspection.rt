@@ -9,10 +9,8 @@ use crate::caller::caller_here;
 use crate::introspected::{Introspected, introspect};
 use std::alloc::{AllocError, Global};
 use tk_handle::Moment;
-use tk_ledger::{Ledger, Standing};
-use tk_message::{
-    Decision, Reply, Request, access_reply, error_reply, inactive_reply, refresh_reply,
-};
+use tk_ledger::Ledger;
+use tk_message::{Decision, Reply, Request, Told, error_reply};
 
 /// What is said of a token (RFC 7662, 2): of an active one its client, end, start, scope and subject, of any other that it
 /// isn't active. It depends on the facts, the moment and the request alone, and makes no fact. An error where memory is
@@ -36,34 +34,8 @@ fn reply_to(alloc: Global, known: Introspected<'_>) -> Result<Reply, AllocError>
 {
     match known {
         Introspected::Refused(why) => error_reply(alloc, why.code()),
-        Introspected::Inactive => inactive_reply(alloc),
-        Introspected::Access(standing) => tell_access(alloc, &standing),
-        Introspected::Refresh(standing) => tell_refresh(alloc, &standing),
+        Introspected::Inactive => Told::Inactive.reply(alloc),
+        Introspected::Access(standing) => Told::Access(standing).reply(alloc),
+        Introspected::Refresh(standing) => Told::Refresh(standing).reply(alloc),
     }
-}
-
-fn tell_access(alloc: Global, standing: &Standing<'_>) -> Result<Reply, AllocError>
-    ensures { IfOk result (λ reply. reply ≡ spec.told_access standing.now) }
-{
-    access_reply(
-        alloc,
-        standing.client,
-        standing.expiry,
-        standing.start,
-        standing.scope,
-        standing.subject,
-    )
-}
-
-fn tell_refresh(alloc: Global, standing: &Standing<'_>) -> Result<Reply, AllocError>
-    ensures { IfOk result (λ reply. reply ≡ spec.told_refresh standing.now) }
-{
-    refresh_reply(
-        alloc,
-        standing.client,
-        standing.expiry,
-        standing.start,
-        standing.scope,
-        standing.subject,
-    )
 }

@@ -70,8 +70,8 @@ impl Settings {
         })
     }
 
-    /// How long what is issued lasts.
-    pub fn lives(&self) -> Lives
+    // How long what is issued lasts.
+    pub(crate) fn lives(&self) -> Lives
         ensures { result ≡ lives_of self.now }
     {
         Lives {

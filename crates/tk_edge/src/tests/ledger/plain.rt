@@ -8,6 +8,82 @@ use tk_ledger::{ClientView, ConsentView, Standing, State, Status};
 use tk_scope::Scope;
 use tk_store::{AddError, Added, FactStore};
 
+// ---- the walk
+
+// What is looked for in each fact.
+enum Sought<'a> {
+    // Of the client.
+    Retirement(Dot),
+    // Of the consent.
+    Withdrawal(Dot),
+    // Of the token.
+    Reuse(&'a TokenId),
+    // Of the token of that digest, by the client.
+    Revocation(&'a TokenId, &'a [u8; 32], Dot),
+    // Of the subject, at the moment or later.
+    SignOut(&'a Subject, Moment),
+}
+
+// Whether a fact is what is looked for.
+fn holds(facts: &FactStore, sought: &Sought<'_>) -> bool {
+    for fact in facts.facts() {
+        if is_sought(&fact.body, sought) {
+            return true;
+        }
+    }
+    false
+}
+
+fn is_sought(body: &Body, sought: &Sought<'_>) -> bool {
+    match sought {
+        Sought::Retirement(client) => retires(body, *client),
+        Sought::Withdrawal(consent) => withdraws(body, *consent),
+        Sought::Reuse(token) => reuses(body, token),
+        Sought::Revocation(token, digest, client) => revokes(body, token, digest, *client),
+        Sought::SignOut(subject, moment) => signs_out(body, subject, *moment),
+    }
+}
+
+fn retires(body: &Body, client: Dot) -> bool {
+    match body {
+        Body::ClientRetired(fact) => fact.client == client,
+        _ => false,
+    }
+}
+
+fn withdraws(body: &Body, consent: Dot) -> bool {
+    match body {
+        Body::ConsentWithdrawn(fact) => fact.consent == consent,
+        _ => false,
+    }
+}
+
+fn reuses(body: &Body, token: &TokenId) -> bool {
+    match body {
+        Body::ReuseSeen(fact) => fact.token == *token,
+        _ => false,
+    }
+}
+
+fn revokes(body: &Body, token: &TokenId, digest: &[u8; 32], client: Dot) -> bool {
+    match body {
+        Body::TokenRevoked(fact) => {
+            fact.token == *token && fact.digest == *digest && fact.client == client
+        }
+        _ => false,
+    }
+}
+
+fn signs_out(body: &Body, subject: &Subject, moment: Moment) -> bool {
+    match body {
+        Body::SubjectOut(fact) => {
+            fact.subject.as_bytes() == subject.as_bytes()
+                && moment.seconds() <= fact.moment.seconds()
+        }
+        _ => false,
+    }
+}
+
 // ---- clients and consents
 
 fn client_at(facts: &FactStore, at: Dot) -> Option<&ClientAdded> {
@@ -19,13 +95,7 @@ fn client_at(facts: &FactStore, at: Dot) -> Option<&ClientAdded> {
 
 // Whether a client was added at the dot and no retirement of it is held.
 fn is_live_client(facts: &FactStore, client: Dot) -> bool {
-    for fact in facts.facts() {
-        match &fact.body {
-            Body::ClientRetired(retired) if retired.client == client => return false,
-            _ => {}
-        }
-    }
-    client_at(facts, client).is_some()
+    client_at(facts, client).is_some() && !holds(facts, &Sought::Retirement(client))
 }
 
 fn consent_at(facts: &FactStore, at: Dot) -> Option<&ConsentGiven> {
@@ -36,13 +106,7 @@ fn consent_at(facts: &FactStore, at: Dot) -> Option<&ConsentGiven> {
 }
 
 fn is_withdrawn(facts: &FactStore, consent: Dot) -> bool {
-    for fact in facts.facts() {
-        match &fact.body {
-            Body::ConsentWithdrawn(withdrawn) if withdrawn.consent == consent => return true,
-            _ => {}
-        }
-    }
-    false
+    holds(facts, &Sought::Withdrawal(consent))
 }
 
 fn gives(consent: &ConsentGiven, client: Dot, subject: &Subject) -> bool {
@@ -135,54 +199,14 @@ fn uses_of(facts: &FactStore, token: &TokenId) -> u32 {
     count
 }
 
-fn is_reused(facts: &FactStore, token: &TokenId) -> bool {
-    for fact in facts.facts() {
-        match &fact.body {
-            Body::ReuseSeen(seen) if seen.token == *token => return true,
-            _ => {}
-        }
-    }
-    false
-}
-
 // Whether the client of the code that it is under revoked the token.
 fn is_ended(facts: &FactStore, token: &TokenId) -> Option<bool> {
     let fact = facts.get(token.dot)?;
     let code = issued_at(facts, code_above(facts, token.dot)?)?;
     match fact.minted(token.kind) {
-        Some(minted) => Some(is_revoked(facts, token, minted.digest, code.client)),
+        Some(minted) => Some(holds(facts, &Sought::Revocation(token, minted.digest, code.client))),
         None => None,
     }
-}
-
-fn is_revoked(facts: &FactStore, token: &TokenId, digest: &[u8; 32], client: Dot) -> bool {
-    for fact in facts.facts() {
-        match &fact.body {
-            Body::TokenRevoked(revoked)
-                if revoked.token == *token
-                    && revoked.digest == *digest
-                    && revoked.client == client => {
-                return true;
-            }
-            _ => {}
-        }
-    }
-    false
-}
-
-// Whether the subject signed out at the moment, or later.
-fn is_out(facts: &FactStore, subject: &Subject, moment: Moment) -> bool {
-    for fact in facts.facts() {
-        match &fact.body {
-            Body::SubjectOut(out)
-                if out.subject.as_bytes() == subject.as_bytes()
-                    && moment.seconds() <= out.moment.seconds() => {
-                return true;
-            }
-            _ => {}
-        }
-    }
-    false
 }
 
 // The token of a fact whose marks and uses count: its code, or else its refresh token.
@@ -201,7 +225,7 @@ fn grant_of(fact: &Fact) -> Option<TokenId> {
 // Whether the grant was stopped: a refresh token that was revoked, a code whose subject signed out.
 fn is_stopped(facts: &FactStore, token: &TokenId) -> bool {
     match issued_at(facts, token.dot) {
-        Some(code) => is_out(facts, &code.subject, code.start),
+        Some(code) => holds(facts, &Sought::SignOut(&code.subject, code.start)),
         None => is_ended(facts, token) == Some(true),
     }
 }
@@ -210,7 +234,7 @@ fn is_stopped(facts: &FactStore, token: &TokenId) -> bool {
 fn is_bad(facts: &FactStore, fact: &Fact) -> bool {
     match grant_of(fact) {
         Some(token) => {
-            is_reused(facts, &token) || is_stopped(facts, &token) || uses_of(facts, &token) > 1
+            holds(facts, &Sought::Reuse(&token)) || is_stopped(facts, &token) || uses_of(facts, &token) > 1
         }
         None => false,
     }
@@ -281,12 +305,12 @@ impl PlainLedger {
     }
 
     pub(super) fn revoked(&self, token: &TokenId, digest: &[u8; 32], client: Dot) -> bool {
-        is_revoked(&self.store, token, digest, client)
+        holds(&self.store, &Sought::Revocation(token, digest, client))
     }
 
     // Whether the subject signed out at the moment, or later.
     pub(super) fn is_signed_out(&self, subject: &Subject, moment: Moment) -> bool {
-        is_out(&self.store, subject, moment)
+        holds(&self.store, &Sought::SignOut(subject, moment))
     }
 
     // Where the token of a handle stands: the first case that holds.

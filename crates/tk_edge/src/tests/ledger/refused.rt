@@ -70,16 +70,24 @@ struct Asked<'a> {
     scope: &'a Scope,
 }
 
+fn same_subjects(left: &Subject, right: &Subject) -> bool {
+    left.as_bytes() == right.as_bytes()
+}
+
 fn same_standings(left: &Standing<'_>, right: &Standing<'_>) -> bool {
     left.client == right.client
-        && left.subject.same(right.subject)
+        && same_subjects(left.subject, right.subject)
         && left.code == right.code
         && left.scope.same(right.scope)
-        && left.start == right.start
+        && same_ends(left, right)
+        && left.state == right.state
+}
+
+fn same_ends(left: &Standing<'_>, right: &Standing<'_>) -> bool {
+    left.start == right.start
         && left.expiry == right.expiry
         && left.family_end == right.family_end
         && left.generation == right.generation
-        && left.state == right.state
 }
 
 fn same_statuses(left: &Status<'_>, right: &Status<'_>) -> bool {
@@ -116,7 +124,7 @@ fn same_clients(left: &Option<ClientView<'_>>, right: &Option<ClientView<'_>>) -
 
 fn same_grants(left: &ConsentView<'_>, right: &ConsentView<'_>) -> bool {
     left.client == right.client
-        && left.subject.same(right.subject)
+        && same_subjects(left.subject, right.subject)
         && left.scope.same(right.scope)
         && left.live == right.live
 }
