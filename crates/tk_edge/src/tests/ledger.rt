@@ -342,10 +342,21 @@ const STRAY_ALONE: &[Told] = &[ADDED, GIVEN, ISSUED, REDEEMED, STRAY];
 
 const STRAY_BESIDE: &[Told] = &[ADDED, GIVEN, ISSUED, REDEEMED, ROTATED, STRAY];
 
+// Its generation is one too many for the rotation that it names.
+const SKIPPING: Told = ((8, 1), Says::RefreshRotated((1, 5), 3, (1, 2)));
+
+const SKIPPED: &[Row] = &[
+    ("the refresh token", LAST_REFRESH, USED),
+    ("the skipping", ((8, 1), Kind::Access, 1), BROKEN_ACCESS),
+];
+
+const ONE_SKIPPING: &[Told] = &[ADDED, GIVEN, ISSUED, REDEEMED, ROTATED, SKIPPING];
+
 const STRAYS: &[Case] = &[
     ("alone", STRAY_ALONE, 120, USED_ONCE),
     // So one that fits is the second use.
     ("beside one that fits", STRAY_BESIDE, 720, USED_TWICE),
+    ("a generation left out", ONE_SKIPPING, 720, SKIPPED),
 ];
 
 #[test]
