@@ -13,7 +13,7 @@ use tk_handle::{Kind, Moment};
 use tk_match::{Challenge, Redirects};
 
 /// Which rule a fact breaks: the first, in this order.
-#[derive(Clone, Copy, Debug, PartialEq, Eq)]
+#[derive(Clone, Copy)]
 pub enum FactError {
     /// A subject, a redirection URI or a challenge is outside its length or its alphabet. No fact that is built is refused
     /// so: `Subject`, `Uri`, `Redirects` and `Challenge` keep these limits.

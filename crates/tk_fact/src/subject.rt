@@ -21,7 +21,7 @@ impl Model for Subject {
 }
 
 /// Why bytes are no subject.
-#[derive(Clone, Copy, Debug, PartialEq, Eq)]
+#[derive(Clone, Copy)]
 pub enum SubjectError {
     /// They aren't 1 to 128 visible ASCII bytes.
     Malformed,

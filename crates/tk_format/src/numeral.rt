@@ -7,7 +7,7 @@ ghost use Rattle.std.specs.Str.Parse.{digits_value};
 ghost use Rattle.tk_format.specs.Numerals.{is_numeral, numeral_up_to};
 
 /// What a text says as a number, with a limit.
-#[derive(Clone, Copy, Debug, PartialEq, Eq)]
+#[derive(Clone, Copy)]
 pub enum Numeral {
     /// It is no number: it is empty, or a byte of it is no digit.
     Malformed,

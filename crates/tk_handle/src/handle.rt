@@ -23,7 +23,7 @@ const VERSION: u8 = 1;
 ///
 /// In bytes, 36 of them, high byte first: the version 1; the kind's number; the region's number, in two bytes; the
 /// serial, in eight; the three words, in eight each. Clients see the text of these bytes, and facts keep their digest.
-#[derive(Clone, Copy, PartialEq, Eq)]
+#[derive(Clone, Copy)]
 pub struct Handle {
     /// The token's name.
     pub id: TokenId,

@@ -7,7 +7,7 @@ ghost use Rattle.tk_handle.specs.Kind.{kind, kind_number};
 use tk_format::Reader;
 
 /// What a token is for. Ordered as listed.
-#[derive(Clone, Copy, Debug, PartialEq, Eq, PartialOrd, Ord)]
+#[derive(Clone, Copy, Debug, PartialEq, Eq)]
 pub enum Kind {
     /// An authorization code (RFC 6749, 1.3.1).
     Code,

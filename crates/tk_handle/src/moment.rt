@@ -3,7 +3,7 @@
 use std::marker::Model;
 
 /// Whole seconds since 1970-01-01T00:00:00Z, 0 to 253,402,300,799, the last second of the year 9999 (own).
-#[derive(Clone, Copy, Debug, PartialEq, Eq, PartialOrd, Ord)]
+#[derive(Clone, Copy, PartialEq, Eq)]
 pub struct Moment {
     seconds: u64,
 }

@@ -11,7 +11,7 @@ use tk_format::{Reader, Writer};
 
 /// The name of a token: the dot of the fact that minted it, and what it is for (own). Ordered by
 /// dot, then by kind.
-#[derive(Clone, Copy, Debug, PartialEq, Eq, PartialOrd, Ord)]
+#[derive(Clone, Copy, Debug, PartialEq, Eq)]
 pub struct TokenId {
     /// Where the fact stands that minted the token.
     pub dot: Dot,

@@ -6,7 +6,7 @@ use tk_handle::{Dot, Moment};
 use tk_scope::Scope;
 
 /// The first of these that holds of a token under a code, in this order (own).
-#[derive(Clone, Copy, Debug, PartialEq, Eq)]
+#[derive(Clone, Copy, PartialEq, Eq)]
 pub enum State {
     /// A code or refresh token of the family was used twice, was seen to be reused, is a refresh token that its client
     /// revoked (RFC 6749, 4.1.2, 10.4 and 10.5), or the code of a subject that signed out at its start or later (own).

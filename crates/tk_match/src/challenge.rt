@@ -21,7 +21,7 @@ impl Model for Challenge {
 }
 
 /// Why a challenge is refused: the first that holds, in this order, but `Memory` may come at any call.
-#[derive(Clone, Copy, Debug, PartialEq, Eq)]
+#[derive(Clone, Copy)]
 pub enum ChallengeError {
     /// The method is neither `plain` nor `S256`.
     Method,

@@ -23,7 +23,7 @@ impl Model for Redirects {
 
 /// Why a list of redirection URIs is refused: the first that holds, in this order, but `Memory` may come at any
 /// call.
-#[derive(Clone, Copy, Debug, PartialEq, Eq)]
+#[derive(Clone, Copy)]
 pub enum RedirectError {
     /// No URI.
     Empty,

@@ -6,7 +6,7 @@ ghost use Rattle.tk_message.specs.ErrorCode.{error_status, error_name};
 use crate::status::Status;
 
 /// What an error is called (RFC 6749, 4.1.2.1 and 5.2).
-#[derive(Clone, Copy, Debug, PartialEq, Eq)]
+#[derive(Clone, Copy)]
 pub enum ErrorCode {
     /// A parameter is missing, occurs twice or is malformed.
     InvalidRequest,

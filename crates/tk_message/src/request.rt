@@ -4,7 +4,7 @@ use std::marker::Model;
 use tk_params::Params;
 
 /// What a request is sent to. The endpoints of administration are own.
-#[derive(Clone, Copy, Debug, PartialEq, Eq)]
+#[derive(Clone, Copy)]
 pub enum Endpoint {
     /// GET `/authorize` (RFC 6749, 3.1).
     Authorize,

@@ -23,7 +23,7 @@ impl<'a> Model for Credentials<'a> {
 
 /// Why a request presents no credentials. Two secrets come first, then an unreadable header, then two ids; `Memory` may come
 /// in place of any answer.
-#[derive(Clone, Copy, Debug, PartialEq, Eq)]
+#[derive(Clone, Copy)]
 pub enum CredentialsError {
     /// A secret in the body beside a header, whatever that holds; or a header and a body that name two clients: more than
     /// one method in one request (RFC 6749, 2.3).

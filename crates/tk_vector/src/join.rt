@@ -5,7 +5,7 @@ ghost use Rattle.tk_vector.specs.Join.{IsJoin};
 ghost use Rattle.tk_vector.specs.declared.join.JoinError.TheVariants as error;
 
 /// Why two values were not joined.
-#[derive(Clone, Copy, Debug, PartialEq, Eq)]
+#[derive(Clone, Copy, PartialEq, Eq)]
 pub enum JoinError {
     /// No value is above both. Nothing changed.
     Apart,
