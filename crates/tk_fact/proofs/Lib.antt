@@ -1,3 +1,4 @@
+pub mod BodyLaws
 pub mod CheckLaws
 pub mod ReadingLaws
 pub mod SubjectLaws

@@ -55,7 +55,6 @@ const MOST_BYTES: usize = 128;
 impl Subject {
     /// The subject with this name: `Malformed` where the bytes are no name of a subject, and `Memory` where memory is
     /// refused.
-    #[tactic(auto, using(crate::proofs::SubjectLaws::subject_utf8))]
     pub fn read(alloc: Global, text: &[u8]) -> Result<Subject, SubjectError>
         ensures ok { IfOk result (λ subject. (subject ≡ text.now) × IsTrue (is_subject text.now)) }
         ensures malformed { IsErrOf result SubjectError.Malformed → is_subject text.now ≡ false }

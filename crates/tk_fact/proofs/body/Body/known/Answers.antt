@@ -1,0 +1,42 @@
+use Rattle.tk_fact.specs.FactBytes.{kinds}
+use Rattle.tk_fact.proofs.body.Body.known.Goals as goal
+
+pub returns-in-ClientAdded : goal.returns-in-ClientAdded
+unfolding kinds
+returns-in-ClientAdded c = rw c.in-ClientAdded.is c.known.ensures
+
+pub returns-in-ClientRetired : goal.returns-in-ClientRetired
+unfolding kinds
+returns-in-ClientRetired c = rw c.in-ClientRetired.is c.known-in-ClientRetired.ensures
+
+pub returns-in-ConsentGiven : goal.returns-in-ConsentGiven
+unfolding kinds
+returns-in-ConsentGiven c = rw c.in-ConsentGiven.is c.known-in-ConsentGiven.ensures
+
+pub returns-in-ConsentWithdrawn : goal.returns-in-ConsentWithdrawn
+unfolding kinds
+returns-in-ConsentWithdrawn c = rw c.in-ConsentWithdrawn.is c.known-in-ConsentWithdrawn.ensures
+
+pub returns-in-CodeIssued : goal.returns-in-CodeIssued
+unfolding kinds
+returns-in-CodeIssued c = rw c.in-CodeIssued.is c.known-in-CodeIssued.ensures
+
+pub returns-in-CodeRedeemed : goal.returns-in-CodeRedeemed
+unfolding kinds
+returns-in-CodeRedeemed c = rw c.in-CodeRedeemed.is c.known-in-CodeRedeemed.ensures
+
+pub returns-in-RefreshRotated : goal.returns-in-RefreshRotated
+unfolding kinds
+returns-in-RefreshRotated c = rw c.in-RefreshRotated.is c.known-in-RefreshRotated.ensures
+
+pub returns-in-TokenRevoked : goal.returns-in-TokenRevoked
+unfolding kinds
+returns-in-TokenRevoked c = rw c.in-TokenRevoked.is c.known-in-TokenRevoked.ensures
+
+pub returns-in-ReuseSeen : goal.returns-in-ReuseSeen
+unfolding kinds
+returns-in-ReuseSeen c = rw c.in-ReuseSeen.is c.known-in-ReuseSeen.ensures
+
+pub returns-in-SubjectOut : goal.returns-in-SubjectOut
+unfolding kinds
+returns-in-SubjectOut c = rw c.in-SubjectOut.is c.known-in-SubjectOut.ensures
