@@ -61,7 +61,6 @@ impl Challenge {
     /// [`ChallengeError`].
     ///
     /// An empty method is refused too: what a request without one means isn't said here.
-    #[tactic(auto, using(crate::proofs::AsciiTexts::verifier_utf8))]
     pub fn read(alloc: Global, method: &[u8], text: &[u8]) -> Result<Challenge, ChallengeError>
         ensures ok { IfOk result (λ c. challenge_of method.now text.now ≡ Some c) }
         ensures method { IsErrOf result ChallengeError.Method
@@ -73,11 +72,10 @@ impl Challenge {
         ensures method_none { IsErrOf result ChallengeError.Method → challenge_of method.now text.now ≡ None }
         ensures grammar_none { IsErrOf result ChallengeError.Grammar → challenge_of method.now text.now ≡ None }
     {
-        let is_s256 = match method {
-            b"S256" => true,
-            b"plain" => false,
-            _ => return Err(ChallengeError::Method),
-        };
+        let is_s256 = method == b"S256".as_slice();
+        if !is_s256 && method != b"plain".as_slice() {
+            return Err(ChallengeError::Method);
+        }
         if !is_verifier(text) {
             return Err(ChallengeError::Grammar);
         }

@@ -64,7 +64,6 @@ impl Redirects {
     /// the first cause that holds, in the order of [`RedirectError`].
     ///
     /// `Memory` is also the answer where a URL is too long for `url`, whose contract doesn't say when that is.
-    #[tactic(auto, using(crate::proofs::UriLists::all_read))]
     pub fn new(alloc: Global, uris: &[&[u8]]) -> Result<Redirects, RedirectError>
         ensures ok { IfOk result (λ r. redirects_of (map (λ x. x.now) uris.now) ≡ Some r) }
         ensures absolute { OnOk result (All ReadsAsUrl (map (λ x. x.now) uris.now)) }

@@ -50,7 +50,6 @@ impl Uri {
 
     /// The URI of these bytes: `Bad` where they aren't one that may be kept, and `Memory` where memory is refused. No
     /// other error comes. Whether it is an absolute URL isn't asked.
-    #[tactic(auto, using(crate::proofs::AsciiTexts::uri_utf8))]
     pub fn read(alloc: Global, text: &[u8]) -> Result<Uri, RedirectError>
         ensures ok { IfOk result (λ uri. (uri ≡ text.now) × IsTrue (is_uri text.now)) }
         ensures err { IfErr result (λ e. (e ≡ RedirectError.Bad) ⊎ (e ≡ RedirectError.Memory)) }
