@@ -96,10 +96,10 @@ fn read_pairs(alloc: Global, input: &[u8]) -> Result<Vec<(String, String)>, Allo
     ensures { IfOk result (λ pairs. owned_texts pairs.items ≡ params_of input.now) }
 {
     let mut pairs = Vec::new(alloc);
-    for pair in parse(alloc, input) {
+    for pair in parse(alloc, input).into_owned() {
         let (name, value) = pair?;
         if !value.is_empty() {
-            pairs.push((name.into_owned(alloc)?, value.into_owned(alloc)?))?;
+            pairs.push((name, value))?;
         }
     }
     Ok(pairs)
