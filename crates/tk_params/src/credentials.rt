@@ -147,8 +147,7 @@ fn beside_body<'a>(basic: Basic, id: Option<&str>) -> Result<Credentials<'a>, Cr
 {
     match id {
         Some(id) if basic.id.as_str() != id => Err(CredentialsError::Both),
-        Some(_) => Ok(of_basic(basic)),
-        None => Ok(of_basic(basic)),
+        _ => Ok(of_basic(basic)),
     }
 }
 
