@@ -2,6 +2,7 @@
 
 ghost use Rattle.std.specs.Prelude.{◌≡◌, ◌≤◌, ◌==◌, length};
 ghost use Rattle.std.specs.List.{position_or_len};
+ghost use Rattle.std.specs.Str.{bytes_eq};
 ghost use Rattle.tk_edge.specs.Paths as spec;
 
 use tk_message::Endpoint;
@@ -93,35 +94,42 @@ pub(crate) fn split_target(target: &[u8]) -> (&[u8], &[u8])
     (&target[..at], &target[at + 1..])
 }
 
+// Whether a text is this name, byte for byte.
+fn is(text: &[u8], name: &[u8]) -> bool
+    ensures { result ≡ bytes_eq text.now name.now }
+{
+    text == name
+}
+
 // What is served under a path, where regions exchange facts or don't.
 pub(crate) fn path_named(sync: bool, path: &[u8]) -> Option<Path>
     ensures { result ≡ spec.path_named sync path.now }
 {
-    if path == b"/authorize".as_slice() {
+    if is(path, b"/authorize") {
         return Some(Path::Authorize);
     }
-    if path == b"/token".as_slice() {
+    if is(path, b"/token") {
         return Some(Path::Token);
     }
-    if path == b"/introspect".as_slice() {
+    if is(path, b"/introspect") {
         return Some(Path::Introspect);
     }
-    if path == b"/revoke".as_slice() {
+    if is(path, b"/revoke") {
         return Some(Path::Revoke);
     }
-    if path == b"/admin/client".as_slice() {
+    if is(path, b"/admin/client") {
         return Some(Path::Client);
     }
-    if path == b"/admin/retire".as_slice() {
+    if is(path, b"/admin/retire") {
         return Some(Path::Retire);
     }
-    if path == b"/admin/consent".as_slice() {
+    if is(path, b"/admin/consent") {
         return Some(Path::Consent);
     }
-    if path == b"/admin/withdraw".as_slice() {
+    if is(path, b"/admin/withdraw") {
         return Some(Path::Withdraw);
     }
-    if path == b"/admin/signout".as_slice() {
+    if is(path, b"/admin/signout") {
         return Some(Path::SignOut);
     }
     if sync { sync_named(path) } else { None }
@@ -130,13 +138,13 @@ pub(crate) fn path_named(sync: bool, path: &[u8]) -> Option<Path>
 fn sync_named(path: &[u8]) -> Option<Path>
     ensures { result ≡ spec.sync_named path.now }
 {
-    if path == b"/sync/vector".as_slice() {
+    if is(path, b"/sync/vector") {
         return Some(Path::Vector);
     }
-    if path == b"/sync/pull".as_slice() {
+    if is(path, b"/sync/pull") {
         return Some(Path::Pull);
     }
-    if path == b"/sync/push".as_slice() {
+    if is(path, b"/sync/push") {
         return Some(Path::Push);
     }
     None
@@ -146,10 +154,10 @@ fn sync_named(path: &[u8]) -> Option<Path>
 pub(crate) fn method_named(name: &[u8]) -> Option<Method>
     ensures { result ≡ spec.method_named name.now }
 {
-    if name == b"GET".as_slice() {
+    if is(name, b"GET") {
         return Some(Method::Get);
     }
-    if name == b"POST".as_slice() {
+    if is(name, b"POST") {
         return Some(Method::Post);
     }
     None
