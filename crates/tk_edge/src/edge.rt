@@ -23,7 +23,7 @@ impl Model for Edge {
 }
 
 /// How a connection was served.
-#[derive(Clone, Copy, Debug, PartialEq, Eq)]
+#[derive(Clone, Copy, PartialEq, Eq)]
 pub enum Served {
     /// The stream ended before its first byte. Nothing was written.
     Nothing,

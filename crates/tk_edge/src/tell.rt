@@ -11,7 +11,7 @@ use crate::put::put_all;
 use tk_message::Status;
 
 /// Why a connection wasn't served.
-#[derive(Clone, Copy, Debug, PartialEq, Eq)]
+#[derive(Clone, Copy, PartialEq, Eq)]
 pub enum Fault {
     /// The request couldn't be read. Nothing has changed, and nothing was written.
     Read,
