@@ -1,4 +1,5 @@
 -- What is answered, with a fact and without. Key results:
+--   refused          a refusal's answer is of its code and its methods
 --   gains_nothing    a region gains no facts, and is as it was
 --   answers_nothing  an answer without a fact changes nothing
 --   answers_request  what was prepared for a request is its answer
@@ -6,20 +7,25 @@
 --   pulls            a page is given, and nothing changes
 --   unread           a reader is at no fault where a reply fails; faults_as, one fault
 --   served           what replying to what arrived comes to is what a connection does; faulted, where it fails
-use Rattle.std.proofs.Common.{◌≡◌, ◌≢◌, ℕ, Bool, List, [], Option, None, Some, Result, Ok, Err, IfOk, OnErr, refl, subst, inl, inr}
+use Rattle.std.proofs.Common.{◌≡◌, ◌≢◌, ℕ, Bool, List, [], Option, None, Some, Result, Ok, Err, IfOk, OnErr, refl, subst, ap, ◌∙◌, inl, inr}
 use Rattle.std.specs.declared.alloc.AllocError.{AllocError}
 use Rattle.tk_format.specs.Format.{whole}
 use Rattle.tk_store.specs.Store.{known_in}
 use Rattle.tk_store.proofs.JoiningLaws.{joins_nothing}
+use Rattle.tk_message.specs.Reply.{error_reply}
+use Rattle.tk_message.specs.ReplyFields.{ReplyFields}
 use Rattle.tk_message.specs.RequestFields.{RequestFields}
+use Rattle.tk_message.specs.declared.error_code.ErrorCode.{ErrorCode}
 use Rattle.tk_message.specs.declared.status.Status.{Status}
 use Rattle.tk_region.specs.RegionFields.{RegionFields, Gains}
 use Rattle.tk_region.specs.Step.{PreparedFields, prepared_of}
-use Rattle.tk_edge.specs.Answers.{rendered, Answers, AnswersBy}
+use Rattle.tk_edge.specs.Answers.{told_by, rendered, refused_by, Answers, AnswersBy}
 use Rattle.tk_edge.specs.Arrivals.{AnswersArrival, IsShort}
 use Rattle.tk_edge.specs.Exchanges.{Exchanges, page_reply}
 use Rattle.tk_edge.specs.Heard.{Arrives, IsArrival, MayArrive}
+use Rattle.tk_edge.specs.Judged.{code_of, allowed_by}
 use Rattle.tk_edge.specs.Pulls.{wanted}
+use Rattle.tk_edge.specs.Rendering.{reply_bytes}
 use Rattle.tk_edge.specs.Served.{Asked, Step, Replies, IsServed}
 use Rattle.tk_edge.specs.Told.{AnswerFields, Change}
 use Rattle.tk_edge.specs.declared.edge.Served.{Served}
@@ -29,8 +35,18 @@ use Rattle.tk_edge.specs.declared.hear.Arrival.{Arrival}
 use Rattle.tk_edge.specs.declared.hear.Arrival.TheVariants.{Heard, Exchange}
 use Rattle.tk_edge.specs.declared.hear.Heard.TheVariants.{Silence}
 use Rattle.tk_edge.specs.declared.hear.Heard.TheVariants as heard
+use Rattle.tk_edge.specs.declared.refusal.Refusal.{Refusal}
 use Rattle.tk_edge.specs.declared.tell.Fault.{Fault}
 use Rattle.tk_edge.specs.declared.tell.Fault.TheVariants.{Read, Write, Log, Memory}
+
+pub refused : (why : Refusal) (code : ErrorCode) (seen reply : ReplyFields) (allowed : Option (List ℕ)) (bytes : List ℕ)
+    → code ≡ code_of why → seen ≡ reply → reply ≡ error_reply code → allowed ≡ allowed_by why → bytes ≡ reply_bytes reply allowed
+    → told_by seen.status bytes None ≡ refused_by why
+refused why code seen reply allowed bytes code_is same reply_is allowed_is bytes_are =
+    ap (λ (r : ReplyFields). told_by r.status bytes None) same
+    ∙ ap (λ b. told_by reply.status b None) bytes_are
+    ∙ ap (λ a. rendered reply a None) allowed_is
+    ∙ ap (λ r. rendered r (allowed_by why) None) (reply_is ∙ ap error_reply code_is)
 
 pub gains_nothing : (r : RegionFields) → Gains r [] r
 gains_nothing r = record { number = refl; settings = refl; joins = joins_nothing r.facts }
