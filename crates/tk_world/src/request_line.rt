@@ -2,6 +2,7 @@
 
 ghost use Rattle.std.specs.Prelude.{◌≡◌, IfOk, string_bytes};
 ghost use Rattle.std.specs.List.{list_all};
+ghost use Rattle.std.specs.Str.{bytes_eq};
 ghost use Rattle.tk_world.specs.Line.{bytes_in, texts};
 ghost use Rattle.tk_world.specs.RequestLine as spec;
 
@@ -14,22 +15,29 @@ use std::alloc::{AllocError, Global};
 pub(crate) fn asked(alloc: Global, name: &str, form: &[&str]) -> Result<Option<Vec<u8>>, AllocError>
     ensures { IfOk result (λ request. bytes_in request ≡ spec.asked_of name.now (texts form.now)) }
 {
-    if name == "req" {
+    if is(name, "req") {
         return whole(alloc, form);
     }
-    if name == "client" {
+    if is(name, "client") {
         return client(alloc, form);
     }
-    if name == "retire" {
+    if is(name, "retire") {
         return retire(alloc, form);
     }
-    if name == "signout" {
+    if is(name, "signout") {
         return sign_out(alloc, form);
     }
-    if name == "look" {
+    if is(name, "look") {
         return look(alloc, form);
     }
     Ok(None)
+}
+
+// Whether a text is this one.
+fn is(text: &str, name: &str) -> bool
+    ensures { result ≡ bytes_eq text.now name.now }
+{
+    text == name
 }
 
 // ---- the forms
