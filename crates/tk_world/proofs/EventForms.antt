@@ -1,7 +1,7 @@
 -- The forms of events' fields: what fields that are given by their number and their texts are, and which have no event.
-use Rattle.std.proofs.Common.{◌≡◌, ◌≢◌, ℕ, ◌<◌, ◌≤◌, ◌^◌, List, [], ◌∷◌, length, get_or, slice_index_or, drop, codes, decimal, Option, Some, None, Bor, refl, sym, ap, ◌∙◌, subst, arith}
+use Rattle.std.proofs.Common.{◌≡◌, ◌≢◌, ℕ, ◌<◌, ◌≤◌, ◌^◌, ◌-◌, List, [], ◌∷◌, length, get_or, slice_index_or, take, drop, codes, decimal, Option, Some, None, Bor, refl, sym, ap, ◌∙◌, subst, arith}
 use Rattle.std.specs.List.{All, AllWithin, HoldsAt, slice_split}
-use Rattle.std.proofs.lemmas.List.{get_or-map, length-map}
+use Rattle.std.proofs.lemmas.List.{take_rest, get_or-map, length-map}
 use Rattle.std.proofs.lemmas.List.Elements.{All-map, All-from_all_within}
 use Rattle.tk_format.specs.Decimals.{decimal_in}
 use Rattle.tk_format.proofs.DecimalLaws.{decimal_found, no_decimal}
@@ -16,7 +16,7 @@ use Rattle.std.specs.declared.alloc.Global.{Global}
 use Rattle.tk_world.specs.Fields.{is_space, region_in, moment_in, IsCursorText, IsNoCursorText}
 use Rattle.tk_world.specs.RequestLine.{asked_of}
 use Rattle.tk_world.specs.Line.{texts, IsPrintable, IsEventForm, IsNoEventForm, IsEventLine, IsNoEventLine}
-use Rattle.tk_world.proofs.NumberTexts.{region_found, moment_found, no_region, no_moment}
+use Rattle.tk_world.proofs.NumberTexts.{region_found, moment_found, no_region}
 
 -- the text at an index, empty past the end; a slice pattern reads its texts with this default
 abbrev pub text_at : List (Bor (List ℕ)) → ℕ → List ℕ
@@ -85,11 +85,13 @@ module _ (fs : List (Bor (List ℕ))) where
       let at_region = region_found (text_at fs 1) region at in
       (text_at fs 2, text_at fs 3, rw (four fs long, name, at_region.1) refl, at_region.0, is, place)
 
-  pub request_there : (region now : ℕ) (words : List ℕ) (request : Vec ℕ Global) → 3 ≤ length fs → region_in (text_at fs 1) ≡ Some region → moment_in (text_at fs 2) ≡ Some now → asked_of (text_at fs 0) (texts (drop 3 fs)) ≡ Some request.items → IsEventForm (texts fs) (Request region now words request)
-  request_there region now words request long at then is =
-      let at_region = region_found (text_at fs 1) region at in
-      let at_moment = moment_found (text_at fs 2) now then in
-      (text_at fs 0, texts (drop 3 fs), rw (three_up fs long, at_region.1, at_moment.1) refl, at_region.0, at_moment.0, is)
+-- a request by its fields
+pub request_made : (name at then : List ℕ) (form : List (List ℕ)) (region now : ℕ) (words : List ℕ) (request : Vec ℕ Global)
+    → region_in at ≡ Some region → moment_in then ≡ Some now → asked_of name form ≡ Some request.items → IsEventForm (name ∷ at ∷ then ∷ form) (Request region now words request)
+request_made name at then form region now words request at_is then_is is =
+    let at_region = region_found at region at_is in
+    let at_moment = moment_found then now then_is in
+    (name, form, rw (at_region.1, at_moment.1) refl, at_region.0, at_moment.0, is)
 
 -- ---- fields of no event
 
@@ -167,11 +169,25 @@ module _ (fs : List (Bor (List ℕ))) where
       let parts = sym (three fs long) ∙ h.0 in
       other.deliver long (cc)
 
-  pub request_bad_region : IsOther → region_in (text_at fs 1) ≡ None → IsNoEventForm (texts fs)
-  request_bad_region other none = request_only other (λ region now request at is then late form. no_region (text_at fs 1) region none is at)
+  -- what follows the first three fields
+  abbrev pub rest : List (Bor (List ℕ))
+  rest = take (length fs - 3) (drop 3 fs)
 
-  pub request_bad_moment : IsOther → moment_in (text_at fs 2) ≡ None → IsNoEventForm (texts fs)
-  request_bad_moment other none = request_only other (λ region now request at is then late form. no_moment (text_at fs 2) now none late then)
+  pub request_bad : IsOther → ((region now : ℕ) (request : List ℕ) → text_at fs 1 ≡ decimal region → IsRegion region → text_at fs 2 ≡ decimal now → IsMoment now → asked_of (text_at fs 0) (texts rest) ≡ Some request → ⊥) → IsNoEventForm (texts fs)
+  request_bad other none = request_only other (λ region now request at is then late form. none region now request at is then late (subst (λ l. asked_of (text_at fs 0) (texts l) ≡ Some request) (sym (take_rest fs 3)) form))
+
+  pub with_rest : 3 ≤ length fs → text_at fs 0 ∷ text_at fs 1 ∷ text_at fs 2 ∷ texts rest ≡ texts fs
+  with_rest long = ap (λ l. text_at fs 0 ∷ text_at fs 1 ∷ text_at fs 2 ∷ texts l) (take_rest fs 3) ∙ sym (three_up fs long)
+
+  -- fewer are `open`'s
+  pub no_form : length fs < 3 → (length fs ≡ 2 → text_at fs 0 ≢ codes "open") → IsNoEventForm (texts fs)
+  no_form short other (Open region) h =
+      let long = count fs _ h.0 in
+      let parts = sym (two fs long) ∙ h.0 in
+      other long (cc)
+  no_form short other (Request region now words request) h = absurd (omega (arith, count fs _ h.2))
+  no_form short other (Pull region vector after) h = absurd (omega (arith, count fs _ h.2))
+  no_form short other (Deliver bundle region) h = absurd (omega (arith, count fs _ h.0))
 
 -- ---- lines
 

@@ -1,7 +1,9 @@
 //! Events as lines of text.
 
-ghost use Rattle.std.specs.Prelude.{◌≡◌, ◌↔◌, IfOk, IfSome, IsErrOf, IsSome};
+ghost use Rattle.std.specs.Prelude.{◌≡◌, ◌↔◌, ℕ, List, ◌∷◌, decimal, Some, IfOk, IfSome, IsErrOf, IsSome};
+ghost use Rattle.tk_handle.specs.Ranges.{IsMoment, IsRegion};
 ghost use Rattle.tk_world.specs.Line.{IsPrintable, texts, IsEventForm, IsNoEventForm, IsEventLine, IsNoEventLine, HasWords};
+ghost use Rattle.tk_world.specs.RequestLine.{asked_of};
 
 use crate::event::Event;
 use crate::fields::{cursor, fields, moment, region};
@@ -47,23 +49,66 @@ fn event_of(alloc: Global, fields: &[&str], words: [u64; 6]) -> Result<Event, Re
     ensures malformed { IsErrOf result ReadError.Malformed → IsNoEventForm (texts fields.now) }
 {
     match fields {
-        ["open", at] => Ok(Event::Open(region(at).ok_or(ReadError::Malformed)?)),
-        ["pull", at, entries, after] => Ok(Event::Pull {
-            region: region(at).ok_or(ReadError::Malformed)?,
-            after: cursor(after).ok_or(ReadError::Malformed)?,
-            vector: VersionVector::read_text(alloc, entries.as_bytes())?,
-        }),
-        ["deliver", bundle, to] => Ok(Event::Deliver {
-            bundle: read_decimal(bundle.as_bytes()).ok_or(ReadError::Malformed)?,
-            region: region(to).ok_or(ReadError::Malformed)?,
-        }),
-        [name, at, now, form @ ..] => Ok(Event::Request {
-            region: region(at).ok_or(ReadError::Malformed)?,
-            now: moment(now).ok_or(ReadError::Malformed)?,
-            words,
-            bytes: asked(alloc, name, form)?.ok_or(ReadError::Malformed)?,
-        }),
+        ["open", at] => match region(at) {
+            Some(region) => Ok(Event::Open(region)),
+            None => Err(ReadError::Malformed),
+        },
+        ["pull", at, entries, after] => {
+            let Some(region) = region(at) else {
+                return Err(ReadError::Malformed);
+            };
+            let Some(after) = cursor(after) else {
+                return Err(ReadError::Malformed);
+            };
+            let vector = VersionVector::read_text(alloc, entries.as_bytes())?;
+            Ok(Event::Pull {
+                region,
+                vector,
+                after,
+            })
+        }
+        ["deliver", bundle, to] => {
+            let Some(bundle) = read_decimal(bundle.as_bytes()) else {
+                return Err(ReadError::Malformed);
+            };
+            match region(to) {
+                Some(region) => Ok(Event::Deliver { bundle, region }),
+                None => Err(ReadError::Malformed),
+            }
+        }
+        [name, at, now, form @ ..] => request_event(alloc, name, at, now, form, words),
         _ => Err(ReadError::Malformed),
+    }
+}
+
+// The event of the fields of a request.
+fn request_event(
+    alloc: Global,
+    name: &str,
+    at: &str,
+    now: &str,
+    form: &[&str],
+    words: [u64; 6],
+) -> Result<Event, ReadError>
+    ensures found { IfOk result (IsEventForm (name.now ∷ at.now ∷ now.now ∷ texts form.now)) }
+    ensures words { IfOk result (HasWords words) }
+    ensures malformed { IsErrOf result ReadError.Malformed → (number time : ℕ) (request : List ℕ) → at.now ≡ decimal number → IsRegion number
+        → now.now ≡ decimal time → IsMoment time → ¬ (asked_of name.now (texts form.now) ≡ Some request) }
+{
+    let Some(region) = region(at) else {
+        return Err(ReadError::Malformed);
+    };
+    let Some(now) = moment(now) else {
+        return Err(ReadError::Malformed);
+    };
+    match asked(alloc, name, form)? {
+        Some(bytes) => Ok(Event::Request {
+            region,
+            now,
+            words,
+            bytes,
+        }),
+        None => Err(ReadError::Malformed),
     }
 }
 
