@@ -160,12 +160,13 @@ impl Region {
             fact,
             logged,
         } = prepared;
+        let handled = Handled { reply, logged };
         match fact {
             Some(fact) => {
                 add_free(&mut self.ledger, fact)?;
-                Ok(Handled { reply, logged })
+                Ok(handled)
             }
-            None => Ok(Handled { reply, logged }),
+            None => Ok(handled),
         }
     }
 
