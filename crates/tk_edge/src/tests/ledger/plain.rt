@@ -11,6 +11,7 @@ use tk_store::{AddError, Added, FactStore};
 // ---- the walk
 
 // What is looked for in each fact.
+#[derive(Clone, Copy)]
 enum Sought<'a> {
     // Of the client.
     Retirement(Dot),
@@ -25,7 +26,7 @@ enum Sought<'a> {
 }
 
 // Whether a fact is what is looked for.
-fn holds(facts: &FactStore, sought: &Sought<'_>) -> bool {
+fn holds(facts: &FactStore, sought: Sought<'_>) -> bool {
     for fact in facts.facts() {
         if is_sought(&fact.body, sought) {
             return true;
@@ -34,13 +35,13 @@ fn holds(facts: &FactStore, sought: &Sought<'_>) -> bool {
     false
 }
 
-fn is_sought(body: &Body, sought: &Sought<'_>) -> bool {
+fn is_sought(body: &Body, sought: Sought<'_>) -> bool {
     match sought {
-        Sought::Retirement(client) => retires(body, *client),
-        Sought::Withdrawal(consent) => withdraws(body, *consent),
+        Sought::Retirement(client) => retires(body, client),
+        Sought::Withdrawal(consent) => withdraws(body, consent),
         Sought::Reuse(token) => reuses(body, token),
-        Sought::Revocation(token, digest, client) => revokes(body, token, digest, *client),
-        Sought::SignOut(subject, moment) => signs_out(body, subject, *moment),
+        Sought::Revocation(token, digest, client) => revokes(body, token, digest, client),
+        Sought::SignOut(subject, moment) => signs_out(body, subject, moment),
     }
 }
 
@@ -95,7 +96,7 @@ fn client_at(facts: &FactStore, at: Dot) -> Option<&ClientAdded> {
 
 // Whether a client was added at the dot and no retirement of it is held.
 fn is_live_client(facts: &FactStore, client: Dot) -> bool {
-    client_at(facts, client).is_some() && !holds(facts, &Sought::Retirement(client))
+    client_at(facts, client).is_some() && !holds(facts, Sought::Retirement(client))
 }
 
 fn consent_at(facts: &FactStore, at: Dot) -> Option<&ConsentGiven> {
@@ -106,7 +107,7 @@ fn consent_at(facts: &FactStore, at: Dot) -> Option<&ConsentGiven> {
 }
 
 fn is_withdrawn(facts: &FactStore, consent: Dot) -> bool {
-    holds(facts, &Sought::Withdrawal(consent))
+    holds(facts, Sought::Withdrawal(consent))
 }
 
 fn gives(consent: &ConsentGiven, client: Dot, subject: &Subject) -> bool {
@@ -204,7 +205,7 @@ fn is_ended(facts: &FactStore, token: &TokenId) -> Option<bool> {
     let fact = facts.get(token.dot)?;
     let code = issued_at(facts, code_above(facts, token.dot)?)?;
     match fact.minted(token.kind) {
-        Some(minted) => Some(holds(facts, &Sought::Revocation(token, minted.digest, code.client))),
+        Some(minted) => Some(holds(facts, Sought::Revocation(token, minted.digest, code.client))),
         None => None,
     }
 }
@@ -225,7 +226,7 @@ fn grant_of(fact: &Fact) -> Option<TokenId> {
 // Whether the grant was stopped: a refresh token that was revoked, a code whose subject signed out.
 fn is_stopped(facts: &FactStore, token: &TokenId) -> bool {
     match issued_at(facts, token.dot) {
-        Some(code) => holds(facts, &Sought::SignOut(&code.subject, code.start)),
+        Some(code) => holds(facts, Sought::SignOut(&code.subject, code.start)),
         None => is_ended(facts, token) == Some(true),
     }
 }
@@ -234,7 +235,7 @@ fn is_stopped(facts: &FactStore, token: &TokenId) -> bool {
 fn is_bad(facts: &FactStore, fact: &Fact) -> bool {
     match grant_of(fact) {
         Some(token) => {
-            holds(facts, &Sought::Reuse(&token)) || is_stopped(facts, &token) || uses_of(facts, &token) > 1
+            holds(facts, Sought::Reuse(&token)) || is_stopped(facts, &token) || uses_of(facts, &token) > 1
         }
         None => false,
     }
@@ -305,12 +306,12 @@ impl PlainLedger {
     }
 
     pub(super) fn revoked(&self, token: &TokenId, digest: &[u8; 32], client: Dot) -> bool {
-        holds(&self.store, &Sought::Revocation(token, digest, client))
+        holds(&self.store, Sought::Revocation(token, digest, client))
     }
 
     // Whether the subject signed out at the moment, or later.
     pub(super) fn is_signed_out(&self, subject: &Subject, moment: Moment) -> bool {
-        holds(&self.store, &Sought::SignOut(subject, moment))
+        holds(&self.store, Sought::SignOut(subject, moment))
     }
 
     // Where the token of a handle stands: the first case that holds.
