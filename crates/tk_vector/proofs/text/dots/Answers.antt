@@ -2,6 +2,7 @@ use Rattle.std.proofs.Common.{◌≡◌, rules, nat_lt, sym, subst, ◌∙◌, N
 use borrow.Author.Tests.{tests}
 use Rattle.std.proofs.lemmas.Iterator.Splits.{YieldsList-from_slice_split}
 use Rattle.std.proofs.lemmas.Iterator.Consumers.{YieldsList-turn, YieldsList-end}
+use Rattle.std.proofs.lemmas.Grind.{common_steps}
 use Rattle.std.proofs.lemmas.List.Sorted.{answers_always}
 use Rattle.tk_vector.specs.VectorText.{IsRising, is_comma}
 use Rattle.tk_vector.proofs.VectorTextLaws.{rising, entry_there, none_rising}
@@ -28,3 +29,6 @@ returns-else-is_sorted_by-clause-malformed c _ =
     let all = YieldsList-end (YieldsList-from_slice_split _ is_comma c.args.text.now (cc) (cc) (cc) (λ x b q k. search (rules, tests))) c.loop-entry.yielded _ c.loop-entry.yielded_by _ _ c.in-None.is c.next.ensures.steps in
     let sorted = c.is_sorted_by.ensures.cases (λ one next. nat_lt one.region next.region) (answers_always _ _ _ (λ f a r f' called. search (rules, tests))) in
     none_rising c.args.text.now c.loop-entry.dots.items _ (sym all.0 ∙ c.loop-entry.invariant.0) c.loop-entry.invariant.1 (rw c.deref.ensures.value at sorted) c.if-is_sorted_by.false
+
+pub loop-entry-preserved : goal.loop-entry-preserved
+loop-entry-preserved c = grind (arith, common_steps)
