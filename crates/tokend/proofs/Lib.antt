@@ -6,6 +6,7 @@ pub mod Loopbacks
 pub mod OneSet
 pub mod Runs
 pub mod ScriptEvents
+pub mod Shows
 pub mod SiteLaws
 pub mod Tasks
 pub mod TypedNumber

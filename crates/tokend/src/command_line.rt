@@ -44,7 +44,10 @@ fn with_made<'a>(
 {
     match made {
         Ok(subcommand) => command.subcommand(subcommand),
-        Err(error) => Err(error),
+        Err(error) => {
+            drop(command);
+            Err(error)
+        }
     }
 }
 

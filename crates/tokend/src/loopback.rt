@@ -154,7 +154,10 @@ impl Regions {
         let edge = Edge::new(Region::new(self.alloc, number, self.settings), false);
         match self.edges.push(edge) {
             Ok(()) => Outcome::Opened,
-            Err(_) => Outcome::Memory,
+            Err(refused) => {
+                drop(refused);
+                Outcome::Memory
+            }
         }
     }
 

@@ -75,8 +75,16 @@ pub(crate) fn options<'a, S: AsStr>(alloc: Global, words: &'a [S]) -> Result<Tas
         return Err(Error::from(AllocError));
     };
     match command.try_get_matches_from_mut(words) {
-        Ok(matches) => read_task(alloc, &mut command, &matches),
-        Err(error) => Err(error),
+        Ok(matches) => {
+            let task = read_task(alloc, &mut command, &matches);
+            drop(matches);
+            drop(command);
+            task
+        }
+        Err(error) => {
+            drop(command);
+            Err(error)
+        }
     }
 }
 
@@ -172,7 +180,6 @@ impl Service {
 }
 
 // What the matches say. A subcommand is always there, and so are its numbers: clap has seen to it.
-#[tactic(auto, using(crate::proofs::Tasks::no_script, crate::proofs::Tasks::no_loopback, crate::proofs::Tasks::is_service))]
 fn read_matches(alloc: Global, matches: &ArgMatches<'_>) -> Result<Option<Task>, AllocError>
     ensures task { IfOk result (λ task. IfSome task (IsTask (subcommand_rows_of matches.now))) }
     ensures none { IfOk result (λ task. IfNone task (IsNoTask (subcommand_rows_of matches.now))) }
@@ -209,7 +216,6 @@ fn read_serve(alloc: Global, matches: &ArgMatches<'_>) -> Result<Option<Task>, A
     }
 }
 
-#[tactic(auto, using(crate::proofs::Tasks::without_settings, crate::proofs::Tasks::without_region, crate::proofs::Tasks::without_port, crate::proofs::Tasks::without_seed))]
 fn read_service(alloc: Global, matches: &ArgMatches<'_>) -> Result<Option<Service>, AllocError>
     ensures service { IfOk result (λ service. IfSome service (HasService (rows_of (found_of matches.now)))) }
     ensures none { IfOk result (λ service. IfNone service (IsNoService (rows_of (found_of matches.now)))) }

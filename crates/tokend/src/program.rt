@@ -1,16 +1,17 @@
 //! All of the program in order, over any reader and writers.
 
-ghost use Rattle.std.specs.Prelude.{◌≡◌, ◌≤◌, List, Some, OnOk, OnErr, IfErr, MatchResult, length, map};
+ghost use Rattle.std.specs.Prelude.{◌≡◌, ◌≢◌, ◌⊎◌, ◌≤◌, List, Some, OnOk, OnErr, IfErr, MatchResult, length, map};
 ghost use Rattle.std.specs.Io.KnownBytes.{Appends, Keeps};
 ghost use Rattle.tk_world.specs.Printed.{lines_text};
-ghost use Rattle.clap.specs.Words.{Text};
+ghost use Rattle.clap.specs.Words.{Text, kind_of};
+ghost use Rattle.clap.specs.declared.error.kind.ErrorKind.TheVariants as kind;
 ghost use Rattle.tokend.specs.ProgramRun.{IsDone, IsFaultFor, IsQuiet, Leaves, Tells};
 ghost use Rattle.tk_world.specs.Put.{AppendsFront, Prints};
 ghost use Rattle.tokend.specs.LoopbackRun.{PrintsLoopback, IsLoopbackFault, LeavesLoopback};
 ghost use Rattle.tokend.specs.Script.{greatest_length};
 ghost use Rattle.tokend.specs.ScriptRun.{PrintsScript, IsScriptFault, LeavesScript};
 ghost use Rattle.tokend.specs.Status.{status_of};
-ghost use Rattle.tokend.specs.Task.{Asks};
+ghost use Rattle.tokend.specs.Task.{Asks, IsNoShow};
 ghost use Rattle.tokend.specs.declared.fault.Fault.{Fault as FaultValue};
 ghost use Rattle.tokend.specs.declared.fault.Fault.TheVariants as fault;
 
@@ -88,15 +89,12 @@ where
     ensures silent { OnErr result (Keeps (E.contents faults.old) (E.contents faults.new)) }
 {
     match options(rt.alloc(), words) {
-        Ok(task) => run_task(rt, &task, input, output, faults),
-        Err(error) => match error.kind() {
-            ErrorKind::DisplayHelp | ErrorKind::DisplayVersion => match show(output, &error) {
-                Ok(()) => Ok(()),
-                Err(_) => Err(Fault::Output),
-            },
-            ErrorKind::OutOfMemory => Err(Fault::Memory),
-            _ => Err(Fault::Words(error)),
-        },
+        Ok(task) => {
+            let ran = run_task(rt, &task, input, output, faults);
+            drop(task);
+            ran
+        }
+        Err(error) => show_or_refuse(output, error),
     }
 }
 
@@ -121,6 +119,23 @@ where
         Task::Script(numbers) => run_script(rt.alloc(), numbers.settings(), input, output),
         Task::Loopback(numbers) => run_loopback(rt, numbers.settings(), input, output),
         Task::Serve(service) => serve(rt, service, output, faults),
+    }
+}
+
+// Help and the version are shown; what else clap ends with is a fault.
+fn show_or_refuse<O: Write>(output: &mut O, error: Error) -> Result<(), Fault>
+    ensures shown { OnOk result ((kind_of error ≡ kind.DisplayHelp) ⊎ (kind_of error ≡ kind.DisplayVersion)) }
+    ensures fault { IfErr result (λ f. ((f ≡ fault.Output) × ((kind_of error ≡ kind.DisplayHelp) ⊎ (kind_of error ≡ kind.DisplayVersion)))
+        ⊎ (((f ≡ fault.Memory) ⊎ ((f ≡ fault.Words error) × (kind_of error ≢ kind.OutOfMemory) × IsNoShow (kind_of error)))
+        × Keeps (O.contents output.old) (O.contents output.new))) }
+{
+    match error.kind() {
+        ErrorKind::DisplayHelp | ErrorKind::DisplayVersion => match show(output, &error) {
+            Ok(()) => Ok(()),
+            Err(_) => Err(Fault::Output),
+        },
+        ErrorKind::OutOfMemory => Err(Fault::Memory),
+        _ => Err(Fault::Words(error)),
     }
 }
 

@@ -52,7 +52,11 @@ where
     ensures silent { OnErr result (Keeps (E.contents faults.old) (E.contents faults.new)) }
 {
     match begin(rt, service) {
-        Ok(mut start) => load_and_serve(rt, service, &mut start, output, faults),
+        Ok(mut start) => {
+            let served = load_and_serve(rt, service, &mut start, output, faults);
+            drop(start);
+            served
+        }
         Err(fault) => Err(fault),
     }
 }

@@ -1,5 +1,13 @@
 use Rattle.std.proofs.Common.{rules}
+use Rattle.clap.specs.Words.{found_of, rows_of}
+use Rattle.tokend.proofs.Tasks.{without_port, without_region}
 use Rattle.tokend.proofs.options.read_service.Goals as goal
 
 pub returns-clause-service : goal.returns-clause-service
 returns-clause-service c = search rules
+
+pub returns-in_default-number-clause-none : goal.returns-in_default-number-clause-none
+returns-in_default-number-clause-none c = without_region (rows_of (found_of c.args.matches.now)) c.in_default-number.ensures.none
+
+pub returns-in_default-number-2-clause-none : goal.returns-in_default-number-2-clause-none
+returns-in_default-number-2-clause-none c = without_port (rows_of (found_of c.args.matches.now)) c.in_default-number-2.ensures.none

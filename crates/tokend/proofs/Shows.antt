@@ -1,0 +1,76 @@
+-- What clap's refusal of the words comes to, by its kind.
+use Rattle.std.proofs.Common.{◌≡◌, ℕ, List, Option, Result, Ok, Err, subst, sym, ◌∙◌, inl, inr}
+use Rattle.std.specs.Prelude.{◌⊎◌, ◌≢◌, IfErr, OnOk}
+use Rattle.std.specs.Io.KnownBytes.{Keeps}
+use Rattle.clap.specs.Words.{Text, IsAmong, fault_of, kind_of}
+use Rattle.clap.specs.declared.error.Error.{Error}
+use Rattle.clap.specs.declared.error.kind.ErrorKind.{ErrorKind}
+use Rattle.clap.specs.declared.error.kind.ErrorKind.TheVariants.{DisplayHelp, DisplayVersion, MissingSubcommand, OutOfMemory}
+use Rattle.tokend.specs.CommandLine.{tokend_app}
+use Rattle.tokend.specs.ProgramRun.{IsDone, IsFaultFor, Leaves}
+use Rattle.tokend.specs.Task.{AsksToShow, IsNoShow, IsRefusalOf}
+use Rattle.tokend.specs.declared.fault.Fault.{Fault}
+use Rattle.tokend.specs.declared.fault.Fault.TheVariants.{Memory, Output, Words}
+
+-- why clap gave up
+abbrev Ends : List Text → ErrorKind → Type 0
+Ends words kind = (kind ≡ OutOfMemory) ⊎ IsRefusalOf words kind
+
+-- it has a text to show
+abbrev Shows : ErrorKind → Type 0
+Shows kind = (kind ≡ DisplayHelp) ⊎ (kind ≡ DisplayVersion)
+
+-- its fault: the text could not be shown, or there was none
+abbrev Refuses : Error → Option (List ℕ) → Option (List ℕ) → Fault → Type 0
+Refuses error old new fault = ((fault ≡ Output) × Shows (kind_of error))
+    ⊎ (((fault ≡ Memory) ⊎ ((fault ≡ Words error) × (kind_of error ≢ OutOfMemory) × IsNoShow (kind_of error))) × Keeps old new)
+
+among : (words : List Text) (kind k : ErrorKind) → Ends words kind → kind ≡ k → (k ≡ OutOfMemory → ⊥) → (k ≡ MissingSubcommand → ⊥)
+    → IsAmong k (fault_of tokend_app words)
+among words kind k (inl memory) e not_memory not_missing = absurd (not_memory (sym e ∙ memory))
+among words kind k (inr (inl found)) e not_memory not_missing = subst (λ q. IsAmong q (fault_of tokend_app words)) e found
+among words kind k (inr (inr missing)) e not_memory not_missing = absurd (not_missing (sym e ∙ missing.0))
+
+asks_to_show : (words : List Text) (kind : ErrorKind) → Ends words kind → Shows kind → AsksToShow words
+asks_to_show words kind ends (inl help) = inl (among words kind DisplayHelp ends help not_memory not_missing)
+  where
+    not_memory : DisplayHelp ≡ OutOfMemory → ⊥
+    not_memory e = absurd (cc)
+
+    not_missing : DisplayHelp ≡ MissingSubcommand → ⊥
+    not_missing e = absurd (cc)
+asks_to_show words kind ends (inr version) = inr (among words kind DisplayVersion ends version not_memory not_missing)
+  where
+    not_memory : DisplayVersion ≡ OutOfMemory → ⊥
+    not_memory e = absurd (cc)
+
+    not_missing : DisplayVersion ≡ MissingSubcommand → ⊥
+    not_missing e = absurd (cc)
+
+pub shown_done : {T : Type 0} (words : List Text) (kind : ErrorKind) (r : Result T Fault) (input old new : Option (List ℕ)) → Ends words kind
+    → OnOk r (Shows kind) → OnOk r (IsDone words input old new)
+shown_done words kind (Ok x) input old new ends shows = inr (inr (asks_to_show words kind ends shows))
+shown_done words kind (Err fault) input old new ends shows = tt
+
+pub refused_fault : {T : Type 0} (words : List Text) (error : Error) (r : Result T Fault) (input old new : Option (List ℕ)) → Ends words (kind_of error)
+    → IfErr r (Refuses error old new) → IfErr r (IsFaultFor words input)
+refused_fault words error (Ok x) input old new ends h = tt
+refused_fault words error (Err fault) input old new ends (inl h) = subst (IsFaultFor words input) (sym h.0) tt
+refused_fault words error (Err fault) input old new ends (inr h) = of ends h.0
+  where
+    of : Ends words (kind_of error) → (fault ≡ Memory) ⊎ ((fault ≡ Words error) × (kind_of error ≢ OutOfMemory) × IsNoShow (kind_of error))
+        → IsFaultFor words input fault
+    of ends (inl memory) = subst (IsFaultFor words input) (sym memory) tt
+    of (inl memory) (inr told) = absurd (told.1 memory)
+    of (inr refusal) (inr told) = subst (IsFaultFor words input) (sym told.0) (refusal, told.2)
+
+pub refused_left : {T : Type 0} (words : List Text) (error : Error) (r : Result T Fault) (input old new : Option (List ℕ)) → Ends words (kind_of error)
+    → IfErr r (Refuses error old new) → IfErr r (λ fault. Leaves words input fault old new)
+refused_left words error (Ok x) input old new ends h = tt
+refused_left words error (Err fault) input old new ends (inl h) =
+    subst (λ f. Leaves words input f old new) (sym h.0) (inr (inr (asks_to_show words (kind_of error) ends h.1)))
+refused_left words error (Err fault) input old new ends (inr h) = of h.0
+  where
+    of : (fault ≡ Memory) ⊎ ((fault ≡ Words error) × (kind_of error ≢ OutOfMemory) × IsNoShow (kind_of error)) → Leaves words input fault old new
+    of (inl memory) = subst (λ f. Leaves words input f old new) (sym memory) h.1
+    of (inr told) = subst (λ f. Leaves words input f old new) (sym told.0) h.1
