@@ -4,7 +4,16 @@ use Rattle.tokend.proofs.Tasks.{without_port, without_region}
 use Rattle.tokend.proofs.options.read_service.Goals as goal
 
 pub returns-clause-service : goal.returns-clause-service
-returns-clause-service c = search rules
+returns-clause-service c = record {
+  numbers = search rules;
+  region = search rules;
+  port = search rules;
+  requests = search rules;
+  endless = search rules;
+  seed = search rules;
+  log = search rules;
+  load = search rules;
+}
 
 pub returns-in_default-number-clause-none : goal.returns-in_default-number-clause-none
 returns-in_default-number-clause-none c = without_region (rows_of (found_of c.args.matches.now)) c.in_default-number.ensures.none

@@ -5,4 +5,4 @@ pub returns-in-Ok : goal.returns-in-Ok
 returns-in-Ok g c = search rules
 
 pub returns-in-Err : goal.returns-in-Err
-returns-in-Err g c = search rules
+returns-in-Err g c = c.in-Err.ensures
