@@ -9,7 +9,9 @@ ghost use Rattle.tk_authorize.specs.SoundAdministered.{IsSoundAdministered};
 
 use crate::administered::{Administered, ShownClient, administer};
 use std::alloc::{AllocError, Global};
-use tk_fact::{Body, ClientAdded, ClientRetired, ConsentGiven, ConsentWithdrawn, Subject, SubjectOut};
+use tk_fact::{
+    Body, ClientAdded, ClientRetired, ConsentGiven, ConsentWithdrawn, Subject, SubjectOut,
+};
 use tk_handle::{Dot, Moment};
 use tk_ledger::Ledger;
 use tk_message::{Decision, Place, Request, Status, Told};

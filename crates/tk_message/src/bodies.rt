@@ -183,7 +183,12 @@ fn active_members(
 {
     let members = with(alloc, Map::new(alloc), "active", Value::from(true))?;
     let members = with_text(alloc, members, "client_id", client)?;
-    let members = with(alloc, members, "exp", Value::from(standing.expiry.seconds()))?;
+    let members = with(
+        alloc,
+        members,
+        "exp",
+        Value::from(standing.expiry.seconds()),
+    )?;
     let members = with(alloc, members, "iat", Value::from(standing.start.seconds()))?;
     let members = with_text(alloc, members, "scope", standing.scope.text())?;
     with_text(alloc, members, "sub", standing.subject.as_str())

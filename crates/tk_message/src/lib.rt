@@ -29,9 +29,11 @@ pub use caller::{Caller, find_caller};
 pub use decision::Decision;
 pub use error_code::ErrorCode;
 pub use place::{Lives, Place};
-pub use reply::{Payload, Reply, bytes_reply, empty_reply, error_reply, handle_string, redirect_reply};
+pub use reply::{
+    Payload, Reply, bytes_reply, empty_reply, error_reply, handle_string, redirect_reply,
+};
 pub use request::{Endpoint, Request};
 pub use scope::scope_asked;
 pub use status::Status;
-pub use told::Told;
 pub use tk_params::{Credentials, CredentialsError, One, Params};
+pub use told::Told;

@@ -118,7 +118,11 @@ fn asks_credentials(status: Status) -> bool
 }
 
 // The id of the consent that was given at the dot (own).
-pub(crate) fn consent_reply(alloc: Global, status: Status, consent: Dot) -> Result<Reply, AllocError>
+pub(crate) fn consent_reply(
+    alloc: Global,
+    status: Status,
+    consent: Dot,
+) -> Result<Reply, AllocError>
     ensures { IfOk result (λ reply. reply ≡ spec.consent_reply status consent) }
 {
     let id = consent_text(alloc, consent)?;

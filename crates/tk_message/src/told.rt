@@ -1,11 +1,10 @@
 //! What a request is told, in JSON, by its kind.
 
+use crate::status::Status;
 use tk_fact::{Sort, Subject};
 use tk_handle::{Dot, Handle};
 use tk_ledger::Standing;
 use tk_scope::Scope;
-
-use crate::status::Status;
 
 /// What a request is told in JSON. An error is an `ErrorCode`, and has `error_reply`.
 #[derive(Drop)]

@@ -12,21 +12,19 @@ use tk_store::{AddError, Added, FactStore};
 
 // What is looked for in each fact.
 #[derive(Clone, Copy)]
-enum Sought<'a> {
+enum Sought {
     // Of the client.
     Retirement(Dot),
     // Of the consent.
     Withdrawal(Dot),
     // Of the token.
-    Reuse(&'a TokenId),
+    Reuse(TokenId),
     // Of the token of that digest, by the client.
-    Revocation(&'a TokenId, &'a [u8; 32], Dot),
-    // Of the subject, at the moment or later.
-    SignOut(&'a Subject, Moment),
+    Revocation(TokenId, [u8; 32], Dot),
 }
 
 // Whether a fact is what is looked for.
-fn holds(facts: &FactStore, sought: Sought<'_>) -> bool {
+fn holds(facts: &FactStore, sought: &Sought) -> bool {
     for fact in facts.facts() {
         if is_sought(&fact.body, sought) {
             return true;
@@ -35,13 +33,12 @@ fn holds(facts: &FactStore, sought: Sought<'_>) -> bool {
     false
 }
 
-fn is_sought(body: &Body, sought: Sought<'_>) -> bool {
+fn is_sought(body: &Body, sought: &Sought) -> bool {
     match sought {
-        Sought::Retirement(client) => retires(body, client),
-        Sought::Withdrawal(consent) => withdraws(body, consent),
-        Sought::Reuse(token) => reuses(body, token),
-        Sought::Revocation(token, digest, client) => revokes(body, token, digest, client),
-        Sought::SignOut(subject, moment) => signs_out(body, subject, moment),
+        Sought::Retirement(client) => retires(body, *client),
+        Sought::Withdrawal(consent) => withdraws(body, *consent),
+        Sought::Reuse(token) => reuses(body, *token),
+        Sought::Revocation(token, digest, client) => revokes(body, *token, digest, *client),
     }
 }
 
@@ -59,20 +56,30 @@ fn withdraws(body: &Body, consent: Dot) -> bool {
     }
 }
 
-fn reuses(body: &Body, token: &TokenId) -> bool {
+fn reuses(body: &Body, token: TokenId) -> bool {
     match body {
-        Body::ReuseSeen(fact) => fact.token == *token,
+        Body::ReuseSeen(fact) => fact.token == token,
         _ => false,
     }
 }
 
-fn revokes(body: &Body, token: &TokenId, digest: &[u8; 32], client: Dot) -> bool {
+fn revokes(body: &Body, token: TokenId, digest: &[u8; 32], client: Dot) -> bool {
     match body {
         Body::TokenRevoked(fact) => {
-            fact.token == *token && fact.digest == *digest && fact.client == client
+            fact.token == token && fact.digest == *digest && fact.client == client
         }
         _ => false,
     }
+}
+
+// Whether the subject signed out at the moment, or later.
+fn is_out(facts: &FactStore, subject: &Subject, moment: Moment) -> bool {
+    for fact in facts.facts() {
+        if signs_out(&fact.body, subject, moment) {
+            return true;
+        }
+    }
+    false
 }
 
 fn signs_out(body: &Body, subject: &Subject, moment: Moment) -> bool {
@@ -96,7 +103,7 @@ fn client_at(facts: &FactStore, at: Dot) -> Option<&ClientAdded> {
 
 // Whether a client was added at the dot and no retirement of it is held.
 fn is_live_client(facts: &FactStore, client: Dot) -> bool {
-    client_at(facts, client).is_some() && !holds(facts, Sought::Retirement(client))
+    client_at(facts, client).is_some() && !holds(facts, &Sought::Retirement(client))
 }
 
 fn consent_at(facts: &FactStore, at: Dot) -> Option<&ConsentGiven> {
@@ -107,7 +114,7 @@ fn consent_at(facts: &FactStore, at: Dot) -> Option<&ConsentGiven> {
 }
 
 fn is_withdrawn(facts: &FactStore, consent: Dot) -> bool {
-    holds(facts, Sought::Withdrawal(consent))
+    holds(facts, &Sought::Withdrawal(consent))
 }
 
 fn gives(consent: &ConsentGiven, client: Dot, subject: &Subject) -> bool {
@@ -205,7 +212,10 @@ fn is_ended(facts: &FactStore, token: &TokenId) -> Option<bool> {
     let fact = facts.get(token.dot)?;
     let code = issued_at(facts, code_above(facts, token.dot)?)?;
     match fact.minted(token.kind) {
-        Some(minted) => Some(holds(facts, Sought::Revocation(token, minted.digest, code.client))),
+        Some(minted) => Some(holds(
+            facts,
+            &Sought::Revocation(*token, *minted.digest, code.client),
+        )),
         None => None,
     }
 }
@@ -226,7 +236,7 @@ fn grant_of(fact: &Fact) -> Option<TokenId> {
 // Whether the grant was stopped: a refresh token that was revoked, a code whose subject signed out.
 fn is_stopped(facts: &FactStore, token: &TokenId) -> bool {
     match issued_at(facts, token.dot) {
-        Some(code) => holds(facts, Sought::SignOut(&code.subject, code.start)),
+        Some(code) => is_out(facts, &code.subject, code.start),
         None => is_ended(facts, token) == Some(true),
     }
 }
@@ -235,7 +245,9 @@ fn is_stopped(facts: &FactStore, token: &TokenId) -> bool {
 fn is_bad(facts: &FactStore, fact: &Fact) -> bool {
     match grant_of(fact) {
         Some(token) => {
-            holds(facts, Sought::Reuse(&token)) || is_stopped(facts, &token) || uses_of(facts, &token) > 1
+            holds(facts, &Sought::Reuse(token))
+                || is_stopped(facts, &token)
+                || uses_of(facts, &token) > 1
         }
         None => false,
     }
@@ -306,12 +318,12 @@ impl PlainLedger {
     }
 
     pub(super) fn revoked(&self, token: &TokenId, digest: &[u8; 32], client: Dot) -> bool {
-        holds(&self.store, Sought::Revocation(token, digest, client))
+        holds(&self.store, &Sought::Revocation(*token, *digest, client))
     }
 
     // Whether the subject signed out at the moment, or later.
     pub(super) fn is_signed_out(&self, subject: &Subject, moment: Moment) -> bool {
-        holds(&self.store, Sought::SignOut(subject, moment))
+        is_out(&self.store, subject, moment)
     }
 
     // Where the token of a handle stands: the first case that holds.
