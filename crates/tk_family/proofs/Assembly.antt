@@ -13,7 +13,8 @@ use Rattle.tk_family.specs.Families.{Links, named_by, IsPath, IsUnder, IsTwice, 
 use Rattle.tk_family.specs.Puts.{IsBelow, with_link, Gathers, Puts, NothingSeen}
 use Rattle.tk_family.specs.Rows.{Rows, link_in, code_in, used_in, again_in, bad_in, links_of, marks_of}
 use Rattle.tk_family.specs.Kept.{IsForest}
-use Rattle.tk_family.proofs.Growth.{uses_it, Grown, Grown-walk, Grown-waits, PutRows, IsForest-put, IsTwice-new, uses_it-true, bad-sound}
+use Rattle.tk_family.specs.Uses.{uses_it}
+use Rattle.tk_family.proofs.Growth.{Grown, Grown-walk, Grown-waits, PutRows, IsForest-put, IsTwice-new, uses_it-true, bad-sound}
 use Rattle.tk_family.specs.Tops.{IsRaised}
 use Rattle.tk_family.specs.Writes.{hung, raised, chain_code}
 use Rattle.tk_family.proofs.DotLaws.{cases_dots}
@@ -104,13 +105,13 @@ PutRows-from T M A N d l c0 ys t hung grown mid last =
 
 -- ---- the dots that came under c0
 
-links_same : (f g : Links) (d : Dot) (l : Link) → Adds f g d l → (q : Dot) → with_link f d l q ≡ g q
+pub links_same : (f g : Links) (d : Dot) (l : Link) → Adds f g d l → (q : Dot) → with_link f d l q ≡ g q
 links_same f g d l a q = elim (cases_dots q d) [
   | inl same ↦ ap (with_link f d l) same ∙ (with_link-here f d l ∙ (sym a.here ∙ ap g (sym same)))
   | inr ne ↦ with_link-other f d l q ne ∙ sym (a.others q ne)
 ]
 
-trail_under : (g : Links) (q d : Dot) (ps : List Dot) (c : Dot) → IsTrail g q ps d → IsUnder g d c → IsUnder g q c
+pub trail_under : (g : Links) (q d : Dot) (ps : List Dot) (c : Dot) → IsTrail g q ps d → IsUnder g d c → IsUnder g q c
 trail_under g q d [] c leads u = subst (λ (y : Dot). IsUnder g y c) (sym leads) u
 trail_under g q d (p ∷ ps) c leads u = let above : IsUnder g p c = trail_under g p d ps c leads.1 u in record { path = p ∷ above.path; leads = ((leads.0, above.leads.0), above.leads.1) }
 

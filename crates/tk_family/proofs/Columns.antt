@@ -1,6 +1,6 @@
 -- The steps of `put`, and what they leave of each column.
-use Rattle.std.proofs.Common.{◌≡◌, ◌≢◌, ◌⊎◌, inl, inr, ◌+◌, ◌<◌, Bool, true, false, cond, Option, None, Some, List, [], ◌∷◌, ap, sym, ◌∙◌, refl, arith, subst, IsSome}
-use Rattle.std.proofs.lemmas.Bool.{true≢false, cases_Bool, cond-true, cond-false}
+use Rattle.std.proofs.Common.{◌≡◌, ◌≢◌, ◌⊎◌, inl, inr, ◌+◌, ◌<◌, Bool, true, false, not, cond, Option, None, Some, List, [], ◌∷◌, ap, sym, ◌∙◌, refl, arith, subst, IsSome}
+use Rattle.std.proofs.lemmas.Bool.{true≢false, cases_Bool, cond-true, cond-false, and_parts}
 use Rattle.tk_handle.specs.declared.dot.Dot.{Dot}
 use Rattle.tk_handle.specs.declared.kind.Kind.{Kind}
 use Rattle.tk_handle.specs.declared.kind.Kind.TheVariants as kind
@@ -14,10 +14,13 @@ use Rattle.tk_family.specs.Families.{Links, named_by, fits, grant_at, use_of, Is
 use Rattle.tk_family.specs.Rows.{Rows, link_in, code_in, dead_in, first_in, next_in, marked_in, used_in, again_in, links_of, marks_of, named_of}
 use Rattle.tk_family.specs.Kept.{IsChain, Hangs, IsForest}
 use Rattle.tk_family.proofs.Growth.{IsChain-same}
-use Rattle.tk_family.specs.Writes.{or_blank, chain_by, chain_code}
+use Rattle.tk_family.specs.declared.row.Uses.{Uses}
+use Rattle.tk_family.specs.declared.row.Uses.TheVariants.{Never, Once, Often}
+use Rattle.std.specs.Option.{is_none}
+use Rattle.tk_family.specs.Writes.{blank, or_blank, is_never, is_blank, is_blank_row, chain_by, chain_code}
 use Rattle.tk_family.specs.Walks.{fits_over}
 use Rattle.tk_family.specs.Puts.{NothingSeen}
-use Rattle.tk_family.proofs.DotLaws.{dot_eq-same}
+use Rattle.tk_family.proofs.DotLaws.{dot_eq-same, dot_eq-true}
 use Rattle.tk_family.proofs.Adding.{Adds, Within-adds, alone, below_under}
 use Rattle.tk_family.proofs.FamilyLaws.{IsUnder-within, IsTwice-within, IsDead-within, IsParent-rank}
 
@@ -85,6 +88,74 @@ Alike-then T M N a b = record {
   used = λ q k. b.used q k ∙ a.used q k;
   again = λ q k. b.again q k ∙ a.again q k;
 }
+
+pub Alike-back : (T N : Rows) → Alike T N → Alike N T
+Alike-back T N a = record {
+  link = λ q. sym (a.link q);
+  code = λ q. sym (a.code q);
+  dead = λ q. sym (a.dead q);
+  first = λ q. sym (a.first q);
+  next = λ q. sym (a.next q);
+  marked = λ q k. sym (a.marked q k);
+  used = λ q k. sym (a.used q k);
+  again = λ q k. sym (a.again q k);
+}
+
+-- ---- a row that says nothing goes
+
+none_if : {X : Type 0} (o : Option X) → is_none o ≡ true → o ≡ None
+none_if None h = refl
+none_if (Some x) h = absurd (true≢false (sym h))
+
+never_if : (u : Uses) → is_never u ≡ true → u ≡ Never
+never_if Never h = refl
+never_if Once h = absurd (true≢false (sym h))
+never_if Often h = absurd (true≢false (sym h))
+
+false_if : (b : Bool) → not b ≡ true → b ≡ false
+false_if true h = absurd (true≢false (sym h))
+false_if false h = refl
+
+blank_is : (row : Row) → is_blank row ≡ true → row ≡ blank
+blank_is row h =
+    let a = and_parts _ _ h in
+    let b = and_parts _ _ a.1 in
+    let c = and_parts _ _ b.1 in
+    let d = and_parts _ _ c.1 in
+    let e = and_parts _ _ d.1 in
+    let f = and_parts _ _ e.1 in
+    let g = and_parts _ _ f.1 in
+    let i = and_parts _ _ g.1 in
+    let j = and_parts _ _ i.1 in
+    λ x. record {
+      link = none_if row.link a.0 x;
+      code = none_if row.code b.0 x;
+      dead = false_if row.dead c.0 x;
+      marked_code = false_if row.marked_code d.0 x;
+      marked_access = false_if row.marked_access e.0 x;
+      marked_refresh = false_if row.marked_refresh f.0 x;
+      redeemed = never_if row.redeemed g.0 x;
+      rotated = never_if row.rotated i.0 x;
+      first = none_if row.first j.0 x;
+      next = none_if row.next j.1 x;
+    }
+
+-- a row that says nothing stood there, or none
+blank_or : (o : Option Row) → is_blank_row o ≡ true → (o ≡ None) ⊎ (o ≡ Some blank)
+blank_or None h = inl refl
+blank_or (Some row) h = inr (ap (λ (r : Row). Some r) (blank_is row h))
+
+pub Alike-dropped : (T N : Rows) (at : Dot) → is_blank_row (T at) ≡ true → ((q : Dot) → N q ≡ cond (dot_eq at q) None (T q)) → Alike T N
+Alike-dropped T N at h rows = elim (blank_or (T at) h) [
+  | inl none ↦ Alike-same T N (λ q. rows q ∙ (elim (cases_Bool (dot_eq at q)) [
+    | inl same ↦ cond-true _ _ _ same ∙ sym (ap T (sym (dot_eq-true at q same)) ∙ none)
+    | inr apart ↦ cond-false _ _ _ apart
+  ]))
+  | inr blanks ↦ Alike-back N T (Alike-blank N T at (λ q. elim (cases_Bool (dot_eq at q)) [
+    | inl same ↦ ap T (sym (dot_eq-true at q same)) ∙ (blanks ∙ (sym (ap or_blank (rows q ∙ cond-true _ _ _ same)) ∙ sym (cond-true _ _ _ same)))
+    | inr apart ↦ sym (rows q ∙ cond-false _ _ _ apart) ∙ sym (cond-false _ _ _ apart)
+  ]))
+]
 
 -- ---- marking: also what a row that says nothing needs, as a mark of no token
 
@@ -176,7 +247,7 @@ IsForest-alike T N t a =
 
 -- ---- the code of a new link
 
-IsPath-below : (f g : Links) (d : Dot) (l : Link) → Adds f g d l → (q : Dot) (ps : List Dot) (c : Dot) → IsPath g q ps c → rank_of (g q) < rank_of (g d) → IsUnder f q c
+pub IsPath-below : (f g : Links) (d : Dot) (l : Link) → Adds f g d l → (q : Dot) (ps : List Dot) (c : Dot) → IsPath g q ps c → rank_of (g q) < rank_of (g d) → IsUnder f q c
 IsPath-below f g d l a q [] c m low =
     let ne : q ≢ d = λ same. let e : rank_of (g q) ≡ rank_of (g d) = ap (λ (y : Dot). rank_of (g y)) same in absurd (omega arith) in
     alone f g d l a q c ne m
@@ -190,7 +261,7 @@ fits_over-some : (l : Link) (o : Option Link) → fits_over l o ≡ true → (k 
 fits_over-some l None h = absurd (true≢false (sym h))
 fits_over-some l (Some k) h = (k, refl, h)
 
-no_name : (l : Link) → named_by l ≡ None → l ≡ Code
+pub no_name : (l : Link) → named_by l ≡ None → l ≡ Code
 no_name Code h = refl
 no_name (Redeems c) h = absurd (cc)
 no_name (Rotates p g) h = absurd (cc)
@@ -232,6 +303,9 @@ chain-path T g d l (p ∷ ps) c t a m =
 
 pub chain-none : (T : Rows) (g : Links) (d : Dot) (l : Link) → IsForest T → Adds (links_of T) g d l → chain_code T d l ≡ None → (c : Dot) → IsUnder g d c → ⊥
 chain-none T g d l t a none c u = let clash : Some c ≡ None = sym (chain-path T g d l u.path c t a u.leads) ∙ none in cc
+
+pub NothingSeen-then : (T M N : Rows) → NothingSeen T M → NothingSeen M N → NothingSeen T N
+NothingSeen-then T M N a b = record { forest = b.forest; links = λ q. b.links q ∙ a.links q; marks = λ k. b.marks k ∙ a.marks k }
 
 pub NothingSeen-alike : (T N : Rows) → IsForest T → Alike T N → NothingSeen T N
 NothingSeen-alike T N t a = record { forest = IsForest-alike T N t a; links = a.link; marks = λ k. a.marked k.dot k.kind }

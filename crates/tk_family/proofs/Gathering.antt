@@ -1,5 +1,6 @@
 -- Gathering all that hangs below a dot, by a list that is its own queue.
-use Rattle.std.proofs.Common.{◌≡◌, ◌≢◌, inl, inr, ℕ, ◌+◌, ◌<◌, ◌≤◌, true, Option, None, Some, List, [], ◌∷◌, ◌++◌, length, take, drop, get_or, ap, sym, ◌∙◌, arith, subst, append-nil, length-append, IsSome, BTreeMap, btree_map_len, rules}
+use Rattle.std.specs.FinMap as map
+use Rattle.std.proofs.Common.{◌≡◌, ◌≢◌, inl, inr, ℕ, ◌+◌, ◌<◌, ◌≤◌, true, Option, None, Some, List, [], ◌∷◌, ◌++◌, length, take, drop, get_or, ap, sym, ◌∙◌, refl, arith, subst, append-nil, length-append, IsSome, rules}
 use Rattle.std.proofs.lemmas.Bool.{true≢false, cond-true, cond-false}
 use Rattle.std.proofs.lemmas.List.{take_more, drop_more, take-append-le, drop-append-le, take-append-drop, take_all, drop_all}
 use Rattle.std.proofs.lemmas.Map.Steps.{length-le_from_keys}
@@ -12,11 +13,13 @@ use Rattle.tk_family.specs.declared.link.Link.{Link}
 use Rattle.tk_family.specs.declared.row.Row.{Row}
 use Rattle.tk_family.specs.Dots.{dot_eq, has}
 use Rattle.tk_family.specs.Families.{Links, IsParent, fits}
-use Rattle.tk_family.specs.Rows.{table, link_in, links_of, named_of}
+use Rattle.tk_family.specs.Rows.{RowMap, table, link_in, links_of, named_of}
 use Rattle.tk_family.specs.Puts.{fits_at, with_link, FitsAll, Gathers}
+use Rattle.tk_family.specs.Takes.{IsShort}
 use Rattle.tk_family.proofs.DotLaws.{dots_equiv, dot_eq-apart, dot_eq-same, cases_dots}
 use Rattle.tk_family.proofs.Adding.{Adds}
 use Rattle.tk_family.proofs.Reaching.{Walk, Walk-starts, Walk-turns, AreChildren}
+use Rattle.tk_family.proofs.EntryLaws.{entries_table}
 
 pub with_link-here : (f : Links) (d : Dot) (l : Link) → with_link f d l d ≡ Some l
 with_link-here f d l = cond-true (dot_eq d d) (Some l) (f d) (dot_eq-same d)
@@ -31,11 +34,23 @@ parent_from : (g : Links) (e x : Dot) (above : Link) (o : Option Link) → g e �
 parent_from g e x above None at names fitting there = absurd (cc)
 parent_from g e x above (Some k) at names fitting there = record { link = k; above = above; here = at; names = names; there = there; fitting = fitting }
 
-pub AreChildren-from : (f : Links) (d : Dot) (l : Link) (x : Dot) (above : Link) (cs : List Dot) → f d ≡ None → with_link f d l x ≡ Some above → FitsAll f x above cs → AreChildren (with_link f d l) d x cs
-AreChildren-from f d l x above cs free there fit = record {
-  sound = λ e h.
-      let ne : e ≢ d = λ same. (let clash : None ≡ Some x = sym (ap named_of (ap f same ∙ free)) ∙ fit.names e h in cc) in
-      parent_from (with_link f d l) e x above (f e) (with_link-other f d l e ne) (fit.names e h) (fit.fitting e h) there;
+some_named : (o : Option Link) (x : Dot) → named_of o ≡ Some x → (k : Link) × (o ≡ Some k)
+some_named None x h = absurd (cc)
+some_named (Some k) x h = (k, refl)
+
+-- what has a name stands where it stood, if at d is no other link
+with_link-named : (f : Links) (d : Dot) (l : Link) (e x : Dot) → ((k : Link) → f d ≡ Some k → k ≡ l) → named_of (f e) ≡ Some x → with_link f d l e ≡ f e
+with_link-named f d l e x other names = elim (cases_dots e d) [
+  | inl same ↦
+      let some : (k : Link) × (f e ≡ Some k) = some_named (f e) x names in
+      let one : some.0 ≡ l = other some.0 (ap f (sym same) ∙ some.1) in
+      ap (with_link f d l) same ∙ (with_link-here f d l ∙ (ap (λ (k : Link). Some k) (sym one) ∙ sym some.1))
+  | inr ne ↦ with_link-other f d l e ne
+]
+
+pub AreChildren-from : (f : Links) (d : Dot) (l : Link) (x : Dot) (above : Link) (cs : List Dot) → ((k : Link) → f d ≡ Some k → k ≡ l) → with_link f d l x ≡ Some above → FitsAll f x above cs → AreChildren (with_link f d l) d x cs
+AreChildren-from f d l x above cs other there fit = record {
+  sound = λ e h. parent_from (with_link f d l) e x above (f e) (with_link-named f d l e x other (fit.names e h)) (fit.names e h) (fit.fitting e h) there;
   all = λ e ne par.
       let at : f e ≡ Some par.link = sym (with_link-other f d l e ne) ∙ par.here in
       let both : Some par.above ≡ Some above = sym par.there ∙ there in
@@ -53,34 +68,34 @@ AreChildren-none g d x none = record {
 }
 
 -- the list is done with its first i dots
-pub record Gathering (m : BTreeMap Dot Row) (d : Dot) (l : Link) (ys : List Dot) (i : ℕ) : Type 0 where
+pub record Gathering (m : RowMap) (d : Dot) (l : Link) (ys : List Dot) (i : ℕ) : Type 0 where
   pub walk : Walk (with_link (links_of (table m)) d l) d (take i ys) (drop i ys)
   pub within : i ≤ length ys
-  pub room : length ys ≤ btree_map_len m
+  pub room : length ys ≤ map.len m
 
 row_of : (o : Option Row) (k : Link) → link_in o ≡ Some k → IsSome o
 row_of None k h = absurd (cc)
 row_of (Some r) k h = search rules
 
-Walk-room : (m : BTreeMap Dot Row) (d : Dot) (l : Link) (done rest : List Dot) → IsSome (table m d) → Walk (with_link (links_of (table m)) d l) d done rest → length (done ++ rest) ≤ btree_map_len m
-Walk-room m d l done rest row w = length-le_from_keys dots_equiv (done ++ rest) m.entries w.distinct (λ q h.
+Walk-room : (m : RowMap) (d : Dot) (l : Link) (done rest : List Dot) → IsSome (table m d) → Walk (with_link (links_of (table m)) d l) d done rest → length (done ++ rest) ≤ map.len m
+Walk-room m d l done rest row w = subst (λ (n : ℕ). length (done ++ rest) ≤ n) (sym (map.len-entries m)) (length-le_from_keys dots_equiv (done ++ rest) (map.entries m) w.distinct (λ q h. subst IsSome (sym (entries_table m q)) (
     elim (cases_dots q d) [
       | inl same ↦ subst (λ (y : Dot). IsSome (table m y)) (sym same) row
       | inr ne ↦ elim (w.rooted q h).why [
         | inl same ↦ absurd (ne same)
         | inr above ↦ row_of (table m q) above.0.link (sym (with_link-other (links_of (table m)) d l q ne) ∙ above.0.here)
       ]
-    ])
+    ])))
 
-pub Gathering-from : (m : BTreeMap Dot Row) (d : Dot) (l : Link) (ys : List Dot) (i : ℕ) → IsSome (table m d) → i ≤ length ys → Walk (with_link (links_of (table m)) d l) d (take i ys) (drop i ys) → Gathering m d l ys i
+pub Gathering-from : (m : RowMap) (d : Dot) (l : Link) (ys : List Dot) (i : ℕ) → IsSome (table m d) → i ≤ length ys → Walk (with_link (links_of (table m)) d l) d (take i ys) (drop i ys) → Gathering m d l ys i
 Gathering-from m d l ys i row within w =
-    let room : length (take i ys ++ drop i ys) ≤ btree_map_len m = Walk-room m d l (take i ys) (drop i ys) row w in
-    record { walk = w; within = within; room = subst (λ (zs : List Dot). length zs ≤ btree_map_len m) (take-append-drop i ys) room }
+    let room : length (take i ys ++ drop i ys) ≤ map.len m = Walk-room m d l (take i ys) (drop i ys) row w in
+    record { walk = w; within = within; room = subst (λ (zs : List Dot). length zs ≤ map.len m) (take-append-drop i ys) room }
 
-pub Gathering-starts : (m : BTreeMap Dot Row) (d : Dot) (l : Link) → IsSome (table m d) → Gathering m d l (d ∷ []) 0
+pub Gathering-starts : (m : RowMap) (d : Dot) (l : Link) → IsSome (table m d) → Gathering m d l (d ∷ []) 0
 Gathering-starts m d l row = Gathering-from m d l (d ∷ []) 0 row (omega arith) (Walk-starts (with_link (links_of (table m)) d l) d)
 
-pub Gathering-turns : (m : BTreeMap Dot Row) (d : Dot) (l : Link) (ys cs zs : List Dot) (i : ℕ) (x : Dot) → IsSome (table m d) → i < length ys → x ≡ get_or ys i x → zs ≡ ys ++ cs → AreChildren (with_link (links_of (table m)) d l) d x cs → Gathering m d l ys i → Gathering m d l zs (i + 1)
+pub Gathering-turns : (m : RowMap) (d : Dot) (l : Link) (ys cs zs : List Dot) (i : ℕ) (x : Dot) → IsSome (table m d) → i < length ys → x ≡ get_or ys i x → zs ≡ ys ++ cs → AreChildren (with_link (links_of (table m)) d l) d x cs → Gathering m d l ys i → Gathering m d l zs (i + 1)
 Gathering-turns m d l ys cs zs i x row below at after children g =
     let front : take (i + 1) ys ≡ take i ys ++ x ∷ [] = take_more ys i x below ∙ ap (λ (y : Dot). take i ys ++ y ∷ []) (sym at) in
     let split : drop i ys ≡ x ∷ drop (i + 1) ys = drop_more ys i x below ∙ ap (λ (y : Dot). y ∷ drop (i + 1) ys) (sym at) in
@@ -94,7 +109,17 @@ Gathering-turns m d l ys cs zs i x row below at after children g =
     (subst (λ (r : List Dot). Walk (with_link (links_of (table m)) d l) d (take (i + 1) zs) r) new_rest
     (subst (λ (f : List Dot). Walk (with_link (links_of (table m)) d l) d f (drop (i + 1) ys ++ cs)) new_front turned))
 
-pub Gathering-ends : (m : BTreeMap Dot Row) (d : Dot) (l : Link) (ys : List Dot) (i : ℕ) → length ys ≤ i → Gathering m d l ys i → Gathers (links_of (table m)) d l ys
+-- a list that has no room for the children of one of its dots has not room for all rows
+pub Gathering-short : (m : RowMap) (d : Dot) (l : Link) (ys : List Dot) (i room : ℕ) (x : Dot) (above : Link) → IsSome (table m d) → i < length ys → x ≡ get_or ys i x → ((k : Link) → links_of (table m) d ≡ Some k → k ≡ l)
+    → with_link (links_of (table m)) d l x ≡ Some above → IsShort (links_of (table m)) x above ys room → Gathering m d l ys i → room < map.len m
+Gathering-short m d l ys i room x above row below at other there s g =
+    let more : Gathering m d l (ys ++ s.children) (i + 1) =
+    Gathering-turns m d l ys s.children (ys ++ s.children) i x row below at refl (AreChildren-from (links_of (table m)) d l x above s.children other there s.fit) g in
+    let within : length (ys ++ s.children) ≤ map.len m = more.room in
+    let short : room < length (ys ++ s.children) = s.short in
+    omega arith
+
+pub Gathering-ends : (m : RowMap) (d : Dot) (l : Link) (ys : List Dot) (i : ℕ) → length ys ≤ i → Gathering m d l ys i → Gathers (links_of (table m)) d l ys
 Gathering-ends m d l ys i above g =
     let all : take i ys ≡ ys = take_all i ys above in
     let none : drop i ys ≡ [] = drop_all i ys above in

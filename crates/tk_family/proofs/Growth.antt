@@ -1,5 +1,5 @@
 -- What a forest's rows keep is kept when a link is put and when a token is marked.
-use Rattle.std.proofs.Common.{◌≡◌, ◌≢◌, ◌⊎◌, inl, inr, Bool, true, false, cond, Option, None, Some, List, [], ◌∷◌, ◌||◌, ◌&&◌, ap, sym, ◌∙◌, refl, subst}
+use Rattle.std.proofs.Common.{◌≡◌, ◌≢◌, ◌⊎◌, inl, inr, true, false, cond, Option, None, Some, List, [], ◌∷◌, ◌||◌, ◌&&◌, ap, sym, ◌∙◌, refl, subst}
 use Rattle.std.proofs.lemmas.Bool.{true≢false, cases_Bool, or_cases, or_left, or_right, false_from_ne_true, cond-true, cond-false, and_parts, and_from, or_parts}
 use Rattle.std.specs.List.{AllByRecursion}
 use Rattle.std.proofs.lemmas.Map.Keys.{IsDistinct-cons}
@@ -12,29 +12,12 @@ use Rattle.tk_family.specs.declared.link.Link.{Link}
 use Rattle.tk_family.specs.declared.link.Link.TheVariants.{Code, Redeems, Rotates}
 use Rattle.tk_family.specs.Dots.{dot_eq, has}
 use Rattle.tk_family.specs.Families.{Links, used_by, named_by, grant_at, use_of, IsParent, IsPath, IsUnder, IsTwice, IsBad, IsDead, LinksWithin, IsUsed}
+use Rattle.tk_family.specs.Uses.{is_code, is_refresh, uses_it}
 use Rattle.tk_family.specs.Rows.{Rows, code_in, dead_in, first_in, next_in, used_in, again_in, bad_at, bad_in, links_of, marks_of, named_of}
 use Rattle.tk_family.specs.Kept.{IsChain, NamesAll, Hangs, IsForest}
 use Rattle.tk_family.proofs.DotLaws.{cases_dots, has-cons, has-here, has-there, dot_eq-true, dot_eq-same}
 use Rattle.tk_family.proofs.Adding.{Adds, Within-adds, IsPath-adds, IsPath-here, alone, below_under}
 use Rattle.tk_family.proofs.FamilyLaws.{IsUnder-one, IsUnder-within, IsTwice-within, IsDead-within, use_of-within}
-
--- ---- whether a link uses a token
-
-abbrev pub is_code : Kind → Bool
-is_code kind.Code = true
-is_code kind.Access = false
-is_code kind.Refresh = false
-
-abbrev pub is_refresh : Kind → Bool
-is_refresh kind.Code = false
-is_refresh kind.Access = false
-is_refresh kind.Refresh = true
-
--- the link uses the token
-abbrev pub uses_it : Link → TokenId → Bool
-uses_it Code k = false
-uses_it (Redeems code) k = dot_eq code k.dot && is_code k.kind
-uses_it (Rotates parent generation) k = dot_eq parent k.dot && is_refresh k.kind
 
 -- ---- what is under a code with one more link
 
@@ -269,7 +252,7 @@ fresh f g d l a p list n = false_from_ne_true (has list d) (λ h. let clash : No
 not_fresh : (f g : Links) (d : Dot) (l : Link) → Adds f g d l → (p : Dot) (list : List Dot) → NamesAll f p list → (e : Dot) → has list e ≡ true → e ≢ d
 not_fresh f g d l a p list n e h same = true≢false (sym (subst (λ (y : Dot). has list y ≡ true) same h) ∙ fresh f g d l a p list n)
 
-all_apart : (d : Dot) (list : List Dot) → has list d ≡ false → AllByRecursion (λ y. dot_eq d y ≡ false) list
+pub all_apart : (d : Dot) (list : List Dot) → has list d ≡ false → AllByRecursion (λ y. dot_eq d y ≡ false) list
 all_apart d [] h = tt
 all_apart d (x ∷ xs) h = let parts : (dot_eq d x ≡ false) × (has xs d ≡ false) = or_parts _ _ h in (parts.0, all_apart d xs parts.1)
 

@@ -1,5 +1,6 @@
 -- Going along what hangs below a dot.
-use Rattle.std.proofs.Common.{◌≡◌, ◌≢◌, inl, inr, ℕ, ◌-◌, ◌≤◌, Bool, true, false, cond, Option, None, Some, List, [], ◌∷◌, ◌++◌, length, filter, ap, sym, ◌∙◌, refl, arith, subst, append_assoc, append-nil, IsSome, BTreeMap, btree_map_len, rules}
+use Rattle.std.specs.FinMap as map
+use Rattle.std.proofs.Common.{◌≡◌, ◌≢◌, inl, inr, ℕ, ◌+◌, ◌-◌, ◌<◌, ◌≤◌, Bool, true, false, cond, Option, None, Some, List, [], ◌∷◌, ◌++◌, length, filter, ap, sym, ◌∙◌, refl, arith, subst, append_assoc, append-nil, length-append, IsSome, rules}
 use Rattle.std.proofs.lemmas.Bool.{true≢false, cases_Bool, cond-true, cond-false, false_from_ne_true}
 use Rattle.std.proofs.lemmas.Map.Steps.{length-le_from_keys}
 use Rattle.std.proofs.lemmas.Map.Keys.{IsDistinct-cons, IsDistinct-head, IsDistinct-tail}
@@ -8,10 +9,12 @@ use Rattle.tk_handle.specs.declared.dot.Dot.{Dot}
 use Rattle.tk_family.specs.declared.link.Link.{Link}
 use Rattle.tk_family.specs.declared.row.Row.{Row}
 use Rattle.tk_family.specs.Dots.{dot_eq, has}
-use Rattle.tk_family.specs.Rows.{Rows, table, link_in, next_in, first_in, links_of, named_of}
+use Rattle.tk_family.specs.Rows.{RowMap, Rows, table, link_in, next_in, first_in, links_of, named_of}
 use Rattle.tk_family.specs.Kept.{IsChain, NamesAll, Hangs}
 use Rattle.tk_family.specs.Puts.{fits_at, Pushes}
+use Rattle.tk_family.specs.Takes.{IsShort}
 use Rattle.tk_family.proofs.DotLaws.{dots_equiv, has-cons, has-here, has-there, list_none, dot_eq-apart}
+use Rattle.tk_family.proofs.EntryLaws.{entries_table}
 
 -- ---- filters of lists of dots
 
@@ -35,7 +38,7 @@ filter-has p (x ∷ xs) q h kept = elim (has-cons x xs q h) [
   ]
 ]
 
-apart_all : (y : Dot) (ys : List Dot) → has ys y ≡ false → AllByRecursion (λ z. dot_eq y z ≡ false) ys
+pub apart_all : (y : Dot) (ys : List Dot) → has ys y ≡ false → AllByRecursion (λ z. dot_eq y z ≡ false) ys
 apart_all y [] h = tt
 apart_all y (z ∷ zs) h =
     let ne : y ≢ z = λ same. true≢false (sym (subst (λ (w : Dot). has (w ∷ zs) y ≡ true) same (has-here y zs)) ∙ h) in
@@ -82,13 +85,13 @@ row_of : (o : Option Row) (x : Dot) → named_of (link_in o) ≡ Some x → IsSo
 row_of None x h = absurd (cc)
 row_of (Some r) x h = search rules
 
-some_row : (m : BTreeMap Dot Row) (q x : Dot) → named_of (link_in (table m q)) ≡ Some x → IsSome (table m q)
+some_row : (m : RowMap) (q x : Dot) → named_of (link_in (table m q)) ≡ Some x → IsSome (table m q)
 some_row m q x h = row_of (table m q) x h
 
-pub Hangs-room : (m : BTreeMap Dot Row) (x : Dot) (h : Hangs (table m) x) → length h.list ≤ btree_map_len m
-Hangs-room m x h = length-le_from_keys dots_equiv h.list m.entries h.names.distinct (λ q q_in. some_row m q x (h.names.sound q q_in))
+pub Hangs-room : (m : RowMap) (x : Dot) (h : Hangs (table m) x) → length h.list ≤ map.len m
+Hangs-room m x h = subst (λ (n : ℕ). length h.list ≤ n) (sym (map.len-entries m)) (length-le_from_keys dots_equiv h.list (map.entries m) h.names.distinct (λ q q_in. subst IsSome (sym (entries_table m q)) (some_row m q x (h.names.sound q q_in))))
 
-pub Pushing-starts : (m : BTreeMap Dot Row) (x : Dot) (above : Link) (old : List Dot) → Hangs (table m) x → Pushing (table m) x above (first_in (table m x)) old old (btree_map_len m)
+pub Pushing-starts : (m : RowMap) (x : Dot) (above : Link) (old : List Dot) → Hangs (table m) x → Pushing (table m) x above (first_in (table m x)) old old (map.len m)
 Pushing-starts m x above old h = record {
   seen = [];
   rest = h.list;
@@ -141,3 +144,48 @@ ended T x above old now seen [] chain names after =
 
 pub Pushing-ends : (T : Rows) (x : Dot) (above : Link) (old now : List Dot) (left : ℕ) → Pushing T x above None old now left → Pushes (links_of T) x above old now
 Pushing-ends T x above old now left p = ended T x above old now p.seen p.rest p.chain p.names p.after
+
+-- ---- a list that has no room for the children
+
+length-filter-kept : (p : Dot → Bool) (seen : List Dot) (e : Dot) (rest : List Dot) → p e ≡ true → length (filter p seen) < length (filter p (seen ++ e ∷ rest))
+length-filter-kept p [] e rest kept =
+    let one : filter p (e ∷ rest) ≡ e ∷ filter p rest = cond-true _ _ _ kept in
+    let long : length (filter p (e ∷ rest)) ≡ length (e ∷ filter p rest) = ap length one in
+    omega arith
+length-filter-kept p (x ∷ xs) e rest kept = elim (cases_Bool (p x)) [
+  | inl h ↦
+      let a : length (filter p (x ∷ xs)) ≡ length (x ∷ filter p xs) = ap length (cond-true _ _ _ h) in
+      let b : length (filter p (x ∷ (xs ++ e ∷ rest))) ≡ length (x ∷ filter p (xs ++ e ∷ rest)) = ap length (cond-true _ _ _ h) in
+      let less : length (filter p xs) < length (filter p (xs ++ e ∷ rest)) = length-filter-kept p xs e rest kept in
+      omega arith
+  | inr h ↦
+      let a : length (filter p (x ∷ xs)) ≡ length (filter p xs) = ap length (cond-false _ _ _ h) in
+      let b : length (filter p (x ∷ (xs ++ e ∷ rest))) ≡ length (filter p (xs ++ e ∷ rest)) = ap length (cond-false _ _ _ h) in
+      let less : length (filter p xs) < length (filter p (xs ++ e ∷ rest)) = length-filter-kept p xs e rest kept in
+      omega arith
+]
+
+short : (T : Rows) (x : Dot) (above : Link) (e : Dot) (old now : List Dot) (room : ℕ) (seen rest : List Dot) → IsChain (λ q. next_in (T q)) (Some e) rest → NamesAll (links_of T) x (seen ++ rest) → now ≡ old ++ filter (λ e. fits_at (links_of T e) above) seen
+    → fits_at (links_of T e) above ≡ true → room ≤ length now → IsShort (links_of T) x above old room
+short T x above e old now room seen [] chain names after kept full = absurd (cc)
+short T x above e old now room seen (y ∷ ys) chain names after kept full =
+    let p : Dot → Bool = λ z. fits_at (links_of T z) above in
+    let some : Some e ≡ Some y = chain.0 in
+    let same : e ≡ y = cc in
+    let all : List Dot = filter p (seen ++ y ∷ ys) in
+    let less : length (filter p seen) < length all = length-filter-kept p seen y ys (ap p (sym same) ∙ kept) in
+    let so_long : length now ≡ length old + length (filter p seen) = ap length after ∙ length-append old (filter p seen) in
+    let long : length (old ++ all) ≡ length old + length all = length-append old all in
+    record {
+      children = all;
+      fit = record {
+        names = λ z h. names.sound z (has-filter p (seen ++ y ∷ ys) z h).0;
+        fitting = λ z h. (has-filter p (seen ++ y ∷ ys) z h).1;
+        all = λ z named fitting. filter-has p (seen ++ y ∷ ys) z (names.all z named) fitting;
+        distinct = IsDistinct-filter p (seen ++ y ∷ ys) names.distinct;
+      };
+      short = omega arith;
+    }
+
+pub Pushing-short : (T : Rows) (x : Dot) (above : Link) (e : Dot) (old now : List Dot) (left room : ℕ) → Pushing T x above (Some e) old now left → fits_at (links_of T e) above ≡ true → room ≤ length now → IsShort (links_of T) x above old room
+Pushing-short T x above e old now left room p kept full = short T x above e old now room p.seen p.rest p.chain p.names p.after kept full

@@ -1,8 +1,8 @@
 -- From the rows to the finite map and set that contracts see.
-use Rattle.std.proofs.Common.{◌≡◌, inl, inr, Bool, true, false, Option, None, Some, List, [], ap, sym, ◌∙◌, refl, subst, BTreeMap, Result, Ok, Err, IfOk, OnOk, OnErr, ◌||◌, Vec, Global, rules}
+use Rattle.std.proofs.Common.{◌≡◌, ◌≢◌, ◌&&◌, not, inl, inr, Bool, true, false, Option, None, Some, List, [], ap, sym, ◌∙◌, refl, subst, Result, Ok, Err, IfOk, OnOk, OnErr, ◌||◌, Vec, Global, rules}
 use Rattle.std.specs.Cmp.{IsEquivalence, eq_by_cmp_equiv, Equal-is, both_ways}
 use Rattle.std.specs.Ordering.{eq_by_cmp}
-use Rattle.std.proofs.lemmas.Bool.{true≢false, or_left, or_right, or_cases}
+use Rattle.std.proofs.lemmas.Bool.{true≢false, cases_Bool, or_left, or_right, or_cases}
 use Rattle.std.specs.declared.alloc.AllocError.{AllocError}
 use Rattle.std.specs.List.{IsDistinct}
 use Rattle.std.specs.FinMap as map
@@ -17,9 +17,10 @@ use Rattle.tk_family.specs.declared.row.Row.{Row}
 use Rattle.tk_family.specs.Dots.{has}
 use Rattle.tk_family.specs.Families.{Links, use_of, IsUsed}
 use Rattle.tk_family.specs.Tops.{IsTop, IsRaised}
-use Rattle.tk_family.specs.Rows.{Rows, table, link_in, code_in, dead_in, first_in, used_in, again_in, links_of, marks_of, named_of}
+use Rattle.tk_family.specs.Rows.{RowMap, Rows, table, link_in, code_in, dead_in, first_in, used_in, again_in, links_of, marks_of, named_of}
 use Rattle.tk_family.specs.Kept.{Hangs, IsForest}
 use Rattle.tk_family.specs.Puts.{Puts, MarksOne}
+use Rattle.tk_family.specs.Takes.{Unmarks}
 use Rattle.tk_family.specs.ForestFacts.{ForestFacts, links_at, marks_at}
 use Rattle.tk_family.specs.View.{seen, seen_links, seen_marks}
 use Rattle.tk_handle.specs.Dot.{dot_cmp_total, dot_cmp-IsAntisymmetric}
@@ -33,19 +34,19 @@ links_ext f g h = λ i q. h q i
 marks_ext : (f g : TokenId → Bool) → ((k : TokenId) → f k ≡ g k) → f ≡ g
 marks_ext f g h = λ i k. h k i
 
-pub links_seen : (m : BTreeMap Dot Row) (v : ForestFacts) → seen m ≡ v → links_of (table m) ≡ links_at v
+pub links_seen : (m : RowMap) (v : ForestFacts) → seen m ≡ v → links_of (table m) ≡ links_at v
 links_seen m v is = links_ext (links_of (table m)) (links_at (seen m)) (λ q. sym (get-links m q)) ∙ ap links_at is
 
-pub marks_seen : (m : BTreeMap Dot Row) (v : ForestFacts) → seen m ≡ v → marks_of (table m) ≡ set.contains v.marks
-marks_seen m v is = marks_ext (marks_of (table m)) (set.contains (seen_marks m.entries)) (λ k. sym (contains-marks m k)) ∙ ap (λ (x : ForestFacts). set.contains x.marks) is
+pub marks_seen : (m : RowMap) (v : ForestFacts) → seen m ≡ v → marks_of (table m) ≡ set.contains v.marks
+marks_seen m v is = marks_ext (marks_of (table m)) (set.contains (seen_marks (map.entries m))) (λ k. sym (contains-marks m k)) ∙ ap (λ (x : ForestFacts). set.contains x.marks) is
 
-pub top_seen : (m : BTreeMap Dot Row) (v : ForestFacts) → seen m ≡ v → (q : Dot) (t : Top) → IsTop (links_of (table m)) (passing (marks_of (table m))) q t → IsTop (links_at v) (marks_at v) q t
+pub top_seen : (m : RowMap) (v : ForestFacts) → seen m ≡ v → (q : Dot) (t : Top) → IsTop (links_of (table m)) (passing (marks_of (table m))) q t → IsTop (links_at v) (marks_at v) q t
 top_seen m v is q t h = subst (λ (f : Links). IsTop f (marks_at v) q t) (links_seen m v is) (subst (λ (k : TokenId → Bool). IsTop (links_of (table m)) (passing k) q t) (marks_seen m v is) h)
 
-pub raised_seen : (m n : BTreeMap Dot Row) (v : ForestFacts) → seen m ≡ v → (q : Dot) → IsRaised (links_of (table m)) (links_of (table n)) q → IsRaised (links_at v) (links_at (seen n)) q
+pub raised_seen : (m n : RowMap) (v : ForestFacts) → seen m ≡ v → (q : Dot) → IsRaised (links_of (table m)) (links_of (table n)) q → IsRaised (links_at v) (links_at (seen n)) q
 raised_seen m n v is q h = subst (λ (f : Links). IsRaised f (links_at (seen n)) q) (links_seen m v is) (subst (λ (g : Links). IsRaised (links_of (table m)) g q) (links_seen n (seen n) refl) h)
 
-pub raised_back : (m n : BTreeMap Dot Row) (v : ForestFacts) → seen m ≡ v → (q : Dot) → IsRaised (links_at v) (links_at (seen n)) q → IsRaised (links_of (table m)) (links_of (table n)) q
+pub raised_back : (m n : RowMap) (v : ForestFacts) → seen m ≡ v → (q : Dot) → IsRaised (links_at v) (links_at (seen n)) q → IsRaised (links_of (table m)) (links_of (table n)) q
 raised_back m n v is q h = subst (λ (f : Links). IsRaised f (links_of (table n)) q) (sym (links_seen m v is)) (subst (λ (g : Links). IsRaised (links_at v) g q) (sym (links_seen n (seen n) refl)) h)
 
 pub raised_all : (T N : Rows) (d : Dot) (l : Link) (ys : List Dot) → Puts T N d l ys → (q : Dot) → IsRaised (links_of T) (links_of N) q → has ys q ≡ true
@@ -85,7 +86,7 @@ IsForest-empty T h = record {
   hangs = λ p. no_names T p h;
 }
 
-pub used_seen : (m : BTreeMap Dot Row) (v : ForestFacts) → seen m ≡ v → (k : TokenId) (b : Bool) → ((b ≡ true) → IsUsed (links_of (table m)) k) × (IsUsed (links_of (table m)) k → (b ≡ true)) → ((b ≡ true) → IsUsed (links_at v) k) × (IsUsed (links_at v) k → (b ≡ true))
+pub used_seen : (m : RowMap) (v : ForestFacts) → seen m ≡ v → (k : TokenId) (b : Bool) → ((b ≡ true) → IsUsed (links_of (table m)) k) × (IsUsed (links_of (table m)) k → (b ≡ true)) → ((b ≡ true) → IsUsed (links_at v) k) × (IsUsed (links_at v) k → (b ≡ true))
 used_seen m v is k b h = subst (λ (f : Links). ((b ≡ true) → IsUsed f k) × (IsUsed f k → (b ≡ true))) (links_seen m v is) h
 
 -- ---- a mark
@@ -93,21 +94,21 @@ used_seen m v is k b h = subst (λ (f : Links). ((b ≡ true) → IsUsed f k) ×
 tokens_equiv : IsEquivalence (eq_by_cmp token_cmp)
 tokens_equiv = eq_by_cmp_equiv tokens_total
 
-one_mark : (m n : BTreeMap Dot Row) (k : TokenId) → MarksOne (table m) (table n) k → (j : TokenId) → marks_of (table n) j ≡ (eq_by_cmp token_cmp j k || set.contains (seen_marks m.entries) j)
-one_mark m n k p j = both_ways (marks_of (table n) j) (eq_by_cmp token_cmp j k || set.contains (seen_marks m.entries) j)
+one_mark : (m n : RowMap) (k : TokenId) → MarksOne (table m) (table n) k → (j : TokenId) → marks_of (table n) j ≡ (eq_by_cmp token_cmp j k || set.contains (seen_marks (map.entries m)) j)
+one_mark m n k p j = both_ways (marks_of (table n) j) (eq_by_cmp token_cmp j k || set.contains (seen_marks (map.entries m)) j)
     (λ h. elim (p.new j h) [
-      | inl same ↦ or_left (eq_by_cmp token_cmp j k) (set.contains (seen_marks m.entries) j) (subst (λ (x : TokenId). eq_by_cmp token_cmp j x ≡ true) same (tokens_equiv.refl j))
-      | inr old ↦ or_right (eq_by_cmp token_cmp j k) (set.contains (seen_marks m.entries) j) (contains-marks m j ∙ old)
+      | inl same ↦ or_left (eq_by_cmp token_cmp j k) (set.contains (seen_marks (map.entries m)) j) (subst (λ (x : TokenId). eq_by_cmp token_cmp j x ≡ true) same (tokens_equiv.refl j))
+      | inr old ↦ or_right (eq_by_cmp token_cmp j k) (set.contains (seen_marks (map.entries m)) j) (contains-marks m j ∙ old)
     ])
-    (λ h. elim (or_cases (eq_by_cmp token_cmp j k) (set.contains (seen_marks m.entries) j) h) [
+    (λ h. elim (or_cases (eq_by_cmp token_cmp j k) (set.contains (seen_marks (map.entries m)) j) h) [
       | inl same ↦ subst (λ (x : TokenId). marks_of (table n) x ≡ true) (sym (exact_tokens j k ((Equal-is (token_cmp j k)).0 same))) p.here
       | inr old ↦ p.old j (sym (contains-marks m j) ∙ old)
     ])
 
-pub marks_one : (m n : BTreeMap Dot Row) (k : TokenId) → MarksOne (table m) (table n) k → seen_marks n.entries ≡ set.insert (seen_marks m.entries) k
-marks_one m n k p = set.same_set tokens_total exact_tokens _ _ (λ j. contains-marks n j ∙ (one_mark m n k p j ∙ sym (set.contains-insert tokens_total (seen_marks m.entries) k j)))
+pub marks_one : (m n : RowMap) (k : TokenId) → MarksOne (table m) (table n) k → seen_marks (map.entries n) ≡ set.insert (seen_marks (map.entries m)) k
+marks_one m n k p = set.same_set tokens_total exact_tokens _ _ (λ j. contains-marks n j ∙ (one_mark m n k p j ∙ sym (set.contains-insert tokens_total (seen_marks (map.entries m)) k j)))
 
-pub links_kept : (m n : BTreeMap Dot Row) → ((q : Dot) → links_of (table n) q ≡ links_of (table m) q) → seen_links n.entries ≡ seen_links m.entries
+pub links_kept : (m n : RowMap) → ((q : Dot) → links_of (table n) q ≡ links_of (table m) q) → seen_links (map.entries n) ≡ seen_links (map.entries m)
 links_kept m n h = map.same_map dot_cmp_total dot_cmp-IsAntisymmetric _ _ (λ q. get-links n q ∙ (h q ∙ sym (get-links m q)))
 
 pub unit_ok : (r : Result (Unit {0}) AllocError) (P Q : Type 0) → OnOk r P → (P → Q) → OnOk r Q
@@ -121,3 +122,18 @@ unit_err (Err e) P Q h f = f h
 pub unit_both : (r : Result (Unit {0}) AllocError) (P Q R : Type 0) → OnOk r P → OnErr r Q → (P → R) → (Q → R) → R
 unit_both (Ok v) P Q R h k f g = f h
 unit_both (Err e) P Q R h k f g = g k
+
+-- ---- a mark less
+
+mark_less : (m n : RowMap) (k : TokenId) → Unmarks (table m) (table n) k → (j : TokenId) → marks_of (table n) j ≡ (not (eq_by_cmp token_cmp j k) && set.contains (seen_marks (map.entries m)) j)
+mark_less m n k p j = elim (cases_Bool (eq_by_cmp token_cmp j k)) [
+  | inl same ↦
+      let one : j ≡ k = exact_tokens j k ((Equal-is (token_cmp j k)).0 same) in
+      ap (marks_of (table n)) one ∙ (p.gone ∙ sym (ap (λ (b : Bool). not b && set.contains (seen_marks (map.entries m)) j) same))
+  | inr apart ↦
+      let ne : j ≢ k = λ one. true≢false (sym (subst (λ (x : TokenId). eq_by_cmp token_cmp j x ≡ true) one (tokens_equiv.refl j)) ∙ apart) in
+      p.others j ne ∙ (sym (contains-marks m j) ∙ sym (ap (λ (b : Bool). not b && set.contains (seen_marks (map.entries m)) j) apart))
+]
+
+pub mark_gone : (m n : RowMap) (k : TokenId) → Unmarks (table m) (table n) k → seen_marks (map.entries n) ≡ set.remove (seen_marks (map.entries m)) k
+mark_gone m n k p = set.same_set tokens_total exact_tokens _ _ (λ j. contains-marks n j ∙ (mark_less m n k p j ∙ sym (set.contains-remove tokens_total (seen_marks (map.entries m)) k j)))

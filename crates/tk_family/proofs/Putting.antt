@@ -1,5 +1,5 @@
 -- The rows after a link was put are as `PutRows` says.
-use Rattle.std.proofs.Common.{◌≡◌, ◌≢◌, ◌⊎◌, inl, inr, ◌||◌, ◌&&◌, Bool, true, false, cond, Option, None, Some, List, [], ◌∷◌, ap, sym, ◌∙◌, refl, IsSome}
+use Rattle.std.proofs.Common.{◌≡◌, ◌≢◌, ◌⊎◌, inl, inr, ◌||◌, ◌&&◌, Bool, true, false, cond, Option, None, Some, List, [], ◌∷◌, ap, sym, ◌∙◌, refl, subst, IsSome}
 use Rattle.std.proofs.lemmas.Bool.{true≢false, cases_Bool, cond-true, cond-false, or_left, or_right, or_cases, and_parts, and_from}
 use Rattle.std.specs.List.{list_any}
 use Rattle.tk_handle.specs.declared.dot.Dot.{Dot}
@@ -15,7 +15,8 @@ use Rattle.tk_family.specs.declared.row.Uses.{Uses}
 use Rattle.tk_family.specs.declared.row.Uses.TheVariants.{Never, Once, Often}
 use Rattle.tk_family.specs.Rows.{is_some_use, is_often, Rows, link_in, code_in, dead_in, first_in, next_in, marked_in, used_in, again_in, bad_at, bad_in, grant_kind, links_of}
 use Rattle.tk_family.specs.Kept.{Hangs}
-use Rattle.tk_family.proofs.Growth.{uses_it, is_code, is_refresh, Hangs-put, Hangs-code}
+use Rattle.tk_family.specs.Uses.{uses_it, is_code, is_refresh}
+use Rattle.tk_family.proofs.Growth.{Hangs-put, Hangs-code}
 use Rattle.tk_family.specs.Writes.{once_more, with_code, with_dead, with_put, with_redeemer, with_rotator, is_dot, put_at, hung, settled, raised, buried}
 use Rattle.tk_family.proofs.DotLaws.{dot_eq-true, dot_eq-same, dot_eq-apart, has-cons, has-here, has-there}
 use Rattle.tk_family.proofs.Adding.{Adds}
@@ -175,10 +176,23 @@ put_present : (o : Option Row) (b : Bool) (l : Link) (n : Option Dot) → RowAt 
 put_present o true l n r = record { row = record r.row { link = Some l; next = n }; is = ap (λ (x : Option Row). with_put x l n) r.is }
 put_present o false l n r = r
 
--- Hung, where the link names p
-hung-at : (T N : Rows) (d p : Dot) (l : Link) (F : Option Row → Dot → Option Row) (of : Kind → Bool) → UseStep F of → named_by l ≡ Some p → ((k : TokenId) → uses_it l k ≡ (dot_eq p k.dot && of k.kind)) → links_of T d ≡ None → RowAt (T d) → RowAt (T p)
-    → ((q : Dot) → N q ≡ cond (dot_eq p q) (F (put_at T d l (first_in (T p)) q) d) (put_at T d l (first_in (T p)) q)) → Hung T N d l
-hung-at T N d p l F of step names uses free at_d at_p h =
+-- what hanging leaves in the columns, where the link names p
+pub record HungCols (T N : Rows) (d p : Dot) (l : Link) : Type 0 where
+  pub link_here : link_in (N d) ≡ Some l
+  pub link_old : (q : Dot) → q ≢ d → link_in (N q) ≡ link_in (T q)
+  pub code : (q : Dot) → code_in (N q) ≡ code_in (T q)
+  pub dead : (q : Dot) → dead_in (N q) ≡ dead_in (T q)
+  pub marked : (q : Dot) (k : Kind) → marked_in (N q) k ≡ marked_in (T q) k
+  pub used : (k : TokenId) → used_in (N k.dot) k.kind ≡ (used_in (T k.dot) k.kind || uses_it l k)
+  pub again : (k : TokenId) → again_in (N k.dot) k.kind ≡ (again_in (T k.dot) k.kind || (uses_it l k && used_in (T k.dot) k.kind))
+  pub next_here : next_in (N d) ≡ first_in (T p)
+  pub next_old : (q : Dot) → q ≢ d → next_in (N q) ≡ next_in (T q)
+  pub first_here : first_in (N p) ≡ Some d
+  pub first_old : (q : Dot) → q ≢ p → first_in (N q) ≡ first_in (T q)
+
+hung-cols : (T N : Rows) (d p : Dot) (l : Link) (F : Option Row → Dot → Option Row) (of : Kind → Bool) → UseStep F of → ((k : TokenId) → uses_it l k ≡ (dot_eq p k.dot && of k.kind)) → RowAt (T d) → RowAt (T p)
+    → ((q : Dot) → N q ≡ cond (dot_eq p q) (F (put_at T d l (first_in (T p)) q) d) (put_at T d l (first_in (T p)) q)) → HungCols T N d p l
+hung-cols T N d p l F of step uses at_d at_p h =
     let n : Option Dot = first_in (T p) in
     let M : Rows = put_at T d l n in
     let here : RowAt (T d) = at_d in
@@ -186,15 +200,11 @@ hung-at T N d p l F of step names uses free at_d at_p h =
     let next_M : (q : Dot) → next_in (N q) ≡ next_in (M q) = λ q. ap next_in (h q) ∙ column next_in (dot_eq p q) (F (M q) d) (M q) (step.cols (M q) d).3 in
     let at_p_M : RowAt (M p) = put_present (T p) (dot_eq d p) l n at_p in
     let N_p : N p ≡ F (Some at_p_M.row) d = h p ∙ (cond-true _ _ _ (dot_eq-same p) ∙ ap (λ (o : Option Row). F o d) at_p_M.is) in
-    let adds : Adds (links_of T) (links_of N) d l = record {
-      free = free;
-      here = link_M d ∙ (ap link_in (cond-true (dot_eq d d) (with_put (T d) l n) (T d) (dot_eq-same d)) ∙ ap (λ (o : Option Row). link_in (with_put o l n)) here.is);
-      others = λ q ne. link_M q ∙ ap link_in (cond-false (dot_eq d q) (with_put (T q) l n) (T q) (dot_eq-apart d q (λ same. ne (sym same))));
-    } in
     let used_M : (q : Dot) (k : Kind) → used_in (M q) k ≡ used_in (T q) k = λ q k. column (λ (o : Option Row). used_in o k) (dot_eq d q) (with_put (T q) l n) (T q) (put_flags (T q) l n k).1 in
     let again_M : (q : Dot) (k : Kind) → again_in (M q) k ≡ again_in (T q) k = λ q k. column (λ (o : Option Row). again_in o k) (dot_eq d q) (with_put (T q) l n) (T q) (put_flags (T q) l n k).2 in
     record {
-      adds = adds;
+      link_here = link_M d ∙ (ap link_in (cond-true (dot_eq d d) (with_put (T d) l n) (T d) (dot_eq-same d)) ∙ ap (λ (o : Option Row). link_in (with_put o l n)) here.is);
+      link_old = λ q ne. link_M q ∙ ap link_in (cond-false (dot_eq d q) (with_put (T q) l n) (T q) (dot_eq-apart d q (λ same. ne (sym same))));
       code = λ q. ap code_in (h q) ∙ (column code_in (dot_eq p q) (F (M q) d) (M q) (step.cols (M q) d).0 ∙ column code_in (dot_eq d q) (with_put (T q) l n) (T q) (put_cols (T q) l n).0);
       dead = λ q. ap dead_in (h q) ∙ (column dead_in (dot_eq p q) (F (M q) d) (M q) (step.cols (M q) d).1 ∙ column dead_in (dot_eq d q) (with_put (T q) l n) (T q) (put_cols (T q) l n).1);
       marked = λ q k. ap (λ (o : Option Row). marked_in o k) (h q) ∙ (column (λ (o : Option Row). marked_in o k) (dot_eq p q) (F (M q) d) (M q) (step.marked (M q) d k) ∙ column (λ (o : Option Row). marked_in o k) (dot_eq d q) (with_put (T q) l n) (T q) (put_flags (T q) l n k).0);
@@ -214,13 +224,37 @@ hung-at T N d p l F of step names uses free at_d at_p h =
             ∙ ap (λ (b : Bool). again_in (T k.dot) k.kind || (b && used_in (T k.dot) k.kind)) (sym (uses k ∙ ap (λ (b : Bool). b && of k.kind) same)))))))
         | inr apart ↦ ap (λ (o : Option Row). again_in o k.kind) (h k.dot ∙ cond-false _ _ _ apart) ∙ (again_M k.dot k.kind ∙ (or_false (again_in (T k.dot) k.kind) ∙ ap (λ (b : Bool). again_in (T k.dot) k.kind || (b && used_in (T k.dot) k.kind)) (sym (uses k ∙ ap (λ (b : Bool). b && of k.kind) apart))))
       ];
-      hangs = λ r was. Hangs-put T N d p l adds (record {
-        names = names;
-        next_here = next_M d ∙ (ap next_in (cond-true (dot_eq d d) (with_put (T d) l n) (T d) (dot_eq-same d)) ∙ ap (λ (o : Option Row). next_in (with_put o l n)) here.is);
-        next_old = λ q ne. next_M q ∙ ap next_in (cond-false (dot_eq d q) (with_put (T q) l n) (T q) (dot_eq-apart d q (λ same. ne (sym same))));
-        first_here = ap first_in N_p ∙ step.first at_p_M.row d;
-        first_old = λ q ne. ap first_in (h q ∙ cond-false _ _ _ (dot_eq-apart p q (λ same. ne (sym same)))) ∙ column first_in (dot_eq d q) (with_put (T q) l n) (T q) (put_cols (T q) l n).2;
-      }) r was;
+      next_here = next_M d ∙ (ap next_in (cond-true (dot_eq d d) (with_put (T d) l n) (T d) (dot_eq-same d)) ∙ ap (λ (o : Option Row). next_in (with_put o l n)) here.is);
+      next_old = λ q ne. next_M q ∙ ap next_in (cond-false (dot_eq d q) (with_put (T q) l n) (T q) (dot_eq-apart d q (λ same. ne (sym same))));
+      first_here = ap first_in N_p ∙ step.first at_p_M.row d;
+      first_old = λ q ne. ap first_in (h q ∙ cond-false _ _ _ (dot_eq-apart p q (λ same. ne (sym same)))) ∙ column first_in (dot_eq d q) (with_put (T q) l n) (T q) (put_cols (T q) l n).2;
+    }
+
+pub hung-cols-all : (T N : Rows) (d p : Dot) (l : Link) → named_by l ≡ Some p → RowAt (T d) → RowAt (T p) → ((q : Dot) → N q ≡ hung T d l q) → HungCols T N d p l
+hung-cols-all T N d p Code names at_d at_p h = absurd (let clash : None ≡ Some p = names in cc)
+hung-cols-all T N d p (Redeems c) names at_d at_p h =
+    let both : Some c ≡ Some p = names in
+    let same : c ≡ p = cc in
+    subst (λ (y : Dot). HungCols T N d y (Redeems c)) same
+    (hung-cols T N d c (Redeems c) with_redeemer is_code redeems_step (λ k. refl) at_d (subst (λ (y : Dot). RowAt (T y)) (sym same) at_p) h)
+hung-cols-all T N d p (Rotates c g) names at_d at_p h =
+    let both : Some c ≡ Some p = names in
+    let same : c ≡ p = cc in
+    subst (λ (y : Dot). HungCols T N d y (Rotates c g)) same
+    (hung-cols T N d c (Rotates c g) with_rotator is_refresh rotates_step (λ k. refl) at_d (subst (λ (y : Dot). RowAt (T y)) (sym same) at_p) h)
+
+-- Hung, where the link names p
+hung-at : (T N : Rows) (d p : Dot) (l : Link) → named_by l ≡ Some p → links_of T d ≡ None → HungCols T N d p l → Hung T N d l
+hung-at T N d p l names free c =
+    let adds : Adds (links_of T) (links_of N) d l = record { free = free; here = c.link_here; others = c.link_old } in
+    record {
+      adds = adds;
+      code = c.code;
+      dead = c.dead;
+      marked = c.marked;
+      used = c.used;
+      again = c.again;
+      hangs = λ r was. Hangs-put T N d p l adds (record { names = names; next_here = c.next_here; next_old = c.next_old; first_here = c.first_here; first_old = c.first_old }) r was;
     }
 
 -- a code hangs below nothing
@@ -244,8 +278,8 @@ hung-code T N d free at_d h =
 
 pub hung-all : (T N : Rows) (d : Dot) (l : Link) → links_of T d ≡ None → IsSome (T d) → ((p : Dot) → named_by l ≡ Some p → IsSome (T p)) → ((q : Dot) → N q ≡ hung T d l q) → Hung T N d l
 hung-all T N d Code free at_d at_p h = hung-code T N d free (row_at (T d) at_d) h
-hung-all T N d (Redeems p) free at_d at_p h = hung-at T N d p (Redeems p) with_redeemer is_code redeems_step refl (λ k. refl) free (row_at (T d) at_d) (row_at (T p) (at_p p refl)) h
-hung-all T N d (Rotates p g) free at_d at_p h = hung-at T N d p (Rotates p g) with_rotator is_refresh rotates_step refl (λ k. refl) free (row_at (T d) at_d) (row_at (T p) (at_p p refl)) h
+hung-all T N d (Redeems p) free at_d at_p h = hung-at T N d p (Redeems p) refl free (hung-cols-all T N d p (Redeems p) refl (row_at (T d) at_d) (row_at (T p) (at_p p refl)) h)
+hung-all T N d (Rotates p g) free at_d at_p h = hung-at T N d p (Rotates p g) refl free (hung-cols-all T N d p (Rotates p g) refl (row_at (T d) at_d) (row_at (T p) (at_p p refl)) h)
 
 -- ---- codes and tombstones are written
 
@@ -286,14 +320,14 @@ code_flags (Some r) c kind.Code = (refl, refl, refl)
 code_flags (Some r) c kind.Access = (refl, refl, refl)
 code_flags (Some r) c kind.Refresh = (refl, refl, refl)
 
-list_any-some : (p : Dot → Bool) (ys : List Dot) → list_any p ys ≡ true → (e : Dot) × (has ys e ≡ true) × (p e ≡ true)
+pub list_any-some : (p : Dot → Bool) (ys : List Dot) → list_any p ys ≡ true → (e : Dot) × (has ys e ≡ true) × (p e ≡ true)
 list_any-some p [] h = absurd (true≢false (sym h))
 list_any-some p (y ∷ ys) h = elim (or_cases (p y) (list_any p ys) h) [
   | inl here ↦ (y, has-here y ys, here)
   | inr more ↦ let r : (e : Dot) × (has ys e ≡ true) × (p e ≡ true) = list_any-some p ys more in (r.0, has-there y ys r.0 r.1, r.2)
 ]
 
-some-list_any : (p : Dot → Bool) (ys : List Dot) (e : Dot) → has ys e ≡ true → p e ≡ true → list_any p ys ≡ true
+pub some-list_any : (p : Dot → Bool) (ys : List Dot) (e : Dot) → has ys e ≡ true → p e ≡ true → list_any p ys ≡ true
 some-list_any p [] e e_in h = absurd (true≢false (sym e_in))
 some-list_any p (y ∷ ys) e e_in h = elim (has-cons y ys e e_in) [
   | inl same ↦ or_left (p y) (list_any p ys) (sym (ap p same) ∙ h)

@@ -7,17 +7,23 @@
 --   ForestFacts   a forest as contracts see it: a finite map of links, and a finite set of marks
 --   View          what the rows of a forest show
 --   Rows          the rows of a forest, and their columns
+--   Packed        a row in little room
 --   Kept          what the rows of a forest keep
 --   Writes        what the steps of a forest write
 --   Puts          what they do together
+--   Uses          the uses of a token, counted along a list
+--   Takes         what taking a link or a mark away does to the rows of a forest
 pub mod Dots
 pub mod Families
 pub mod ForestFacts
 pub mod Kept
 pub mod Laws
+pub mod Packed
 pub mod Puts
 pub mod Rows
+pub mod Takes
 pub mod Tops
+pub mod Uses
 pub mod View
 pub mod Walks
 pub mod Writes

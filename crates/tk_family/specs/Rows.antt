@@ -1,12 +1,12 @@
 -- The rows of a forest by their look-up, and their columns (own). An absent row and one that says nothing are alike.
---   Rows, table                    the row at each dot, if there is one; those of a map
+--   Rows, RowMap, table            the row at each dot, if there is one; those of a map
 --   link_in, code_in, dead_in      the link at a dot, the code that it is under, the death of its family
 --   first_in, next_in              the chain of the dots whose links name a dot
 --   marked_in, used_in, again_in   by kind: a token of the dot is marked, is used, is used once more
 --   bad_in                         the code or refresh token of the dot is marked, or used twice
 --   links_of, marks_of, named_of   the links and marks of the rows; the dot that a link names
 use Rattle.std.specs.Prelude.{Bool, true, false, ◌||◌, Option, Some, None}
-use Rattle.std.specs.BTreeMap.{BTreeMap, get}
+use Rattle.std.specs.FinMap as map
 use Rattle.tk_handle.specs.declared.dot.Dot.{Dot}
 use Rattle.tk_handle.specs.declared.kind.Kind.{Kind}
 use Rattle.tk_handle.specs.declared.kind.Kind.TheVariants as kind
@@ -23,9 +23,13 @@ use Rattle.tk_family.specs.Families.{Links, named_by}
 abbrev pub Rows : Type 0
 Rows = Dot → Option Row
 
+-- a row at each of some dots
+abbrev pub RowMap : Type 0
+RowMap = map.FinMap dot_cmp Row
+
 -- the rows of a map
-abbrev pub table : BTreeMap Dot Row → Rows
-table rows q = get dot_cmp rows q
+abbrev pub table : RowMap → Rows
+table rows q = map.get rows q
 
 -- ---- columns
 

@@ -1,7 +1,6 @@
 -- What the rows of a forest show: each row's link, and its marks (own).
 --   seen   the links and marks of the rows
 use Rattle.std.specs.Prelude.{Bool, true, false, Option, None, Some, List, [], ◌∷◌}
-use Rattle.std.specs.BTreeMap.{BTreeMap}
 use Rattle.std.specs.FinMap as map
 use Rattle.std.specs.FinSet as set
 use Rattle.tk_handle.specs.declared.dot.Dot.{Dot}
@@ -12,6 +11,7 @@ use Rattle.tk_handle.specs.TokenId.{token_cmp}
 use Rattle.tk_family.specs.declared.link.Link.{Link}
 use Rattle.tk_family.specs.declared.row.Row.{Row}
 use Rattle.tk_family.specs.ForestFacts.{ForestFacts}
+use Rattle.tk_family.specs.Rows.{RowMap}
 
 -- the map with a link put, or without one
 abbrev pub seen_link : map.FinMap dot_cmp Link → Dot → Option Link → map.FinMap dot_cmp Link
@@ -41,5 +41,5 @@ seen_marks [] = set.empty
 seen_marks (e ∷ es) = seen_row (seen_marks es) e.0 e.1
 
 -- the links and marks of the rows
-abbrev pub seen : BTreeMap Dot Row → ForestFacts
-seen m = record { links = seen_links m.entries; marks = seen_marks m.entries }
+abbrev pub seen : RowMap → ForestFacts
+seen m = record { links = seen_links (map.entries m); marks = seen_marks (map.entries m) }

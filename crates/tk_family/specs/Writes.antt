@@ -1,13 +1,16 @@
 -- What the steps of `put` and `mark` write into rows, each as a function of the rows before it (own).
---   blank, or_blank                 a row that says nothing
+--   blank, or_blank, is_blank       a row that says nothing
 --   once_more                       one use more
 --   with_code, with_dead, with_put, with_redeemer, with_rotator, with_marked   a row with one thing written
 --   put_at, hung                    a link is put, and hung below the dot that it names
+--   without_code, without_dead, without_users, without_link, without_mark   a row with one thing taken away
 --   settled, raised                 a code is written at dots, and its tombstone where a token of theirs is bad
+--   cleared                         no code is said at dots
 --   buried                          the tombstone of the family that a dot is in, if its token is bad
 --   chain_by, chain_code            the code that a link comes under
-use Rattle.std.specs.Prelude.{Bool, true, false, ◌&&◌, if◌then◌else◌, List, Option, Some, None}
+use Rattle.std.specs.Prelude.{Bool, true, false, not, ◌&&◌, if◌then◌else◌, List, Option, Some, None}
 use Rattle.std.specs.List.{list_any}
+use Rattle.std.specs.Option.{is_none}
 use Rattle.tk_handle.specs.declared.dot.Dot.{Dot}
 use Rattle.tk_handle.specs.declared.kind.Kind.{Kind}
 use Rattle.tk_handle.specs.declared.kind.Kind.TheVariants as kind
@@ -41,6 +44,20 @@ blank = record {
 abbrev pub or_blank : Option Row → Option Row
 or_blank None = Some blank
 or_blank (Some row) = Some row
+
+abbrev pub is_never : Uses → Bool
+is_never Never = true
+is_never Once = false
+is_never Often = false
+
+abbrev pub is_blank : Row → Bool
+is_blank row =
+    is_none row.link && (is_none row.code && (not row.dead && (not row.marked_code && (not row.marked_access && (not row.marked_refresh
+    && (is_never row.redeemed && (is_never row.rotated && (is_none row.first && is_none row.next))))))))
+
+abbrev pub is_blank_row : Option Row → Bool
+is_blank_row None = true
+is_blank_row (Some row) = is_blank row
 
 -- one use more
 abbrev pub once_more : Uses → Uses
@@ -76,6 +93,32 @@ with_marked (Some row) kind.Code = Some (record row { marked_code = true })
 with_marked (Some row) kind.Access = Some (record row { marked_access = true })
 with_marked (Some row) kind.Refresh = Some (record row { marked_refresh = true })
 
+-- ---- rows with one thing taken away
+
+abbrev pub without_code : Option Row → Option Row
+without_code None = None
+without_code (Some row) = Some (record row { code = None })
+
+abbrev pub without_dead : Option Row → Option Row
+without_dead None = None
+without_dead (Some row) = Some (record row { dead = false })
+
+-- nothing names the row's dot
+abbrev pub without_users : Option Row → Option Row
+without_users None = None
+without_users (Some row) = Some (record row { first = None; redeemed = Never; rotated = Never })
+
+-- the row says no link, nor what follows from one, nor marks: what names its dot stays
+abbrev pub without_link : Option Row → Option Row
+without_link None = None
+without_link (Some row) = Some (record blank { redeemed = row.redeemed; rotated = row.rotated; first = row.first })
+
+abbrev pub without_mark : Option Row → Kind → Option Row
+without_mark None k = None
+without_mark (Some row) kind.Code = Some (record row { marked_code = false })
+without_mark (Some row) kind.Access = Some (record row { marked_access = false })
+without_mark (Some row) kind.Refresh = Some (record row { marked_refresh = false })
+
 -- ---- steps
 
 abbrev pub is_dot : Option Dot → Dot → Bool
@@ -99,6 +142,10 @@ hung T d (Rotates p g) q =
 -- T with the code c at each dot of the list
 abbrev pub settled : Rows → List Dot → Dot → Rows
 settled T list c q = if has list q then with_code (T q) c else T q
+
+-- T without a code at each dot of the list
+abbrev pub cleared : Rows → List Dot → Rows
+cleared T list q = if has list q then without_code (T q) else T q
 
 -- and with the tombstone at c, if a token of the list is bad
 abbrev pub raised : Rows → List Dot → Dot → Rows

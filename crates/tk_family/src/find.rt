@@ -8,14 +8,14 @@ ghost use Rattle.tk_family.specs.Rows.{table, links_of, marks_of};
 ghost use Rattle.tk_family.specs.Tops.{IsTop};
 
 use crate::look::{dead_at, seen_at, used_at};
-use crate::row::Row;
+use crate::packed::PackedRow;
 use crate::steps::Steps;
 use crate::top::Top;
-use std::collections::BTreeMap;
+use tk_dots::DotMap;
 use tk_handle::{Dot, TokenId};
 
 /// Where a dot stands, by one look-up, and one more where it is under a code.
-pub(crate) fn top_of(rows: &BTreeMap<Dot, Row>, dot: Dot, steps: &mut Steps) -> Top
+pub(crate) fn top_of(rows: &DotMap<PackedRow>, dot: Dot, steps: &mut Steps) -> Top
     requires { IsForest (table rows.now) }
     ensures top { IsTop (links_of (table rows.now)) (passing (marks_of (table rows.now))) dot result }
     ensures at_least { steps.old + 1 < 2 ^ 64 → steps.old + 1 ≤ steps.new }
@@ -38,7 +38,7 @@ pub(crate) fn top_of(rows: &BTreeMap<Dot, Row>, dot: Dot, steps: &mut Steps) -> 
 }
 
 /// Whether a link uses a token, by one look-up.
-pub(crate) fn is_used(rows: &BTreeMap<Dot, Row>, token: TokenId, steps: &mut Steps) -> bool
+pub(crate) fn is_used(rows: &DotMap<PackedRow>, token: TokenId, steps: &mut Steps) -> bool
     requires { IsForest (table rows.now) }
     ensures used { IsTrue result ↔ IsUsed (links_of (table rows.now)) token }
     ensures first { steps.old + 1 < 2 ^ 64 → steps.new ≡ steps.old + 1 }

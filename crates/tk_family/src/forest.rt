@@ -1,17 +1,19 @@
 //! Families kept with indexes.
 
 ghost use Rattle.tk_handle.specs.declared.dot.Dot.{Dot as the_dot};
+ghost use Rattle.tk_handle.specs.declared.token_id.TokenId.{TokenId as the_token};
 
 use crate::find::{is_used, top_of};
 use crate::link::Link;
-use crate::mark::mark_token;
-use crate::put::put_link;
-use crate::row::Row;
+use crate::mark::mark_within;
+use crate::packed::PackedRow;
+use crate::put::put_within;
 use crate::steps::Steps;
+use crate::take::{take_at, unmark_token};
 use crate::top::Top;
 use std::alloc::{AllocError, Global};
-use std::collections::BTreeMap;
 use std::marker::Model;
+use tk_dots::DotMap;
 use tk_handle::{Dot, TokenId};
 
 /// Links and marks, and what follows from them, whatever the order in which they came (own). Contracts see a finite map
@@ -19,11 +21,14 @@ use tk_handle::{Dot, TokenId};
 ///
 /// No look-up walks: each dot keeps the code that it is under, and each code whether its family is dead. With n links
 /// and marks, `mark`, `top` and `used` cost O(log n), and `put` O(log n) for each dot that comes under a code by it and
-/// for each link that names one of these.
+/// for each link that names one of these. `take` costs O(log n) for each dot that hangs below the taken one, for each that
+/// names the same dot, and, where the family was dead, for each of its members; `unmark` for these where it was.
 #[derive(Drop)]
 pub struct Forest {
     alloc: Global,
-    rows: BTreeMap<Dot, Row>,
+    rows: DotMap<PackedRow>,
+    // Room for the dots of all rows, so that what hangs below a dot is listed without memory. Between calls it is empty.
+    room: Vec<Dot>,
 }
 
 impl Model for Forest {
@@ -36,17 +41,19 @@ impl Model for Forest {
     ghost use Rattle.tk_family.specs.View.{seen};
     ghost use Rattle.tk_family.specs.Kept.{IsForest};
     ghost use Rattle.tk_family.specs.Rows.{table};
+    ghost use Rattle.std.specs.FinMap as map;
+    ghost use Rattle.std.specs.Prelude.{◌≤◌, vec_capacity};
 
     ghost view = { λ a. seen a.rows };
 
-    ghost invariant = { λ a. IsForest (table a.rows) };
+    ghost invariant = { λ a. IsForest (table a.rows) × (map.len a.rows ≤ vec_capacity a.room) };
 }
 
 impl Forest {
     ghost use Rattle.std.specs.FinMap as map;
     ghost use Rattle.std.specs.FinSet as set;
     ghost use Rattle.std.specs.List.{IsDistinct};
-    ghost use Rattle.std.specs.Prelude.{◌≡◌, ◌+◌, ◌^◌, ◌<◌, ◌≤◌, ◌↔◌, None, true, OnOk, OnErr, IfOk, IsOk, IsSome, IsTrue, IsSorted};
+    ghost use Rattle.std.specs.Prelude.{◌≡◌, ◌+◌, ◌^◌, ◌<◌, ◌≤◌, ◌↔◌, None, true, OnOk, OnErr, IfOk, IsOk, IsSome, IsTrue, IsSorted, if◌then◌else◌, false};
     ghost use Rattle.tk_family.specs.Dots.{dot_eq, has};
     ghost use Rattle.tk_family.specs.Families.{IsUsed};
     ghost use Rattle.tk_family.specs.ForestFacts.{links_at, marks_at};
@@ -60,7 +67,8 @@ impl Forest {
     {
         Forest {
             alloc,
-            rows: BTreeMap::new(alloc),
+            rows: DotMap::new(alloc),
+            room: Vec::new(alloc),
         }
     }
 
@@ -76,7 +84,7 @@ impl Forest {
         ensures sorted { IfOk result (λ ys. IsSorted dot_cmp ys.items) }
         ensures err { OnErr result (self.new ≡ self.old) }
     {
-        put_link(self.alloc, &mut self.rows, dot, &link)
+        put_within(self.alloc, &mut self.rows, &mut self.room, dot, &link)
     }
 
     /// Marks a token, which may come before its link. The error is want of memory, and then nothing changes; where a
@@ -87,7 +95,32 @@ impl Forest {
         ensures present { IsSome (map.get self.old.links token.dot) → IsOk result }
         ensures err { OnErr result (self.new ≡ self.old) }
     {
-        mark_token(&mut self.rows, token)
+        mark_within(&mut self.rows, &mut self.room, token)
+    }
+
+    /// Takes the link at a dot away, and what followed from it: what hung below the dot is under no code any more, and a
+    /// family that was dead by it alone lives. The marks of the dot's tokens go too. It takes no memory.
+    pub fn take(&mut self, dot: Dot)
+        requires { IsSome (map.get self.old.links dot) }
+        ensures links { self.new.links ≡ map.remove self.old.links dot }
+        ensures marks { (k : the_token) → set.contains self.new.marks k ≡ (if dot_eq dot k.dot then false else set.contains self.old.marks k) }
+    {
+        take_at(&mut self.rows, &mut self.room, dot)
+    }
+
+    /// Takes the mark of a token away, if it has one. A family that was dead by it alone lives. It takes no memory.
+    pub fn unmark(&mut self, token: TokenId)
+        ensures links { self.new.links ≡ self.old.links }
+        ensures marks { self.new.marks ≡ set.remove self.old.marks token }
+    {
+        unmark_token(&mut self.rows, &mut self.room, token)
+    }
+
+    /// Gives back the room that is kept for links that were taken away.
+    pub fn shrink(&mut self)
+        ensures { self.new ≡ self.old }
+    {
+        self.room.shrink_to(self.rows.len() as usize);
     }
 
     /// Where a dot stands, by one or two look-ups, which are counted.

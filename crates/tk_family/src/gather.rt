@@ -1,27 +1,32 @@
 //! All that hangs below a dot, as a list that is its own queue.
 
-ghost use Rattle.std.specs.Prelude.{◌≡◌, None, OnOk, IfOk, IsSome};
+ghost use Rattle.std.specs.FinMap as map;
+ghost use Rattle.std.specs.Prelude.{◌≡◌, ◌<◌, ◌≤◌, [], None, OnOk, OnErr, IfOk, IsSome, vec_capacity};
+ghost use Rattle.tk_family.specs.declared.link.Link.{Link as the_link};
 ghost use Rattle.tk_family.specs.Kept.{Hangs};
 ghost use Rattle.tk_family.specs.Puts.{with_link, Pushes, Gathers};
 ghost use Rattle.tk_family.specs.Rows.{table, links_of};
+ghost use Rattle.tk_family.specs.Takes.{IsShort};
 ghost use Rattle.tk_handle.specs.declared.dot.Dot.{Dot as the_dot};
 
 use crate::link::Link;
 use crate::look::{first_at, fits_below, link_at, next_at};
-use crate::row::Row;
+use crate::packed::PackedRow;
 use std::alloc::{AllocError, Global};
-use std::collections::BTreeMap;
+use tk_dots::DotMap;
 use tk_handle::Dot;
 
-/// Adds the dots that hang below a dot and fit its link to the end of a list.
+/// Adds the dots that hang below a dot and fit its link to the end of a list. The error says that it has no room for them.
 fn push_children(
-    rows: &BTreeMap<Dot, Row>,
+    rows: &DotMap<PackedRow>,
     dot: Dot,
     above: Link,
     list: &mut Vec<Dot>,
 ) -> Result<(), AllocError>
     requires { Hangs (table rows.now) dot }
-    ensures { OnOk result (Pushes (links_of (table rows.now)) dot above list.old.items list.new.items) }
+    ensures ok { OnOk result (Pushes (links_of (table rows.now)) dot above list.old.items list.new.items) }
+    ensures full { OnErr result (IsShort (links_of (table rows.now)) dot above list.old.items (vec_capacity list.old)) }
+    ensures capacity { vec_capacity list.old ≤ vec_capacity list.new }
 {
     let mut cursor = first_at(rows, dot);
     let mut left = rows.len();
@@ -36,7 +41,7 @@ fn push_children(
 }
 
 /// The link at a dot, once the link is put at its dot.
-fn link_with(rows: &BTreeMap<Dot, Row>, dot: Dot, link: &Link, at: Dot) -> Option<Link>
+fn link_with(rows: &DotMap<PackedRow>, dot: Dot, link: &Link, at: Dot) -> Option<Link>
     ensures { result ≡ with_link (links_of (table rows.now)) dot link.now at }
 {
     if dot == at {
@@ -46,11 +51,38 @@ fn link_with(rows: &BTreeMap<Dot, Row>, dot: Dot, link: &Link, at: Dot) -> Optio
     }
 }
 
-/// What will be under the code that a dot is under, once a link is put there: the dot, and all that hangs below it by
-/// fitting links. Nothing is changed.
+/// What is under the code that a dot is under, where the link is at the dot: the dot, and all that hangs below it by
+/// fitting links, in an empty list. The error says that the list has no room, which it has for all rows there are.
+pub(crate) fn gather_into(
+    rows: &DotMap<PackedRow>,
+    dot: Dot,
+    link: &Link,
+    list: &mut Vec<Dot>,
+) -> Result<(), AllocError>
+    requires hung { (p : the_dot) → Hangs (table rows.now) p }
+    requires row { IsSome (table rows.now dot) }
+    requires other { (k : the_link) → links_of (table rows.now) dot ≡ Some k → k ≡ link.now }
+    requires empty { list.old.items ≡ [] }
+    ensures ok { OnOk result (Gathers (links_of (table rows.now)) dot link.now list.new.items) }
+    ensures full { OnErr result (vec_capacity list.old < map.len rows.now) }
+    ensures capacity { vec_capacity list.old ≤ vec_capacity list.new }
+{
+    list.push(dot)?;
+    let mut i = 0;
+    while i < list.len() {
+        let at = list[i];
+        if let Some(above) = link_with(rows, dot, link, at) {
+            push_children(rows, at, above, list)?;
+        }
+        i += 1;
+    }
+    Ok(())
+}
+
+/// The same, as a new list. Nothing is changed.
 pub(crate) fn gather(
     alloc: Global,
-    rows: &BTreeMap<Dot, Row>,
+    rows: &DotMap<PackedRow>,
     dot: Dot,
     link: &Link,
 ) -> Result<Vec<Dot>, AllocError>
@@ -60,14 +92,6 @@ pub(crate) fn gather(
     ensures { IfOk result (λ ys. Gathers (links_of (table rows.now)) dot link.now ys.items) }
 {
     let mut list = Vec::new(alloc);
-    list.push(dot)?;
-    let mut i = 0;
-    while i < list.len() {
-        let at = list[i];
-        if let Some(above) = link_with(rows, dot, link, at) {
-            push_children(rows, at, above, &mut list)?;
-        }
-        i += 1;
-    }
+    gather_into(rows, dot, link, &mut list)?;
     Ok(list)
 }

@@ -27,9 +27,11 @@ mod laws;
 mod link;
 mod look;
 mod mark;
+mod packed;
 mod put;
 mod row;
 mod steps;
+mod take;
 mod top;
 mod write;
 

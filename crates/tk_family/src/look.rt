@@ -5,110 +5,127 @@ ghost use Rattle.std.specs.List.{list_any};
 ghost use Rattle.tk_family.specs.Rows.{table, link_in, code_in, dead_in, first_in, next_in, used_in, bad_in};
 ghost use Rattle.tk_family.specs.Puts.{fits_at};
 ghost use Rattle.tk_family.specs.Walks.{fits_over};
+ghost use Rattle.tk_family.specs.Writes.{is_blank_row};
 
 use crate::link::{Link, fits};
-use crate::row::Row;
-use std::collections::BTreeMap;
+use crate::packed::PackedRow;
+use tk_dots::DotMap;
 use tk_handle::{Dot, Kind};
 
 /// The link at a dot.
-pub(crate) fn link_at(rows: &BTreeMap<Dot, Row>, dot: Dot) -> Option<Link>
+pub(crate) fn link_at(rows: &DotMap<PackedRow>, dot: Dot) -> Option<Link>
     ensures { result ≡ link_in (table rows.now dot) }
 {
-    match rows.get(&dot) {
-        Some(row) => row.link,
+    match rows.get(dot) {
+        Some(row) => row.unpack().link,
         None => None,
     }
 }
 
 /// The code that a dot is under.
-pub(crate) fn code_at(rows: &BTreeMap<Dot, Row>, dot: Dot) -> Option<Dot>
+pub(crate) fn code_at(rows: &DotMap<PackedRow>, dot: Dot) -> Option<Dot>
     ensures { result ≡ code_in (table rows.now dot) }
 {
-    match rows.get(&dot) {
-        Some(row) => row.code,
+    match rows.get(dot) {
+        Some(row) => row.unpack().code,
         None => None,
     }
 }
 
 /// The first of the dots whose links name a dot.
-pub(crate) fn first_at(rows: &BTreeMap<Dot, Row>, dot: Dot) -> Option<Dot>
+pub(crate) fn first_at(rows: &DotMap<PackedRow>, dot: Dot) -> Option<Dot>
     ensures { result ≡ first_in (table rows.now dot) }
 {
-    match rows.get(&dot) {
-        Some(row) => row.first,
+    match rows.get(dot) {
+        Some(row) => row.unpack().first,
         None => None,
     }
 }
 
 /// The dot after a dot among those whose links name the same one.
-pub(crate) fn next_at(rows: &BTreeMap<Dot, Row>, dot: Dot) -> Option<Dot>
+pub(crate) fn next_at(rows: &DotMap<PackedRow>, dot: Dot) -> Option<Dot>
     ensures { result ≡ next_in (table rows.now dot) }
 {
-    match rows.get(&dot) {
-        Some(row) => row.next,
+    match rows.get(dot) {
+        Some(row) => row.unpack().next,
         None => None,
     }
 }
 
 /// The link at a dot, and the code that the dot is under.
-pub(crate) fn seen_at(rows: &BTreeMap<Dot, Row>, dot: Dot) -> (Option<Link>, Option<Dot>)
+pub(crate) fn seen_at(rows: &DotMap<PackedRow>, dot: Dot) -> (Option<Link>, Option<Dot>)
     ensures link { result.0 ≡ link_in (table rows.now dot) }
     ensures code { result.1 ≡ code_in (table rows.now dot) }
 {
-    match rows.get(&dot) {
-        Some(row) => (row.link, row.code),
+    match rows.get(dot) {
+        Some(row) => {
+            let row = row.unpack();
+            (row.link, row.code)
+        }
         None => (None, None),
     }
 }
 
+/// Whether what is kept at a dot says nothing.
+pub(crate) fn is_blank_at(rows: &DotMap<PackedRow>, dot: Dot) -> bool
+    ensures { result ≡ is_blank_row (table rows.now dot) }
+{
+    match rows.get(dot) {
+        Some(row) => row.unpack().is_blank(),
+        None => true,
+    }
+}
+
 /// Whether the family of the code at a dot is dead.
-pub(crate) fn dead_at(rows: &BTreeMap<Dot, Row>, dot: Dot) -> bool
+pub(crate) fn dead_at(rows: &DotMap<PackedRow>, dot: Dot) -> bool
     ensures { result ≡ dead_in (table rows.now dot) }
 {
-    match rows.get(&dot) {
-        Some(row) => row.dead,
+    match rows.get(dot) {
+        Some(row) => row.unpack().dead,
         None => false,
     }
 }
 
 /// Whether a link uses the token of a kind at a dot.
-pub(crate) fn used_at(rows: &BTreeMap<Dot, Row>, dot: Dot, kind: Kind) -> bool
+pub(crate) fn used_at(rows: &DotMap<PackedRow>, dot: Dot, kind: Kind) -> bool
     ensures { result ≡ used_in (table rows.now dot) kind }
 {
-    match rows.get(&dot) {
+    match rows.get(dot) {
         Some(row) => match kind {
-            Kind::Code => row.redeemed.is_some(),
+            Kind::Code => row.unpack().redeemed.is_some(),
             Kind::Access => false,
-            Kind::Refresh => row.rotated.is_some(),
+            Kind::Refresh => row.unpack().rotated.is_some(),
         },
         None => false,
     }
 }
 
 /// Whether the code or refresh token of the link at a dot is marked, or used twice.
-pub(crate) fn is_bad(rows: &BTreeMap<Dot, Row>, at: Dot) -> bool
+pub(crate) fn is_bad(rows: &DotMap<PackedRow>, at: Dot) -> bool
     ensures { result ≡ bad_in (table rows.now at) }
 {
-    match rows.get(&at) {
-        Some(row) => match row.link {
-            Some(Link::Code) => row.marked_code || row.redeemed.is_often(),
-            Some(_) => row.marked_refresh || row.rotated.is_often(),
-            None => false,
-        },
+    match rows.get(at) {
+        Some(row) => {
+            let row = row.unpack();
+            match row.link {
+                Some(Link::Code) => row.marked_code || row.redeemed.is_often(),
+                Some(_) => row.marked_refresh || row.rotated.is_often(),
+                None => false,
+            }
+        }
         None => false,
     }
 }
 
 /// Whether that is so at a dot of a list.
-pub(crate) fn is_any_bad(rows: &BTreeMap<Dot, Row>, list: &[Dot]) -> bool
+pub(crate) fn is_any_bad(rows: &DotMap<PackedRow>, list: &[Dot]) -> bool
     ensures { result ≡ list_any (λ q. bad_in (table rows.now q)) list.now }
 {
     list.iter().any(|at| is_bad(rows, *at))
 }
 
 /// Whether the link at a dot fits the link above it.
-pub(crate) fn fits_below(rows: &BTreeMap<Dot, Row>, dot: Dot, above: &Link) -> bool
+pub(crate) fn fits_below(rows: &DotMap<PackedRow>, dot: Dot, above: &Link) -> bool
     ensures { result ≡ fits_at (link_in (table rows.now dot)) above.now }
 {
     match link_at(rows, dot) {
@@ -118,7 +135,7 @@ pub(crate) fn fits_below(rows: &BTreeMap<Dot, Row>, dot: Dot, above: &Link) -> b
 }
 
 /// Whether a link fits the link at a dot.
-pub(crate) fn fits_above(rows: &BTreeMap<Dot, Row>, link: &Link, above: Dot) -> bool
+pub(crate) fn fits_above(rows: &DotMap<PackedRow>, link: &Link, above: Dot) -> bool
     ensures { result ≡ fits_over link.now (link_in (table rows.now above)) }
 {
     match link_at(rows, above) {

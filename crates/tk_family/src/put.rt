@@ -1,6 +1,7 @@
 //! Putting a link.
 
-ghost use Rattle.std.specs.Prelude.{◌≡◌, true, false, None, OnOk, OnErr, IfOk, IsSome, [], IsSorted};
+ghost use Rattle.std.specs.FinMap as map;
+ghost use Rattle.std.specs.Prelude.{◌≡◌, ◌≤◌, ◌+◌, vec_capacity, true, false, None, OnOk, OnErr, IfOk, IsSome, [], IsSorted};
 ghost use Rattle.tk_family.specs.Families.{named_by};
 ghost use Rattle.tk_family.specs.Kept.{IsForest};
 ghost use Rattle.tk_family.specs.Puts.{Gathers, Puts, NothingSeen};
@@ -12,18 +13,19 @@ ghost use Rattle.tk_handle.specs.declared.dot.Dot.{Dot as the_dot};
 use crate::gather::gather;
 use crate::link::{Link, named};
 use crate::look::{code_at, fits_above};
-use crate::row::Row;
+use crate::packed::PackedRow;
 use crate::write::{add_row, bury, hang, raise};
 use std::alloc::{AllocError, Global};
-use std::collections::BTreeMap;
+use tk_dots::DotMap;
 use tk_handle::Dot;
 
 /// Makes the rows that a link at a dot needs. They say nothing yet.
-fn make_room(rows: &mut BTreeMap<Dot, Row>, dot: Dot, link: &Link) -> Result<(), AllocError>
+fn make_room(rows: &mut DotMap<PackedRow>, dot: Dot, link: &Link) -> Result<(), AllocError>
     requires { IsForest (table rows.old) }
     ensures same { NothingSeen (table rows.old) (table rows.new) }
     ensures own { OnOk result (IsSome (table rows.new dot)) }
     ensures named { OnOk result ((p : the_dot) → named_by link.now ≡ Some p → IsSome (table rows.new p)) }
+    ensures len { map.len rows.new ≤ map.len rows.old + 2 }
 {
     add_row(rows, dot)?;
     if let Some(above) = named(link) {
@@ -33,7 +35,7 @@ fn make_room(rows: &mut BTreeMap<Dot, Row>, dot: Dot, link: &Link) -> Result<(),
 }
 
 /// The code that a link comes under at a dot.
-fn code_for(rows: &BTreeMap<Dot, Row>, dot: Dot, link: &Link) -> Option<Dot>
+fn code_for(rows: &DotMap<PackedRow>, dot: Dot, link: &Link) -> Option<Dot>
     ensures { result ≡ chain_code (table rows.now) dot link.now }
 {
     let above = match link {
@@ -52,7 +54,7 @@ fn code_for(rows: &BTreeMap<Dot, Row>, dot: Dot, link: &Link) -> Option<Dot>
 /// its rows.
 fn answer(
     alloc: Global,
-    rows: &BTreeMap<Dot, Row>,
+    rows: &DotMap<PackedRow>,
     dot: Dot,
     link: &Link,
     whole: bool,
@@ -73,7 +75,7 @@ fn answer(
 }
 
 /// Writes a link and all that follows from it. It takes no memory.
-fn write_put(rows: &mut BTreeMap<Dot, Row>, dot: Dot, link: &Link, code: Option<Dot>, dots: &[Dot])
+fn write_put(rows: &mut DotMap<PackedRow>, dot: Dot, link: &Link, code: Option<Dot>, dots: &[Dot])
     requires forest { IsForest (table rows.old) }
     requires free { links_of (table rows.old) dot ≡ None }
     requires own { IsSome (table rows.old dot) }
@@ -81,7 +83,8 @@ fn write_put(rows: &mut BTreeMap<Dot, Row>, dot: Dot, link: &Link, code: Option<
     requires code { code ≡ chain_code (table rows.old) dot link.now }
     requires whole { IsSome code → Gathers (links_of (table rows.old)) dot link.now dots.now }
     requires waits { code ≡ None → dots.now ≡ [] }
-    ensures { Puts (table rows.old) (table rows.new) dot link.now dots.now }
+    ensures puts { Puts (table rows.old) (table rows.new) dot link.now dots.now }
+    ensures len { map.len rows.new ≡ map.len rows.old }
 {
     hang(rows, dot, link);
     if let Some(code) = code {
@@ -92,10 +95,10 @@ fn write_put(rows: &mut BTreeMap<Dot, Row>, dot: Dot, link: &Link, code: Option<
     }
 }
 
-/// Puts a link, and answers the dots that come under a code by that, in order.
-pub(crate) fn put_link(
+/// Puts a link where there is room for its rows, and answers the dots that come under a code by that, in order.
+fn put_link(
     alloc: Global,
-    rows: &mut BTreeMap<Dot, Row>,
+    rows: &mut DotMap<PackedRow>,
     dot: Dot,
     link: &Link,
 ) -> Result<Vec<Dot>, AllocError>
@@ -104,10 +107,45 @@ pub(crate) fn put_link(
     ensures ok { IfOk result (λ ys. Puts (table rows.old) (table rows.new) dot link.now ys.items) }
     ensures sorted { IfOk result (λ ys. IsSorted dot_cmp ys.items) }
     ensures err { OnErr result (NothingSeen (table rows.old) (table rows.new)) }
+    ensures len { map.len rows.new ≤ map.len rows.old + 2 }
 {
     make_room(rows, dot, link)?;
     let code = code_for(rows, dot, link);
     let dots = answer(alloc, rows, dot, link, code.is_some())?;
     write_put(rows, dot, link, code, dots.as_slice());
     Ok(dots)
+}
+
+/// Takes room for two rows more.
+pub(crate) fn reserve(rows: &DotMap<PackedRow>, room: &mut Vec<Dot>) -> Result<(), AllocError>
+    ensures ok { OnOk result (map.len rows.now + 2 ≤ vec_capacity room.new) }
+    ensures capacity { vec_capacity room.old ≤ vec_capacity room.new }
+{
+    room.clear();
+    match rows.len().checked_add(2) {
+        Some(count) => room.reserve(count as usize),
+        None => Err(AllocError),
+    }
+}
+
+/// Puts a link, and answers the dots that come under a code by that, in order.
+pub(crate) fn put_within(
+    alloc: Global,
+    rows: &mut DotMap<PackedRow>,
+    room: &mut Vec<Dot>,
+    dot: Dot,
+    link: &Link,
+) -> Result<Vec<Dot>, AllocError>
+    requires forest { IsForest (table rows.old) }
+    requires room { map.len rows.old ≤ vec_capacity room.old }
+    requires free { links_of (table rows.old) dot ≡ None }
+    ensures ok { IfOk result (λ ys. Puts (table rows.old) (table rows.new) dot link.now ys.items) }
+    ensures sorted { IfOk result (λ ys. IsSorted dot_cmp ys.items) }
+    ensures err { OnErr result (NothingSeen (table rows.old) (table rows.new)) }
+    ensures room { map.len rows.new ≤ vec_capacity room.new }
+{
+    match reserve(rows, room) {
+        Ok(()) => put_link(alloc, rows, dot, link),
+        Err(error) => Err(error),
+    }
 }

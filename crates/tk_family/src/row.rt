@@ -2,7 +2,7 @@
 
 ghost use Rattle.std.specs.Prelude.{◌≡◌, Some};
 ghost use Rattle.tk_family.specs.Rows.{is_some_use, is_often};
-ghost use Rattle.tk_family.specs.Writes.{once_more};
+ghost use Rattle.tk_family.specs.Writes.{once_more, is_never};
 
 use crate::link::Link;
 use tk_handle::{Dot, Kind};
@@ -41,6 +41,17 @@ impl Uses {
         }
     }
 
+    /// None.
+    fn is_never(self) -> bool
+        ensures { result ≡ is_never self }
+    {
+        match self {
+            Uses::Never => true,
+            Uses::Once => false,
+            Uses::Often => false,
+        }
+    }
+
     /// Two or more.
     pub(crate) fn is_often(self) -> bool
         ensures { result ≡ is_often self }
@@ -60,7 +71,7 @@ pub(crate) struct Row {
     pub link: Option<Link>,
     /// The code that the dot is under.
     pub code: Option<Dot>,
-    /// At a code: its family is dead. Set once, never taken back.
+    /// At a code: its family is dead.
     pub dead: bool,
     /// The code at the dot is marked.
     pub marked_code: bool,
@@ -79,7 +90,7 @@ pub(crate) struct Row {
 }
 
 impl Row {
-    ghost use Rattle.tk_family.specs.Writes.{blank, with_code, with_dead, with_put, with_redeemer, with_rotator, with_marked};
+    ghost use Rattle.tk_family.specs.Writes.{blank, is_blank, with_code, with_dead, with_put, with_redeemer, with_rotator, with_marked, without_code, without_dead, without_users, without_link, without_mark};
 
     /// A row that says nothing but the link at its dot, if there is one.
     pub(crate) fn new(link: Option<Link>) -> Row
@@ -97,6 +108,22 @@ impl Row {
             first: None,
             next: None,
         }
+    }
+
+    /// Whether it says nothing.
+    pub(crate) fn is_blank(&self) -> bool
+        ensures { result ≡ is_blank self.now }
+    {
+        self.link.is_none()
+            && self.code.is_none()
+            && !self.dead
+            && !self.marked_code
+            && !self.marked_access
+            && !self.marked_refresh
+            && self.redeemed.is_never()
+            && self.rotated.is_never()
+            && self.first.is_none()
+            && self.next.is_none()
     }
 
     /// The row under a code.
@@ -156,6 +183,59 @@ impl Row {
             Kind::Code => row.marked_code = true,
             Kind::Access => row.marked_access = true,
             Kind::Refresh => row.marked_refresh = true,
+        }
+        row
+    }
+
+    /// The row without the code that it is under.
+    pub(crate) fn without_code(&self) -> Row
+        ensures { without_code (Some self.now) ≡ Some result }
+    {
+        let mut row = *self;
+        row.code = None;
+        row
+    }
+
+    /// The row of a code whose family lives.
+    pub(crate) fn without_dead(&self) -> Row
+        ensures { without_dead (Some self.now) ≡ Some result }
+    {
+        let mut row = *self;
+        row.dead = false;
+        row
+    }
+
+    /// The row whose dot nothing names.
+    pub(crate) fn without_users(&self) -> Row
+        ensures { without_users (Some self.now) ≡ Some result }
+    {
+        let mut row = *self;
+        row.first = None;
+        row.redeemed = Uses::Never;
+        row.rotated = Uses::Never;
+        row
+    }
+
+    /// The row without its link, what follows from that, and its marks. What names its dot stays.
+    pub(crate) fn without_link(&self) -> Row
+        ensures { without_link (Some self.now) ≡ Some result }
+    {
+        let mut row = Row::new(None);
+        row.first = self.first;
+        row.redeemed = self.redeemed;
+        row.rotated = self.rotated;
+        row
+    }
+
+    /// The row without the mark of the token of a kind.
+    pub(crate) fn unmarked_as(&self, kind: Kind) -> Row
+        ensures { without_mark (Some self.now) kind ≡ Some result }
+    {
+        let mut row = *self;
+        match kind {
+            Kind::Code => row.marked_code = false,
+            Kind::Access => row.marked_access = false,
+            Kind::Refresh => row.marked_refresh = false,
         }
         row
     }

@@ -48,7 +48,7 @@ next_dot_there F r n (Some d) same h = (omega (arith, h.0.1, same), h.1 ∙ ap (
 -- ---- the greatest serial
 
 -- no fact of the region is above a number, so neither is the greatest serial
-at_most : (F : FactSet) (r m : ℕ) (fs : Facts) → AllIn F fs → ((q : Dot) (b : Body) → map.get F q ≡ Some b → q.region ≡ r → q.serial ≤ m) → last_serial r fs ≤ m
+pub at_most : (F : FactSet) (r m : ℕ) (fs : Facts) → AllIn F fs → ((q : Dot) (b : Body) → map.get F q ≡ Some b → q.region ≡ r → q.serial ≤ m) → last_serial r fs ≤ m
 at_most F r m [] a all = omega arith
 at_most F r m (f ∷ fs) a all = first f.0.region f.0.serial (last_serial r fs) (all f.0 f.1 a.0) (at_most F r m fs a.1 all)
   where

@@ -1,291 +1,227 @@
--- A table's entries are those of the set that it is seen as, each behind its dot. Key results:
---   table_entries                       the facts behind the keys are the set's entries
---   table_get                           a look-up in the table is one in the set
---   put_is_table, put_is_insert         a fact is put
---   taken_is_table, taken_is_remove     and taken out
---   first_above, none_above             the first fact above a dot, by range
---   range_greatest, range_none          the last fact of a region has its greatest serial
-use Rattle.std.proofs.Common.{◌≡◌, ℕ, ◌<◌, Bool, true, false, cond, ◌&&◌, not, T, List, [], ◌∷◌, filter, Option, Some, None, IsSome, refl, sym, ap, subst, ◌∙◌, inl, inr, ◌≤◌, length, slice_get, arith, is_some}
+-- A table is seen as what its facts say. Key results:
+--   get_bodies, len_bodies        a look-up in the table is one in the set, and both have as many
+--   put_bodies, put_home          a fact is put
+--   taken_bodies, taken_home      and taken out
+--   first_above, none_above       the first fact above a dot
+--   last_serial_is                the greatest serial of a region
+use Rattle.std.proofs.Common.{◌≡◌, ℕ, ◌+◌, ◌<◌, ◌≤◌, Bool, true, false, cond, ◌&&◌, T, List, [], ◌∷◌, filter, map, length, Option, Some, None, IsSome, is_some, option_map, slice_get, refl, sym, ap, subst, ◌∙◌, inl, inr, arith, Box, Global}
 use mathlib.Core.Bool.{false≢true}
-use Rattle.std.proofs.lemmas.Bool.{cases_Bool, cond-true, cond-false}
-use Rattle.std.specs.Option.{option_map}
-use Rattle.std.specs.Map.{lookup, values_of, remove_entry}
-use Rattle.std.specs.BTreeMap.{is_at, insert_entry}
-use Rattle.std.specs.BTreeMap.Range.{entries_between, IsLeBy}
-use Rattle.std.specs.declared.ops.Bound.TheVariants.{Excluded, Unbounded}
-use Rattle.std.specs.Ordering.{eq_by_cmp, is_lt, match_ordering}
+use Rattle.std.proofs.lemmas.Bool.{cases_Bool, cond-true, cond-false, cases_lt}
+use Rattle.std.proofs.lemmas.List.{length-map}
+use Rattle.std.proofs.lemmas.Cmp.{tied_itself}
+use Rattle.std.specs.Ordering.{eq_by_cmp, is_eq, is_lt, ordering_reverse}
 use Rattle.std.specs.declared.cmp.Ordering.{Ordering}
 use Rattle.std.specs.declared.cmp.Ordering.TheVariants.{Less, Equal, Greater}
-use Rattle.std.specs.Cmp.{eq_by_cmp_equiv}
 use Rattle.std.specs.FinMap as sets
-use Rattle.std.specs.FinMap.{find, put}
-use Rattle.std.specs.FinMap.Entries.{below_all, by_order, is_sorted-put, find-put}
+use Rattle.std.specs.FinMap.{find}
+use Rattle.std.specs.FinMap.Entries.{below_all}
 use Rattle.tk_handle.specs.declared.dot.Dot.{Dot}
 use Rattle.tk_handle.specs.Dot.{dot_cmp, dot_cmp_total, dot_cmp-IsAntisymmetric}
-use Rattle.tk_handle.specs.Ranges.{greatest_serial}
+use Rattle.tk_dots.specs.Pages.{IsAbove, IsLeastAbove, IsNext, IsLast}
 use Rattle.tk_fact.specs.declared.body.Body.{Body}
 use Rattle.tk_store.specs.FactSet.{FactSet, Facts}
-use Rattle.tk_store.specs.Table.{keyed, IsTable}
-use Rattle.tk_store.specs.Walk.{is_above, above}
-use Rattle.tk_store.proofs.FactSetLaws.{tied}
-use Rattle.tk_store.proofs.PutLaws.{some_injective, none_is_not_some}
-use Rattle.tk_store.specs.Front.{dot_at}
 use Rattle.tk_store.specs.NextDot.{last_serial}
-use Rattle.tk_store.proofs.WalkLaws.{above_none}
-use Rattle.tk_store.proofs.NextDotLaws.{greatest_is, greatest_none}
-use Rattle.tk_vector.proofs.RemovalLaws.{none_below}
+use Rattle.tk_store.specs.Table.{Boxed, Held, bodies, AreHome}
+use Rattle.tk_store.specs.Walk.{is_above, above}
+use Rattle.tk_store.proofs.EntryLaws.{AllIn-entries}
+use Rattle.tk_store.proofs.FactSetLaws.{tied}
+use Rattle.tk_store.proofs.NextDotLaws.{at_most, at_most_last_serial}
+use Rattle.tk_store.proofs.PutLaws.{some_injective, none_is_not_some}
 
 both : (a b : Bool) → T (a && b) → T a × T b
 both true b h = (tt, h)
 both false b h = absurd h
 
-and : (a b : Bool) → T a → T b → T (a && b)
-and true b p q = q
-and false b p q = p
+is_true : (b : Bool) → T b → b ≡ true
+is_true true h = refl
+is_true false h = absurd h
 
-abbrev Entries : Type 0
-Entries = List (Dot × (Dot × Body))
+-- ---- what the facts say
 
-pub values_keyed : (fs : Facts) → values_of (keyed fs) ≡ fs
-values_keyed [] = refl
-values_keyed (f ∷ fs) = ap (λ l. f ∷ l) (values_keyed fs)
+abbrev said : Dot × Boxed → Dot × Body
+said e = (e.0, e.1.value.1)
 
-pub table_nothing : (es : Entries) → es ≡ [] → IsTable es
-table_nothing es none = subst IsTable (sym none) (record { home = refl; sorted = tt; high = λ d h. absurd (false≢true h) })
+below_said : (d : Dot) (es : List (Dot × Boxed)) → below_all dot_cmp d (map said es) ≡ below_all dot_cmp d es
+below_said d [] = refl
+below_said d (e ∷ es) = ap (λ b. is_lt (dot_cmp d e.0) && b) (below_said d es)
 
-pub table_entries : (es : Entries) (F : FactSet) → IsTable es → sets.from_sorted (values_of es) ≡ F → values_of es ≡ sets.entries F
-table_entries es F kept seen = sym (sets.entries-from_sorted dot_cmp (values_of es) kept.sorted) ∙ ap sets.entries seen
+sorted_said : (es : List (Dot × Boxed)) → sets.is_sorted dot_cmp (map said es) ≡ sets.is_sorted dot_cmp es
+sorted_said [] = refl
+sorted_said (e ∷ es) = ap (λ b. b && sets.is_sorted dot_cmp (map said es)) (below_said e.0 es) ∙ ap (λ b. below_all dot_cmp e.0 es && b) (sorted_said es)
 
--- ---- looking up
-
-looked_up : (fs : Facts) (q : Dot) → lookup (is_at (dot_cmp q)) (keyed fs) ≡ option_map (λ b. (q, b)) (find dot_cmp q fs)
-looked_up [] q = refl
-looked_up (f ∷ fs) q = elim (cases_Bool (eq_by_cmp dot_cmp q f.0)) [
-  | inl here ↦
-      cond-true (eq_by_cmp dot_cmp q f.0) (Some f) _ here
-      ∙ ap (λ (d : Dot). Some (d, f.1)) (sym (tied q f.0 here))
-      ∙ ap (option_map (λ b. (q, b))) (sym (cond-true (eq_by_cmp dot_cmp q f.0) (Some f.1) (find dot_cmp q fs) here))
-  | inr more ↦
-      cond-false (eq_by_cmp dot_cmp q f.0) (Some f) _ more ∙ looked_up fs q
-      ∙ ap (option_map (λ b. (q, b))) (sym (cond-false (eq_by_cmp dot_cmp q f.0) (Some f.1) (find dot_cmp q fs) more))
-]
-
-pub table_get : (es : Entries) (F : FactSet) (q : Dot) → IsTable es → sets.from_sorted (values_of es) ≡ F → lookup (is_at (dot_cmp q)) es ≡ option_map (λ b. (q, b)) (sets.get F q)
-table_get es F q kept seen =
-    ap (lookup (is_at (dot_cmp q))) kept.home ∙ looked_up (values_of es) q
-    ∙ ap (option_map (λ b. (q, b))) (sym (sets.get-from_sorted dot_cmp (values_of es) q kept.sorted) ∙ ap (λ (m : FactSet). sets.get m q) seen)
-
--- ---- putting
-
-put_keyed : (fs : Facts) (d : Dot) (b : Body) → insert_entry dot_cmp (keyed fs) d (d, b) ≡ keyed (put dot_cmp d b fs)
-put_keyed [] d b = refl
-put_keyed (f ∷ fs) d b = by_cases (put_keyed fs d b) (dot_cmp d f.0) refl
-  where
-    by_cases : insert_entry dot_cmp (keyed fs) d (d, b) ≡ keyed (put dot_cmp d b fs) → (o : Ordering) → dot_cmp d f.0 ≡ o
-        → match_ordering (dot_cmp d f.0) ((d, (d, b)) ∷ (f.0, f) ∷ keyed fs) ((f.0, (d, b)) ∷ keyed fs) ((f.0, f) ∷ insert_entry dot_cmp (keyed fs) d (d, b))
-        ≡ keyed (by_order (dot_cmp d f.0) ((d, b) ∷ f ∷ fs) ((f.0, b) ∷ fs) (f ∷ put dot_cmp d b fs))
-    by_cases h Less e = rw e refl
-    by_cases h Equal e = rw e (ap (λ (x : Dot). (f.0, (x, b)) ∷ keyed fs) (dot_cmp-IsAntisymmetric d f.0 e))
-    by_cases h Greater e = rw e (ap (λ l. (f.0, f) ∷ l) h)
-
-module _ (es new : Entries) (d : Dot) (b : Body) (kept : IsTable es) (is : new ≡ insert_entry dot_cmp es d (d, b)) where
-  new_keyed : new ≡ keyed (put dot_cmp d b (values_of es))
-  new_keyed = is ∙ ap (λ l. insert_entry dot_cmp l d (d, b)) kept.home ∙ put_keyed (values_of es) d b
-
-  new_values : values_of new ≡ put dot_cmp d b (values_of es)
-  new_values = ap values_of new_keyed ∙ values_keyed _
-
-  new_sorted : T (sets.is_sorted dot_cmp (values_of new))
-  new_sorted = subst (λ fs. T (sets.is_sorted dot_cmp fs)) (sym new_values) (is_sorted-put dot_cmp dot_cmp_total d b (values_of es) kept.sorted)
-
-  pub put_is_table : d.serial ≤ greatest_serial → IsTable new
-  put_is_table high = record {
-    home = new_keyed ∙ ap keyed (sym new_values);
-    sorted = new_sorted;
-    high = λ q h. elim (cases_Bool (eq_by_cmp dot_cmp q d)) [
-      | inl here ↦ subst (λ (x : Dot). x.serial ≤ greatest_serial) (sym (tied q d here)) high
-      | inr more ↦ kept.high q (subst IsSome (ap (find dot_cmp q) new_values ∙ find-put dot_cmp dot_cmp_total q d b (values_of es) ∙ cond-false (eq_by_cmp dot_cmp q d) (Some b) _ more) h)
-    ];
-  }
-
-  pub put_is_insert : (F : FactSet) → sets.from_sorted (values_of es) ≡ F → sets.from_sorted (values_of new) ≡ sets.insert F d b
-  put_is_insert F seen =
-      sets.same_entries_map _ _
-      (sets.entries-from_sorted dot_cmp (values_of new) new_sorted ∙ new_values
-      ∙ ap (put dot_cmp d b) (sym (sets.entries-from_sorted dot_cmp (values_of es) kept.sorted))
-      ∙ sym (sets.entries-insert dot_cmp_total (sets.from_sorted (values_of es)) d b))
-      ∙ ap (λ (m : FactSet). sets.insert m d b) seen
-
--- ---- taking out
-
-taken_keyed : (fs : Facts) (d : Dot) → remove_entry (is_at (dot_cmp d)) (keyed fs) ≡ keyed (remove_entry (is_at (dot_cmp d)) fs)
-taken_keyed [] d = refl
-taken_keyed (f ∷ fs) d =
-    elim (is_at (dot_cmp d) f.0) as (λ t. cond t (keyed fs) ((f.0, f) ∷ remove_entry (is_at (dot_cmp d)) (keyed fs)) ≡ keyed (cond t fs (f ∷ remove_entry (is_at (dot_cmp d)) fs))) [
+find_said : (q : Dot) (es : List (Dot × Boxed)) → find dot_cmp q (map said es) ≡ option_map (λ b. b.value.1) (find dot_cmp q es)
+find_said q [] = refl
+find_said q (e ∷ es) =
+    elim (eq_by_cmp dot_cmp q e.0) as (λ t. cond t (Some e.1.value.1) (find dot_cmp q (map said es)) ≡ option_map (λ b. b.value.1) (cond t (Some e.1) (find dot_cmp q es))) [
       | true ↦ refl
-      | false ↦ ap (λ l. (f.0, f) ∷ l) (taken_keyed fs d)
+      | false ↦ find_said q es
     ]
 
-below_taken : (x d : Dot) (fs : Facts) → T (below_all dot_cmp x fs) → T (below_all dot_cmp x (remove_entry (is_at (dot_cmp d)) fs))
-below_taken x d [] low = tt
-below_taken x d (f ∷ fs) low =
-    let l = both _ _ low in
-    elim (is_at (dot_cmp d) f.0) as (λ t. T (below_all dot_cmp x (cond t fs (f ∷ remove_entry (is_at (dot_cmp d)) fs)))) [
-      | true ↦ l.1
-      | false ↦ and (is_lt (dot_cmp x f.0)) _ l.0 (below_taken x d fs l.1)
+entries_said : (m : Held) → sets.entries (bodies m) ≡ map said (sets.entries m)
+entries_said m = sets.entries-from_sorted dot_cmp _ (subst T (sym (sorted_said (sets.entries m))) (sets.entries_sorted m))
+
+pub get_bodies : (m : Held) (q : Dot) → sets.get (bodies m) q ≡ option_map (λ b. b.value.1) (sets.get m q)
+get_bodies m q = sets.get-entries (bodies m) q ∙ ap (find dot_cmp q) (entries_said m) ∙ find_said q (sets.entries m) ∙ ap (option_map (λ b. b.value.1)) (sym (sets.get-entries m q))
+
+pub len_bodies : (m : Held) → sets.len m ≡ sets.len (bodies m)
+len_bodies m = sets.len-entries m ∙ sym (length-map (sets.entries m) said) ∙ ap length (sym (entries_said m)) ∙ sym (sets.len-entries (bodies m))
+
+pub bodies_empty : (m : Held) → m ≡ sets.empty → bodies m ≡ sets.empty
+bodies_empty m none = sets.same_map dot_cmp_total dot_cmp-IsAntisymmetric _ _ (λ q.
+    get_bodies m q ∙ ap (option_map (λ b. b.value.1)) (ap (λ (x : Held). sets.get x q) none ∙ sets.get-empty dot_cmp q) ∙ sym (sets.get-empty dot_cmp q))
+
+some_of : {A B : Type 0} (f : A → B) (o : Option A) → IsSome (option_map f o) → IsSome o
+some_of f None h = h
+some_of f (Some a) h = refl
+
+of_some : {A B : Type 0} (f : A → B) (o : Option A) → IsSome o → IsSome (option_map f o)
+of_some f None h = h
+of_some f (Some a) h = refl
+
+module _ (m : Held) (F : FactSet) (seen : bodies m ≡ F) where
+  at : (q : Dot) → sets.get F q ≡ option_map (λ b. b.value.1) (sets.get m q)
+  at q = ap (λ (s : FactSet). sets.get s q) (sym seen) ∙ get_bodies m q
+
+  pub held_there : (q : Dot) → IsSome (sets.get F q) → IsSome (sets.get m q)
+  held_there q h = some_of _ (sets.get m q) (subst IsSome (at q) h)
+
+  -- a look-up gives the fact
+  pub got : (home : AreHome m) (d : Dot) (b : Boxed) → sets.get m d ≡ Some b → Some b.value ≡ option_map (λ body. (d, body)) (sets.get F d)
+  got home d b here = ap (λ (x : Dot). Some (x, b.value.1)) (home d b here) ∙ ap (option_map (λ body. (d, body))) (sym (at d ∙ ap (option_map (λ b. b.value.1)) here))
+
+  pub got_none : (d : Dot) → sets.get m d ≡ None → ◌≡◌ {A = Option (Dot × Body)} None (option_map (λ body. (d, body)) (sets.get F d))
+  got_none d none = ap (option_map (λ body. (d, body))) (sym (at d ∙ ap (option_map (λ b. b.value.1)) none))
+
+  -- ---- putting and taking out
+
+  module _ (n : Held) (d : Dot) where
+    pub put_bodies : (b : Boxed) → n ≡ sets.insert m d b → bodies n ≡ sets.insert F d b.value.1
+    put_bodies b is = sets.same_map dot_cmp_total dot_cmp-IsAntisymmetric _ _ (λ q.
+        get_bodies n q ∙ ap (option_map (λ b. b.value.1)) (ap (λ (x : Held). sets.get x q) is ∙ sets.get-insert dot_cmp_total m d b q)
+        ∙ mapped (eq_by_cmp dot_cmp q d) (Some b) (sets.get m q) ∙ ap (cond (eq_by_cmp dot_cmp q d) (Some b.value.1)) (sym (at q)) ∙ sym (sets.get-insert dot_cmp_total F d b.value.1 q))
+      where
+        mapped : (t : Bool) (o p : Option Boxed) → option_map (λ b. b.value.1) (cond t o p) ≡ cond t (option_map (λ b. b.value.1) o) (option_map (λ b. b.value.1) p)
+        mapped true o p = refl
+        mapped false o p = refl
+
+    pub put_home : (b : Boxed) → n ≡ sets.insert m d b → b.value.0 ≡ d → AreHome m → AreHome n
+    put_home b is here home q c h = elim (cases_Bool (eq_by_cmp dot_cmp q d)) [
+      | inl same ↦
+          let e : c ≡ b = some_injective c b (sym h ∙ ap (λ (x : Held). sets.get x q) is ∙ sets.get-insert dot_cmp_total m d b q ∙ cond-true _ _ _ same) in
+          ap (λ (x : Boxed). x.value.0) e ∙ here ∙ sym (tied q d same)
+      | inr apart ↦ home q c (sym (ap (λ (x : Held). sets.get x q) is ∙ sets.get-insert dot_cmp_total m d b q ∙ cond-false _ _ _ apart) ∙ h)
     ]
 
-sorted_taken : (d : Dot) (fs : Facts) → T (sets.is_sorted dot_cmp fs) → T (sets.is_sorted dot_cmp (remove_entry (is_at (dot_cmp d)) fs))
-sorted_taken d [] s = tt
-sorted_taken d (f ∷ fs) s =
-    let l = both _ _ s in
-    elim (is_at (dot_cmp d) f.0) as (λ t. T (sets.is_sorted dot_cmp (cond t fs (f ∷ remove_entry (is_at (dot_cmp d)) fs)))) [
-      | true ↦ l.1
-      | false ↦ and (below_all dot_cmp f.0 (remove_entry (is_at (dot_cmp d)) fs)) _ (below_taken f.0 d fs l.0) (sorted_taken d fs l.1)
+    pub taken_bodies : n ≡ sets.remove m d → bodies n ≡ sets.remove F d
+    taken_bodies is = sets.same_map dot_cmp_total dot_cmp-IsAntisymmetric _ _ (λ q.
+        get_bodies n q ∙ ap (option_map (λ b. b.value.1)) (ap (λ (x : Held). sets.get x q) is ∙ sets.get-remove dot_cmp_total m d q)
+        ∙ mapped (eq_by_cmp dot_cmp q d) (sets.get m q) ∙ ap (cond (eq_by_cmp dot_cmp q d) None) (sym (at q)) ∙ sym (sets.get-remove dot_cmp_total F d q))
+      where
+        mapped : (t : Bool) (p : Option Boxed) → option_map (λ b. b.value.1) (cond t None p) ≡ cond t None (option_map (λ b. b.value.1) p)
+        mapped true p = refl
+        mapped false p = refl
+
+    pub taken_home : n ≡ sets.remove m d → AreHome m → AreHome n
+    taken_home is home q c h = elim (cases_Bool (eq_by_cmp dot_cmp q d)) [
+      | inl same ↦ absurd (none_is_not_some c (sym (ap (λ (x : Held). sets.get x q) is ∙ sets.get-remove dot_cmp_total m d q ∙ cond-true _ _ _ same) ∙ h))
+      | inr apart ↦ home q c (sym (ap (λ (x : Held). sets.get x q) is ∙ sets.get-remove dot_cmp_total m d q ∙ cond-false _ _ _ apart) ∙ h)
     ]
-
-none_either : (t : Bool) → ◌≡◌ {A = Option Body} None (cond t None None)
-none_either true = refl
-none_either false = refl
-
-nothing_held : (o : Option Body) → o ≡ None → IsSome o → ⊥
-nothing_held o none some = false≢true (sym (ap is_some none) ∙ some)
-
-find_taken : (d : Dot) (fs : Facts) → T (sets.is_sorted dot_cmp fs) → (q : Dot) → find dot_cmp q (remove_entry (is_at (dot_cmp d)) fs) ≡ cond (eq_by_cmp dot_cmp q d) None (find dot_cmp q fs)
-find_taken d [] s q = none_either (eq_by_cmp dot_cmp q d)
-find_taken d (f ∷ fs) s q = elim (cases_Bool (is_at (dot_cmp d) f.0)) [
-  | inl here ↦
-      let same : d ≡ f.0 = tied d f.0 here in
-      ap (find dot_cmp q) (cond-true (is_at (dot_cmp d) f.0) fs (f ∷ remove_entry (is_at (dot_cmp d)) fs) here)
-      ∙ elim (cases_Bool (eq_by_cmp dot_cmp q f.0)) [
-        | inl at ↦ ap (λ x. find dot_cmp x fs) (tied q f.0 at) ∙ none_below dot_cmp_total dot_cmp-IsAntisymmetric f.0 fs (both _ _ s).0
-            ∙ sym (cond-true (eq_by_cmp dot_cmp q d) None _ (ap (eq_by_cmp dot_cmp q) same ∙ at))
-        | inr off ↦ sym (cond-false (eq_by_cmp dot_cmp q f.0) (Some f.1) (find dot_cmp q fs) off) ∙ sym (cond-false (eq_by_cmp dot_cmp q d) None _ (ap (eq_by_cmp dot_cmp q) same ∙ off))
-      ]
-  | inr more ↦
-      ap (find dot_cmp q) (cond-false (is_at (dot_cmp d) f.0) fs (f ∷ remove_entry (is_at (dot_cmp d)) fs) more)
-      ∙ ap (cond (eq_by_cmp dot_cmp q f.0) (Some f.1)) (find_taken d fs (both _ _ s).1 q)
-      ∙ elim (cases_Bool (eq_by_cmp dot_cmp q f.0)) [
-        | inl at ↦
-            let off : eq_by_cmp dot_cmp q d ≡ false = ap (λ x. eq_by_cmp dot_cmp x d) (tied q f.0 at) ∙ turned f.0 more in
-            ap (λ t. cond (eq_by_cmp dot_cmp q f.0) (Some f.1) (cond t None (find dot_cmp q fs))) off ∙ sym (cond-false (eq_by_cmp dot_cmp q d) None _ off)
-        | inr off ↦
-            cond-false (eq_by_cmp dot_cmp q f.0) (Some f.1) _ off
-            ∙ ap (cond (eq_by_cmp dot_cmp q d) None) (sym (cond-false (eq_by_cmp dot_cmp q f.0) (Some f.1) (find dot_cmp q fs) off))
-      ]
-]
-  where
-    turned : (x : Dot) → eq_by_cmp dot_cmp d x ≡ false → eq_by_cmp dot_cmp x d ≡ false
-    turned x off = (eq_by_cmp_equiv dot_cmp_total).symm x d ∙ off
-
-module _ (es new : Entries) (d : Dot) (kept : IsTable es) (is : new ≡ remove_entry (is_at (dot_cmp d)) es) where
-  rest_keyed : new ≡ keyed (remove_entry (is_at (dot_cmp d)) (values_of es))
-  rest_keyed = is ∙ ap (remove_entry (is_at (dot_cmp d))) kept.home ∙ taken_keyed (values_of es) d
-
-  rest_values : values_of new ≡ remove_entry (is_at (dot_cmp d)) (values_of es)
-  rest_values = ap values_of rest_keyed ∙ values_keyed _
-
-  rest_sorted : T (sets.is_sorted dot_cmp (values_of new))
-  rest_sorted = subst (λ fs. T (sets.is_sorted dot_cmp fs)) (sym rest_values) (sorted_taken d (values_of es) kept.sorted)
-
-  rest_find : (q : Dot) → find dot_cmp q (values_of new) ≡ cond (eq_by_cmp dot_cmp q d) None (find dot_cmp q (values_of es))
-  rest_find q = ap (find dot_cmp q) rest_values ∙ find_taken d (values_of es) kept.sorted q
-
-  pub taken_is_table : IsTable new
-  taken_is_table = record {
-    home = rest_keyed ∙ ap keyed (sym rest_values);
-    sorted = rest_sorted;
-    high = λ q h. elim (cases_Bool (eq_by_cmp dot_cmp q d)) [
-      | inl here ↦ absurd (nothing_held (find dot_cmp q (values_of new)) (rest_find q ∙ cond-true (eq_by_cmp dot_cmp q d) None (find dot_cmp q (values_of es)) here) h)
-      | inr more ↦ kept.high q (subst IsSome (rest_find q ∙ cond-false (eq_by_cmp dot_cmp q d) None _ more) h)
-    ];
-  }
-
-  pub taken_is_remove : (F : FactSet) → sets.from_sorted (values_of es) ≡ F → sets.from_sorted (values_of new) ≡ sets.remove F d
-  taken_is_remove F seen = sets.same_map dot_cmp_total dot_cmp-IsAntisymmetric _ _ (λ q.
-      sets.get-from_sorted dot_cmp (values_of new) q rest_sorted ∙ rest_find q
-      ∙ ap (cond (eq_by_cmp dot_cmp q d) None) (sym (sets.get-from_sorted dot_cmp (values_of es) q kept.sorted) ∙ ap (λ (m : FactSet). sets.get m q) seen)
-      ∙ sym (sets.get-remove dot_cmp_total F d q))
 
 -- ---- walking
 
-between_keyed : (d : Dot) (fs : Facts) → entries_between dot_cmp (Excluded d) Unbounded (keyed fs) ≡ keyed (filter (is_above (Some d)) fs)
-between_keyed d [] = refl
-between_keyed d (f ∷ fs) =
-    elim (is_lt (dot_cmp d f.0)) as (λ t. cond (t && not false) ((f.0, f) ∷ entries_between dot_cmp (Excluded d) Unbounded (keyed fs)) (entries_between dot_cmp (Excluded d) Unbounded (keyed fs)) ≡ keyed (cond t (f ∷ filter (is_above (Some d)) fs) (filter (is_above (Some d)) fs))) [
-      | true ↦ ap (λ l. (f.0, f) ∷ l) (between_keyed d fs)
-      | false ↦ between_keyed d fs
+-- what stands in a list below which a dot lies, is above the dot
+below_found : (k : Dot) (es : Facts) (q : Dot) (c : Body) → T (below_all dot_cmp k es) → find dot_cmp q es ≡ Some c → is_lt (dot_cmp k q) ≡ true
+below_found k [] q c low h = absurd (none_is_not_some c h)
+below_found k (e ∷ es) q c low h =
+    let l = both _ _ low in
+    elim (cases_Bool (eq_by_cmp dot_cmp q e.0)) [
+      | inl same ↦ ap (λ (x : Dot). is_lt (dot_cmp k x)) (tied q e.0 same) ∙ is_true _ l.0
+      | inr apart ↦ below_found k es q c l.1 (sym (cond-false _ _ _ apart) ∙ h)
     ]
 
-module _ (es : Entries) (F : FactSet) (kept : IsTable es) (seen : sets.from_sorted (values_of es) ≡ F) where
-  -- the part of the table above a dot, behind the keys
-  part_above : (d : Dot) → values_of (entries_between dot_cmp (Excluded d) Unbounded es) ≡ above F (Some d)
-  part_above d =
-      ap (λ l. values_of (entries_between dot_cmp (Excluded d) Unbounded l)) kept.home ∙ ap values_of (between_keyed d (values_of es)) ∙ values_keyed _
-      ∙ ap (filter (is_above (Some d))) (table_entries es F kept seen)
+-- and it hides none
+found_past : (e : Dot × Body) (es : Facts) (q : Dot) (c : Body) → T (below_all dot_cmp e.0 es) → find dot_cmp q es ≡ Some c → find dot_cmp q (e ∷ es) ≡ Some c
+found_past e es q c low h = cond-false _ _ _ (apart (dot_cmp e.0 q) (dot_cmp q e.0) (dot_cmp_total.antisymm q e.0) (below_found e.0 es q c low h)) ∙ h
+  where
+    apart : (o p : Ordering) → p ≡ ordering_reverse o → is_lt o ≡ true → is_eq p ≡ false
+    apart Less p e h = ap is_eq e
+    apart Equal p e h = absurd (false≢true h)
+    apart Greater p e h = absurd (false≢true h)
 
-  pub first_above : (d k : Dot) (f : Dot × Body) (part rest : Entries) (after : Option Dot) → after ≡ Some d → part ≡ entries_between dot_cmp (Excluded d) Unbounded es → part ≡ (k, f) ∷ rest → Some f ≡ slice_get (above F after) 0
-  first_above d k f part rest after is here step =
-      sym (ap (λ l. slice_get l 0) (ap (above F) is ∙ sym (part_above d) ∙ ap values_of (sym here) ∙ ap values_of step))
+first_in : (a : Option Dot) (es : Facts) (d : Dot) (b : Body) → T (sets.is_sorted dot_cmp es) → find dot_cmp d es ≡ Some b → is_above a (d, b) ≡ true
+    → ((q : Dot) (c : Body) → find dot_cmp q es ≡ Some c → is_above a (q, c) ≡ true → is_lt (dot_cmp q d) ≡ false) → slice_get (filter (is_above a) es) 0 ≡ Some (d, b)
+first_in a [] d b s here up least = absurd (none_is_not_some b here)
+first_in a (e ∷ es) d b s here up least =
+    let l = both _ _ s in
+    elim (cases_Bool (eq_by_cmp dot_cmp d e.0)) [
+      | inl same ↦
+          let is : d ≡ e.0 = tied d e.0 same in
+          let one : e.1 ≡ b = some_injective e.1 b (sym (cond-true _ _ _ same) ∙ here) in
+          ap (λ t. slice_get (cond t (e ∷ filter (is_above a) es) (filter (is_above a) es)) 0) (moved a e d b is one up) ∙ ap (λ (f : Dot × Body). Some f) (pair e.0 e.1 d b is one)
+      | inr apart ↦
+          let later : find dot_cmp d es ≡ Some b = sym (cond-false _ _ _ apart) ∙ here in
+          elim (cases_Bool (is_above a e)) [
+            | inl higher ↦ absurd (false≢true (sym (least e.0 e.1 (cond-true _ _ _ (ap is_eq (tied_itself dot_cmp_total e.0))) higher) ∙ below_found e.0 es d b l.0 later))
+            | inr lower ↦
+                ap (λ t. slice_get (cond t (e ∷ filter (is_above a) es) (filter (is_above a) es)) 0) lower
+                ∙ first_in a es d b l.1 later up (λ q c h. least q c (found_past e es q c l.0 h))
+          ]
+    ]
+  where
+    moved : (a : Option Dot) (e : Dot × Body) (d : Dot) (b : Body) → d ≡ e.0 → e.1 ≡ b → is_above a (d, b) ≡ true → is_above a e ≡ true
+    moved None e d b i j up = refl
+    moved (Some x) e d b i j up = ap (λ (y : Dot). is_lt (dot_cmp x y)) (sym i) ∙ up
 
-  pub none_above : (d : Dot) (part : Entries) (after : Option Dot) → after ≡ Some d → part ≡ entries_between dot_cmp (Excluded d) Unbounded es → part ≡ [] → None ≡ slice_get (above F after) 0
-  none_above d part after is here step =
-      sym (ap (λ l. slice_get l 0) (ap (above F) is ∙ sym (part_above d) ∙ ap values_of (sym here) ∙ ap values_of step))
+    pair : (x : Dot) (y : Body) (d : Dot) (b : Body) → d ≡ x → y ≡ b → ◌≡◌ {A = Dot × Body} (x, y) (d, b)
+    pair x y d b i j = ap (λ (z : Dot). (z, y)) (sym i) ∙ ap (λ (z : Body). (d, z)) j
 
-  -- the first of all
-  all_of : (after : Option Dot) → after ≡ None → above F after ≡ values_of es
-  all_of after is = ap (above F) is ∙ above_none F ∙ sym (table_entries es F kept seen)
+none_in : (a : Option Dot) (es : Facts) → T (sets.is_sorted dot_cmp es) → ((q : Dot) (c : Body) → find dot_cmp q es ≡ Some c → is_above a (q, c) ≡ true → ⊥) → slice_get (filter (is_above a) es) 0 ≡ None
+none_in a [] s none = refl
+none_in a (e ∷ es) s none =
+    let l = both _ _ s in
+    elim (cases_Bool (is_above a e)) [
+      | inl higher ↦ absurd (none e.0 e.1 (cond-true _ _ _ (ap is_eq (tied_itself dot_cmp_total e.0))) higher)
+      | inr lower ↦
+          ap (λ t. slice_get (cond t (e ∷ filter (is_above a) es) (filter (is_above a) es)) 0) lower
+          ∙ none_in a es l.1 (λ q c h. none q c (found_past e es q c l.0 h))
+    ]
 
-  pub first_of_table : (k : Dot) (f : Dot × Body) (after : Option Dot) → after ≡ None → slice_get es 0 ≡ Some (k, f) → Some f ≡ slice_get (above F after) 0
-  first_of_table k f after is here = sym (ap (λ l. slice_get l 0) (all_of after is) ∙ behind es here)
-    where
-      behind : (xs : Entries) → slice_get xs 0 ≡ Some (k, f) → slice_get (values_of xs) 0 ≡ Some f
-      behind [] h = absurd (none_is_not_some (k, f) h)
-      behind (x ∷ xs) h = ap (λ (e : Dot × (Dot × Body)). Some e.1) (some_injective x (k, f) h)
+up_of : (a : Option Dot) (q : Dot) (c : Body) → is_above a (q, c) ≡ true → IsAbove a q
+up_of None q c h = tt
+up_of (Some d) q c h = h
 
-  pub none_in_table : (after : Option Dot) → after ≡ None → ¬ (0 < length es) → None ≡ slice_get (above F after) 0
-  none_in_table after is none = sym (ap (λ l. slice_get l 0) (all_of after is) ∙ nothing es none)
-    where
-      nothing : (xs : Entries) → ¬ (0 < length xs) → slice_get (values_of xs) 0 ≡ None
-      nothing [] h = refl
-      nothing (x ∷ xs) h = absurd (h (omega arith))
+up_is : (a : Option Dot) (q : Dot) (c : Body) → IsAbove a q → is_above a (q, c) ≡ true
+up_is None q c h = refl
+up_is (Some d) q c h = h
+
+module _ (m : Held) (F : FactSet) (seen : bodies m ≡ F) (home : AreHome m) (after : Option Dot) where
+  there : (q : Dot) (c : Body) → find dot_cmp q (sets.entries F) ≡ Some c → IsSome (sets.get m q)
+  there q c h = held_there m F seen q (ap is_some (sets.get-entries F q ∙ h))
+
+  pub first_above : (b : Boxed) → IsNext m after (Some b) → Some b.value ≡ slice_get (above F after) 0
+  first_above b next =
+      let here = got m F seen home next.dot b next.held in
+      let body : sets.get F next.dot ≡ Some b.value.1 = at m F seen next.dot ∙ ap (option_map (λ b. b.value.1)) next.held in
+      here ∙ ap (option_map (λ body. (next.dot, body))) body
+      ∙ sym (first_in after (sets.entries F) next.dot b.value.1 (sets.entries_sorted F) (sym (sets.get-entries F next.dot) ∙ body) (up_is after next.dot b.value.1 next.above)
+      (λ q c h up. next.least q (up_of after q c up) (there q c h)))
+
+  pub none_above : IsNext m after None → None ≡ slice_get (above F after) 0
+  none_above next = sym (none_in after (sets.entries F) (sets.entries_sorted F) (λ q c h up. false≢true (sym (ap is_some (next q (up_of after q c up))) ∙ there q c h)))
 
 -- ---- the greatest serial
 
-module _ (es : Entries) (F : FactSet) (kept : IsTable es) (seen : sets.from_sorted (values_of es) ≡ F) where
-  pub table_high : (d : Dot) → IsSome (sets.get F d) → d.serial ≤ greatest_serial
-  table_high d h = kept.high d (subst IsSome (ap (λ (m : FactSet). sets.get m d) (sym seen) ∙ sets.get-from_sorted dot_cmp (values_of es) d kept.sorted) h)
-
-  behind : (q : Dot) → lookup (is_at (dot_cmp q)) es ≡ option_map (λ b. (q, b)) (sets.get F q)
-  behind q = table_get es F q kept seen
-
-  some_of : {A B : Type 0} (f : A → B) (o : Option A) → IsSome (option_map f o) → IsSome o
-  some_of f None h = h
-  some_of f (Some a) h = refl
-
-  of_some : {A B : Type 0} (f : A → B) (o : Option A) → IsSome o → IsSome (option_map f o)
-  of_some f None h = h
-  of_some f (Some a) h = refl
-
-  none_of : {A B : Type 0} (f : A → B) (o : Option A) → option_map f o ≡ None → o ≡ None
-  none_of f None h = refl
-  none_of f (Some a) h = absurd (none_is_not_some (f a) (sym h))
-
-  module _ (r : ℕ) (first last : Dot) (lo : first ≡ dot_at r 1) (hi : last ≡ dot_at r greatest_serial) where
-    there : (q : Dot) → IsLeBy dot_cmp (dot_at r 1) q × IsLeBy dot_cmp q (dot_at r greatest_serial) → IsLeBy dot_cmp first q × IsLeBy dot_cmp q last
-    there q h = (subst (λ (x : Dot). IsLeBy dot_cmp x q) (sym lo) h.0, subst (λ (x : Dot). IsLeBy dot_cmp q x) (sym hi) h.1)
-
-    here : (q : Dot) → IsLeBy dot_cmp first q × IsLeBy dot_cmp q last → IsLeBy dot_cmp (dot_at r 1) q × IsLeBy dot_cmp q (dot_at r greatest_serial)
-    here q h = (subst (λ (x : Dot). IsLeBy dot_cmp x q) lo h.0, subst (λ (x : Dot). IsLeBy dot_cmp q x) hi h.1)
-
-    pub range_greatest : (e : Dot) (f : Dot × Body) → IsLeBy dot_cmp first e × IsLeBy dot_cmp e last → lookup (is_at (dot_cmp e)) es ≡ Some f
-        → ((q : Dot) → IsLeBy dot_cmp first q × IsLeBy dot_cmp q last → IsSome (lookup (is_at (dot_cmp q)) es) → is_lt (dot_cmp e q) ≡ false)
-        → e.serial ≡ last_serial r (sets.entries F)
-    range_greatest e f within at top = greatest_is F r table_high e (some_of (λ b. (e, b)) (sets.get F e) (subst IsSome (sym at ∙ behind e) refl)) (here e within)
-        (λ q inside held. top q (there q inside) (subst IsSome (sym (behind q)) (of_some (λ b. (q, b)) (sets.get F q) held)))
-
-    pub range_none : ((q : Dot) → IsLeBy dot_cmp first q × IsLeBy dot_cmp q last → lookup (is_at (dot_cmp q)) es ≡ None) → 0 ≡ last_serial r (sets.entries F)
-    range_none none = greatest_none F r table_high (λ q inside. none_of (λ b. (q, b)) (sets.get F q) (sym (behind q) ∙ none q (there q inside)))
+pub last_serial_is : (m : Held) (F : FactSet) → bodies m ≡ F → (r n : ℕ) → IsLast m r n → n ≡ last_serial r (sets.entries F)
+last_serial_is m F seen r n last =
+    let low : last_serial r (sets.entries F) ≤ n = at_most F r n (sets.entries F) (AllIn-entries F) (λ q b h same. last.greatest q same (held_there m F seen q (ap is_some h))) in
+    elim (cases_lt 0 n) [
+      | inl some ↦ let high : n ≤ last_serial r (sets.entries F) = counts some (sets.get F (record { region = r; serial = n })) refl in omega arith
+      | inr none ↦ omega arith
+    ]
+  where
+    counts : 0 < n → (o : Option Body) → sets.get F (record { region = r; serial = n }) ≡ o → n ≤ last_serial r (sets.entries F)
+    counts some None h = absurd (false≢true (sym (ap is_some (sym (at m F seen (record { region = r; serial = n })) ∙ h)) ∙ of_some _ (sets.get m (record { region = r; serial = n })) (last.there some)))
+    counts some (Some b) h = at_most_last_serial r (sets.entries F) (record { region = r; serial = n }) b refl (sym (sets.get-entries F (record { region = r; serial = n })) ∙ h)
 
 -- ---- what a look-up that gives a fact says
 

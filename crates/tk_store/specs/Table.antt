@@ -1,21 +1,27 @@
 -- How facts are kept in a map by dot (own).
---   keyed     facts, each behind its dot
---   IsTable   a map's entries are facts that rise by dot, each at its own
-use Rattle.std.specs.Prelude.{◌≡◌, ◌≤◌, T, List, map, IsSome}
-use Rattle.std.specs.Map.{values_of}
+--   Held      facts by dots, each in memory of its own
+--   bodies    what they say, by their dots
+--   AreHome   each stands at its own dot
+use Rattle.std.specs.Prelude.{◌≡◌, List, map, Some}
+use Rattle.std.proofs.Common.{Box, Global}
 use Rattle.std.specs.FinMap as sets
 use Rattle.tk_handle.specs.declared.dot.Dot.{Dot}
 use Rattle.tk_handle.specs.Dot.{dot_cmp}
-use Rattle.tk_handle.specs.Ranges.{greatest_serial}
 use Rattle.tk_fact.specs.declared.body.Body.{Body}
-use Rattle.tk_store.specs.FactSet.{Facts}
+use Rattle.tk_store.specs.FactSet.{FactSet}
 
--- facts, each behind its dot
-abbrev pub keyed : Facts → List (Dot × (Dot × Body))
-keyed fs = map (λ f. (f.0, f)) fs
+-- a fact in memory of its own
+abbrev pub Boxed : Type 0
+Boxed = Box (Dot × Body) Global
 
--- the entries are facts that rise by dot, each at its own, with a serial in range
-pub record IsTable (es : List (Dot × (Dot × Body))) : Type 0 where
-  pub home : es ≡ keyed (values_of es)
-  pub sorted : T (sets.is_sorted dot_cmp (values_of es))
-  pub high : (d : Dot) → IsSome (sets.find dot_cmp d (values_of es)) → d.serial ≤ greatest_serial
+-- facts by dots
+abbrev pub Held : Type 0
+Held = sets.FinMap dot_cmp Boxed
+
+-- what they say, by their dots
+abbrev pub bodies : Held → FactSet
+bodies m = sets.from_sorted (map (λ e. (e.0, e.1.value.1)) (sets.entries m))
+
+-- each stands at its own dot
+abbrev pub AreHome : Held → Type 0
+AreHome m = (d : Dot) (b : Boxed) → sets.get m d ≡ Some b → b.value.0 ≡ d

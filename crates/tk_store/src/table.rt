@@ -1,29 +1,29 @@
 //! Facts by their dots.
 
-use std::collections::BTreeMap;
+use std::alloc::{AllocError, Global};
 use std::marker::Model;
+use tk_dots::DotMap;
 use tk_fact::Fact;
 use tk_handle::Dot;
 
 // Each fact at its own dot.
 #[derive(Drop)]
 pub(crate) struct Table {
-    held: BTreeMap<Dot, Fact>,
+    held: DotMap<Box<Fact>>,
+    alloc: Global,
 }
 
 impl Model for Table {
-    ghost use Rattle.std.specs.FinMap as map;
-    ghost use Rattle.std.specs.Map.{values_of};
     ghost use Rattle.tk_store.specs.FactSet.{FactSet, coded_facts};
-    ghost use Rattle.tk_store.specs.Table.{IsTable};
+    ghost use Rattle.tk_store.specs.Table.{bodies, AreHome};
 
     ghost Value = { FactSet };
 
     ghost coded = { coded_facts };
 
-    ghost view = { λ t. map.from_sorted (values_of t.held.entries) };
+    ghost view = { λ t. bodies t.held };
 
-    ghost invariant = { λ t. IsTable t.held.entries };
+    ghost invariant = { λ t. AreHome t.held };
 }
 
 ghost use Rattle.std.specs.Prelude.{◌≡◌, ◌≤◌, OnOk, OnErr, IsSome, is_some, slice_get};
@@ -34,16 +34,15 @@ ghost use Rattle.tk_handle.specs.Ranges.{greatest_serial};
 ghost use Rattle.tk_store.specs.Walk.{above};
 ghost use Rattle.tk_store.specs.NextDot as next;
 
-use std::alloc::{AllocError, Global};
-use std::ops::Bound;
-use tk_handle::{RegionNumber, Serial};
+use tk_handle::RegionNumber;
 
 impl Table {
     pub(crate) fn new(alloc: Global) -> Table
         ensures { result ≡ sets.empty }
     {
         Table {
-            held: BTreeMap::new(alloc),
+            held: DotMap::new(alloc),
+            alloc,
         }
     }
 
@@ -51,13 +50,16 @@ impl Table {
     pub(crate) fn known(&self)
         ensures { (d : the_dot) → IsSome (sets.get self.now d) → d.serial ≤ greatest_serial }
     {
-        let _held = &self.held;
+        self.held.known();
     }
 
     pub(crate) fn get(&self, dot: Dot) -> Option<&Fact>
         ensures { option_copied result ≡ option_map (λ body. (dot, body)) (sets.get self.now dot) }
     {
-        self.held.get(&dot)
+        match self.held.get(dot) {
+            Some(fact) => Some(&**fact),
+            None => None,
+        }
     }
 
     pub(crate) fn holds(&self, dot: Dot) -> bool
@@ -69,7 +71,7 @@ impl Table {
     pub(crate) fn len(&self) -> u64
         ensures { result ≡ sets.len self.now }
     {
-        self.held.len() as u64
+        self.held.len()
     }
 
     // Puts a fact at its dot.
@@ -78,9 +80,8 @@ impl Table {
         ensures err { OnErr result (self.new ≡ self.old) }
     {
         let dot = fact.dot;
-        let _serial = dot.serial();
-        drop(self.held.insert(dot, fact)?);
-        Ok(())
+        let held = Box::new(self.alloc, fact)?;
+        self.held.put(dot, held)
     }
 
     // Takes the fact at the dot out, which takes no memory.
@@ -88,45 +89,27 @@ impl Table {
         ensures fact { result ≡ option_map (λ body. (dot, body)) (sets.get self.old dot) }
         ensures rest { self.new ≡ sets.remove self.old dot }
     {
-        self.held.remove(&dot)
+        match self.held.take(dot) {
+            Some(fact) => Some(Box::into_inner(fact)),
+            None => None,
+        }
     }
 
     // The first fact above the dot, or of all.
     pub(crate) fn next_after(&self, after: Option<Dot>) -> Option<&Fact>
         ensures { option_copied result ≡ slice_get (above self.now after) 0 }
     {
-        match after {
-            Some(dot) => match self
-                .held
-                .range((Bound::Excluded(dot), Bound::Unbounded))
-                .next()
-            {
-                Some((_, fact)) => Some(fact),
-                None => None,
-            },
-            None => match self.held.first_key_value() {
-                Some((_, fact)) => Some(fact),
-                None => None,
-            },
+        match self.held.next_after(after) {
+            Some(fact) => Some(&**fact),
+            None => None,
         }
     }
 
-    // The greatest serial of the region, or 0. The last fact of the region has it.
+    // The greatest serial of the region, or 0.
     pub(crate) fn last_serial(&self, region: RegionNumber) -> u64
         ensures value { result ≡ next.last_serial region (sets.entries self.now) }
         ensures high { result ≤ greatest_serial }
     {
-        let (Some(first), Some(last)) = (Dot::new(region, 1), Dot::new(region, Serial::GREATEST))
-        else {
-            unreachable!()
-        };
-        match self
-            .held
-            .range((Bound::Included(first), Bound::Included(last)))
-            .next_back()
-        {
-            Some((dot, _)) => dot.serial(),
-            None => 0,
-        }
+        self.held.last_serial(region)
     }
 }

@@ -21,4 +21,4 @@ returns-clause-ok c =
     let M = table c.add_row.new.rows in
     let seen = NothingSeen-alike T M c.requires (Alike-blank T M c.args.token.dot c.in_ok-add_row.ensures.ok) in
     MarksOne-seen T M (table c.bury.new.rows) c.args.token seen
-    (MarksOne-from M (table c.set_marked.new.rows) (table c.bury.new.rows) c.args.token seen.forest (present-blank T M c.args.token.dot c.in_ok-add_row.ensures.ok) c.set_marked.ensures c.bury.ensures)
+    (MarksOne-from M (table c.set_marked.new.rows) (table c.bury.new.rows) c.args.token seen.forest (present-blank T M c.args.token.dot c.in_ok-add_row.ensures.ok) c.set_marked.ensures.rows c.bury.ensures.rows)

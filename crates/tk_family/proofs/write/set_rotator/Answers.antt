@@ -1,9 +1,9 @@
-use Rattle.std.proofs.Common.{sym, Option}
+use Rattle.std.proofs.Common.{sym, ap, ◌∙◌, Some, Option}
 use Rattle.tk_family.specs.declared.row.Row.{Row}
 use Rattle.tk_family.specs.Rows.{table}
 use Rattle.tk_family.specs.Writes.{with_rotator}
 use Rattle.tk_family.proofs.Writing.{changed}
 use Rattle.tk_family.proofs.write.set_rotator.Goals as goal
 
-pub returns-in-Some : goal.returns-in-Some
-returns-in-Some c = changed (table c.args.rows.now) (table c.put_row.new.rows) c.args.at c.in-Some.row.now c.rotated_by-changed.result (λ (o : Option Row). with_rotator o c.args.dot) (sym c.in-Some.ensures.value) c.rotated_by-changed.ensures c.put_row.ensures
+pub returns-in-Some-clause-rows : goal.returns-in-Some-clause-rows
+returns-in-Some-clause-rows c = changed (table c.args.rows.now) (table c.put_row.new.rows) c.args.at c.unpack.result c.rotated_by-changed.result (λ (o : Option Row). with_rotator o c.args.dot) (sym c.in-Some.ensures ∙ ap (λ (r : Row). Some r) (sym c.unpack.ensures)) c.rotated_by-changed.ensures c.put_row.ensures.rows

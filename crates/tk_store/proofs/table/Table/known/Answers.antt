@@ -1,5 +1,5 @@
-use Rattle.tk_store.proofs.TableLaws.{table_high}
+use Rattle.tk_store.proofs.TableLaws.{held_there}
 use Rattle.tk_store.proofs.table.Table.known.Goals as goal
 
 pub returns : goal.returns
-returns c = table_high c.self.inside.held.entries c.args.self.now c.self.invariant c.self.view_is
+returns c = λ d h. c.known.ensures d (held_there c.self.inside.held c.args.self.now c.self.view_is d h)

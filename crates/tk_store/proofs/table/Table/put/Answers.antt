@@ -1,17 +1,28 @@
-use Rattle.std.proofs.Common.{ap, sym, ◌∙◌}
-use Rattle.std.specs.BTreeMap.{insert_entry}
+use Rattle.std.proofs.Common.{ap, sym, subst, ◌∙◌, Result, Ok, Err, OnOk, OnErr}
 use Rattle.std.specs.FinMap as sets
 use Rattle.tk_handle.specs.declared.dot.Dot.{Dot}
-use Rattle.tk_handle.specs.Dot.{dot_cmp}
 use Rattle.tk_fact.specs.declared.body.Body.{Body}
-use Rattle.tk_store.proofs.TableLaws.{put_is_table, put_is_insert}
+use Rattle.tk_store.specs.Table.{Held, AreHome}
+use Rattle.tk_store.proofs.TableLaws.{put_bodies, put_home}
 use Rattle.tk_store.proofs.table.Table.put.Goals as goal
 
-pub invariant_of-self-2 : goal.invariant_of-self-2
-invariant_of-self-2 c = put_is_table c.self.inside.held.entries c.insert.new.self.entries c.fact.inside.dot c.args.fact.1 c.self.invariant
-    (c.in_ok-insert.ensures.entries ∙ ap (λ (x : Dot). insert_entry dot_cmp c.self.inside.held.entries c.fact.inside.dot (x, c.args.fact.1)) (sym (ap (λ (f : Dot × Body). f.0) c.fact.view_is))) c.serial-serial.ensures.range.1
+either_way : {A E P Q R : Type 0} (r : Result A E) → OnOk r P → OnErr r Q → (P → R) → (Q → R) → R
+either_way (Ok a) h k f g = f h
+either_way (Err e) h k f g = g k
+
+on_ok : {A E P Q : Type 0} (r : Result A E) → OnOk r P → (P → Q) → OnOk r Q
+on_ok (Ok a) h f = f h
+on_ok (Err e) h f = tt
+
+pub invariant_of-self : goal.invariant_of-self
+invariant_of-self c =
+    let dot = ap (λ (f : Dot × Body). f.0) (c.in_ok-held.ensures.ok ∙ sym c.fact.view_is) in
+    either_way {R = AreHome c.put.new.self} c.put.result c.put.ensures.ok c.put.ensures.err
+    (λ is. put_home c.self.inside.held c.args.self.now c.self.view_is c.put.new.self c.fact.inside.dot c.in_ok-held.held is dot c.self.invariant)
+    (λ same. subst AreHome (sym same) c.self.invariant)
 
 pub returns-clause-ok : goal.returns-clause-ok
-returns-clause-ok c = put_is_insert c.self.inside.held.entries c.insert.new.self.entries c.fact.inside.dot c.args.fact.1 c.self.invariant
-    (c.in_ok-insert.ensures.entries ∙ ap (λ (x : Dot). insert_entry dot_cmp c.self.inside.held.entries c.fact.inside.dot (x, c.args.fact.1)) (sym (ap (λ (f : Dot × Body). f.0) c.fact.view_is))) c.args.self.now c.self.view_is
-    ∙ ap (λ (f : Dot × Body). sets.insert c.args.self.now f.0 c.args.fact.1) c.fact.view_is
+returns-clause-ok c = on_ok c.put.result c.put.ensures.ok (λ is.
+    put_bodies c.self.inside.held c.args.self.now c.self.view_is c.put.new.self c.fact.inside.dot c.in_ok-held.held is
+    ∙ ap (λ (d : Dot). sets.insert c.args.self.now d c.in_ok-held.held.value.1) (ap (λ (f : Dot × Body). f.0) c.fact.view_is)
+    ∙ ap (λ (b : Body). sets.insert c.args.self.now c.args.fact.0 b) (ap (λ (f : Dot × Body). f.1) c.in_ok-held.ensures.ok))

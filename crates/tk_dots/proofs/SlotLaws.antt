@@ -1,0 +1,34 @@
+-- Places of one page after a write.
+use Rattle.std.proofs.Common.{◌≡◌, ◌≢◌, ℕ, ◌+◌, ◌-◌, ◌<◌, ◌≤◌, ◌==◌, Bool, true, false, cond, length, List, [], ◌∷◌, ◌++◌, Option, Some, None, IsSome, is_some, refl, sym, ap, subst, ◌∙◌, inl, inr, arith, get_or, set, zero, suc, length-append}
+use Rattle.std.proofs.lemmas.List.{get_or_past, get_or_push, get_or_append_left, get_or-set_same, get_or-set_other}
+use Rattle.std.proofs.lemmas.Bool.{cases_Bool, cond-true, cond-false, cases_lt}
+use Rattle.std.proofs.lemmas.Bool.Decides.{nat_tests}
+use Rattle.tk_dots.proofs.CellLaws.{nat_same, nat_is}
+use mathlib.Core.Bool.{false≢true}
+
+module _ {X : Type 0} where
+  pub push_none : (xs : List (Option X)) (j : ℕ) → get_or (xs ++ None ∷ []) j None ≡ get_or xs j None
+  push_none [] zero = refl
+  push_none [] (suc j) = refl
+  push_none (x ∷ xs) zero = refl
+  push_none (x ∷ xs) (suc j) = push_none xs j
+
+  pub push_some : (xs : List (Option X)) (x : X) (n j : ℕ) → length xs ≡ n → get_or (xs ++ Some x ∷ []) j None ≡ cond (j == n) (Some x) (get_or xs j None)
+  push_some xs x n j len = elim (cases_Bool (j == n)) [
+    | inl same ↦ get_or_push xs (Some x) None j (len ∙ sym (nat_same j n same)) ∙ sym (cond-true _ _ _ same)
+    | inr apart ↦ elim (cases_lt j n) [
+      | inl lt ↦ get_or_append_left xs (Some x ∷ []) None j (omega (arith, lt, len)) ∙ sym (cond-false _ _ _ apart)
+      | inr ge ↦
+          let other : j ≢ n = (λ e. absurd (false≢true (sym apart ∙ nat_is j n e))) in
+          get_or_past (xs ++ Some x ∷ []) j None (omega (arith, length-append xs (Some x ∷ []), len, ge, other))
+          ∙ sym (get_or_past xs j None (omega (arith, len, ge))) ∙ sym (cond-false _ _ _ apart)
+    ]
+  ]
+
+  pub set_slot : (xs : List (Option X)) (i : ℕ) (o : Option X) (j : ℕ) → i < length xs → get_or (set xs i o) j None ≡ cond (j == i) o (get_or xs j None)
+  set_slot xs i o j lt = elim (cases_Bool (j == i)) [
+    | inl same ↦
+        let is : j ≡ i = nat_same j i same in
+        ap (λ (k : ℕ). get_or (set xs i o) k None) is ∙ get_or-set_same xs i o None lt ∙ sym (cond-true _ _ _ same)
+    | inr apart ↦ get_or-set_other xs i j o None (λ e. absurd (false≢true (sym apart ∙ nat_is j i e))) ∙ sym (cond-false _ _ _ apart)
+  ]

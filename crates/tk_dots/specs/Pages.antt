@@ -1,0 +1,125 @@
+-- The pages of a map from dots, and what they hold (own).
+--   span, page_of          how many dots a page has; the page of a dot
+--   slot_in, cell, cell_at  what lies at a place of a page, of the pages; and at a dot
+--   seen                   the finite map that pages hold
+--   FirstFrom, EndsFull    the first value from a place on; no empty place at the end
+--   IsPage, IsPages, IsPaged  what holds of a page, and of all
+--   IsNext                 the value at the least dot above one
+use Rattle.std.specs.Prelude.{◌≡◌, ℕ, zero, suc, ◌+◌, ◌*◌, ◌-◌, ◌/◌, ◌%◌, ◌<◌, ◌≤◌, Bool, true, false, cond, List, [], ◌∷◌, length, Option, Some, None, IsSome, slice_index_or}
+use Rattle.std.proofs.Common.{Vec, Global}
+use Rattle.std.specs.BTreeMap.{BTreeMap, get}
+use Rattle.std.specs.Ordering.{is_lt}
+use Rattle.std.specs.FinMap as map
+use Rattle.tk_handle.specs.declared.dot.Dot.{Dot}
+use Rattle.tk_handle.specs.Dot.{dot_cmp}
+use Rattle.tk_handle.specs.Ranges.{greatest_serial}
+
+-- how many dots a page has
+abbrev pub span : ℕ
+span = 64
+
+-- the page of a dot: the region, and which of its pages, counted from 1
+abbrev pub page_of : Dot → Dot
+page_of d = record { region = d.region; serial = d.serial / span + 1 }
+
+-- a dot above another, or any
+abbrev pub IsAbove : Option Dot → Dot → Type 0
+IsAbove None q = Unit {0}
+IsAbove (Some d) q = is_lt (dot_cmp d q) ≡ true
+
+-- the places of a page
+abbrev pub Slots : Type 0 → Type 0
+Slots X = Vec (Option X) Global
+
+-- the pages
+abbrev pub Pages : Type 0 → Type 0
+Pages X = BTreeMap Dot (Slots X)
+
+module _ {X : Type 0} where
+  -- what lies at a place of a page, if there is one
+  abbrev pub slot_in : Option (Slots X) → ℕ → Option X
+  slot_in None i = None
+  slot_in (Some v) i = slice_index_or v.items i None
+
+  -- what lies at a place of one of the pages
+  abbrev pub cell : Pages X → Dot → ℕ → Option X
+  cell m k i = slot_in (get dot_cmp m k) i
+
+  -- what lies at a dot
+  abbrev pub cell_at : Pages X → Dot → Option X
+  cell_at m d = cell m (page_of d) (d.serial % span)
+
+  -- the map with a value put, or without one
+  abbrev pub with_slot : map.FinMap dot_cmp X → Dot → Option X → map.FinMap dot_cmp X
+  with_slot m d None = map.remove m d
+  with_slot m d (Some x) = map.insert m d x
+
+  -- the map with the first n places of the p-th page of a region
+  unfoldable pub with_places : ℕ → ℕ → List (Option X) → ℕ → map.FinMap dot_cmp X → map.FinMap dot_cmp X
+  with_places r p os zero m = m
+  with_places r p os (suc n) m = with_slot (with_places r p os n m) (record { region = r; serial = p * span + n }) (slice_index_or os n None)
+
+  -- the map with a page, whose number is counted from 1
+  unfoldable pub with_page : ℕ → ℕ → List (Option X) → map.FinMap dot_cmp X → map.FinMap dot_cmp X
+  with_page r zero os m = m
+  with_page r (suc p) os m = with_places r p os span m
+
+  -- what pages hold
+  abbrev pub seen : List (Dot × Slots X) → map.FinMap dot_cmp X
+  seen [] = map.empty
+  seen (e ∷ es) = with_page e.0.region e.0.serial e.1.items (seen es)
+
+  -- the first value from a place on
+  abbrev pub FirstFrom : (ℕ → Option X) → ℕ → Option X → Type 0
+  FirstFrom f from None = (j : ℕ) → from ≤ j → f j ≡ None
+  FirstFrom f from (Some x) = (i : ℕ) × (from ≤ i) × (f i ≡ Some x) × ((j : ℕ) → from ≤ j → j < i → f j ≡ None)
+
+  -- no empty place at the end
+  abbrev pub EndsFull : List (Option X) → Type 0
+  EndsFull os = 0 < length os → IsSome (slice_index_or os (length os - 1) None)
+
+  -- a page has a value at its end, at a dot
+  pub record IsPage (k : Dot) (os : List (Option X)) : Type 0 where
+    pub some : 0 < length os
+    pub full : EndsFull os
+    pub short : length os ≤ span
+    pub high : (k.serial - 1) * span + length os ≤ greatest_serial + 1
+
+  -- each page is one
+  abbrev pub IsPages : Pages X → Type 0
+  IsPages m = (k : Dot) (v : Slots X) → get dot_cmp m k ≡ Some v → IsPage k v.items
+
+  -- each page is one, and the number is that of the values
+  pub record IsPaged (m : Pages X) (len : ℕ) : Type 0 where
+    pub pages : IsPages m
+    pub counted : len ≡ map.len (seen m.entries)
+
+  -- the first value of the first page above one
+  pub record IsFirstPage (m : Pages X) (after : Option Dot) (x : X) : Type 0 where
+    pub key : Dot
+    pub some : 0 < key.serial
+    pub above : IsAbove after key
+    pub least : (k : Dot) → IsAbove after k → IsSome (get dot_cmp m k) → is_lt (dot_cmp k key) ≡ false
+    pub first : FirstFrom (cell m key) 0 (Some x)
+
+  -- or no page is above
+  abbrev pub FirstOfPages : Pages X → Option Dot → Option X → Type 0
+  FirstOfPages m after (Some x) = IsFirstPage m after x
+  FirstOfPages m after None = (k : Dot) → IsAbove after k → get dot_cmp m k ≡ None
+
+  -- the value at the least dot above one
+  pub record IsLeastAbove (m : map.FinMap dot_cmp X) (after : Option Dot) (x : X) : Type 0 where
+    pub dot : Dot
+    pub held : map.get m dot ≡ Some x
+    pub above : IsAbove after dot
+    pub least : (q : Dot) → IsAbove after q → IsSome (map.get m q) → is_lt (dot_cmp q dot) ≡ false
+
+  -- or none
+  abbrev pub IsNext : map.FinMap dot_cmp X → Option Dot → Option X → Type 0
+  IsNext m after (Some x) = IsLeastAbove m after x
+  IsNext m after None = (q : Dot) → IsAbove after q → map.get m q ≡ None
+
+  -- the greatest serial of a region, or 0
+  pub record IsLast (m : map.FinMap dot_cmp X) (region serial : ℕ) : Type 0 where
+    pub there : 0 < serial → IsSome (map.get m (record { region = region; serial = serial }))
+    pub greatest : (q : Dot) → q.region ≡ region → IsSome (map.get m q) → q.serial ≤ serial

@@ -1,0 +1,135 @@
+//! The pages of a map, each behind its number.
+
+ghost use Rattle.std.specs.Prelude.{◌≡◌, ◌<◌, ◌≤◌, ◌+◌, ◌-◌, ◌*◌, ◌==◌, ◌&&◌, ◌%◌, ℕ, None, Some, is_some, if◌then◌else◌, option_copied, OnOk, OnErr, IfOk};
+ghost use Rattle.std.specs.BTreeMap.{get};
+ghost use Rattle.std.specs.Ordering.{eq_by_cmp};
+ghost use Rattle.tk_dots.specs.Pages.{cell, page_of, span, FirstFrom, FirstOfPages, IsPages};
+ghost use Rattle.tk_handle.specs.declared.dot.Dot.{Dot as the_dot};
+ghost use Rattle.tk_handle.specs.Dot.{dot_cmp};
+ghost use Rattle.tk_handle.specs.Ranges.{greatest_serial};
+
+use crate::place::{page_of as page_at, place_of};
+use crate::slots::{first_from, one, put, set, slot, take};
+use std::alloc::{AllocError, Global};
+use std::collections::BTreeMap;
+use std::ops::Bound;
+use tk_handle::Dot;
+
+// The value at a place of a page.
+pub(crate) fn get_in<V>(pages: &BTreeMap<Dot, Vec<Option<V>>>, page: Dot, at: usize) -> Option<&V>
+    ensures { option_copied result ≡ cell pages.now page at }
+{
+    match pages.get(&page) {
+        Some(slots) => slot(slots, at),
+        None => None,
+    }
+}
+
+// Puts a value at a place of a page, and tells whether one lay there. Where memory is refused nothing changes.
+pub(crate) fn put_in<V: Drop>(
+    alloc: Global,
+    pages: &mut BTreeMap<Dot, Vec<Option<V>>>,
+    page: Dot,
+    at: usize,
+    value: V,
+) -> Result<bool, AllocError>
+    requires within { at < span }
+    requires high { (page.serial - 1) * span + at ≤ greatest_serial }
+    requires pages { IsPages pages.old }
+    ensures cells { OnOk result ((k : the_dot) (j : ℕ) → cell pages.new k j ≡ (if eq_by_cmp dot_cmp k page && (j == at) then Some value else cell pages.old k j)) }
+    ensures was { IfOk result (λ was. was ≡ is_some (cell pages.old page at)) }
+    ensures err { OnErr result ((k : the_dot) (j : ℕ) → cell pages.new k j ≡ cell pages.old k j) }
+    ensures pages { IsPages pages.new }
+{
+    if !pages.contains_key(&page) {
+        let slots = one(alloc, at, value)?;
+        pages.insert(page, slots)?;
+        return Ok(false);
+    }
+    match pages.get_mut(&page) {
+        Some(slots) => put(slots, at, value),
+        None => unreachable!(),
+    }
+}
+
+// Writes a value over the one at a place of a page, if one lies there.
+pub(crate) fn set_in<V: Drop>(
+    pages: &mut BTreeMap<Dot, Vec<Option<V>>>,
+    page: Dot,
+    at: usize,
+    value: V,
+)
+    requires pages { IsPages pages.old }
+    ensures cells { (k : the_dot) (j : ℕ) → cell pages.new k j ≡ (if eq_by_cmp dot_cmp k page && (j == at) then (if is_some (cell pages.old page at) then Some value else None) else cell pages.old k j) }
+    ensures pages { IsPages pages.new }
+{
+    if let Some(slots) = pages.get_mut(&page) {
+        set(slots, at, value);
+    }
+}
+
+// Takes the value at a place of a page out.
+pub(crate) fn take_in<V: Drop>(
+    pages: &mut BTreeMap<Dot, Vec<Option<V>>>,
+    page: Dot,
+    at: usize,
+) -> Option<V>
+    requires pages { IsPages pages.old }
+    ensures value { result ≡ cell pages.old page at }
+    ensures cells { (k : the_dot) (j : ℕ) → cell pages.new k j ≡ (if eq_by_cmp dot_cmp k page && (j == at) then None else cell pages.old k j) }
+    ensures pages { IsPages pages.new }
+{
+    let (taken, is_empty) = match pages.get_mut(&page) {
+        Some(slots) => {
+            let taken = take(slots, at);
+            (taken, slots.is_empty())
+        }
+        None => return None,
+    };
+    if is_empty {
+        drop(pages.remove(&page));
+    }
+    taken
+}
+
+// The first value behind a dot on its page.
+pub(crate) fn rest_of_page<V>(pages: &BTreeMap<Dot, Vec<Option<V>>>, dot: Dot) -> Option<&V>
+    ensures { FirstFrom (cell pages.now (page_of dot)) (dot.serial % span + 1) (option_copied result) }
+{
+    match pages.get(&page_at(dot)) {
+        Some(slots) => first_from(slots, place_of(dot) + 1),
+        None => None,
+    }
+}
+
+// The first value of the first page above one, or of all.
+pub(crate) fn first_of_pages<V>(
+    pages: &BTreeMap<Dot, Vec<Option<V>>>,
+    after: Option<Dot>,
+) -> Option<&V>
+    requires { IsPages pages.now }
+    ensures { FirstOfPages pages.now after (option_copied result) }
+{
+    match after {
+        Some(page) => match pages
+            .range((Bound::Excluded(page), Bound::Unbounded))
+            .next()
+        {
+            Some((key, slots)) => {
+                let _serial = key.serial();
+                first_from(slots, 0)
+            }
+            None => None,
+        },
+        None => match pages
+            .range((Bound::<Dot>::Unbounded, Bound::<Dot>::Unbounded))
+            .next()
+        {
+            Some((key, slots)) => {
+                let _serial = key.serial();
+                first_from(slots, 0)
+            }
+            None => None,
+        },
+    }
+}

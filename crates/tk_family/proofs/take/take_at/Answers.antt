@@ -1,0 +1,6 @@
+use Rattle.tk_family.specs.Rows.{table}
+use Rattle.tk_family.proofs.Taking.{Takes-seen}
+use Rattle.tk_family.proofs.take.take_at.Goals as goal
+
+pub returns-clause-takes : goal.returns-clause-takes
+returns-clause-takes c = Takes-seen (table c.args.rows.now) (table c.take_link.new.rows) (table c.drop_blanks.new.rows) c.args.dot c.take_link.ensures.takes c.drop_blanks.ensures.same

@@ -1,0 +1,194 @@
+//! Taking a link away, and a mark, with all that followed from it. Nothing here takes memory: a list that has room for all
+//! rows is handed in.
+
+ghost use Rattle.std.specs.FinMap as map;
+ghost use Rattle.std.specs.Prelude.{◌≡◌, ◌≤◌, Some, IsSome, vec_capacity};
+ghost use Rattle.tk_family.specs.declared.link.Link.{Link as the_link};
+ghost use Rattle.tk_family.specs.Dots.{dot_eq};
+ghost use Rattle.tk_family.specs.Kept.{Hangs, IsForest};
+ghost use Rattle.tk_family.specs.Puts.{NothingSeen};
+ghost use Rattle.tk_family.specs.Rows.{table, link_in, links_of, marks_of};
+ghost use Rattle.tk_family.specs.Takes.{IsSettled, Unhangs, Unlinks, Clears, Revives, Takes, Unmarks};
+ghost use Rattle.tk_family.specs.Writes.{hung};
+ghost use Rattle.tk_handle.specs.declared.dot.Dot.{Dot as the_dot};
+
+use crate::gather::gather_into;
+use crate::link::{Link, named};
+use crate::look::{code_at, dead_at, first_at, is_any_bad, is_blank_at, link_at, next_at};
+use crate::packed::PackedRow;
+use crate::write::{clear, drop_row, hang, set_alive, set_bare, set_unmarked, set_unnamed};
+use tk_dots::DotMap;
+use tk_handle::{Dot, TokenId};
+
+/// Hangs a dot below the one that its link names, once more.
+fn hang_again(rows: &mut DotMap<PackedRow>, at: Dot)
+    ensures rows { (l : the_link) → link_in (table rows.old at) ≡ Some l → (q : the_dot) → table rows.new q ≡ hung (table rows.old) at l q }
+    ensures len { map.len rows.new ≡ map.len rows.old }
+{
+    if let Some(link) = link_at(rows, at) {
+        hang(rows, at, &link);
+    }
+}
+
+/// Whether two dots are one.
+fn is_one(a: Dot, b: Dot) -> bool
+    ensures { result ≡ dot_eq a b }
+{
+    a == b
+}
+
+/// Takes a dot out of the chain of those whose links name another, and counts the uses of the tokens there anew.
+fn unhang(rows: &mut DotMap<PackedRow>, above: Dot, dot: Dot)
+    requires hangs { Hangs (table rows.old) above }
+    requires row { IsSome (table rows.old above) }
+    ensures unhangs { Unhangs (table rows.old) (table rows.new) above dot }
+    ensures len { map.len rows.new ≡ map.len rows.old }
+{
+    let mut cursor = first_at(rows, above);
+    let mut left = rows.len();
+    set_unnamed(rows, above);
+    while let Some(child) = cursor {
+        left -= 1;
+        cursor = next_at(rows, child);
+        if !is_one(child, dot) {
+            hang_again(rows, child);
+        }
+    }
+}
+
+/// Takes the link at a dot away. The codes that are said below the dot stay.
+fn unlink(rows: &mut DotMap<PackedRow>, dot: Dot, link: &Link)
+    requires forest { IsForest (table rows.old) }
+    requires here { links_of (table rows.old) dot ≡ Some link.now }
+    ensures unlinks { Unlinks (table rows.old) (table rows.new) dot }
+    ensures len { map.len rows.new ≡ map.len rows.old }
+{
+    if let Some(above) = named(link) {
+        unhang(rows, above, dot);
+    }
+    set_bare(rows, dot);
+}
+
+/// Writes that no code is said at a dot and at what hung below it.
+fn clear_below(rows: &mut DotMap<PackedRow>, room: &mut Vec<Dot>, dot: Dot, link: &Link)
+    requires hung { (p : the_dot) → Hangs (table rows.old) p }
+    requires row { IsSome (table rows.old dot) }
+    requires other { (k : the_link) → links_of (table rows.old) dot ≡ Some k → k ≡ link.now }
+    requires room { map.len rows.old ≤ vec_capacity room.old }
+    ensures clears { Clears (table rows.old) (table rows.new) dot link.now }
+    ensures len { map.len rows.new ≡ map.len rows.old }
+    ensures capacity { vec_capacity room.old ≤ vec_capacity room.new }
+{
+    room.clear();
+    match gather_into(rows, dot, link, room) {
+        Ok(()) => clear(rows, room.as_slice()),
+        Err(_) => unreachable!(),
+    }
+}
+
+/// Takes the tombstone of the family that a dot is in away, where no token of the family is bad.
+fn revive(rows: &mut DotMap<PackedRow>, room: &mut Vec<Dot>, at: Dot)
+    requires settled { IsSettled (table rows.old) }
+    requires room { map.len rows.old ≤ vec_capacity room.old }
+    ensures revives { Revives (table rows.old) (table rows.new) at }
+    ensures len { map.len rows.new ≡ map.len rows.old }
+    ensures capacity { vec_capacity room.old ≤ vec_capacity room.new }
+{
+    if let Some(code) = code_at(rows, at) {
+        if dead_at(rows, code) {
+            revive_family(rows, room, code);
+        }
+    }
+}
+
+/// Takes the tombstone at a code away, where no token of its family is bad.
+fn revive_family(rows: &mut DotMap<PackedRow>, room: &mut Vec<Dot>, code: Dot)
+    requires settled { IsSettled (table rows.old) }
+    requires code { links_of (table rows.old) code ≡ Some Link.Code }
+    requires room { map.len rows.old ≤ vec_capacity room.old }
+    ensures revives { Revives (table rows.old) (table rows.new) code }
+    ensures len { map.len rows.new ≡ map.len rows.old }
+    ensures capacity { vec_capacity room.old ≤ vec_capacity room.new }
+{
+    room.clear();
+    match gather_into(rows, code, &Link::Code, room) {
+        Ok(()) => {
+            if !is_any_bad(rows, room.as_slice()) {
+                set_alive(rows, code);
+            }
+        }
+        Err(_) => unreachable!(),
+    }
+}
+
+/// Takes the link at a dot away, and all that followed from it: what hung below the dot is under no code, and a family
+/// that was dead by it lives. The marks of the dot's tokens go too.
+fn take_link(rows: &mut DotMap<PackedRow>, room: &mut Vec<Dot>, dot: Dot, link: &Link)
+    requires forest { IsForest (table rows.old) }
+    requires here { links_of (table rows.old) dot ≡ Some link.now }
+    requires room { map.len rows.old ≤ vec_capacity room.old }
+    ensures takes { Takes (table rows.old) (table rows.new) dot }
+    ensures len { map.len rows.new ≡ map.len rows.old }
+    ensures capacity { vec_capacity room.old ≤ vec_capacity room.new }
+{
+    let code = code_at(rows, dot);
+    unlink(rows, dot, link);
+    if code.is_some() {
+        clear_below(rows, room, dot, link);
+    }
+    if let Some(above) = named(link) {
+        revive(rows, room, above);
+    }
+}
+
+/// Drops the row at a dot, where it says nothing.
+fn drop_blank(rows: &mut DotMap<PackedRow>, at: Dot)
+    requires { IsForest (table rows.old) }
+    ensures same { NothingSeen (table rows.old) (table rows.new) }
+    ensures len { map.len rows.new ≤ map.len rows.old }
+{
+    if is_blank_at(rows, at) {
+        drop_row(rows, at);
+    }
+}
+
+/// Drops the rows of a dot and of the one that a link names, where they say nothing.
+fn drop_blanks(rows: &mut DotMap<PackedRow>, dot: Dot, link: &Link)
+    requires { IsForest (table rows.old) }
+    ensures same { NothingSeen (table rows.old) (table rows.new) }
+    ensures len { map.len rows.new ≤ map.len rows.old }
+{
+    drop_blank(rows, dot);
+    if let Some(above) = named(link) {
+        drop_blank(rows, above);
+    }
+}
+
+/// Takes the link at a dot away, as `take_link` does, and the rows that say nothing then.
+pub(crate) fn take_at(rows: &mut DotMap<PackedRow>, room: &mut Vec<Dot>, dot: Dot)
+    requires forest { IsForest (table rows.old) }
+    requires here { IsSome (links_of (table rows.old) dot) }
+    requires room { map.len rows.old ≤ vec_capacity room.old }
+    ensures takes { Takes (table rows.old) (table rows.new) dot }
+    ensures room { map.len rows.new ≤ vec_capacity room.new }
+{
+    match link_at(rows, dot) {
+        Some(link) => {
+            take_link(rows, room, dot, &link);
+            drop_blanks(rows, dot, &link);
+        }
+        None => unreachable!(),
+    }
+}
+
+/// Takes a mark away. A family that was dead by it lives.
+pub(crate) fn unmark_token(rows: &mut DotMap<PackedRow>, room: &mut Vec<Dot>, token: TokenId)
+    requires forest { IsForest (table rows.old) }
+    requires room { map.len rows.old ≤ vec_capacity room.old }
+    ensures unmarks { Unmarks (table rows.old) (table rows.new) token }
+    ensures len { map.len rows.new ≡ map.len rows.old }
+    ensures capacity { vec_capacity room.old ≤ vec_capacity room.new }
+{
+    set_unmarked(rows, token.dot, token.kind);
+    revive(rows, room, token.dot);
+}
