@@ -2,9 +2,12 @@
 --   walk        what it gives, or why it ends
 --   IsCut       the walk runs out of bytes
 --   IsFrontOf   a bundle was read with the length of its spelling
+--   unread      the error of a front that can't be read
 use Rattle.std.specs.Prelude.{◌≡◌, ℕ, zero, suc, Bool, not, nat_lt, List, length, Option, Some, None, Result, Ok, Err, if◌then◌else◌}
 use Rattle.std.specs.Str.{bytes_eq}
 use Rattle.std.specs.Int.{w16}
+use Rattle.tk_format.specs.declared.error.ReadError.{ReadError}
+use Rattle.tk_format.specs.declared.error.ReadError.TheVariants as read
 use Rattle.tk_format.specs.Format.{Format, ◌⊗◌, number, byte, bytes_of}
 use Rattle.tk_fact.specs.FactBytes.{most_bytes}
 use Rattle.tk_bundle.specs.Versions.{is_version}
@@ -74,3 +77,8 @@ IsFrontOf (Ok x) fs = (x.0 ≡ fs) × (x.1 ≡ length (bundle.spell fs))
 IsFrontOf (Err Memory) fs = Unit {0}
 IsFrontOf (Err Malformed) fs = ⊥
 IsFrontOf (Err Cut) fs = ⊥
+
+-- the error of a front whose lengths are those of a bundle, and that can't be read
+abbrev pub unread : ReadError → FrontError
+unread read.Malformed = Malformed
+unread read.Memory = Memory

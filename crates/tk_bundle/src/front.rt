@@ -3,6 +3,7 @@
 ghost use Rattle.std.specs.Prelude.{◌≡◌, ◌≢◌, ◌≤◌, ◌++◌, [], List, ℕ, length, take, IfOk, IsErrOf, Err};
 ghost use Rattle.tk_store.specs.FactSet.{Facts};
 ghost use Rattle.tk_bundle.specs.Bundle.{bundle, bundle_bytes};
+ghost use Rattle.tk_bundle.specs.Front as spec;
 ghost use Rattle.tk_bundle.specs.Front.{Walks, IsCut, skipped, skipped_many, walk, IsFrontOf};
 ghost use Rattle.tk_bundle.specs.declared.error.FrontError.{FrontError as AnyError};
 
@@ -32,8 +33,17 @@ pub fn read_front(alloc: Global, bytes: &[u8]) -> Result<(Bundle, usize), FrontE
     let (front, _) = bytes.split_at(count);
     match Bundle::read(alloc, front) {
         Ok(bundle) => Ok((bundle, count)),
-        Err(ReadError::Malformed) => Err(FrontError::Malformed),
-        Err(ReadError::Memory) => Err(FrontError::Memory),
+        Err(error) => Err(unread(error)),
+    }
+}
+
+// The error of a front whose lengths are those of a bundle, and that can't be read.
+fn unread(error: ReadError) -> FrontError
+    ensures { result ≡ spec.unread error }
+{
+    match error {
+        ReadError::Malformed => FrontError::Malformed,
+        ReadError::Memory => FrontError::Memory,
     }
 }
 

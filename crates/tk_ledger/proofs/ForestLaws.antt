@@ -2,7 +2,7 @@
 --   tied_still, tied_put, tied_mark, tied_revoke, tied_out   after each kind of change
 --   refresh_mark, code_mark, woken_both            one dot that is woken
 --   woken_more, woken_whole                        a loop over dots that wakes them
---   codes_more, codes_whole                        a loop over codes that wakes them
+--   codes_more                                     a loop over codes that wakes them
 --   top_code                                       the code that a top tells
 use Rattle.std.proofs.Common.{◌≡◌, inl, inr, ℕ, ◌+◌, ◌<◌, ◌≤◌, Bool, true, false, ◌&&◌, ◌||◌, cond, List, [], ◌∷◌, ◌++◌, get_or, take, length, Option, Some, None, Result, Ok, OnOk, refl, sym, ap, subst, ◌∙◌}
 use Rattle.std.proofs.lemmas.Bool.{true≢false, or_cases, or_left, or_right, and_parts, and_from, cond-true, cond-false}
@@ -47,7 +47,7 @@ use Rattle.tk_ledger.proofs.TokenLaws.{refresh_is, code_is, is_marked-sound, is_
 use Rattle.tk_ledger.proofs.SameLaws.{same_token-true, same_token-itself}
 use Rattle.tk_ledger.proofs.KeyLaws.{same_tests, at_itself, token_tied}
 use Rattle.tk_ledger.proofs.EndingLaws.{Revokes, SignsOut, link_under, marks_by_one}
-use Rattle.tk_ledger.proofs.SubjectKeyLaws.{in_codes}
+use Rattle.tk_ledger.proofs.SubjectKeyLaws.{code_listed, in_codes}
 
 -- ---- what a change says is what its body says
 
@@ -315,7 +315,7 @@ tied_out F G d b subject moment codes x y m is t listed still new = record {
     among_codes : (k : TokenId) → SignsOut G b k → has (dots_of (codes_of codes subject)) k.dot ≡ true
     among_codes k r =
         let same : sha256 r.issued.subject ≡ subject = ap sha256 (sym r.subject_is) ∙ some_injective (sha256 r.sign_out.subject) subject (sym (ap (λ (c : Body). signed (change_in c)) r.body) ∙ ap signed is) in
-        let key = listed k.dot r.issued r.issues in
+        let key = code_listed G codes k.dot r.issued listed r.issues in
         in_codes codes subject k.dot (sym (ap (λ s. contains code_cmp codes (code_key s k.dot)) same) ∙ key.0) key.1
 
 -- ---- look-ups

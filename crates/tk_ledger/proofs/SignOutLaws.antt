@@ -29,7 +29,7 @@ use Rattle.tk_ledger.specs.SignOuts.{IsSignedOut, is_signed_out, reaches, IsLast
 use Rattle.tk_ledger.specs.declared.subject_keys.OutKey.{OutKey}
 use Rattle.tk_ledger.proofs.KeyLaws.{same_tests}
 use Rattle.tk_ledger.proofs.KeySearchLaws.{among, found_passes, none_passes, first_least}
-use Rattle.tk_ledger.proofs.SubjectKeyLaws.{outs_total, out_by, out_same, out_order, in_outs, of_subject}
+use Rattle.tk_ledger.proofs.SubjectKeyLaws.{out_listed, outs_total, out_by, out_same, out_order, in_outs, of_subject}
 use Rattle.tk_ledger.proofs.TokenLaws.{from_some, is_signed_out-sound, is_signed_out-complete}
 
 sign_out_body : (b : Body) (f : out.SubjectOut) → sign_out_in b ≡ Some f → b ≡ SubjectOut f
@@ -50,7 +50,7 @@ record Listed (F : FactSet) (t : BTreeSet OutKey) (subject : List ℕ) (f : out.
 listed : (F : FactSet) (t : BTreeSet OutKey) (subject : List ℕ) (moment : ℕ) → IsOuts F t → (s : IsSignedOut (map.get F) subject moment) → Listed F t subject s.sign_out s.place
 listed F t subject moment i s =
     let there : sign_out_at (map.get F) s.place ≡ Some s.sign_out = ap (option_and_then sign_out_in) s.held in
-    let key = i s.place s.sign_out there in
+    let key = out_listed F t s.place s.sign_out i there in
     record {
       at = ap (λ x. contains out_cmp t (out_key (sha256 x) (left_after s.sign_out.moment) s.place)) (sym s.subject_is) ∙ key.0;
       ranged = key.2;

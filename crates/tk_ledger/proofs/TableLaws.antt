@@ -1,4 +1,5 @@
 -- How each table follows the set, when it has one fact more. Key results:
+--   own_on         a test of what stands at a dot
 --   clients_on, consents_on, withdrawals_on, revocations_on
 use Rattle.std.proofs.Common.{◌≡◌, inl, inr, ℕ, Bool, true, false, ◌&&◌, ◌||◌, List, is_some, refl, sym, ap, subst, ◌∙◌}
 use Rattle.std.proofs.lemmas.Bool.{or_cases, and_parts}
@@ -58,7 +59,7 @@ there_or false x = refl
 
 -- a test of what stands at a dot, which nothing doesn't pass: it passes at the dot of the new fact if the new fact does, and
 -- elsewhere as before
-own_on : (d q : Dot) (a x at_f at_g : Bool)
+pub own_on : (d q : Dot) (a x at_f at_g : Bool)
     → (q ≡ d → at_f ≡ false) → (q ≡ d → at_g ≡ a) → (¬ (q ≡ d) → at_g ≡ at_f) → x ≡ at_f → ((a && is_at d q) || x) ≡ at_g
 own_on d q a x at_f at_g free here there i = elim (cases_dots q d) [
   | inl same ↦

@@ -5,7 +5,7 @@
 --   code_cmp, code_key, out_cmp, out_key          the keys of codes and sign-outs, and their orders
 --   codes_of, outs_of                             the keys of one subject
 --   dots_of                                       the dots of codes
---   IsCodes, IsOuts                               each code and each sign-out has its key
+--   IsCodes, IsOuts                               the tables of codes and sign-outs answer as the set does
 --   tells_of                                      the sign-out of a key is this subject's
 --   IsTied                                        a forest's links and marks are those of the set
 --   woken, any_woken                              a refresh token whose client revoked it, or a code whose subject signed out
@@ -158,13 +158,35 @@ outs_of t subject = keys.keys_between out_cmp (Included (out_key subject 0 least
 abbrev pub dots_of : List CodeKey → List Dot
 dots_of ks = map_list (λ k. k.code) ks
 
--- each code that is held has its key, and stands at a dot; a key without its code says nothing
-abbrev pub IsCodes : FactSet → BTreeSet CodeKey → Type 0
-IsCodes F t = (d : Dot) (code : issued.CodeIssued) → issued_at (map.get F) d ≡ Some code → (keys.contains code_cmp t (code_key (sha256 code.subject) d) ≡ true) × IsDot d
+-- the code was issued to a subject of the digest
+abbrev pub is_to : List ℕ → Option issued.CodeIssued → Bool
+is_to subject None = false
+is_to subject (Some code) = bytes_eq (sha256 code.subject) subject
 
--- so has each sign-out
-abbrev pub IsOuts : FactSet → BTreeSet OutKey → Type 0
-IsOuts F t = (d : Dot) (f : out.SubjectOut) → sign_out_at (map.get F) d ≡ Some f → (keys.contains out_cmp t (out_key (sha256 f.subject) (left_after f.moment) d) ≡ true) × IsDot d × (f.moment ≤ greatest_moment)
+-- the table has the code of the dot under the digest
+abbrev pub is_listed_code : BTreeSet CodeKey → List ℕ → Dot → Bool
+is_listed_code t subject d = keys.contains code_cmp t (code_key subject d)
+
+-- The table of codes lists each code that was issued, under the digest of its subject, and no other.
+pub record IsCodes (F : FactSet) (t : BTreeSet CodeKey) : Type 0 where
+  pub listed : (subject : List ℕ) (d : Dot) → is_listed_code t subject d ≡ is_to subject (issued_at (map.get F) d)
+  pub ranged : (subject : List ℕ) (d : Dot) → is_listed_code t subject d ≡ true → IsDot d
+
+-- a subject of the digest signed out, at the moment after which so much of all time is left
+abbrev pub is_left_by : List ℕ → ℕ → Option out.SubjectOut → Bool
+is_left_by subject left None = false
+is_left_by subject left (Some f) = bytes_eq (sha256 f.subject) subject && (left_after f.moment == left)
+
+-- the table has the sign-out of the dot under the digest and what is left of all time
+abbrev pub is_listed_out : BTreeSet OutKey → List ℕ → ℕ → Dot → Bool
+is_listed_out t subject left d = keys.contains out_cmp t (out_key subject left d)
+
+-- The table of sign-outs lists each sign-out, under the digest of its subject and its moment, and no other.
+pub record IsOuts (F : FactSet) (t : BTreeSet OutKey) : Type 0 where
+  pub listed : (subject : List ℕ) (left : ℕ) (d : Dot)
+      → is_listed_out t subject left d ≡ is_left_by subject left (sign_out_at (map.get F) d)
+  pub ranged : (subject : List ℕ) (left : ℕ) (d : Dot) → is_listed_out t subject left d ≡ true → IsDot d
+  pub early : (d : Dot) (f : out.SubjectOut) → sign_out_at (map.get F) d ≡ Some f → f.moment ≤ greatest_moment
 
 abbrev pub tells_by : List ℕ → ℕ → Option out.SubjectOut → Bool
 tells_by subject left None = false
