@@ -2,6 +2,7 @@
 --   has_unmade    a fact of the region's own number that it hasn't made
 --   AgreesWith    no fact is at a dot with another body
 --   Takes         the facts are joined to the set
+--   unread        the refusal of bytes that can't be read
 --   TakesIn       by the bundle that the bytes spell, if they do
 use Rattle.std.specs.Prelude.{◌≡◌, ◌⊎◌, ℕ, ◌+◌, Bool, true, false, ◌&&◌, ◌==◌, nat_le, [], ◌∷◌, take, Option, Some, None, Result, Ok, Err}
 use Rattle.std.specs.List.{list_any}
@@ -10,6 +11,8 @@ use Rattle.tk_handle.specs.declared.dot.Dot.{Dot}
 use Rattle.tk_fact.specs.declared.body.Body.{Body}
 use Rattle.tk_store.specs.FactSet.{FactSet, Facts}
 use Rattle.tk_store.specs.Joining.{JoinsFacts}
+use Rattle.tk_format.specs.declared.error.ReadError.{ReadError}
+use Rattle.tk_format.specs.declared.error.ReadError.TheVariants as read
 use Rattle.tk_region.specs.declared.take.TakeError.{TakeError}
 use Rattle.tk_region.specs.declared.take.TakeError.TheVariants.{Malformed, OwnNumber, Conflict, Memory}
 
@@ -39,6 +42,11 @@ Takes F fs (Err Conflict) G = ⊥
 -- what a bundle that may be taken in ends with
 abbrev pub TakesFit : FactSet → Dot → Facts → Result ℕ TakeError → FactSet → Type 0
 TakesFit F next fs result G = (has_unmade next fs ≡ false) × AgreesWith F fs × Takes F fs result G
+
+-- the refusal of bytes that can't be read as a bundle
+abbrev pub unread : ReadError → TakeError
+unread read.Malformed = Malformed
+unread read.Memory = Memory
 
 abbrev pub TakesIn : FactSet → Dot → Option Facts → Result ℕ TakeError → FactSet → Type 0
 -- the bytes spell no bundle

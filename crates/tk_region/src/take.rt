@@ -41,8 +41,17 @@ pub(crate) fn take_bytes(
 {
     match Bundle::read(alloc, bytes) {
         Ok(bundle) => take_bundle(alloc, next, ledger, bundle.facts()),
-        Err(ReadError::Malformed) => Err(TakeError::Malformed),
-        Err(ReadError::Memory) => Err(TakeError::Memory),
+        Err(error) => Err(unread(error)),
+    }
+}
+
+// Why bytes that can't be read as a bundle aren't taken in.
+fn unread(error: ReadError) -> TakeError
+    ensures { result ≡ spec.unread error }
+{
+    match error {
+        ReadError::Malformed => TakeError::Malformed,
+        ReadError::Memory => TakeError::Memory,
     }
 }
 
