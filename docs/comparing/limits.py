@@ -9,6 +9,15 @@ from comparing.texts import FORMATS, ROOT, coded, differ, numbers, rows, text_of
 OTHERS = {"docs/MEASURED.md", "docs/GATE.md"}
 DERIVED = {"docs/OPERATING.md": {8191}, "docs/FORMATS.md": {1020}}
 
+# numbers without a comma, by the words around them
+PHRASES = (
+    (r"\b(\d+) fields\b", "fields of a head"),
+    (r"\b(?:first|of|most) (\d+) facts\b", "facts of a bundle"),
+    (r"\b1 to (\d+) (?:visible bytes|bytes of visible)", "subject, bytes"),
+    (r"\b(\d+) to \d+ unreserved", "challenge and verifier, least bytes"),
+    (r"\b\d+ to (\d+) unreserved", "challenge and verifier, bytes"),
+    (r"\b1 to (\d+) absolute URIs", "redirection URIs of a client"))
+
 
 def value(path, name):
     """The numbers of a definition, or of a constant."""
@@ -26,7 +35,8 @@ def value(path, name):
 
 
 def compare_table():
-    allowed = set()
+    """The greatest number of each row."""
+    greatest = {}
     for what, limit, home in rows(text_of(FORMATS), "what | limit | home"):
         crate = home.split()[0]
         place, name = coded(home)
@@ -34,11 +44,12 @@ def compare_table():
         if not place.endswith(".rt"):
             path = "crates/%s/specs/%s.antt" % (crate, place)
         said = set(numbers(limit))
-        allowed |= said
+        greatest[what] = max(said)
+        greatest.update({(what, n): n for n in said})
         wanted = value(path, name) if os.path.exists(os.path.join(ROOT, path)) else set()
         if not wanted or not wanted <= said:
             differ(FORMATS, "%s is %s, and %s in %s has %s" % (what, limit, name, path, wanted))
-    return allowed
+    return greatest
 
 
 def documents():
@@ -46,8 +57,22 @@ def documents():
     return ["README.md"] + sorted("docs/" + n for n in names)
 
 
+def compare_phrases(greatest):
+    seconds = (greatest["seconds of a connection"], greatest["milliseconds it may last longer"])
+    for name in documents():
+        text = text_of(name)
+        for phrase, what in PHRASES:
+            for n in re.findall(phrase, text):
+                if int(n) != greatest[what]:
+                    differ(name, "%s isn't that of %s in %s" % (n, what, FORMATS))
+        if "five and a half seconds" in text and seconds != (5, 500):
+            differ(name, "a connection has %d seconds and %d milliseconds" % seconds)
+
+
 def compare():
-    allowed = compare_table()
+    greatest = compare_table()
+    compare_phrases(greatest)
+    allowed = set(greatest.values())
     for name in documents():
         if name in OTHERS:
             continue

@@ -5,6 +5,7 @@ To each option its range, or None for a file, and its default: a number's text, 
 import re
 import subprocess
 
+from comparing.limits import documents
 from comparing.texts import OPERATING, PAGE, differ, rows, same, text_of
 
 OPTION = r"^ +(?:-\w, )?--([\w-]+) <(\w+)>((?:.*\n(?! *(?:-\w, )?--))*.*)"
@@ -79,12 +80,22 @@ def compare_each(where, wanted, said):
     same(where, "the order of options", list(wanted), list(said))
 
 
+def compare_mentions(serve):
+    """Each option that a document names is one of the program; GATE.md names others' too."""
+    for name in documents():
+        if name != "docs/GATE.md":
+            for option in re.findall(r"`(?:tokend serve )?--([a-z-]+)", text_of(name)):
+                if option not in serve and option not in ("help", "version", "install"):
+                    differ(name, "--%s is no option" % option)
+
+
 def compare(program):
     serve, script = of_program(program, "serve"), of_program(program, "script")
     same("tokend loopback --help", "its options", script, of_program(program, "loopback"))
     settings = {name: serve.get(name) for name in script}
     same("tokend serve --help", "its settings", script, settings)
     own = {name: value for name, value in serve.items() if name not in script}
+    compare_mentions(serve)
     compare_each(OPERATING, serve, of_operating())
     compare_each(PAGE + ", of serve", own, of_page("Of serve"))
     compare_each(PAGE + ", settings", script, of_page("Settings, of all three"))

@@ -1,6 +1,7 @@
 """HTTP.md: its examples are sent, and its tables compared with the replies."""
 import re
 
+from comparing.limits import documents
 from comparing.server import Server
 from comparing.texts import HTTP, coded, differ, rows, same, text_of
 
@@ -87,11 +88,31 @@ def compare_exchange(program, seed):
     same(HTTP, "the replies to two pushes", wanted, took)
 
 
-def compare_methods(server):
-    """Each path has the methods that HTTP.md names."""
+def paths_of_http():
     paths = {}
     for method, path in re.findall(r"^(?:## )?(GET|POST) `?(/[\w/]+)`?", text_of(HTTP), re.M):
         paths.setdefault(path, set()).add(method)
+    return paths
+
+
+def compare_names(names):
+    """Paths and methods in other documents are those of HTTP.md, and so are names of errors."""
+    paths = paths_of_http()
+    for name in documents():
+        text = text_of(name)
+        for method, path in re.findall(r"(?:\b(GET|POST) )?`(/[a-z]+(?:/[a-z]*)?)`", text):
+            if path not in ("/admin/", "/sync/", "/page/", "/cb") and path not in paths:
+                differ(name, "%s is no path of %s" % (path, HTTP))
+            elif method and method not in paths.get(path, ()):
+                differ(name, "%s has no %s" % (path, method))
+        for error in re.findall(r"\b[45]\d\d `([a-z_]+)`", text):
+            if error not in names:
+                differ(name, "%s is no error of %s" % (error, HTTP))
+
+
+def compare_methods(server):
+    """Each path has the methods that HTTP.md names."""
+    paths = paths_of_http()
     for path, methods in sorted(paths.items()):
         for method in sorted(methods):
             reply = server.ask(method, path, (), b"" if method == "POST" else None)
@@ -153,3 +174,4 @@ def compare(program, seed):
     names = set(re.findall(r'ErrorCode::\w+ => "(\w+)"', sources))
     for name in sorted(names - set(re.findall(r"`([a-z]+(?:_[a-z]+)*)`", text_of(HTTP)))):
         differ(HTTP, "has no error `%s`" % name)
+    compare_names(names)
