@@ -58,6 +58,15 @@ def compare_links(name, text):
             compare_link(name, words, target)
 
 
+def compare_sections(name, text):
+    """A heading that is named behind a document is one of it."""
+    named = r'(?:docs/|\()([A-Z]+\.md)\)?,\s+"([^"]+)"'
+    for document, heading in re.findall(named, text):
+        heads = re.findall(r"^#+ (.*)$", text_of("docs/" + document), re.M)
+        if re.sub(r"\s+", " ", heading) not in heads:
+            differ(name, "%s has no heading %r" % (document, heading))
+
+
 def compare_home(term, home):
     """Each name of a home is in the file that the home names."""
     crate, path = "", None
@@ -91,6 +100,7 @@ def compare():
     for name in everything():
         text = text_of(name)
         compare_links(name, text)
+        compare_sections(name, text)
         for number, line in enumerate(text.splitlines(), 1):
             if len(line) > WIDTH:
                 differ(name, "line %d has %d columns" % (number, len(line)))
