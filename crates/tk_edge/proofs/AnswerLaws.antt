@@ -90,30 +90,30 @@ fails fault = Err fault
 abbrev told_fault : Fault → Result Status Fault
 told_fault fault = Err fault
 
-module _ (asked : Asked) (came : Arrival) (old new seen : RegionFields) (same : old ≡ seen) (log writer : Change) (sealed : Bool) (arrives : Arrives asked.sync asked.known came) (spoke : came ≢ Heard Silence) where
+module _ (asked : Asked) (came : Arrival) (old new seen : RegionFields) (same : old ≡ seen) (log : Change) (still : Type 0) (writer : Change) (sealed : Bool) (arrives : Arrives asked.sync asked.known came) (spoke : came ≢ Heard Silence) where
   -- by the region as contracts see it
-  as_seen : (result : Result Status Fault) → Replies asked.now asked.words came (record { before = old; after = new }) log writer sealed result
-      → Replies asked.now asked.words came (record { before = seen; after = new }) log writer sealed result
-  as_seen result told = subst (λ r. Replies asked.now asked.words came (record { before = r; after = new }) log writer sealed result) same told
+  as_seen : (result : Result Status Fault) → Replies asked.now asked.words came (record { before = old; after = new }) log still writer sealed result
+      → Replies asked.now asked.words came (record { before = seen; after = new }) log still writer sealed result
+  as_seen result told = subst (λ r. Replies asked.now asked.words came (record { before = r; after = new }) log still writer sealed result) same told
 
-  pub served : (status : Status) → Replies asked.now asked.words came (record { before = old; after = new }) log writer sealed (Ok status)
-      → IsServed asked (record { before = seen; after = new }) log writer sealed (Ok (Done status))
+  pub served : (status : Status) → Replies asked.now asked.words came (record { before = old; after = new }) log still writer sealed (Ok status)
+      → IsServed asked (record { before = seen; after = new }) log still writer sealed (Ok (Done status))
   served status told = (came, arrives, spoke, as_seen (Ok status) told)
 
-  pub faulted : (fault : Fault) → Replies asked.now asked.words came (record { before = old; after = new }) log writer sealed (Err fault)
-      → IsServed asked (record { before = seen; after = new }) log writer sealed (Err fault)
+  pub faulted : (fault : Fault) → Replies asked.now asked.words came (record { before = old; after = new }) log still writer sealed (Err fault)
+      → IsServed asked (record { before = seen; after = new }) log still writer sealed (Err fault)
   faulted Read told = absurd told
   faulted Write told = (came, arrives, spoke, as_seen (Err Write) told)
   faulted Log told = (came, arrives, spoke, as_seen (Err Log) told)
   faulted Memory told = let short = as_seen (Err Memory) told in (short_of asked.sync asked.known asked.now asked.words came seen new short.0 arrives short.1, short.2)
 
 -- what failed is not the reader
-pub unread : (now : ℕ) (words : List ℕ) (came : Arrival) (region : Step) (log writer : Change) (sealed : Bool) (fault : Fault)
-    → Replies now words came region log writer sealed (Err fault) → fails fault ≢ fails Read
-unread now words came region log writer sealed Read told = absurd told
-unread now words came region log writer sealed Write told = λ is. cc
-unread now words came region log writer sealed Log told = λ is. cc
-unread now words came region log writer sealed Memory told = λ is. cc
+pub unread : (now : ℕ) (words : List ℕ) (came : Arrival) (region : Step) (log : Change) (still : Type 0) (writer : Change) (sealed : Bool) (fault : Fault)
+    → Replies now words came region log still writer sealed (Err fault) → fails fault ≢ fails Read
+unread now words came region log still writer sealed Read told = absurd told
+unread now words came region log still writer sealed Write told = λ is. cc
+unread now words came region log still writer sealed Log told = λ is. cc
+unread now words came region log still writer sealed Memory told = λ is. cc
 
 -- a fault of a connection is one of the telling
 pub faults_as : (fault other : Fault) → fails fault ≡ fails other → told_fault fault ≡ told_fault other

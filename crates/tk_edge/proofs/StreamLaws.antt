@@ -6,13 +6,14 @@
 --   hears_head        what a head that was read from a source, and what follows it, come to
 --   has_one_meaning   a stream has one meaning at most; one_arrival, where regions exchange facts over it, too
 --   silent_is_empty   it is silent where it has no byte alone
---   judged_may        what regions exchange is asked for only where they exchange anything
+--   judged_may        what regions exchange is asked for only where they exchange anything, and a body is within its limit
 --   all_heard         where they don't, a stream is heard as anyone's
 use Rattle.std.proofs.Common.{◌≡◌, ℕ, ◌≤◌, Bool, true, false, cond, List, [], ◌∷◌, ◌++◌, length, take, drop, Option, Some, None, Result, Ok, Err, IfOk, map, sym, ap, ◌∙◌, subst, arith, nat_le, min, length-take, inl, inr, refl}
 use Rattle.std.specs.Io.KnownBytes.{Consumes}
 use Rattle.std.specs.Str.{bytes_eq}
+use Rattle.std.specs.Str.Parse.{digits_value}
 use Rattle.std.specs.Prelude.{codes}
-use Rattle.std.proofs.lemmas.Bool.{le-leb}
+use Rattle.std.proofs.lemmas.Bool.{le-leb, leb-true}
 use Rattle.std.proofs.lemmas.Bool.Decides.{nat_tests}
 use Rattle.std.proofs.lemmas.List.{take_all, take-append-le, length-append}
 use Rattle.httparse.specs.Grammar.{RequestHead, ReadsRequest}
@@ -27,7 +28,7 @@ use Rattle.tk_edge.specs.Heard.{request_at, posted_to, arrival_by, arrival_of, I
 use Rattle.tk_edge.specs.Judged.{judged_of, at_path, at_service, asked, with_body, sized, fits_type, limit_of, MayPost, MayAsk}
 use Rattle.tk_edge.specs.Laws.{HasOneMeaning, HearsAll}
 use Rattle.tk_edge.specs.Paths.{path_of, path_named, sync_named, query_of, method_named, service_at}
-use Rattle.tk_format.specs.Numerals.{numeral_up_to}
+use Rattle.tk_format.specs.Numerals.{is_numeral, numeral_up_to}
 use Rattle.tk_format.specs.declared.numeral.Numeral.{Numeral}
 use Rattle.tk_format.specs.declared.numeral.Numeral.TheVariants as numeral
 use Rattle.tk_params.specs.Params.{Pairs}
@@ -237,15 +238,34 @@ choose : (sync b : Bool) (j k : Judged) → MayAsk sync j → MayAsk sync k → 
 choose sync true j k h l = h
 choose sync false j k h l = l
 
-may_size : (sync : Bool) (posted : Posted) (told : Numeral) (kinds : List (List ℕ)) → MayPost sync posted → MayAsk sync (sized posted told kinds)
-may_size sync posted numeral.Malformed kinds h = tt
-may_size sync posted numeral.Above kinds h = tt
-may_size sync posted (numeral.Within n) kinds h = choose sync (fits_type posted kinds) (Body posted n) _ h tt
+-- a number that was read is within its limit
+abbrev pub IsBounded : ℕ → Numeral → Type 0
+IsBounded limit numeral.Malformed = Unit {0}
+IsBounded limit numeral.Above = Unit {0}
+IsBounded limit (numeral.Within n) = n ≤ limit
+
+bounded : (limit : ℕ) (text : List ℕ) → IsBounded limit (numeral_up_to limit text)
+bounded limit text = of (is_numeral text) (nat_le n limit) refl
+  where
+    n : ℕ
+    n = digits_value 10 text
+
+    of : (a b : Bool) → nat_le n limit ≡ b → IsBounded limit (cond a (cond b (numeral.Within n) numeral.Above) numeral.Malformed)
+    of false b e = tt
+    of true false e = tt
+    of true true e = leb-true n limit e
+
+may_size : (sync : Bool) (posted : Posted) (told : Numeral) (kinds : List (List ℕ)) → IsBounded (limit_of posted) told
+    → MayPost sync posted → MayAsk sync (sized posted told kinds)
+may_size sync posted numeral.Malformed kinds fits h = tt
+may_size sync posted numeral.Above kinds fits h = tt
+may_size sync posted (numeral.Within n) kinds fits h = choose sync (fits_type posted kinds) (Body posted n) _ (h, fits) tt
 
 may_post : (sync : Bool) (posted : Posted) (codings lengths kinds : List (List ℕ)) → MayPost sync posted → MayAsk sync (with_body posted codings lengths kinds)
 may_post sync posted (coding ∷ codings) lengths kinds h = tt
 may_post sync posted [] [] kinds h = tt
-may_post sync posted [] (text ∷ more) kinds h = may_size sync posted (numeral_up_to (limit_of posted) text) kinds h
+may_post sync posted [] (text ∷ more) kinds h =
+    may_size sync posted (numeral_up_to (limit_of posted) text) kinds (bounded (limit_of posted) text) h
 
 may_be_asked : (sync : Bool) (s : Service) (pairs : Pairs) → MayDo sync s → MayAsk sync (asked s pairs)
 may_be_asked sync (service.Query e) pairs h = tt
@@ -281,8 +301,8 @@ by_judged target pairs rest (Body (Form e) n) h =
       | true ↦ (Asked (request_at e (take n rest) pairs), refl)
       | false ↦ (heard.Refused ShortBody, refl)
     ]
-by_judged target pairs rest (Body Pull n) h = absurd (off h)
-by_judged target pairs rest (Body Push n) h = absurd (off h)
+by_judged target pairs rest (Body Pull n) h = absurd (off h.0)
+by_judged target pairs rest (Body Push n) h = absurd (off h.0)
 
 pub all_heard : HearsAll
 all_heard bytes came (inl (none, p)) = (_, p)

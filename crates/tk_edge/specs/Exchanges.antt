@@ -1,11 +1,14 @@
 -- What another region is answered, and what it does to this one (own).
 --   TellsVector     its vector, in bytes
 --   page_reply      the bundle of a page, for what a pull asks
+--   unread_code, refusal_code   the names of errors for what can't be read, and for a bundle that isn't taken in
 --   TakesBundle     a bundle that was sent is taken in; IsTakenReply, what that is answered; TakesAndTells, both
 --   Exchanges       what each of the three may end with
 use Rattle.std.specs.Prelude.{◌≡◌, ℕ, List, Option, None, Some, Result, Ok, Err}
 use Rattle.std.specs.declared.alloc.AllocError.{AllocError}
 use Rattle.tk_format.specs.Format.{whole}
+use Rattle.tk_format.specs.declared.error.ReadError.{ReadError}
+use Rattle.tk_format.specs.declared.error.ReadError.TheVariants as read
 use Rattle.tk_vector.specs.VersionVector.{Vector as AnyVector}
 use Rattle.tk_vector.specs.VectorBytes.{vector, vector_bytes}
 use Rattle.tk_store.specs.FactSet.{FactSet}
@@ -16,6 +19,7 @@ use Rattle.tk_bundle.specs.Page.{page_of}
 use Rattle.tk_message.specs.Place.{next_in}
 use Rattle.tk_message.specs.Reply.{bytes_reply, error_reply, taken_reply}
 use Rattle.tk_message.specs.ReplyFields.{ReplyFields}
+use Rattle.tk_message.specs.declared.error_code.ErrorCode.{ErrorCode}
 use Rattle.tk_message.specs.declared.error_code.ErrorCode.TheVariants as code
 use Rattle.tk_region.specs.RegionFields.{RegionFields, place_in}
 use Rattle.tk_region.specs.Taking.{TakesIn}
@@ -43,13 +47,27 @@ pub record TakesBundle (old : RegionFields) (bytes : List ℕ) (taken : Result �
   pub settings : new.settings ≡ old.settings
   pub takes : TakesIn (facts_of old.facts) (next_in (place_in old)) (whole bundle bytes) taken (facts_of new.facts)
 
+-- The name of the error for bytes that can't be read. Out of memory has none, since no reply is made then.
+abbrev pub unread_code : ReadError → Option ErrorCode
+unread_code read.Malformed = Some code.Malformed
+unread_code read.Memory = None
+
+-- The name of the error for a bundle that isn't taken in. Out of memory has none.
+abbrev pub refusal_code : TakeError → Option ErrorCode
+refusal_code Malformed = Some code.Malformed
+refusal_code OwnNumber = Some code.OwnNumber
+refusal_code Conflict = Some code.Conflict
+refusal_code Memory = None
+
+-- the reply is the error of this name; there is none without a name
+abbrev pub IsErrorReply : Option ErrorCode → ReplyFields → Type 0
+IsErrorReply (Some name) reply = reply ≡ error_reply name
+IsErrorReply None reply = ⊥
+
 -- how many of its facts were new, or why it was refused
 abbrev pub IsTakenReply : Result ℕ TakeError → ReplyFields → Type 0
 IsTakenReply (Ok n) reply = reply ≡ taken_reply n
-IsTakenReply (Err Malformed) reply = reply ≡ error_reply code.Malformed
-IsTakenReply (Err OwnNumber) reply = reply ≡ error_reply code.OwnNumber
-IsTakenReply (Err Conflict) reply = reply ≡ error_reply code.Conflict
-IsTakenReply (Err Memory) reply = ⊥
+IsTakenReply (Err error) reply = IsErrorReply (refusal_code error) reply
 
 -- the answer tells what became of the bundle; where memory is refused it may have been taken in all the same
 abbrev pub TakesAndTells : RegionFields → List ℕ → Result AnswerFields AllocError → RegionFields → Type 0

@@ -7,7 +7,7 @@
 --   TooLarge         it is above the limit (RFC 9110, 15.5.14)
 --   WrongType        the body of a form is said to be none (RFC 6749, 4.1.3)
 --   ShortBody        the stream ends before the body does (RFC 9112, 8): of specs/Heard
-use Rattle.std.specs.Prelude.{◌≡◌, ⊤, ℕ, Bool, true, List, [], ◌∷◌, Option, None, Some, if◌then◌else◌}
+use Rattle.std.specs.Prelude.{◌≡◌, ⊤, ℕ, ◌≤◌, Bool, true, List, [], ◌∷◌, Option, None, Some, if◌then◌else◌}
 use Rattle.tk_format.specs.Numerals.{numeral_up_to}
 use Rattle.tk_format.specs.declared.numeral.Numeral.{Numeral}
 use Rattle.tk_format.specs.declared.numeral.Numeral.TheVariants.{Malformed, Above, Within}
@@ -92,8 +92,9 @@ MayPost sync (Form endpoint) = ⊤
 MayPost sync Pull = sync ≡ true
 MayPost sync Push = sync ≡ true
 
+-- a body is within its limit
 abbrev pub MayAsk : Bool → Judged → Type 0
 MayAsk sync (Refused why) = ⊤
 MayAsk sync (Query endpoint) = ⊤
 MayAsk sync Vector = sync ≡ true
-MayAsk sync (Body posted n) = MayPost sync posted
+MayAsk sync (Body posted n) = MayPost sync posted × (n ≤ limit_of posted)

@@ -5,6 +5,7 @@
 --   Paths        path_named, service_at: the paths that are served, and what each serves
 --   MediaType    is_form, by the value of Content-Type
 --   Judged       judged_of, what a head asks for or the first rule that it breaks
+--   Bounds       TakesAtMost, how much of a source a request takes
 --   Heard        IsArrival, what the bytes of a stream come to; IsHeard, where regions exchange nothing
 --   Pulls        wanted, what a pull asks for in bytes
 --   Rendering    reply_bytes, the bytes of a reply
@@ -17,6 +18,7 @@
 --   Laws         a stream has one meaning
 pub mod Answers
 pub mod Arrivals
+pub mod Bounds
 pub mod EdgeFields
 pub mod Exchanges
 pub mod Failures

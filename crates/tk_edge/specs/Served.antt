@@ -1,5 +1,6 @@
 -- One connection is one step, and the log comes first (own).
---   IsServed       what a connection to an edge that isn't sealed does, by what it ends with
+--   IsServed       what a connection to an edge that isn't sealed does, by what it ends with. In all of these `still` says that
+--                  the log is as it was, because it wasn't called
 --   IsTurnedAway   what one to a sealed edge does
 --   IsReadFault    the one device that may be at fault while a request is read
 use Rattle.std.specs.Prelude.{◌≡◌, ◌≢◌, ℕ, ⊤, Bool, false, List, [], Option, Some, Result, Ok, Err}
@@ -11,7 +12,7 @@ use Rattle.tk_edge.specs.Answers.{refused_by}
 use Rattle.tk_edge.specs.Arrivals.{AnswersArrival, IsShort}
 use Rattle.tk_edge.specs.Failures.{Rose}
 use Rattle.tk_edge.specs.Heard.{Arrives}
-use Rattle.tk_edge.specs.Told.{AnswerFields, AppendsFront, Change, IsTold}
+use Rattle.tk_edge.specs.Told.{AnswerFields, AppendsFront, Change, IsTold, UsesLog}
 use Rattle.tk_edge.specs.declared.edge.Served.{Served}
 use Rattle.tk_edge.specs.declared.edge.Served.TheVariants.{Nothing, Done}
 use Rattle.tk_edge.specs.declared.hear.Arrival.{Arrival}
@@ -33,43 +34,47 @@ pub record Step : Type 0 where
   pub before : RegionFields
   pub after : RegionFields
 
--- nothing was written, and the edge isn't sealed
-abbrev pub WritesNothing : Change → Change → Bool → Type 0
-WritesNothing log writer sealed = Keeps log.before log.after × Keeps writer.before writer.after × (sealed ≡ false)
+-- nothing was written, the log wasn't called, and the edge isn't sealed
+abbrev pub WritesNothing : Change → Type 0 → Change → Bool → Type 0
+WritesNothing log still writer sealed = Keeps log.before log.after × Keeps writer.before writer.after × (sealed ≡ false) × still
 
 -- and nothing has changed
-abbrev pub IsUntouched : Step → Change → Change → Bool → Type 0
-IsUntouched region log writer sealed = (region.after ≡ region.before) × WritesNothing log writer sealed
+abbrev pub IsUntouched : Step → Change → Type 0 → Change → Bool → Type 0
+IsUntouched region log still writer sealed = (region.after ≡ region.before) × WritesNothing log still writer sealed
 
 -- what arrived is answered at the moment and with the words: its facts are in, and the answer was told
-abbrev pub AnswersAndTells : ℕ → List ℕ → Arrival → Step → Change → Change → Bool → Result Status Fault → Type 0
-AnswersAndTells now words came region log writer sealed result =
-    (answer : AnswerFields) × AnswersArrival region.before now words came (Ok answer) region.after × IsTold answer log writer sealed result
+abbrev pub AnswersAndTells : ℕ → List ℕ → Arrival → Step → Change → Type 0 → Change → Bool → Result Status Fault → Type 0
+AnswersAndTells now words came region log still writer sealed result =
+    (answer : AnswerFields) × AnswersArrival region.before now words came (Ok answer) region.after
+    × IsTold answer log writer sealed result × UsesLog answer still result
 
 -- unless memory was refused
-abbrev pub Replies : ℕ → List ℕ → Arrival → Step → Change → Change → Bool → Result Status Fault → Type 0
-Replies now words came region log writer sealed (Ok status) = AnswersAndTells now words came region log writer sealed (Ok status)
-Replies now words came region log writer sealed (Err Read) = ⊥
-Replies now words came region log writer sealed (Err Write) = AnswersAndTells now words came region log writer sealed (Err Write)
-Replies now words came region log writer sealed (Err Log) = AnswersAndTells now words came region log writer sealed (Err Log)
-Replies now words came region log writer sealed (Err Memory) =
-    (e : AllocError) × AnswersArrival region.before now words came (Err e) region.after × WritesNothing log writer sealed
+abbrev pub Replies : ℕ → List ℕ → Arrival → Step → Change → Type 0 → Change → Bool → Result Status Fault → Type 0
+Replies now words came region log still writer sealed (Ok status) =
+    AnswersAndTells now words came region log still writer sealed (Ok status)
+Replies now words came region log still writer sealed (Err Read) = ⊥
+Replies now words came region log still writer sealed (Err Write) =
+    AnswersAndTells now words came region log still writer sealed (Err Write)
+Replies now words came region log still writer sealed (Err Log) =
+    AnswersAndTells now words came region log still writer sealed (Err Log)
+Replies now words came region log still writer sealed (Err Memory) =
+    (e : AllocError) × AnswersArrival region.before now words came (Err e) region.after × WritesNothing log still writer sealed
 
 -- what the source's bytes mean is answered so
-abbrev pub IsAnswered : Asked → Step → Change → Change → Bool → Result Status Fault → Type 0
-IsAnswered asked region log writer sealed result =
+abbrev pub IsAnswered : Asked → Step → Change → Type 0 → Change → Bool → Result Status Fault → Type 0
+IsAnswered asked region log still writer sealed result =
     (came : Arrival) × Arrives asked.sync asked.known came × (came ≢ Heard Silence)
-    × AnswersAndTells asked.now asked.words came region log writer sealed result
+    × AnswersAndTells asked.now asked.words came region log still writer sealed result
 
-abbrev pub IsServed : Asked → Step → Change → Change → Bool → Result Served Fault → Type 0
-IsServed asked region log writer sealed (Ok (Done status)) = IsAnswered asked region log writer sealed (Ok status)
-IsServed asked region log writer sealed (Ok Nothing) =
-    ((bytes : List ℕ) → asked.known ≡ Some bytes → bytes ≡ []) × IsUntouched region log writer sealed
-IsServed asked region log writer sealed (Err Log) = IsAnswered asked region log writer sealed (Err Log)
-IsServed asked region log writer sealed (Err Write) = IsAnswered asked region log writer sealed (Err Write)
-IsServed asked region log writer sealed (Err Read) = IsUntouched region log writer sealed
-IsServed asked region log writer sealed (Err Memory) =
-    IsShort asked.sync asked.known region.before region.after × WritesNothing log writer sealed
+abbrev pub IsServed : Asked → Step → Change → Type 0 → Change → Bool → Result Served Fault → Type 0
+IsServed asked region log still writer sealed (Ok (Done status)) = IsAnswered asked region log still writer sealed (Ok status)
+IsServed asked region log still writer sealed (Ok Nothing) =
+    ((bytes : List ℕ) → asked.known ≡ Some bytes → bytes ≡ []) × IsUntouched region log still writer sealed
+IsServed asked region log still writer sealed (Err Log) = IsAnswered asked region log still writer sealed (Err Log)
+IsServed asked region log still writer sealed (Err Write) = IsAnswered asked region log still writer sealed (Err Write)
+IsServed asked region log still writer sealed (Err Read) = IsUntouched region log still writer sealed
+IsServed asked region log still writer sealed (Err Memory) =
+    IsShort asked.sync asked.known region.before region.after × WritesNothing log still writer sealed
 
 -- the reply is that of `Sealed`, whoever asks for what
 abbrev pub IsTurnedAway : Change → Result Served Fault → Type 0

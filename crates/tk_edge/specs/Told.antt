@@ -3,8 +3,9 @@
 --   Change           what a device held before a call, and after it
 --   AnswerFields     what contracts see of an answer
 --   IsTold           the record and then the reply were written
+--   UsesLog          the log is called for a record alone
 --   IsFaultOfDevice  each fault comes only where its device failed
-use Rattle.std.specs.Prelude.{◌≡◌, ℕ, ◌≤◌, Bool, true, false, List, [], length, take, Option, Some, None, Result, Ok, Err}
+use Rattle.std.specs.Prelude.{◌≡◌, ℕ, ◌≤◌, Bool, true, false, List, [], length, take, Option, Some, None, IsSome, Result, Ok, Err}
 use Rattle.std.specs.Io.KnownBytes.{Appends, Keeps}
 use Rattle.tk_message.specs.declared.status.Status.{Status}
 use Rattle.tk_edge.specs.Failures.{Rose}
@@ -42,6 +43,11 @@ IsTold answer log writer sealed (Err Write) =
     × AppendsFront writer.before writer.after answer.bytes × (sealed ≡ false)
 IsTold answer log writer sealed (Err Read) = ⊥
 IsTold answer log writer sealed (Err Memory) = ⊥
+
+-- The log is called for a record alone: without one it is as it was, which `still` says of the whole device, and not at fault.
+pub record UsesLog (answer : AnswerFields) (still : Type 0) (result : Result Status Fault) : Type 0 where
+  pub unused : answer.logged ≡ None → still
+  pub fault : result ≡ Err Log → IsSome answer.logged
 
 pub record IsFaultOfDevice (result : Result Status Fault) (log_old log_new writer_old writer_new : ℕ) : Type 0 where
   pub log : result ≡ Err Log → Rose log_old log_new

@@ -1,6 +1,7 @@
 //! The body of a request, behind a head that may have brought some of it.
 
 ghost use Rattle.std.specs.Prelude.{◌≡◌, ℕ, ◌≤◌, ◌++◌, List, length, take, Some, IfOk};
+ghost use Rattle.tk_edge.specs.Bounds.{TakesAtMost};
 ghost use Rattle.tk_edge.specs.Failures.{CountsFailure};
 
 use crate::device::{Failed, Source};
@@ -17,6 +18,7 @@ pub(crate) fn read_body<S: Source>(
     ensures room { length body.new ≡ length body.old }
     ensures taken { IfOk result (λ n. (rest : List ℕ) → S.coming source.old ≡ Some rest
         → take n body.new ≡ take (length body.old) (front.now ++ rest)) }
+    ensures most { TakesAtMost (length body.new) (S.coming source.old) (S.coming source.new) }
     ensures failures { CountsFailure result (S.failed source.old) (S.failed source.new) }
 {
     let size = body.len();

@@ -37,6 +37,7 @@ ghost use Rattle.tk_region.specs.contracts.region.Region.{the_row as region_row}
 ghost use Rattle.tk_edge.specs.contracts.edge.Edge.{the_row as edge_row};
 ghost use Rattle.tk_edge.specs.Answers.{refused_by};
 ghost use Rattle.tk_edge.specs.Arrivals.{AnswersArrival, IsShort};
+ghost use Rattle.tk_edge.specs.Bounds.{TakesAtMost, request_limit};
 ghost use Rattle.tk_edge.specs.Failures.{Rose};
 ghost use Rattle.tk_edge.specs.Told.{IsFaultOfDevice};
 ghost use Rattle.tk_edge.specs.Heard.{Arrives, IsArrival, MayArrive};
@@ -117,8 +118,9 @@ impl Edge {
     }
 
     /// Serves one connection: reads a request, answers it as [`Edge::answer`] does, writes the record of the fact made, if
-    /// any, to the log and flushes it, and only then writes the reply. `buf` is what heads are read into, 8,192 bytes of
-    /// any value. A sealed edge reads nothing, and writes the reply 503 temporarily_unavailable.
+    /// any, to the log and flushes it, and only then writes the reply. Without a fact the log isn't called. `buf` is what
+    /// heads are read into, 8,192 bytes of any value. A sealed edge reads nothing, and writes the reply 503
+    /// temporarily_unavailable.
     pub fn serve_one<S: Source, L: Sink, W: Sink>(
         &mut self,
         alloc: Global,
@@ -137,10 +139,13 @@ impl Edge {
         ensures served { self.old.sealed ≡ false → IsServed
             (record { sync = self.old.sync; known = S.coming reader.old; now = now; words = words.now })
             (record { before = self.old.region; after = self.new.region })
-            (record { before = L.holds log.old; after = L.holds log.new })
+            (record { before = L.holds log.old; after = L.holds log.new }) (log.new ≡ log.old)
             (record { before = W.holds writer.old; after = W.holds writer.new }) self.new.sealed result }
         ensures turned_away { self.old.sealed ≡ true → IsTurnedAway (record { before = W.holds writer.old; after = W.holds writer.new }) result }
         ensures untouched { self.old.sealed ≡ true → (self.new ≡ self.old) × (reader.new ≡ reader.old) × (log.new ≡ log.old) }
+
+        // At most a head and a body within their limits are read.
+        ensures bounded { TakesAtMost (request_limit self.old.sync) (S.coming reader.old) (S.coming reader.new) }
 
         // A device is at fault only where it failed in this call.
         ensures reader_fault { result ≡ Err Fault.Read → Rose (S.failed reader.old) (S.failed reader.new) }
@@ -179,7 +184,7 @@ fn serve_arrival<L: Sink, W: Sink>(
     ensures served { (sync : Bool) (known : Option (List ℕ)) → Arrives sync known came.now → IsServed
         (record { sync = sync; known = known; now = now; words = words.now })
         (record { before = region.old; after = region.new })
-        (record { before = L.holds log.old; after = L.holds log.new })
+        (record { before = L.holds log.old; after = L.holds log.new }) (log.new ≡ log.old)
         (record { before = W.holds writer.old; after = W.holds writer.new }) sealed.new result }
     ensures read { result ≢ Err Fault.Read }
     ensures writer_fault { result ≡ Err Fault.Write → Rose (W.failed writer.old) (W.failed writer.new) }
@@ -214,7 +219,7 @@ fn reply<L: Sink, W: Sink>(
 ) -> Result<Status, Fault>
     requires { sealed.old ≡ false }
     ensures replies { Replies now words.now came.now (record { before = region.old; after = region.new })
-        (record { before = L.holds log.old; after = L.holds log.new })
+        (record { before = L.holds log.old; after = L.holds log.new }) (log.new ≡ log.old)
         (record { before = W.holds writer.old; after = W.holds writer.new }) sealed.new result }
     ensures faults { IsFaultOfDevice result (L.failed log.old) (L.failed log.new) (W.failed writer.old) (W.failed writer.new) }
 {

@@ -94,8 +94,39 @@ fn page_reply(alloc: Global, region: &Region, bytes: &[u8]) -> Result<Reply, All
             let page = region.page(alloc, &wanted.vector, wanted.after)?;
             Ok(bytes_reply(page.bytes))
         }
-        Err(ReadError::Malformed) => error_reply(alloc, ErrorCode::Malformed),
-        Err(ReadError::Memory) => Err(AllocError),
+        Err(error) => refuse_by(alloc, unread_code(error)),
+    }
+}
+
+// The reply of the error of this name. Without a name memory has run out.
+fn refuse_by(alloc: Global, name: Option<ErrorCode>) -> Result<Reply, AllocError>
+    ensures { IfOk result (spec.IsErrorReply name) }
+{
+    match name {
+        Some(name) => error_reply(alloc, name),
+        None => Err(AllocError),
+    }
+}
+
+// The name of the error for bytes that can't be read, if memory hasn't run out.
+fn unread_code(error: ReadError) -> Option<ErrorCode>
+    ensures { result ≡ spec.unread_code error }
+{
+    match error {
+        ReadError::Malformed => Some(ErrorCode::Malformed),
+        ReadError::Memory => None,
+    }
+}
+
+// The name of the error for a bundle that isn't taken in, if memory hasn't run out.
+fn refusal_code(error: TakeError) -> Option<ErrorCode>
+    ensures { result ≡ spec.refusal_code error }
+{
+    match error {
+        TakeError::Malformed => Some(ErrorCode::Malformed),
+        TakeError::OwnNumber => Some(ErrorCode::OwnNumber),
+        TakeError::Conflict => Some(ErrorCode::Conflict),
+        TakeError::Memory => None,
     }
 }
 
@@ -113,9 +144,6 @@ fn taken_answer(alloc: Global, taken: Result<u16, TakeError>) -> Result<Reply, A
 {
     match taken {
         Ok(count) => Told::Taken(count).reply(alloc),
-        Err(TakeError::Malformed) => error_reply(alloc, ErrorCode::Malformed),
-        Err(TakeError::OwnNumber) => error_reply(alloc, ErrorCode::OwnNumber),
-        Err(TakeError::Conflict) => error_reply(alloc, ErrorCode::Conflict),
-        Err(TakeError::Memory) => Err(AllocError),
+        Err(error) => refuse_by(alloc, refusal_code(error)),
     }
 }

@@ -1,7 +1,8 @@
 //! The head of a request, read from a source in any pieces.
 
-ghost use Rattle.std.specs.Prelude.{◌≡◌, ℕ, ◌<◌, ◌≤◌, List, [], length, take, Option, Some, IfOk};
-ghost use Rattle.std.specs.Io.KnownBytes.{Consumes, IsAtEnd};
+ghost use Rattle.std.specs.Prelude.{◌≡◌, ℕ, ◌+◌, ◌<◌, ◌≤◌, List, [], length, take, Option, Some, IfOk, OnErr};
+ghost use Rattle.std.specs.Io.KnownBytes.{Consumes, IsAtEnd, Keeps};
+ghost use Rattle.tk_edge.specs.Bounds.{TakesAtMost};
 ghost use Rattle.tk_edge.specs.Failures.{CountsFailure};
 ghost use Rattle.tk_edge.specs.Heads.{AreSpansWithin, IsHeadRead, filled_in};
 
@@ -28,6 +29,9 @@ pub(crate) fn take_more<S: Source>(
     ensures bytes { (known : Option (List ℕ)) → Consumes known (S.coming source.old) (take filled buf.old)
         → IfOk result (λ n. Consumes known (S.coming source.new) (take n buf.new)) }
     ensures end { IfOk result (λ n. n ≡ filled → IsAtEnd (S.coming source.new)) }
+    ensures taken { IfOk result (λ n. (piece : List ℕ) × (filled + length piece ≡ n)
+        × Consumes (S.coming source.old) (S.coming source.new) piece) }
+    ensures err { OnErr result (Keeps (S.coming source.old) (S.coming source.new)) }
     ensures failures { CountsFailure result (S.failed source.old) (S.failed source.new) }
 {
     let count = source.take(&mut buf[filled..])?;
@@ -45,6 +49,7 @@ pub(crate) fn read_head<S: Source>(
     ensures head { IfOk result (λ r. (bytes : List ℕ) → S.coming source.old ≡ Some bytes
         → IsHeadRead bytes (length headers.old) buf.new headers.new r) }
     ensures spans { IfOk result (λ r. AreSpansWithin buf.new headers.new r) }
+    ensures most { TakesAtMost (length buf.new) (S.coming source.old) (S.coming source.new) }
     ensures silent { IfOk result (λ r. filled_in r ≡ 0 → 0 < length buf.old → (bytes : List ℕ) → S.coming source.old ≡ Some bytes → bytes ≡ []) }
     ensures failures { CountsFailure result (S.failed source.old) (S.failed source.new) }
 {

@@ -29,6 +29,7 @@ ghost use Rattle.std.specs.Option.{option_copied, option_map};
 ghost use Rattle.httparse.specs.Grammar.{RequestHead};
 ghost use Rattle.httparse.specs.Spans.{IsRequestAt, IsRequestWithin};
 ghost use Rattle.tk_params.specs.Params.{Pairs};
+ghost use Rattle.tk_edge.specs.Bounds.{TakesAtMost, body_limit, request_limit};
 ghost use Rattle.tk_edge.specs.HeadFields.{AreFields};
 ghost use Rattle.tk_edge.specs.Heads.{head_limit};
 ghost use Rattle.tk_edge.specs.Heard as spec;
@@ -58,6 +59,7 @@ pub(crate) fn hear<S: Source>(
     requires { length buf.old ≡ head_limit }
     ensures room { length buf.new ≡ length buf.old }
     ensures came { IfOk result (spec.Arrives sync (S.coming reader.old)) }
+    ensures most { TakesAtMost (request_limit sync) (S.coming reader.old) (S.coming reader.new) }
     ensures fault { IsReadFault result (S.failed reader.old) (S.failed reader.new) }
 {
     let mut headers = [EMPTY_HEADER_SPAN; 64];
@@ -96,6 +98,7 @@ fn head_heard<S: Source>(
     ensures came { (h : RequestHead) (rest : List ℕ) → IsRequestAt buf.now headers.now spans h → S.coming reader.old ≡ Some rest
         → IfOk result (λ came. came ≡ spec.arrival_of sync h (drop spans.len buf.now ++ rest)) }
     ensures may { IfOk result (spec.MayArrive sync) }
+    ensures most { TakesAtMost (body_limit sync) (S.coming reader.old) (S.coming reader.new) }
     ensures fault { IsReadFault result (S.failed reader.old) (S.failed reader.new) }
 {
     let fields = fields_of(buf, &headers[..spans.headers]);
@@ -127,6 +130,7 @@ fn body_heard<S: Source>(
     ensures came { (target rest : List ℕ) (pairs : Pairs) → AreFields fields.now pairs → S.coming reader.old ≡ Some rest
         → IfOk result (λ came. came ≡ spec.arrival_by target pairs (front.now ++ rest) (Body posted size)) }
     ensures may { (sync : Bool) → MayPost sync posted → IfOk result (spec.MayArrive sync) }
+    ensures most { TakesAtMost size (S.coming reader.old) (S.coming reader.new) }
     ensures fault { IsReadFault result (S.failed reader.old) (S.failed reader.new) }
 {
     if size <= front.len() {
@@ -149,6 +153,7 @@ fn fill<S: Source>(reader: &mut S, front: &[u8], body: &mut [u8]) -> Result<bool
         → IfOk result (λ enough. enough ≡ nat_le (length body.old) (length (front.now ++ rest))) }
     ensures filled { (rest : List ℕ) → S.coming reader.old ≡ Some rest
         → IfOk result (λ enough. enough ≡ true → body.new ≡ take (length body.old) (front.now ++ rest)) }
+    ensures most { TakesAtMost (length body.old) (S.coming reader.old) (S.coming reader.new) }
     ensures fault { IsReadFault result (S.failed reader.old) (S.failed reader.new) }
 {
     let size = body.len();

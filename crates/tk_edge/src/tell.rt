@@ -3,7 +3,7 @@
 ghost use Rattle.std.specs.Prelude.{◌≡◌, false, OnOk, OnErr};
 ghost use Rattle.std.specs.Io.KnownBytes.{Appends};
 ghost use Rattle.tk_edge.specs.Failures.{CountsFailure};
-ghost use Rattle.tk_edge.specs.Told.{AppendsFront, IsFaultOfDevice, IsTold};
+ghost use Rattle.tk_edge.specs.Told.{AppendsFront, IsFaultOfDevice, IsTold, UsesLog};
 
 use crate::answer::Answer;
 use crate::device::{Failed, Sink};
@@ -33,6 +33,7 @@ pub(crate) fn tell<W: Sink, L: Sink>(
     requires { sealed.old ≡ false }
     ensures told { IsTold answer.now (record { before = L.holds log.old; after = L.holds log.new })
         (record { before = W.holds writer.old; after = W.holds writer.new }) sealed.new result }
+    ensures log { UsesLog answer.now (log.new ≡ log.old) result }
     ensures faults { IsFaultOfDevice result (L.failed log.old) (L.failed log.new) (W.failed writer.old) (W.failed writer.new) }
 {
     if let Some(bytes) = &answer.logged {
