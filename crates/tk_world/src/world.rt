@@ -44,7 +44,7 @@ ghost use Rattle.tk_store.specs.Joining.{JoinsFacts, SameFacts};
 ghost use Rattle.tk_store.specs.Store.{known_in};
 ghost use Rattle.tk_bundle.specs.Bundle.{bundle, bundle_bytes};
 ghost use Rattle.tk_bundle.specs.Page as pages;
-ghost use Rattle.tk_world.specs.State.{facts_in, new_state, IsConsistent};
+ghost use Rattle.tk_world.specs.State.{facts_in, new_state, region_with, IsConsistent};
 ghost use Rattle.tk_world.specs.World.{Step, Run, IsAnswer, seen_by};
 ghost use Rattle.tk_world.specs.Parts.{Opens, Pages};
 ghost use Rattle.tk_world.specs.Promises.{TellsOfSets, IntrospectAlike, RevokedInactive, FamiliesInactive};
@@ -73,11 +73,27 @@ impl World {
         }
     }
 
-    /// All facts that regions hold and bundles carry are one set: told to callers, nothing is done.
+    /// Tells callers what holds of any world, and does nothing.
     pub fn known(&self)
-        ensures { IsConsistent self.now }
+        // All facts that regions hold and bundles carry are one set.
+        ensures consistent { IsConsistent self.now }
+
+        // A token that its client revoked, and each token of a family with a bad grant, is inactive where those facts are
+        // held.
+        ensures revoked { RevokedInactive self.now }
+        ensures families { FamiliesInactive self.now }
     {
         let _regions = &self.regions;
+    }
+
+    /// Returns the region that is open under this number, or None if none is.
+    pub fn region(&self, number: RegionNumber) -> Option<&Region>
+        ensures { option_copied result ≡ option_map (region_with self.now number) (map.get self.now.regions number) }
+    {
+        match find_region(&self.regions, number) {
+            Ok(at) => Some(self.regions[at].region()),
+            Err(_) => None,
+        }
     }
 
     /// Runs the events in order. Room for the outcomes is taken first: where it is refused, no event is run.
