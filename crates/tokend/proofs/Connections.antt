@@ -17,8 +17,9 @@ use Rattle.tk_region.specs.declared.take.TakeError.TheVariants as Take
 use Rattle.tk_edge.specs.Arrivals.{AnswersArrival, IsShort}
 use Rattle.tk_edge.specs.EdgeFields.{EdgeFields}
 use Rattle.tk_edge.specs.Exchanges.{TakesBundle}
-use Rattle.tk_edge.specs.Served.{Asked, IsServed}
-use Rattle.tk_edge.specs.Told.{AnswerFields, Change}
+use Rattle.tk_edge.specs.Served.{Asked, IsServed, Step}
+use Rattle.tk_edge.specs.Told.{AnswerFields, Change, UsesLog}
+use Rattle.tk_message.specs.declared.status.Status.{Status}
 use Rattle.tk_edge.specs.declared.exchange.Exchange.TheVariants.{Vector, Pull, Push}
 use Rattle.tk_edge.specs.declared.hear.Arrival.{Arrival}
 use Rattle.tk_edge.specs.declared.hear.Arrival.TheVariants.{Heard, Exchange}
@@ -68,15 +69,15 @@ short_gains sync known old new (inl same) = same_gains old new same
 short_gains sync known old new (inr h) = taken_gains old new h.0 h.2 h.3
 
 -- a connection joins facts to the region, or none
-served_gains : (asked : Asked) (old new : RegionFields) (log writer : Change) (sealed : Bool)
-    (result : Result Served Fault) → IsServed asked (record { before = old; after = new }) log writer sealed result
+served_gains : (asked : Asked) (old new : RegionFields) (log : Change) (still : Type 0) (writer : Change) (sealed : Bool)
+    (result : Result Served Fault) → IsServed asked (record { before = old; after = new }) log still writer sealed result
     → (fs : Facts) × Gains old fs new
-served_gains asked old new log writer sealed (Ok (Done status)) h = answered_gains asked.now asked.words h.0 h.3.0 old new h.3.1
-served_gains asked old new log writer sealed (Ok Nothing) h = same_gains old new h.1.0
-served_gains asked old new log writer sealed (Err Log) h = answered_gains asked.now asked.words h.0 h.3.0 old new h.3.1
-served_gains asked old new log writer sealed (Err Write) h = answered_gains asked.now asked.words h.0 h.3.0 old new h.3.1
-served_gains asked old new log writer sealed (Err Read) h = same_gains old new h.0
-served_gains asked old new log writer sealed (Err Memory) h = short_gains asked.sync asked.known old new h.0
+served_gains asked old new log still writer sealed (Ok (Done status)) h = answered_gains asked.now asked.words h.0 h.3.0 old new h.3.1
+served_gains asked old new log still writer sealed (Ok Nothing) h = same_gains old new h.1.0
+served_gains asked old new log still writer sealed (Err Log) h = answered_gains asked.now asked.words h.0 h.3.0 old new h.3.1
+served_gains asked old new log still writer sealed (Err Write) h = answered_gains asked.now asked.words h.0 h.3.0 old new h.3.1
+served_gains asked old new log still writer sealed (Err Read) h = same_gains old new h.0
+served_gains asked old new log still writer sealed (Err Memory) h = short_gains asked.sync asked.known old new h.0
 
 -- so does one by a socket
 connected_gains : (now : ℕ) (words : List ℕ) (old new : EdgeFields) (log : Change) (result : Result Served Fault)
@@ -84,16 +85,33 @@ connected_gains : (now : ℕ) (words : List ℕ) (old new : EdgeFields) (log : C
 connected_gains now words old new log result h =
     elim old.sealed as (λ b. old.sealed ≡ b → (fs : Facts) × Gains old.region fs new.region) [
       | true ↦ λ e. subst (λ n. (fs : Facts) × Gains old.region fs n.region) (sym (h.shut e).0) (same_gains old.region old.region refl)
-      | false ↦ λ e. served_gains (record { sync = old.sync; known = None; now = now; words = words }) old.region new.region log unknown new.sealed result (h.served e)
+      | false ↦ λ e. served_gains (record { sync = old.sync; known = None; now = now; words = words }) old.region new.region log (log.after ≡ log.before) unknown new.sealed result (h.served e)
     ] refl
 
 -- one that wasn't read changes nothing
 pub unread : (now : ℕ) (words : List ℕ) (edge : EdgeFields) (log : Option (List ℕ)) → IsConnection now words edge edge (record { before = log; after = log }) (Err Read)
 unread now words edge log = record {
-  served = λ unsealed. (refl, (Keeps-refl log, tt, unsealed));
+  served = λ unsealed. (refl, (Keeps-refl log, tt, unsealed, refl));
   shut = λ _. (refl, refl, inr refl);
   sync = refl;
 }
+
+-- ---- a log that is as it was, by less than the whole of it
+
+uses_less : (P Q : Type 0) (answer : AnswerFields) (result : Result Status Fault) → (P → Q) → UsesLog answer P result → UsesLog answer Q result
+uses_less P Q answer result f h = record { unused = λ none. f (h.unused none); fault = h.fault }
+
+pub served_less : (P Q : Type 0) (asked : Asked) (region : Step) (log writer : Change) (sealed : Bool) (result : Result Served Fault) → (P → Q)
+    → IsServed asked region log P writer sealed result → IsServed asked region log Q writer sealed result
+served_less P Q asked region log writer sealed (Ok (Done status)) f h =
+    (h.0, h.1, h.2, (h.3.0, h.3.1, h.3.2, uses_less P Q h.3.0 (Ok status) f h.3.3))
+served_less P Q asked region log writer sealed (Ok Nothing) f h = (h.0, (h.1.0, (h.1.1.0, h.1.1.1, h.1.1.2, f h.1.1.3)))
+served_less P Q asked region log writer sealed (Err Log) f h =
+    (h.0, h.1, h.2, (h.3.0, h.3.1, h.3.2, uses_less P Q h.3.0 (Err Log) f h.3.3))
+served_less P Q asked region log writer sealed (Err Write) f h =
+    (h.0, h.1, h.2, (h.3.0, h.3.1, h.3.2, uses_less P Q h.3.0 (Err Write) f h.3.3))
+served_less P Q asked region log writer sealed (Err Read) f h = (h.0, (h.1.0, h.1.1, h.1.2, f h.1.3))
+served_less P Q asked region log writer sealed (Err Memory) f h = (h.0, (h.1.0, h.1.1, h.1.2, f h.1.3))
 
 -- and one after the other
 gains_twice : (old mid new : RegionFields) → ((fs : Facts) × Gains old fs mid) → ((fs : Facts) × Gains mid fs new) → (fs : Facts) × Gains old fs new

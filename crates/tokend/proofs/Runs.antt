@@ -5,14 +5,17 @@ use Rattle.std.specs.Io.KnownBytes.{Appends, Keeps}
 use Rattle.clap.specs.Words.{Text}
 use Rattle.tk_region.specs.SettingsFields.{SettingsFields}
 use Rattle.tk_world.specs.Put.{AppendsFront}
-use Rattle.tokend.specs.Serving.{Announces, IsFileFault, IsServiceFault, LeavesService}
+use Rattle.tk_edge.specs.Told.{Change}
+use Rattle.tokend.specs.ServiceRun.{IsServiceRun}
+use Rattle.tokend.specs.Serving.{IsServiceFault, LeavesService}
 use Rattle.tokend.specs.Task.{script_task, Asks, AsksToServe}
 use Rattle.tokend.specs.ScriptRun.{IsScriptRun, PrintsScript, IsScriptFault, LeavesScript}
 use Rattle.tokend.specs.ProgramRun.{IsDone, IsFaultFor, IsQuiet, Leaves, Tells}
 use Rattle.tokend.specs.Status.{fault_text, status_of}
 use Rattle.tokend.specs.CommandLine.{settings_of}
 use Rattle.tokend.specs.declared.options.Numbers.{Numbers}
-use Rattle.tokend.specs.declared.options.Task.TheVariants.{Script}
+use Rattle.tokend.specs.declared.options.Service.{Service}
+use Rattle.tokend.specs.declared.options.Task.TheVariants.{Script, Serve}
 use Rattle.tokend.specs.declared.fault.Fault.{Fault}
 use Rattle.tokend.specs.declared.fault.Fault.TheVariants.{BadLine, BadLogFile, BadSeedFile, CannotListen, CannotOpen, CannotRead, CannotReadFile, Memory, Output, ScriptTooLong, Words}
 
@@ -125,11 +128,12 @@ left_by_script words input old new n settings (Ok x) asks e h = tt
 left_by_script words input old new n settings (Err fault) asks e h =
     script_leaves words input old new settings fault (subst (λ s. Asks words (script_task s)) (sym e) asks) h
 
--- a service that was announced is the program's end, whatever its connections made it tell
-pub service_done : {T : Type 0} (words : List Text) (input old new : Option (List ℕ)) (r : Result T Fault) → AsksToServe words
-    → OnOk r (Announces old new) → OnOk r (IsDone words input old new)
-service_done words input old new (Ok x) asks h = inr (inl (asks, h))
-service_done words input old new (Err fault) asks h = tt
+-- a service that has run is the program's end, whatever its connections made it tell
+pub service_done : {T : Type 0} (words : List Text) (input old new : Option (List ℕ)) (faults : Change) (service : Service) (r : Result T Fault)
+    → Asks words (Serve service) → OnOk r (IsServiceRun service (record { before = old; after = new }) faults)
+    → OnOk r (IsDone words input old new)
+service_done words input old new faults service (Ok x) asks h = inr (inl (service, asks, (faults, h)))
+service_done words input old new faults service (Err fault) asks h = tt
 
 pub service_quiet : {T : Type 0} (words : List Text) (old new : Option (List ℕ)) (r : Result T Fault) → AsksToServe words
     → OnOk r (IsQuiet words old new)
@@ -163,78 +167,44 @@ tells_behind fault a b c kept = of (fault_text fault)
     of None h = tt
     of (Some text) h = record { front = h.front; rest = h.rest; parts = h.parts; appended = appends_behind a b c h.front kept h.appended }
 
--- what is wrong with files is wrong with the service, and leaves the output
-pub file_fault : (fault : Fault) → IsFileFault fault → IsServiceFault fault
-file_fault (Words error) h = absurd h
-file_fault CannotRead h = absurd h
-file_fault (CannotReadFile name) h = tt
-file_fault (CannotOpen name) h = tt
-file_fault CannotListen h = absurd h
-file_fault BadSeedFile h = tt
-file_fault BadLogFile h = tt
-file_fault ScriptTooLong h = absurd h
-file_fault (BadLine number) h = absurd h
-file_fault Memory h = tt
-file_fault Output h = absurd h
+-- a service's fault is the program's, where the words ask for that service
+service_fault : (words : List Text) (input : Option (List ℕ)) (service : Service) → Asks words (Serve service) → (fault : Fault)
+    → IsServiceFault service fault → IsFaultFor words input fault
+service_fault words input service asks (Words error) h = absurd h
+service_fault words input service asks CannotRead h = absurd h
+service_fault words input service asks (CannotReadFile name) h = (service, asks, h)
+service_fault words input service asks (CannotOpen name) h = (service, asks, h)
+service_fault words input service asks CannotListen h = inr (service, asks, h)
+service_fault words input service asks BadSeedFile h = (service, asks, h)
+service_fault words input service asks BadLogFile h = (service, asks, h)
+service_fault words input service asks ScriptTooLong h = absurd h
+service_fault words input service asks (BadLine number) h = absurd h
+service_fault words input service asks Memory h = tt
+service_fault words input service asks Output h = tt
 
-pub file_fault_leaves : (fault : Fault) (output : Option (List ℕ)) → IsFileFault fault → LeavesService fault output output
-file_fault_leaves fault output = of fault output
-  where
-    kept : (output : Option (List ℕ)) → Keeps output output
-    kept None = tt
-    kept (Some bytes) = refl
+pub faults_of_service : {T : Type 0} (words : List Text) (input : Option (List ℕ)) (service : Service) (r : Result T Fault) → Asks words (Serve service)
+    → IfErr r (IsServiceFault service) → IfErr r (IsFaultFor words input)
+faults_of_service words input service (Ok x) asks h = tt
+faults_of_service words input service (Err fault) asks h = service_fault words input service asks fault h
 
-    of : (fault : Fault) (output : Option (List ℕ)) → IsFileFault fault → LeavesService fault output output
-    of (Words error) output h = absurd h
-    of CannotRead output h = absurd h
-    of (CannotReadFile name) output h = kept output
-    of (CannotOpen name) output h = kept output
-    of CannotListen output h = absurd h
-    of BadSeedFile output h = kept output
-    of BadLogFile output h = kept output
-    of ScriptTooLong output h = absurd h
-    of (BadLine number) output h = absurd h
-    of Memory output h = kept output
-    of Output output h = absurd h
+service_leaves : (words : List Text) (input : Option (List ℕ)) (service : Service) → Asks words (Serve service) → (fault : Fault) (old new : Option (List ℕ))
+    → LeavesService service fault old new → Leaves words input fault old new
+service_leaves words input service asks (Words error) old new h = h
+service_leaves words input service asks CannotRead old new h = h
+service_leaves words input service asks (CannotReadFile name) old new h = h
+service_leaves words input service asks (CannotOpen name) old new h = h
+service_leaves words input service asks CannotListen old new h = h
+service_leaves words input service asks BadSeedFile old new h = h
+service_leaves words input service asks BadLogFile old new h = h
+service_leaves words input service asks ScriptTooLong old new h = h
+service_leaves words input service asks (BadLine number) old new h = h
+service_leaves words input service asks Memory old new h = h
+service_leaves words input service asks Output old new h = inr (inl (service, asks, h))
 
--- a service's fault is the program's, where the words ask for a service
-pub service_fault : (words : List Text) (input : Option (List ℕ)) → AsksToServe words → (fault : Fault) → IsServiceFault fault
-    → IsFaultFor words input fault
-service_fault words input asks (Words error) h = absurd h
-service_fault words input asks CannotRead h = absurd h
-service_fault words input asks (CannotReadFile name) h = asks
-service_fault words input asks (CannotOpen name) h = asks
-service_fault words input asks CannotListen h = inr asks
-service_fault words input asks BadSeedFile h = asks
-service_fault words input asks BadLogFile h = asks
-service_fault words input asks ScriptTooLong h = absurd h
-service_fault words input asks (BadLine number) h = absurd h
-service_fault words input asks Memory h = tt
-service_fault words input asks Output h = tt
-
-pub faults_of_service : {T : Type 0} (words : List Text) (input : Option (List ℕ)) (r : Result T Fault) → AsksToServe words
-    → IfErr r IsServiceFault → IfErr r (IsFaultFor words input)
-faults_of_service words input (Ok x) asks h = tt
-faults_of_service words input (Err fault) asks h = service_fault words input asks fault h
-
-service_leaves : (words : List Text) (input : Option (List ℕ)) → AsksToServe words → (fault : Fault) (old new : Option (List ℕ))
-    → LeavesService fault old new → Leaves words input fault old new
-service_leaves words input asks (Words error) old new h = h
-service_leaves words input asks CannotRead old new h = h
-service_leaves words input asks (CannotReadFile name) old new h = h
-service_leaves words input asks (CannotOpen name) old new h = h
-service_leaves words input asks CannotListen old new h = h
-service_leaves words input asks BadSeedFile old new h = h
-service_leaves words input asks BadLogFile old new h = h
-service_leaves words input asks ScriptTooLong old new h = h
-service_leaves words input asks (BadLine number) old new h = h
-service_leaves words input asks Memory old new h = h
-service_leaves words input asks Output old new h = inr (inl (asks, h))
-
-pub left_by_service : {T : Type 0} (words : List Text) (input : Option (List ℕ)) (r : Result T Fault) (old new : Option (List ℕ)) → AsksToServe words
-    → IfErr r (λ fault. LeavesService fault old new) → IfErr r (λ fault. Leaves words input fault old new)
-left_by_service words input (Ok x) old new asks h = tt
-left_by_service words input (Err fault) old new asks h = service_leaves words input asks fault old new h
+pub left_by_service : {T : Type 0} (words : List Text) (input : Option (List ℕ)) (service : Service) (r : Result T Fault) (old new : Option (List ℕ))
+    → Asks words (Serve service) → IfErr r (λ fault. LeavesService service fault old new) → IfErr r (λ fault. Leaves words input fault old new)
+left_by_service words input service (Ok x) old new asks h = tt
+left_by_service words input service (Err fault) old new asks h = service_leaves words input service asks fault old new h
 
 -- a fault's status is not 0
 no_status : (fault : Fault) → status_of fault ≡ 0 → ⊥

@@ -4,7 +4,8 @@
 --   Told            what is told of what it ended with
 --   so_many         how many are served
 --   AreConnections  one after the other, by what they end with
-use Rattle.std.specs.Prelude.{◌≡◌, ◌⊎◌, ℕ, ◌-◌, ◌^◌, true, false, List, [], ◌∷◌, Option, None, Result, Ok, Err}
+--   ServesAll       as many as are asked for; ServesWithLog, with some log
+use Rattle.std.specs.Prelude.{◌≡◌, ◌⊎◌, ℕ, ◌-◌, ◌^◌, true, false, List, [], ◌∷◌, length, Option, None, Result, Ok, Err}
 use Rattle.std.specs.Option.{unwrap_or}
 use Rattle.std.specs.Io.KnownBytes.{Keeps}
 use Rattle.rand_chacha.specs.ChaCha.{ChaCha}
@@ -29,7 +30,7 @@ IsShutOut result = IsTurnedAway unknown result ⊎ (result ≡ Err Read)
 -- an edge serves it; one that is sealed stays as it was, and so does its log
 pub record IsConnection (now : ℕ) (words : List ℕ) (old new : EdgeFields) (log : Change) (result : Result Served Fault) : Type 0 where
   pub served : old.sealed ≡ false → IsServed (record { sync = old.sync; known = None; now = now; words = words })
-      (record { before = old.region; after = new.region }) log unknown new.sealed result
+      (record { before = old.region; after = new.region }) log (log.after ≡ log.before) unknown new.sealed result
   pub shut : old.sealed ≡ true → (new ≡ old) × (log.after ≡ log.before) × IsShutOut result
   pub sync : new.sync ≡ old.sync
 
@@ -57,3 +58,12 @@ so_many requests = unwrap_or requests (2 ^ 64 - 1)
 abbrev pub AreConnections : ChaCha → Running → List (Result Served Fault) → Running → Type 0
 AreConnections words old [] new = new ≡ old
 AreConnections words old (end ∷ ends) new = (mid : Running) × Serves (six words) old end mid × AreConnections (past_six words) mid ends new
+
+-- as many connections as are asked for were served, from one state to the other
+abbrev pub ServesAll : ChaCha → Option ℕ → Running → Running → Type 0
+ServesAll words requests old new = (ends : List (Result Served Fault)) × (length ends ≡ so_many requests) × AreConnections words old ends new
+
+-- with some log
+abbrev pub ServesWithLog : ChaCha → Option ℕ → EdgeFields → Option (List ℕ) → EdgeFields → Option (List ℕ) → Type 0
+ServesWithLog words requests old told new told_after = (log : Change) × ServesAll words requests
+    (record { edge = old; log = log.before; faults = told }) (record { edge = new; log = log.after; faults = told_after })

@@ -21,25 +21,26 @@ use Rattle.tokend.specs.declared.fault.Fault.TheVariants.{BadLine, CannotListen,
 abbrev pub longest : ℕ
 longest = 16384
 
--- the script is short enough, and so are its requests; its events are run, and the lines are their outcomes'
-pub record IsLoopbackRun (script : List ℕ) (lines : List ℕ) : Type 0 where
+-- the script is short enough, and so are its requests; its events are run with the settings, and the lines are their outcomes'
+pub record IsLoopbackRun (settings : SettingsFields) (script : List ℕ) (lines : List ℕ) : Type 0 where
   pub short : length script ≤ greatest_length
   pub events : List Event
   pub outcomes : List Outcome
   pub found : AreEvents (lines_of script) events
   pub within : AreShort (Some longest) events
-  pub settings : SettingsFields
   pub after : Sites
   pub run : SiteRun (no_sites settings) events outcomes after
   pub printed : lines ≡ lines_text events outcomes
 
 -- the lines that the input's script comes to were written behind what the output had
-abbrev pub PrintsLoopback : Option (List ℕ) → Option (List ℕ) → Option (List ℕ) → Type 0
-PrintsLoopback input old new = (lines : List ℕ) × IfSome input (λ script. IsLoopbackRun script lines) × Appends old new lines
+abbrev pub PrintsLoopback : SettingsFields → Option (List ℕ) → Option (List ℕ) → Option (List ℕ) → Type 0
+PrintsLoopback settings input old new =
+    (lines : List ℕ) × IfSome input (λ script. IsLoopbackRun settings script lines) × Appends old new lines
 
 -- a beginning of them was
-abbrev pub BeginsLoopback : Option (List ℕ) → Option (List ℕ) → Option (List ℕ) → Type 0
-BeginsLoopback input old new = (lines : List ℕ) × IfSome input (λ script. IsLoopbackRun script lines) × AppendsFront old new lines
+abbrev pub BeginsLoopback : SettingsFields → Option (List ℕ) → Option (List ℕ) → Option (List ℕ) → Type 0
+BeginsLoopback settings input old new =
+    (lines : List ℕ) × IfSome input (λ script. IsLoopbackRun settings script lines) × AppendsFront old new lines
 
 -- memory ran out, or a socket failed; nothing else
 abbrev pub IsSocketFault : Fault → Type 0
@@ -55,6 +56,6 @@ IsLoopbackFault input (BadLine number) =
 IsLoopbackFault input fault = IsScriptFault input fault
 
 -- where the output failed, the beginning of the lines; else all as it was
-abbrev pub LeavesLoopback : Option (List ℕ) → Fault → Option (List ℕ) → Option (List ℕ) → Type 0
-LeavesLoopback input Output old new = BeginsLoopback input old new
-LeavesLoopback input fault old new = Keeps old new
+abbrev pub LeavesLoopback : SettingsFields → Option (List ℕ) → Fault → Option (List ℕ) → Option (List ℕ) → Type 0
+LeavesLoopback settings input Output old new = BeginsLoopback settings input old new
+LeavesLoopback settings input fault old new = Keeps old new

@@ -1,5 +1,5 @@
 -- What the words of the command line ask for.
---   script_task    a script with settings
+--   script_task    a script with settings; loopback_task, one by sockets
 --   IsTask         the subcommand and its values; IsNoTask, none's; IsNoService, no service's
 --   Asks           a task; AsksToLoop, a script by sockets; AsksToServe, a service
 --   AsksToShow     help, or the version
@@ -21,6 +21,10 @@ use Rattle.tokend.specs.declared.options.Task.TheVariants.{Script, Loopback, Ser
 -- a script with these settings
 abbrev pub script_task : SettingsFields → Task
 script_task s = Script (record { code = s.code; access = s.access; refresh = s.refresh; family = s.family; cap = s.cap })
+
+-- a script by sockets with these settings
+abbrev pub loopback_task : SettingsFields → Task
+loopback_task s = Loopback (record { code = s.code; access = s.access; refresh = s.refresh; family = s.family; cap = s.cap })
 
 -- a number of a service isn't there, or no seed
 abbrev pub IsNoService : List Row → Type 0

@@ -1,9 +1,10 @@
+//! What may go wrong in the program, and the line and the exit status of each fault.
+
 ghost use Rattle.std.specs.Prelude.{◌≡◌, ◌++◌, ◌∷◌, [], codes, decimal, string_bytes, IfSome};
 ghost use Rattle.std.specs.IoError.{error_kind};
 ghost use Rattle.tokend.specs.declared.fault.Fault.TheVariants as fault;
 ghost use Rattle.tk_world.specs.Put.{Prints};
 ghost use Rattle.tokend.specs.Status.{fault_text, input_fault, status_of, IsUnopened, IsUnread};
-ghost use Rattle.tokend.specs.Serving.{IsFileFault};
 
 use itoa::Buffer;
 use std::alloc::{AllocError, AllocFailed, Global};
@@ -87,8 +88,7 @@ fn tell_name<E: Write>(faults: &mut E, fault: &[u8], name: &String) -> io::Resul
 
 /// The fault of a file that can't be read, or that there is no memory to tell of.
 pub(crate) fn cannot_read(alloc: Global, name: &str) -> Fault
-    ensures told { IsUnread name.now result }
-    ensures file { IsFileFault result }
+    ensures { IsUnread name.now result }
 {
     match String::from_str(alloc, name) {
         Ok(name) => Fault::CannotReadFile(name),
@@ -98,8 +98,7 @@ pub(crate) fn cannot_read(alloc: Global, name: &str) -> Fault
 
 /// The fault of a log that can't be opened, or that there is no memory to tell of.
 pub(crate) fn cannot_open(alloc: Global, name: &str) -> Fault
-    ensures told { IsUnopened name.now result }
-    ensures file { IsFileFault result }
+    ensures { IsUnopened name.now result }
 {
     match String::from_str(alloc, name) {
         Ok(name) => Fault::CannotOpen(name),

@@ -1,6 +1,7 @@
 //! An old log, taken in record by record.
 
 ghost use Rattle.std.specs.Prelude.{◌≡◌, ◌≢◌, ◌⊎◌, ℕ, List, IfOk, IfErr, IfSome};
+ghost use Rattle.tokend.specs.Loading as spec;
 ghost use Rattle.tokend.specs.Loading.{Loads, TakesOne};
 ghost use Rattle.tokend.specs.declared.load.LoadFault.TheVariants as fault;
 
@@ -16,12 +17,12 @@ pub enum LoadFault {
     Bad,
     /// It can't be read. Nothing was taken in.
     Read,
-    /// Memory was refused. The first facts of the next bundle may have been taken in.
+    /// Out of memory. The first facts of the next bundle may have been taken in.
     Memory,
 }
 
-/// Takes in the bundles of a log in order, and answers how many bytes at its end were dropped: the beginning of a record
-/// that was cut. The log is read whole first.
+/// Takes in the bundles of a log in order, each as [`Region::take_in`] does, and returns how many bytes at the end of the
+/// log were dropped: the beginning of a record that was cut. The log is read whole first.
 pub(crate) fn load<I: Read>(
     alloc: Global,
     region: &mut Region,
@@ -75,17 +76,33 @@ fn take_front(alloc: Global, region: &mut Region, rest: &[u8]) -> Result<Option<
 {
     let count = match read_front(alloc, rest) {
         Ok((_, count)) => count,
-        Err(FrontError::Cut) => return Ok(None),
-        Err(FrontError::Malformed) => return Err(LoadFault::Bad),
-        Err(FrontError::Memory) => return Err(LoadFault::Memory),
+        Err(error) => return front_end(error),
     };
     let (front, _) = rest.split_at(count);
     match region.take_in(alloc, front) {
         Ok(_) => Ok(Some(count)),
-        Err(TakeError::Memory) => Err(LoadFault::Memory),
-        Err(TakeError::Malformed) => Err(LoadFault::Bad),
-        Err(TakeError::OwnNumber) => Err(LoadFault::Bad),
-        Err(TakeError::Conflict) => Err(LoadFault::Bad),
+        Err(error) => Err(take_fault(error)),
+    }
+}
+
+// What a front that isn't read comes to: None if the log is cut there.
+fn front_end(error: FrontError) -> Result<Option<usize>, LoadFault>
+    ensures { result ≡ spec.front_end error }
+{
+    match error {
+        FrontError::Cut => Ok(None),
+        FrontError::Malformed => Err(LoadFault::Bad),
+        FrontError::Memory => Err(LoadFault::Memory),
+    }
+}
+
+// The fault of a bundle that the region doesn't take in.
+fn take_fault(error: TakeError) -> LoadFault
+    ensures { result ≡ spec.take_fault error }
+{
+    match error {
+        TakeError::Memory => LoadFault::Memory,
+        TakeError::Malformed | TakeError::OwnNumber | TakeError::Conflict => LoadFault::Bad,
     }
 }
 

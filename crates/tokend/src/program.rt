@@ -194,9 +194,9 @@ fn run_loopback<R, I: Read, O: Write>(
 ) -> Result<(), Fault>
 where
     R: AllocGlobal + Clock + Net<Listener = TcpListener, Stream = TcpStream>,
-    ensures done { OnOk result (PrintsLoopback (I.remaining input.old) (O.contents output.old) (O.contents output.new)) }
+    ensures done { OnOk result (PrintsLoopback settings (I.remaining input.old) (O.contents output.old) (O.contents output.new)) }
     ensures fault { IfErr result (IsLoopbackFault (I.remaining input.old)) }
-    ensures left { IfErr result (λ fault. LeavesLoopback (I.remaining input.old) fault (O.contents output.old) (O.contents output.new)) }
+    ensures left { IfErr result (λ fault. LeavesLoopback settings (I.remaining input.old) fault (O.contents output.old) (O.contents output.new)) }
 {
     match read_script(rt.alloc(), input) {
         Ok(script) => loop_text(rt, settings, script.as_slice(), output),
@@ -214,9 +214,9 @@ fn loop_text<R, O: Write>(
 where
     R: AllocGlobal + Clock + Net<Listener = TcpListener, Stream = TcpStream>,
     requires { length script.now ≤ greatest_length }
-    ensures done { OnOk result (PrintsLoopback (Some script.now) (O.contents output.old) (O.contents output.new)) }
+    ensures done { OnOk result (PrintsLoopback settings (Some script.now) (O.contents output.old) (O.contents output.new)) }
     ensures fault { IfErr result (IsLoopbackFault (Some script.now)) }
-    ensures left { IfErr result (λ fault. LeavesLoopback (Some script.now) fault (O.contents output.old) (O.contents output.new)) }
+    ensures left { IfErr result (λ fault. LeavesLoopback settings (Some script.now) fault (O.contents output.old) (O.contents output.new)) }
 {
     let events = match read_events(rt.alloc(), script, Some(LONGEST)) {
         Ok(events) => events,

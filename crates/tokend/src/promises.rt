@@ -1,7 +1,10 @@
-//! What is promised of regions, a function for each promise: its body is one call of `tk_world`, and its contract is the
-//! promise, proved from the public contract of that call alone. The program calls none of them.
+//! The promises about regions, a function for each: its contract is the promise, and its body is one call of `tk_world`, from
+//! whose public contract alone the promise is proved. The program calls none of these functions.
+//!
+//! Five promises are about a run of events, and each names that run: a function that runs nothing meets none of them. Three
+//! hold of any world, whatever brought it about: that regions agree, and the two about inactive tokens.
 
-ghost use Rattle.std.specs.Prelude.{◌≡◌, ℕ, List, IfOk, OnErr};
+ghost use Rattle.std.specs.Prelude.{◌≡◌, ℕ, List, IfOk, MatchResult};
 ghost use Rattle.tk_store.specs.FactSet.{Agree, AllIn, Facts, IsSubset};
 ghost use Rattle.tk_store.specs.Joining.{SameFacts};
 ghost use Rattle.tk_world.specs.Promises.{IntrospectAlike, RevokedInactive, FamiliesInactive};
@@ -13,9 +16,11 @@ use tk_world::{Event, Outcome, World};
 
 /// Facts stay: what a region held before a run, it holds after it.
 pub fn facts_stay(world: &mut World, events: &[Event]) -> Result<Vec<Outcome>, AllocError>
-    ensures { IfOk result (λ _. (r : ℕ) → IsSubset (facts_in world.old r) (facts_in world.new r)) }
+    ensures { IfOk result (λ outcomes. (shown : List Facts) × Run world.old events.now outcomes.items shown world.new
+        × ((r : ℕ) → IsSubset (facts_in world.old r) (facts_in world.new r))) }
 {
-    world.run(events)
+    let outcomes = world.run(events)?;
+    Ok(outcomes)
 }
 
 /// A region holds what it made and took in.
@@ -42,7 +47,7 @@ pub fn regions_that_have_seen_the_same_are_the_same(
     world.run(events)
 }
 
-/// Regions agree: no two of them hold two facts at one dot.
+/// Regions agree in any world: no two of them hold two facts at one dot.
 pub fn regions_agree(world: &World)
     ensures { (q r : ℕ) → Agree (facts_in world.now q) (facts_in world.now r) }
 {
@@ -61,36 +66,31 @@ pub fn equal_facts_introspect_alike(
     world.run(events)
 }
 
-/// Revoked tokens are inactive: where a region holds facts by which a token's client revoked it, the token is active at no
-/// moment, and introspection tells nobody of it (RFC 7009, 2.1; RFC 7662, 2.2).
-pub fn revoked_tokens_are_inactive(
-    world: &mut World,
-    events: &[Event],
-) -> Result<Vec<Outcome>, AllocError>
-    ensures { RevokedInactive world.new }
+/// Revoked tokens are inactive in any world: where a region holds facts by which a token's client revoked it, the token is
+/// active at no moment, and introspection tells nobody of it (RFC 7009, 2.1; RFC 7662, 2.2).
+pub fn revoked_tokens_are_inactive(world: &World)
+    ensures { RevokedInactive world.now }
 {
-    world.run(events)
+    world.known()
 }
 
-/// Families with a bad grant are inactive: where a region holds facts by which a code or refresh token was used twice, was
-/// seen to be reused, is a refresh token that its client revoked, or a code whose subject signed out at its start or later,
-/// each token under the same code is active at no moment, and introspection tells nobody of it (RFC 6749, 4.1.2, 10.4 and
-/// 10.5).
-pub fn families_with_a_bad_grant_are_inactive(
-    world: &mut World,
-    events: &[Event],
-) -> Result<Vec<Outcome>, AllocError>
-    ensures { FamiliesInactive world.new }
+/// Families with a bad grant are inactive in any world: where a region holds facts by which a code or refresh token was used
+/// twice, was seen to be reused, is a refresh token that its client revoked, or a code whose subject signed out at its start
+/// or later, each token under the same code is active at no moment, and introspection tells nobody of it (RFC 6749, 4.1.2,
+/// 10.4 and 10.5).
+pub fn families_with_a_bad_grant_are_inactive(world: &World)
+    ensures { FamiliesInactive world.now }
 {
-    world.run(events)
+    world.known()
 }
 
-/// An error changes nothing: where memory is refused for a whole run, no event of it was run.
+/// An error changes nothing: a call ends well with a run of all its events, or with an error and no event run.
 pub fn an_error_changes_nothing(
     world: &mut World,
     events: &[Event],
 ) -> Result<Vec<Outcome>, AllocError>
-    ensures { OnErr result (world.new ≡ world.old) }
+    ensures { MatchResult result (λ outcomes. (shown : List Facts) × Run world.old events.now outcomes.items shown world.new)
+        (λ _. world.new ≡ world.old) }
 {
     world.run(events)
 }

@@ -1,18 +1,18 @@
 //! The server: connections one after the other, the log before each reply.
 
-ghost use Rattle.std.specs.Prelude.{◌≡◌, ℕ, List, length, IfErr, OnOk, OnErr, Result, Err};
+ghost use Rattle.std.specs.Prelude.{◌≡◌, ℕ, IfErr, OnOk, OnErr, Err};
 ghost use Rattle.std.specs.Io.KnownBytes.{Keeps};
 ghost use Rattle.tk_edge.specs.Failures.{Rose};
-ghost use Rattle.tk_edge.specs.declared.edge.Served.{Served as AnyEnd};
-ghost use Rattle.tk_edge.specs.declared.tell.Fault.{Fault as AnyFault};
 ghost use Rattle.tk_handle.specs.Ranges.{IsRegion};
 ghost use Rattle.tk_region.specs.RegionFields.{Gains};
 ghost use Rattle.tk_region.specs.SettingsFields.{IsSettings};
 ghost use Rattle.tk_store.specs.FactSet.{Facts};
 ghost use Rattle.tokend.specs.CommandLine.{settings_of};
-ghost use Rattle.tokend.specs.Connection.{AreConnections, IsConnection, Told, so_many};
+ghost use Rattle.tokend.specs.Connection.{IsConnection, ServesAll, ServesWithLog, Told};
 ghost use Rattle.tk_world.specs.Put.{Prints, joined_text};
-ghost use Rattle.tokend.specs.Serving.{announced, both_lines, connection_fault, listening_line, Announces, AnnouncesDrop, IsServiceFault, LeavesService};
+ghost use Rattle.tokend.specs.ServiceRun.{HasRun, IsServiceRun};
+ghost use Rattle.tokend.specs.Serving.{announced, both_lines, connection_fault, listening_line, Announces, IsListenedOn};
+ghost use Rattle.tokend.specs.Serving.{IsListenFault, IsServiceFault, IsStartFault, LeavesAnnouncement, LeavesService};
 
 use crate::draw::draw;
 use crate::fault::Fault;
@@ -46,9 +46,10 @@ where
     R: AllocGlobal + Files + Clock + Net<Listener = TcpListener, Stream = TcpStream>,
     requires settings { IsSettings (settings_of service.now.numbers) }
     requires region { IsRegion service.now.region }
-    ensures done { OnOk result (Announces (O.contents output.old) (O.contents output.new)) }
-    ensures fault { IfErr result IsServiceFault }
-    ensures left { IfErr result (λ fault. LeavesService fault (O.contents output.old) (O.contents output.new)) }
+    ensures done { OnOk result (IsServiceRun service.now (record { before = O.contents output.old; after = O.contents output.new })
+        (record { before = E.contents faults.old; after = E.contents faults.new })) }
+    ensures fault { IfErr result (IsServiceFault service.now) }
+    ensures left { IfErr result (λ fault. LeavesService service.now fault (O.contents output.old) (O.contents output.new)) }
     ensures silent { OnErr result (Keeps (E.contents faults.old) (E.contents faults.new)) }
 {
     match begin(rt, service) {
@@ -71,9 +72,11 @@ fn load_and_serve<R, O: Write, E: Write>(
 ) -> Result<(), Fault>
 where
     R: AllocGlobal + Files + Clock + Net<Listener = TcpListener, Stream = TcpStream>,
-    ensures done { OnOk result (Announces (O.contents output.old) (O.contents output.new)) }
-    ensures fault { IfErr result IsServiceFault }
-    ensures left { IfErr result (λ fault. LeavesService fault (O.contents output.old) (O.contents output.new)) }
+    ensures done { OnOk result (HasRun service.now start.old.edge start.old.words
+        (record { before = O.contents output.old; after = O.contents output.new })
+        (record { before = E.contents faults.old; after = E.contents faults.new })) }
+    ensures fault { IfErr result (IsServiceFault service.now) }
+    ensures left { IfErr result (λ fault. LeavesService service.now fault (O.contents output.old) (O.contents output.new)) }
     ensures silent { OnErr result (Keeps (E.contents faults.old) (E.contents faults.new)) }
 {
     match load_old(rt, start.edge.region_mut(), &service.load) {
@@ -93,9 +96,10 @@ fn log_and_serve<R, O: Write, E: Write>(
 ) -> Result<(), Fault>
 where
     R: AllocGlobal + Files + Clock + Net<Listener = TcpListener, Stream = TcpStream>,
-    ensures done { OnOk result (AnnouncesDrop dropped (O.contents output.old) (O.contents output.new)) }
-    ensures fault { IfErr result IsServiceFault }
-    ensures left { IfErr result (λ fault. LeavesService fault (O.contents output.old) (O.contents output.new)) }
+    ensures done { OnOk result (Announces dropped service.now.port (O.contents output.old) (O.contents output.new)) }
+    ensures served { OnOk result (ServesWithLog start.old.words service.now.requests start.old.edge (E.contents faults.old) start.new.edge (E.contents faults.new)) }
+    ensures fault { IfErr result (IsStartFault service.now) }
+    ensures left { IfErr result (λ fault. LeavesAnnouncement dropped service.now.port fault (O.contents output.old) (O.contents output.new)) }
     ensures silent { OnErr result (Keeps (E.contents faults.old) (E.contents faults.new)) }
 {
     let Some(path) = &service.log else {
@@ -119,9 +123,12 @@ fn announce_and_serve<R, L: Sink, O: Write, E: Write>(
 ) -> Result<(), Fault>
 where
     R: AllocGlobal + Clock + Net<Listener = TcpListener, Stream = TcpStream>,
-    ensures done { OnOk result (AnnouncesDrop dropped (O.contents output.old) (O.contents output.new)) }
-    ensures fault { IfErr result IsServiceFault }
-    ensures left { IfErr result (λ fault. LeavesService fault (O.contents output.old) (O.contents output.new)) }
+    ensures done { OnOk result (Announces dropped service.now.port (O.contents output.old) (O.contents output.new)) }
+    ensures served { OnOk result (ServesAll start.old.words service.now.requests
+        (record { edge = start.old.edge; log = L.holds log.old; faults = E.contents faults.old })
+        (record { edge = start.new.edge; log = L.holds log.new; faults = E.contents faults.new })) }
+    ensures fault { IfErr result IsListenFault }
+    ensures left { IfErr result (λ fault. LeavesAnnouncement dropped service.now.port fault (O.contents output.old) (O.contents output.new)) }
     ensures silent { OnErr result (Keeps (E.contents faults.old) (E.contents faults.new)) }
 {
     match listen(rt, service.port, dropped, output) {
@@ -141,9 +148,9 @@ fn listen<R: Net<Listener = TcpListener, Stream = TcpStream>, O: Write>(
     dropped: u64,
     output: &mut O,
 ) -> Result<TcpListener, Fault>
-    ensures done { OnOk result (AnnouncesDrop dropped (O.contents output.old) (O.contents output.new)) }
-    ensures fault { IfErr result IsServiceFault }
-    ensures left { IfErr result (λ fault. LeavesService fault (O.contents output.old) (O.contents output.new)) }
+    ensures done { OnOk result (Announces dropped port (O.contents output.old) (O.contents output.new)) }
+    ensures fault { IfErr result IsListenFault }
+    ensures left { IfErr result (λ fault. LeavesAnnouncement dropped port fault (O.contents output.old) (O.contents output.new)) }
 {
     let Ok(listener) = TcpListener::bind(rt, (Ipv4Addr::new(127, 0, 0, 1), port)) else {
         return Err(Fault::CannotListen);
@@ -151,10 +158,17 @@ fn listen<R: Net<Listener = TcpListener, Stream = TcpStream>, O: Write>(
     let Ok(address) = listener.local_addr() else {
         return Err(Fault::CannotListen);
     };
-    match announce(output, dropped, address.port()) {
+    match announce(output, dropped, listened_on(port, address.port())) {
         Ok(()) => Ok(listener),
         Err(_) => Err(Fault::Output),
     }
+}
+
+// The port that is listened on: the one asked for, or the one found where any free one was asked for.
+fn listened_on(asked: u16, found: u16) -> u16
+    ensures { IsListenedOn asked result }
+{
+    if asked == 0 { found } else { asked }
 }
 
 // The lines before the first connection.
@@ -215,8 +229,8 @@ pub(crate) fn serve_on<R: AllocGlobal + Clock, L: Sink, E: Write>(
     // The region's number and settings are the same, and facts were joined to its own.
     ensures gains { (fs : Facts) × Gains edge.old.region fs edge.new.region }
     // Each connection begins where the one before it ended, with words that none had before it.
-    ensures connections { (ends : List (Result AnyEnd AnyFault)) × (length ends ≡ so_many requests) × AreConnections words.old
-        (record { edge = edge.old; log = L.holds log.old; faults = E.contents faults.old }) ends
+    ensures connections { ServesAll words.old requests
+        (record { edge = edge.old; log = L.holds log.old; faults = E.contents faults.old })
         (record { edge = edge.new; log = L.holds log.new; faults = E.contents faults.new }) }
 {
     let mut buf = [0u8; 8192];

@@ -1,6 +1,6 @@
 //! A connection's two sides, under one limit of time.
 
-ghost use Rattle.std.specs.Prelude.{◌≡◌, IfOk, None};
+ghost use Rattle.std.specs.Prelude.{◌≡◌, IfOk, None, false};
 ghost use Rattle.std.specs.Io.{ReadsAtMost, WritesAtMost};
 
 use std::io::{self, Read, Write};
@@ -53,6 +53,9 @@ impl<'a, C: Clock> TimedSource<'a, C> {
     fn read_in_time(&mut self, piece: &mut [u8]) -> io::Result<usize>
         ensures within { ReadsAtMost result piece.new }
         ensures failures { self.new.failures ≡ self.old.failures }
+        // The time runs on: it began when the connection was accepted, and no later read waits for the whole of it.
+        ensures start { self.new.start ≡ self.old.start }
+        ensures stale { self.new.is_fresh ≡ false }
     {
         if self.is_fresh {
             self.is_fresh = false;
@@ -65,7 +68,9 @@ impl<'a, C: Clock> TimedSource<'a, C> {
 
     // Sets the wait to what is left, where it would go past the end by more than the slack.
     fn shorten_wait(&mut self) -> io::Result<()>
-        ensures { self.new.failures ≡ self.old.failures }
+        ensures failures { self.new.failures ≡ self.old.failures }
+        ensures start { self.new.start ≡ self.old.start }
+        ensures fresh { self.new.is_fresh ≡ self.old.is_fresh }
     {
         let taken = self.start.elapsed(self.clock)?;
         let left = Duration::from_secs(LIMIT_SECONDS).saturating_sub(taken);
@@ -130,6 +135,7 @@ impl<'a, C: Clock> TimedSink<'a, C> {
     fn write_in_time(&mut self, piece: &[u8]) -> io::Result<usize>
         ensures within { WritesAtMost result piece.now }
         ensures failures { self.new.failures ≡ self.old.failures }
+        ensures start { self.new.start ≡ self.old.start }
     {
         if !self.is_fresh || piece.len() > NEVER_WAITS {
             let taken = self.start.elapsed(self.clock)?;
