@@ -62,9 +62,13 @@ refusal_of (bodies.ClientRetired fact) = None
 refusal_of (bodies.ConsentGiven fact) = first_broken (is_subject fact.subject) true
 refusal_of (bodies.ConsentWithdrawn fact) = None
 refusal_of (bodies.CodeIssued fact) =
-    first_broken (is_subject fact.subject && is_uri fact.uri && is_challenge fact.challenge) (nat_le fact.start fact.expiry && nat_le fact.start fact.family_end)
-refusal_of (bodies.CodeRedeemed fact) = first_broken true (ends_after fact.start fact.access fact.refresh)
-refusal_of (bodies.RefreshRotated fact) = first_broken true (is_generation fact.generation && ends_after fact.start fact.access fact.refresh)
+    first_broken (is_subject fact.subject && is_uri fact.uri && is_challenge fact.challenge)
+    (nat_le fact.start fact.expiry && nat_le fact.start fact.family_end)
+refusal_of (bodies.CodeRedeemed fact) =
+    first_broken true (ends_after fact.start fact.access fact.refresh)
+refusal_of (bodies.RefreshRotated fact) =
+    first_broken true (is_generation fact.generation
+    && ends_after fact.start fact.access fact.refresh)
 refusal_of (bodies.TokenRevoked fact) = first_broken true (is_revocable fact.token.kind)
 refusal_of (bodies.ReuseSeen fact) = first_broken true (is_used_once fact.token.kind)
 refusal_of (bodies.SubjectOut fact) = first_broken (is_subject fact.subject) true

@@ -8,9 +8,41 @@
 --   flag_field        a yes or no
 --   challenge_field   a challenge, or none
 --   minted_field      an access or refresh token that a fact mints
-use Rattle.std.specs.Prelude.{ℕ, Bool, true, false, ◌==◌, List, [], Option, Some, None, if◌then◌else◌}
+use Rattle.std.specs.Prelude.{
+  ℕ,
+  Bool,
+  true,
+  false,
+  ◌==◌,
+  List,
+  [],
+  Option,
+  Some,
+  None,
+  if◌then◌else◌,
+}
 use Rattle.std.specs.Str.{bytes_eq}
-use Rattle.tk_format.specs.Format.{◌>>=◌, Format, ◌⊗◌, byte, bytes_of, text, only, shaped, partly, counted, coded, choice, via, nothing, Kinds, kind, no_kind, ◌and_then◌, one_of}
+use Rattle.tk_format.specs.Format.{
+  ◌>>=◌,
+  Format,
+  ◌⊗◌,
+  byte,
+  bytes_of,
+  text,
+  only,
+  shaped,
+  partly,
+  counted,
+  coded,
+  choice,
+  via,
+  nothing,
+  Kinds,
+  kind,
+  no_kind,
+  ◌and_then◌,
+  one_of,
+}
 use Rattle.tk_scope.specs.Scope.{scope_of}
 use Rattle.tk_match.specs.Redirects.{is_uri, redirects_of}
 use Rattle.tk_match.specs.Challenge.{ChallengeFields, is_verifier}
@@ -31,7 +63,8 @@ digest_field = bytes_of 32
 unfoldable pub sorts : Kinds Sort
 sorts =
     kind 0 (λ _. Public) (elim [ Public ↦ Some tt | _ ↦ None ]) nothing
-    and_then kind 1 Confidential (elim [ Confidential digest ↦ Some digest | _ ↦ None ]) digest_field
+    and_then kind 1 Confidential
+    (elim [ Confidential digest ↦ Some digest | _ ↦ None ]) digest_field
     and_then kind 2 Resource (elim [ Resource digest ↦ Some digest | _ ↦ None ]) digest_field
     and_then no_kind
 

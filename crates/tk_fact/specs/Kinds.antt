@@ -7,7 +7,17 @@ use Rattle.tk_handle.specs.Moment.{moment}
 use Rattle.tk_handle.specs.DotBytes.{dot_field}
 use Rattle.tk_handle.specs.TokenId.{token}
 use Rattle.tk_match.specs.Challenge.{ChallengeFields}
-use Rattle.tk_fact.specs.Fields.{digest_field, sort_field, scope_field, subject_field, uri_field, redirects_field, flag_field, challenge_field, minted_field}
+use Rattle.tk_fact.specs.Fields.{
+  digest_field,
+  sort_field,
+  scope_field,
+  subject_field,
+  uri_field,
+  redirects_field,
+  flag_field,
+  challenge_field,
+  minted_field,
+}
 use Rattle.tk_fact.specs.declared.client_added.ClientAdded.{ClientAdded}
 use Rattle.tk_fact.specs.declared.client_retired.ClientRetired.{ClientRetired}
 use Rattle.tk_fact.specs.declared.consent_given.ConsentGiven.{ConsentGiven}
@@ -55,7 +65,13 @@ code_bindings = uri_field ⊗ (flag_field ⊗ challenge_field)
 
 abbrev pub code_issued : Format CodeIssued
 code_issued = shaped
-    (λ ((client, consent), ((digest, (start, (expiry, family_end))), ((subject, scope), (uri, (sent, challenge))))). record {
+    (λ (
+      (client, consent),
+      (
+        (digest, (start, (expiry, family_end))),
+        ((subject, scope), (uri, (sent, challenge))),
+      ),
+    ). record {
       client = client;
       consent = consent;
       digest = digest;
@@ -68,12 +84,19 @@ code_issued = shaped
       sent = sent;
       challenge = challenge;
     })
-    (λ f. ((f.client, f.consent), ((f.digest, (f.start, (f.expiry, f.family_end))), ((f.subject, f.scope), (f.uri, (f.sent, f.challenge))))))
+    (λ f. (
+      (f.client, f.consent),
+      (
+        (f.digest, (f.start, (f.expiry, f.family_end))),
+        ((f.subject, f.scope), (f.uri, (f.sent, f.challenge))),
+      ),
+    ))
     (code_parties ⊗ (code_times ⊗ (code_rights ⊗ code_bindings)))
 
 abbrev pub code_redeemed : Format CodeRedeemed
 code_redeemed = shaped
-    (λ (code, (start, (access, refresh))). record { code = code; start = start; access = access; refresh = refresh })
+    (λ (code, (start, (access, refresh))).
+    record { code = code; start = start; access = access; refresh = refresh })
     (λ f. (f.code, (f.start, (f.access, f.refresh))))
     (dot_field ⊗ (moment ⊗ (minted_field ⊗ minted_field)))
 
@@ -99,4 +122,5 @@ abbrev pub reuse_seen : Format ReuseSeen
 reuse_seen = shaped (λ t. record { token = t }) (λ f. f.token) token
 
 abbrev pub subject_out : Format SubjectOut
-subject_out = shaped (λ (subject, at). record { subject = subject; moment = at }) (λ f. (f.subject, f.moment)) (subject_field ⊗ moment)
+subject_out = shaped (λ (subject, at). record { subject = subject; moment = at })
+    (λ f. (f.subject, f.moment)) (subject_field ⊗ moment)

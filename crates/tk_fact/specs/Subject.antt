@@ -13,4 +13,6 @@ most_subject_bytes = 128
 
 -- 1 to that many such bytes (own)
 abbrev pub is_subject : List ℕ → Bool
-is_subject subject = nat_le 1 (length subject) && nat_le (length subject) most_subject_bytes && list_all is_visible subject
+is_subject subject =
+    nat_le 1 (length subject) && nat_le (length subject) most_subject_bytes
+    && list_all is_visible subject

@@ -20,7 +20,12 @@ pub record MintedFields : Type 0 where
 
 -- what a `Minted` shows
 abbrev pub shown_minted : Minted → MintedFields
-shown_minted m = record { digest = m.digest.now; start = m.start; expiry = m.expiry; scope = m.scope.now }
+shown_minted m = record {
+  digest = m.digest.now;
+  start = m.start;
+  expiry = m.expiry;
+  scope = m.scope.now;
+}
 
 -- an access or refresh token that begins at that moment
 abbrev pub minted_at : ℕ → MintedToken → MintedFields
@@ -28,7 +33,8 @@ minted_at start m = record { digest = m.digest; start = start; expiry = m.end; s
 
 -- CodeIssued mints a code, CodeRedeemed and RefreshRotated an access token and a refresh token each
 abbrev pub minted_of : Body → Kind → Option MintedFields
-minted_of (CodeIssued f) Code = Some (record { digest = f.digest; start = f.start; expiry = f.expiry; scope = f.scope })
+minted_of (CodeIssued f) Code =
+    Some (record { digest = f.digest; start = f.start; expiry = f.expiry; scope = f.scope })
 minted_of (CodeRedeemed f) Access = Some (minted_at f.start f.access)
 minted_of (CodeRedeemed f) Refresh = Some (minted_at f.start f.refresh)
 minted_of (RefreshRotated f) Access = Some (minted_at f.start f.access)

@@ -2,7 +2,14 @@
 
 ghost use Rattle.std.specs.Prelude.{◌≡◌, ◌&&◌, OnOk, IfErr, IsTrue, None, Some, true};
 ghost use Rattle.std.specs.List.{list_all};
-ghost use Rattle.tk_fact.specs.Check.{first_broken, refusal_of, ends_after, is_challenge, is_revocable, is_used_once};
+ghost use Rattle.tk_fact.specs.Check.{
+  first_broken,
+  refusal_of,
+  ends_after,
+  is_challenge,
+  is_revocable,
+  is_used_once,
+};
 ghost use Rattle.tk_fact.specs.Subject.{is_subject};
 ghost use Rattle.tk_match.specs.Redirects.{is_uri};
 
@@ -86,7 +93,8 @@ fn known_uris(redirects: &Redirects)
 
 // So does a code, whose fields were made.
 fn known_limits(code: &CodeIssued)
-    ensures { IsTrue (is_subject code.now.subject && is_uri code.now.uri && is_challenge code.now.challenge) }
+    ensures { IsTrue (is_subject code.now.subject && is_uri code.now.uri
+        && is_challenge code.now.challenge) }
 {
     let _name = code.subject.as_str();
     let _text = code.uri.as_str();

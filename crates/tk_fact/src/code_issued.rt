@@ -160,7 +160,12 @@ impl CodeIssued {
     }
 
     fn write_times(&self, writer: &mut Writer) -> Result<(), AllocError>
-        ensures { OnOk result (writer.new ≡ writer.old ++ code_times.spell (self.now.digest, (self.now.start, (self.now.expiry, self.now.family_end)))) }
+        ensures { OnOk result
+            (writer.new ≡ writer.old
+            ++ code_times.spell (
+              self.now.digest,
+              (self.now.start, (self.now.expiry, self.now.family_end)),
+            )) }
     {
         writer.put_bytes(&self.digest)?;
         self.start.write(writer)?;
@@ -170,7 +175,9 @@ impl CodeIssued {
 
     fn write_bindings(&self, writer: &mut Writer) -> Result<(), AllocError>
         requires { code_issued.Fits self.now }
-        ensures { OnOk result (writer.new ≡ writer.old ++ code_bindings.spell (self.now.uri, (self.now.sent, self.now.challenge))) }
+        ensures { OnOk result
+            (writer.new ≡ writer.old
+            ++ code_bindings.spell (self.now.uri, (self.now.sent, self.now.challenge))) }
     {
         write_uri(&self.uri, writer)?;
         write_flag(self.sent, writer)?;

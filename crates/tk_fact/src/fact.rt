@@ -24,7 +24,23 @@ impl Model for Fact {
     ghost inverse = { λ p. record { dot = p.0; body = p.1 } };
 }
 
-ghost use Rattle.std.specs.Prelude.{◌≡◌, ◌≢◌, ◌≤◌, ◌++◌, ◌↔◌, length, false, None, Some, IfOk, IfErr, IsErrOf, IsTrue, OnErr, OnOk};
+ghost use Rattle.std.specs.Prelude.{
+  ◌≡◌,
+  ◌≢◌,
+  ◌≤◌,
+  ◌++◌,
+  ◌↔◌,
+  length,
+  false,
+  None,
+  Some,
+  IfOk,
+  IfErr,
+  IsErrOf,
+  IsTrue,
+  OnErr,
+  OnOk,
+};
 ghost use Rattle.tk_fact.specs.FactBytes.{passes};
 ghost use Rattle.tk_format.specs.Reading.{Gets, GetsAll};
 
@@ -87,7 +103,8 @@ impl Fact {
     /// The fact that the bytes spell, all of the bytes.
     pub fn read(alloc: Global, bytes: &[u8]) -> Result<Fact, ReadError>
         ensures found { IfOk result (λ f. fact.Fits f × (bytes.now ≡ fact_bytes f)) }
-        ensures malformed { IsErrOf result ReadError.Malformed → (f : AnyDot × AnyBody) → fact.Fits f → bytes.now ≢ fact_bytes f }
+        ensures malformed { IsErrOf result ReadError.Malformed → (f : AnyDot × AnyBody)
+            → fact.Fits f → bytes.now ≢ fact_bytes f }
 
         // The same, as what the format reads.
         ensures exact { GetsAll (λ f. f) fact result bytes.now }

@@ -41,7 +41,8 @@ fn read_texts<'a>(
     count: u8,
     reader: &mut Reader<'a>,
 ) -> Result<Vec<&'a [u8]>, ReadError>
-    ensures { Gets (λ texts. map (λ x. x.now) texts.items) (repeated count text) result reader.old reader.new }
+    ensures { Gets (λ texts. map (λ x. x.now) texts.items)
+        (repeated count text) result reader.old reader.new }
 {
     let mut texts = Vec::new(alloc);
     for _ in 0..count {

@@ -51,7 +51,8 @@ link_undo (Redeems d) = refl
 link_undo (Rotates d g) = refl
 
 abbrev pub coded_link : Coded Link
-coded_link = code_by (Option (Dot × Option ℕ)) (coded_option (coded× coded_dot (coded_option coded_ℕ))) link_out link_back link_undo
+coded_link = code_by (Option (Dot × Option ℕ))
+    (coded_option (coded× coded_dot (coded_option coded_ℕ))) link_out link_back link_undo
 
 abbrev pub kind_out : Kind → Option Bool
 kind_out kind.Code = None
@@ -68,7 +69,9 @@ kind_undo kind.Code = refl
 kind_undo kind.Access = refl
 kind_undo kind.Refresh = refl
 
-token_by : (d : Dot) (k : Kind) → ◌≡◌ {A = TokenId} (record { dot = d; kind = kind_back (kind_out k) }) (record { dot = d; kind = k })
+token_by : (d : Dot) (k : Kind)
+    → ◌≡◌ {A = TokenId} (record { dot = d; kind = kind_back (kind_out k) })
+    (record { dot = d; kind = k })
 token_by d kind.Code = refl
 token_by d kind.Access = refl
 token_by d kind.Refresh = refl
@@ -77,7 +80,10 @@ pub token_undo : (k : TokenId) → record { dot = k.dot; kind = kind_back (kind_
 token_undo k = token_by k.dot k.kind
 
 abbrev pub coded_token : Coded TokenId
-coded_token = code_by (Dot × Option Bool) (coded× coded_dot (coded_option coded_bool)) (λ k. (k.dot, kind_out k.kind)) (λ p. record { dot = p.0; kind = kind_back p.1 }) token_undo
+coded_token = code_by (Dot × Option Bool) (coded× coded_dot (coded_option coded_bool))
+    (λ k. (k.dot, kind_out k.kind)) (λ p. record { dot = p.0; kind = kind_back p.1 }) token_undo
 
 abbrev pub coded_forest : Coded ForestFacts
-coded_forest = code_by (map.FinMap dot_cmp Link × set.FinSet token_cmp) (coded× (map.code coded_dot coded_link) (set.code coded_token)) (λ f. (f.links, f.marks)) (λ p. record { links = p.0; marks = p.1 }) (λ _. refl)
+coded_forest = code_by (map.FinMap dot_cmp Link × set.FinSet token_cmp)
+    (coded× (map.code coded_dot coded_link) (set.code coded_token)) (λ f. (f.links, f.marks))
+    (λ p. record { links = p.0; marks = p.1 }) (λ _. refl)

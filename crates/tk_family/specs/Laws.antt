@@ -3,7 +3,19 @@
 use Rattle.std.specs.Prelude.{◌≡◌, ◌↔◌, ◌+◌, Bool, IsTrue, Some, List, ◌∷◌, length}
 use Rattle.tk_handle.specs.declared.dot.Dot.{Dot}
 use Rattle.tk_handle.specs.declared.token_id.TokenId.{TokenId}
-use Rattle.tk_family.specs.Families.{Links, Marks, IsParent, IsPath, IsUnder, IsTrail, rank_of, IsTwice, IsDead, LinksWithin, MarksWithin}
+use Rattle.tk_family.specs.Families.{
+  Links,
+  Marks,
+  IsParent,
+  IsPath,
+  IsUnder,
+  IsTrail,
+  rank_of,
+  IsTwice,
+  IsDead,
+  LinksWithin,
+  MarksWithin,
+}
 use Rattle.tk_family.specs.Walks.{code_of}
 
 -- a dot is under at most one code
@@ -20,7 +32,8 @@ ChainLength = (f : Links) (d c : Dot) (ps : List Dot) → IsPath f d ps c → le
 
 -- a walk from parent to parent is no longer than the rank at its start
 abbrev pub WalkEnds : Type 0
-WalkEnds = (f : Links) (d e : Dot) (ps : List Dot) → IsTrail f d ps e → length ps + rank_of (f e) ≡ rank_of (f d)
+WalkEnds = (f : Links) (d e : Dot) (ps : List Dot) → IsTrail f d ps e
+    → length ps + rank_of (f e) ≡ rank_of (f d)
 
 -- no walk comes back to where it began
 abbrev pub NoRing : Type 0
@@ -44,4 +57,6 @@ passing m k = IsTrue (m k)
 
 -- a dead family stays dead when links and marks are added; marks are given by tests here, as a law can't range over relations
 abbrev pub DeathStays : Type 0
-DeathStays = (f g : Links) (m n : TokenId → Bool) → LinksWithin f g → MarksWithin (passing m) (passing n) → (c : Dot) → IsDead f (passing m) c → IsDead g (passing n) c
+DeathStays = (f g : Links) (m n : TokenId → Bool) → LinksWithin f g
+    → MarksWithin (passing m) (passing n) → (c : Dot) → IsDead f (passing m) c
+    → IsDead g (passing n) c

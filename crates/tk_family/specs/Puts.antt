@@ -5,7 +5,19 @@
 --   Gathers            all that hangs below a dot
 --   NothingSeen        rows that say nothing may have come
 --   Puts, MarksOne     a link is put, a token is marked
-use Rattle.std.specs.Prelude.{◌≡◌, ◌⊎◌, Bool, true, false, if◌then◌else◌, List, ◌++◌, Option, Some, None}
+use Rattle.std.specs.Prelude.{
+  ◌≡◌,
+  ◌⊎◌,
+  Bool,
+  true,
+  false,
+  if◌then◌else◌,
+  List,
+  ◌++◌,
+  Option,
+  Some,
+  None,
+}
 use Rattle.std.specs.List.{IsDistinct}
 use Rattle.tk_handle.specs.declared.dot.Dot.{Dot}
 use Rattle.tk_handle.specs.declared.token_id.TokenId.{TokenId}
@@ -67,7 +79,8 @@ pub record Puts (T N : Rows) (d : Dot) (l : Link) (ys : List Dot) : Type 0 where
   pub marks : (k : TokenId) → marks_of N k ≡ marks_of T k
   pub distinct : IsDistinct dot_eq ys
   pub raised_now : (q : Dot) → has ys q ≡ true → IsRaised (links_of T) (links_of N) q
-  pub no_other : (q c : Dot) → IsUnder (links_of N) q c → (has ys q ≡ true) ⊎ IsUnder (links_of T) q c
+  pub no_other : (q c : Dot) → IsUnder (links_of N) q c
+      → (has ys q ≡ true) ⊎ IsUnder (links_of T) q c
 
 -- the token k is marked
 pub record MarksOne (T N : Rows) (k : TokenId) : Type 0 where

@@ -103,7 +103,8 @@ settled T list c q = if has list q then with_code (T q) c else T q
 -- and with the tombstone at c, if a token of the list is bad
 abbrev pub raised : Rows → List Dot → Dot → Rows
 raised T list c q =
-    if list_any (λ e. bad_in (settled T list c e)) list && dot_eq c q then with_dead (settled T list c q)
+    if list_any (λ e. bad_in (settled T list c e)) list && dot_eq c q
+    then with_dead (settled T list c q)
     else settled T list c q
 
 -- T with the tombstone of the family that the dot is in, if its token is bad

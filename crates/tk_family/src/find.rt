@@ -17,7 +17,8 @@ use tk_handle::{Dot, TokenId};
 /// Where a dot stands, by one look-up, and one more where it is under a code.
 pub(crate) fn top_of(rows: &BTreeMap<Dot, Row>, dot: Dot, steps: &mut Steps) -> Top
     requires { IsForest (table rows.now) }
-    ensures top { IsTop (links_of (table rows.now)) (passing (marks_of (table rows.now))) dot result }
+    ensures top { IsTop (links_of (table rows.now))
+        (passing (marks_of (table rows.now))) dot result }
     ensures at_least { steps.old + 1 < 2 ^ 64 → steps.old + 1 ≤ steps.new }
     ensures more { steps.old ≤ steps.new }
     ensures at_most { steps.new ≤ steps.old + 2 }

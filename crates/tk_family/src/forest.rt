@@ -46,7 +46,23 @@ impl Forest {
     ghost use Rattle.std.specs.FinMap as map;
     ghost use Rattle.std.specs.FinSet as set;
     ghost use Rattle.std.specs.List.{IsDistinct};
-    ghost use Rattle.std.specs.Prelude.{◌≡◌, ◌+◌, ◌^◌, ◌<◌, ◌≤◌, ◌↔◌, None, true, OnOk, OnErr, IfOk, IsOk, IsSome, IsTrue, IsSorted};
+    ghost use Rattle.std.specs.Prelude.{
+      ◌≡◌,
+      ◌+◌,
+      ◌^◌,
+      ◌<◌,
+      ◌≤◌,
+      ◌↔◌,
+      None,
+      true,
+      OnOk,
+      OnErr,
+      IfOk,
+      IsOk,
+      IsSome,
+      IsTrue,
+      IsSorted,
+    };
     ghost use Rattle.tk_family.specs.Dots.{dot_eq, has};
     ghost use Rattle.tk_family.specs.Families.{IsUsed};
     ghost use Rattle.tk_family.specs.ForestFacts.{links_at, marks_at};
@@ -70,8 +86,12 @@ impl Forest {
         requires { map.get self.old.links dot ≡ None }
         ensures links { OnOk result (self.new.links ≡ map.insert self.old.links dot link) }
         ensures marks { OnOk result (self.new.marks ≡ self.old.marks) }
-        ensures raised { IfOk result (λ ys. (q : the_dot) → has ys.items q ≡ true → IsRaised (links_at self.old) (links_at self.new) q) }
-        ensures all_raised { IfOk result (λ ys. (q : the_dot) → IsRaised (links_at self.old) (links_at self.new) q → has ys.items q ≡ true) }
+        ensures raised { IfOk result
+            (λ ys. (q : the_dot) → has ys.items q ≡ true
+            → IsRaised (links_at self.old) (links_at self.new) q) }
+        ensures all_raised { IfOk result
+            (λ ys. (q : the_dot) → IsRaised (links_at self.old) (links_at self.new) q
+            → has ys.items q ≡ true) }
         ensures distinct { IfOk result (λ ys. IsDistinct dot_eq ys.items) }
         ensures sorted { IfOk result (λ ys. IsSorted dot_cmp ys.items) }
         ensures err { OnErr result (self.new ≡ self.old) }

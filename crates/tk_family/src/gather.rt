@@ -21,7 +21,8 @@ fn push_children(
     list: &mut Vec<Dot>,
 ) -> Result<(), AllocError>
     requires { Hangs (table rows.now) dot }
-    ensures { OnOk result (Pushes (links_of (table rows.now)) dot above list.old.items list.new.items) }
+    ensures { OnOk result
+        (Pushes (links_of (table rows.now)) dot above list.old.items list.new.items) }
 {
     let mut cursor = first_at(rows, dot);
     let mut left = rows.len();

@@ -1,6 +1,16 @@
 //! Laws of families: functions with empty bodies, whose contracts hold of all links and marks.
 
-ghost use Rattle.tk_family.specs.Laws.{OneCode, RankFalls, ChainLength, WalkEnds, NoRing, WalkFinds, UnderStays, TwiceStays, DeathStays};
+ghost use Rattle.tk_family.specs.Laws.{
+  OneCode,
+  RankFalls,
+  ChainLength,
+  WalkEnds,
+  NoRing,
+  WalkFinds,
+  UnderStays,
+  TwiceStays,
+  DeathStays,
+};
 
 /// A law: a dot is under at most one code (own).
 pub fn one_code()

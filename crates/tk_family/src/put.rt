@@ -1,6 +1,17 @@
 //! Putting a link.
 
-ghost use Rattle.std.specs.Prelude.{◌≡◌, true, false, None, OnOk, OnErr, IfOk, IsSome, [], IsSorted};
+ghost use Rattle.std.specs.Prelude.{
+  ◌≡◌,
+  true,
+  false,
+  None,
+  OnOk,
+  OnErr,
+  IfOk,
+  IsSome,
+  [],
+  IsSorted,
+};
 ghost use Rattle.tk_family.specs.Families.{named_by};
 ghost use Rattle.tk_family.specs.Kept.{IsForest};
 ghost use Rattle.tk_family.specs.Puts.{Gathers, Puts, NothingSeen};
@@ -23,7 +34,8 @@ fn make_room(rows: &mut BTreeMap<Dot, Row>, dot: Dot, link: &Link) -> Result<(),
     requires { IsForest (table rows.old) }
     ensures same { NothingSeen (table rows.old) (table rows.new) }
     ensures own { OnOk result (IsSome (table rows.new dot)) }
-    ensures named { OnOk result ((p : the_dot) → named_by link.now ≡ Some p → IsSome (table rows.new p)) }
+    ensures named { OnOk result
+        ((p : the_dot) → named_by link.now ≡ Some p → IsSome (table rows.new p)) }
 {
     add_row(rows, dot)?;
     if let Some(above) = named(link) {
@@ -60,7 +72,8 @@ fn answer(
     requires forest { IsForest (table rows.now) }
     requires row { IsSome (table rows.now dot) }
     requires free { links_of (table rows.now) dot ≡ None }
-    ensures whole { IfOk result (λ ys. whole ≡ true → Gathers (links_of (table rows.now)) dot link.now ys.items) }
+    ensures whole { IfOk result
+        (λ ys. whole ≡ true → Gathers (links_of (table rows.now)) dot link.now ys.items) }
     ensures waits { IfOk result (λ ys. whole ≡ false → ys.items ≡ []) }
     ensures sorted { IfOk result (λ ys. IsSorted dot_cmp ys.items) }
 {

@@ -79,7 +79,15 @@ pub(crate) struct Row {
 }
 
 impl Row {
-    ghost use Rattle.tk_family.specs.Writes.{blank, with_code, with_dead, with_put, with_redeemer, with_rotator, with_marked};
+    ghost use Rattle.tk_family.specs.Writes.{
+      blank,
+      with_code,
+      with_dead,
+      with_put,
+      with_redeemer,
+      with_rotator,
+      with_marked,
+    };
 
     /// A row that says nothing but the link at its dot, if there is one.
     pub(crate) fn new(link: Option<Link>) -> Row

@@ -3,7 +3,19 @@
 ghost use Rattle.std.specs.Prelude.{◌≡◌, OnOk, OnErr, IsOk, IsSome, if◌then◌else◌, option_map};
 ghost use Rattle.tk_family.specs.Dots.{dot_eq};
 ghost use Rattle.tk_family.specs.Rows.{table};
-ghost use Rattle.tk_family.specs.Writes.{or_blank, with_code, with_dead, with_put, with_redeemer, with_rotator, with_marked, hung, settled, raised, buried};
+ghost use Rattle.tk_family.specs.Writes.{
+  or_blank,
+  with_code,
+  with_dead,
+  with_put,
+  with_redeemer,
+  with_rotator,
+  with_marked,
+  hung,
+  settled,
+  raised,
+  buried,
+};
 ghost use Rattle.tk_handle.specs.declared.dot.Dot.{Dot as the_dot};
 
 use crate::link::Link;
@@ -15,7 +27,9 @@ use tk_handle::{Dot, Kind};
 
 /// Makes a row that says nothing, where there is none.
 pub(crate) fn add_row(rows: &mut BTreeMap<Dot, Row>, at: Dot) -> Result<(), AllocError>
-    ensures ok { OnOk result ((q : the_dot) → table rows.new q ≡ (if dot_eq at q then or_blank (table rows.old q) else table rows.old q)) }
+    ensures ok { OnOk result
+        ((q : the_dot) → table rows.new q
+        ≡ (if dot_eq at q then or_blank (table rows.old q) else table rows.old q)) }
     ensures err { OnErr result ((q : the_dot) → table rows.new q ≡ table rows.old q) }
     ensures present { IsSome (table rows.old at) → IsOk result }
 {
@@ -28,7 +42,9 @@ pub(crate) fn add_row(rows: &mut BTreeMap<Dot, Row>, at: Dot) -> Result<(), Allo
 
 /// Writes a row in place of the one at a dot, if there is one.
 fn put_row(rows: &mut BTreeMap<Dot, Row>, at: Dot, row: Row)
-    ensures { (q : the_dot) → table rows.new q ≡ (if dot_eq at q then option_map (λ _. row) (table rows.old q) else table rows.old q) }
+    ensures { (q : the_dot)
+        → table rows.new q ≡
+        (if dot_eq at q then option_map (λ _. row) (table rows.old q) else table rows.old q) }
 {
     if let Some(slot) = rows.get_mut(&at) {
         *slot = row;
@@ -37,7 +53,9 @@ fn put_row(rows: &mut BTreeMap<Dot, Row>, at: Dot, row: Row)
 
 /// Writes the code that a dot is under.
 fn set_code(rows: &mut BTreeMap<Dot, Row>, at: Dot, code: Dot)
-    ensures { (q : the_dot) → table rows.new q ≡ (if dot_eq at q then with_code (table rows.old q) code else table rows.old q) }
+    ensures { (q : the_dot)
+        → table rows.new q ≡
+        (if dot_eq at q then with_code (table rows.old q) code else table rows.old q) }
 {
     if let Some(row) = rows.get(&at) {
         let changed = row.with_code(code);
@@ -47,7 +65,9 @@ fn set_code(rows: &mut BTreeMap<Dot, Row>, at: Dot, code: Dot)
 
 /// Writes a tombstone: the family of the code at a dot is dead.
 fn set_dead(rows: &mut BTreeMap<Dot, Row>, at: Dot)
-    ensures { (q : the_dot) → table rows.new q ≡ (if dot_eq at q then with_dead (table rows.old q) else table rows.old q) }
+    ensures { (q : the_dot)
+        → table rows.new q ≡
+        (if dot_eq at q then with_dead (table rows.old q) else table rows.old q) }
 {
     if let Some(row) = rows.get(&at) {
         let changed = row.with_dead();
@@ -57,7 +77,9 @@ fn set_dead(rows: &mut BTreeMap<Dot, Row>, at: Dot)
 
 /// Writes a link, and the dot after it among those that name the same dot.
 fn set_link(rows: &mut BTreeMap<Dot, Row>, at: Dot, link: &Link, next: Option<Dot>)
-    ensures { (q : the_dot) → table rows.new q ≡ (if dot_eq at q then with_put (table rows.old q) link.now next else table rows.old q) }
+    ensures { (q : the_dot)
+        → table rows.new q ≡
+        (if dot_eq at q then with_put (table rows.old q) link.now next else table rows.old q) }
 {
     if let Some(row) = rows.get(&at) {
         let changed = row.with_link(*link, next);
@@ -67,7 +89,9 @@ fn set_link(rows: &mut BTreeMap<Dot, Row>, at: Dot, link: &Link, next: Option<Do
 
 /// Writes that the link at a dot redeems the code at another.
 fn set_redeemer(rows: &mut BTreeMap<Dot, Row>, at: Dot, dot: Dot)
-    ensures { (q : the_dot) → table rows.new q ≡ (if dot_eq at q then with_redeemer (table rows.old q) dot else table rows.old q) }
+    ensures { (q : the_dot)
+        → table rows.new q ≡
+        (if dot_eq at q then with_redeemer (table rows.old q) dot else table rows.old q) }
 {
     if let Some(row) = rows.get(&at) {
         let changed = row.redeemed_by(dot);
@@ -77,7 +101,9 @@ fn set_redeemer(rows: &mut BTreeMap<Dot, Row>, at: Dot, dot: Dot)
 
 /// Writes that the link at a dot rotates the refresh token at another.
 fn set_rotator(rows: &mut BTreeMap<Dot, Row>, at: Dot, dot: Dot)
-    ensures { (q : the_dot) → table rows.new q ≡ (if dot_eq at q then with_rotator (table rows.old q) dot else table rows.old q) }
+    ensures { (q : the_dot)
+        → table rows.new q ≡
+        (if dot_eq at q then with_rotator (table rows.old q) dot else table rows.old q) }
 {
     if let Some(row) = rows.get(&at) {
         let changed = row.rotated_by(dot);
@@ -87,7 +113,9 @@ fn set_rotator(rows: &mut BTreeMap<Dot, Row>, at: Dot, dot: Dot)
 
 /// Writes that the token of a kind is marked.
 pub(crate) fn set_marked(rows: &mut BTreeMap<Dot, Row>, at: Dot, kind: Kind)
-    ensures { (q : the_dot) → table rows.new q ≡ (if dot_eq at q then with_marked (table rows.old q) kind else table rows.old q) }
+    ensures { (q : the_dot)
+        → table rows.new q ≡
+        (if dot_eq at q then with_marked (table rows.old q) kind else table rows.old q) }
 {
     if let Some(row) = rows.get(&at) {
         let changed = row.marked_as(kind);

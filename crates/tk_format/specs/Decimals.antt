@@ -2,7 +2,20 @@
 --   IsDecimalOf    the text is the decimal of a number that fits 64 bits
 --   IsNoDecimal    it is that of none
 --   decimal_in     the number whose decimal a text is
-use Rattle.std.specs.Prelude.{◌≡◌, ℕ, ◌^◌, ◌<◌, ◌&&◌, nat_lt, if◌then◌else◌, List, decimal, Option, Some, None}
+use Rattle.std.specs.Prelude.{
+  ◌≡◌,
+  ℕ,
+  ◌^◌,
+  ◌<◌,
+  ◌&&◌,
+  nat_lt,
+  if◌then◌else◌,
+  List,
+  decimal,
+  Option,
+  Some,
+  None,
+}
 use Rattle.std.specs.Str.{bytes_eq}
 use Rattle.std.specs.Str.Parse.{digits_value}
 

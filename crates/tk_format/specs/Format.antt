@@ -1,6 +1,29 @@
 -- Formats (own): which values have a spelling, which one, and what is read from the front of bytes.
 -- First the formats of numbers and bytes, then the ways to put formats together: `⊗`, `only`, `shaped`, `partly`, `counted`, `repeated`, `after`, `sized`, `coded`, `choice`, and `one_of` with a list of kinds.
-use Rattle.std.specs.Prelude.{◌≡◌, ℕ, zero, suc, ◌<◌, ◌^◌, Bool, true, List, [], ◌∷◌, ◌++◌, length, take, drop, Option, Some, None, nat_lt, nat_le, ◌==◌, if◌then◌else◌}
+use Rattle.std.specs.Prelude.{
+  ◌≡◌,
+  ℕ,
+  zero,
+  suc,
+  ◌<◌,
+  ◌^◌,
+  Bool,
+  true,
+  List,
+  [],
+  ◌∷◌,
+  ◌++◌,
+  length,
+  take,
+  drop,
+  Option,
+  Some,
+  None,
+  nat_lt,
+  nat_le,
+  ◌==◌,
+  if◌then◌else◌,
+}
 use Rattle.std.specs.Int.{Width, w16, byte_len, from_be_bytes, to_be_bytes}
 use Rattle.std.specs.List.{AllByRecursion, flat_map}
 use Rattle.std.specs.Str.{bytes_eq}
@@ -32,7 +55,11 @@ number_at w bytes =
 
 -- a number of a width, the high byte first
 abbrev pub number : Width → Format ℕ
-number w = record { spell = number_spelling w; Fits = λ n. n < 256 ^ byte_len w; read = number_at w }
+number w = record {
+  spell = number_spelling w;
+  Fits = λ n. n < 256 ^ byte_len w;
+  read = number_at w;
+}
 
 -- the byte at the front of bytes
 abbrev pub byte_at_front : List ℕ → Option (ℕ × List ℕ)
@@ -103,9 +130,11 @@ partly to of f = record {
 }
 
 -- that many values at the front of bytes
-unfoldable pub read_many : {A : Type 0} → (List ℕ → Option (A × List ℕ)) → ℕ → List ℕ → Option (List A × List ℕ)
+unfoldable pub read_many : {A : Type 0} → (List ℕ → Option (A × List ℕ)) → ℕ → List ℕ
+    → Option (List A × List ℕ)
 read_many read zero bytes = Some ([], bytes)
-read_many read (suc n) bytes = read bytes >>= λ a. read_many read n a.1 >>= λ others. Some (a.0 ∷ others.0, others.1)
+read_many read (suc n) bytes =
+    read bytes >>= λ a. read_many read n a.1 >>= λ others. Some (a.0 ∷ others.0, others.1)
 
 -- a count, and that many values
 abbrev pub counted : {A : Type 0} → Format ℕ → Format A → Format (List A)
@@ -128,7 +157,8 @@ abbrev pub after : {A : Type 0} → List ℕ → Format A → Format A
 after magic f = record {
   spell = λ a. magic ++ f.spell a;
   Fits = f.Fits;
-  read = λ bytes. (bytes_of (length magic)).read bytes >>= λ m. if bytes_eq m.0 magic then f.read m.1 else None;
+  read = λ bytes. (bytes_of (length magic)).read bytes >>= λ m. if bytes_eq m.0 magic
+      then f.read m.1 else None;
 }
 
 -- the value that all of the bytes spell
@@ -140,7 +170,8 @@ abbrev pub sized : {A : Type 0} → ℕ → Format A → Format A
 sized limit f = record {
   spell = λ a. text.spell (f.spell a);
   Fits = λ a. f.Fits a × (text.Fits (f.spell a) × (nat_le (length (f.spell a)) limit ≡ true));
-  read = λ bytes. (only (λ t. nat_le (length t) limit) text).read bytes >>= λ t. whole f t.0 >>= λ a. Some (a, t.1);
+  read = λ bytes. (only (λ t. nat_le (length t) limit) text).read bytes >>= λ t. whole f t.0
+      >>= λ a. Some (a, t.1);
 }
 
 -- one of a few values, as a byte
@@ -152,7 +183,8 @@ coded code of = record {
 }
 
 -- a byte that says which fields follow
-abbrev pub choice : {A : Type 0} → (A → ℕ) → (A → List ℕ) → (A → Type 0) → (ℕ → List ℕ → Option (A × List ℕ)) → Format A
+abbrev pub choice : {A : Type 0} → (A → ℕ) → (A → List ℕ) → (A → Type 0)
+    → (ℕ → List ℕ → Option (A × List ℕ)) → Format A
 choice tag fields Fits cases = record {
   spell = λ a. tag a ∷ fields a;
   Fits = Fits;
@@ -200,4 +232,8 @@ one and_then others = one others
 
 -- a value of one of these kinds: a byte for the kind, and its fields
 abbrev pub one_of : {B : Type 0} → Kinds B → Format B
-one_of kinds = record { spell = kinds.spell; Fits = kinds.Fits; read = λ bytes. byte.read bytes >>= λ t. kinds.read t.0 t.1 }
+one_of kinds = record {
+  spell = kinds.spell;
+  Fits = kinds.Fits;
+  read = λ bytes. byte.read bytes >>= λ t. kinds.read t.0 t.1;
+}

@@ -1,5 +1,22 @@
 -- Spellings are bytes (`number_bytes`, `IsBytes-append`), and how long they are (`number_length`, `text_short`, `both_short`).
-use Rattle.std.proofs.Common.{◌≡◌, ℕ, zero, suc, ◌+◌, ◌<◌, ◌≤◌, List, [], ◌∷◌, ◌++◌, length, refl, ap, arith, lit<}
+use Rattle.std.proofs.Common.{
+  ◌≡◌,
+  ℕ,
+  zero,
+  suc,
+  ◌+◌,
+  ◌<◌,
+  ◌≤◌,
+  List,
+  [],
+  ◌∷◌,
+  ◌++◌,
+  length,
+  refl,
+  ap,
+  arith,
+  lit<,
+}
 use Rattle.std.specs.Int.{Width, w16, byte_at, byte_len, bytes_high_first}
 use Rattle.std.proofs.lemmas.List.{length-append}
 use Rattle.tk_format.specs.Format.{number_spelling, text_spelling, text}
@@ -29,7 +46,8 @@ byte_below (suc k) n = omega arith
 -- the bytes of a number are bytes
 high_first_bytes : (k n : ℕ) → IsBytes (bytes_high_first k n)
 high_first_bytes zero n = IsBytes-nil
-high_first_bytes (suc k) n = IsBytes-cons (byte_at k n) (bytes_high_first k n) (byte_below k n) (high_first_bytes k n)
+high_first_bytes (suc k) n =
+    IsBytes-cons (byte_at k n) (bytes_high_first k n) (byte_below k n) (high_first_bytes k n)
 
 -- the spelling of a number is bytes
 pub number_bytes : (w : Width) (n : ℕ) → IsBytes (number_spelling w n)
@@ -55,4 +73,5 @@ both_short a b m n p q = omega (arith, length-append a b)
 -- the spelling of a text is at most two longer than the text
 pub text_short : (t : List ℕ) (n : ℕ) → length t ≤ n → length (text.spell t) ≤ 2 + n
 unfolding text_spelling
-text_short t n p = both_short (number_spelling w16 (length t)) t 2 n (omega (arith, number_length w16 (length t))) p
+text_short t n p = both_short (number_spelling w16 (length t)) t 2 n
+    (omega (arith, number_length w16 (length t))) p

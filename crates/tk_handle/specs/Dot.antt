@@ -23,11 +23,16 @@ dot_cmp a b = ordering_then (nat_cmp a.region b.region) (nat_cmp a.serial b.seri
 
 -- as a pair of numbers
 abbrev pub coded_dot : Coded Dot
-coded_dot = code_by (ℕ × ℕ) (coded× coded_ℕ coded_ℕ) (λ d. (d.region, d.serial)) (λ p. record { region = p.0; serial = p.1 }) (λ _. refl)
+coded_dot = code_by (ℕ × ℕ) (coded× coded_ℕ coded_ℕ) (λ d. (d.region, d.serial))
+    (λ p. record { region = p.0; serial = p.1 }) (λ _. refl)
 
 -- dots that compare alike are one
 pub dot_cmp-IsAntisymmetric : IsAntisymmetric dot_cmp
-dot_cmp-IsAntisymmetric a b h = ap (λ (p : ℕ × ℕ). record { region = p.0; serial = p.1 }) (exact_pairs nat_cmp nat_cmp exact_unsigned exact_unsigned (a.region, a.serial) (b.region, b.serial) h)
+dot_cmp-IsAntisymmetric a b h =
+    ap (λ (p : ℕ × ℕ). record { region = p.0; serial = p.1 })
+    (exact_pairs nat_cmp nat_cmp exact_unsigned exact_unsigned (a.region, a.serial)
+    (b.region, b.serial) h)
 
 pub dot_cmp_total : IsTotalOrder dot_cmp
-dot_cmp_total = then_total (on_total (λ d. d.region) nat_cmp_total) (on_total (λ d. d.serial) nat_cmp_total)
+dot_cmp_total = then_total (on_total (λ d. d.region) nat_cmp_total)
+    (on_total (λ d. d.serial) nat_cmp_total)

@@ -18,4 +18,5 @@ serial_field = only is_serial (number w64)
 
 -- the region's number, and the serial
 abbrev pub dot_field : Format Dot
-dot_field = shaped (λ p. record { region = p.0; serial = p.1 }) (λ d. (d.region, d.serial)) (region_field ⊗ serial_field)
+dot_field = shaped (λ p. record { region = p.0; serial = p.1 }) (λ d. (d.region, d.serial))
+    (region_field ⊗ serial_field)

@@ -6,7 +6,21 @@
 --   IsIdText      the text is a dot's id behind that letter; IsNoIdText, it is none's
 --   ReadsId       a reading gives the dot of an id, and nothing for any other text
 --   id_in         the dot whose id a text is
-use Rattle.std.specs.Prelude.{◌≡◌, ℕ, ◌&&◌, ◌==◌, if◌then◌else◌, List, [], ◌∷◌, ◌++◌, decimal, Option, Some, None}
+use Rattle.std.specs.Prelude.{
+  ◌≡◌,
+  ℕ,
+  ◌&&◌,
+  ◌==◌,
+  if◌then◌else◌,
+  List,
+  [],
+  ◌∷◌,
+  ◌++◌,
+  decimal,
+  Option,
+  Some,
+  None,
+}
 use Rattle.std.specs.List.{before_first, after_first}
 use Rattle.tk_format.specs.Decimals.{decimal_in}
 use Rattle.tk_handle.specs.declared.dot.Dot.{Dot}
@@ -64,11 +78,14 @@ ReadsId letter text None = IsNoIdText letter text
 abbrev pub dot_at : Option ℕ → Option ℕ → Option Dot
 dot_at None serial = None
 dot_at (Some r) None = None
-dot_at (Some r) (Some s) = if is_region r && is_serial s then Some (record { region = r; serial = s }) else None
+dot_at (Some r) (Some s) =
+    if is_region r && is_serial s then Some (record { region = r; serial = s }) else None
 
 -- the dot of the numbers before and after the first such byte
 abbrev pub parted_in : ℕ → List ℕ → Option Dot
-parted_in mark text = dot_at (decimal_in (before_first (λ b. b == mark) text)) (decimal_in (after_first (λ b. b == mark) text))
+parted_in mark text =
+    dot_at (decimal_in (before_first (λ b. b == mark) text))
+    (decimal_in (after_first (λ b. b == mark) text))
 
 -- the dot whose id behind the letter the text is
 abbrev pub id_in : ℕ → List ℕ → Option Dot

@@ -15,7 +15,11 @@ kind_number Refresh = 3
 
 -- the kind with that number
 abbrev pub kind_of : ℕ → Option Kind
-kind_of n = if n == 1 then Some Code else if n == 2 then Some Access else if n == 3 then Some Refresh else None
+kind_of n =
+    if n == 1 then Some Code
+    else if n == 2 then Some Access
+    else if n == 3 then Some Refresh
+    else None
 
 -- the number in a byte
 abbrev pub kind : Format Kind

@@ -11,7 +11,8 @@ use Rattle.tk_handle.specs.DotBytes.{dot_field}
 
 -- by dot, then by kind: codes, access tokens, refresh tokens
 abbrev pub token_cmp : TokenId → TokenId → Ordering
-token_cmp a b = ordering_then (dot_cmp a.dot b.dot) (nat_cmp (kind_number a.kind) (kind_number b.kind))
+token_cmp a b = ordering_then (dot_cmp a.dot b.dot)
+    (nat_cmp (kind_number a.kind) (kind_number b.kind))
 
 -- the dot, and the kind
 abbrev pub token : Format TokenId

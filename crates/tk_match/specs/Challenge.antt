@@ -4,7 +4,28 @@
 --   challenge_refusal   the first rule that a method and a text break
 --   challenge_of        the challenge, where they break none
 --   Meets               a verifier meets a challenge; is_met, the same as a test
-use Rattle.std.specs.Prelude.{◌≡◌, ℕ, Bool, true, false, ◌&&◌, ◌||◌, ◌==◌, not, nat_le, is_none, IsTrue, if◌then◌else◌, List, length, codes, bytes_eq, Option, None, Some}
+use Rattle.std.specs.Prelude.{
+  ◌≡◌,
+  ℕ,
+  Bool,
+  true,
+  false,
+  ◌&&◌,
+  ◌||◌,
+  ◌==◌,
+  not,
+  nat_le,
+  is_none,
+  IsTrue,
+  if◌then◌else◌,
+  List,
+  length,
+  codes,
+  bytes_eq,
+  Option,
+  None,
+  Some,
+}
 use Rattle.std.specs.Char.{is_ascii_alphanumeric}
 use Rattle.std.specs.List.{list_all}
 use Rattle.base64.specs.Engines.{url_safe_no_pad}
@@ -33,7 +54,8 @@ most_verifier_bytes = 128
 -- so many such bytes: a verifier (RFC 7636, 4.1), and a challenge too (4.2)
 abbrev pub is_verifier : List ℕ → Bool
 is_verifier text =
-    nat_le fewest_verifier_bytes (length text) && nat_le (length text) most_verifier_bytes && list_all is_unreserved text
+    nat_le fewest_verifier_bytes (length text) && nat_le (length text) most_verifier_bytes
+    && list_all is_unreserved text
 
 -- a method's name, byte for byte (RFC 7636, 4.3)
 abbrev pub is_method : List ℕ → Bool

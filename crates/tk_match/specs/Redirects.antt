@@ -4,7 +4,27 @@
 --   redirects_of           the list, where it breaks none
 --   ReadsAsUrl, Refuses    what the URL Standard says of a text, as the crate `url` defines it
 --   registration_refusal   the first rule that a list breaks where its URIs are read too
-use Rattle.std.specs.Prelude.{◌≡◌, ℕ, Bool, ◌&&◌, ◌==◌, not, nat_lt, nat_le, is_none, is_some, is_ok, if◌then◌else◌, List, length, Option, None, Some, Ok, Err}
+use Rattle.std.specs.Prelude.{
+  ◌≡◌,
+  ℕ,
+  Bool,
+  ◌&&◌,
+  ◌==◌,
+  not,
+  nat_lt,
+  nat_le,
+  is_none,
+  is_some,
+  is_ok,
+  if◌then◌else◌,
+  List,
+  length,
+  Option,
+  None,
+  Some,
+  Ok,
+  Err,
+}
 use Rattle.std.specs.List.{list_all}
 use Rattle.url.specs.Parser.{parse_url, IsOutOfRoom}
 use Rattle.url.specs.Parts.{Parts}

@@ -44,7 +44,15 @@ impl From<AllocError> for ChallengeError {
 
 ghost use Rattle.std.specs.Prelude.{◌≡◌, ◌↔◌, IfOk, IsErrOf, IsTrue, Some, None, true};
 ghost use Rattle.std.specs.List.{list_all};
-ghost use Rattle.tk_match.specs.Challenge.{is_unreserved, is_verifier, challenge_refusal, challenge_of, challenge_text, Meets, is_met};
+ghost use Rattle.tk_match.specs.Challenge.{
+  is_unreserved,
+  is_verifier,
+  challenge_refusal,
+  challenge_of,
+  challenge_text,
+  Meets,
+  is_met,
+};
 
 use base64::engine::general_purpose::URL_SAFE_NO_PAD;
 use sha2::{Digest, Sha256};
@@ -69,8 +77,10 @@ impl Challenge {
             → challenge_refusal method.now text.now ≡ Some ChallengeError.Grammar }
 
         // The same in the words of `challenge_of`, for a format of challenges.
-        ensures method_none { IsErrOf result ChallengeError.Method → challenge_of method.now text.now ≡ None }
-        ensures grammar_none { IsErrOf result ChallengeError.Grammar → challenge_of method.now text.now ≡ None }
+        ensures method_none { IsErrOf result ChallengeError.Method
+            → challenge_of method.now text.now ≡ None }
+        ensures grammar_none { IsErrOf result ChallengeError.Grammar
+            → challenge_of method.now text.now ≡ None }
     {
         let is_s256 = method == b"S256".as_slice();
         if !is_s256 && method != b"plain".as_slice() {

@@ -46,12 +46,39 @@ impl From<AllocError> for RedirectError {
     }
 }
 
-ghost use Rattle.std.specs.Prelude.{◌≡◌, ◌↔◌, ◌⊎◌, ◌++◌, ◌∷◌, [], All, Any, IfOk, IfErr, OnOk, IsErrOf, IsTrue, None, Some, true, false, map};
+ghost use Rattle.std.specs.Prelude.{
+  ◌≡◌,
+  ◌↔◌,
+  ◌⊎◌,
+  ◌++◌,
+  ◌∷◌,
+  [],
+  All,
+  Any,
+  IfOk,
+  IfErr,
+  OnOk,
+  IsErrOf,
+  IsTrue,
+  None,
+  Some,
+  true,
+  false,
+  map,
+};
 ghost use Rattle.std.specs.List.{list_all};
 ghost use Rattle.std.specs.Option.{option_copied};
 ghost use Rattle.std.specs.Str.{IsUtf8};
 ghost use Rattle.tk_match.specs.Pick.{picked, shown_pick, IfUri};
-ghost use Rattle.tk_match.specs.Redirects.{is_uri, redirects_refusal, redirects_of, registration_refusal, is_absolute, ReadsAsUrl, Refuses};
+ghost use Rattle.tk_match.specs.Redirects.{
+  is_uri,
+  redirects_refusal,
+  redirects_of,
+  registration_refusal,
+  is_absolute,
+  ReadsAsUrl,
+  Refuses,
+};
 
 use crate::pick::{Pick, only_uri, registered_uri};
 use std::alloc::{AllocError, Global};
@@ -97,9 +124,12 @@ impl Redirects {
             → redirects_refusal (map (λ x. x.now) uris.now) ≡ Some RedirectError.Bad }
 
         // The same in the words of `redirects_of`, for a format of such lists.
-        ensures empty_none { IsErrOf result RedirectError.Empty → redirects_of (map (λ x. x.now) uris.now) ≡ None }
-        ensures too_many_none { IsErrOf result RedirectError.TooMany → redirects_of (map (λ x. x.now) uris.now) ≡ None }
-        ensures bad_none { IsErrOf result RedirectError.Bad → redirects_of (map (λ x. x.now) uris.now) ≡ None }
+        ensures empty_none { IsErrOf result RedirectError.Empty
+            → redirects_of (map (λ x. x.now) uris.now) ≡ None }
+        ensures too_many_none { IsErrOf result RedirectError.TooMany
+            → redirects_of (map (λ x. x.now) uris.now) ≡ None }
+        ensures bad_none { IsErrOf result RedirectError.Bad
+            → redirects_of (map (λ x. x.now) uris.now) ≡ None }
     {
         if uris.is_empty() {
             return Err(RedirectError::Empty);
@@ -157,7 +187,8 @@ fn read_each(alloc: Global, texts: &[&[u8]]) -> Result<Vec<Uri>, RedirectError>
     ensures ok { IfOk result (λ uris. uris.items ≡ map (λ x. x.now) texts.now) }
     ensures rule { OnOk result (list_all is_uri (map (λ x. x.now) texts.now) ≡ true) }
     ensures err { IfErr result (λ e. (e ≡ RedirectError.Bad) ⊎ (e ≡ RedirectError.Memory)) }
-    ensures bad { IsErrOf result RedirectError.Bad → list_all is_uri (map (λ x. x.now) texts.now) ≡ false }
+    ensures bad { IsErrOf result RedirectError.Bad
+        → list_all is_uri (map (λ x. x.now) texts.now) ≡ false }
 {
     let mut uris = Vec::with_capacity(alloc, texts.len())?;
     for text in texts {

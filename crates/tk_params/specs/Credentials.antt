@@ -2,7 +2,18 @@
 --   CredentialsFields   an id and a secret, either of which may be absent
 --   Presented           credentials; or some in two places; or a header that isn't readable
 --   presented_in        what a header and parameters present
-use Rattle.std.specs.Prelude.{ℕ, List, length, codes, Option, Some, None, is_some, if◌then◌else◌, ◌==◌}
+use Rattle.std.specs.Prelude.{
+  ℕ,
+  List,
+  length,
+  codes,
+  Option,
+  Some,
+  None,
+  is_some,
+  if◌then◌else◌,
+  ◌==◌,
+}
 use Rattle.std.specs.Str.{bytes_eq}
 use Rattle.tk_params.specs.Basic.{basic_of}
 use Rattle.tk_params.specs.Params.{Pairs, value_of}
@@ -39,7 +50,10 @@ by_basic (Some basic) id = beside_body basic id
 -- those of the body
 abbrev pub of_body : Pairs → CredentialsFields
 of_body params =
-    record { id = value_of (codes "client_id") params; secret = value_of (codes "client_secret") params }
+    record {
+      id = value_of (codes "client_id") params;
+      secret = value_of (codes "client_secret") params;
+    }
 
 -- the body's without a header; with one, no secret in the body, and the header's: one method a request (RFC 6749, 2.3)
 abbrev pub presented_in : Option (List ℕ) → Pairs → Presented

@@ -6,7 +6,22 @@
 --   value_of      the value under a name that occurs once
 --   is_twice      a name occurs twice or more; has_twice, one of several names does
 --   owned_texts   the bytes of pairs of texts
-use Rattle.std.specs.Prelude.{ℕ, Bool, nat_le, List, [], ◌∷◌, length, map, filter, Option, Some, None, String, string_bytes}
+use Rattle.std.specs.Prelude.{
+  ℕ,
+  Bool,
+  nat_le,
+  List,
+  [],
+  ◌∷◌,
+  length,
+  map,
+  filter,
+  Option,
+  Some,
+  None,
+  String,
+  string_bytes,
+}
 use Rattle.std.specs.declared.alloc.Global.{Global}
 use Rattle.std.specs.List.{list_any}
 use Rattle.std.specs.Str.{bytes_eq}

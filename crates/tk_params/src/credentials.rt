@@ -18,7 +18,10 @@ impl<'a> Model for Credentials<'a> {
 
     ghost Value = { CredentialsFields };
 
-    ghost view = { λ c. record { id = option_map cow_str_bytes c.id; secret = option_map cow_str_bytes c.secret } };
+    ghost view = { λ c. record {
+      id = option_map cow_str_bytes c.id;
+      secret = option_map cow_str_bytes c.secret;
+    } };
 }
 
 /// Why a request presents no credentials. Two secrets come first, then an unreadable header, then two ids; `Memory` may come
@@ -63,7 +66,8 @@ impl<'a> Credentials<'a> {
         header: Option<&[u8]>,
         params: &'a Params,
     ) -> Result<Credentials<'a>, CredentialsError>
-        ensures ok { IfOk result (λ c. spec.presented_in (option_copied header.entry) params.now ≡ spec.Presents c) }
+        ensures ok { IfOk result
+            (λ c. spec.presented_in (option_copied header.entry) params.now ≡ spec.Presents c) }
         ensures both { IsErrOf result CredentialsError.Both
             → spec.presented_in (option_copied header.entry) params.now ≡ spec.Mixed }
         ensures basic { IsErrOf result CredentialsError.Basic
@@ -125,8 +129,10 @@ fn of_header<'a>(
     header: &[u8],
     params: &Params,
 ) -> Result<Credentials<'a>, CredentialsError>
-    ensures ok { IfOk result (λ c. spec.presented_in (Some header.now) params.now ≡ spec.Presents c) }
-    ensures both { IsErrOf result CredentialsError.Both → spec.presented_in (Some header.now) params.now ≡ spec.Mixed }
+    ensures ok { IfOk result
+        (λ c. spec.presented_in (Some header.now) params.now ≡ spec.Presents c) }
+    ensures both { IsErrOf result CredentialsError.Both
+        → spec.presented_in (Some header.now) params.now ≡ spec.Mixed }
     ensures basic { IsErrOf result CredentialsError.Basic
         → spec.presented_in (Some header.now) params.now ≡ spec.Unreadable }
 {
@@ -140,8 +146,10 @@ fn of_header<'a>(
 }
 
 fn beside_body<'a>(basic: Basic, id: Option<&str>) -> Result<Credentials<'a>, CredentialsError>
-    ensures ok { IfOk result (λ c. spec.beside_body basic (option_copied id.entry) ≡ spec.Presents c) }
-    ensures both { IsErrOf result CredentialsError.Both → spec.beside_body basic (option_copied id.entry) ≡ spec.Mixed }
+    ensures ok { IfOk result
+        (λ c. spec.beside_body basic (option_copied id.entry) ≡ spec.Presents c) }
+    ensures both { IsErrOf result CredentialsError.Both
+        → spec.beside_body basic (option_copied id.entry) ≡ spec.Mixed }
     ensures basic { IsErrOf result CredentialsError.Basic
         → spec.beside_body basic (option_copied id.entry) ≡ spec.Unreadable }
 {

@@ -1,5 +1,25 @@
 -- A scope (RFC 6749, 3.3): which texts are one, the rule that another breaks, and the printed form, for which a scope stands.
-use Rattle.std.specs.Prelude.{ℕ, Bool, ◌&&◌, ◌||◌, ◌==◌, not, nat_le, nat_lt, List, [], ◌∷◌, length, All, Contains, Option, Some, None, is_some, if◌then◌else◌}
+use Rattle.std.specs.Prelude.{
+  ℕ,
+  Bool,
+  ◌&&◌,
+  ◌||◌,
+  ◌==◌,
+  not,
+  nat_le,
+  nat_lt,
+  List,
+  [],
+  ◌∷◌,
+  length,
+  All,
+  Contains,
+  Option,
+  Some,
+  None,
+  is_some,
+  if◌then◌else◌,
+}
 use Rattle.std.specs.Cmp.Lexicographic.{slice_cmp}
 use Rattle.std.specs.List.{join_with_byte, list_all, list_any, slice_split}
 use Rattle.std.specs.Ordering.{is_lt, nat_cmp}
@@ -9,7 +29,8 @@ use Rattle.tk_scope.specs.declared.error.ScopeError.TheVariants.{TooLong, Gramma
 
 -- %x21 / %x23-5B / %x5D-7E (RFC 6749, 3.3)
 abbrev pub is_scope_byte : ℕ → Bool
-is_scope_byte b = (b == 0x21) || (nat_le 0x23 b && nat_le b 0x5B) || (nat_le 0x5D b && nat_le b 0x7E)
+is_scope_byte b = (b == 0x21) || (nat_le 0x23 b && nat_le b 0x5B)
+    || (nat_le 0x5D b && nat_le b 0x7E)
 
 -- scope-token: one or more of these bytes (RFC 6749, 3.3)
 abbrev pub is_token : List ℕ → Bool

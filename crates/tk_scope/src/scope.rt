@@ -20,11 +20,31 @@ impl Model for Scope {
     ghost invariant = { λ s. scope_of (string_bytes s.text) ≡ Some (string_bytes s.text) };
 }
 
-ghost use Rattle.std.specs.Prelude.{◌≡◌, ◌≤◌, ◌↔◌, ◌⊎◌, length, IfOk, IfErr, IsErrOf, IsTrue, None, Some};
+ghost use Rattle.std.specs.Prelude.{
+  ◌≡◌,
+  ◌≤◌,
+  ◌↔◌,
+  ◌⊎◌,
+  length,
+  IfOk,
+  IfErr,
+  IsErrOf,
+  IsTrue,
+  None,
+  Some,
+};
 ghost use Rattle.std.specs.Cmp.Lexicographic.{slice_cmp};
 ghost use Rattle.std.specs.List.Sorted.{IsStrictlySortedBy};
 ghost use Rattle.std.specs.Ordering.{nat_cmp};
-ghost use Rattle.tk_scope.specs.Scope.{greatest_length, scope_of, scope_refusal, HasSameTokens, IsWithin, is_within, tokens_of};
+ghost use Rattle.tk_scope.specs.Scope.{
+  greatest_length,
+  scope_of,
+  scope_refusal,
+  HasSameTokens,
+  IsWithin,
+  is_within,
+  tokens_of,
+};
 
 use crate::ScopeError;
 use crate::grammar::is_list_of_tokens;
@@ -45,7 +65,8 @@ impl Scope {
     pub fn read(alloc: Global, text: &[u8]) -> Result<Scope, ScopeError>
         ensures ok { IfOk result (λ scope. scope_of text.now ≡ Some scope) }
         ensures members { IfOk result (λ scope. HasSameTokens text.now scope) }
-        ensures refused { IfErr result (λ e. (e ≡ ScopeError.Memory) ⊎ (scope_refusal text.now ≡ Some e)) }
+        ensures refused { IfErr result
+            (λ e. (e ≡ ScopeError.Memory) ⊎ (scope_refusal text.now ≡ Some e)) }
 
         // A text that is refused for another cause than memory is no scope.
         ensures too_long { IsErrOf result ScopeError.TooLong → scope_of text.now ≡ None }

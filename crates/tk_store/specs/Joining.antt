@@ -18,7 +18,8 @@ pub record JoinsFacts (old : FactSet) (fs : Facts) (new : FactSet) : Type 0 wher
   -- the facts are in
   pub held : AllIn new fs
   -- nothing else is
-  pub only : (d : Dot) (b : Body) → map.get new d ≡ Some b → (map.get old d ≡ Some b) ⊎ Contains fs (d, b)
+  pub only : (d : Dot) (b : Body) → map.get new d ≡ Some b
+      → (map.get old d ≡ Some b) ⊎ Contains fs (d, b)
   -- the sets that are joined agree
   pub agree : Agree old (set_of fs)
   -- and the new set is their join

@@ -3,7 +3,23 @@
 --   last_dot          where the next page goes on
 --   TookPages         a set holds the pages that were made for a vector, one after another, until no more followed
 --   PagingCompletes   then it holds all that the sender held when the first page was made
-use Rattle.std.specs.Prelude.{◌≡◌, ℕ, ◌-◌, ◌<◌, ◌≤◌, List, [], ◌∷◌, length, map, take, slice_get, Option, Some, None}
+use Rattle.std.specs.Prelude.{
+  ◌≡◌,
+  ℕ,
+  ◌-◌,
+  ◌<◌,
+  ◌≤◌,
+  List,
+  [],
+  ◌∷◌,
+  length,
+  map,
+  take,
+  slice_get,
+  Option,
+  Some,
+  None,
+}
 use Rattle.std.specs.FinMap as sets
 use Rattle.tk_handle.specs.declared.dot.Dot.{Dot}
 use Rattle.tk_fact.specs.declared.body.Body.{Body}
@@ -22,16 +38,20 @@ last_dot fs = slice_get (map dot_of fs) (length fs - 1)
 -- R holds the page that a sender of the set F makes at the place; and no more follow, or more follow, and the same is
 -- true of the next page, made at the last page's last dot by a sender whose set has grown to G
 abbrev pub TookPages : ℕ → Vector → FactSet → Option Dot → FactSet → List FactSet → Type 0
-TookPages limit v R after F [] = AllIn R (page limit F v after) × (length (beyond F v after) ≤ limit)
+TookPages limit v R after F [] =
+    AllIn R (page limit F v after) × (length (beyond F v after) ≤ limit)
 TookPages limit v R after F (G ∷ later) =
-    AllIn R (page limit F v after) × (limit < length (beyond F v after)) × IsSubset F G × TookPages limit v R (last_dot (page limit F v after)) G later
+    AllIn R (page limit F v after) × (limit < length (beyond F v after)) × IsSubset F G
+    × TookPages limit v R (last_dot (page limit F v after)) G later
 
 -- R holds all of F that the vector covers
 abbrev pub HoldsCovered : Vector → FactSet → FactSet → Type 0
-HoldsCovered v F R = (d : Dot) (b : Body) → sets.get F d ≡ Some b → Covers v d → sets.get R d ≡ Some b
+HoldsCovered v F R =
+    (d : Dot) (b : Body) → sets.get F d ≡ Some b → Covers v d → sets.get R d ≡ Some b
 
 -- a receiver that holds all that the vector covers, and all pages made for it until no more follow, holds all that the
 -- sender held when the first page was made
 abbrev pub PagingCompletes : Type 0
 PagingCompletes =
-    (limit : ℕ) (v : Vector) (F R : FactSet) (later : List FactSet) → 0 < limit → HoldsCovered v F R → TookPages limit v R None F later → IsSubset F R
+    (limit : ℕ) (v : Vector) (F R : FactSet) (later : List FactSet) → 0 < limit → HoldsCovered v F R
+    → TookPages limit v R None F later → IsSubset F R

@@ -3,7 +3,23 @@
 --   SeeksAt   what is left after a step to a place
 --   Seeks     what a step does, if there is one
 --   noted     the dots found, with that of a step
-use Rattle.std.specs.Prelude.{◌≡◌, ◌<◌, ◌≤◌, Bool, true, false, List, [], ◌∷◌, ◌++◌, length, map, Option, Some, None}
+use Rattle.std.specs.Prelude.{
+  ◌≡◌,
+  ◌<◌,
+  ◌≤◌,
+  Bool,
+  true,
+  false,
+  List,
+  [],
+  ◌∷◌,
+  ◌++◌,
+  length,
+  map,
+  Option,
+  Some,
+  None,
+}
 use Rattle.tk_handle.specs.declared.dot.Dot.{Dot}
 use Rattle.tk_vector.specs.VersionVector.{Vector, entry}
 use Rattle.tk_store.specs.declared.since.Step.{Step}
@@ -15,7 +31,8 @@ use Rattle.tk_store.specs.Walk.{above}
 -- last dot of the region that it covers
 abbrev pub GoesOn : Vector → Dot → Dot → Bool → Type 0
 GoesOn v d at true = (at ≡ d) × (entry v d.region < d.serial)
-GoesOn v d at false = (at ≡ record { region = d.region; serial = entry v d.region }) × (d.serial ≤ entry v d.region)
+GoesOn v d at false =
+    (at ≡ record { region = d.region; serial = entry v d.region }) × (d.serial ≤ entry v d.region)
 
 -- a step takes the first dot that isn't covered, or none, from what is left; and fewer facts are to come
 abbrev pub SeeksAt : FactSet → Vector → Option Dot → Dot → Bool → Type 0
@@ -24,7 +41,9 @@ SeeksAt F v after at false = map dot_of (beyond F v after) ≡ map dot_of (beyon
 
 -- a step, or none where nothing is left
 abbrev pub Seeks : FactSet → Vector → Option Dot → Option Step → Type 0
-Seeks F v after (Some step) = SeeksAt F v after step.at step.is_beyond × (length (above F (Some step.at)) < length (above F after))
+Seeks F v after (Some step) =
+    SeeksAt F v after step.at step.is_beyond
+    × (length (above F (Some step.at)) < length (above F after))
 Seeks F v after None = map dot_of (beyond F v after) ≡ []
 
 -- the dots found, with that of the step where it isn't covered

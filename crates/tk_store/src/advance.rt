@@ -15,7 +15,8 @@ fn run_end(table: &Table, dot: Dot) -> u64
     requires { IsSome (sets.get table.now dot) }
     ensures from { dot.serial ≤ result }
     ensures high { result ≤ greatest_serial }
-    ensures held { (k : ℕ) → dot.serial ≤ k → k ≤ result → IsSome (sets.get table.now (dot_at dot.region k)) }
+    ensures held { (k : ℕ) → dot.serial ≤ k → k ≤ result
+        → IsSome (sets.get table.now (dot_at dot.region k)) }
     ensures next { sets.get table.now (dot_at dot.region (result + 1)) ≡ None }
 {
     table.known();

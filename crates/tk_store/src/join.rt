@@ -15,7 +15,8 @@ use tk_vector::{Join, JoinError};
 impl FactStore {
     // Whether no other body stands at the fact's dot.
     fn fits(&self, fact: &Fact) -> bool
-        ensures { IsTrue result ↔ ((b : the_body) → map.get self.now fact.now.0 ≡ Some b → b ≡ fact.now.1) }
+        ensures { IsTrue result ↔
+            ((b : the_body) → map.get self.now fact.now.0 ≡ Some b → b ≡ fact.now.1) }
     {
         match self.get(fact.dot) {
             Some(held) => held.body.same(&fact.body),

@@ -67,7 +67,8 @@ fn gather(
     dots: &mut Vec<Dot>,
 ) -> Result<(), AllocError>
     requires { dots.old.items ≡ [] }
-    ensures { OnOk result (dots.new.items ≡ take limit (map dot_of (beyond table.now vector.now after))) }
+    ensures { OnOk result
+        (dots.new.items ≡ take limit (map dot_of (beyond table.now vector.now after))) }
 {
     let mut place = after;
     'pages: while dots.len() < limit {
@@ -88,7 +89,8 @@ pub(crate) fn dots_beyond(
     after: Option<Dot>,
     limit: usize,
 ) -> Result<Vec<Dot>, AllocError>
-    ensures { IfOk result (λ dots. dots.items ≡ take limit (map dot_of (beyond table.now vector.now after))) }
+    ensures { IfOk result
+        (λ dots. dots.items ≡ take limit (map dot_of (beyond table.now vector.now after))) }
 {
     let mut dots = Vec::new(alloc);
     gather(table, vector, after, limit, &mut dots)?;

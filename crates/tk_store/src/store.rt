@@ -112,7 +112,8 @@ impl FactStore {
     /// Takes the fact at the dot out and hands it back, which takes no memory. None where there is none, and then
     /// nothing changes. It undoes an addition.
     pub fn take_back(&mut self, dot: Dot) -> Option<Fact>
-        ensures fact { result ≡ option_map (λ body. (dot, body)) (sets.get (facts_of self.old) dot) }
+        ensures fact { result
+            ≡ option_map (λ body. (dot, body)) (sets.get (facts_of self.old) dot) }
         ensures rest { self.new ≡ sets.remove self.old dot }
     {
         self.front.lower(dot.region(), dot.serial() - 1);
@@ -121,7 +122,8 @@ impl FactStore {
 
     /// The fact at the dot.
     pub fn get(&self, dot: Dot) -> Option<&Fact>
-        ensures { option_copied result ≡ option_map (λ body. (dot, body)) (sets.get (facts_of self.now) dot) }
+        ensures { option_copied result
+            ≡ option_map (λ body. (dot, body)) (sets.get (facts_of self.now) dot) }
     {
         self.facts.get(dot)
     }
@@ -166,14 +168,17 @@ impl FactStore {
         after: Option<Dot>,
         limit: usize,
     ) -> Result<Vec<Dot>, AllocError>
-        ensures { IfOk result (λ dots. dots.items ≡ take limit (map dot_of (beyond (known_in self.now) vector.now after))) }
+        ensures { IfOk result
+            (λ dots. dots.items ≡ take limit
+            (map dot_of (beyond (known_in self.now) vector.now after))) }
     {
         dots_beyond(alloc, &self.facts, vector, after, limit)
     }
 
     /// Where the region's next fact stands: 1 past its greatest serial. None where that is the greatest of all.
     pub fn next_dot(&self, region: RegionNumber) -> Option<Dot>
-        ensures { SomeIff result (next_serial (known_in self.now) region ≤ greatest_serial) (next_dot (known_in self.now) region) }
+        ensures { SomeIff result (next_serial (known_in self.now) region ≤ greatest_serial)
+            (next_dot (known_in self.now) region) }
     {
         Dot::new(region, self.facts.last_serial(region) + 1)
     }

@@ -19,7 +19,8 @@ Below v w = (region : ℕ) → AtMost (map.get v region) (map.get w region)
 
 -- each of the first i entries is at most the vector's
 abbrev pub AllAtMost : List (ℕ × ℕ) → ℕ → Vector → Type 0
-AllAtMost es i w = (k : ℕ) (d : ℕ × ℕ) → k < i → AtMost (Some (slice_index_or es k d).1) (map.get w (slice_index_or es k d).0)
+AllAtMost es i w = (k : ℕ) (d : ℕ × ℕ) → k < i
+    → AtMost (Some (slice_index_or es k d).1) (map.get w (slice_index_or es k d).0)
 
 -- w, which was v, is at least each of the first i entries, and below all that is above v and the entries
 pub record RaisedBy (v : Vector) (es : List (ℕ × ℕ)) (w : Vector) (i : ℕ) : Type 0 where

@@ -36,7 +36,8 @@ impl VersionVector {
     /// The vector that the bytes spell, all of the bytes.
     pub fn read(alloc: Global, bytes: &[u8]) -> Result<VersionVector, ReadError>
         ensures found { IfOk result (λ v. vector.Fits v × (bytes.now ≡ vector_bytes v)) }
-        ensures malformed { IsErrOf result ReadError.Malformed → (v : Vector) → vector.Fits v → bytes.now ≢ vector_bytes v }
+        ensures malformed { IsErrOf result ReadError.Malformed → (v : Vector) → vector.Fits v
+            → bytes.now ≢ vector_bytes v }
 
         // The same, as what the format reads.
         ensures exact { GetsAll (λ v. v) vector result bytes.now }
@@ -60,7 +61,8 @@ fn count_of(entries: &[(RegionNumber, Serial)]) -> u16
 }
 
 fn write_entries(entries: &[(RegionNumber, Serial)], writer: &mut Writer) -> Result<(), AllocError>
-    ensures written { OnOk result (writer.new ≡ writer.old ++ flat_map entry_field.spell entries.now) }
+    ensures written { OnOk result
+        (writer.new ≡ writer.old ++ flat_map entry_field.spell entries.now) }
     ensures fits { OnOk result (AllByRecursion entry_field.Fits entries.now) }
 {
     for entry in entries {

@@ -30,7 +30,9 @@ pub trait Join {
     fn join_from(&mut self, other: &Self) -> Result<(), JoinError>
         ensures ok { OnOk result (IsJoin within self.old other.now self.new) }
         ensures agrees { OnOk result (agree self.old other.now) }
-        ensures apart { result ≡ Err error.Apart → (agree self.old other.now → ⊥) × (self.new ≡ self.old) }
-        ensures memory { result ≡ Err error.Memory → agree self.old other.now × within self.old self.new
+        ensures apart { result ≡ Err error.Apart
+            → (agree self.old other.now → ⊥) × (self.new ≡ self.old) }
+        ensures memory { result ≡ Err error.Memory
+            → agree self.old other.now × within self.old self.new
             × ((c : Self) → within self.old c → within other.now c → within self.new c) };
 }

@@ -25,7 +25,20 @@ impl Model for VersionVector {
     ghost invariant = { λ v. T (map.is_sorted nat_cmp v.entries.items) };
 }
 
-ghost use Rattle.std.specs.Prelude.{◌≡◌, ℕ, ◌≤◌, ◌↔◌, T, IsTrue, length, ⊤, IfOk, OnOk, OnErr, MatchResult};
+ghost use Rattle.std.specs.Prelude.{
+  ◌≡◌,
+  ℕ,
+  ◌≤◌,
+  ◌↔◌,
+  T,
+  IsTrue,
+  length,
+  ⊤,
+  IfOk,
+  OnOk,
+  OnErr,
+  MatchResult,
+};
 ghost use Rattle.std.specs.Ordering.{nat_cmp};
 ghost use Rattle.std.specs.FinMap as map;
 ghost use Rattle.tk_handle.specs.Ranges.{greatest_serial};
@@ -132,7 +145,8 @@ impl VersionVector {
 // Where the region's entry stands, or where it would go.
 fn place(entries: &[(RegionNumber, Serial)], region: RegionNumber) -> Result<usize, usize>
     requires { T (map.is_sorted nat_cmp entries.now) }
-    ensures { MatchResult result (IsAt nat_cmp entries.now region) (IsGap nat_cmp entries.now region) }
+    ensures { MatchResult result (IsAt nat_cmp entries.now region)
+        (IsGap nat_cmp entries.now region) }
 {
     entries.binary_search_by_key(&region, |&(region, _)| region)
 }
