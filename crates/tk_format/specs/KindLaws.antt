@@ -1,4 +1,5 @@
--- The law of values of several kinds: what is read as one of the kinds is spelled so, and what is spelled so is read. A list of kinds has a list of laws, `kind_exact .. and_then .. and_then no_kind_exact`.
+-- The law of values of several kinds. The format of a list of kinds has a law built from a list of
+-- laws: `kind_exact .. and_then .. and_then no_kind_exact`.
 use Rattle.std.proofs.Common.{
   ◌≡◌,
   ℕ,
@@ -25,7 +26,7 @@ use Rattle.tk_format.specs.Format.{Format, via, Kinds, no_kind, spelled_by, Fits
 use Rattle.tk_format.specs.Exact.{done, none_of, IsBytes, IsExact, Takes, some_is}
 use Rattle.tk_format.specs.Laws.{IsBytes-rest, via_takes, via_again, case_takes}
 
--- no value has a spelling
+-- the law of the empty list of kinds, in which no value has a spelling
 pub no_kind_exact : {B : Type 0} → IsExact (one_of (no_kind {B = B}))
 no_kind_exact {B} = record {
   takes = λ bytes x fits e. absurd (nothing_read bytes x e);
@@ -37,7 +38,8 @@ no_kind_exact {B} = record {
     nothing_read [] x e = cc
     nothing_read (t ∷ bytes) x e = cc
 
--- what is asked of a kind and those after it: `of` gives what the constructor took, no other kind has its number, and none has its values
+-- what a kind in front of the others owes: `of` gives the fields that the constructor took, no
+-- other kind has its byte, and the others spell none of its values
 pub record IsKind {A B : Type 0} (k : ℕ) (into : A → B) (of : B → Option A)
     (others : Kinds B) : Type 0 where
   pub made : (a : A) → of (into a) ≡ Some a
@@ -45,7 +47,7 @@ pub record IsKind {A B : Type 0} (k : ℕ) (into : A → B) (of : B → Option A
   pub apart : (a : A) → others.Fits (into a) → ⊥
   pub once : (bytes : List ℕ) → others.read k bytes ≡ None
 
--- what is read as one of these kinds is spelled so
+-- a value that is read as one of these kinds is spelled by the bytes taken
 kind_takes : {A B : Type 0} (k : ℕ) (into : A → B) (of : B → Option A) (f : Format A)
     (others : Kinds B) → IsExact f → IsKind k into of others → IsExact (one_of others)
     → (bytes : List ℕ) (x : B × List ℕ) → IsBytes bytes
@@ -80,7 +82,7 @@ kind_takes {A} {B} k into of f others p is q (t ∷ bytes) x fits e =
     later x None has h = h
     later x (Some a) has h = absurd (is.apart a (subst others.Fits (sym (is.back x.0 a has)) h.1))
 
--- what is spelled as one of these kinds is read so
+-- the spelling of a value of one of these kinds is read as that value
 kind_again : {A B : Type 0} (k : ℕ) (into : A → B) (of : B → Option A) (f : Format A)
     (others : Kinds B) → IsExact f → IsKind k into of others → IsExact (one_of others)
     → (b : B) (rest : List ℕ) → (kind k into of f others).Fits b
@@ -108,15 +110,15 @@ kind_again {A} {B} k into of f others p is q b rest fits = by_fields (of b) refl
         rw (eq-eqb k k refl)
         (via_again into f p a rest h ∙ ap (λ c. Some (c, rest)) (is.back b a has))
 
--- for `kind_exact`: the fields of a value that the constructor made are those that it took
+-- for `kind_exact`: a value made by the constructor has the fields that the constructor took
 pub its : {A B : Type 0} (into : A → B) (fields a : A) → done fields ≡ done a → into a ≡ into fields
 its into fields a e = ap into (sym (some_is fields a e))
 
--- and of another value it gives none
+-- for `kind_exact`: a value of another kind has no fields of this kind
 pub not_its : {A B : Type 0} (into : A → B) (b : B) (a : A) → none_of A ≡ done a → into a ≡ b
 not_its into b a e = absurd (none-some a e)
 
--- the law of `kind`
+-- the law of `kind`: if the other kinds have theirs, so has the longer list
 pub kind_exact : {A B : Type 0} {k : ℕ} {into : A → B} (of : B → Option A) {f : Format A}
     (others : Kinds B)
     → IsExact f → ((b : B) (a : A) → of b ≡ Some a → into a ≡ b) → ((a : A) → of (into a) ≡ Some a)

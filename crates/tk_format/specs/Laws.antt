@@ -1,4 +1,5 @@
--- The law of each way to make a format: what is read is spelled so, and what is spelled so is read. Those that formats cite end in `_exact`.
+-- The law of each way to make a format: a value that is read is spelled by the bytes taken, and a
+-- spelling is read as its value. The laws that formats cite end in `_exact`.
 use Rattle.std.proofs.Common.{◌≡◌, ℕ, zero, suc, ◌^◌, ◌<◌, ◌≤◌, Bool, true, false, cond, eqb, ltb, nat_le, List, [], ◌∷◌, ◌++◌, length, take, drop, Option, Some, None, refl, sym, ap, subst, ◌∙◌, append_assoc, arith}
 use Rattle.std.specs.Int.{Width, w16, w64, byte_len, from_be_bytes, to_be_bytes}
 use Rattle.std.specs.List.{AllByRecursion, flat_map}
@@ -14,7 +15,7 @@ use Rattle.tk_format.specs.Exact.{IsBytes, IsBytes-drop, IsBytes-take, IsExact, 
 
 -- ---- numbers
 
--- what is asked of a width: its numbers are so many bytes, and back
+-- what a width owes: each number has as many bytes as the width, and the bytes give the number back
 pub record IsWide (w : Width) : Type 0 where
   pub len : (n : ℕ) → length (to_be_bytes w n) ≡ byte_len w
   pub back : (bytes : List ℕ) → length bytes ≡ byte_len w → IsBytes bytes
@@ -22,7 +23,7 @@ pub record IsWide (w : Width) : Type 0 where
   pub again : (n : ℕ) → n < 256 ^ byte_len w → from_be_bytes w (to_be_bytes w n) ≡ n
   pub below : (bytes : List ℕ) → IsBytes bytes → from_be_bytes w bytes < 256 ^ byte_len w
 
--- two bytes are so
+-- the width of two bytes keeps `IsWide`
 pub wide16 : IsWide w16
 wide16 = record {
   len = λ n. refl;
@@ -31,7 +32,7 @@ wide16 = record {
   below = λ bytes fits. omega (arith, fits 0, fits 1);
 }
 
--- eight bytes are so
+-- the width of eight bytes keeps `IsWide`
 pub wide64 : IsWide w64
 wide64 = record {
   len = λ n. refl;
@@ -41,7 +42,7 @@ wide64 = record {
       omega (arith, fits 0, fits 1, fits 2, fits 3, fits 4, fits 5, fits 6, fits 7);
 }
 
--- what is read as a number is spelled so
+-- a number that is read is spelled by the bytes taken
 number_takes : (w : Width) (wide : IsWide w) (bytes : List ℕ) (x : ℕ × List ℕ) → IsBytes bytes
     → (number w).read bytes ≡ Some x
     → Takes bytes (number_spelling w x.0) x.1 × (x.0 < 256 ^ byte_len w)
@@ -79,21 +80,21 @@ number_exact w wide = record {
       ) refl;
 }
 
--- at two bytes
+-- the law of a number of two bytes
 pub u16_exact : IsExact (number w16)
 u16_exact = number_exact w16 wide16
 
--- at eight bytes
+-- the law of a number of eight bytes
 pub u64_exact : IsExact (number w64)
 u64_exact = number_exact w64 wide64
 
 -- ---- bytes
 
--- bytes but the first are bytes
+-- a list of bytes without its first is a list of bytes
 pub IsBytes-rest : (b : ℕ) (bytes : List ℕ) → IsBytes (b ∷ bytes) → IsBytes bytes
 IsBytes-rest b bytes h i = h (suc i)
 
--- what is read as a byte is spelled so
+-- a byte that is read is spelled by the byte taken
 byte_takes : (bytes : List ℕ) (x : ℕ × List ℕ) → IsBytes bytes → byte_at_front bytes ≡ Some x
     → Takes bytes (x.0 ∷ []) x.1 × (x.0 < 256)
 byte_takes [] x fits e = absurd cc
@@ -106,7 +107,7 @@ byte_takes (b ∷ bytes) x fits e =
 pub byte_exact : IsExact byte
 byte_exact = record { takes = byte_takes; again = λ b rest lt. refl }
 
--- what is read as that many bytes is spelled so
+-- n bytes that are read are the bytes taken
 bytes_take : (n : ℕ) (bytes : List ℕ) (x : List ℕ × List ℕ) → IsBytes bytes
     → (bytes_of n).read bytes ≡ Some x → Takes bytes x.0 x.1 × (length x.0 ≡ n)
 unfolding bytes_at
@@ -140,7 +141,7 @@ nothing_exact = record {
 
 -- ---- one after the other
 
--- what is read as two is spelled so
+-- a pair that is read is spelled by the bytes taken
 both_take : {A B : Type 0} (f : Format A) (g : Format B) → IsExact f → IsExact g
     → (bytes : List ℕ) (x : (A × B) × List ℕ) → IsBytes bytes → (f ⊗ g).read bytes ≡ Some x
     → Takes bytes (f.spell x.0.0 ++ g.spell x.0.1) x.1 × (f.Fits x.0.0 × g.Fits x.0.1)
@@ -170,7 +171,7 @@ both_exact f g p q = record {
 
 -- ---- text
 
--- what is read as a text is spelled so
+-- a text that is read is spelled by the bytes taken
 text_takes : (bytes : List ℕ) (x : List ℕ × List ℕ) → IsBytes bytes → text.read bytes ≡ Some x
     → Takes bytes (text.spell x.0) x.1 × (length x.0 < 256 ^ 2)
 unfolding text_at text_spelling
@@ -196,7 +197,7 @@ text_exact = record {
 
 -- ---- tests and shapes
 
--- what is read and passes is spelled so
+-- a value that is read and passes the test is spelled by the bytes taken
 only_takes : {A : Type 0} (test : A → Bool) (f : Format A) → IsExact f
     → (bytes : List ℕ) (x : A × List ℕ) → IsBytes bytes → (only test f).read bytes ≡ Some x
     → Takes bytes (f.spell x.0) x.1 × (f.Fits x.0 × (test x.0 ≡ true))
@@ -214,7 +215,7 @@ only_exact test f p = record {
   again = λ a rest fits. rw (p.again a rest fits.0, fits.1) refl;
 }
 
--- what is read in another shape is spelled so
+-- a value that is read in another shape is spelled by the bytes taken
 shaped_takes : {A B : Type 0} (to : A → B) (of : B → A) (f : Format A) → IsExact f
     → ((a : A) → of (to a) ≡ a) → (bytes : List ℕ) (x : B × List ℕ) → IsBytes bytes
     → (shaped to of f).read bytes ≡ Some x → Takes bytes (f.spell (of x.0)) x.1 × f.Fits (of x.0)
@@ -225,7 +226,7 @@ shaped_takes {A} {B} to of f p back bytes x fits e =
     (some_is (to a.0.0, a.0.1) x a.2)
     (subst (λ (v : A). Takes bytes (f.spell v) a.0.1 × f.Fits v) (sym (back a.0.0)) first)
 
--- the law of `shaped`, where the two functions undo each other
+-- the law of `shaped`, if the two functions undo each other
 pub shaped_exact : {A B : Type 0} (to : A → B) (of : B → A) (f : Format A) → IsExact f
     → ((a : A) → of (to a) ≡ a) → ((b : B) → to (of b) ≡ b) → IsExact (shaped to of f)
 shaped_exact to of f p back forth = record {
@@ -233,7 +234,7 @@ shaped_exact to of f p back forth = record {
   again = λ b rest fits. rw (p.again (of b) rest fits, forth b) refl;
 }
 
--- the law of `partly`, where the second function undoes the first
+-- the law of `partly`, if the second function undoes the first
 pub partly_exact : {A B : Type 0} (to : A → Option B) (of : B → A) (f : Format A) → IsExact f
     → ((a : A) (b : B) → to a ≡ Some b → of b ≡ a) → IsExact (partly to of f)
 partly_exact {A} {B} to of f p back = record {
@@ -250,7 +251,7 @@ partly_exact {A} {B} to of f p back = record {
 
 -- ---- several
 
--- what is read as several is spelled so
+-- n values that are read are spelled by the bytes taken
 many_take : {A : Type 0} (f : Format A) → IsExact f → (n : ℕ) (bytes : List ℕ) (x : List A × List ℕ)
     → IsBytes bytes → read_many f.read n bytes ≡ Some x
     → Takes bytes (flat_map f.spell x.0) x.1 × (length x.0 ≡ n) × AllByRecursion f.Fits x.0
@@ -272,7 +273,7 @@ many_take {A} f p (suc n) bytes x fits e =
     × AllByRecursion f.Fits y.0) (some_is (a.0.0 ∷ b.0.0, b.0.1) x b.2)
     (rw flat_map-cons both, ap suc second.1, (first.1, second.2))
 
--- what is spelled as several is read so
+-- the spelling of a list of values is read as that list
 many_again : {A : Type 0} (f : Format A) → IsExact f → (xs : List A) (rest : List ℕ)
     → AllByRecursion f.Fits xs
     → read_many f.read (length xs) (flat_map f.spell xs ++ rest) ≡ Some (xs, rest)
@@ -285,7 +286,7 @@ many_again f p (x ∷ xs) rest fits =
     ap (read_many f.read (suc (length xs))) regrouped
     ∙ rw (p.again x (flat_map f.spell xs ++ rest) fits.0, many_again f p xs rest fits.1) refl
 
--- what is read behind a count is spelled so
+-- a list of values that is read behind its count is spelled by the bytes taken
 counted_takes : {A : Type 0} (count : Format ℕ) (f : Format A) → IsExact count → IsExact f
     → (bytes : List ℕ) (x : List A × List ℕ) → IsBytes bytes → (counted count f).read bytes ≡ Some x
     → Takes bytes (count.spell (length x.0) ++ flat_map f.spell x.0) x.1
@@ -324,13 +325,13 @@ repeated_exact {A} n f p = record {
 
 -- ---- a value behind its length
 
--- what begins bytes is bytes
+-- the front of a list of bytes is a list of bytes
 IsBytes-front : (front rest : List ℕ) → IsBytes (front ++ rest) → IsBytes front
 IsBytes-front front rest h =
     subst IsBytes (take_at front rest (length front) refl)
     (IsBytes-take (length front) (front ++ rest) h)
 
--- the bytes of a text that was taken
+-- a text that is taken from bytes is a list of bytes
 IsBytes-text : (bytes t rest : List ℕ) → IsBytes bytes → Takes bytes (text.spell t) rest → IsBytes t
 unfolding text_spelling
 IsBytes-text bytes t rest fits taken =
@@ -339,7 +340,7 @@ IsBytes-text bytes t rest fits taken =
     (length (number_spelling w16 (length t))) refl)
     (IsBytes-drop (length (number_spelling w16 (length t))) (text_spelling t) whole_text)
 
--- what is read behind its length is spelled so
+-- a value that is read behind its length is spelled by the bytes taken
 sized_takes : {A : Type 0} (limit : ℕ) (f : Format A) → IsExact f
     → (bytes : List ℕ) (x : A × List ℕ) → IsBytes bytes → (sized limit f).read bytes ≡ Some x
     → Takes bytes (text.spell (f.spell x.0)) x.1
@@ -370,7 +371,7 @@ sized_exact limit f p = record {
 
 -- ---- bytes in front
 
--- what is read behind these bytes is spelled so
+-- a value that is read behind `magic` is spelled by the bytes taken
 after_takes : {A : Type 0} (magic : List ℕ) (f : Format A) → IsExact f
     → (bytes : List ℕ) (x : A × List ℕ) → IsBytes bytes → (after magic f).read bytes ≡ Some x
     → Takes bytes (magic ++ f.spell x.0) x.1 × f.Fits x.0
@@ -400,12 +401,12 @@ after_exact magic f p = record {
 
 -- ---- a byte for a value
 
--- the two functions of a code undo each other
+-- the two functions of a one-byte code undo each other, and each code is a byte
 pub record IsCode {A : Type 0} (code : A → ℕ) (of : ℕ → Option A) : Type 0 where
   pub back : (b : ℕ) (a : A) → of b ≡ Some a → code a ≡ b
   pub forth : (a : A) → of (code a) ≡ Some a
 
--- what is read as a code is spelled so
+-- a value that is read from its code is spelled by the byte taken
 coded_takes : {A : Type 0} (code : A → ℕ) (of : ℕ → Option A) → IsCode code of
     → (bytes : List ℕ) (x : A × List ℕ) → IsBytes bytes → (coded code of).read bytes ≡ Some x
     → Takes bytes (code x.0 ∷ []) x.1 × Unit {0}
@@ -425,16 +426,17 @@ coded_exact code of is = record {
   again = λ a rest fits. rw (is.forth a) refl;
 }
 
--- ---- a byte that says which fields follow
+-- ---- a byte that selects a case
 
--- what stands behind the byte t
+-- x was read behind the byte t: t is the tag of x, and the bytes taken are the fields of x
 pub record Follows {A : Type 0} (tag : A → ℕ) (fields : A → List ℕ) (Fits : A → Type 0) (t : ℕ)
     (bytes : List ℕ) (x : A × List ℕ) : Type 0 where
   pub tagged : tag x.0 ≡ t
   pub taken : Takes bytes (fields x.0) x.1
   pub fit : Fits x.0
 
--- what is asked of the cases of a choice
+-- what the cases of a choice owe: a value read as a case follows its tag, and its fields are read
+-- as that value
 pub record IsChoice {A : Type 0} (tag : A → ℕ) (fields : A → List ℕ) (Fits : A → Type 0)
     (cases : ℕ → List ℕ → Option (A × List ℕ)) : Type 0 where
   pub takes : (t : ℕ) (bytes : List ℕ) (x : A × List ℕ) → IsBytes bytes → cases t bytes ≡ Some x
@@ -457,7 +459,7 @@ choice_exact {A} tag fields Fits cases is = record {
   again = λ a rest fits. is.again a rest fits;
 }
 
--- what holds of a case, however it is spelled, holds of what is read as that case
+-- P holds of whatever is read as a case, if P holds of each value of the case, however spelled
 pub via_takes : {A B : Type 0} (into : A → B) (f : Format A) → IsExact f
     → (bytes : List ℕ) (x : B × List ℕ) (P : B × List ℕ → Type 0) → IsBytes bytes
     → ((a : A) (rest : List ℕ) → Takes bytes (f.spell a) rest → f.Fits a → P (into a, rest))
@@ -467,12 +469,13 @@ via_takes into f p bytes x P fits holds e =
     let first = p.takes bytes a.0 fits a.1 in
     subst P (some_is (into a.0.0, a.0.1) x a.2) (holds a.0.0 a.0.1 first.0 first.1)
 
--- what is spelled as a case is read as that case
+-- the spelling of a case's fields is read as a value of that case
 pub via_again : {A B : Type 0} (into : A → B) (f : Format A) → IsExact f → (a : A) (rest : List ℕ)
     → f.Fits a → via into f (f.spell a ++ rest) ≡ Some (into a, rest)
 via_again into f p a rest fits = rw (p.again a rest fits) refl
 
--- what holds of the value of the first case, and of the others, holds of the value of all
+-- P holds of whatever a chain of cases reads, if P holds of the first case's value and of the
+-- others'
 pub case_takes : {X : Type 0} (t k : ℕ) (this next : Option X) (x : X) (P : X → Type 0)
     → (t ≡ k → this ≡ Some x → P x) → (next ≡ Some x → P x) → cond (eqb t k) this next ≡ Some x
     → P x
