@@ -39,7 +39,7 @@ use base64::engine::general_purpose::STANDARD;
 use form_urlencoded::decode;
 use std::alloc::{AllocError, Global};
 
-// The credentials of a Basic header; None where the header isn't readable.
+// Reads the credentials of a Basic header. Returns `None` if the header is not readable.
 pub(crate) fn read_basic(alloc: Global, header: &[u8]) -> Result<Option<Basic>, AllocError>
     ensures { IfOk result (λ basic. basic ≡ spec.basic_of header.now) }
 {
@@ -52,7 +52,7 @@ pub(crate) fn read_basic(alloc: Global, header: &[u8]) -> Result<Option<Basic>, 
     }
 }
 
-// What stands behind the scheme and the spaces.
+// Returns the bytes behind the scheme and the spaces.
 fn encoded_in(header: &[u8]) -> Option<&[u8]>
     ensures { option_copied result ≡ spec.encoded_in header.now }
 {
@@ -92,7 +92,7 @@ fn skip_spaces(bytes: &[u8]) -> &[u8]
     rest
 }
 
-// The bytes of a padded base64 text.
+// Returns the bytes of a padded base64 text.
 fn decoded(alloc: Global, text: &[u8]) -> Result<Option<Vec<u8>>, AllocError>
     ensures { IfOk result (λ bytes. option_map (λ v. v.items) bytes ≡ spec.decoded text.now) }
 {
@@ -103,7 +103,7 @@ fn decoded(alloc: Global, text: &[u8]) -> Result<Option<Vec<u8>>, AllocError>
     }
 }
 
-// The texts before and behind the first colon.
+// Reads the texts before and behind the first colon.
 fn read_halves(alloc: Global, bytes: &[u8]) -> Result<Option<Basic>, AllocError>
     ensures { IfOk result (λ basic. basic ≡ spec.halves_of bytes.now) }
 {
@@ -130,7 +130,7 @@ fn read_text(alloc: Global, bytes: &[u8]) -> Result<String, AllocError>
     decode(alloc, bytes)?.into_owned(alloc)
 }
 
-// What stands before and behind the first such byte.
+// Returns the bytes before and behind the first `mark`.
 fn around_first(bytes: &[u8], mark: u8) -> Option<(&[u8], &[u8])>
     ensures { option_map pair_text result ≡ spec.around_first mark bytes.now }
 {

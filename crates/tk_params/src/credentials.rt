@@ -1,10 +1,12 @@
-//! What a request presents of a client (RFC 6749, 2.3 and 2.3.1).
+//! The client credentials that a request presents (RFC 6749, 2.3 and 2.3.1).
 
 use std::borrow::CowStr;
 use std::marker::Model;
 
-/// What a request presents of a client (RFC 6749, 2.3.1): an id and a secret, either of which may be absent. What comes from
-/// the parameters is borrowed from them. Contracts see the bytes.
+/// The client credentials that a request presents: an id and a secret, either of which may be
+/// absent (RFC 6749, 2.3.1).
+///
+/// Texts from the parameters are borrowed from them. Contracts see the bytes.
 #[derive(Drop)]
 pub struct Credentials<'a> {
     id: Option<CowStr<'a>>,
@@ -24,16 +26,18 @@ impl<'a> Model for Credentials<'a> {
     } };
 }
 
-/// Why a request presents no credentials. Two secrets come first, then an unreadable header, then two ids; `Memory` may come
-/// in place of any answer.
+/// The reason why a request presents no credentials.
+///
+/// A secret in two places is reported first, then an unreadable header, then two ids. `Memory` may
+/// be returned in place of any other error.
 #[derive(Clone, Copy)]
 pub enum CredentialsError {
-    /// A secret in the body beside a header, whatever that holds; or a header and a body that name two clients: more than
-    /// one method in one request (RFC 6749, 2.3).
+    /// The request uses more than one method (RFC 6749, 2.3): the body has a secret although there
+    /// is a header, whatever that header is, or header and body name two clients.
     Both,
-    /// The header isn't the Basic scheme with a readable id and secret (RFC 7617, 2).
+    /// The header is not the Basic scheme with a readable id and secret (RFC 7617, 2).
     Basic,
-    /// A growth of memory was refused.
+    /// Memory ran out.
     Memory,
 }
 
@@ -58,9 +62,12 @@ use crate::params::Params;
 use std::alloc::{AllocError, Global};
 
 impl<'a> Credentials<'a> {
-    /// Those of the value of the `Authorization` header, where there is one, and else those of the parameters `client_id` and
-    /// `client_secret`, where they occur once (RFC 6749, 2.3.1). An empty secret counts as none. Which refusal comes is told
-    /// at [`CredentialsError`]; `Memory` comes only beside a header.
+    /// Reads the credentials of a request (RFC 6749, 2.3.1).
+    ///
+    /// `header` is the value of the `Authorization` header. If there is a header, the credentials
+    /// are read from it. Otherwise they are the parameters `client_id` and `client_secret`, each if
+    /// it occurs once. An empty secret counts as absent. [`CredentialsError`] gives the order of
+    /// the errors. `Memory` is returned only if there is a header.
     pub fn read(
         alloc: Global,
         header: Option<&[u8]>,
@@ -73,7 +80,7 @@ impl<'a> Credentials<'a> {
         ensures basic { IsErrOf result CredentialsError.Basic
             → spec.presented_in (option_copied header.entry) params.now ≡ spec.Unreadable }
 
-        // What the body alone presents takes no memory.
+        // Reading credentials from the body alone allocates no memory.
         ensures body { IfNone header.entry (IsOk result) }
     {
         match header {
@@ -82,14 +89,14 @@ impl<'a> Credentials<'a> {
         }
     }
 
-    /// The client's id, as it was sent: of a header it may be empty.
+    /// Returns the client's id as it was sent. An id from a header may be empty.
     pub fn id(&self) -> Option<&str>
         ensures { option_copied result ≡ self.now.id }
     {
         text_in(&self.id)
     }
 
-    /// The client's secret, which isn't empty.
+    /// Returns the client's secret, which is not empty.
     pub fn secret(&self) -> Option<&str>
         ensures { option_copied result ≡ self.now.secret }
     {
