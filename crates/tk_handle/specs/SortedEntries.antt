@@ -1,6 +1,6 @@
--- Where a key stands in a list of entries whose keys rise, or where it would go.
+-- The place of a key in a list of entries whose keys rise, or the place where it would go.
 --   IsAt    the entry at a place has the key
---   IsGap   no entry has it, and it would go at a place
+--   IsGap   no entry has the key, and it would go at a place
 use Rattle.std.specs.Prelude.{◌≡◌, ℕ, ◌<◌, ◌≤◌, List, length, slice_index_or, slice_set, Some, None}
 use Rattle.std.specs.declared.cmp.Ordering.{Ordering}
 use Rattle.std.specs.FinMap.{find, put}
