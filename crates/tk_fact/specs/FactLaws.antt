@@ -1,4 +1,5 @@
--- The law of each kind of fact, of a fact and of a framed fact: what is read is spelled so, and what is spelled so is read.
+-- The law of each kind of fact, of a fact and of a framed fact: a value that is read is spelled by
+-- the bytes taken, and a spelling is read as its value.
 use Rattle.std.proofs.Common.{refl}
 use Rattle.tk_format.specs.Format.{◌and_then◌}
 use Rattle.tk_format.specs.Exact.{IsExact}
@@ -71,6 +72,7 @@ subject_out_exact : IsExact fields.subject_out
 subject_out_exact = shaped_exact _ _ _ (both_exact _ _ subject_exact moment_exact) (λ _. refl)
     (λ _. refl)
 
+-- the law of the format of bodies: a row for each kind
 body_exact : IsExact body
 unfolding kinds
 body_exact =
@@ -105,8 +107,10 @@ body_exact =
     (λ bytes. refl)
     and_then no_kind_exact
 
+-- the law of the format of facts
 pub fact_exact : IsExact fact
 fact_exact = only_exact passes _ (both_exact _ _ dot_field_exact body_exact)
 
+-- the law of the format of framed facts
 pub framed_exact : IsExact framed
 framed_exact = sized_exact most_bytes fact fact_exact

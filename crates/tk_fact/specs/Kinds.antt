@@ -1,4 +1,5 @@
--- The fields of each kind of fact, in the order of its spelling (own). Facts that were written keep this order, so it never changes.
+-- The fields of each kind of fact, in the order in which they are spelled (own). Facts that were
+-- written keep this order, so it never changes.
 use Rattle.std.specs.Prelude.{ℕ, Bool, List, Option}
 use Rattle.std.specs.Int.{w16}
 use Rattle.tk_format.specs.Format.{Format, ◌⊗◌, number, shaped}
@@ -47,19 +48,20 @@ consent_given = shaped
 abbrev pub consent_withdrawn : Format ConsentWithdrawn
 consent_withdrawn = shaped (λ d. record { consent = d }) (λ f. f.consent) dot_field
 
--- whom a code is for: its client, and the consent that it rests on
+-- the dots of an issued code: its client, and the consent on which it rests
 abbrev pub code_parties : Format (Dot × Dot)
 code_parties = dot_field ⊗ dot_field
 
--- the digest of its handle; its start, its expiry and the end of its family
+-- the digest of an issued code's handle, its start, its expiry, and the end of its family
 abbrev pub code_times : Format (List ℕ × (ℕ × (ℕ × ℕ)))
 code_times = digest_field ⊗ (moment ⊗ (moment ⊗ moment))
 
--- what it stands for: a scope of a subject
+-- the rights of an issued code: its subject and its scope
 abbrev pub code_rights : Format (List ℕ × List ℕ)
 code_rights = subject_field ⊗ scope_field
 
--- what the token request must match: the URI, whether it was sent, and the challenge
+-- what the token request must match for an issued code: the URI, whether it was sent, and the
+-- challenge
 abbrev pub code_bindings : Format (List ℕ × (Bool × Option ChallengeFields))
 code_bindings = uri_field ⊗ (flag_field ⊗ challenge_field)
 

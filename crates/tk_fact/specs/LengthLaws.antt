@@ -1,4 +1,5 @@
--- A fact that has a spelling has a short one (`fact_short`), also behind its length (`framed_fits`).
+-- A fact that has a spelling has at most 8,192 bytes (`fact_short`), and has a spelling behind its
+-- length too (`framed_fits`).
 use Rattle.std.proofs.Common.{
   ◌≡◌,
   ℕ,
@@ -75,16 +76,16 @@ use Rattle.tk_fact.specs.FieldLaws.{
 
 -- ---- lengths of the fields
 
--- a dot has 10 bytes at most
+-- a dot has at most 10 bytes
 dot_short : (d : Dot) → length (dot_field.spell d) ≤ 10
 dot_short d = both_short (number_spelling w16 d.region) (number_spelling w64 d.serial) 2 8
     (omega (arith, number_length w16 d.region)) (omega (arith, number_length w64 d.serial))
 
--- a moment 8
+-- a moment has at most 8 bytes
 moment_short : (n : ℕ) → length (moment.spell n) ≤ 8
 moment_short n = omega (arith, number_length w64 n)
 
--- a text that is a scope has no more bytes than it may
+-- a text that is a scope is no longer than `greatest_length`
 scope_by : (long grammar many : Bool) (s t : List ℕ)
     → cond (is_some (cond long (Some ScopeError.TooLong)
     (cond grammar (Some ScopeError.Grammar) (cond many (Some ScopeError.TooMany) None)))) None
@@ -98,12 +99,13 @@ scope_within t s h =
     (scope_by (nat_lt greatest_length (length t)) (not (list_all is_token (tokens_of t)))
     (nat_lt most_tokens (length (tokens_of t))) (scope_text (tokens_of t)) s h)
 
+-- the field of a scope has at most 1,026 bytes
 scope_short : (t : List ℕ) → scope_field.Fits t → length (text.spell t) ≤ 1026
 scope_short t fits =
     let found = bind_some (scope_of t) (λ s. cond (bytes_eq s t) (Some s) None) t fits.1 in
     text_short t greatest_length (scope_within t found.0 found.1)
 
--- 514 bytes a redirection URI
+-- a redirection URI has at most 514 bytes with its length
 uris_short : (us : List (List ℕ)) → list_all is_uri us ≡ true
     → length (flat_map text.spell us) ≤ 514 * length us
 uris_short [] h = omega arith
@@ -123,6 +125,7 @@ redirects_short us fits =
     let kept = kept_list us (redirects_keep us fits.1) in
     omega (arith, few (length us) kept.0, uris_short us kept.1)
 
+-- the field of a minted token has at most 1,066 bytes
 minted_short : (m : MintedToken) → minted_field.Fits m → length (minted_field.spell m) ≤ 1066
 minted_short m fits =
     both_short m.digest (moment.spell m.end ++ text.spell m.scope) 32 1034 (omega (arith, fits.0))
@@ -135,6 +138,7 @@ challenge_short None fits = omega arith
 challenge_short (Some c) fits =
     omega (arith, text_short c.text most_verifier_bytes (verifier_short c.text fits.1))
 
+-- the field of a client kind has at most 33 bytes
 sort_short : (s : Sort) → sort_field.Fits s → length (sort_field.spell s) ≤ 33
 unfolding sorts
 sort_short Public fits = omega arith
@@ -143,6 +147,7 @@ sort_short (Resource d) fits = omega (arith, fits)
 
 -- ---- lengths of bodies and facts
 
+-- a body has at most 8,000 bytes
 body_short : (b : Body) → body.Fits b → length (body.spell b) ≤ 8000
 unfolding kinds
 body_short (bodies.ClientAdded f) fits =
@@ -210,7 +215,7 @@ body_short (bodies.SubjectOut f) fits =
       moment_short f.moment,
     ))
 
--- a fact has so few bytes
+-- a fact has at most `most_bytes`
 pub fact_short : (f : Dot × Body) → fact.Fits f → length (fact.spell f) ≤ most_bytes
 fact_short f fits = omega (
   arith,
@@ -219,7 +224,7 @@ fact_short f fits = omega (
   body_short f.1 fits.0.1,
 )
 
--- so it has a spelling behind its length
+-- a fact that has a spelling has one behind its length
 pub framed_fits : (f : Dot × Body) → fact.Fits f → framed.Fits f
 framed_fits f fits =
     let short = fact_short f fits in

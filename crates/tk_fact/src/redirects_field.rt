@@ -35,7 +35,7 @@ pub(crate) fn read_redirects(alloc: Global, reader: &mut Reader<'_>) -> Result<R
     }
 }
 
-// That many texts, lent from the bytes that are read.
+// Reads `count` texts, borrowed from the bytes that are read.
 fn read_texts<'a>(
     alloc: Global,
     count: u8,
