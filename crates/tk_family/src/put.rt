@@ -29,7 +29,7 @@ use std::alloc::{AllocError, Global};
 use std::collections::BTreeMap;
 use tk_handle::Dot;
 
-/// Makes the rows that a link at a dot needs. They say nothing yet.
+/// Makes the rows that a link at a dot needs. New rows are blank.
 fn make_room(rows: &mut BTreeMap<Dot, Row>, dot: Dot, link: &Link) -> Result<(), AllocError>
     requires { IsForest (table rows.old) }
     ensures same { NothingSeen (table rows.old) (table rows.new) }
@@ -44,7 +44,7 @@ fn make_room(rows: &mut BTreeMap<Dot, Row>, dot: Dot, link: &Link) -> Result<(),
     Ok(())
 }
 
-/// The code that a link comes under at a dot.
+/// Returns the code under which a link at a dot comes.
 fn code_for(rows: &BTreeMap<Dot, Row>, dot: Dot, link: &Link) -> Option<Dot>
     ensures { result ≡ chain_code (table rows.now) dot link.now }
 {
@@ -60,8 +60,8 @@ fn code_for(rows: &BTreeMap<Dot, Row>, dot: Dot, link: &Link) -> Option<Dot>
     }
 }
 
-/// The dots that come under a code by a link, where its chain is whole. They are all the memory that a put needs beside
-/// its rows.
+/// Returns the dots that a link brings under a code, if its chain reaches the code. Besides the
+/// rows this list is all the memory that a put takes.
 fn answer(
     alloc: Global,
     rows: &BTreeMap<Dot, Row>,
@@ -85,7 +85,7 @@ fn answer(
     Ok(dots)
 }
 
-/// Writes a link and all that follows from it. It takes no memory.
+/// Writes a link and all that follows from it. Takes no memory.
 fn write_put(rows: &mut BTreeMap<Dot, Row>, dot: Dot, link: &Link, code: Option<Dot>, dots: &[Dot])
     requires forest { IsForest (table rows.old) }
     requires free { links_of (table rows.old) dot ≡ None }
@@ -105,7 +105,7 @@ fn write_put(rows: &mut BTreeMap<Dot, Row>, dot: Dot, link: &Link, code: Option<
     }
 }
 
-/// Puts a link, and answers the dots that come under a code by that, in order.
+/// Puts a link, and returns the dots that it brings under a code, in order.
 pub(crate) fn put_link(
     alloc: Global,
     rows: &mut BTreeMap<Dot, Row>,

@@ -1,4 +1,4 @@
-//! Writes of rows. None but `add_row` takes memory.
+//! Writes of rows. Only `add_row` takes memory.
 
 ghost use Rattle.std.specs.Prelude.{◌≡◌, OnOk, OnErr, IsOk, IsSome, if◌then◌else◌, option_map};
 ghost use Rattle.tk_family.specs.Dots.{dot_eq};
@@ -25,7 +25,7 @@ use std::alloc::AllocError;
 use std::collections::BTreeMap;
 use tk_handle::{Dot, Kind};
 
-/// Makes a row that says nothing, where there is none.
+/// Makes a blank row at a dot that has none.
 pub(crate) fn add_row(rows: &mut BTreeMap<Dot, Row>, at: Dot) -> Result<(), AllocError>
     ensures ok { OnOk result
         ((q : the_dot) → table rows.new q
@@ -40,7 +40,7 @@ pub(crate) fn add_row(rows: &mut BTreeMap<Dot, Row>, at: Dot) -> Result<(), Allo
     Ok(())
 }
 
-/// Writes a row in place of the one at a dot, if there is one.
+/// Replaces the row at a dot, if there is one.
 fn put_row(rows: &mut BTreeMap<Dot, Row>, at: Dot, row: Row)
     ensures { (q : the_dot)
         → table rows.new q ≡
@@ -75,7 +75,7 @@ fn set_dead(rows: &mut BTreeMap<Dot, Row>, at: Dot)
     }
 }
 
-/// Writes a link, and the dot after it among those that name the same dot.
+/// Writes a link, and the next dot of the chain of those that name the same dot.
 fn set_link(rows: &mut BTreeMap<Dot, Row>, at: Dot, link: &Link, next: Option<Dot>)
     ensures { (q : the_dot)
         → table rows.new q ≡
@@ -87,7 +87,7 @@ fn set_link(rows: &mut BTreeMap<Dot, Row>, at: Dot, link: &Link, next: Option<Do
     }
 }
 
-/// Writes that the link at a dot redeems the code at another.
+/// Writes that the link at `dot` redeems the code at `at`.
 fn set_redeemer(rows: &mut BTreeMap<Dot, Row>, at: Dot, dot: Dot)
     ensures { (q : the_dot)
         → table rows.new q ≡
@@ -99,7 +99,7 @@ fn set_redeemer(rows: &mut BTreeMap<Dot, Row>, at: Dot, dot: Dot)
     }
 }
 
-/// Writes that the link at a dot rotates the refresh token at another.
+/// Writes that the link at `dot` rotates the refresh token at `at`.
 fn set_rotator(rows: &mut BTreeMap<Dot, Row>, at: Dot, dot: Dot)
     ensures { (q : the_dot)
         → table rows.new q ≡
@@ -123,7 +123,7 @@ pub(crate) fn set_marked(rows: &mut BTreeMap<Dot, Row>, at: Dot, kind: Kind)
     }
 }
 
-/// Kills the family that a dot is in, if its token is bad.
+/// Writes a tombstone at the code of a dot, if the dot's token is bad.
 pub(crate) fn bury(rows: &mut BTreeMap<Dot, Row>, at: Dot)
     ensures { (q : the_dot) → table rows.new q ≡ buried (table rows.old) at q }
 {
@@ -143,7 +143,8 @@ pub(crate) fn settle(rows: &mut BTreeMap<Dot, Row>, list: &[Dot], code: Dot)
     }
 }
 
-/// Writes the code at each dot of a list, and the tombstone at the code if one of their tokens is bad.
+/// Writes the code at each dot of a list, and a tombstone at the code if one of their tokens is
+/// bad.
 pub(crate) fn raise(rows: &mut BTreeMap<Dot, Row>, list: &[Dot], code: Dot)
     ensures { (q : the_dot) → table rows.new q ≡ raised (table rows.old) list.now code q }
 {
@@ -153,7 +154,7 @@ pub(crate) fn raise(rows: &mut BTreeMap<Dot, Row>, list: &[Dot], code: Dot)
     }
 }
 
-/// Writes a link, and hangs it below the dot that it names.
+/// Writes a link, and puts it into the chain of the dot that it names.
 pub(crate) fn hang(rows: &mut BTreeMap<Dot, Row>, dot: Dot, link: &Link)
     ensures { (q : the_dot) → table rows.new q ≡ hung (table rows.old) dot link.now q }
 {
