@@ -21,22 +21,27 @@ use Rattle.tk_fact.specs.FieldLaws.{
   minted_exact,
 }
 
+-- the law of the fields of ClientAdded
 client_added_exact : IsExact fields.client_added
 client_added_exact =
     shaped_exact _ _ _ (both_exact _ _ sort_exact (both_exact _ _ scope_exact redirects_exact))
     (λ _. refl) (λ _. refl)
 
+-- the law of the fields of ClientRetired
 client_retired_exact : IsExact fields.client_retired
 client_retired_exact = shaped_exact _ _ _ dot_field_exact (λ _. refl) (λ _. refl)
 
+-- the law of the fields of ConsentGiven
 consent_given_exact : IsExact fields.consent_given
 consent_given_exact =
     shaped_exact _ _ _ (both_exact _ _ dot_field_exact (both_exact _ _ subject_exact scope_exact))
     (λ _. refl) (λ _. refl)
 
+-- the law of the fields of ConsentWithdrawn
 consent_withdrawn_exact : IsExact fields.consent_withdrawn
 consent_withdrawn_exact = shaped_exact _ _ _ dot_field_exact (λ _. refl) (λ _. refl)
 
+-- the law of the fields of CodeIssued
 code_issued_exact : IsExact fields.code_issued
 code_issued_exact = shaped_exact _ _ _
     (both_exact fields.code_parties _ (both_exact _ _ dot_field_exact dot_field_exact)
@@ -47,12 +52,14 @@ code_issued_exact = shaped_exact _ _ _
     (both_exact _ _ uri_exact (both_exact _ _ flag_exact challenge_exact))))) (λ _. refl)
     (λ _. refl)
 
+-- the law of the fields of CodeRedeemed
 code_redeemed_exact : IsExact fields.code_redeemed
 code_redeemed_exact =
     shaped_exact _ _ _ (both_exact _ _ dot_field_exact
     (both_exact _ _ moment_exact (both_exact _ _ minted_exact minted_exact))) (λ _. refl)
     (λ _. refl)
 
+-- the law of the fields of RefreshRotated
 refresh_rotated_exact : IsExact fields.refresh_rotated
 refresh_rotated_exact =
     shaped_exact _ _ _ (both_exact _ _ dot_field_exact
@@ -60,14 +67,17 @@ refresh_rotated_exact =
     (both_exact _ _ moment_exact (both_exact _ _ minted_exact minted_exact)))) (λ _. refl)
     (λ _. refl)
 
+-- the law of the fields of TokenRevoked
 token_revoked_exact : IsExact fields.token_revoked
 token_revoked_exact =
     shaped_exact _ _ _ (both_exact _ _ token_exact (both_exact _ _ digest_exact dot_field_exact))
     (λ _. refl) (λ _. refl)
 
+-- the law of the fields of ReuseSeen
 reuse_seen_exact : IsExact fields.reuse_seen
 reuse_seen_exact = shaped_exact _ _ _ token_exact (λ _. refl) (λ _. refl)
 
+-- the law of the fields of SubjectOut
 subject_out_exact : IsExact fields.subject_out
 subject_out_exact = shaped_exact _ _ _ (both_exact _ _ subject_exact moment_exact) (λ _. refl)
     (λ _. refl)

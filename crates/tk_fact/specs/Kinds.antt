@@ -30,21 +30,25 @@ use Rattle.tk_fact.specs.declared.token_revoked.TokenRevoked.{TokenRevoked}
 use Rattle.tk_fact.specs.declared.reuse_seen.ReuseSeen.{ReuseSeen}
 use Rattle.tk_fact.specs.declared.subject_out.SubjectOut.{SubjectOut}
 
+-- ClientAdded: the client kind, the scope, the redirection URIs
 abbrev pub client_added : Format ClientAdded
 client_added = shaped
     (λ (sort, (scope, redirects)). record { sort = sort; scope = scope; redirects = redirects })
     (λ f. (f.sort, (f.scope, f.redirects)))
     (sort_field ⊗ (scope_field ⊗ redirects_field))
 
+-- ClientRetired: the dot of the client
 abbrev pub client_retired : Format ClientRetired
 client_retired = shaped (λ d. record { client = d }) (λ f. f.client) dot_field
 
+-- ConsentGiven: the dot of the client, the subject, the scope
 abbrev pub consent_given : Format ConsentGiven
 consent_given = shaped
     (λ (client, (subject, scope)). record { client = client; subject = subject; scope = scope })
     (λ f. (f.client, (f.subject, f.scope)))
     (dot_field ⊗ (subject_field ⊗ scope_field))
 
+-- ConsentWithdrawn: the dot of the consent
 abbrev pub consent_withdrawn : Format ConsentWithdrawn
 consent_withdrawn = shaped (λ d. record { consent = d }) (λ f. f.consent) dot_field
 
@@ -65,6 +69,7 @@ code_rights = subject_field ⊗ scope_field
 abbrev pub code_bindings : Format (List ℕ × (Bool × Option ChallengeFields))
 code_bindings = uri_field ⊗ (flag_field ⊗ challenge_field)
 
+-- CodeIssued: the two dots, the digest and times, the rights, and what the token request must match
 abbrev pub code_issued : Format CodeIssued
 code_issued = shaped
     (λ (
@@ -95,6 +100,7 @@ code_issued = shaped
     ))
     (code_parties ⊗ (code_times ⊗ (code_rights ⊗ code_bindings)))
 
+-- CodeRedeemed: the dot of the code, the start, the access token, the refresh token
 abbrev pub code_redeemed : Format CodeRedeemed
 code_redeemed = shaped
     (λ (code, (start, (access, refresh))).
@@ -102,6 +108,8 @@ code_redeemed = shaped
     (λ f. (f.code, (f.start, (f.access, f.refresh))))
     (dot_field ⊗ (moment ⊗ (minted_field ⊗ minted_field)))
 
+-- RefreshRotated: the dot of the parent, the generation, the start, the access token, the refresh
+-- token
 abbrev pub refresh_rotated : Format RefreshRotated
 refresh_rotated = shaped
     (λ (parent, (generation, (start, (access, refresh)))). record {
@@ -114,15 +122,18 @@ refresh_rotated = shaped
     (λ f. (f.parent, (f.generation, (f.start, (f.access, f.refresh)))))
     (dot_field ⊗ (number w16 ⊗ (moment ⊗ (minted_field ⊗ minted_field))))
 
+-- TokenRevoked: the name of the token, its digest, the dot of the client
 abbrev pub token_revoked : Format TokenRevoked
 token_revoked = shaped
     (λ (token, (digest, client)). record { token = token; digest = digest; client = client })
     (λ f. (f.token, (f.digest, f.client)))
     (token ⊗ (digest_field ⊗ dot_field))
 
+-- ReuseSeen: the name of the token that was used again
 abbrev pub reuse_seen : Format ReuseSeen
 reuse_seen = shaped (λ t. record { token = t }) (λ f. f.token) token
 
+-- SubjectOut: the subject, and the moment of the sign-out
 abbrev pub subject_out : Format SubjectOut
 subject_out = shaped (λ (subject, at). record { subject = subject; moment = at })
     (λ f. (f.subject, f.moment)) (subject_field ⊗ moment)

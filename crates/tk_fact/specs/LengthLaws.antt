@@ -93,6 +93,7 @@ scope_by : (long grammar many : Bool) (s t : List ℕ)
 scope_by true grammar many s t h = absurd cc
 scope_by false grammar many s t h = refl
 
+-- a text that is a scope has at most `greatest_length` bytes
 scope_within : (t s : List ℕ) → scope_of t ≡ Some s → length t ≤ greatest_length
 scope_within t s h =
     ltb-false greatest_length (length t)
@@ -119,6 +120,7 @@ uris_short (u ∷ us) h =
       uris_short us b.1,
     )
 
+-- the field of a list of redirection URIs has at most 4,113 bytes
 redirects_short : (us : List (List ℕ)) → redirects_field.Fits us
     → length (redirects_field.spell us) ≤ 4113
 redirects_short us fits =
@@ -132,6 +134,7 @@ minted_short m fits =
     (both_short (moment.spell m.end) (text.spell m.scope) 8 1026 (moment_short m.end)
     (scope_short m.scope fits.1.1))
 
+-- the field of an optional challenge has at most 131 bytes
 challenge_short : (c : Option ChallengeFields) → ChallengeFits c
     → length (challenge_field.spell c) ≤ 131
 challenge_short None fits = omega arith

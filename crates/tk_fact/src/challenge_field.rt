@@ -9,6 +9,7 @@ use std::alloc::{AllocError, Global};
 use tk_format::{ReadError, Reader, Writer};
 use tk_match::{Challenge, ChallengeError};
 
+// Gives a proof the fact that an optional challenge has a spelling.
 #[tactic(auto, using(crate::specs::FieldLaws::challenge_fits))]
 pub(crate) fn known_challenge(value: &Option<Challenge>)
     ensures { challenge_field.Fits value.now }

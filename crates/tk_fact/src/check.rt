@@ -35,6 +35,7 @@ pub enum FactError {
 /// The greatest number of generations of a family. This limit is our own.
 const MOST_GENERATIONS: u16 = 10_000;
 
+// Returns the first rule that a body breaks, if any.
 pub(crate) fn check_body(body: &Body) -> Result<(), FactError>
     ensures ok { OnOk result (refusal_of body.now ≡ None) }
     ensures err { IfErr result (λ e. refusal_of body.now ≡ Some e) }
@@ -80,6 +81,7 @@ fn in_range(ranges: bool) -> Result<(), FactError>
     }
 }
 
+// Returns whether neither token expires before the start.
 fn end_after(start: Moment, access: &MintedToken, refresh: &MintedToken) -> bool
     ensures { result ≡ ends_after start access.now refresh.now }
 {
@@ -104,6 +106,7 @@ fn known_limits(code: &CodeIssued)
     known_challenge_text(&code.challenge);
 }
 
+// Gives a proof the fact that an optional challenge keeps the limits.
 fn known_challenge_text(challenge: &Option<Challenge>)
     ensures { IsTrue (is_challenge challenge.now) }
 {

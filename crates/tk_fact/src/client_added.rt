@@ -12,7 +12,7 @@ use tk_format::{ReadError, Reader, Writer};
 use tk_match::Redirects;
 use tk_scope::Scope;
 
-/// A client was registered (RFC 6749, 2). Its id is the fact's own dot.
+/// A client was registered (RFC 6749, 2). The fact's dot is the client's id.
 #[derive(Drop)]
 pub struct ClientAdded {
     /// The client kind, with the digest of the client's secret if it has one (RFC 6749, 2.1).

@@ -162,6 +162,7 @@ impl CodeIssued {
         self.write_bindings(writer)
     }
 
+    // Writes the digest, the start, the expiry and the end of the family.
     fn write_times(&self, writer: &mut Writer) -> Result<(), AllocError>
         ensures { OnOk result
             (writer.new ≡ writer.old
@@ -176,6 +177,7 @@ impl CodeIssued {
         self.family_end.write(writer)
     }
 
+    // Writes what the token request must match: the URI, whether it was sent, and the challenge.
     fn write_bindings(&self, writer: &mut Writer) -> Result<(), AllocError>
         requires { code_issued.Fits self.now }
         ensures { OnOk result

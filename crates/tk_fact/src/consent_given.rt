@@ -11,7 +11,7 @@ use tk_format::{ReadError, Reader, Writer};
 use tk_handle::Dot;
 use tk_scope::Scope;
 
-/// A subject let a client have a scope (RFC 6749, 4.1). The consent's id is the fact's own dot.
+/// A subject let a client have a scope (RFC 6749, 4.1). The fact's dot is the consent's id.
 #[derive(Drop)]
 pub struct ConsentGiven {
     /// The dot of the client to which the consent was given.

@@ -93,6 +93,7 @@ impl Fact {
         self.fits();
     }
 
+    // Gives a proof the fact that a fact that passes its check has a spelling.
     fn fits(&self)
         requires { refusal_of self.now.1 ≡ None }
         ensures { fact.Fits self.now }

@@ -12,7 +12,8 @@
 //! The crates above define what follows from several facts together. tk_scope and tk_match define
 //! scopes, redirection URIs, lists of them, and challenges.
 //!
-//! Each type is copied and compared, by `copy` and `same` or by derives if it is plain. Contracts
+//! Each type is copied and compared, by `copy` and `same` or by derives if it is plain. The methods
+//! `known` do nothing at run time: they give a proof the fact that a value has a spelling. Contracts
 //! see a value as the plain value that it stands for.
 //!
 //! In reading order: `Subject`, `Sort`, `MintedToken`, the ten kinds from `ClientAdded` to

@@ -23,6 +23,7 @@ pub struct Minted<'a> {
     pub scope: &'a Scope,
 }
 
+// Returns an access or refresh token as `Minted`, with the start that its fact has.
 fn minted_at(start: Moment, token: &MintedToken) -> Minted<'_>
     ensures { shown_minted result ≡ minted_at start token.now }
 {

@@ -77,6 +77,7 @@ kind_undo kind.Code = refl
 kind_undo kind.Access = refl
 kind_undo kind.Refresh = refl
 
+-- a token with its kind as plain data, and back, is the token
 token_by : (d : Dot) (k : Kind)
     → ◌≡◌ {A = TokenId} (record { dot = d; kind = kind_back (kind_out k) })
     (record { dot = d; kind = k })

@@ -122,8 +122,7 @@ buried T at q = if bad_in (T at) && is_dot (code_in (T at)) q then with_dead (T 
 
 -- ---- the code that a link comes under
 
--- the code that a link comes under: the code of its parent, or the dot itself if the link names
--- none
+-- the code that a link comes under: the code of its parent, or its own dot if it names no dot
 abbrev pub chain_by : Rows → Dot → Link → Option Dot → Option Dot
 chain_by T d l None = Some d
 chain_by T d l (Some p) = if fits_over l (link_in (T p)) then code_in (T p) else None

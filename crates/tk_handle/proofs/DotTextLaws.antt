@@ -127,7 +127,7 @@ module _ (mark : ℕ) (parts : ¬ (IsInRange 48 57 mark)) where
       some_injective : {x y : Dot} → Some x ≡ Some y → x ≡ y
       some_injective h = cc
 
--- no second number stands behind a text without the byte
+-- a text without the byte `mark` has no number behind that byte
 nothing_behind : (mark : ℕ) (text : List ℕ) (n : ℕ) → length text ≤ position_or_len (λ b. b == mark) text → decimal_in (after_first (λ b. b == mark) text) ≢ Some n
 nothing_behind mark text n none e =
     let h = decimal_found (after_first (λ b. b == mark) text) n e in

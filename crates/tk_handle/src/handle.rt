@@ -75,6 +75,7 @@ impl Handle {
         Sha256::digest(self.bytes().as_slice())
     }
 
+    // Returns the 36 bytes of the handle.
     fn bytes(&self) -> [u8; 36]
         ensures { result ≡ handle_bytes self.now }
     {
@@ -108,6 +109,7 @@ impl Handle {
         Handle::of_bytes(&bytes[..count])
     }
 
+    // Returns the handle that all of the bytes together spell.
     fn of_bytes(bytes: &[u8]) -> Option<Handle>
         ensures value { result ≡ whole handle bytes.now }
         ensures found { IfSome result (λ h. handle.Fits h × (bytes.now ≡ handle_bytes h)) }
@@ -121,6 +123,7 @@ impl Handle {
         }
     }
 
+    // Takes a handle from the front.
     fn read_front(reader: &mut Reader<'_>) -> Option<Handle>
         ensures { Reads (λ h. h) handle result reader.old reader.new }
     {
@@ -134,6 +137,7 @@ impl Handle {
         })
     }
 
+    // Takes the three random words.
     #[tactic(auto, unfolding(tk_format::specs::Format::read_many))]
     fn read_words(reader: &mut Reader<'_>) -> Option<[u64; 3]>
         ensures { Reads (λ w. w) (repeated 3 (number w64)) result reader.old reader.new }

@@ -36,6 +36,7 @@ impl RegionNumber {
         Some(RegionNumber { number })
     }
 
+    // Returns the region of a number that is known to be in range.
     pub(crate) fn of(number: u16) -> RegionNumber
         requires { IsRegion number }
         ensures { result ≡ number }

@@ -158,6 +158,7 @@ fn s256(verifier: &[u8]) -> [u8; 43]
     text
 }
 
+// Returns whether the text is 43 to 128 unreserved bytes.
 fn is_verifier(text: &[u8]) -> bool
     ensures { result ≡ is_verifier text.now }
 {

@@ -8,7 +8,7 @@
 //! - `reply_uri`, the URI that a browser is sent back to;
 //! - `Challenge`, which a client later meets with a verifier.
 //!
-//! The crates above decide what a request is answered, and when a challenge is required. Two URIs
+//! The crates above decide the reply to a request, and when a challenge is required. Two URIs
 //! are equal if their bytes are: nothing is normalised, and a port never varies. The crate `url`
 //! defines which texts are absolute URLs. No claim is made about the time that a comparison takes.
 //!

@@ -191,6 +191,7 @@ impl Redirects {
     }
 }
 
+// Reads each of the texts as a URI.
 fn read_each(alloc: Global, texts: &[&[u8]]) -> Result<Vec<Uri>, RedirectError>
     ensures ok { IfOk result (λ uris. uris.items ≡ map (λ x. x.now) texts.now) }
     ensures rule { OnOk result (list_all is_uri (map (λ x. x.now) texts.now) ≡ true) }
@@ -219,6 +220,7 @@ fn put_read(alloc: Global, uris: &mut Vec<Uri>, text: &[u8]) -> Result<(), Redir
     }
 }
 
+// Fails with `Bad` at the first URI that is no absolute URL.
 fn check_absolute(alloc: Global, uris: &[Uri]) -> Result<(), RedirectError>
     ensures ok { OnOk result (list_all is_absolute uris.now ≡ true) }
     ensures err { IfErr result (λ e. (e ≡ RedirectError.Bad) ⊎ (e ≡ RedirectError.Memory)) }

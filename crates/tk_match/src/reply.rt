@@ -21,6 +21,7 @@ pub fn reply_uri(alloc: Global, uri: &str, pairs: &[(&str, &str)]) -> Result<Str
     Ok(form.finish())
 }
 
+// Returns the URI with `&` or `?` behind it.
 fn with_joint(alloc: Global, uri: &str) -> Result<String, AllocError>
     ensures { IfOk result (λ text. string_bytes text ≡ uri.now ++ joint uri.now ∷ []) }
 {

@@ -98,6 +98,7 @@ impl Uri {
     }
 }
 
+// Returns whether the text is 1 to 512 visible ASCII bytes without `#`.
 fn is_uri(text: &[u8]) -> bool
     ensures { result ≡ is_uri text.now }
 {

@@ -62,6 +62,7 @@ fn encoded_in(header: &[u8]) -> Option<&[u8]>
     }
 }
 
+// Returns the bytes behind the scheme, if the scheme is Basic.
 fn encoded_behind<'a>(scheme: &[u8], rest: &'a [u8]) -> Option<&'a [u8]>
     ensures { option_copied result ≡ spec.encoded_behind scheme.now rest.now }
 {
@@ -79,6 +80,7 @@ fn is_scheme(bytes: &[u8]) -> bool
     bytes.eq_ignore_ascii_case(b"basic")
 }
 
+// Returns the bytes without their leading spaces.
 fn skip_spaces(bytes: &[u8]) -> &[u8]
     ensures { result.now ≡ spec.skip_spaces bytes.now }
 {
@@ -116,6 +118,7 @@ fn read_halves(alloc: Global, bytes: &[u8]) -> Result<Option<Basic>, AllocError>
     }
 }
 
+// Decodes the id and the secret, each form-encoded as a whole.
 fn read_texts(alloc: Global, id: &[u8], secret: &[u8]) -> Result<Basic, AllocError>
     ensures { IfOk result (λ basic. basic ≡ (text_of id.now, text_of secret.now)) }
 {
@@ -140,6 +143,7 @@ fn around_first(bytes: &[u8], mark: u8) -> Option<(&[u8], &[u8])>
     }
 }
 
+// Returns the place of the first `mark`.
 fn first_place(bytes: &[u8], mark: u8) -> Option<usize>
     ensures value { result ≡ position (λ b. b == mark) bytes.now }
     ensures within { IfSome result (λ at. at < length bytes.now) }

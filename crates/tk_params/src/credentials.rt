@@ -113,6 +113,8 @@ fn text_in<'b>(text: &'b Option<CowStr<'_>>) -> Option<&'b str>
     }
 }
 
+// Returns the credentials of the body: `client_id` and `client_secret`, borrowed from the
+// parameters.
 fn of_body(params: &Params) -> Credentials<'_>
     ensures { result ≡ spec.of_body params.now }
 {
@@ -131,6 +133,7 @@ fn borrowed<'a>(text: Option<&'a str>) -> Option<CowStr<'a>>
     }
 }
 
+// Reads the credentials of a header, beside a body that may name no secret and no other client.
 fn of_header<'a>(
     alloc: Global,
     header: &[u8],
@@ -152,6 +155,7 @@ fn of_header<'a>(
     }
 }
 
+// Returns the credentials of a header, unless the body names another client.
 fn beside_body<'a>(basic: Basic, id: Option<&str>) -> Result<Credentials<'a>, CredentialsError>
     ensures ok { IfOk result
         (λ c. spec.beside_body basic (option_copied id.entry) ≡ spec.Presents c) }
@@ -166,6 +170,7 @@ fn beside_body<'a>(basic: Basic, id: Option<&str>) -> Result<Credentials<'a>, Cr
     }
 }
 
+// Returns the credentials of a header. An empty secret counts as absent.
 fn of_basic<'a>(basic: Basic) -> Credentials<'a>
     ensures { result ≡ spec.of_basic basic }
 {

@@ -7,7 +7,7 @@
 //! - `One`, how often a name occurs;
 //! - `Credentials`, a client's id and secret, from a Basic header or from the parameters.
 //!
-//! The crates above decide which names an endpoint knows, what it answers if a name occurs twice,
+//! The crates above decide which names an endpoint knows, its reply if a name occurs twice,
 //! and whose the credentials are. The crates `form_urlencoded` and `base64` define form encoding
 //! and base64; this crate defines which bytes they are applied to. No claim is made about the time
 //! that a comparison takes.

@@ -104,6 +104,7 @@ impl Params {
     }
 }
 
+// Decodes the pairs that have a value, in order.
 fn read_pairs(alloc: Global, input: &[u8]) -> Result<Vec<(String, String)>, AllocError>
     ensures { IfOk result (λ pairs. owned_texts pairs.items ≡ params_of input.now) }
 {
@@ -117,6 +118,7 @@ fn read_pairs(alloc: Global, input: &[u8]) -> Result<Vec<(String, String)>, Allo
     Ok(pairs)
 }
 
+// Returns the value of a name, if it occurs once.
 fn find_one<'a>(pairs: &'a [(String, String)], name: &str) -> One<'a>
     ensures { IsOne result (values_of name.now (owned_texts pairs.now)) }
 {

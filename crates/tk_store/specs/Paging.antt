@@ -3,7 +3,7 @@
 --   last_dot          the cursor of the next page
 --   TookPages         a set holds the pages that were made for a vector, one after another, until
 --                     no more followed
---   PagingCompletes   a set that took all pages holds all that the sender held when the first page was made
+--   PagingCompletes   a set that took all pages holds all that the sender held at the first page
 use Rattle.std.specs.Prelude.{
   ◌≡◌,
   ℕ,

@@ -109,6 +109,7 @@ fn read_entries(
     Ok(entries)
 }
 
+// Reads the magic, the count, and as many entries.
 fn read_listed(
     alloc: Global,
     reader: &mut Reader<'_>,
