@@ -335,7 +335,8 @@ verifier_short t h =
 pub challenge_fits : (c : ChallengeFields) → is_verifier c.text ≡ true → challenge_bytes.Fits c.text
 challenge_fits c h = (omega (arith, verifier_short c.text h), h)
 
--- `challenge_of` returns a challenge exactly if its text has the grammar, with either method
+-- for `plain_challenge` and `s256_challenge`: a known method gives a challenge exactly if the text
+-- has the grammar
 by_text : (is_s256 verifier : Bool) (t : List ℕ)
     → cond (is_none (cond verifier None (Some ChallengeError.Grammar)))
     (challenge_with is_s256 t) None ≡ cond verifier (challenge_with is_s256 t) None

@@ -85,7 +85,7 @@ dot_short d = both_short (number_spelling w16 d.region) (number_spelling w64 d.s
 moment_short : (n : ℕ) → length (moment.spell n) ≤ 8
 moment_short n = omega (arith, number_length w64 n)
 
--- a text that is a scope is no longer than `greatest_length`
+-- for `scope_within`: a text that breaks no rule of a scope is not too long
 scope_by : (long grammar many : Bool) (s t : List ℕ)
     → cond (is_some (cond long (Some ScopeError.TooLong)
     (cond grammar (Some ScopeError.Grammar) (cond many (Some ScopeError.TooMany) None)))) None

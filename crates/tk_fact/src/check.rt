@@ -27,8 +27,11 @@ pub enum FactError {
     /// Never returned for a fact built in memory: `Subject`, `Uri`, `Redirects` and `Challenge`
     /// enforce these limits.
     Limit,
-    /// An expiry is before its start, a generation is not 1 to 10,000, a revoked token is a code,
-    /// or a token used again is an access token.
+    /// A field is outside its range.
+    ///
+    /// - An expiry, or the end of a family, is before the start.
+    /// - A generation is not 1 to 10,000.
+    /// - A revoked token is a code, or a token used again is an access token.
     Range,
 }
 

@@ -44,8 +44,8 @@ below_under f g d l a q p c ne m under =
     let nep : p ≢ d = λ same. IsPath-here f p under.path c under.leads (ap f same ∙ a.free) in
     record { path = p ∷ under.path; leads = ((IsParent-before f g d l a q p ne nep m, under.leads.0), under.leads.1) }
 
--- a dot under a code with one more link was under it before, or is in any set that has the new dot
--- and all children of its dots
+-- a dot that is under a code with one more link was under that code before, or is in the set `In`;
+-- the set has the new dot and all children of its dots
 pub IsPath-adds : (f g : Links) (d : Dot) (l : Link) (In : Dot → Bool) → Adds f g d l → In d ≡ true → ((x e : Dot) → In x ≡ true → IsParent g e x → In e ≡ true) → (q : Dot) (ps : List Dot) (c : Dot) → IsPath g q ps c → (In q ≡ true) ⊎ IsUnder f q c
 IsPath-adds f g d l In a root closed q [] c m = elim (cases_dots q d) [
   | inl same ↦ inl (ap In same ∙ root)

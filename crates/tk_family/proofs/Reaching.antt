@@ -1,5 +1,5 @@
--- The walk from a dot whose chain has come to reach a code, through all that hangs below it, in a
--- list that is its own queue (`Walk`, its invariant).
+-- The walk through all that hangs below a dot whose chain now reaches a code. The walk keeps a list
+-- that is its own queue (`Walk`, its invariant).
 use Rattle.std.proofs.Common.{◌≡◌, ◌≢◌, ◌⊎◌, inl, inr, ◌+◌, ◌≤◌, true, false, List, [], ◌∷◌, ◌++◌, ap, sym, ◌∙◌, arith, append_assoc, subst, rules}
 use Rattle.std.proofs.lemmas.Bool.{true≢false}
 use Rattle.std.specs.List.{IsDistinct}

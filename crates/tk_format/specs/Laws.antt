@@ -401,7 +401,7 @@ after_exact magic f p = record {
 
 -- ---- a byte for a value
 
--- the two functions of a one-byte code undo each other, and each code is a byte
+-- the two functions of a one-byte code undo each other
 pub record IsCode {A : Type 0} (code : A → ℕ) (of : ℕ → Option A) : Type 0 where
   pub back : (b : ℕ) (a : A) → of b ≡ Some a → code a ≡ b
   pub forth : (a : A) → of (code a) ≡ Some a

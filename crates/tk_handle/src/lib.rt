@@ -12,8 +12,8 @@
 //! - `Handle`, a token's name and three random words; clients hold its text, facts keep its digest.
 //!
 //! This crate has no clock and no generator: callers pass moments and random words. Each type that
-//! is part of a fact has `read` and `write` for its bytes, and `known`, which gives a proof the
-//! fact that the value has a spelling.
+//! is part of a fact has `read` and `write` for its bytes. Its method `known` does nothing at run
+//! time: it gives a proof the fact that the value has a spelling.
 //!
 //! The definitions are in `specs/`, `Ranges` first and then a file for each type. `SortedEntries`
 //! is for the sorted lists of the crates above. The laws of the formats are in

@@ -51,8 +51,8 @@ abbrev pub HoldsCovered : Vector → FactSet → FactSet → Type 0
 HoldsCovered v F R =
     (d : Dot) (b : Body) → sets.get F d ≡ Some b → Covers v d → sets.get R d ≡ Some b
 
--- a receiver that holds all that the vector covers, and all pages made for the vector until no more
--- follow, holds all that the sender held when the first page was made
+-- paging loses nothing: a receiver that holds all that the vector covers, and every page made for
+-- the vector, holds all that the sender held at the first page
 abbrev pub PagingCompletes : Type 0
 PagingCompletes =
     (limit : ℕ) (v : Vector) (F R : FactSet) (later : List FactSet) → 0 < limit → HoldsCovered v F R

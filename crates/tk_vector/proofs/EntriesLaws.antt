@@ -83,7 +83,7 @@ few (e ∷ es) first last h one other low high =
 
 -- ---- whether the regions rise
 
--- a number below the least of a list is below each of the list
+-- a number below b is below each element that b is below
 below_all_from : (a b : ℕ) (es : Entries) → a < b → T (below_all nat_cmp b es) → T (below_all nat_cmp a es)
 below_all_from a b [] lt h = tt
 below_all_from a b (e ∷ es) lt h =

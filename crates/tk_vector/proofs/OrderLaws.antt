@@ -108,7 +108,7 @@ raised_more V es N M i r n so within here some is = record {
   ]);
 }
 
--- a vector that has each of its entries at most c's is below c
+-- what is found in a list whose entries are each at most c's is at most c's entry
 found_below : (es : List (ℕ × ℕ)) (c : Vector) (q : ℕ) → ((k : ℕ) (d : ℕ × ℕ) → k < length es → AtMost (Some (get_or es k d).1) (map.get c (get_or es k d).0)) → AtMost (map.find nat_cmp q es) (map.get c q)
 found_below [] c q all = tt
 found_below (e ∷ es) c q all = elim (cases_Bool (eq_by_cmp nat_cmp q e.0)) [
