@@ -3,9 +3,9 @@
 //! A `Fact` is a `Body` at a `Dot`, and a body is of one of ten kinds.
 //!
 //! - `Fact::check` returns which rule a fact breaks, if any.
-//! - `Fact::write` and `Fact::read` convert it to and from bytes: the dot, a byte for the kind, and
-//!   the
-//! fields in the order of the kind's struct. A fact has exactly one spelling.
+//! - `Fact::write` and `Fact::read` convert a fact to and from bytes: the dot, a byte for the kind,
+//!   and
+//! the fields in the order of the kind's struct. A fact has exactly one spelling.
 //! - `Fact::minted` and `Fact::uses` return the tokens that a fact mints, and the token that it
 //!   uses up.
 //!
@@ -13,8 +13,8 @@
 //! scopes, redirection URIs, lists of them, and challenges.
 //!
 //! Each type is copied and compared, by `copy` and `same` or by derives if it is plain. The methods
-//! `known` do nothing at run time: they give a proof the fact that a value has a spelling. Contracts
-//! see a value as the plain value that it stands for.
+//! `known` do nothing at run time: they give a proof the fact that a value has a spelling.
+//! Contracts see a value as the plain value that it stands for.
 //!
 //! In reading order: `Subject`, `Sort`, `MintedToken`, the ten kinds from `ClientAdded` to
 //! `SubjectOut`, `Body`, `Fact`, `Minted`. The definitions are in `specs/`: `Subject` for the name
