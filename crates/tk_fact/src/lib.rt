@@ -4,8 +4,7 @@
 //!
 //! - `Fact::check` returns which rule a fact breaks, if any.
 //! - `Fact::write` and `Fact::read` convert a fact to and from bytes: the dot, a byte for the kind,
-//!   and
-//! the fields in the order of the kind's struct. A fact has exactly one spelling.
+//!   and the fields in the order of the kind's struct. A fact has exactly one spelling.
 //! - `Fact::minted` and `Fact::uses` return the tokens that a fact mints, and the token that it
 //!   uses up.
 //!

@@ -12,11 +12,10 @@
 //!
 //! - each dot under a code has the name of that code;
 //! - each code of a dead family has a tombstone, and no other dot of the family has one: what comes
-//! under the code later is dead by the code's tombstone;
+//!   under the code later is dead by the code's tombstone;
 //! - each token has the number of links that use it: none, one, or more;
 //! - the dots whose links name a dot hang in a chain from that dot, whether or not they fit. There
-//!   they
-//! wait for a dot that has no link yet.
+//!   they wait for a dot that has no link yet.
 //!
 //! Modules: `look` reads rows, `write` writes them, `gather` finds what hangs below a dot, `put`
 //! puts a link by these, `mark` marks a token, `find` looks things up.
@@ -28,8 +27,7 @@
 //! 3. `specs/Tops.antt`, `Top` and `Forest`;
 //! 4. `specs/Rows.antt`, `specs/Kept.antt`, `specs/Writes.antt` and `specs/Puts.antt`;
 //! 5. `row`, `look`, `write`, `gather`, `put`, `mark`, `find`; `proofs/Growth.antt` has the main
-//!    lemmas
-//! of `put`.
+//!    lemmas of `put`.
 #![tactic(auto)]
 
 mod find;

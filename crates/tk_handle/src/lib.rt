@@ -6,8 +6,7 @@
 //! - `Dot`, the name of a fact: a region number and a serial, with the text `R:S`;
 //! - `Moment`, in whole seconds;
 //! - `client_text` and `consent_text`, which write the ids of clients and consents from the dots of
-//!   the
-//! facts that added them; `read_client` and `read_consent` read exactly these texts;
+//!   the facts that added them; `read_client` and `read_consent` read exactly these texts;
 //! - `Kind` and `TokenId`: a token is named by the dot of the fact that minted it, and by its kind;
 //! - `Handle`, a token's name and three random words; clients hold its text, facts keep its digest.
 //!

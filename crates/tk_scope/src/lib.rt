@@ -8,7 +8,7 @@
 //!
 //! - [`ScopeError`], why a text is refused, in the order of the tests;
 //! - [`Scope`], with `read`, `within`, `text`, `copy` and `same`, limited to [`MAX_BYTES`] and
-//! [`MAX_TOKENS`].
+//!   [`MAX_TOKENS`].
 //!
 //! Contracts see a `Scope` as the bytes of its printed form. Therefore equal sets are equal values.
 //! `specs/Scope.antt` defines what the contracts cite.

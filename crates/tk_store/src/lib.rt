@@ -4,13 +4,13 @@
 //!
 //! - `add` joins one fact to the set or refuses it, and `take_back` undoes an addition.
 //! - `get` looks a fact up. `next_after` and `facts` walk the set in the order of the dots, without
-//! making a list of it.
+//!   making a list of it.
 //! - `vector` returns the front of the set.
 //! - `since` returns the first dots, above a cursor, that a version vector does not cover.
 //! - `next_dot` returns the dot of a region's next fact.
 //! - `Join` joins two stores.
 //!
-//! Only `facts` and the methods of `Join` walk over all facts.
+//! Only `facts`, `agrees` and the methods of `Join` walk over all facts.
 //!
 //! Contracts see a store as a finite map from dots to bodies. The store keeps a map by dot
 //! (`table`) and the front (`advance`); the crates above see neither. The definitions are in
