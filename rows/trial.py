@@ -24,6 +24,7 @@ class Ran:
     def __init__(self):
         self.output, self.errors, self.status = b"", b"", None  # no status where it had to be ended
         self.replies = []  # what came back of each connection
+        self.lasted = []  # how many milliseconds each was open
         self.files = {}  # what each file had then that the row speaks of; None where there was none
 
     def port(self):
@@ -143,26 +144,51 @@ def wait_for_port(process, ran):
         ran.output += piece
 
 
-def answered(port, sent):
-    """What comes back of a connection that sends this."""
-    said = b""
+def send_at_once(connection, sent):
+    """Sends the bytes and ends the stream. It yields what comes back."""
+    connection.sendall(sent)
+    connection.shutdown(socket.SHUT_WR)
+    while piece := connection.recv(65536):
+        yield piece
+
+
+def send_in_drips(connection, sent, gap):
+    """Sends the bytes one by one, so many milliseconds apart. It yields what comes back."""
+    left, end = sent, time.monotonic() + SECONDS
+    while time.monotonic() < end:
+        if select.select([connection], [], [], gap / 1000)[0]:
+            piece = connection.recv(65536)
+            if not piece:
+                return
+            yield piece
+        elif left:
+            connection.sendall(left[:1])
+            left = left[1:]
+
+
+def answered(port, wanted):
+    """What comes back of a connection, and how many milliseconds it was open."""
+    time.sleep(wanted.pause / 1000)
+    said, begun = b"", time.monotonic()
     try:
         with socket.create_connection(("127.0.0.1", port), SECONDS) as connection:
-            connection.sendall(sent)
-            connection.shutdown(socket.SHUT_WR)
-            while piece := connection.recv(65536):
+            sending = (send_in_drips(connection, wanted.sent, wanted.drip[0]) if wanted.drip
+                       else send_at_once(connection, wanted.sent))
+            for piece in sending:
                 said += piece
     except OSError:
         pass  # what came before stands
-    return said
+    return said, round((time.monotonic() - begun) * 1000)
 
 
 def talk(process, row, ran):
     """Makes the row's connections, sends the program its events, and waits for its end."""
     if row.connections:
         wait_for_port(process, ran)
-    if ran.port():
-        ran.replies = [answered(int(ran.port()), sent) for sent, _ in row.connections]
+    for connection in row.connections if ran.port() else []:
+        said, lasted = answered(int(ran.port()), connection)
+        ran.replies.append(said)
+        ran.lasted.append(lasted)
     sent = row.sent() if process.stdin else None
     try:
         output, errors = process.communicate(sent, SECONDS)
