@@ -4,7 +4,9 @@
 mod frail;
 mod ledger;
 mod region;
+mod results;
 mod serving;
+mod talks;
 mod uncalled;
 
 use crate::Edge;
