@@ -20,7 +20,7 @@ class Connection:
 
     def __init__(self, pause, drip):
         self.pause = pause  # how many milliseconds pass before the client connects
-        self.drip = drip  # how many pass between two bytes, how many the connection lasts, and the place
+        self.drip = drip  # how many pass between two bytes, how many it may be open, and the place
         self.sent = b""
         self.reply = []  # the texts that are to come back, each with its place
 
@@ -31,10 +31,11 @@ class Part:
     def __init__(self, place, is_row, name):
         self.place, self.is_row, self.name = place, is_row, name
         self.words = []  # a list for each time that it is run
-        self.events = []  # of each the bytes that are sent, and the lines of its answer, each with its place
+        self.events = []  # of each its bytes, and the lines of its answer, each with its place
         self.errors, self.status = [], 0
         self.devices = {}  # to `0<`, `1>` and `2>` what becomes of them, and the place
-        self.files, self.afterwards = {}, {}  # to each name its bytes; and what they are to be then, each text with its place
+        self.files = {}  # to each name its bytes
+        self.afterwards = {}  # to each name what its bytes are to be then, as texts with places
         self.connections = []
         self.coming = {}  # to the signs `--` and `-:` what they say of the next connection
         self.beginnings, self.is_used = [], False
@@ -59,10 +60,10 @@ def is_between(line):
 
 
 def end_of(sign, lines, at):
-    """Where what comes several times ends: an event and its answer or a line, or all before a line **."""
-    stops = [k for k in range(at, len(lines)) if (lines[k][1] == "**" if sign == "**" else not is_between(lines[k][1]))]
+    """Where what comes several times ends: an event and its answer, a line, or all before a **."""
     if sign == "**":
-        return stops[0] if stops else None
+        return next((k for k in range(at, len(lines)) if lines[k][1] == "**"), None)
+    stops = [k for k in range(at, len(lines)) if not is_between(lines[k][1])]
     return stops[1] if len(stops) > 1 else len(lines)
 
 
@@ -193,7 +194,8 @@ def put(part, line, place, known):
             part.events.append((b"", []))
         part.events[-1][1].append((text[1:].encode() + b"\n", place))
     elif EVENT.match(line):
-        part.events.append((bytes_in(text, place) if sign == "\\" else (text if sign == ">" else line).encode() + b"\n", []))
+        whole = (text if sign == ">" else line).encode() + b"\n"
+        part.events.append((bytes_in(text, place) if sign == "\\" else whole, []))
     elif sign not in FORMS:
         raise Bad("%s: neither an event nor a line of another form" % place)
     elif not (part.is_row or sign in ("<<", "+")):
@@ -204,7 +206,8 @@ def put(part, line, place, known):
 
 def read(part, lines, known):
     """Reads the lines of a row or a beginning, which may use these beginnings."""
-    empty, was_answer = 0, False  # how many empty lines there were just now, and whether a line of an answer before them
+    # How many empty lines there were just now, and whether a line of an answer was before them.
+    empty, was_answer = 0, False
     for place, line in repeated(lines):
         if not line.strip():
             empty += 1
@@ -247,10 +250,11 @@ def rows_in(place, name, lines, known, tables):
     each = [(p, line[2:]) for p, line in lines if line.startswith("% ")]
     rest = [(p, line) for p, line in lines if not line.startswith("% ")]
     if len(each) > 1 or bool(each) != any("{it}" in line for _, line in rest):
-        raise Bad("%s: a row has one line of what it is run for where it has {it}, and else none" % place)
+        raise Bad("%s: a row has {it} and one line of what it is run for, or neither" % place)
     if not each:
         return [read(Part(place, True, name), rest, known)]
-    return [read(Part(place, True, "%s, %s" % (name, what)), [(p, line.replace("{it}", it)) for p, line in rest], known)
+    return [read(Part(place, True, "%s, %s" % (name, what)),
+                 [(p, line.replace("{it}", it)) for p, line in rest], known)
             for what, it in items_in(each[0][1], each[0][0], tables)]
 
 
@@ -268,13 +272,14 @@ class Table:
 
 
 def blocks_in(name):
-    """What a file has: of each row, beginning and table its place, its sign, its name and its lines."""
+    """Of each row, beginning and table of a file its place, its sign, its name and its lines."""
     with open(os.path.join(HERE, name), "rb") as f:
         content = f.read()
     try:
         lines = content.decode().split("\n")
     except UnicodeDecodeError as e:
-        raise Bad("rows/%s:%d: bytes that are no text" % (name, content.count(b"\n", 0, e.start) + 1))
+        line = content.count(b"\n", 0, e.start) + 1
+        raise Bad("rows/%s:%d: bytes that are no text" % (name, line))
     blocks = []
     for number, line in enumerate(lines, 1):
         place, (sign, _, text) = "rows/%s:%d" % (name, number), line.partition(" ")
