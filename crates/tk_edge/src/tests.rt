@@ -4,7 +4,7 @@
 //!   and `talks` the requests.
 //! - `region` and `ledger`: a region and ledgers to which memory is refused, ledgers beside a plain
 //!   one, forests, and how many look-ups an answer takes.
-//! - `results`: results of calls that the program doesn't print.
+//! - `results` and `uris`: results of calls that the program doesn't print.
 //! - `uncalled`: calls that no program makes.
 
 mod frail;
@@ -14,6 +14,7 @@ mod results;
 mod serving;
 mod talks;
 mod uncalled;
+mod uris;
 
 use crate::Edge;
 use std::alloc::Global;
