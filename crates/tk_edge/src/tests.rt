@@ -1,11 +1,20 @@
-//! What no row of `rows/` can show: connections over devices that fail at each of their calls, in `serving`; and of the crates below, which
-//! have no tests, regions and ledgers to which memory is refused, ledgers beside a plain one, and in `uncalled` what no program calls.
+//! Tests of what no row of `rows/` can show, of this crate and of the crates below, which have none.
+//!
+//! - `serving`: connections over devices that fail at each of their calls. `frail` has the devices,
+//!   and `talks` the requests.
+//! - `region` and `ledger`: a region and ledgers to which memory is refused, ledgers beside a plain
+//!   one, forests, and how many look-ups an answer takes.
+//! - `results` and `uris`: results of calls that the program doesn't print.
+//! - `uncalled`: calls that no program makes.
 
 mod frail;
 mod ledger;
 mod region;
+mod results;
 mod serving;
+mod talks;
 mod uncalled;
+mod uris;
 
 use crate::Edge;
 use std::alloc::Global;

@@ -1,10 +1,12 @@
 //! What is said of the tokens of a family, whatever the order in which its facts come: the tests of tk_ledger and, in `forests`, of
 //! tk_family, which stand here since a crate with tests is proved once more. `plain` is a ledger that walks its facts, to compare with.
 
+mod checked;
 mod ends;
 mod facts;
 mod forests;
 mod generated;
+mod joined;
 mod long;
 mod orders;
 mod plain;
@@ -172,9 +174,9 @@ const ACCESS_BY_ANOTHER: &[Told] =
 const ACCESS_BY_CLIENT: &[Told] =
     &[ADDED, GIVEN, ISSUED, OTHER_ADDED, GRANTED, ((2, 1), Says::TokenRevoked(ACCESS, CLIENT))];
 
-#[rattlefmt::skip]
-const REFRESH_BY_CLIENT: &[Told] =
-    &[ADDED, GIVEN, ISSUED, OTHER_ADDED, GRANTED, ((2, 1), Says::TokenRevoked(REFRESH, CLIENT))];
+const TOKEN_REVOKED: Told = ((2, 1), Says::TokenRevoked(REFRESH, CLIENT));
+
+const REFRESH_BY_CLIENT: &[Told] = &[ADDED, GIVEN, ISSUED, OTHER_ADDED, GRANTED, TOKEN_REVOKED];
 
 #[rattlefmt::skip]
 const GUESSED: &[Told] =

@@ -201,7 +201,7 @@ fn are_added(alloc: Global, ledger: &mut Ledger, facts: &[Told]) -> bool {
 }
 
 // A ledger of the facts, none of which is refused memory.
-fn fresh(alloc: Global, facts: &[Told]) -> Option<Ledger> {
+pub(super) fn fresh(alloc: Global, facts: &[Told]) -> Option<Ledger> {
     let mut ledger = Ledger::new(alloc);
     if are_added(alloc, &mut ledger, facts) {
         Some(ledger)
