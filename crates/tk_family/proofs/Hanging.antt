@@ -1,4 +1,4 @@
--- Going along what hangs below a dot.
+-- Going along the chain of the dots that name a dot (`Pushing`, the loop's invariant).
 use Rattle.std.proofs.Common.{◌≡◌, ◌≢◌, inl, inr, ℕ, ◌-◌, ◌≤◌, Bool, true, false, cond, Option, None, Some, List, [], ◌∷◌, ◌++◌, length, filter, ap, sym, ◌∙◌, refl, arith, subst, append_assoc, append-nil, IsSome, BTreeMap, btree_map_len, rules}
 use Rattle.std.proofs.lemmas.Bool.{true≢false, cases_Bool, cond-true, cond-false, false_from_ne_true}
 use Rattle.std.proofs.lemmas.Map.Steps.{length-le_from_keys}
@@ -69,7 +69,8 @@ joined false old kept e = refl
 
 -- ---- the loop along the list
 
--- the list has what fits of the dots seen, and the rest hang on from the cursor
+-- the invariant: the list has the fitting dots of those seen, and the rest of the chain goes on
+-- from the cursor
 pub record Pushing (T : Rows) (x : Dot) (above : Link) (cursor : Option Dot) (old now : List Dot) (left : ℕ) : Type 0 where
   pub seen : List Dot
   pub rest : List Dot

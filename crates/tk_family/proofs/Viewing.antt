@@ -1,4 +1,4 @@
--- What the rows show is what their look-ups show.
+-- Rows and what contracts see of them have the same look-ups.
 use Rattle.std.proofs.Common.{◌≡◌, ◌||◌, ◌&&◌, not, Bool, true, false, cond, Option, None, Some, List, [], ◌∷◌, ap, sym, ◌∙◌, refl, BTreeMap}
 use Rattle.std.proofs.lemmas.Bool.{true≢false, and_parts}
 use Rattle.std.specs.declared.cmp.Ordering.{Ordering}
@@ -62,7 +62,7 @@ contains-seen_mark : (s : set.FinSet token_cmp) (k : TokenId) (b : Bool) (j : To
 contains-seen_mark s k true j = set.contains-insert tokens_total s k j ∙ insert_cond (eq_by_cmp token_cmp j k) (set.contains s j)
 contains-seen_mark s k false j = set.contains-remove tokens_total s k j ∙ remove_cond (eq_by_cmp token_cmp j k) (set.contains s j)
 
--- the three marks of a row
+-- what the marks of a row show of the token of a kind
 three : (b : Bool) (r : Row) (k : Kind) (old : Bool) (o : Option Row) → old ≡ marked_in o k
     → cond (b && is_eq (nat_cmp (kind_number k) 3)) r.marked_refresh (cond (b && is_eq (nat_cmp (kind_number k) 2)) r.marked_access (cond (b && is_eq (nat_cmp (kind_number k) 1)) r.marked_code old)) ≡ marked_in (cond b (Some r) o) k
 three false r k old o h = h
@@ -109,7 +109,7 @@ exact_tokens a b h =
     let parts : (is_eq (dot_cmp a.dot b.dot) ≡ true) × (is_eq (nat_cmp (kind_number a.kind) (kind_number b.kind)) ≡ true) = and_parts _ _ (sym (then_eq (dot_cmp a.dot b.dot) (nat_cmp (kind_number a.kind) (kind_number b.kind))) ∙ ap is_eq h) in
     token_is a b (dot_eq-true a.dot b.dot parts.0) (same_kind a.kind b.kind parts.1)
 
--- rows with the same look-ups show the same
+-- rows with the same look-ups are seen as the same forest
 pub seen_same : (m n : BTreeMap Dot Row) → ((q : Dot) → links_of (table n) q ≡ links_of (table m) q) → ((k : TokenId) → marks_of (table n) k ≡ marks_of (table m) k) → seen n ≡ seen m
 seen_same m n links marks =
     let l : seen_links n.entries ≡ seen_links m.entries = map.same_map dot_cmp_total dot_cmp-IsAntisymmetric _ _ (λ q. get-links n q ∙ (links q ∙ sym (get-links m q))) in

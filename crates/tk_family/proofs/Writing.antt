@@ -1,4 +1,4 @@
--- What the steps of `put` and `mark` write.
+-- What the steps of `put` and `mark` write into the rows.
 use Rattle.std.proofs.Common.{◌≡◌, inl, inr, true, false, cond, Option, None, Some, List, [], ◌∷◌, ◌++◌, option_map, ap, sym, ◌∙◌, refl, subst}
 use Rattle.std.proofs.lemmas.Bool.{true≢false, cases_Bool, cond-true, cond-false, false_from_ne_true}
 use Rattle.tk_handle.specs.declared.dot.Dot.{Dot}

@@ -1,4 +1,4 @@
-//! Where a dot stands, and whether a token is used, by rows alone: nothing walks.
+//! The state of a dot in its family, and whether a token is used, read from rows: nothing walks.
 
 ghost use Rattle.std.specs.Prelude.{◌≡◌, ◌+◌, ◌^◌, ◌<◌, ◌≤◌, ◌↔◌, IsTrue};
 ghost use Rattle.tk_family.specs.Families.{IsUsed};
@@ -14,10 +14,11 @@ use crate::top::Top;
 use std::collections::BTreeMap;
 use tk_handle::{Dot, TokenId};
 
-/// Where a dot stands, by one look-up, and one more where it is under a code.
+/// Returns where a dot is among families, by one look-up, or by two if the dot is under a code.
 pub(crate) fn top_of(rows: &BTreeMap<Dot, Row>, dot: Dot, steps: &mut Steps) -> Top
     requires { IsForest (table rows.now) }
-    ensures top { IsTop (links_of (table rows.now)) (passing (marks_of (table rows.now))) dot result }
+    ensures top { IsTop (links_of (table rows.now))
+        (passing (marks_of (table rows.now))) dot result }
     ensures at_least { steps.old + 1 < 2 ^ 64 → steps.old + 1 ≤ steps.new }
     ensures more { steps.old ≤ steps.new }
     ensures at_most { steps.new ≤ steps.old + 2 }
@@ -37,7 +38,7 @@ pub(crate) fn top_of(rows: &BTreeMap<Dot, Row>, dot: Dot, steps: &mut Steps) -> 
     }
 }
 
-/// Whether a link uses a token, by one look-up.
+/// Returns whether a link uses a token, by one look-up.
 pub(crate) fn is_used(rows: &BTreeMap<Dot, Row>, token: TokenId, steps: &mut Steps) -> bool
     requires { IsForest (table rows.now) }
     ensures used { IsTrue result ↔ IsUsed (links_of (table rows.now)) token }

@@ -1,4 +1,4 @@
-//! All that hangs below a dot, as a list that is its own queue.
+//! Gathering all that hangs below a dot, in a list that is its own queue.
 
 ghost use Rattle.std.specs.Prelude.{◌≡◌, None, OnOk, IfOk, IsSome};
 ghost use Rattle.tk_family.specs.Kept.{Hangs};
@@ -13,7 +13,7 @@ use std::alloc::{AllocError, Global};
 use std::collections::BTreeMap;
 use tk_handle::Dot;
 
-/// Adds the dots that hang below a dot and fit its link to the end of a list.
+/// Adds to the end of a list the dots that name a dot and whose links fit the link there.
 fn push_children(
     rows: &BTreeMap<Dot, Row>,
     dot: Dot,
@@ -21,7 +21,8 @@ fn push_children(
     list: &mut Vec<Dot>,
 ) -> Result<(), AllocError>
     requires { Hangs (table rows.now) dot }
-    ensures { OnOk result (Pushes (links_of (table rows.now)) dot above list.old.items list.new.items) }
+    ensures { OnOk result
+        (Pushes (links_of (table rows.now)) dot above list.old.items list.new.items) }
 {
     let mut cursor = first_at(rows, dot);
     let mut left = rows.len();
@@ -35,7 +36,7 @@ fn push_children(
     Ok(())
 }
 
-/// The link at a dot, once the link is put at its dot.
+/// Returns the link at a dot, once `link` is put at `dot`.
 fn link_with(rows: &BTreeMap<Dot, Row>, dot: Dot, link: &Link, at: Dot) -> Option<Link>
     ensures { result ≡ with_link (links_of (table rows.now)) dot link.now at }
 {
@@ -46,8 +47,8 @@ fn link_with(rows: &BTreeMap<Dot, Row>, dot: Dot, link: &Link, at: Dot) -> Optio
     }
 }
 
-/// What will be under the code that a dot is under, once a link is put there: the dot, and all that hangs below it by
-/// fitting links. Nothing is changed.
+/// Returns what a link at a dot will bring under the code that the dot is under: the dot, and all
+/// that hangs below it by fitting links. Changes nothing.
 pub(crate) fn gather(
     alloc: Global,
     rows: &BTreeMap<Dot, Row>,

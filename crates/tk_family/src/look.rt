@@ -2,7 +2,16 @@
 
 ghost use Rattle.std.specs.Prelude.{◌≡◌};
 ghost use Rattle.std.specs.List.{list_any};
-ghost use Rattle.tk_family.specs.Rows.{table, link_in, code_in, dead_in, first_in, next_in, used_in, bad_in};
+ghost use Rattle.tk_family.specs.Rows.{
+  table,
+  link_in,
+  code_in,
+  dead_in,
+  first_in,
+  next_in,
+  used_in,
+  bad_in,
+};
 ghost use Rattle.tk_family.specs.Puts.{fits_at};
 ghost use Rattle.tk_family.specs.Walks.{fits_over};
 
@@ -11,7 +20,7 @@ use crate::row::Row;
 use std::collections::BTreeMap;
 use tk_handle::{Dot, Kind};
 
-/// The link at a dot.
+/// Returns the link at a dot.
 pub(crate) fn link_at(rows: &BTreeMap<Dot, Row>, dot: Dot) -> Option<Link>
     ensures { result ≡ link_in (table rows.now dot) }
 {
@@ -21,7 +30,7 @@ pub(crate) fn link_at(rows: &BTreeMap<Dot, Row>, dot: Dot) -> Option<Link>
     }
 }
 
-/// The code that a dot is under.
+/// Returns the code that a dot is under.
 pub(crate) fn code_at(rows: &BTreeMap<Dot, Row>, dot: Dot) -> Option<Dot>
     ensures { result ≡ code_in (table rows.now dot) }
 {
@@ -31,7 +40,7 @@ pub(crate) fn code_at(rows: &BTreeMap<Dot, Row>, dot: Dot) -> Option<Dot>
     }
 }
 
-/// The first of the dots whose links name a dot.
+/// Returns the first of the dots whose links name a dot.
 pub(crate) fn first_at(rows: &BTreeMap<Dot, Row>, dot: Dot) -> Option<Dot>
     ensures { result ≡ first_in (table rows.now dot) }
 {
@@ -41,7 +50,7 @@ pub(crate) fn first_at(rows: &BTreeMap<Dot, Row>, dot: Dot) -> Option<Dot>
     }
 }
 
-/// The dot after a dot among those whose links name the same one.
+/// Returns the dot behind a dot in the chain of those whose links name one dot.
 pub(crate) fn next_at(rows: &BTreeMap<Dot, Row>, dot: Dot) -> Option<Dot>
     ensures { result ≡ next_in (table rows.now dot) }
 {
@@ -51,7 +60,7 @@ pub(crate) fn next_at(rows: &BTreeMap<Dot, Row>, dot: Dot) -> Option<Dot>
     }
 }
 
-/// The link at a dot, and the code that the dot is under.
+/// Returns the link at a dot, and the code that the dot is under.
 pub(crate) fn seen_at(rows: &BTreeMap<Dot, Row>, dot: Dot) -> (Option<Link>, Option<Dot>)
     ensures link { result.0 ≡ link_in (table rows.now dot) }
     ensures code { result.1 ≡ code_in (table rows.now dot) }
@@ -62,7 +71,7 @@ pub(crate) fn seen_at(rows: &BTreeMap<Dot, Row>, dot: Dot) -> (Option<Link>, Opt
     }
 }
 
-/// Whether the family of the code at a dot is dead.
+/// Returns whether the family of the code at a dot is dead.
 pub(crate) fn dead_at(rows: &BTreeMap<Dot, Row>, dot: Dot) -> bool
     ensures { result ≡ dead_in (table rows.now dot) }
 {
@@ -72,7 +81,7 @@ pub(crate) fn dead_at(rows: &BTreeMap<Dot, Row>, dot: Dot) -> bool
     }
 }
 
-/// Whether a link uses the token of a kind at a dot.
+/// Returns whether a link uses the token of a kind at a dot.
 pub(crate) fn used_at(rows: &BTreeMap<Dot, Row>, dot: Dot, kind: Kind) -> bool
     ensures { result ≡ used_in (table rows.now dot) kind }
 {
@@ -86,7 +95,7 @@ pub(crate) fn used_at(rows: &BTreeMap<Dot, Row>, dot: Dot, kind: Kind) -> bool
     }
 }
 
-/// Whether the code or refresh token of the link at a dot is marked, or used twice.
+/// Returns whether the code or refresh token of the link at a dot is marked, or used twice.
 pub(crate) fn is_bad(rows: &BTreeMap<Dot, Row>, at: Dot) -> bool
     ensures { result ≡ bad_in (table rows.now at) }
 {
@@ -100,14 +109,14 @@ pub(crate) fn is_bad(rows: &BTreeMap<Dot, Row>, at: Dot) -> bool
     }
 }
 
-/// Whether that is so at a dot of a list.
+/// Returns whether a list has a dot whose code or refresh token is marked, or used twice.
 pub(crate) fn is_any_bad(rows: &BTreeMap<Dot, Row>, list: &[Dot]) -> bool
     ensures { result ≡ list_any (λ q. bad_in (table rows.now q)) list.now }
 {
     list.iter().any(|at| is_bad(rows, *at))
 }
 
-/// Whether the link at a dot fits the link above it.
+/// Returns whether the link at a dot fits the link above it.
 pub(crate) fn fits_below(rows: &BTreeMap<Dot, Row>, dot: Dot, above: &Link) -> bool
     ensures { result ≡ fits_at (link_in (table rows.now dot)) above.now }
 {
@@ -117,7 +126,7 @@ pub(crate) fn fits_below(rows: &BTreeMap<Dot, Row>, dot: Dot, above: &Link) -> b
     }
 }
 
-/// Whether a link fits the link at a dot.
+/// Returns whether a link fits the link at a dot.
 pub(crate) fn fits_above(rows: &BTreeMap<Dot, Row>, link: &Link, above: Dot) -> bool
     ensures { result ≡ fits_over link.now (link_in (table rows.now above)) }
 {

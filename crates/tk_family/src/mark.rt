@@ -11,7 +11,7 @@ use std::alloc::AllocError;
 use std::collections::BTreeMap;
 use tk_handle::{Dot, TokenId};
 
-/// Marks a token: it is bad.
+/// Marks a token, which makes it bad.
 pub(crate) fn mark_token(rows: &mut BTreeMap<Dot, Row>, token: TokenId) -> Result<(), AllocError>
     requires { IsForest (table rows.old) }
     ensures ok { OnOk result (MarksOne (table rows.old) (table rows.new) token) }

@@ -1,6 +1,17 @@
 //! Putting a link.
 
-ghost use Rattle.std.specs.Prelude.{◌≡◌, true, false, None, OnOk, OnErr, IfOk, IsSome, [], IsSorted};
+ghost use Rattle.std.specs.Prelude.{
+  ◌≡◌,
+  true,
+  false,
+  None,
+  OnOk,
+  OnErr,
+  IfOk,
+  IsSome,
+  [],
+  IsSorted,
+};
 ghost use Rattle.tk_family.specs.Families.{named_by};
 ghost use Rattle.tk_family.specs.Kept.{IsForest};
 ghost use Rattle.tk_family.specs.Puts.{Gathers, Puts, NothingSeen};
@@ -18,12 +29,13 @@ use std::alloc::{AllocError, Global};
 use std::collections::BTreeMap;
 use tk_handle::Dot;
 
-/// Makes the rows that a link at a dot needs. They say nothing yet.
+/// Makes the rows that a link at a dot needs. New rows are blank.
 fn make_room(rows: &mut BTreeMap<Dot, Row>, dot: Dot, link: &Link) -> Result<(), AllocError>
     requires { IsForest (table rows.old) }
     ensures same { NothingSeen (table rows.old) (table rows.new) }
     ensures own { OnOk result (IsSome (table rows.new dot)) }
-    ensures named { OnOk result ((p : the_dot) → named_by link.now ≡ Some p → IsSome (table rows.new p)) }
+    ensures named { OnOk result
+        ((p : the_dot) → named_by link.now ≡ Some p → IsSome (table rows.new p)) }
 {
     add_row(rows, dot)?;
     if let Some(above) = named(link) {
@@ -32,7 +44,7 @@ fn make_room(rows: &mut BTreeMap<Dot, Row>, dot: Dot, link: &Link) -> Result<(),
     Ok(())
 }
 
-/// The code that a link comes under at a dot.
+/// Returns the code under which a link at a dot comes.
 fn code_for(rows: &BTreeMap<Dot, Row>, dot: Dot, link: &Link) -> Option<Dot>
     ensures { result ≡ chain_code (table rows.now) dot link.now }
 {
@@ -48,8 +60,8 @@ fn code_for(rows: &BTreeMap<Dot, Row>, dot: Dot, link: &Link) -> Option<Dot>
     }
 }
 
-/// The dots that come under a code by a link, where its chain is whole. They are all the memory that a put needs beside
-/// its rows.
+/// Returns the dots that a link brings under a code, if its chain reaches the code. Besides the
+/// rows this list is all the memory that a put takes.
 fn answer(
     alloc: Global,
     rows: &BTreeMap<Dot, Row>,
@@ -60,7 +72,8 @@ fn answer(
     requires forest { IsForest (table rows.now) }
     requires row { IsSome (table rows.now dot) }
     requires free { links_of (table rows.now) dot ≡ None }
-    ensures whole { IfOk result (λ ys. whole ≡ true → Gathers (links_of (table rows.now)) dot link.now ys.items) }
+    ensures whole { IfOk result
+        (λ ys. whole ≡ true → Gathers (links_of (table rows.now)) dot link.now ys.items) }
     ensures waits { IfOk result (λ ys. whole ≡ false → ys.items ≡ []) }
     ensures sorted { IfOk result (λ ys. IsSorted dot_cmp ys.items) }
 {
@@ -72,7 +85,7 @@ fn answer(
     Ok(dots)
 }
 
-/// Writes a link and all that follows from it. It takes no memory.
+/// Writes a link and all that follows from it. Takes no memory.
 fn write_put(rows: &mut BTreeMap<Dot, Row>, dot: Dot, link: &Link, code: Option<Dot>, dots: &[Dot])
     requires forest { IsForest (table rows.old) }
     requires free { links_of (table rows.old) dot ≡ None }
@@ -92,7 +105,7 @@ fn write_put(rows: &mut BTreeMap<Dot, Row>, dot: Dot, link: &Link, code: Option<
     }
 }
 
-/// Puts a link, and answers the dots that come under a code by that, in order.
+/// Puts a link, and returns the dots that it brings under a code, in order.
 pub(crate) fn put_link(
     alloc: Global,
     rows: &mut BTreeMap<Dot, Row>,

@@ -1,9 +1,21 @@
-//! Writes of rows. None but `add_row` takes memory.
+//! Writes of rows. Only `add_row` takes memory.
 
 ghost use Rattle.std.specs.Prelude.{◌≡◌, OnOk, OnErr, IsOk, IsSome, if◌then◌else◌, option_map};
 ghost use Rattle.tk_family.specs.Dots.{dot_eq};
 ghost use Rattle.tk_family.specs.Rows.{table};
-ghost use Rattle.tk_family.specs.Writes.{or_blank, with_code, with_dead, with_put, with_redeemer, with_rotator, with_marked, hung, settled, raised, buried};
+ghost use Rattle.tk_family.specs.Writes.{
+  or_blank,
+  with_code,
+  with_dead,
+  with_put,
+  with_redeemer,
+  with_rotator,
+  with_marked,
+  hung,
+  settled,
+  raised,
+  buried,
+};
 ghost use Rattle.tk_handle.specs.declared.dot.Dot.{Dot as the_dot};
 
 use crate::link::Link;
@@ -13,9 +25,11 @@ use std::alloc::AllocError;
 use std::collections::BTreeMap;
 use tk_handle::{Dot, Kind};
 
-/// Makes a row that says nothing, where there is none.
+/// Makes a blank row at a dot that has none.
 pub(crate) fn add_row(rows: &mut BTreeMap<Dot, Row>, at: Dot) -> Result<(), AllocError>
-    ensures ok { OnOk result ((q : the_dot) → table rows.new q ≡ (if dot_eq at q then or_blank (table rows.old q) else table rows.old q)) }
+    ensures ok { OnOk result
+        ((q : the_dot) → table rows.new q
+        ≡ (if dot_eq at q then or_blank (table rows.old q) else table rows.old q)) }
     ensures err { OnErr result ((q : the_dot) → table rows.new q ≡ table rows.old q) }
     ensures present { IsSome (table rows.old at) → IsOk result }
 {
@@ -26,9 +40,11 @@ pub(crate) fn add_row(rows: &mut BTreeMap<Dot, Row>, at: Dot) -> Result<(), Allo
     Ok(())
 }
 
-/// Writes a row in place of the one at a dot, if there is one.
+/// Replaces the row at a dot, if there is one.
 fn put_row(rows: &mut BTreeMap<Dot, Row>, at: Dot, row: Row)
-    ensures { (q : the_dot) → table rows.new q ≡ (if dot_eq at q then option_map (λ _. row) (table rows.old q) else table rows.old q) }
+    ensures { (q : the_dot)
+        → table rows.new q ≡
+        (if dot_eq at q then option_map (λ _. row) (table rows.old q) else table rows.old q) }
 {
     if let Some(slot) = rows.get_mut(&at) {
         *slot = row;
@@ -37,7 +53,9 @@ fn put_row(rows: &mut BTreeMap<Dot, Row>, at: Dot, row: Row)
 
 /// Writes the code that a dot is under.
 fn set_code(rows: &mut BTreeMap<Dot, Row>, at: Dot, code: Dot)
-    ensures { (q : the_dot) → table rows.new q ≡ (if dot_eq at q then with_code (table rows.old q) code else table rows.old q) }
+    ensures { (q : the_dot)
+        → table rows.new q ≡
+        (if dot_eq at q then with_code (table rows.old q) code else table rows.old q) }
 {
     if let Some(row) = rows.get(&at) {
         let changed = row.with_code(code);
@@ -47,7 +65,9 @@ fn set_code(rows: &mut BTreeMap<Dot, Row>, at: Dot, code: Dot)
 
 /// Writes a tombstone: the family of the code at a dot is dead.
 fn set_dead(rows: &mut BTreeMap<Dot, Row>, at: Dot)
-    ensures { (q : the_dot) → table rows.new q ≡ (if dot_eq at q then with_dead (table rows.old q) else table rows.old q) }
+    ensures { (q : the_dot)
+        → table rows.new q ≡
+        (if dot_eq at q then with_dead (table rows.old q) else table rows.old q) }
 {
     if let Some(row) = rows.get(&at) {
         let changed = row.with_dead();
@@ -55,9 +75,11 @@ fn set_dead(rows: &mut BTreeMap<Dot, Row>, at: Dot)
     }
 }
 
-/// Writes a link, and the dot after it among those that name the same dot.
+/// Writes a link, and the next dot of the chain of those that name the same dot.
 fn set_link(rows: &mut BTreeMap<Dot, Row>, at: Dot, link: &Link, next: Option<Dot>)
-    ensures { (q : the_dot) → table rows.new q ≡ (if dot_eq at q then with_put (table rows.old q) link.now next else table rows.old q) }
+    ensures { (q : the_dot)
+        → table rows.new q ≡
+        (if dot_eq at q then with_put (table rows.old q) link.now next else table rows.old q) }
 {
     if let Some(row) = rows.get(&at) {
         let changed = row.with_link(*link, next);
@@ -65,9 +87,11 @@ fn set_link(rows: &mut BTreeMap<Dot, Row>, at: Dot, link: &Link, next: Option<Do
     }
 }
 
-/// Writes that the link at a dot redeems the code at another.
+/// Writes that the link at `dot` redeems the code at `at`.
 fn set_redeemer(rows: &mut BTreeMap<Dot, Row>, at: Dot, dot: Dot)
-    ensures { (q : the_dot) → table rows.new q ≡ (if dot_eq at q then with_redeemer (table rows.old q) dot else table rows.old q) }
+    ensures { (q : the_dot)
+        → table rows.new q ≡
+        (if dot_eq at q then with_redeemer (table rows.old q) dot else table rows.old q) }
 {
     if let Some(row) = rows.get(&at) {
         let changed = row.redeemed_by(dot);
@@ -75,9 +99,11 @@ fn set_redeemer(rows: &mut BTreeMap<Dot, Row>, at: Dot, dot: Dot)
     }
 }
 
-/// Writes that the link at a dot rotates the refresh token at another.
+/// Writes that the link at `dot` rotates the refresh token at `at`.
 fn set_rotator(rows: &mut BTreeMap<Dot, Row>, at: Dot, dot: Dot)
-    ensures { (q : the_dot) → table rows.new q ≡ (if dot_eq at q then with_rotator (table rows.old q) dot else table rows.old q) }
+    ensures { (q : the_dot)
+        → table rows.new q ≡
+        (if dot_eq at q then with_rotator (table rows.old q) dot else table rows.old q) }
 {
     if let Some(row) = rows.get(&at) {
         let changed = row.rotated_by(dot);
@@ -87,7 +113,9 @@ fn set_rotator(rows: &mut BTreeMap<Dot, Row>, at: Dot, dot: Dot)
 
 /// Writes that the token of a kind is marked.
 pub(crate) fn set_marked(rows: &mut BTreeMap<Dot, Row>, at: Dot, kind: Kind)
-    ensures { (q : the_dot) → table rows.new q ≡ (if dot_eq at q then with_marked (table rows.old q) kind else table rows.old q) }
+    ensures { (q : the_dot)
+        → table rows.new q ≡
+        (if dot_eq at q then with_marked (table rows.old q) kind else table rows.old q) }
 {
     if let Some(row) = rows.get(&at) {
         let changed = row.marked_as(kind);
@@ -95,7 +123,7 @@ pub(crate) fn set_marked(rows: &mut BTreeMap<Dot, Row>, at: Dot, kind: Kind)
     }
 }
 
-/// Kills the family that a dot is in, if its token is bad.
+/// Writes a tombstone at the code of a dot, if the dot's token is bad.
 pub(crate) fn bury(rows: &mut BTreeMap<Dot, Row>, at: Dot)
     ensures { (q : the_dot) → table rows.new q ≡ buried (table rows.old) at q }
 {
@@ -115,7 +143,8 @@ pub(crate) fn settle(rows: &mut BTreeMap<Dot, Row>, list: &[Dot], code: Dot)
     }
 }
 
-/// Writes the code at each dot of a list, and the tombstone at the code if one of their tokens is bad.
+/// Writes the code at each dot of a list, and a tombstone at the code if one of their tokens is
+/// bad.
 pub(crate) fn raise(rows: &mut BTreeMap<Dot, Row>, list: &[Dot], code: Dot)
     ensures { (q : the_dot) → table rows.new q ≡ raised (table rows.old) list.now code q }
 {
@@ -125,7 +154,7 @@ pub(crate) fn raise(rows: &mut BTreeMap<Dot, Row>, list: &[Dot], code: Dot)
     }
 }
 
-/// Writes a link, and hangs it below the dot that it names.
+/// Writes a link, and puts it into the chain of the dot that it names.
 pub(crate) fn hang(rows: &mut BTreeMap<Dot, Row>, dot: Dot, link: &Link)
     ensures { (q : the_dot) → table rows.new q ≡ hung (table rows.old) dot link.now q }
 {

@@ -1,8 +1,8 @@
--- A table's entries are those of the set that it is seen as, each behind its dot. Key results:
+-- The entries of a table are those of the set that contracts see, each behind its dot. Key results:
 --   table_entries                       the facts behind the keys are the set's entries
---   table_get                           a look-up in the table is one in the set
---   put_is_table, put_is_insert         a fact is put
---   taken_is_table, taken_is_remove     and taken out
+--   table_get                           a look-up in the table is a look-up in the set
+--   put_is_table, put_is_insert         putting a fact
+--   taken_is_table, taken_is_remove     taking a fact out
 --   first_above, none_above             the first fact above a dot, by range
 --   range_greatest, range_none          the last fact of a region has its greatest serial
 use Rattle.std.proofs.Common.{◌≡◌, ℕ, ◌<◌, Bool, true, false, cond, ◌&&◌, not, T, List, [], ◌∷◌, filter, Option, Some, None, IsSome, refl, sym, ap, subst, ◌∙◌, inl, inr, ◌≤◌, length, slice_get, arith, is_some}
@@ -56,7 +56,7 @@ table_nothing es none = subst IsTable (sym none) (record { home = refl; sorted =
 pub table_entries : (es : Entries) (F : FactSet) → IsTable es → sets.from_sorted (values_of es) ≡ F → values_of es ≡ sets.entries F
 table_entries es F kept seen = sym (sets.entries-from_sorted dot_cmp (values_of es) kept.sorted) ∙ ap sets.entries seen
 
--- ---- looking up
+-- ---- looking a fact up
 
 looked_up : (fs : Facts) (q : Dot) → lookup (is_at (dot_cmp q)) (keyed fs) ≡ option_map (λ b. (q, b)) (find dot_cmp q fs)
 looked_up [] q = refl
@@ -75,7 +75,7 @@ table_get es F q kept seen =
     ap (lookup (is_at (dot_cmp q))) kept.home ∙ looked_up (values_of es) q
     ∙ ap (option_map (λ b. (q, b))) (sym (sets.get-from_sorted dot_cmp (values_of es) q kept.sorted) ∙ ap (λ (m : FactSet). sets.get m q) seen)
 
--- ---- putting
+-- ---- putting a fact
 
 put_keyed : (fs : Facts) (d : Dot) (b : Body) → insert_entry dot_cmp (keyed fs) d (d, b) ≡ keyed (put dot_cmp d b fs)
 put_keyed [] d b = refl
@@ -116,7 +116,7 @@ module _ (es new : Entries) (d : Dot) (b : Body) (kept : IsTable es) (is : new �
       ∙ sym (sets.entries-insert dot_cmp_total (sets.from_sorted (values_of es)) d b))
       ∙ ap (λ (m : FactSet). sets.insert m d b) seen
 
--- ---- taking out
+-- ---- taking a fact out
 
 taken_keyed : (fs : Facts) (d : Dot) → remove_entry (is_at (dot_cmp d)) (keyed fs) ≡ keyed (remove_entry (is_at (dot_cmp d)) fs)
 taken_keyed [] d = refl
@@ -207,7 +207,7 @@ module _ (es new : Entries) (d : Dot) (kept : IsTable es) (is : new ≡ remove_e
       ∙ ap (cond (eq_by_cmp dot_cmp q d) None) (sym (sets.get-from_sorted dot_cmp (values_of es) q kept.sorted) ∙ ap (λ (m : FactSet). sets.get m q) seen)
       ∙ sym (sets.get-remove dot_cmp_total F d q))
 
--- ---- walking
+-- ---- walking the facts
 
 between_keyed : (d : Dot) (fs : Facts) → entries_between dot_cmp (Excluded d) Unbounded (keyed fs) ≡ keyed (filter (is_above (Some d)) fs)
 between_keyed d [] = refl
@@ -232,7 +232,7 @@ module _ (es : Entries) (F : FactSet) (kept : IsTable es) (seen : sets.from_sort
   none_above d part after is here step =
       sym (ap (λ l. slice_get l 0) (ap (above F) is ∙ sym (part_above d) ∙ ap values_of (sym here) ∙ ap values_of step))
 
-  -- the first of all
+  -- without a cursor, the facts above are all facts
   all_of : (after : Option Dot) → after ≡ None → above F after ≡ values_of es
   all_of after is = ap (above F) is ∙ above_none F ∙ sym (table_entries es F kept seen)
 
@@ -287,7 +287,7 @@ module _ (es : Entries) (F : FactSet) (kept : IsTable es) (seen : sets.from_sort
     pub range_none : ((q : Dot) → IsLeBy dot_cmp first q × IsLeBy dot_cmp q last → lookup (is_at (dot_cmp q)) es ≡ None) → 0 ≡ last_serial r (sets.entries F)
     range_none none = greatest_none F r table_high (λ q inside. none_of (λ b. (q, b)) (sets.get F q) (sym (behind q) ∙ none q (there q inside)))
 
--- ---- what a look-up that gives a fact says
+-- ---- the result of a look-up that finds a fact
 
 pub body_at : (o : Option Body) (d : Dot) (f : Dot × Body) → Some f ≡ option_map (λ b. (d, b)) o → o ≡ Some f.1
 body_at None d f h = absurd (none_is_not_some f (sym h))

@@ -1,11 +1,11 @@
-//! Facts by their dots.
+//! Facts in a map by dot.
 
 use std::collections::BTreeMap;
 use std::marker::Model;
 use tk_fact::Fact;
 use tk_handle::Dot;
 
-// Each fact at its own dot.
+// A map from dots to facts, each fact at its own dot.
 #[derive(Drop)]
 pub(crate) struct Table {
     held: BTreeMap<Dot, Fact>,
@@ -47,7 +47,7 @@ impl Table {
         }
     }
 
-    // Each dot's serial is in range: told to callers, nothing is done.
+    // Gives a caller's proof the fact that each dot's serial is in range. Does nothing at run time.
     pub(crate) fn known(&self)
         ensures { (d : the_dot) → IsSome (sets.get self.now d) → d.serial ≤ greatest_serial }
     {
@@ -83,7 +83,7 @@ impl Table {
         Ok(())
     }
 
-    // Takes the fact at the dot out, which takes no memory.
+    // Takes the fact at the dot out. Takes no memory.
     pub(crate) fn take(&mut self, dot: Dot) -> Option<Fact>
         ensures fact { result ≡ option_map (λ body. (dot, body)) (sets.get self.old dot) }
         ensures rest { self.new ≡ sets.remove self.old dot }
@@ -91,7 +91,7 @@ impl Table {
         self.held.remove(&dot)
     }
 
-    // The first fact above the dot, or of all.
+    // Returns the first fact above `after`, or the first of all if `after` is `None`.
     pub(crate) fn next_after(&self, after: Option<Dot>) -> Option<&Fact>
         ensures { option_copied result ≡ slice_get (above self.now after) 0 }
     {
@@ -111,7 +111,7 @@ impl Table {
         }
     }
 
-    // The greatest serial of the region, or 0. The last fact of the region has it.
+    // Returns the greatest serial of the region, or 0. The last fact of the region has that serial.
     pub(crate) fn last_serial(&self, region: RegionNumber) -> u64
         ensures value { result ≡ next.last_serial region (sets.entries self.now) }
         ensures high { result ≤ greatest_serial }
