@@ -6,7 +6,26 @@
 --   withdrawn_of    POST /admin/withdraw
 --   signed_out_of   POST /admin/signout
 --   administered_of   by the endpoint
-use Rattle.std.specs.Prelude.{ℕ, Bool, ◌&&◌, ◌==◌, nat_le, List, [], ◌∷◌, length, codes, Option, Some, None, is_none, Result, Ok, Err, if◌then◌else◌}
+use Rattle.std.specs.Prelude.{
+  ℕ,
+  Bool,
+  ◌&&◌,
+  ◌==◌,
+  nat_le,
+  List,
+  [],
+  ◌∷◌,
+  length,
+  codes,
+  Option,
+  Some,
+  None,
+  is_none,
+  Result,
+  Ok,
+  Err,
+  if◌then◌else◌,
+}
 use Rattle.std.specs.List.{list_all, slice_split}
 use Rattle.std.specs.Str.{bytes_eq}
 use Rattle.sha2.specs.Sha256.{sha256}
@@ -28,9 +47,32 @@ use Rattle.tk_message.specs.declared.request.Endpoint.TheVariants as endpoint
 use Rattle.tk_message.specs.RequestFields.{RequestFields}
 use Rattle.tk_message.specs.ScopeAsked.{scope_asked}
 use Rattle.tk_authorize.specs.declared.admin_refusal.AdminRefusal.{AdminRefusal}
-use Rattle.tk_authorize.specs.declared.admin_refusal.AdminRefusal.TheVariants.{DuplicateParameter, MissingParameter, UnknownKind, UnwantedSecret, MissingSecret, BadSecret, BadScope, BadRedirects, UnknownClient, BadSubject, WrongScope, UnknownConsent, UnknownEndpoint}
+use Rattle.tk_authorize.specs.declared.admin_refusal.AdminRefusal.TheVariants.{
+  DuplicateParameter,
+  MissingParameter,
+  UnknownKind,
+  UnwantedSecret,
+  MissingSecret,
+  BadSecret,
+  BadScope,
+  BadRedirects,
+  UnknownClient,
+  BadSubject,
+  WrongScope,
+  UnknownConsent,
+  UnknownEndpoint,
+}
 use Rattle.tk_authorize.specs.declared.administered.Administered.{Administered}
-use Rattle.tk_authorize.specs.declared.administered.Administered.TheVariants.{Refused, Registers, Shows, Retires, Consents, Withdraws, AlreadyOut, SignsOut}
+use Rattle.tk_authorize.specs.declared.administered.Administered.TheVariants.{
+  Refused,
+  Registers,
+  Shows,
+  Retires,
+  Consents,
+  Withdraws,
+  AlreadyOut,
+  SignsOut,
+}
 
 -- ---- add a client
 
@@ -40,7 +82,8 @@ most_secret_bytes = 128
 
 -- 1 to that many visible bytes (own)
 abbrev pub is_secret : List ℕ → Bool
-is_secret secret = nat_le 1 (length secret) && nat_le (length secret) most_secret_bytes && list_all is_visible secret
+is_secret secret = nat_le 1 (length secret) && nat_le (length secret) most_secret_bytes
+    && list_all is_visible secret
 
 -- a public client has no secret (RFC 6749, 2.1)
 abbrev pub public_sort : Option (List ℕ) → Result Sort AdminRefusal
@@ -78,12 +121,14 @@ registered uris = if is_none (registration_refusal uris) then Some uris else Non
 -- a list that may not be registered
 abbrev pub registered_to : Sort → List ℕ → Option (List (List ℕ)) → Administered
 registered_to sort scope None = Refused BadRedirects
-registered_to sort scope (Some uris) = Registers (record { sort = sort; scope = scope; redirects = uris })
+registered_to sort scope (Some uris) =
+    Registers (record { sort = sort; scope = scope; redirects = uris })
 
 -- a scope that can't be read
 abbrev pub registered_with : Sort → Option (List ℕ) → List ℕ → Administered
 registered_with sort None redirects = Refused BadScope
-registered_with sort (Some scope) redirects = registered_to sort scope (registered (slice_split is_space redirects))
+registered_with sort (Some scope) redirects =
+    registered_to sort scope (registered (slice_split is_space redirects))
 
 -- a kind that is none, or a secret that doesn't go with it
 abbrev pub registered_as : Result Sort AdminRefusal → List ℕ → List ℕ → Administered
@@ -91,11 +136,13 @@ registered_as (Err why) scope redirects = Refused why
 registered_as (Ok sort) scope redirects = registered_with sort (scope_of scope) redirects
 
 -- the kind, the scope or the redirection URIs absent
-abbrev pub registered_by : Option (List ℕ) → Option (List ℕ) → Option (List ℕ) → Option (List ℕ) → Administered
+abbrev pub registered_by : Option (List ℕ) → Option (List ℕ) → Option (List ℕ) → Option (List ℕ)
+    → Administered
 registered_by None scope redirects secret = Refused MissingParameter
 registered_by (Some kind) None redirects secret = Refused MissingParameter
 registered_by (Some kind) (Some scope) None secret = Refused MissingParameter
-registered_by (Some kind) (Some scope) (Some redirects) secret = registered_as (sort_asked kind secret) scope redirects
+registered_by (Some kind) (Some scope) (Some redirects) secret =
+    registered_as (sort_asked kind secret) scope redirects
 
 abbrev pub registration_names : List (List ℕ)
 registration_names = codes "kind" ∷ codes "secret" ∷ codes "scope" ∷ codes "redirects" ∷ []
@@ -104,7 +151,8 @@ registration_names = codes "kind" ∷ codes "secret" ∷ codes "scope" ∷ codes
 abbrev pub registered_of : Pairs → Administered
 registered_of params =
     if has_twice registration_names params then Refused DuplicateParameter
-    else registered_by (value_of (codes "kind") params) (value_of (codes "scope") params) (value_of (codes "redirects") params) (value_of (codes "secret") params)
+    else registered_by (value_of (codes "kind") params) (value_of (codes "scope") params)
+    (value_of (codes "redirects") params) (value_of (codes "secret") params)
 
 -- ---- the client that an id names: show it, retire it
 
@@ -130,7 +178,8 @@ client_named params =
 -- no client there
 abbrev pub shown_at : Dot → Option ClientFields → Administered
 shown_at d None = Refused UnknownClient
-shown_at d (Some client) = Shows (record { client = d; sort = client.sort; live = client.live; scope = client.scope })
+shown_at d (Some client) =
+    Shows (record { client = d; sort = client.sort; live = client.live; scope = client.scope })
 
 abbrev pub shown_by : FactSet → Result Dot AdminRefusal → Administered
 shown_by F (Err why) = Refused why
@@ -156,25 +205,30 @@ retired_of F params = retired_by F (client_named params)
 -- a scope that can't be read, or goes beyond the client's (RFC 6749, 3.3)
 abbrev pub consented_for : Dot → List ℕ → Option (List ℕ) → Administered
 consented_for client subject None = Refused WrongScope
-consented_for client subject (Some scope) = Consents (record { client = client; subject = subject; scope = scope })
+consented_for client subject (Some scope) =
+    Consents (record { client = client; subject = subject; scope = scope })
 
 -- a subject that is none
 abbrev pub consented_as : Dot → List ℕ → List ℕ → List ℕ → Administered
 consented_as client whole subject scope =
-    if is_subject subject then consented_for client subject (scope_asked whole (Some scope)) else Refused BadSubject
+    if is_subject subject then consented_for client subject (scope_asked whole (Some scope))
+    else Refused BadSubject
 
 -- no client there, or a retired one
 abbrev pub consented_at : Dot → List ℕ → List ℕ → Option ClientFields → Administered
 consented_at client subject scope None = Refused UnknownClient
-consented_at client subject scope (Some view) = if view.live then consented_as client view.scope subject scope else Refused UnknownClient
+consented_at client subject scope (Some view) =
+    if view.live then consented_as client view.scope subject scope else Refused UnknownClient
 
 -- no client's id
 abbrev pub consented_to : FactSet → List ℕ → List ℕ → Option Dot → Administered
 consented_to F subject scope None = Refused UnknownClient
-consented_to F subject scope (Some client) = consented_at client subject scope (client_view F client)
+consented_to F subject scope (Some client) =
+    consented_at client subject scope (client_view F client)
 
 -- the client, the subject or the scope absent
-abbrev pub consented_by : FactSet → Option (List ℕ) → Option (List ℕ) → Option (List ℕ) → Administered
+abbrev pub consented_by : FactSet → Option (List ℕ) → Option (List ℕ) → Option (List ℕ)
+    → Administered
 consented_by F None subject scope = Refused MissingParameter
 consented_by F (Some id) None scope = Refused MissingParameter
 consented_by F (Some id) (Some subject) None = Refused MissingParameter
@@ -187,7 +241,8 @@ consent_names = codes "client_id" ∷ codes "subject" ∷ codes "scope" ∷ []
 abbrev pub consented_of : FactSet → Pairs → Administered
 consented_of F params =
     if has_twice consent_names params then Refused DuplicateParameter
-    else consented_by F (value_of (codes "client_id") params) (value_of (codes "subject") params) (value_of (codes "scope") params)
+    else consented_by F (value_of (codes "client_id") params) (value_of (codes "subject") params)
+    (value_of (codes "scope") params)
 
 -- ---- withdraw a consent
 
@@ -220,11 +275,13 @@ withdrawn_of F params =
 -- a sign-out of it is held, whose moment isn't before this one
 abbrev pub signed_out_at : FactSet → ℕ → List ℕ → Administered
 signed_out_at F now subject =
-    if is_signed_out F subject now then AlreadyOut subject else SignsOut (record { subject = subject; moment = now })
+    if is_signed_out F subject now then AlreadyOut subject
+    else SignsOut (record { subject = subject; moment = now })
 
 -- a subject that is none
 abbrev pub signed_out_as : FactSet → ℕ → List ℕ → Administered
-signed_out_as F now subject = if is_subject subject then signed_out_at F now subject else Refused BadSubject
+signed_out_as F now subject =
+    if is_subject subject then signed_out_at F now subject else Refused BadSubject
 
 -- the subject absent
 abbrev pub signed_out_by : FactSet → ℕ → Option (List ℕ) → Administered

@@ -6,14 +6,24 @@
 --   administration_of   the decision: the judgement of specs/Administered, and what is done with it
 use Rattle.std.specs.Prelude.{ℕ, Bool, Some, None, if◌then◌else◌}
 use Rattle.tk_handle.specs.declared.dot.Dot.{Dot}
-use Rattle.tk_fact.specs.declared.body.Body.TheVariants.{ClientAdded, ClientRetired, ConsentGiven, ConsentWithdrawn, SubjectOut}
+use Rattle.tk_fact.specs.declared.body.Body.TheVariants.{
+  ClientAdded,
+  ClientRetired,
+  ConsentGiven,
+  ConsentWithdrawn,
+  SubjectOut,
+}
 use Rattle.tk_fact.specs.declared.client_added.ClientAdded as added
 use Rattle.tk_fact.specs.declared.consent_given.ConsentGiven as given
 use Rattle.tk_fact.specs.declared.subject_out.SubjectOut as out
 use Rattle.tk_store.specs.FactSet.{FactSet}
 use Rattle.tk_message.specs.declared.decision.Decision.{Decision}
 use Rattle.tk_message.specs.declared.error_code.ErrorCode.{ErrorCode}
-use Rattle.tk_message.specs.declared.error_code.ErrorCode.TheVariants.{InvalidRequest, InvalidScope, NotFound}
+use Rattle.tk_message.specs.declared.error_code.ErrorCode.TheVariants.{
+  InvalidRequest,
+  InvalidScope,
+  NotFound,
+}
 use Rattle.tk_message.specs.declared.place.Place.{Place}
 use Rattle.tk_message.specs.declared.status.Status.TheVariants as status
 use Rattle.tk_message.specs.Decision.{answered, refused}
@@ -24,7 +34,16 @@ use Rattle.tk_authorize.specs.declared.admin_refusal.AdminRefusal.{AdminRefusal}
 use Rattle.tk_authorize.specs.declared.admin_refusal.AdminRefusal.TheVariants as refusal
 use Rattle.tk_authorize.specs.declared.administered.Administered.{Administered}
 use Rattle.tk_authorize.specs.declared.administered.ShownClient.{ShownClient}
-use Rattle.tk_authorize.specs.declared.administered.Administered.TheVariants.{Refused, Registers, Shows, Retires, Consents, Withdraws, AlreadyOut, SignsOut}
+use Rattle.tk_authorize.specs.declared.administered.Administered.TheVariants.{
+  Refused,
+  Registers,
+  Shows,
+  Retires,
+  Consents,
+  Withdraws,
+  AlreadyOut,
+  SignsOut,
+}
 use Rattle.tk_authorize.specs.Administered.{administered_of}
 
 abbrev pub code_of : AdminRefusal → ErrorCode
@@ -44,7 +63,8 @@ code_of refusal.UnknownEndpoint = NotFound
 
 -- a client and a consent get the id of the next dot; what is retired, withdrawn or signed out already makes no fact
 abbrev pub decided_registered : Place → added.ClientAdded → Decision
-decided_registered place client = record { reply = client_reply status.Created (next_in place); made = Some (ClientAdded client) }
+decided_registered place client =
+    record { reply = client_reply status.Created (next_in place); made = Some (ClientAdded client) }
 
 abbrev pub decided_shown : ShownClient → Decision
 decided_shown client = answered (shown_reply client.client client.sort client.live client.scope)
@@ -56,7 +76,11 @@ decided_retired client live = record {
 }
 
 abbrev pub decided_consented : Place → given.ConsentGiven → Decision
-decided_consented place consent = record { reply = consent_reply status.Created (next_in place); made = Some (ConsentGiven consent) }
+decided_consented place consent =
+    record {
+      reply = consent_reply status.Created (next_in place);
+      made = Some (ConsentGiven consent);
+    }
 
 abbrev pub decided_withdrawn : Dot → Bool → Decision
 decided_withdrawn consent live = record {
@@ -65,7 +89,8 @@ decided_withdrawn consent live = record {
 }
 
 abbrev pub decided_out : out.SubjectOut → Decision
-decided_out sign_out = record { reply = subject_reply sign_out.subject; made = Some (SubjectOut sign_out) }
+decided_out sign_out =
+    record { reply = subject_reply sign_out.subject; made = Some (SubjectOut sign_out) }
 
 abbrev pub administered_by : Place → Administered → Decision
 administered_by place (Refused why) = refused (code_of why)

@@ -14,16 +14,23 @@ use Rattle.tk_authorize.specs.declared.denial.Denial.TheVariants as denial
 abbrev pub approval_by_consent : List ℕ → Asked → Option Dot → Result Approval Denial
 approval_by_consent subject asked None = Err denial.MissingConsent
 approval_by_consent subject asked (Some consent) =
-    Ok (record { consent = consent; subject = subject; scope = asked.scope; challenge = asked.challenge })
+    Ok (record {
+      consent = consent;
+      subject = subject;
+      scope = asked.scope;
+      challenge = asked.challenge;
+    })
 
 -- nobody has signed in (RFC 6749, 3.1), or no subject has (own); else it rests on the least consent for the scope
 abbrev pub approval_by_subject : FactSet → Dot → Asked → Option (List ℕ) → Result Approval Denial
 approval_by_subject F client asked None = Err denial.MissingSubject
 approval_by_subject F client asked (Some subject) =
-    if is_subject subject then approval_by_consent subject asked (consent_for F client subject asked.scope)
+    if is_subject subject then approval_by_consent subject asked
+    (consent_for F client subject asked.scope)
     else Err denial.MalformedSubject
 
 -- a denial for the parameters comes first
-abbrev pub approval_of : FactSet → Dot → Option (List ℕ) → Result Asked Denial → Result Approval Denial
+abbrev pub approval_of : FactSet → Dot → Option (List ℕ) → Result Asked Denial
+    → Result Approval Denial
 approval_of F client subject (Err why) = Err why
 approval_of F client subject (Ok asked) = approval_by_subject F client asked subject

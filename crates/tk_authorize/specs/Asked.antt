@@ -2,7 +2,25 @@
 --   asked_of       the scope and the challenge, or the first denial that holds
 --   is_state       a state that may be given back, or none
 --   is_printable   its bytes
-use Rattle.std.specs.Prelude.{ℕ, Bool, true, ◌&&◌, not, nat_le, if◌then◌else◌, List, [], ◌∷◌, codes, Option, Some, None, Result, Ok, Err}
+use Rattle.std.specs.Prelude.{
+  ℕ,
+  Bool,
+  true,
+  ◌&&◌,
+  not,
+  nat_le,
+  if◌then◌else◌,
+  List,
+  [],
+  ◌∷◌,
+  codes,
+  Option,
+  Some,
+  None,
+  Result,
+  Ok,
+  Err,
+}
 use Rattle.std.specs.List.{list_all}
 use Rattle.std.specs.Str.{bytes_eq}
 use Rattle.tk_match.specs.Challenge.{ChallengeFields}
@@ -23,13 +41,15 @@ asked_with scope (Ok challenge) = Ok (record { scope = scope; challenge = challe
 abbrev pub asked_by_scope : Sort → Pairs → Option (List ℕ) → Result Asked Denial
 asked_by_scope sort params None = Err denial.WrongScope
 asked_by_scope sort params (Some scope) =
-    asked_with scope (challenge_sent sort (value_of (codes "code_challenge_method") params) (value_of (codes "code_challenge") params))
+    asked_with scope (challenge_sent sort (value_of (codes "code_challenge_method") params)
+    (value_of (codes "code_challenge") params))
 
 -- no response type, or another than `code` (RFC 6749, 3.1.1); the client's whole scope where none is sent (3.3)
 abbrev pub asked_by_type : Sort → List ℕ → Pairs → Option (List ℕ) → Result Asked Denial
 asked_by_type sort whole params None = Err denial.MissingResponseType
 asked_by_type sort whole params (Some name) =
-    if bytes_eq name (codes "code") then asked_by_scope sort params (scope_asked whole (value_of (codes "scope") params))
+    if bytes_eq name (codes "code")
+    then asked_by_scope sort params (scope_asked whole (value_of (codes "scope") params))
     else Err denial.UnsupportedResponseType
 
 -- %x20-7E (RFC 6749, appendix A.5)
@@ -44,7 +64,8 @@ is_state (Some text) = list_all is_printable text
 -- the parameters that are known here, but for the client's and the URI's (RFC 6749, 4.1.1; RFC 7636, 4.3)
 abbrev pub other_names : List (List ℕ)
 other_names =
-    codes "response_type" ∷ codes "scope" ∷ codes "state" ∷ codes "code_challenge" ∷ codes "code_challenge_method" ∷ []
+    codes "response_type" ∷ codes "scope" ∷ codes "state" ∷ codes "code_challenge"
+    ∷ codes "code_challenge_method" ∷ []
 
 -- one of them twice (RFC 6749, 3.1), then a state with another byte
 abbrev pub asked_of : Sort → List ℕ → Pairs → Result Asked Denial

@@ -3,7 +3,18 @@
 --   kept_state         the state that is given back
 --   code_reply         where a browser is sent with a code
 --   code_issued        the fact
-use Rattle.std.specs.Prelude.{ℕ, if◌then◌else◌, List, [], ◌∷◌, codes, slice_index, Option, Some, None}
+use Rattle.std.specs.Prelude.{
+  ℕ,
+  if◌then◌else◌,
+  List,
+  [],
+  ◌∷◌,
+  codes,
+  slice_index,
+  Option,
+  Some,
+  None,
+}
 use Rattle.tk_handle.specs.declared.dot.Dot.{Dot}
 use Rattle.tk_handle.specs.declared.kind.Kind.TheVariants as kind
 use Rattle.tk_handle.specs.declared.handle.Handle.{Handle}
@@ -69,10 +80,12 @@ decided_by place now words state (Denied target why) =
     answered (redirect_reply target.uri (codes "error") (error_name (denial_code why)) state)
 decided_by place now words state (Approved target approval) = record {
   reply = code_reply target.uri (code_handle (next_in place) words) state;
-  made = Some (body.CodeIssued (code_issued place now (code_handle (next_in place) words) target approval));
+  made = Some (body.CodeIssued (code_issued place now (code_handle (next_in place) words) target
+      approval));
 }
 
 -- by the judgement and the state
 abbrev pub authorization_of : FactSet → Place → ℕ → List ℕ → RequestFields → Decision
 authorization_of F place now words request =
-    decided_by place now words (kept_state (value_of (codes "state") request.params)) (judged_of F request.params request.subject)
+    decided_by place now words (kept_state (value_of (codes "state") request.params))
+    (judged_of F request.params request.subject)

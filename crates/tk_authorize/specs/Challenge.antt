@@ -1,6 +1,22 @@
 -- The challenge that an authorisation request sends, or why it is denied for it (RFC 7636, 4.3 and 4.4.1).
 --   challenge_sent   the challenge, none where a client may do without, or the first denial that holds
-use Rattle.std.specs.Prelude.{ℕ, Bool, true, false, not, is_some, if◌then◌else◌, List, codes, Option, Some, None, Result, Ok, Err}
+use Rattle.std.specs.Prelude.{
+  ℕ,
+  Bool,
+  true,
+  false,
+  not,
+  is_some,
+  if◌then◌else◌,
+  List,
+  codes,
+  Option,
+  Some,
+  None,
+  Result,
+  Ok,
+  Err,
+}
 use Rattle.tk_match.specs.Challenge.{ChallengeFields, is_method, is_verifier, challenge_of}
 use Rattle.tk_fact.specs.declared.sort.Sort.{Sort}
 use Rattle.tk_fact.specs.declared.sort.Sort.TheVariants.{Public, Confidential, Resource}
@@ -33,6 +49,7 @@ read_challenge method text =
     else Ok (challenge_of method text)
 
 -- by the method and the challenge that were sent
-abbrev pub challenge_sent : Sort → Option (List ℕ) → Option (List ℕ) → Result (Option ChallengeFields) Denial
+abbrev pub challenge_sent : Sort → Option (List ℕ) → Option (List ℕ)
+    → Result (Option ChallengeFields) Denial
 challenge_sent sort method None = without_challenge sort method
 challenge_sent sort method (Some text) = read_challenge (method_of method) text

@@ -3,7 +3,16 @@ use Rattle.std.specs.Prelude.{◌≡◌, None}
 use Rattle.tk_fact.specs.Check.{refusal_of}
 use Rattle.tk_fact.specs.declared.body.Body.TheVariants.{ClientAdded, ConsentGiven, SubjectOut}
 use Rattle.tk_authorize.specs.declared.administered.Administered.{Administered}
-use Rattle.tk_authorize.specs.declared.administered.Administered.TheVariants.{Refused, Registers, Shows, Retires, Consents, Withdraws, AlreadyOut, SignsOut}
+use Rattle.tk_authorize.specs.declared.administered.Administered.TheVariants.{
+  Refused,
+  Registers,
+  Shows,
+  Retires,
+  Consents,
+  Withdraws,
+  AlreadyOut,
+  SignsOut,
+}
 
 -- the client, the consent and the sign-out pass their checks
 abbrev pub IsSoundAdministered : Administered → Type 0

@@ -51,7 +51,8 @@ pub(crate) fn administer(
     now: Moment,
     request: &Request,
 ) -> Result<Administered, AllocError>
-    ensures value { IfOk result (λ a. a ≡ spec.administered_of (facts_of ledger.now) now request.now) }
+    ensures value { IfOk result (λ a.
+        a ≡ spec.administered_of (facts_of ledger.now) now request.now) }
     ensures sound { IfOk result IsSoundAdministered }
 {
     match request.endpoint {

@@ -31,7 +31,8 @@ pub(crate) fn approve(
     subject: Option<&[u8]>,
     asked: Result<Asked, Denial>,
 ) -> Result<Result<Approval, Denial>, AllocError>
-    ensures { IfOk result (λ approval. approval ≡ spec.approval_of (facts_of ledger.now) client (option_copied subject.entry) asked) }
+    ensures { IfOk result (λ approval. approval ≡ spec.approval_of (facts_of ledger.now) client
+        (option_copied subject.entry) asked) }
 {
     match asked {
         Ok(asked) => approve_by_subject(alloc, ledger, client, asked, subject),
@@ -46,7 +47,8 @@ fn approve_by_subject(
     asked: Asked,
     subject: Option<&[u8]>,
 ) -> Result<Result<Approval, Denial>, AllocError>
-    ensures { IfOk result (λ approval. approval ≡ spec.approval_by_subject (facts_of ledger.now) client asked (option_copied subject.entry)) }
+    ensures { IfOk result (λ approval. approval ≡ spec.approval_by_subject (facts_of ledger.now)
+        client asked (option_copied subject.entry)) }
 {
     let Some(subject) = subject else {
         drop(asked);

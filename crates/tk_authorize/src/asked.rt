@@ -74,7 +74,8 @@ fn ask_by_type(
     params: &Params,
     response_type: Option<&str>,
 ) -> Result<Result<Asked, Denial>, AllocError>
-    ensures { IfOk result (λ asked. asked ≡ spec.asked_by_type sort.now whole.now params.now (option_copied response_type.entry)) }
+    ensures { IfOk result (λ asked. asked ≡ spec.asked_by_type sort.now whole.now params.now
+        (option_copied response_type.entry)) }
 {
     let Some(response_type) = response_type else {
         return Ok(Err(Denial::MissingResponseType));

@@ -30,11 +30,13 @@ pub fn decide_authorize(
     words: &[u64; 6],
     request: &Request,
 ) -> Result<Decision, AllocError>
-    ensures value { IfOk result (λ d. d ≡ spec.authorization_of (facts_of ledger.now) place.now now words.now request.now) }
+    ensures value { IfOk result (λ d. d ≡ spec.authorization_of (facts_of ledger.now) place.now now
+        words.now request.now) }
     ensures passes { IfOk result (λ d. Passes d.made) }
 
     // A browser is sent to a URI of the client's that the request names, or nowhere.
-    ensures leads { IfOk result (λ d. LeadsToClient (facts_of ledger.now) request.now.params d.reply) }
+    ensures leads { IfOk result (λ d.
+        LeadsToClient (facts_of ledger.now) request.now.params d.reply) }
 {
     let judged = judge(alloc, ledger, &request.params, request.subject())?;
     let state = kept_state(request.params.value("state"));
@@ -55,7 +57,8 @@ fn decide_by(
     state: Option<&str>,
     judged: Judged,
 ) -> Result<Decision, AllocError>
-    ensures value { IfOk result (λ d. d ≡ spec.decided_by place.now now words.now (option_copied state.entry) judged) }
+    ensures value { IfOk result (λ d.
+        d ≡ spec.decided_by place.now now words.now (option_copied state.entry) judged) }
     ensures passes { IfOk result (λ d. Passes d.made) }
 {
     match judged {
@@ -81,7 +84,9 @@ fn decide_approved(
     target: Target,
     approval: Approval,
 ) -> Result<Decision, AllocError>
-    ensures value { IfOk result (λ d. d ≡ spec.decided_by place.now now words.now (option_copied state.entry) (Judged.Approved target approval)) }
+    ensures value { IfOk result (λ d.
+        d ≡ spec.decided_by place.now now words.now (option_copied state.entry)
+        (Judged.Approved target approval)) }
     ensures passes { IfOk result (λ d. Passes d.made) }
 {
     let code = code_handle(place.next_dot(), words);
@@ -114,7 +119,8 @@ fn code_reply(
     code: &Handle,
     state: Option<&str>,
 ) -> Result<Reply, AllocError>
-    ensures { IfOk result (λ reply. reply ≡ spec.code_reply uri.now code.now (option_copied state.entry)) }
+    ensures { IfOk result (λ reply.
+        reply ≡ spec.code_reply uri.now code.now (option_copied state.entry)) }
 {
     let text = handle_string(alloc, code)?;
     redirect_reply(alloc, uri.as_str(), "code", text.as_str(), state)

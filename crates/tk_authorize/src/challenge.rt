@@ -16,7 +16,9 @@ pub(crate) fn find_challenge(
     method: Option<&str>,
     text: Option<&str>,
 ) -> Result<Result<Option<Challenge>, Denial>, AllocError>
-    ensures { IfOk result (λ challenge. challenge ≡ spec.challenge_sent sort.now (option_copied method.entry) (option_copied text.entry)) }
+    ensures { IfOk result (λ challenge.
+        challenge ≡ spec.challenge_sent sort.now (option_copied method.entry)
+        (option_copied text.entry)) }
 {
     match text {
         Some(text) => read_challenge(alloc, method_of(method), text),

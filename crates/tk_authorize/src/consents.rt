@@ -49,7 +49,9 @@ fn consent_by(
     subject: Option<&str>,
     scope: Option<&str>,
 ) -> Result<Administered, AllocError>
-    ensures value { IfOk result (λ a. a ≡ spec.consented_by (facts_of ledger.now) (option_copied id.entry) (option_copied subject.entry) (option_copied scope.entry)) }
+    ensures value { IfOk result (λ a.
+        a ≡ spec.consented_by (facts_of ledger.now) (option_copied id.entry)
+        (option_copied subject.entry) (option_copied scope.entry)) }
     ensures sound { IfOk result IsSoundAdministered }
 {
     let Some(id) = id else {
@@ -74,7 +76,8 @@ fn consent_to(
     subject: &str,
     scope: &str,
 ) -> Result<Administered, AllocError>
-    ensures value { IfOk result (λ a. a ≡ spec.consented_to (facts_of ledger.now) subject.now scope.now (Some client)) }
+    ensures value { IfOk result (λ a. a ≡ spec.consented_to (facts_of ledger.now) subject.now
+        scope.now (Some client)) }
     ensures sound { IfOk result IsSoundAdministered }
 {
     let Some(view) = ledger.client(client) else {
@@ -93,7 +96,8 @@ fn consent_as(
     subject: &str,
     scope: &str,
 ) -> Result<Administered, AllocError>
-    ensures value { IfOk result (λ a. a ≡ spec.consented_as client whole.now subject.now scope.now) }
+    ensures value { IfOk result (λ a.
+        a ≡ spec.consented_as client whole.now subject.now scope.now) }
     ensures sound { IfOk result IsSoundAdministered }
 {
     match Subject::read(alloc, subject.as_bytes()) {

@@ -42,7 +42,8 @@ pub(crate) fn judge(
     params: &Params,
     subject: Option<&[u8]>,
 ) -> Result<Judged, AllocError>
-    ensures { IfOk result (λ judged. judged ≡ spec.judged_of (facts_of ledger.now) params.now (option_copied subject.entry)) }
+    ensures { IfOk result (λ judged. judged ≡ spec.judged_of (facts_of ledger.now) params.now
+        (option_copied subject.entry)) }
 {
     if has_duplicate(params) {
         return Ok(Judged::Refused(Refusal::DuplicateClientOrRedirect));
@@ -64,7 +65,8 @@ fn judge_by_id(
     subject: Option<&[u8]>,
     id: Option<&str>,
 ) -> Result<Judged, AllocError>
-    ensures { IfOk result (λ judged. judged ≡ spec.judged_by_id (facts_of ledger.now) params.now (option_copied subject.entry) (option_copied id.entry)) }
+    ensures { IfOk result (λ judged. judged ≡ spec.judged_by_id (facts_of ledger.now) params.now
+        (option_copied subject.entry) (option_copied id.entry)) }
 {
     let Some(id) = id else {
         return Ok(Judged::Refused(Refusal::MissingClient));
@@ -82,7 +84,8 @@ fn judge_client(
     subject: Option<&[u8]>,
     client: Dot,
 ) -> Result<Judged, AllocError>
-    ensures { IfOk result (λ judged. judged ≡ spec.judged_by_client (facts_of ledger.now) params.now (option_copied subject.entry) (Some client)) }
+    ensures { IfOk result (λ judged. judged ≡ spec.judged_by_client (facts_of ledger.now) params.now
+        (option_copied subject.entry) (Some client)) }
 {
     let Some(view) = ledger.client(client) else {
         return Ok(Judged::Refused(Refusal::UnknownClient));
@@ -114,7 +117,11 @@ fn bytes_of(text: Option<&str>) -> Option<&[u8]>
 
 fn find_target(alloc: Global, client: Dot, uri: &[u8], sent: bool) -> Result<Target, AllocError>
     requires { is_uri uri.now ≡ true }
-    ensures { IfOk result (λ target. target ≡ record { client = client; uri = uri.now; sent = sent }) }
+    ensures { IfOk result (λ target. target ≡ record {
+      client = client;
+      uri = uri.now;
+      sent = sent;
+    }) }
 {
     match Uri::read(alloc, uri) {
         Ok(uri) => Ok(Target { client, uri, sent }),

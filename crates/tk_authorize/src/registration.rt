@@ -47,7 +47,9 @@ fn register_by(
     redirects: Option<&str>,
     secret: Option<&str>,
 ) -> Result<Administered, AllocError>
-    ensures value { IfOk result (λ a. a ≡ spec.registered_by (option_copied kind.entry) (option_copied scope.entry) (option_copied redirects.entry) (option_copied secret.entry)) }
+    ensures value { IfOk result (λ a.
+        a ≡ spec.registered_by (option_copied kind.entry) (option_copied scope.entry)
+        (option_copied redirects.entry) (option_copied secret.entry)) }
     ensures sound { IfOk result IsSoundAdministered }
 {
     let Some(kind) = kind else {
@@ -172,7 +174,8 @@ fn register_with(
 }
 
 fn split_redirects(alloc: Global, text: &str) -> Result<Option<Redirects>, AllocError>
-    ensures { IfOk result (λ redirects. redirects ≡ spec.registered (slice_split spec.is_space text.now)) }
+    ensures { IfOk result (λ redirects.
+        redirects ≡ spec.registered (slice_split spec.is_space text.now)) }
 {
     let uris = split_spaces(alloc, text.as_bytes())?;
     read_redirects(alloc, uris.as_slice())
@@ -180,7 +183,8 @@ fn split_redirects(alloc: Global, text: &str) -> Result<Option<Redirects>, Alloc
 
 // The pieces between single spaces.
 fn split_spaces(alloc: Global, text: &[u8]) -> Result<Vec<&[u8]>, AllocError>
-    ensures { IfOk result (λ pieces. map (λ x. x.now) pieces.items ≡ slice_split spec.is_space text.now) }
+    ensures { IfOk result (λ pieces. map (λ x. x.now) pieces.items ≡ slice_split spec.is_space
+        text.now) }
 {
     text.split(|b| *b == b' ').collect(alloc)
 }

@@ -44,7 +44,8 @@ fn sign_out_by(
     now: Moment,
     subject: Option<&str>,
 ) -> Result<Administered, AllocError>
-    ensures value { IfOk result (λ a. a ≡ spec.signed_out_by (facts_of ledger.now) now (option_copied subject.entry)) }
+    ensures value { IfOk result (λ a.
+        a ≡ spec.signed_out_by (facts_of ledger.now) now (option_copied subject.entry)) }
     ensures sound { IfOk result IsSoundAdministered }
 {
     let Some(subject) = subject else {
@@ -59,7 +60,8 @@ fn sign_out_as(
     now: Moment,
     subject: &str,
 ) -> Result<Administered, AllocError>
-    ensures value { IfOk result (λ a. a ≡ spec.signed_out_as (facts_of ledger.now) now subject.now) }
+    ensures value { IfOk result (λ a.
+        a ≡ spec.signed_out_as (facts_of ledger.now) now subject.now) }
     ensures sound { IfOk result IsSoundAdministered }
 {
     match Subject::read(alloc, subject.as_bytes()) {

@@ -6,7 +6,24 @@
 --   bundle         how a bundle is spelled
 --   bundle_bytes   the bytes of a bundle
 --   SignOutsTold   how the first four bytes of a bundle tell whether a sign-out is inside
-use Rattle.std.specs.Prelude.{◌≡◌, ℕ, Bool, true, ◌&&◌, nat_le, ◌==◌, List, [], ◌∷◌, ◌++◌, take, Option, Some, None, if◌then◌else◌}
+use Rattle.std.specs.Prelude.{
+  ◌≡◌,
+  ℕ,
+  Bool,
+  true,
+  ◌&&◌,
+  nat_le,
+  ◌==◌,
+  List,
+  [],
+  ◌∷◌,
+  ◌++◌,
+  take,
+  Option,
+  Some,
+  None,
+  if◌then◌else◌,
+}
 use Rattle.std.specs.Int.{w16}
 use Rattle.std.specs.List.{list_any}
 use Rattle.std.specs.Ordering.{is_lt}
@@ -36,7 +53,8 @@ abbrev pub marked : {A : Type 0} → (A → ℕ) → Format A → Format A
 marked mark f = record {
   spell = λ a. mark a ∷ f.spell a;
   Fits = f.Fits;
-  read = λ bytes. byte.read bytes >>= λ m. f.read m.1 >>= λ a. if m.0 == mark a.0 then Some a else None;
+  read = λ bytes. byte.read bytes >>= λ m. f.read m.1 >>= λ a. if m.0 == mark a.0 then Some a
+      else None;
 }
 
 -- a count of at most so many, and that many facts
@@ -58,4 +76,6 @@ bundle_bytes fs = bundle.spell fs
 
 -- OTB2 where one of the facts is a sign-out, else OTB1
 abbrev pub SignOutsTold : Type 0
-SignOutsTold = (fs : Facts) → take 4 (bundle_bytes fs) ≡ magic ++ (if list_any is_sign_out fs then 50 else 49) ∷ []
+SignOutsTold =
+    (fs : Facts) → take 4 (bundle_bytes fs) ≡ magic ++ (if list_any is_sign_out fs then 50 else 49)
+    ∷ []

@@ -3,7 +3,24 @@
 --   IsCut       the walk runs out of bytes
 --   IsFrontOf   a bundle was read with the length of its spelling
 --   unread      the error of a front that can't be read
-use Rattle.std.specs.Prelude.{◌≡◌, ℕ, zero, suc, Bool, not, nat_lt, List, length, Option, Some, None, Result, Ok, Err, if◌then◌else◌}
+use Rattle.std.specs.Prelude.{
+  ◌≡◌,
+  ℕ,
+  zero,
+  suc,
+  Bool,
+  not,
+  nat_lt,
+  List,
+  length,
+  Option,
+  Some,
+  None,
+  Result,
+  Ok,
+  Err,
+  if◌then◌else◌,
+}
 use Rattle.std.specs.Str.{bytes_eq}
 use Rattle.std.specs.Int.{w16}
 use Rattle.tk_format.specs.declared.error.ReadError.{ReadError}
@@ -17,7 +34,8 @@ use Rattle.tk_bundle.specs.declared.error.FrontError.{FrontError}
 use Rattle.tk_bundle.specs.declared.error.FrontError.TheVariants.{Malformed, Memory, Cut}
 
 infixl 10 ◌>>=◌
-abbrev pub ◌>>=◌ : {A B : Type 0} → Result A FrontError → (A → Result B FrontError) → Result B FrontError
+abbrev pub ◌>>=◌ : {A B : Type 0} → Result A FrontError → (A → Result B FrontError)
+    → Result B FrontError
 (Ok x) >>= f = f x
 (Err e) >>= f = Err e
 

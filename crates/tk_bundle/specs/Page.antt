@@ -56,7 +56,9 @@ facts_at F dots = filter_map (fact_at F) dots
 
 -- the page has what a set holds at these dots, behind the magic, their version and their number
 pub record IsPageAt (page : Page) (F : FactSet) (dots : List Dot) (follows : Bool) : Type 0 where
-  pub bytes : page.bytes.items ≡ magic ++ (version_of (facts_at F dots) ∷ (number w16).spell (length dots) ++ flat_map framed.spell (facts_at F dots))
+  pub bytes : page.bytes.items ≡ magic
+      ++ (version_of (facts_at F dots) ∷ (number w16).spell (length dots) ++ flat_map framed.spell
+      (facts_at F dots))
   pub count : page.count ≡ length dots
   pub last : page.last ≡ last_of dots
   pub more : page.more ≡ follows

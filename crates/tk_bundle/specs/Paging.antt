@@ -13,9 +13,11 @@ use Rattle.tk_bundle.specs.Page.{page_of}
 abbrev pub HoldsPages : Vector → FactSet → Option Dot → FactSet → List FactSet → Type 0
 HoldsPages v R after F [] = AllIn R (page_of F v after).facts × ((page_of F v after).more ≡ false)
 HoldsPages v R after F (G ∷ later) =
-    AllIn R (page_of F v after).facts × ((page_of F v after).more ≡ true) × IsSubset F G × HoldsPages v R (page_of F v after).last G later
+    AllIn R (page_of F v after).facts × ((page_of F v after).more ≡ true) × IsSubset F G
+    × HoldsPages v R (page_of F v after).last G later
 
 -- a receiver that holds all that the vector covers, and all pages made for it until no more followed, in whatever order
 -- they came, holds all that the sender held when the first page was made
 abbrev pub PagesComplete : Type 0
-PagesComplete = (v : Vector) (F R : FactSet) (later : List FactSet) → HoldsCovered v F R → HoldsPages v R None F later → IsSubset F R
+PagesComplete = (v : Vector) (F R : FactSet) (later : List FactSet) → HoldsCovered v F R
+    → HoldsPages v R None F later → IsSubset F R

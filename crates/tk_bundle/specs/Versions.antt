@@ -5,7 +5,20 @@
 --   version_of    the version of facts: the first that has all of their kinds
 --   is_version    a digit is that of a version
 --   is_sign_out   of a fact, for what is said of the second version
-use Rattle.std.specs.Prelude.{ℕ, max, Bool, true, false, nat_le, ◌==◌, List, [], ◌∷◌, get_or, if◌then◌else◌}
+use Rattle.std.specs.Prelude.{
+  ℕ,
+  max,
+  Bool,
+  true,
+  false,
+  nat_le,
+  ◌==◌,
+  List,
+  [],
+  ◌∷◌,
+  get_or,
+  if◌then◌else◌,
+}
 use Rattle.std.specs.List.{list_any}
 use Rattle.tk_handle.specs.declared.dot.Dot.{Dot}
 use Rattle.tk_fact.specs.declared.body.Body.{Body}

@@ -28,7 +28,14 @@ impl Model for Bundle {
 ghost use Rattle.std.specs.Prelude.{◌≡◌, ◌≢◌, ◌++◌, [], List, ℕ, IfOk, IsErrOf};
 ghost use Rattle.tk_format.specs.Reading.{Gets, GetsAll};
 ghost use Rattle.tk_store.specs.FactSet.{Facts};
-ghost use Rattle.tk_bundle.specs.Bundle.{counted_facts, versioned, listed, bundle, bundle_bytes, SignOutsTold};
+ghost use Rattle.tk_bundle.specs.Bundle.{
+  counted_facts,
+  versioned,
+  listed,
+  bundle,
+  bundle_bytes,
+  SignOutsTold,
+};
 
 use crate::order::is_ascending;
 use crate::version::version_of;
@@ -39,7 +46,8 @@ impl Bundle {
     /// The bundle that the bytes spell, all of the bytes.
     pub fn read(alloc: Global, bytes: &[u8]) -> Result<Bundle, ReadError>
         ensures found { IfOk result (λ b. bundle.Fits b × (bytes.now ≡ bundle_bytes b)) }
-        ensures malformed { IsErrOf result ReadError.Malformed → (fs : Facts) → bundle.Fits fs → bytes.now ≢ bundle_bytes fs }
+        ensures malformed { IsErrOf result ReadError.Malformed → (fs : Facts) → bundle.Fits fs
+            → bytes.now ≢ bundle_bytes fs }
 
         // The same, as what the format reads.
         ensures exact { GetsAll (λ b. b) bundle result bytes.now }
@@ -105,7 +113,8 @@ impl Spelled for Bundle {
 
 /// A law: no bundle's bytes begin another's.
 pub fn none_begins_another()
-    ensures { (a b : Facts) (rest : List ℕ) → bundle.Fits a → bundle.Fits b → bundle_bytes a ++ rest ≡ bundle_bytes b → (a ≡ b) × (rest ≡ []) }
+    ensures { (a b : Facts) (rest : List ℕ) → bundle.Fits a → bundle.Fits b
+        → bundle_bytes a ++ rest ≡ bundle_bytes b → (a ≡ b) × (rest ≡ []) }
 {}
 
 /// A law: a bundle begins with `OTB2` where one of its facts is a sign-out, and else with `OTB1`.

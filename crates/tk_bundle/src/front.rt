@@ -1,6 +1,19 @@
 //! The first bundle of many bytes.
 
-ghost use Rattle.std.specs.Prelude.{◌≡◌, ◌≢◌, ◌≤◌, ◌++◌, [], List, ℕ, length, take, IfOk, IsErrOf, Err};
+ghost use Rattle.std.specs.Prelude.{
+  ◌≡◌,
+  ◌≢◌,
+  ◌≤◌,
+  ◌++◌,
+  [],
+  List,
+  ℕ,
+  length,
+  take,
+  IfOk,
+  IsErrOf,
+  Err,
+};
 ghost use Rattle.tk_store.specs.FactSet.{Facts};
 ghost use Rattle.tk_bundle.specs.Bundle.{bundle, bundle_bytes};
 ghost use Rattle.tk_bundle.specs.Front as spec;
@@ -19,13 +32,16 @@ pub fn read_front(alloc: Global, bytes: &[u8]) -> Result<(Bundle, usize), FrontE
     // What the walk over the lengths refuses is refused so, and nothing else is cut.
     ensures walked { (e : AnyError) → walk bytes.now ≡ Err e → result ≡ Err e }
     ensures cut { IsErrOf result FrontError.Cut → IsCut bytes.now }
-    ensures found { IfOk result (λ x. (x.1 ≤ length bytes.now) × bundle.Fits x.0 × (take x.1 bytes.now ≡ bundle_bytes x.0)) }
+    ensures found { IfOk result (λ x. (x.1 ≤ length bytes.now) × bundle.Fits x.0
+        × (take x.1 bytes.now ≡ bundle_bytes x.0)) }
 
     // A bundle that stands at the front is read, unless memory runs out.
-    ensures only { (fs : Facts) (rest : List ℕ) → bundle.Fits fs → bytes.now ≡ bundle_bytes fs ++ rest → IsFrontOf result fs }
+    ensures only { (fs : Facts) (rest : List ℕ) → bundle.Fits fs
+        → bytes.now ≡ bundle_bytes fs ++ rest → IsFrontOf result fs }
 
     // The beginning of a bundle is cut, unless it is all of it.
-    ensures torn { (fs : Facts) (rest : List ℕ) → bundle.Fits fs → bytes.now ++ rest ≡ bundle_bytes fs → rest ≢ [] → result ≡ Err FrontError.Cut }
+    ensures torn { (fs : Facts) (rest : List ℕ) → bundle.Fits fs
+        → bytes.now ++ rest ≡ bundle_bytes fs → rest ≢ [] → result ≡ Err FrontError.Cut }
 {
     let mut reader = Reader::new(bytes);
     walk(&mut reader)?;

@@ -43,10 +43,12 @@ pub fn make(
     vector: &VersionVector,
     after: Option<Dot>,
 ) -> Result<Page, AllocError>
-    ensures page { IfOk result (λ page. spec.IsPageOf page (spec.page_of (known_in store.now) vector.now after)) }
+    ensures page { IfOk result (λ page.
+        spec.IsPageOf page (spec.page_of (known_in store.now) vector.now after)) }
 
     // So it can be read.
-    ensures fits { OnOk result (bundle.Fits (spec.page_of (known_in store.now) vector.now after).facts) }
+    ensures fits { OnOk result (bundle.Fits (spec.page_of (known_in store.now) vector.now
+        after).facts) }
 {
     page_within(alloc, store, vector, after, MOST_FACTS as usize)
 }
@@ -60,8 +62,10 @@ fn page_within(
     limit: usize,
 ) -> Result<Page, AllocError>
     requires { limit ≤ most_facts }
-    ensures page { IfOk result (λ page. spec.IsPageOf page (spec.page_within limit (known_in store.now) vector.now after)) }
-    ensures fits { OnOk result (bundle.Fits (paging.page limit (known_in store.now) vector.now after)) }
+    ensures page { IfOk result (λ page.
+        spec.IsPageOf page (spec.page_within limit (known_in store.now) vector.now after)) }
+    ensures fits { OnOk result (bundle.Fits (paging.page limit (known_in store.now) vector.now
+        after)) }
 {
     let mut dots = store.since(alloc, vector, after, limit + 1)?;
     let more = dots.as_slice().len() > limit;
@@ -73,7 +77,8 @@ fn page_within(
 fn page_at(alloc: Global, store: &FactStore, dots: &[Dot], more: bool) -> Result<Page, AllocError>
     requires { length dots.now ≤ most_facts }
     ensures page { IfOk result (λ page. spec.IsPageAt page (facts_of store.now) dots.now more) }
-    ensures fits { OnOk result (AllByRecursion framed.Fits (spec.facts_at (facts_of store.now) dots.now)) }
+    ensures fits { OnOk result (AllByRecursion framed.Fits
+        (spec.facts_at (facts_of store.now) dots.now)) }
 {
     let count = dots.len() as u16;
     let mut writer = begin_bundle(alloc, newest_at(store, dots), count)?;
@@ -109,7 +114,8 @@ fn newest_with(last: u8, store: &FactStore, dot: Dot) -> u8
 
 // What stands before so many facts, whose newest kind is this one.
 fn begin_bundle(alloc: Global, newest: u8, count: u16) -> Result<Writer, AllocError>
-    ensures { IfOk result (λ writer. writer ≡ magic ++ (version_with newest ∷ (number w16).spell count)) }
+    ensures { IfOk result (λ writer.
+        writer ≡ magic ++ (version_with newest ∷ (number w16).spell count)) }
 {
     let mut writer = Writer::new(alloc);
     writer.put_bytes(MAGIC)?;
@@ -133,8 +139,10 @@ fn write_facts(
     dots: &[Dot],
     writer: &mut Writer,
 ) -> Result<(), AllocError>
-    ensures written { OnOk result (writer.new ≡ writer.old ++ flat_map framed.spell (spec.facts_at (facts_of store.now) dots.now)) }
-    ensures fits { OnOk result (AllByRecursion framed.Fits (spec.facts_at (facts_of store.now) dots.now)) }
+    ensures written { OnOk result (writer.new ≡ writer.old ++ flat_map framed.spell
+        (spec.facts_at (facts_of store.now) dots.now)) }
+    ensures fits { OnOk result (AllByRecursion framed.Fits
+        (spec.facts_at (facts_of store.now) dots.now)) }
 {
     for dot in dots {
         write_fact(alloc, store, *dot, writer)?;
@@ -149,8 +157,10 @@ fn write_fact(
     dot: Dot,
     writer: &mut Writer,
 ) -> Result<(), AllocError>
-    ensures written { OnOk result (writer.new ≡ writer.old ++ flat_map framed.spell (spec.facts_at (facts_of store.now) (dot ∷ []))) }
-    ensures fits { OnOk result (AllByRecursion framed.Fits (spec.facts_at (facts_of store.now) (dot ∷ []))) }
+    ensures written { OnOk result (writer.new ≡ writer.old ++ flat_map framed.spell
+        (spec.facts_at (facts_of store.now) (dot ∷ []))) }
+    ensures fits { OnOk result (AllByRecursion framed.Fits
+        (spec.facts_at (facts_of store.now) (dot ∷ []))) }
 {
     store.known();
     match store.get(dot) {

@@ -18,7 +18,15 @@ use Rattle.tk_ledger.specs.declared.status.Status.{Status}
 use Rattle.tk_ledger.specs.declared.status.Status.TheVariants.{Unseen, Wrong, Broken, Known}
 use Rattle.tk_grant.specs.declared.gate.Gate.{Gate}
 use Rattle.tk_grant.specs.declared.gate.Gate.TheVariants.{Shut, Reuse, Open}
-use Rattle.tk_grant.specs.declared.refusal.Refusal.TheVariants.{MissingGrant, UnknownGrant, ForeignGrant, DeadFamily, WithdrawnGrant, FamilyOver, PastGrant}
+use Rattle.tk_grant.specs.declared.refusal.Refusal.TheVariants.{
+  MissingGrant,
+  UnknownGrant,
+  ForeignGrant,
+  DeadFamily,
+  WithdrawnGrant,
+  FamilyOver,
+  PastGrant,
+}
 
 -- the family is dead (RFC 6749, 4.1.2 and 10.4); the client or the consent isn't live, or the family is over (own); what was
 -- used is used again (RFC 6749, 4.1.2 and 10.4); it is past (5.2). Ended is said of access tokens alone, and never comes here.
@@ -34,7 +42,8 @@ gate_by_state id standing state.Live = Open id standing
 -- another client's (RFC 6749, 5.2)
 abbrev pub gate_by_client : TokenId → Dot → StandingFields → Gate
 gate_by_client id client standing =
-    if is_same_dot standing.client client then gate_by_state id standing standing.state else Shut ForeignGrant
+    if is_same_dot standing.client client then gate_by_state id standing standing.state
+    else Shut ForeignGrant
 
 -- no such token was minted, or under no code (RFC 6749, 5.2)
 abbrev pub gate_by_status : TokenId → Dot → Status → Gate

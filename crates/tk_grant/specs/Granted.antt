@@ -71,7 +71,8 @@ granted_reply place now words grant = token_reply
 -- refresh token (6), with the fact that minted them
 abbrev pub granted_by : Place → ℕ → List ℕ → Judged → Decision
 granted_by place now words (Refused why) = refused (refusal_code why)
-granted_by place now words (Reused id) = record { reply = error_reply InvalidGrant; made = Some (ReuseSeen (record { token = id })) }
+granted_by place now words (Reused id) =
+    record { reply = error_reply InvalidGrant; made = Some (ReuseSeen (record { token = id })) }
 granted_by place now words (Redeems grant) = record {
   reply = granted_reply place now words grant;
   made = Some (CodeRedeemed (record {

@@ -13,7 +13,13 @@ use Rattle.tk_message.specs.declared.caller.Caller.{Caller}
 use Rattle.tk_message.specs.declared.caller.Caller.TheVariants as caller
 use Rattle.tk_grant.specs.declared.judged.Judged.{Judged}
 use Rattle.tk_grant.specs.declared.judged.Judged.TheVariants.{Refused}
-use Rattle.tk_grant.specs.declared.refusal.Refusal.TheVariants.{DuplicateParameter, MixedCredentials, InvalidClient, MissingGrantType, UnsupportedGrantType}
+use Rattle.tk_grant.specs.declared.refusal.Refusal.TheVariants.{
+  DuplicateParameter,
+  MixedCredentials,
+  InvalidClient,
+  MissingGrantType,
+  UnsupportedGrantType,
+}
 use Rattle.tk_grant.specs.Gate.{gate_of}
 use Rattle.tk_grant.specs.Redeemed.{redeemed_of}
 use Rattle.tk_grant.specs.Rotated.{rotated_of}
@@ -25,7 +31,8 @@ judged_by_type F now params client (Some name) =
     if bytes_eq name (codes "authorization_code")
     then redeemed_of F params (gate_of F now client kind.Code (value_of (codes "code") params))
     else if bytes_eq name (codes "refresh_token")
-    then rotated_of params (gate_of F now client kind.Refresh (value_of (codes "refresh_token") params))
+    then rotated_of params (gate_of F now client kind.Refresh
+    (value_of (codes "refresh_token") params))
     else Refused UnsupportedGrantType
 
 -- who asks: a known parameter twice, credentials in two places, no authenticated client (RFC 6749, 2.3, 3.2 and 3.2.1)
@@ -39,7 +46,8 @@ judged_by_caller F now params (caller.Client client) =
 -- others are ignored (RFC 6749, 3.2)
 abbrev pub known_names : List (List ℕ)
 known_names =
-    codes "grant_type" ∷ codes "code" ∷ codes "redirect_uri" ∷ codes "client_id" ∷ codes "client_secret" ∷ codes "code_verifier"
+    codes "grant_type" ∷ codes "code" ∷ codes "redirect_uri" ∷ codes "client_id"
+    ∷ codes "client_secret" ∷ codes "code_verifier"
     ∷ codes "refresh_token" ∷ codes "scope" ∷ []
 
 abbrev pub judged_of : FactSet → ℕ → RequestFields → Judged

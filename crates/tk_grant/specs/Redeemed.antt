@@ -2,7 +2,19 @@
 --   names_uri         the redirection URI is the one that the code was sent to
 --   meets_challenge   a verifier meets the challenge, or there is neither
 --   redeemed_of       what a request for a code's tokens comes to
-use Rattle.std.specs.Prelude.{ℕ, Bool, true, false, not, List, codes, Option, Some, None, if◌then◌else◌}
+use Rattle.std.specs.Prelude.{
+  ℕ,
+  Bool,
+  true,
+  false,
+  not,
+  List,
+  codes,
+  Option,
+  Some,
+  None,
+  if◌then◌else◌,
+}
 use Rattle.std.specs.Str.{bytes_eq}
 use Rattle.std.specs.FinMap as map
 use Rattle.tk_match.specs.Challenge.{ChallengeFields, is_met}
@@ -15,7 +27,11 @@ use Rattle.tk_grant.specs.declared.gate.Gate.{Gate}
 use Rattle.tk_grant.specs.declared.gate.Gate.TheVariants.{Shut, Reuse, Open}
 use Rattle.tk_grant.specs.declared.judged.Judged.{Judged}
 use Rattle.tk_grant.specs.declared.judged.Judged.TheVariants.{Refused, Reused, Redeems}
-use Rattle.tk_grant.specs.declared.refusal.Refusal.TheVariants.{UnknownGrant, WrongRedirect, WrongVerifier}
+use Rattle.tk_grant.specs.declared.refusal.Refusal.TheVariants.{
+  UnknownGrant,
+  WrongRedirect,
+  WrongVerifier,
+}
 
 -- the code's URI, byte for byte; it may be left out only where the code's request left it out (RFC 6749, 4.1.3)
 abbrev pub names_uri : Bool → List ℕ → Option (List ℕ) → Bool
@@ -34,12 +50,20 @@ meets_challenge (Some challenge) (Some verifier) = is_met challenge verifier
 abbrev pub redeemed_by : Pairs → StandingFields → Option issued.CodeIssued → Judged
 redeemed_by params standing None = Refused UnknownGrant
 redeemed_by params standing (Some code) =
-    if not (names_uri code.sent code.uri (value_of (codes "redirect_uri") params)) then Refused WrongRedirect
-    else if not (meets_challenge code.challenge (value_of (codes "code_verifier") params)) then Refused WrongVerifier
-    else Redeems (record { from = standing.code; family_end = standing.family_end; access = standing.scope; refresh = standing.scope })
+    if not (names_uri code.sent code.uri (value_of (codes "redirect_uri") params))
+    then Refused WrongRedirect
+    else if not (meets_challenge code.challenge (value_of (codes "code_verifier") params))
+    then Refused WrongVerifier
+    else Redeems (record {
+      from = standing.code;
+      family_end = standing.family_end;
+      access = standing.scope;
+      refresh = standing.scope;
+    })
 
 -- only where the code serves
 abbrev pub redeemed_of : FactSet → Pairs → Gate → Judged
 redeemed_of F params (Shut why) = Refused why
 redeemed_of F params (Reuse id) = Reused id
-redeemed_of F params (Open id standing) = redeemed_by params standing (issued_at (map.get F) standing.code)
+redeemed_of F params (Open id standing) =
+    redeemed_by params standing (issued_at (map.get F) standing.code)

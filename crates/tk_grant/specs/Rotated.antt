@@ -17,7 +17,12 @@ use Rattle.tk_grant.specs.declared.refusal.Refusal.TheVariants.{LastGeneration, 
 abbrev pub rotated_by : Dot → StandingFields → Option (List ℕ) → Judged
 rotated_by from standing None = Refused WrongScope
 rotated_by from standing (Some scope) =
-    Rotates (standing.generation + 1) (record { from = from; family_end = standing.family_end; access = scope; refresh = standing.scope })
+    Rotates (standing.generation + 1) (record {
+      from = from;
+      family_end = standing.family_end;
+      access = scope;
+      refresh = standing.scope;
+    })
 
 -- the last generation (own); else it is the scope that was sent, or the token's where none was (RFC 6749, 6)
 abbrev pub rotated_of : Pairs → Gate → Judged

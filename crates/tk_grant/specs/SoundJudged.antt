@@ -9,4 +9,5 @@ abbrev pub IsSoundJudged : ℕ → Judged → Type 0
 IsSoundJudged now (Refused why) = Unit {0}
 IsSoundJudged now (Reused id) = is_used_once id.kind ≡ true
 IsSoundJudged now (Redeems grant) = now < grant.family_end
-IsSoundJudged now (Rotates generation grant) = (is_generation generation ≡ true) × (now < grant.family_end)
+IsSoundJudged now (Rotates generation grant) =
+    (is_generation generation ≡ true) × (now < grant.family_end)

@@ -33,7 +33,8 @@ pub(crate) fn find_gate<'a>(
     text: Option<&str>,
 ) -> Gate<'a>
     requires { is_used_once kind ≡ true }
-    ensures value { result ≡ spec.gate_of (facts_of ledger.now) now client kind (option_copied text.entry) }
+    ensures value { result ≡ spec.gate_of (facts_of ledger.now) now client kind
+        (option_copied text.entry) }
     ensures sound { IsSoundGate now result }
 {
     match text {

@@ -24,7 +24,8 @@ pub fn decide_token(
     words: &[u64; 6],
     request: &Request,
 ) -> Result<Decision, AllocError>
-    ensures value { IfOk result (λ d. d ≡ spec.grant_of (facts_of ledger.now) place.now now words.now request.now) }
+    ensures value { IfOk result (λ d.
+        d ≡ spec.grant_of (facts_of ledger.now) place.now now words.now request.now) }
 
     // The fact made, if any, passes its check.
     ensures passes { IfOk result (λ d. Passes d.made) }
@@ -68,7 +69,8 @@ fn decide_redeemed(
     grant: Grant,
 ) -> Result<Decision, AllocError>
     requires { IsSoundJudged now (Judged.Redeems grant) }
-    ensures value { IfOk result (λ d. d ≡ spec.granted_by place.now now words.now (Judged.Redeems grant)) }
+    ensures value { IfOk result (λ d.
+        d ≡ spec.granted_by place.now now words.now (Judged.Redeems grant)) }
     ensures passes { IfOk result (λ d. Passes d.made) }
 {
     let reply = reply_for(alloc, place, now, words, &grant)?;
@@ -95,7 +97,8 @@ fn decide_rotated(
     grant: Grant,
 ) -> Result<Decision, AllocError>
     requires { IsSoundJudged now (Judged.Rotates generation grant) }
-    ensures value { IfOk result (λ d. d ≡ spec.granted_by place.now now words.now (Judged.Rotates generation grant)) }
+    ensures value { IfOk result (λ d.
+        d ≡ spec.granted_by place.now now words.now (Judged.Rotates generation grant)) }
     ensures passes { IfOk result (λ d. Passes d.made) }
 {
     let reply = reply_for(alloc, place, now, words, &grant)?;
@@ -117,7 +120,10 @@ fn decide_rotated(
 // Both tokens, as the fact has them.
 fn tokens(place: &Place, now: Moment, words: &[u64; 6], grant: Grant) -> (MintedToken, MintedToken)
     requires { now < grant.family_end }
-    ensures value { result ≡ (spec.access_token place.now now words.now grant, spec.refresh_token place.now now words.now grant) }
+    ensures value { result ≡ (
+      spec.access_token place.now now words.now grant,
+      spec.refresh_token place.now now words.now grant,
+    ) }
     ensures access { now ≤ result.0.end }
     ensures refresh { now ≤ result.1.end }
 {

@@ -51,7 +51,8 @@ pub(crate) fn judge(
     now: Moment,
     request: &Request,
 ) -> Result<Judged, AllocError>
-    ensures value { IfOk result (λ judged. judged ≡ spec.judged_of (facts_of ledger.now) now request.now) }
+    ensures value { IfOk result (λ judged.
+        judged ≡ spec.judged_of (facts_of ledger.now) now request.now) }
     ensures sound { IfOk result (IsSoundJudged now) }
 {
     let caller = caller_here(alloc, ledger, request)?;
@@ -59,7 +60,8 @@ pub(crate) fn judge(
 }
 
 fn caller_here(alloc: Global, ledger: &Ledger, request: &Request) -> Result<Caller, AllocError>
-    ensures { IfOk result (λ caller. caller ≡ caller_of (facts_of ledger.now) spec.known_names request.now) }
+    ensures { IfOk result (λ caller. caller ≡ caller_of (facts_of ledger.now) spec.known_names
+        request.now) }
 {
     let names = [
         "grant_type",
@@ -81,7 +83,8 @@ fn judge_by_caller(
     params: &Params,
     caller: Caller,
 ) -> Result<Judged, AllocError>
-    ensures value { IfOk result (λ judged. judged ≡ spec.judged_by_caller (facts_of ledger.now) now params.now caller) }
+    ensures value { IfOk result (λ judged. judged ≡ spec.judged_by_caller (facts_of ledger.now) now
+        params.now caller) }
     ensures sound { IfOk result (IsSoundJudged now) }
 {
     match caller {
@@ -103,7 +106,9 @@ fn judge_by_type(
     client: Dot,
     grant_type: Option<&str>,
 ) -> Result<Judged, AllocError>
-    ensures value { IfOk result (λ judged. judged ≡ spec.judged_by_type (facts_of ledger.now) now params.now client (option_copied grant_type.entry)) }
+    ensures value { IfOk result (λ judged.
+        judged ≡ spec.judged_by_type (facts_of ledger.now) now params.now client
+        (option_copied grant_type.entry)) }
     ensures sound { IfOk result (IsSoundJudged now) }
 {
     let Some(grant_type) = grant_type else {

@@ -28,7 +28,8 @@ pub(crate) fn redeem(
     gate: Gate<'_>,
 ) -> Result<Judged, AllocError>
     requires { IsSoundGate now gate }
-    ensures value { IfOk result (λ judged. judged ≡ spec.redeemed_of (facts_of ledger.now) params.now gate.entry) }
+    ensures value { IfOk result (λ judged.
+        judged ≡ spec.redeemed_of (facts_of ledger.now) params.now gate.entry) }
     ensures sound { IfOk result (IsSoundJudged now) }
 {
     match gate {
@@ -67,7 +68,8 @@ fn redeem_by(
     code: Option<&CodeIssued>,
 ) -> Result<Judged, AllocError>
     requires { now < standing.now.family_end }
-    ensures value { IfOk result (λ judged. judged ≡ spec.redeemed_by params.now standing.now (option_copied code.entry)) }
+    ensures value { IfOk result (λ judged.
+        judged ≡ spec.redeemed_by params.now standing.now (option_copied code.entry)) }
     ensures sound { IfOk result (IsSoundJudged now) }
 {
     let Some(code) = code else {

@@ -4,7 +4,20 @@
 --   TopSays                   what the top of a forest says that has the links and marks of a set
 --   state_by, standing_by     the first state that holds, and what is known, where it is known whether the family is dead
 --   by_root, by_top           the status of a minted token
-use Rattle.std.specs.Prelude.{◌≡◌, ℕ, Bool, true, false, ◌&&◌, not, nat_le, Option, Some, None, if◌then◌else◌}
+use Rattle.std.specs.Prelude.{
+  ◌≡◌,
+  ℕ,
+  Bool,
+  true,
+  false,
+  ◌&&◌,
+  not,
+  nat_le,
+  Option,
+  Some,
+  None,
+  if◌then◌else◌,
+}
 use Rattle.std.specs.Option.{option_and_then}
 use Rattle.std.specs.BTreeSet.{BTreeSet}
 use Rattle.std.specs.FinMap as map

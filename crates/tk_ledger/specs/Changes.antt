@@ -8,7 +8,18 @@ use Rattle.tk_handle.specs.declared.dot.Dot.{Dot}
 use Rattle.tk_handle.specs.declared.token_id.TokenId.{TokenId}
 use Rattle.tk_family.specs.declared.link.Link.TheVariants as link
 use Rattle.tk_fact.specs.declared.body.Body.{Body}
-use Rattle.tk_fact.specs.declared.body.Body.TheVariants.{ClientAdded, ClientRetired, ConsentGiven, ConsentWithdrawn, CodeIssued, CodeRedeemed, RefreshRotated, TokenRevoked, ReuseSeen, SubjectOut}
+use Rattle.tk_fact.specs.declared.body.Body.TheVariants.{
+  ClientAdded,
+  ClientRetired,
+  ConsentGiven,
+  ConsentWithdrawn,
+  CodeIssued,
+  CodeRedeemed,
+  RefreshRotated,
+  TokenRevoked,
+  ReuseSeen,
+  SubjectOut,
+}
 use Rattle.tk_ledger.specs.Bodies.{is_same_dot, is_same_token}
 use Rattle.tk_ledger.specs.declared.change.Change.{Change}
 use Rattle.tk_ledger.specs.declared.change.Change.TheVariants as change
@@ -48,7 +59,8 @@ withdraws_of q other = false
 
 -- the client revokes the token of the digest
 abbrev pub revokes_of : TokenId → List ℕ → Dot → Change → Bool
-revokes_of k digest client (change.Revoke f) = is_same_token f.token k && (bytes_eq f.digest digest && is_same_dot f.client client)
+revokes_of k digest client (change.Revoke f) =
+    is_same_token f.token k && (bytes_eq f.digest digest && is_same_dot f.client client)
 revokes_of k digest client other = false
 
 -- a reuse of the token was seen

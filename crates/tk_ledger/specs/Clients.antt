@@ -9,7 +9,20 @@
 --   IsLiveConsent, is_live_consent    that of a code
 --   IsConsentFor                      one whose scope includes a scope
 --   IsLeastConsent, consent_for       the least dot of such a one
-use Rattle.std.specs.Prelude.{◌≡◌, ◌≢◌, ℕ, Bool, false, ◌&&◌, not, List, Option, Some, None, is_some}
+use Rattle.std.specs.Prelude.{
+  ◌≡◌,
+  ◌≢◌,
+  ℕ,
+  Bool,
+  false,
+  ◌&&◌,
+  not,
+  List,
+  Option,
+  Some,
+  None,
+  is_some,
+}
 use Rattle.std.specs.Option.{option_and_then, option_map}
 use Rattle.std.specs.List.{find}
 use Rattle.std.specs.Str.{bytes_eq}
@@ -19,7 +32,12 @@ use Rattle.tk_scope.specs.Scope.{IsWithin, is_within}
 use Rattle.tk_handle.specs.declared.dot.Dot.{Dot}
 use Rattle.tk_handle.specs.Dot.{dot_cmp}
 use Rattle.tk_fact.specs.declared.body.Body.{Body}
-use Rattle.tk_fact.specs.declared.body.Body.TheVariants.{ClientAdded, ClientRetired, ConsentGiven, ConsentWithdrawn}
+use Rattle.tk_fact.specs.declared.body.Body.TheVariants.{
+  ClientAdded,
+  ClientRetired,
+  ConsentGiven,
+  ConsentWithdrawn,
+}
 use Rattle.tk_fact.specs.declared.client_added.ClientAdded as added
 use Rattle.tk_fact.specs.declared.client_retired.ClientRetired as retired
 use Rattle.tk_fact.specs.declared.consent_given.ConsentGiven as given
@@ -106,7 +124,8 @@ pub record IsConsentOf (body_at : Bodies) (client : Dot) (subject : List ℕ) (d
 -- the subject gave the consent, if there is one, to the client
 abbrev pub gives : Dot → List ℕ → Option given.ConsentGiven → Bool
 gives client subject None = false
-gives client subject (Some consent) = is_same_dot consent.client client && bytes_eq consent.subject subject
+gives client subject (Some consent) =
+    is_same_dot consent.client client && bytes_eq consent.subject subject
 
 abbrev pub is_consent_of : FactSet → Dot → List ℕ → Dot → Bool
 is_consent_of F client subject d = gives client subject (consent_at F d) && not (is_withdrawn F d)
@@ -121,27 +140,35 @@ is_live_consent F code = is_consent_of F code.client code.subject code.consent
 -- ---- the consent for a scope
 
 -- a live consent of that client and subject, whose scope includes the scope
-pub record IsConsentFor (body_at : Bodies) (client : Dot) (subject scope : List ℕ) (d : Dot) : Type 0 where
+pub record IsConsentFor (body_at : Bodies) (client : Dot) (subject scope : List ℕ) (d : Dot)
+    : Type 0 where
   pub live : IsConsentOf body_at client subject d
   pub includes : IsWithin scope live.consent.scope
 
 -- the least dot of one, or none where there is none
 abbrev pub IsLeastConsent : Bodies → Dot → List ℕ → List ℕ → Option Dot → Type 0
-IsLeastConsent body_at client subject scope None = (d : Dot) → ¬ IsConsentFor body_at client subject scope d
-IsLeastConsent body_at client subject scope (Some d) = IsConsentFor body_at client subject scope d × ((q : Dot) → IsConsentFor body_at client subject scope q → dot_cmp q d ≢ Less)
+IsLeastConsent body_at client subject scope None =
+    (d : Dot) → ¬ IsConsentFor body_at client subject scope d
+IsLeastConsent body_at client subject scope (Some d) =
+    IsConsentFor body_at client subject scope d
+    × ((q : Dot) → IsConsentFor body_at client subject scope q → dot_cmp q d ≢ Less)
 
 abbrev pub grants : Dot → List ℕ → List ℕ → Option given.ConsentGiven → Bool
 grants client subject scope None = false
-grants client subject scope (Some consent) = gives client subject (Some consent) && is_within scope consent.scope
+grants client subject scope (Some consent) =
+    gives client subject (Some consent) && is_within scope consent.scope
 
 -- the fact is a live consent of that client and subject, whose scope includes the scope
 abbrev pub consents : FactSet → Dot → List ℕ → List ℕ → Dot × Body → Bool
-consents F client subject scope f = grants client subject scope (given_in f.1) && not (is_withdrawn F f.0)
+consents F client subject scope f =
+    grants client subject scope (given_in f.1) && not (is_withdrawn F f.0)
 
 -- such a consent was given at the dot
 abbrev pub serves : FactSet → Dot → List ℕ → List ℕ → Dot → Bool
-serves F client subject scope d = grants client subject scope (consent_at F d) && not (is_withdrawn F d)
+serves F client subject scope d =
+    grants client subject scope (consent_at F d) && not (is_withdrawn F d)
 
 -- the first of these, by dot
 abbrev pub consent_for : FactSet → Dot → List ℕ → List ℕ → Option Dot
-consent_for F client subject scope = option_map dot_of (find (consents F client subject scope) (map.entries F))
+consent_for F client subject scope =
+    option_map dot_of (find (consents F client subject scope) (map.entries F))

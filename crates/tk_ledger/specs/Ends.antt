@@ -10,4 +10,6 @@ use Rattle.tk_ledger.specs.Status.{IsActive}
 
 -- where the grant at d is bad, no token that is under the same code c is active
 abbrev pub FamilyEnds : Bodies → ℕ → Handle → Type 0
-FamilyEnds body_at now h = (d c : Dot) → IsBad (links_in body_at) (IsMarked body_at) d → IsUnder (links_in body_at) d c → IsUnder (links_in body_at) h.id.dot c → ¬ IsActive body_at now h
+FamilyEnds body_at now h = (d c : Dot) → IsBad (links_in body_at) (IsMarked body_at) d
+    → IsUnder (links_in body_at) d c → IsUnder (links_in body_at) h.id.dot c
+    → ¬ IsActive body_at now h

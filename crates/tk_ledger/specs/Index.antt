@@ -10,7 +10,24 @@
 --   IsTied                                        a forest's links and marks are those of the set
 --   woken, any_woken                              a refresh token whose client revoked it, or a code whose subject signed out
 --   IsIndexed                                     all of these
-use Rattle.std.specs.Prelude.{map as map_list, ◌≡◌, ◌≤◌, ◌-◌, ℕ, Bool, true, false, ◌&&◌, ◌||◌, ◌==◌, List, Option, Some, None, is_some}
+use Rattle.std.specs.Prelude.{
+  map as map_list,
+  ◌≡◌,
+  ◌≤◌,
+  ◌-◌,
+  ℕ,
+  Bool,
+  true,
+  false,
+  ◌&&◌,
+  ◌||◌,
+  ◌==◌,
+  List,
+  Option,
+  Some,
+  None,
+  is_some,
+}
 use Rattle.std.specs.List.{list_any}
 use Rattle.std.specs.Ordering.{nat_cmp, ordering_then, eq_by_cmp}
 use Rattle.std.specs.declared.cmp.Ordering.{Ordering}
@@ -75,7 +92,9 @@ pub record IsClients (F : FactSet) (t : BTreeMap Dot ClientRow) : Type 0 where
 
 -- by client, then by the digest of the subject, then by dot
 abbrev pub consent_cmp : ConsentKey → ConsentKey → Ordering
-consent_cmp a b = ordering_then (dot_cmp a.client b.client) (ordering_then (slice_cmp nat_cmp a.subject b.subject) (dot_cmp a.consent b.consent))
+consent_cmp a b =
+    ordering_then (dot_cmp a.client b.client) (ordering_then (slice_cmp nat_cmp a.subject b.subject)
+    (dot_cmp a.consent b.consent))
 
 abbrev pub consent_key : Dot → List ℕ → Dot → ConsentKey
 consent_key client subject d = record { client = client; subject = subject; consent = d }
@@ -90,7 +109,8 @@ greatest_dot = record { region = greatest_region; serial = greatest_serial }
 -- the consent was given to the client, by a subject of the digest
 abbrev pub is_from : Dot → List ℕ → Option given.ConsentGiven → Bool
 is_from client subject None = false
-is_from client subject (Some consent) = is_same_dot consent.client client && bytes_eq (sha256 consent.subject) subject
+is_from client subject (Some consent) =
+    is_same_dot consent.client client && bytes_eq (sha256 consent.subject) subject
 
 -- the table has the consent under client and digest
 abbrev pub is_listed : BTreeSet ConsentKey → Dot → List ℕ → Dot → Bool
@@ -98,12 +118,16 @@ is_listed t client subject d = keys.contains consent_cmp t (consent_key client s
 
 -- the keys of the consents that a subject of the digest gave the client
 abbrev pub span_of : BTreeSet ConsentKey → Dot → List ℕ → List ConsentKey
-span_of t client subject = keys.keys_between consent_cmp (Included (consent_key client subject least_dot)) (Included (consent_key client subject greatest_dot)) t
+span_of t client subject =
+    keys.keys_between consent_cmp (Included (consent_key client subject least_dot))
+    (Included (consent_key client subject greatest_dot)) t
 
 -- each consent that was given is listed, and no other
 pub record IsConsents (F : FactSet) (t : BTreeSet ConsentKey) : Type 0 where
-  pub listed : (client : Dot) (subject : List ℕ) (d : Dot) → is_listed t client subject d ≡ is_from client subject (consent_at F d)
-  pub ranged : (client : Dot) (subject : List ℕ) (d : Dot) → is_listed t client subject d ≡ true → IsDot d
+  pub listed : (client : Dot) (subject : List ℕ) (d : Dot)
+      → is_listed t client subject d ≡ is_from client subject (consent_at F d)
+  pub ranged : (client : Dot) (subject : List ℕ) (d : Dot) → is_listed t client subject d ≡ true
+      → IsDot d
 
 -- each consent that was withdrawn is there, and no other
 abbrev pub IsWithdrawals : FactSet → BTreeSet Dot → Type 0
@@ -113,18 +137,24 @@ IsWithdrawals F t = (q : Dot) → keys.contains dot_cmp t q ≡ is_withdrawn F q
 
 -- by token, then by its digest, then by the client
 abbrev pub revocation_cmp : Revocation → Revocation → Ordering
-revocation_cmp a b = ordering_then (dot_cmp a.dot b.dot) (ordering_then (nat_cmp a.kind b.kind) (ordering_then (slice_cmp nat_cmp a.digest b.digest) (dot_cmp a.client b.client)))
+revocation_cmp a b =
+    ordering_then (dot_cmp a.dot b.dot)
+    (ordering_then (nat_cmp a.kind b.kind) (ordering_then (slice_cmp nat_cmp a.digest b.digest)
+    (dot_cmp a.client b.client)))
 
 abbrev pub revocation_key : TokenId → List ℕ → Dot → Revocation
-revocation_key k digest client = record { dot = k.dot; kind = kind_number k.kind; digest = digest; client = client }
+revocation_key k digest client =
+    record { dot = k.dot; kind = kind_number k.kind; digest = digest; client = client }
 
 -- the table says that the client revoked the token of the digest
 abbrev pub is_listed_revoked : BTreeSet Revocation → TokenId → List ℕ → Dot → Bool
-is_listed_revoked t k digest client = keys.contains revocation_cmp t (revocation_key k digest client)
+is_listed_revoked t k digest client =
+    keys.contains revocation_cmp t (revocation_key k digest client)
 
 -- each revocation is there, and no other
 abbrev pub IsRevocations : FactSet → BTreeSet Revocation → Type 0
-IsRevocations F t = (k : TokenId) (digest : List ℕ) (client : Dot) → is_listed_revoked t k digest client ≡ is_revoked F k digest client
+IsRevocations F t = (k : TokenId) (digest : List ℕ) (client : Dot)
+    → is_listed_revoked t k digest client ≡ is_revoked F k digest client
 
 -- ---- codes and sign-outs
 
@@ -137,11 +167,15 @@ code_key subject d = record { subject = subject; code = d }
 
 -- the keys of the codes of a subject of the digest
 abbrev pub codes_of : BTreeSet CodeKey → List ℕ → List CodeKey
-codes_of t subject = keys.keys_between code_cmp (Included (code_key subject least_dot)) (Included (code_key subject greatest_dot)) t
+codes_of t subject =
+    keys.keys_between code_cmp (Included (code_key subject least_dot))
+    (Included (code_key subject greatest_dot)) t
 
 -- by the digest of the subject, then by what is left of all time after the moment, so that the last comes first, then by dot
 abbrev pub out_cmp : OutKey → OutKey → Ordering
-out_cmp a b = ordering_then (slice_cmp nat_cmp a.subject b.subject) (ordering_then (nat_cmp a.left b.left) (dot_cmp a.place b.place))
+out_cmp a b =
+    ordering_then (slice_cmp nat_cmp a.subject b.subject)
+    (ordering_then (nat_cmp a.left b.left) (dot_cmp a.place b.place))
 
 -- what is left of all time after a moment, in seconds
 abbrev pub left_after : ℕ → ℕ
@@ -152,7 +186,9 @@ out_key subject left d = record { subject = subject; left = left; place = d }
 
 -- the keys of the sign-outs of a subject of the digest
 abbrev pub outs_of : BTreeSet OutKey → List ℕ → List OutKey
-outs_of t subject = keys.keys_between out_cmp (Included (out_key subject 0 least_dot)) (Included (out_key subject greatest_moment greatest_dot)) t
+outs_of t subject =
+    keys.keys_between out_cmp (Included (out_key subject 0 least_dot))
+    (Included (out_key subject greatest_moment greatest_dot)) t
 
 -- the dots of these codes
 abbrev pub dots_of : List CodeKey → List Dot
@@ -169,13 +205,15 @@ is_listed_code t subject d = keys.contains code_cmp t (code_key subject d)
 
 -- The table of codes lists each code that was issued, under the digest of its subject, and no other.
 pub record IsCodes (F : FactSet) (t : BTreeSet CodeKey) : Type 0 where
-  pub listed : (subject : List ℕ) (d : Dot) → is_listed_code t subject d ≡ is_to subject (issued_at (map.get F) d)
+  pub listed : (subject : List ℕ) (d : Dot)
+      → is_listed_code t subject d ≡ is_to subject (issued_at (map.get F) d)
   pub ranged : (subject : List ℕ) (d : Dot) → is_listed_code t subject d ≡ true → IsDot d
 
 -- a subject of the digest signed out, at the moment after which so much of all time is left
 abbrev pub is_left_by : List ℕ → ℕ → Option out.SubjectOut → Bool
 is_left_by subject left None = false
-is_left_by subject left (Some f) = bytes_eq (sha256 f.subject) subject && (left_after f.moment == left)
+is_left_by subject left (Some f) =
+    bytes_eq (sha256 f.subject) subject && (left_after f.moment == left)
 
 -- the table has the sign-out of the dot under the digest and what is left of all time
 abbrev pub is_listed_out : BTreeSet OutKey → List ℕ → ℕ → Dot → Bool
@@ -185,8 +223,10 @@ is_listed_out t subject left d = keys.contains out_cmp t (out_key subject left d
 pub record IsOuts (F : FactSet) (t : BTreeSet OutKey) : Type 0 where
   pub listed : (subject : List ℕ) (left : ℕ) (d : Dot)
       → is_listed_out t subject left d ≡ is_left_by subject left (sign_out_at (map.get F) d)
-  pub ranged : (subject : List ℕ) (left : ℕ) (d : Dot) → is_listed_out t subject left d ≡ true → IsDot d
-  pub early : (d : Dot) (f : out.SubjectOut) → sign_out_at (map.get F) d ≡ Some f → f.moment ≤ greatest_moment
+  pub ranged : (subject : List ℕ) (left : ℕ) (d : Dot) → is_listed_out t subject left d ≡ true
+      → IsDot d
+  pub early : (d : Dot) (f : out.SubjectOut) → sign_out_at (map.get F) d ≡ Some f
+      → f.moment ≤ greatest_moment
 
 abbrev pub tells_by : List ℕ → ℕ → Option out.SubjectOut → Bool
 tells_by subject left None = false

@@ -12,8 +12,31 @@ use Rattle.tk_fact.specs.declared.code_issued.CodeIssued as issued
 use Rattle.tk_fact.specs.Tokens.{MintedFields, uses_of}
 use Rattle.tk_store.specs.FactSet.{FactSet, IsSubset}
 use Rattle.tk_ledger.specs.Bodies.{Bodies}
-use Rattle.tk_ledger.specs.Clients.{IsRetired, IsLiveClient, IsWithdrawn, IsLiveConsent, is_retired, is_live_client, is_withdrawn, is_live_consent}
-use Rattle.tk_ledger.specs.Tokens.{link_of, links_in, minted_in, is_used, is_twice, is_revoked, is_ended, is_marked, is_dead, IsRevoked, IsEnded, IsOut, IsMarked}
+use Rattle.tk_ledger.specs.Clients.{
+  IsRetired,
+  IsLiveClient,
+  IsWithdrawn,
+  IsLiveConsent,
+  is_retired,
+  is_live_client,
+  is_withdrawn,
+  is_live_consent,
+}
+use Rattle.tk_ledger.specs.Tokens.{
+  link_of,
+  links_in,
+  minted_in,
+  is_used,
+  is_twice,
+  is_revoked,
+  is_ended,
+  is_marked,
+  is_dead,
+  IsRevoked,
+  IsEnded,
+  IsOut,
+  IsMarked,
+}
 use Rattle.tk_ledger.specs.Status.{IsActive, IsKnown, IsKnownToken, Says, status_in}
 use Rattle.tk_ledger.specs.declared.status.Status.TheVariants.{Unseen, Wrong, Broken}
 
@@ -23,10 +46,12 @@ abbrev pub UsedDecided : Type 0
 UsedDecided = (F : FactSet) (k : TokenId) → IsTrue (is_used F k) ↔ IsUsed (links_in (map.get F)) k
 
 abbrev pub TwiceDecided : Type 0
-TwiceDecided = (F : FactSet) (k : TokenId) → IsTrue (is_twice F k) ↔ IsTwice (links_in (map.get F)) k
+TwiceDecided =
+    (F : FactSet) (k : TokenId) → IsTrue (is_twice F k) ↔ IsTwice (links_in (map.get F)) k
 
 abbrev pub RevokedDecided : Type 0
-RevokedDecided = (F : FactSet) (k : TokenId) (digest : List ℕ) (client : Dot) → IsTrue (is_revoked F k digest client) ↔ IsRevoked (map.get F) k digest client
+RevokedDecided = (F : FactSet) (k : TokenId) (digest : List ℕ) (client : Dot)
+    → IsTrue (is_revoked F k digest client) ↔ IsRevoked (map.get F) k digest client
 
 abbrev pub EndedDecided : Type 0
 EndedDecided = (F : FactSet) (k : TokenId) → IsTrue (is_ended F k) ↔ IsEnded (map.get F) k
@@ -35,7 +60,9 @@ abbrev pub MarkedDecided : Type 0
 MarkedDecided = (F : FactSet) (k : TokenId) → IsTrue (is_marked F k) ↔ IsMarked (map.get F) k
 
 abbrev pub DeadDecided : Type 0
-DeadDecided = (F : FactSet) (c : Dot) → IsTrue (is_dead F c) ↔ IsDead (links_in (map.get F)) (IsMarked (map.get F)) c
+DeadDecided =
+    (F : FactSet) (c : Dot) → IsTrue (is_dead F c)
+    ↔ IsDead (links_in (map.get F)) (IsMarked (map.get F)) c
 
 abbrev pub RetiredDecided : Type 0
 RetiredDecided = (F : FactSet) (d : Dot) → IsTrue (is_retired F d) ↔ IsRetired (map.get F) d
@@ -44,10 +71,12 @@ abbrev pub WithdrawnDecided : Type 0
 WithdrawnDecided = (F : FactSet) (d : Dot) → IsTrue (is_withdrawn F d) ↔ IsWithdrawn (map.get F) d
 
 abbrev pub LiveClientDecided : Type 0
-LiveClientDecided = (F : FactSet) (d : Dot) → IsTrue (is_live_client F d) ↔ IsLiveClient (map.get F) d
+LiveClientDecided =
+    (F : FactSet) (d : Dot) → IsTrue (is_live_client F d) ↔ IsLiveClient (map.get F) d
 
 abbrev pub LiveConsentDecided : Type 0
-LiveConsentDecided = (F : FactSet) (code : issued.CodeIssued) → IsTrue (is_live_consent F code) ↔ IsLiveConsent (map.get F) code
+LiveConsentDecided = (F : FactSet) (code : issued.CodeIssued) → IsTrue (is_live_consent F code)
+    ↔ IsLiveConsent (map.get F) code
 
 -- ---- what a fact uses
 
@@ -59,50 +88,65 @@ UsesAgree = (body : Body) → uses_of body ≡ use_of (link_of body)
 
 -- a dead family stays dead
 abbrev pub DeathStays : Type 0
-DeathStays = (F G : FactSet) → IsSubset F G → (c : Dot) → IsDead (links_in (map.get F)) (IsMarked (map.get F)) c → IsDead (links_in (map.get G)) (IsMarked (map.get G)) c
+DeathStays = (F G : FactSet) → IsSubset F G → (c : Dot)
+    → IsDead (links_in (map.get F)) (IsMarked (map.get F)) c
+    → IsDead (links_in (map.get G)) (IsMarked (map.get G)) c
 
 -- a token that its client revoked stays so
 abbrev pub EndedStays : Type 0
-EndedStays = (F G : FactSet) → IsSubset F G → (k : TokenId) → IsEnded (map.get F) k → IsEnded (map.get G) k
+EndedStays =
+    (F G : FactSet) → IsSubset F G → (k : TokenId) → IsEnded (map.get F) k → IsEnded (map.get G) k
 
 -- a client that a retirement names is never live again
 abbrev pub RetiredStays : Type 0
-RetiredStays = (F G : FactSet) → IsSubset F G → (d : Dot) → IsRetired (map.get F) d → ¬ IsLiveClient (map.get G) d
+RetiredStays = (F G : FactSet) → IsSubset F G → (d : Dot) → IsRetired (map.get F) d
+    → ¬ IsLiveClient (map.get G) d
 
 -- a consent that a withdrawal names is never live again, for any code
 abbrev pub WithdrawnStays : Type 0
-WithdrawnStays = (F G : FactSet) → IsSubset F G → (code : issued.CodeIssued) → IsWithdrawn (map.get F) code.consent → ¬ IsLiveConsent (map.get G) code
+WithdrawnStays = (F G : FactSet) → IsSubset F G → (code : issued.CodeIssued)
+    → IsWithdrawn (map.get F) code.consent → ¬ IsLiveConsent (map.get G) code
 
 -- ---- what a status says
 
 -- exactly of a handle whose token is minted, with its digest, and is under some code
 abbrev pub KnownExactly : Type 0
-KnownExactly = (F : FactSet) (now : ℕ) (h : Handle) → IsKnown (status_in F now h) ↔ IsKnownToken (map.get F) h
+KnownExactly =
+    (F : FactSet) (now : ℕ) (h : Handle) → IsKnown (status_in F now h) ↔ IsKnownToken (map.get F) h
 
 -- the others too are said exactly of the handles of which they hold
 abbrev pub UnseenExactly : Type 0
-UnseenExactly = (F : FactSet) (now : ℕ) (h : Handle) → (status_in F now h ≡ Unseen) ↔ Says (map.get F) h Unseen
+UnseenExactly =
+    (F : FactSet) (now : ℕ) (h : Handle) → (status_in F now h ≡ Unseen) ↔ Says (map.get F) h Unseen
 
 abbrev pub WrongExactly : Type 0
-WrongExactly = (F : FactSet) (now : ℕ) (h : Handle) → (status_in F now h ≡ Wrong) ↔ Says (map.get F) h Wrong
+WrongExactly =
+    (F : FactSet) (now : ℕ) (h : Handle) → (status_in F now h ≡ Wrong) ↔ Says (map.get F) h Wrong
 
 abbrev pub BrokenExactly : Type 0
-BrokenExactly = (F : FactSet) (now : ℕ) (h : Handle) (expiry : ℕ) → (status_in F now h ≡ Broken expiry) ↔ Says (map.get F) h (Broken expiry)
+BrokenExactly = (F : FactSet) (now : ℕ) (h : Handle) (expiry : ℕ)
+    → (status_in F now h ≡ Broken expiry) ↔ Says (map.get F) h (Broken expiry)
 
 -- ---- what is never active again
 
 -- a token that its client revoked is never active, at any moment, once those facts are held
 abbrev pub RevokedInactive : Type 0
-RevokedInactive = (F G : FactSet) → IsSubset F G → (now : ℕ) (h : Handle) → IsEnded (map.get F) h.id → ¬ IsActive (map.get G) now h
+RevokedInactive = (F G : FactSet) → IsSubset F G → (now : ℕ) (h : Handle) → IsEnded (map.get F) h.id
+    → ¬ IsActive (map.get G) now h
 
 -- nor is any token that shares its code with a grant that is bad: one of its family
 abbrev pub FamilyInactive : Type 0
-FamilyInactive = (F G : FactSet) → IsSubset F G → (now : ℕ) (h : Handle) (d c : Dot) → IsBad (links_in (map.get F)) (IsMarked (map.get F)) d → IsUnder (links_in (map.get G)) d c → IsUnder (links_in (map.get G)) h.id.dot c → ¬ IsActive (map.get G) now h
+FamilyInactive = (F G : FactSet) → IsSubset F G → (now : ℕ) (h : Handle) (d c : Dot)
+    → IsBad (links_in (map.get F)) (IsMarked (map.get F)) d → IsUnder (links_in (map.get G)) d c
+    → IsUnder (links_in (map.get G)) h.id.dot c → ¬ IsActive (map.get G) now h
 
 -- nor is any token under a code whose subject signed out, at the code's start or later
 abbrev pub SignedOutInactive : Type 0
-SignedOutInactive = (F G : FactSet) → IsSubset F G → (now : ℕ) (h : Handle) (c : Dot) → IsOut (map.get F) c → IsUnder (links_in (map.get G)) h.id.dot c → ¬ IsActive (map.get G) now h
+SignedOutInactive = (F G : FactSet) → IsSubset F G → (now : ℕ) (h : Handle) (c : Dot)
+    → IsOut (map.get F) c → IsUnder (links_in (map.get G)) h.id.dot c → ¬ IsActive (map.get G) now h
 
 -- a code or refresh token that is minted is bad exactly where it is marked, or used twice
 abbrev pub BadGrants : Type 0
-BadGrants = (body_at : Bodies) (k : TokenId) (minted : MintedFields) → k.kind ≢ kind.Access → minted_in body_at k ≡ Some minted → IsBad (links_in body_at) (IsMarked body_at) k.dot ↔ (IsMarked body_at k ⊎ IsTwice (links_in body_at) k)
+BadGrants = (body_at : Bodies) (k : TokenId) (minted : MintedFields) → k.kind ≢ kind.Access
+    → minted_in body_at k ≡ Some minted → IsBad (links_in body_at) (IsMarked body_at) k.dot
+    ↔ (IsMarked body_at k ⊎ IsTwice (links_in body_at) k)

@@ -44,7 +44,9 @@ reaches (Some last) moment = nat_le moment last
 -- the greatest moment at which the subject signed out, or none where it never did
 abbrev pub IsLastSignOut : Bodies → List ℕ → Option ℕ → Type 0
 IsLastSignOut body_at subject None = (moment : ℕ) → ¬ IsSignedOut body_at subject moment
-IsLastSignOut body_at subject (Some last) = IsSignedOut body_at subject last × ((moment : ℕ) → IsSignedOut body_at subject moment → moment ≤ last)
+IsLastSignOut body_at subject (Some last) =
+    IsSignedOut body_at subject last × ((moment : ℕ) → IsSignedOut body_at subject moment
+    → moment ≤ last)
 
 -- ---- sign-outs
 

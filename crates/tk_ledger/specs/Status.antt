@@ -7,7 +7,23 @@
 --   Says              what each status says of a handle
 --   IsActive          the token of an access or refresh handle serves
 --   IsKnown, IsLive   a status is known, and its state is Live
-use Rattle.std.specs.Prelude.{◌≡◌, ◌≢◌, ◌<◌, ℕ, Bool, true, false, ◌&&◌, not, nat_le, List, Option, Some, None, if◌then◌else◌}
+use Rattle.std.specs.Prelude.{
+  ◌≡◌,
+  ◌≢◌,
+  ◌<◌,
+  ℕ,
+  Bool,
+  true,
+  false,
+  ◌&&◌,
+  not,
+  nat_le,
+  List,
+  Option,
+  Some,
+  None,
+  if◌then◌else◌,
+}
 use Rattle.std.specs.Str.{bytes_eq}
 use Rattle.std.specs.FinMap as map
 use Rattle.sha2.specs.Sha256.{sha256}
@@ -26,7 +42,18 @@ use Rattle.tk_store.specs.FactSet.{FactSet}
 use Rattle.tk_ledger.specs.Bodies.{Bodies}
 use Rattle.tk_ledger.specs.Clients.{IsLiveClient, IsLiveConsent, is_live_client, is_live_consent}
 use Rattle.tk_ledger.specs.StandingFields.{StandingFields}
-use Rattle.tk_ledger.specs.Tokens.{Root, root_in, minted_in, links_in, issued_at, is_dead, is_used, is_ended, IsEnded, IsMarked}
+use Rattle.tk_ledger.specs.Tokens.{
+  Root,
+  root_in,
+  minted_in,
+  links_in,
+  issued_at,
+  is_dead,
+  is_used,
+  is_ended,
+  IsEnded,
+  IsMarked,
+}
 use Rattle.tk_ledger.specs.declared.status.State.{State}
 use Rattle.tk_ledger.specs.declared.status.State.TheVariants as state
 use Rattle.tk_ledger.specs.declared.status.Status.{Status}
@@ -42,7 +69,8 @@ is_access kind.Refresh = false
 abbrev pub state_in : FactSet → ℕ → TokenId → MintedFields → Root → State
 state_in F now k minted root =
     if is_dead F root.code then state.Dead
-    else if not (is_live_client F root.issued.client && is_live_consent F root.issued) then state.Withdrawn
+    else if not (is_live_client F root.issued.client && is_live_consent F root.issued)
+    then state.Withdrawn
     else if nat_le root.issued.family_end now then state.Over
     else if not (is_access k.kind) && is_used F k then state.Used
     else if nat_le minted.expiry now then state.Past
@@ -81,7 +109,8 @@ abbrev pub minted_as : Bodies → Handle → Option MintedFields
 minted_as body_at h = with_digest (digest_of h) (minted_in body_at h.id)
 
 -- the first that holds, of the fact at the token's dot, what it minted, and the root of this
-abbrev pub status_by : FactSet → ℕ → TokenId → Option Body → Option MintedFields → Option Root → Status
+abbrev pub status_by : FactSet → ℕ → TokenId → Option Body → Option MintedFields → Option Root
+    → Status
 -- no fact stands there
 status_by F now k None minted root = Unseen
 -- it minted no token of that kind and digest
@@ -89,11 +118,14 @@ status_by F now k (Some body) None root = Wrong
 -- no chain of parents leads from it to a code
 status_by F now k (Some body) (Some minted) None = Broken minted.expiry
 -- all is there
-status_by F now k (Some body) (Some minted) (Some root) = Known (standing_in F now k body minted root)
+status_by F now k (Some body) (Some minted) (Some root) =
+    Known (standing_in F now k body minted root)
 
 -- the status of a handle
 abbrev pub status_in : FactSet → ℕ → Handle → Status
-status_in F now h = status_by F now h.id (map.get F h.id.dot) (minted_as (map.get F) h) (root_in (map.get F) h.id.dot)
+status_in F now h =
+    status_by F now h.id (map.get F h.id.dot) (minted_as (map.get F) h)
+    (root_in (map.get F) h.id.dot)
 
 -- ---- what a status says
 
@@ -114,7 +146,8 @@ Says body_at h Unseen = body_at h.id.dot ≡ None
 -- one does, and it didn't mint the token
 Says body_at h Wrong = (body_at h.id.dot ≢ None) × ¬ IsMintedToken body_at h
 -- the token was minted, with this end, and is under no code
-Says body_at h (Broken expiry) = ((t : IsMintedToken body_at h) × (expiry ≡ t.minted.expiry)) × ¬ IsInFamily (links_in body_at) h.id.dot
+Says body_at h (Broken expiry) = ((t : IsMintedToken body_at h) × (expiry ≡ t.minted.expiry))
+    × ¬ IsInFamily (links_in body_at) h.id.dot
 -- it was minted, and is under a code
 Says body_at h (Known standing) = IsKnownToken body_at h
 

@@ -13,7 +13,21 @@
 --   IsMarked, is_marked     these, and those that a reuse was seen of
 --   is_bad, is_dead         bad grants, and the dead families that they make
 -- What is used, used twice, bad and dead is said in tk_family, of the links and marks of the set: `links_in`, `IsMarked`.
-use Rattle.std.specs.Prelude.{◌≡◌, ◌⊎◌, ℕ, Bool, true, false, ◌&&◌, ◌||◌, not, List, Option, Some, None}
+use Rattle.std.specs.Prelude.{
+  ◌≡◌,
+  ◌⊎◌,
+  ℕ,
+  Bool,
+  true,
+  false,
+  ◌&&◌,
+  ◌||◌,
+  not,
+  List,
+  Option,
+  Some,
+  None,
+}
 use Rattle.std.specs.Option.{option_and_then, option_map}
 use Rattle.std.specs.Str.{bytes_eq}
 use Rattle.std.specs.FinMap as map
@@ -26,7 +40,13 @@ use Rattle.tk_family.specs.declared.link.Link.TheVariants.{Code, Redeems, Rotate
 use Rattle.tk_family.specs.Families.{Links, IsUnder, use_of, grant_at}
 use Rattle.tk_family.specs.Walks.{code_of}
 use Rattle.tk_fact.specs.declared.body.Body.{Body}
-use Rattle.tk_fact.specs.declared.body.Body.TheVariants.{CodeIssued, CodeRedeemed, RefreshRotated, TokenRevoked, ReuseSeen}
+use Rattle.tk_fact.specs.declared.body.Body.TheVariants.{
+  CodeIssued,
+  CodeRedeemed,
+  RefreshRotated,
+  TokenRevoked,
+  ReuseSeen,
+}
 use Rattle.tk_fact.specs.declared.code_issued.CodeIssued as issued
 use Rattle.tk_fact.specs.declared.token_revoked.TokenRevoked as revoked
 use Rattle.tk_fact.specs.declared.reuse_seen.ReuseSeen as seen
@@ -115,16 +135,18 @@ is_twice F k = any_fact (uses_first F k) F
 -- ---- revocations
 
 -- a fact says that the client revoked the token of this digest (RFC 7009, 2.1)
-pub record IsRevoked (body_at : Bodies) (k : TokenId) (digest : List ℕ) (client : Dot) : Type 0 where
-  pub place : Dot
-  pub revocation : revoked.TokenRevoked
-  pub held : body_at place ≡ Some (TokenRevoked revocation)
-  pub token : revocation.token ≡ k
-  pub digest_is : revocation.digest ≡ digest
-  pub client_is : revocation.client ≡ client
+pub record IsRevoked (body_at : Bodies) (k : TokenId) (digest : List ℕ) (client : Dot) : Type 0
+  where
+    pub place : Dot
+    pub revocation : revoked.TokenRevoked
+    pub held : body_at place ≡ Some (TokenRevoked revocation)
+    pub token : revocation.token ≡ k
+    pub digest_is : revocation.digest ≡ digest
+    pub client_is : revocation.client ≡ client
 
 abbrev pub revoked_by : TokenId → List ℕ → Dot → Body → Bool
-revoked_by k digest client (TokenRevoked f) = is_same_token f.token k && (bytes_eq f.digest digest && is_same_dot f.client client)
+revoked_by k digest client (TokenRevoked f) =
+    is_same_token f.token k && (bytes_eq f.digest digest && is_same_dot f.client client)
 revoked_by k digest client body = false
 
 abbrev pub revokes : TokenId → List ℕ → Dot → Dot × Body → Bool
@@ -182,7 +204,8 @@ is_code kind.Refresh = false
 
 -- it is a refresh token that its client revoked (RFC 7009, 2.1), or a code whose subject signed out (own)
 abbrev pub IsStopped : Bodies → TokenId → Type 0
-IsStopped body_at k = ((k.kind ≡ kind.Refresh) × IsEnded body_at k) ⊎ ((k.kind ≡ kind.Code) × IsOut body_at k.dot)
+IsStopped body_at k =
+    ((k.kind ≡ kind.Refresh) × IsEnded body_at k) ⊎ ((k.kind ≡ kind.Code) × IsOut body_at k.dot)
 
 abbrev pub is_stopped : FactSet → TokenId → Bool
 is_stopped F k = (is_refresh k.kind && is_ended F k) || (is_code k.kind && is_out F k.dot)

@@ -35,7 +35,8 @@ fn is_retired(clients: &BTreeMap<Dot, ClientRow>, client: Dot) -> bool
 
 // Whether the client was added and not retired, by one look-up.
 pub(crate) fn is_live(clients: &BTreeMap<Dot, ClientRow>, client: Dot) -> bool
-    ensures { result ≡ (row_added (row_at clients.now client) && not (row_retired (row_at clients.now client))) }
+    ensures { result ≡ (row_added (row_at clients.now client)
+        && not (row_retired (row_at clients.now client))) }
 {
     match clients.get(&client) {
         Some(row) => row.added && !row.retired,
@@ -48,7 +49,8 @@ fn put_row(
     client: Dot,
     row: ClientRow,
 ) -> Result<(), AllocError>
-    ensures ok { OnOk result ((q : the_dot) → row_at clients.new q ≡ cond (is_at client q) (Some row) (row_at clients.old q)) }
+    ensures ok { OnOk result ((q : the_dot)
+        → row_at clients.new q ≡ cond (is_at client q) (Some row) (row_at clients.old q)) }
     ensures err { OnErr result ((q : the_dot) → row_at clients.new q ≡ row_at clients.old q) }
 {
     clients.insert(client, row)?;
@@ -60,8 +62,10 @@ pub(crate) fn add_client(
     clients: &mut BTreeMap<Dot, ClientRow>,
     client: Dot,
 ) -> Result<(), AllocError>
-    ensures added { OnOk result ((q : the_dot) → row_added (row_at clients.new q) ≡ (is_at client q || row_added (row_at clients.old q))) }
-    ensures retired { OnOk result ((q : the_dot) → row_retired (row_at clients.new q) ≡ row_retired (row_at clients.old q)) }
+    ensures added { OnOk result ((q : the_dot) → row_added (row_at clients.new q)
+        ≡ (is_at client q || row_added (row_at clients.old q))) }
+    ensures retired { OnOk result ((q : the_dot) → row_retired (row_at clients.new q)
+        ≡ row_retired (row_at clients.old q)) }
     ensures err { OnErr result ((q : the_dot) → row_at clients.new q ≡ row_at clients.old q) }
 {
     let retired = is_retired(clients, client);
@@ -77,8 +81,10 @@ pub(crate) fn retire_client(
     clients: &mut BTreeMap<Dot, ClientRow>,
     client: Dot,
 ) -> Result<(), AllocError>
-    ensures retired { OnOk result ((q : the_dot) → row_retired (row_at clients.new q) ≡ (is_at client q || row_retired (row_at clients.old q))) }
-    ensures added { OnOk result ((q : the_dot) → row_added (row_at clients.new q) ≡ row_added (row_at clients.old q)) }
+    ensures retired { OnOk result ((q : the_dot) → row_retired (row_at clients.new q)
+        ≡ (is_at client q || row_retired (row_at clients.old q))) }
+    ensures added { OnOk result ((q : the_dot) → row_added (row_at clients.new q)
+        ≡ row_added (row_at clients.old q)) }
     ensures err { OnErr result ((q : the_dot) → row_at clients.new q ≡ row_at clients.old q) }
 {
     let added = is_added(clients, client);

@@ -23,5 +23,10 @@ impl<'a> Model for ClientView<'a> {
 
     ghost Value = { ClientFields };
 
-    ghost view = { λ v. record { sort = v.sort.now; scope = v.scope.now; redirects = v.redirects.now; live = v.live } };
+    ghost view = { λ v. record {
+      sort = v.sort.now;
+      scope = v.scope.now;
+      redirects = v.redirects.now;
+      live = v.live;
+    } };
 }

@@ -45,8 +45,11 @@ pub(crate) fn give(
     subject: &[u8; 32],
     consent: Dot,
 ) -> Result<(), AllocError>
-    ensures ok { OnOk result ((k : the_key) → contains consent_cmp consents.new k ≡ cond (eq_by_cmp consent_cmp (consent_key client subject.now consent) k) true (contains consent_cmp consents.old k)) }
-    ensures err { OnErr result ((k : the_key) → contains consent_cmp consents.new k ≡ contains consent_cmp consents.old k) }
+    ensures ok { OnOk result ((k : the_key) → contains consent_cmp consents.new k
+        ≡ cond (eq_by_cmp consent_cmp (consent_key client subject.now consent) k) true
+        (contains consent_cmp consents.old k)) }
+    ensures err { OnErr result ((k : the_key) → contains consent_cmp consents.new k
+        ≡ contains consent_cmp consents.old k) }
     ensures ranged { IsDot consent }
 {
     let _ranges = (consent.region(), consent.serial());
@@ -60,8 +63,10 @@ pub(crate) fn give(
 
 // Notes a consent that was withdrawn.
 pub(crate) fn withdraw(withdrawn: &mut BTreeSet<Dot>, consent: Dot) -> Result<(), AllocError>
-    ensures ok { OnOk result ((q : the_dot) → contains dot_cmp withdrawn.new q ≡ cond (is_at consent q) true (contains dot_cmp withdrawn.old q)) }
-    ensures err { OnErr result ((q : the_dot) → contains dot_cmp withdrawn.new q ≡ contains dot_cmp withdrawn.old q) }
+    ensures ok { OnOk result ((q : the_dot) → contains dot_cmp withdrawn.new q
+        ≡ cond (is_at consent q) true (contains dot_cmp withdrawn.old q)) }
+    ensures err { OnErr result ((q : the_dot) → contains dot_cmp withdrawn.new q
+        ≡ contains dot_cmp withdrawn.old q) }
 {
     withdrawn.insert(consent)?;
     Ok(())

@@ -23,5 +23,10 @@ impl<'a> Model for ConsentView<'a> {
 
     ghost Value = { ConsentFields };
 
-    ghost view = { λ v. record { client = v.client; subject = v.subject.now; scope = v.scope.now; live = v.live } };
+    ghost view = { λ v. record {
+      client = v.client;
+      subject = v.subject.now;
+      scope = v.scope.now;
+      live = v.live;
+    } };
 }

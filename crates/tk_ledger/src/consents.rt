@@ -98,7 +98,9 @@ impl Ledger {
         subject: &Subject,
         scope: &Scope,
     ) -> Option<&'a ConsentKey>
-        ensures first { option_copied result ≡ find (λ k. spec.serves (facts_of self.now) client subject.now scope.now k.consent) (span_of consents.now client (sha256 subject.now)) }
+        ensures first { option_copied result ≡ find (λ k.
+            spec.serves (facts_of self.now) client subject.now scope.now k.consent)
+            (span_of consents.now client (sha256 subject.now)) }
         ensures sorted { IsOrdered consent_cmp consents.now }
     {
         let (first, last) = span(client, &subject_digest(subject));
@@ -110,7 +112,8 @@ impl Ledger {
     // The least dot of such a one, among those of the subject to the client alone.
     pub(crate) fn first_consent(&self, client: Dot, subject: &Subject, scope: &Scope) -> Option<Dot>
         ensures value { result ≡ spec.consent_for (facts_of self.now) client subject.now scope.now }
-        ensures least { spec.IsLeastConsent (map.get (facts_of self.now)) client subject.now scope.now result }
+        ensures least { spec.IsLeastConsent (map.get (facts_of self.now)) client subject.now
+            scope.now result }
     {
         match self.first_key(&self.index.consents, client, subject, scope) {
             Some(key) => Some(key.consent),

@@ -93,7 +93,8 @@ fn issue_code(
     dot: Dot,
     subject: &[u8; 32],
 ) -> Result<(), AllocError>
-    requires change { option_map change_in (map.get (facts_of facts.now) dot) ≡ Some (change_as.Issue subject.now) }
+    requires change { option_map change_in (map.get (facts_of facts.now) dot)
+        ≡ Some (change_as.Issue subject.now) }
     requires revocations { IsRevocations (facts_of facts.now) revocations.now }
     requires codes { IsCodes (map.remove (facts_of facts.now) dot) codes.old }
     requires outs { IsOuts (facts_of facts.now) outs.now }
@@ -122,7 +123,8 @@ fn mark_token(
     dot: Dot,
     token: TokenId,
 ) -> Result<(), AllocError>
-    requires change { option_map change_in (map.get (facts_of facts.now) dot) ≡ Some (change_as.Mark token) }
+    requires change { option_map change_in (map.get (facts_of facts.now) dot)
+        ≡ Some (change_as.Mark token) }
     requires tied { IsTied (map.remove (facts_of facts.now) dot) forest.old }
     ensures ok { OnOk result (IsTied (facts_of facts.now) forest.new) }
     ensures err { OnErr result (IsTied (map.remove (facts_of facts.now) dot) forest.new) }
@@ -139,13 +141,15 @@ fn revoke_token(
     dot: Dot,
     fact: &TokenRevoked,
 ) -> Result<(), AllocError>
-    requires change { option_map change_in (map.get (facts_of facts.now) dot) ≡ Some (change_as.Revoke fact.now) }
+    requires change { option_map change_in (map.get (facts_of facts.now) dot)
+        ≡ Some (change_as.Revoke fact.now) }
     requires revocations { IsRevocations (map.remove (facts_of facts.now) dot) revocations.old }
     requires outs { IsOuts (facts_of facts.now) outs.now }
     requires tied { IsTied (map.remove (facts_of facts.now) dot) forest.old }
     ensures revocations { OnOk result (IsRevocations (facts_of facts.now) revocations.new) }
     ensures ok { OnOk result (IsTied (facts_of facts.now) forest.new) }
-    ensures revocations_err { OnErr result (IsRevocations (map.remove (facts_of facts.now) dot) revocations.new) }
+    ensures revocations_err { OnErr result (IsRevocations (map.remove (facts_of facts.now) dot)
+        revocations.new) }
     ensures err { OnErr result (IsTied (map.remove (facts_of facts.now) dot) forest.new) }
 {
     match revoke(revocations, &fact.token, &fact.digest, fact.client) {
@@ -168,7 +172,8 @@ fn sign_out(
     subject: &[u8; 32],
     moment: Moment,
 ) -> Result<(), AllocError>
-    requires change { option_map change_in (map.get (facts_of facts.now) dot) ≡ Some (change_as.SignOut subject.now moment) }
+    requires change { option_map change_in (map.get (facts_of facts.now) dot)
+        ≡ Some (change_as.SignOut subject.now moment) }
     requires revocations { IsRevocations (facts_of facts.now) revocations.now }
     requires codes { IsCodes (facts_of facts.now) codes.now }
     requires outs { IsOuts (map.remove (facts_of facts.now) dot) outs.old }

@@ -1,6 +1,30 @@
 //! Laws of the ledger: functions with empty bodies, whose contracts hold of all sets of facts.
 
-ghost use Rattle.tk_ledger.specs.Laws.{UsedDecided, TwiceDecided, RevokedDecided, EndedDecided, MarkedDecided, DeadDecided, RetiredDecided, WithdrawnDecided, LiveClientDecided, LiveConsentDecided, UsesAgree, DeathStays, EndedStays, RetiredStays, WithdrawnStays, UnseenExactly, WrongExactly, BrokenExactly, KnownExactly, RevokedInactive, SignedOutInactive, FamilyInactive, BadGrants};
+ghost use Rattle.tk_ledger.specs.Laws.{
+  UsedDecided,
+  TwiceDecided,
+  RevokedDecided,
+  EndedDecided,
+  MarkedDecided,
+  DeadDecided,
+  RetiredDecided,
+  WithdrawnDecided,
+  LiveClientDecided,
+  LiveConsentDecided,
+  UsesAgree,
+  DeathStays,
+  EndedStays,
+  RetiredStays,
+  WithdrawnStays,
+  UnseenExactly,
+  WrongExactly,
+  BrokenExactly,
+  KnownExactly,
+  RevokedInactive,
+  SignedOutInactive,
+  FamilyInactive,
+  BadGrants,
+};
 
 /// A law: each test of a set of facts says whether the relation of its name holds (own).
 pub fn tests_decide()

@@ -122,8 +122,10 @@ impl Ledger {
 
     /// The least dot of a live consent of the client and subject whose scope includes the scope, if any.
     pub fn consent_for(&self, client: Dot, subject: &Subject, scope: &Scope) -> Option<Dot>
-        ensures value { result ≡ clients_of.consent_for (facts_of self.now) client subject.now scope.now }
-        ensures least { clients_of.IsLeastConsent (map.get (facts_of self.now)) client subject.now scope.now result }
+        ensures value { result ≡ clients_of.consent_for (facts_of self.now) client subject.now
+            scope.now }
+        ensures least { clients_of.IsLeastConsent (map.get (facts_of self.now)) client subject.now
+            scope.now result }
     {
         self.first_consent(client, subject, scope)
     }
@@ -132,14 +134,16 @@ impl Ledger {
     /// such a token was minted, and for that client, isn't asked.
     pub fn revoked(&self, token: &TokenId, digest: &[u8; 32], client: Dot) -> bool
         ensures value { result ≡ is_revoked (facts_of self.now) token.now digest.now client }
-        ensures meaning { IsTrue result ↔ IsRevoked (map.get (facts_of self.now)) token.now digest.now client }
+        ensures meaning { IsTrue result ↔ IsRevoked (map.get (facts_of self.now)) token.now
+            digest.now client }
     {
         revocations::is_revoked(&self.index.revocations, token, digest, client)
     }
 
     /// The greatest moment at which the subject signed out everywhere, or None where no sign-out of it is held (own).
     pub fn signed_out(&self, subject: &Subject) -> Option<Moment>
-        ensures value { (moment : ℕ) → is_signed_out (facts_of self.now) subject.now moment ≡ reaches result moment }
+        ensures value { (moment : ℕ) → is_signed_out (facts_of self.now) subject.now moment
+            ≡ reaches result moment }
         ensures meaning { IsLastSignOut (map.get (facts_of self.now)) subject.now result }
     {
         last_sign_out(&self.store, &self.index.outs, subject)
@@ -156,14 +160,17 @@ impl Ledger {
         ensures known { IsKnown result ↔ IsKnownToken (map.get (facts_of self.now)) handle.now }
 
         // Live is said of exactly the active access and refresh tokens (RFC 7662, 2.2).
-        ensures live { handle.now.id.kind ≢ kind.Code → (IsLive result ↔ IsActive (map.get (facts_of self.now)) now handle.now) }
+        ensures live { handle.now.id.kind ≢ kind.Code
+            → (IsLive result ↔ IsActive (map.get (facts_of self.now)) now handle.now) }
 
         // A code is never active.
-        ensures code { handle.now.id.kind ≡ kind.Code → ¬ IsActive (map.get (facts_of self.now)) now handle.now }
+        ensures code { handle.now.id.kind ≡ kind.Code
+            → ¬ IsActive (map.get (facts_of self.now)) now handle.now }
 
         // Nor is a token that its client revoked (RFC 7009, 2.1), or one of a family with a bad grant (RFC 6749, 4.1.2,
         // 10.4 and 10.5).
-        ensures revoked { IsEnded (map.get (facts_of self.now)) handle.now.id → ¬ IsActive (map.get (facts_of self.now)) now handle.now }
+        ensures revoked { IsEnded (map.get (facts_of self.now)) handle.now.id
+            → ¬ IsActive (map.get (facts_of self.now)) now handle.now }
         ensures family { FamilyEnds (map.get (facts_of self.now)) now handle.now }
 
         // The subject of a standing is one, and the family of a live token ends after the moment.

@@ -75,7 +75,8 @@ pub(crate) fn root_above<'a>(facts: &'a FactStore, forest: &Forest, dot: Dot) ->
 
 // What the fact at the token's dot says of it.
 pub(crate) fn minted_at<'a>(facts: &'a FactStore, token: &TokenId) -> Option<Minted<'a>>
-    ensures { option_map shown_minted result ≡ spec.minted_in (map.get (facts_of facts.now)) token.now }
+    ensures { option_map shown_minted result ≡ spec.minted_in (map.get (facts_of facts.now))
+        token.now }
 {
     match facts.get(token.dot) {
         Some(fact) => fact.minted(token.kind),

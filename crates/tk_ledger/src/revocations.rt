@@ -40,8 +40,11 @@ pub(crate) fn revoke(
     digest: &[u8; 32],
     client: Dot,
 ) -> Result<(), AllocError>
-    ensures ok { OnOk result ((q : the_revocation) → contains revocation_cmp revocations.new q ≡ cond (eq_by_cmp revocation_cmp (revocation_key token.now digest.now client) q) true (contains revocation_cmp revocations.old q)) }
-    ensures err { OnErr result ((q : the_revocation) → contains revocation_cmp revocations.new q ≡ contains revocation_cmp revocations.old q) }
+    ensures ok { OnOk result ((q : the_revocation) → contains revocation_cmp revocations.new q
+        ≡ cond (eq_by_cmp revocation_cmp (revocation_key token.now digest.now client) q) true
+        (contains revocation_cmp revocations.old q)) }
+    ensures err { OnErr result ((q : the_revocation) → contains revocation_cmp revocations.new q
+        ≡ contains revocation_cmp revocations.old q) }
 {
     revocations.insert(key(token, digest, client))?;
     Ok(())

@@ -64,7 +64,8 @@ fn last_key<'a>(
     outs: &'a BTreeSet<OutKey>,
     subject: &Subject,
 ) -> Option<&'a OutKey>
-    ensures first { option_copied result ≡ find (tells_of (facts_of facts.now) subject.now) (outs_of outs.now (sha256 subject.now)) }
+    ensures first { option_copied result ≡ find (tells_of (facts_of facts.now) subject.now)
+        (outs_of outs.now (sha256 subject.now)) }
     ensures sorted { IsOrdered out_cmp outs.now }
 {
     let (first, last) = out_span(&subject_digest(subject));

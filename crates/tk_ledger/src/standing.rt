@@ -23,7 +23,8 @@ use tk_handle::{Dot, Handle, Kind, Moment, TokenId};
 
 // What the fact says of the token of the handle, where it minted one of that kind and digest.
 fn minted_as<'a>(fact: &'a Fact, handle: &Handle) -> Option<Minted<'a>>
-    ensures { option_map shown_minted result ≡ spec.with_digest (spec.digest_of handle.now) (minted_of fact.now.1 handle.now.id.kind) }
+    ensures { option_map shown_minted result ≡ spec.with_digest (spec.digest_of handle.now)
+        (minted_of fact.now.1 handle.now.id.kind) }
 {
     match fact.minted(handle.id.kind) {
         Some(minted) => {
@@ -57,7 +58,8 @@ fn is_access(kind: Kind) -> bool
 
 impl Ledger {
     fn look(&self, dot: Dot, steps: &mut Steps) -> Option<&Fact>
-        ensures value { option_copied result ≡ option_map (λ body. (dot, body)) (map.get (facts_of self.now) dot) }
+        ensures value { option_copied result ≡ option_map (λ body.
+            (dot, body)) (map.get (facts_of self.now) dot) }
         ensures first { steps.old + 1 < 2 ^ 64 → steps.new ≡ steps.old + 1 }
         ensures more { steps.old ≤ steps.new }
         ensures at_most { steps.new ≤ steps.old + 1 }
@@ -101,7 +103,8 @@ impl Ledger {
     }
 
     fn is_revoked(&self, token: &TokenId, digest: &[u8; 32], client: Dot, steps: &mut Steps) -> bool
-        ensures value { result ≡ tokens_of.is_revoked (facts_of self.now) token.now digest.now client }
+        ensures value { result ≡ tokens_of.is_revoked (facts_of self.now) token.now digest.now
+            client }
         ensures more { steps.old ≤ steps.new }
         ensures at_most { steps.new ≤ steps.old + 1 }
     {
@@ -114,7 +117,8 @@ impl Ledger {
 
 impl Ledger {
     fn issued_at(&self, code: Dot, steps: &mut Steps) -> Option<&CodeIssued>
-        ensures value { option_copied result ≡ tokens_of.issued_at (map.get (facts_of self.now)) code }
+        ensures value { option_copied result ≡ tokens_of.issued_at (map.get (facts_of self.now))
+            code }
         ensures more { steps.old ≤ steps.new }
         ensures at_most { steps.new ≤ steps.old + 1 }
     {
@@ -170,7 +174,8 @@ impl Ledger {
         issued: &CodeIssued,
         steps: &mut Steps,
     ) -> State
-        ensures value { result ≡ by.state_by dead (facts_of self.now) now token.now (shown_minted minted.now) issued.now }
+        ensures value { result ≡ by.state_by dead (facts_of self.now) now token.now
+            (shown_minted minted.now) issued.now }
         ensures more { steps.old ≤ steps.new }
         ensures at_most { steps.new ≤ steps.old + 4 }
     {
@@ -206,7 +211,8 @@ impl Ledger {
         code: Dot,
         steps: &mut Steps,
     ) -> Status<'a>
-        ensures value { result ≡ by.by_root dead (facts_of self.now) now token.now body.now (shown_minted minted.now) (tokens_of.root_of (map.get (facts_of self.now)) code) }
+        ensures value { result ≡ by.by_root dead (facts_of self.now) now token.now body.now
+            (shown_minted minted.now) (tokens_of.root_of (map.get (facts_of self.now)) code) }
         ensures more { steps.old ≤ steps.new }
         ensures at_most { steps.new ≤ steps.old + 5 }
     {
@@ -236,7 +242,8 @@ impl Ledger {
         top: Top,
         steps: &mut Steps,
     ) -> Status<'a>
-        ensures value { result ≡ by.by_top (facts_of self.now) now token.now body.now (shown_minted minted.now) top }
+        ensures value { result ≡ by.by_top (facts_of self.now) now token.now body.now
+            (shown_minted minted.now) top }
         ensures more { steps.old ≤ steps.new }
         ensures at_most { steps.new ≤ steps.old + 5 }
     {

@@ -53,7 +53,17 @@ impl<'a> Model for Standing<'a> {
 
     ghost Value = { StandingFields };
 
-    ghost view = { λ s. record { client = s.client; subject = s.subject.now; code = s.code; scope = s.scope.now; start = s.start; expiry = s.expiry; family_end = s.family_end; generation = s.generation; state = s.state } };
+    ghost view = { λ s. record {
+      client = s.client;
+      subject = s.subject.now;
+      code = s.code;
+      scope = s.scope.now;
+      start = s.start;
+      expiry = s.expiry;
+      family_end = s.family_end;
+      generation = s.generation;
+      state = s.state;
+    } };
 }
 
 /// Where the token of a handle stands (own).

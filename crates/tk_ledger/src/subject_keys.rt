@@ -25,7 +25,15 @@ ghost use Rattle.tk_handle.specs.Dot.{IsDot};
 ghost use Rattle.tk_handle.specs.Ranges.{IsMoment, greatest_moment};
 ghost use Rattle.tk_ledger.specs.declared.subject_keys.CodeKey.{CodeKey as the_code};
 ghost use Rattle.tk_ledger.specs.declared.subject_keys.OutKey.{OutKey as the_out};
-ghost use Rattle.tk_ledger.specs.Index.{least_dot, greatest_dot, code_cmp, code_key, out_cmp, out_key, left_after};
+ghost use Rattle.tk_ledger.specs.Index.{
+  least_dot,
+  greatest_dot,
+  code_cmp,
+  code_key,
+  out_cmp,
+  out_key,
+  left_after,
+};
 
 use crate::consent_keys::dot_range;
 use std::alloc::AllocError;
@@ -40,8 +48,11 @@ pub(crate) fn list_code(
     subject: &[u8; 32],
     code: Dot,
 ) -> Result<(), AllocError>
-    ensures ok { OnOk result ((k : the_code) → contains code_cmp codes.new k ≡ cond (eq_by_cmp code_cmp (code_key subject.now code) k) true (contains code_cmp codes.old k)) }
-    ensures err { OnErr result ((k : the_code) → contains code_cmp codes.new k ≡ contains code_cmp codes.old k) }
+    ensures ok { OnOk result ((k : the_code)
+        → contains code_cmp codes.new k ≡ cond (eq_by_cmp code_cmp (code_key subject.now code) k)
+        true (contains code_cmp codes.old k)) }
+    ensures err { OnErr result ((k : the_code)
+        → contains code_cmp codes.new k ≡ contains code_cmp codes.old k) }
     ensures ranged { IsDot code }
 {
     let _ranges = (code.region(), code.serial());
@@ -54,7 +65,9 @@ pub(crate) fn list_code(
 
 // Forgets a code that wasn't kept after all.
 pub(crate) fn drop_code(codes: &mut BTreeSet<CodeKey>, subject: &[u8; 32], code: Dot)
-    ensures { (k : the_code) → contains code_cmp codes.new k ≡ cond (eq_by_cmp code_cmp (code_key subject.now code) k) false (contains code_cmp codes.old k) }
+    ensures { (k : the_code) → contains code_cmp codes.new k
+        ≡ cond (eq_by_cmp code_cmp (code_key subject.now code) k) false
+        (contains code_cmp codes.old k) }
 {
     codes.remove(&CodeKey {
         subject: *subject,
@@ -92,8 +105,12 @@ pub(crate) fn list_out(
     moment: Moment,
     place: Dot,
 ) -> Result<(), AllocError>
-    ensures ok { OnOk result ((k : the_out) → contains out_cmp outs.new k ≡ cond (eq_by_cmp out_cmp (out_key subject.now (left_after moment) place) k) true (contains out_cmp outs.old k)) }
-    ensures err { OnErr result ((k : the_out) → contains out_cmp outs.new k ≡ contains out_cmp outs.old k) }
+    ensures ok { OnOk result ((k : the_out)
+        → contains out_cmp outs.new k ≡ cond
+        (eq_by_cmp out_cmp (out_key subject.now (left_after moment) place) k) true
+        (contains out_cmp outs.old k)) }
+    ensures err { OnErr result ((k : the_out)
+        → contains out_cmp outs.new k ≡ contains out_cmp outs.old k) }
     ensures ranged { IsDot place }
     ensures early { IsMoment moment }
 {

@@ -9,7 +9,16 @@ ghost use Rattle.tk_handle.specs.declared.token_id.TokenId.{TokenId as the_token
 ghost use Rattle.tk_fact.specs.Tokens.{shown_minted};
 ghost use Rattle.tk_store.specs.Store.{facts_of};
 ghost use Rattle.tk_ledger.specs.Tokens.{links_in, is_ended as ended};
-ghost use Rattle.tk_ledger.specs.Index.{IsRevocations, IsOuts, codes_of, dots_of, wakes_refresh, wakes_code, woken, any_woken};
+ghost use Rattle.tk_ledger.specs.Index.{
+  IsRevocations,
+  IsOuts,
+  codes_of,
+  dots_of,
+  wakes_refresh,
+  wakes_code,
+  woken,
+  any_woken,
+};
 ghost use Rattle.tk_ledger.specs.ByTop.{ended_in};
 
 use crate::looks::{minted_at, root_above};
@@ -31,7 +40,8 @@ fn is_ended_by(
     minted: &Option<Minted<'_>>,
     root: &Option<Root<'_>>,
 ) -> bool
-    ensures { result ≡ ended_in revocations.now token.now (option_map shown_minted minted.now) root.now }
+    ensures { result ≡ ended_in revocations.now token.now (option_map shown_minted minted.now)
+        root.now }
 {
     match (minted, root) {
         (Some(minted), Some(root)) => {
@@ -50,7 +60,8 @@ fn is_ended(
     token: &TokenId,
 ) -> bool
     requires revocations { IsRevocations (facts_of facts.now) revocations.now }
-    requires links { (q : the_dot) → map.get forest.now.links q ≡ links_in (map.get (facts_of facts.now)) q }
+    requires links { (q : the_dot)
+        → map.get forest.now.links q ≡ links_in (map.get (facts_of facts.now)) q }
     ensures { result ≡ ended (facts_of facts.now) token.now }
 {
     is_ended_by(
@@ -65,9 +76,12 @@ fn is_ended(
 // this takes no memory.
 fn wake_refresh(facts: &FactStore, revocations: &BTreeSet<Revocation>, forest: &mut Forest, at: Dot)
     requires revocations { IsRevocations (facts_of facts.now) revocations.now }
-    requires links { (q : the_dot) → map.get forest.old.links q ≡ links_in (map.get (facts_of facts.now)) q }
+    requires links { (q : the_dot)
+        → map.get forest.old.links q ≡ links_in (map.get (facts_of facts.now)) q }
     ensures links { forest.new.links ≡ forest.old.links }
-    ensures marks { (k : the_token) → set.contains forest.new.marks k ≡ (wakes_refresh (facts_of facts.now) k at || set.contains forest.old.marks k) }
+    ensures marks { (k : the_token)
+        → set.contains forest.new.marks k ≡ (wakes_refresh (facts_of facts.now) k at
+        || set.contains forest.old.marks k) }
 {
     let token = TokenId {
         dot: at,
@@ -82,9 +96,12 @@ fn wake_refresh(facts: &FactStore, revocations: &BTreeSet<Revocation>, forest: &
 // Marks the code of the dot, if its subject signed out. It has a link too.
 fn wake_code(facts: &FactStore, outs: &BTreeSet<OutKey>, forest: &mut Forest, at: Dot)
     requires outs { IsOuts (facts_of facts.now) outs.now }
-    requires links { (q : the_dot) → map.get forest.old.links q ≡ links_in (map.get (facts_of facts.now)) q }
+    requires links { (q : the_dot)
+        → map.get forest.old.links q ≡ links_in (map.get (facts_of facts.now)) q }
     ensures links { forest.new.links ≡ forest.old.links }
-    ensures marks { (k : the_token) → set.contains forest.new.marks k ≡ (wakes_code (facts_of facts.now) k at || set.contains forest.old.marks k) }
+    ensures marks { (k : the_token)
+        → set.contains forest.new.marks k ≡ (wakes_code (facts_of facts.now) k at
+        || set.contains forest.old.marks k) }
 {
     let token = TokenId {
         dot: at,
@@ -106,9 +123,12 @@ pub(crate) fn wake(
 )
     requires revocations { IsRevocations (facts_of facts.now) revocations.now }
     requires outs { IsOuts (facts_of facts.now) outs.now }
-    requires links { (q : the_dot) → map.get forest.old.links q ≡ links_in (map.get (facts_of facts.now)) q }
+    requires links { (q : the_dot)
+        → map.get forest.old.links q ≡ links_in (map.get (facts_of facts.now)) q }
     ensures links { forest.new.links ≡ forest.old.links }
-    ensures marks { (k : the_token) → set.contains forest.new.marks k ≡ (woken (facts_of facts.now) k at || set.contains forest.old.marks k) }
+    ensures marks { (k : the_token)
+        → set.contains forest.new.marks k ≡ (woken (facts_of facts.now) k at
+        || set.contains forest.old.marks k) }
 {
     wake_code(facts, outs, forest, at);
     wake_refresh(facts, revocations, forest, at);
@@ -124,9 +144,12 @@ pub(crate) fn wake_all(
 )
     requires revocations { IsRevocations (facts_of facts.now) revocations.now }
     requires outs { IsOuts (facts_of facts.now) outs.now }
-    requires links { (q : the_dot) → map.get forest.old.links q ≡ links_in (map.get (facts_of facts.now)) q }
+    requires links { (q : the_dot)
+        → map.get forest.old.links q ≡ links_in (map.get (facts_of facts.now)) q }
     ensures links { forest.new.links ≡ forest.old.links }
-    ensures marks { (k : the_token) → set.contains forest.new.marks k ≡ (any_woken (facts_of facts.now) k dots.now || set.contains forest.old.marks k) }
+    ensures marks { (k : the_token)
+        → set.contains forest.new.marks k ≡ (any_woken (facts_of facts.now) k dots.now
+        || set.contains forest.old.marks k) }
 {
     for at in dots {
         wake(facts, revocations, outs, forest, *at);
@@ -144,9 +167,13 @@ pub(crate) fn wake_codes(
 )
     requires revocations { IsRevocations (facts_of facts.now) revocations.now }
     requires outs { IsOuts (facts_of facts.now) outs.now }
-    requires links { (q : the_dot) → map.get forest.old.links q ≡ links_in (map.get (facts_of facts.now)) q }
+    requires links { (q : the_dot)
+        → map.get forest.old.links q ≡ links_in (map.get (facts_of facts.now)) q }
     ensures links { forest.new.links ≡ forest.old.links }
-    ensures marks { (k : the_token) → set.contains forest.new.marks k ≡ (any_woken (facts_of facts.now) k (dots_of (codes_of codes.now subject.now)) || set.contains forest.old.marks k) }
+    ensures marks { (k : the_token)
+        → set.contains forest.new.marks k
+        ≡ (any_woken (facts_of facts.now) k (dots_of (codes_of codes.now subject.now))
+        || set.contains forest.old.marks k) }
 {
     let (first, last) = code_span(subject);
     for key in codes.range((Bound::Included(first), Bound::Included(last))) {

@@ -32,7 +32,8 @@ proves (Resource digest) secret = is_digest_of digest secret
 -- a client that was added, and isn't retired
 abbrev pub authenticated_as : Dot → Option (List ℕ) → Option ClientFields → Auth
 authenticated_as d secret None = Invalid
-authenticated_as d secret (Some client) = if client.live && proves client.sort secret then Client d else Invalid
+authenticated_as d secret (Some client) =
+    if client.live && proves client.sort secret then Client d else Invalid
 
 abbrev pub authenticated_at : FactSet → Option (List ℕ) → Option Dot → Auth
 authenticated_at F secret None = Invalid

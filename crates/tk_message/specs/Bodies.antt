@@ -10,7 +10,16 @@
 --   taken_body     {"took":N} (own)
 --   IsWritable     a value that has one text: it holds no floating-point number
 use Rattle.std.specs.Prelude.{◌≡◌, ℕ, Bool, true, false, List, codes}
-use Rattle.serde_json.specs.Data.{Data, string, boolean, number, unsigned, object, member, no_members}
+use Rattle.serde_json.specs.Data.{
+  Data,
+  string,
+  boolean,
+  number,
+  unsigned,
+  object,
+  member,
+  no_members,
+}
 use Rattle.serde_json.specs.Written.{has_float}
 use Rattle.tk_handle.specs.declared.dot.Dot.{Dot}
 use Rattle.tk_handle.specs.ClientId.{client_text}
@@ -30,7 +39,8 @@ abbrev pub client_body : Dot → Data
 client_body client = object (member (codes "client_id") (string (client_text client)) no_members)
 
 abbrev pub consent_body : Dot → Data
-consent_body consent = object (member (codes "consent_id") (string (consent_text consent)) no_members)
+consent_body consent =
+    object (member (codes "consent_id") (string (consent_text consent)) no_members)
 
 abbrev pub subject_body : List ℕ → Data
 subject_body subject = object (member (codes "subject") (string subject) no_members)

@@ -7,7 +7,12 @@ use Rattle.tk_params.specs.Credentials.{Presented, Mixed, Unreadable, Presents, 
 use Rattle.tk_message.specs.declared.authentication.Auth.{Auth}
 use Rattle.tk_message.specs.declared.authentication.Auth.TheVariants as auth
 use Rattle.tk_message.specs.declared.caller.Caller.{Caller}
-use Rattle.tk_message.specs.declared.caller.Caller.TheVariants.{DuplicateParameter, MixedCredentials, InvalidClient, Client}
+use Rattle.tk_message.specs.declared.caller.Caller.TheVariants.{
+  DuplicateParameter,
+  MixedCredentials,
+  InvalidClient,
+  Client,
+}
 use Rattle.tk_message.specs.Authentication.{authenticated}
 use Rattle.tk_message.specs.RequestFields.{RequestFields}
 

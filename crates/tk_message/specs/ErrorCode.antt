@@ -5,7 +5,24 @@ use Rattle.std.specs.Prelude.{ℕ, List, codes}
 use Rattle.tk_message.specs.declared.status.Status.{Status}
 use Rattle.tk_message.specs.declared.status.Status.TheVariants as status
 use Rattle.tk_message.specs.declared.error_code.ErrorCode.{ErrorCode}
-use Rattle.tk_message.specs.declared.error_code.ErrorCode.TheVariants.{InvalidRequest, InvalidClient, InvalidGrant, InvalidScope, UnsupportedGrantType, UnsupportedResponseType, AccessDenied, NotFound, TemporarilyUnavailable, BadRequest, MethodNotAllowed, LengthRequired, TooLarge, Malformed, OwnNumber, Conflict}
+use Rattle.tk_message.specs.declared.error_code.ErrorCode.TheVariants.{
+  InvalidRequest,
+  InvalidClient,
+  InvalidGrant,
+  InvalidScope,
+  UnsupportedGrantType,
+  UnsupportedResponseType,
+  AccessDenied,
+  NotFound,
+  TemporarilyUnavailable,
+  BadRequest,
+  MethodNotAllowed,
+  LengthRequired,
+  TooLarge,
+  Malformed,
+  OwnNumber,
+  Conflict,
+}
 
 -- an unknown client is 401, what RFC 6749 names else is 400 (RFC 6749, 5.2), but for a server that can't answer
 abbrev pub error_row : ErrorCode → Status × List ℕ

@@ -21,10 +21,33 @@ use Rattle.tk_handle.specs.declared.handle.Handle.{Handle}
 use Rattle.tk_match.specs.ReplyUri.{reply_of}
 use Rattle.tk_fact.specs.declared.sort.Sort.{Sort}
 use Rattle.tk_message.specs.declared.status.Status.{Status}
-use Rattle.tk_message.specs.declared.status.Status.TheVariants.{Ok, Created, Found, BadRequest, Unauthorized, NotFound, MethodNotAllowed, Conflict, LengthRequired, ContentTooLarge, ServiceUnavailable}
+use Rattle.tk_message.specs.declared.status.Status.TheVariants.{
+  Ok,
+  Created,
+  Found,
+  BadRequest,
+  Unauthorized,
+  NotFound,
+  MethodNotAllowed,
+  Conflict,
+  LengthRequired,
+  ContentTooLarge,
+  ServiceUnavailable,
+}
 use Rattle.tk_message.specs.declared.error_code.ErrorCode.{ErrorCode}
 use Rattle.tk_message.specs.ErrorCode.{error_status, error_name}
-use Rattle.tk_message.specs.Bodies.{error_body, client_body, consent_body, subject_body, shown_body, token_body, access_body, refresh_body, inactive_body, taken_body}
+use Rattle.tk_message.specs.Bodies.{
+  error_body,
+  client_body,
+  consent_body,
+  subject_body,
+  shown_body,
+  token_body,
+  access_body,
+  refresh_body,
+  inactive_body,
+  taken_body,
+}
 use Rattle.tk_message.specs.ReplyFields.{ReplyFields, Nothing, JsonText, OtherBytes}
 
 -- credentials are asked for with every 401 (RFC 6749, 5.2)
@@ -83,10 +106,12 @@ abbrev pub token_reply : Handle → ℕ → Handle → List ℕ → ReplyFields
 token_reply access lifetime refresh scope = json_reply Ok (token_body access lifetime refresh scope)
 
 abbrev pub access_reply : Dot → ℕ → ℕ → List ℕ → List ℕ → ReplyFields
-access_reply client expiry start scope subject = json_reply Ok (access_body client expiry start scope subject)
+access_reply client expiry start scope subject =
+    json_reply Ok (access_body client expiry start scope subject)
 
 abbrev pub refresh_reply : Dot → ℕ → ℕ → List ℕ → List ℕ → ReplyFields
-refresh_reply client expiry start scope subject = json_reply Ok (refresh_body client expiry start scope subject)
+refresh_reply client expiry start scope subject =
+    json_reply Ok (refresh_body client expiry start scope subject)
 
 abbrev pub inactive_reply : ReplyFields
 inactive_reply = json_reply Ok inactive_body

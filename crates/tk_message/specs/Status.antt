@@ -1,7 +1,19 @@
 -- The numbers of statuses (RFC 9110, 15).
 use Rattle.std.specs.Prelude.{ℕ}
 use Rattle.tk_message.specs.declared.status.Status.{Status}
-use Rattle.tk_message.specs.declared.status.Status.TheVariants.{Ok, Created, Found, BadRequest, Unauthorized, NotFound, MethodNotAllowed, Conflict, LengthRequired, ContentTooLarge, ServiceUnavailable}
+use Rattle.tk_message.specs.declared.status.Status.TheVariants.{
+  Ok,
+  Created,
+  Found,
+  BadRequest,
+  Unauthorized,
+  NotFound,
+  MethodNotAllowed,
+  Conflict,
+  LengthRequired,
+  ContentTooLarge,
+  ServiceUnavailable,
+}
 
 abbrev pub status_number : Status → ℕ
 status_number Ok = 200

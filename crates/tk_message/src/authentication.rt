@@ -43,7 +43,8 @@ fn client_named(id: Option<&str>) -> Option<Dot>
 }
 
 fn authenticate_at(ledger: &Ledger, at: Dot, secret: Option<&str>) -> Auth
-    ensures { result ≡ spec.authenticated_at (facts_of ledger.now) (option_copied secret.entry) (Some at) }
+    ensures { result ≡ spec.authenticated_at (facts_of ledger.now) (option_copied secret.entry)
+        (Some at) }
 {
     match ledger.client(at) {
         Some(client) if client.live && proves(client.sort, secret) => Auth::Client(at),

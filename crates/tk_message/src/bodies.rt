@@ -1,7 +1,16 @@
 //! The JSON bodies of replies, as values.
 
 ghost use Rattle.std.specs.Prelude.{◌≡◌, IfOk, codes, true};
-ghost use Rattle.serde_json.specs.Data.{string, boolean, number, unsigned, object, member, no_members, put as with_member};
+ghost use Rattle.serde_json.specs.Data.{
+  string,
+  boolean,
+  number,
+  unsigned,
+  object,
+  member,
+  no_members,
+  put as with_member,
+};
 ghost use Rattle.serde_json.specs.View.{view, members_view};
 ghost use Rattle.tk_message.specs.Bodies as spec;
 
@@ -17,13 +26,15 @@ pub(crate) fn error_body(alloc: Global, name: &str) -> Result<Value, AllocError>
 }
 
 pub(crate) fn client_body(alloc: Global, id: &str) -> Result<Value, AllocError>
-    ensures { IfOk result (λ body. view body ≡ object (member (codes "client_id") (string id.now) no_members)) }
+    ensures { IfOk result (λ body.
+        view body ≡ object (member (codes "client_id") (string id.now) no_members)) }
 {
     one_text(alloc, "client_id", id)
 }
 
 pub(crate) fn consent_body(alloc: Global, id: &str) -> Result<Value, AllocError>
-    ensures { IfOk result (λ body. view body ≡ object (member (codes "consent_id") (string id.now) no_members)) }
+    ensures { IfOk result (λ body.
+        view body ≡ object (member (codes "consent_id") (string id.now) no_members)) }
 {
     one_text(alloc, "consent_id", id)
 }
@@ -35,7 +46,8 @@ pub(crate) fn subject_body(alloc: Global, subject: &str) -> Result<Value, AllocE
 }
 
 fn one_text(alloc: Global, key: &str, text: &str) -> Result<Value, AllocError>
-    ensures { IfOk result (λ body. view body ≡ object (member key.now (string text.now) no_members)) }
+    ensures { IfOk result (λ body.
+        view body ≡ object (member key.now (string text.now) no_members)) }
 {
     object_with(alloc, Map::new(alloc), key, text)
 }
@@ -47,7 +59,8 @@ fn object_with(
     key: &str,
     text: &str,
 ) -> Result<Value, AllocError>
-    ensures { IfOk result (λ body. view body ≡ object (with_member key.now (string text.now) (members_view members.entries))) }
+    ensures { IfOk result (λ body.
+        view body ≡ object (with_member key.now (string text.now) (members_view members.entries))) }
 {
     let members = with_text(alloc, members, key, text)?;
     Ok(Value::Object(members))
@@ -67,7 +80,8 @@ fn with(
     key: &str,
     value: Value,
 ) -> Result<Map<String, Value>, AllocError>
-    ensures { IfOk result (λ all. members_view all.entries ≡ with_member key.now (view value) (members_view members.entries)) }
+    ensures { IfOk result (λ all. members_view all.entries ≡ with_member key.now (view value)
+        (members_view members.entries)) }
 {
     let mut members = members;
     put(&mut members, alloc, key, value)?;
@@ -80,7 +94,8 @@ fn with_text(
     key: &str,
     text: &str,
 ) -> Result<Map<String, Value>, AllocError>
-    ensures { IfOk result (λ all. members_view all.entries ≡ with_member key.now (string text.now) (members_view members.entries)) }
+    ensures { IfOk result (λ all. members_view all.entries ≡ with_member key.now (string text.now)
+        (members_view members.entries)) }
 {
     let value = Value::try_from_str(alloc, text)?;
     with(alloc, members, key, value)
@@ -122,7 +137,8 @@ pub(crate) fn token_body(
     refresh: &str,
     scope: &str,
 ) -> Result<Value, AllocError>
-    ensures { IfOk result (λ body. view body ≡ object (member (codes "access_token") (string access.now)
+    ensures { IfOk result (λ body.
+        view body ≡ object (member (codes "access_token") (string access.now)
         (member (codes "expires_in") (number (unsigned lifetime))
         (member (codes "refresh_token") (string refresh.now)
         (member (codes "scope") (string scope.now)

@@ -34,7 +34,9 @@ pub fn find_caller(
     names: &[&str],
     request: &Request,
 ) -> Result<Caller, AllocError>
-    ensures { IfOk result (λ caller. caller ≡ spec.caller_of (facts_of ledger.now) (map (λ name. name.now) names.now) request.now) }
+    ensures { IfOk result (λ caller.
+        caller ≡ spec.caller_of (facts_of ledger.now) (map (λ name. name.now) names.now)
+        request.now) }
 {
     if request.params.has_twice(names) {
         return Ok(Caller::DuplicateParameter);

@@ -34,7 +34,12 @@ impl Model for Reply {
 
     ghost Value = { ReplyFields };
 
-    ghost view = { λ r. record { status = r.status; location = option_map string_bytes r.location; www = r.www; content = content_of r.body } };
+    ghost view = { λ r. record {
+      status = r.status;
+      location = option_map string_bytes r.location;
+      www = r.www;
+      content = content_of r.body;
+    } };
 }
 
 ghost use Rattle.std.specs.Prelude.{◌≡◌, IfOk, string_bytes};
@@ -146,7 +151,8 @@ pub(crate) fn token_reply(
     refresh: &Handle,
     scope: &Scope,
 ) -> Result<Reply, AllocError>
-    ensures { IfOk result (λ reply. reply ≡ spec.token_reply access.now lifetime refresh.now scope.now) }
+    ensures { IfOk result (λ reply. reply ≡ spec.token_reply access.now lifetime refresh.now
+        scope.now) }
 {
     let access = handle_string(alloc, access)?;
     let refresh = handle_string(alloc, refresh)?;
@@ -162,7 +168,9 @@ pub(crate) fn token_reply(
 
 // What is said of an active access token: its client, its end and start, its scope and its subject (RFC 7662, 2.2).
 pub(crate) fn access_reply(alloc: Global, standing: &Standing<'_>) -> Result<Reply, AllocError>
-    ensures { IfOk result (λ reply. reply ≡ spec.access_reply standing.now.client standing.now.expiry standing.now.start standing.now.scope standing.now.subject) }
+    ensures { IfOk result (λ reply.
+        reply ≡ spec.access_reply standing.now.client standing.now.expiry standing.now.start
+        standing.now.scope standing.now.subject) }
 {
     let id = client_text(alloc, standing.client)?;
     let body = access_body(alloc, id.as_str(), standing)?;
@@ -171,7 +179,9 @@ pub(crate) fn access_reply(alloc: Global, standing: &Standing<'_>) -> Result<Rep
 
 // What is said of an active refresh token: the same, but for the type (RFC 7662, 2.2).
 pub(crate) fn refresh_reply(alloc: Global, standing: &Standing<'_>) -> Result<Reply, AllocError>
-    ensures { IfOk result (λ reply. reply ≡ spec.refresh_reply standing.now.client standing.now.expiry standing.now.start standing.now.scope standing.now.subject) }
+    ensures { IfOk result (λ reply.
+        reply ≡ spec.refresh_reply standing.now.client standing.now.expiry standing.now.start
+        standing.now.scope standing.now.subject) }
 {
     let id = client_text(alloc, standing.client)?;
     let body = refresh_body(alloc, id.as_str(), standing)?;
@@ -207,7 +217,8 @@ pub fn redirect_reply(
     value: &str,
     state: Option<&str>,
 ) -> Result<Reply, AllocError>
-    ensures { IfOk result (λ reply. reply ≡ spec.redirect_reply uri.now name.now value.now (option_copied state.entry)) }
+    ensures { IfOk result (λ reply.
+        reply ≡ spec.redirect_reply uri.now name.now value.now (option_copied state.entry)) }
 {
     let location = match state {
         Some(state) => reply_uri(alloc, uri, &[(name, value), ("state", state)])?,

@@ -3,7 +3,20 @@
 --   sees                     the asker may see a client's tokens
 --   is_live                  the state is Live
 --   introspected_by_caller   what is known
-use Rattle.std.specs.Prelude.{ℕ, Bool, true, false, ◌||◌, not, List, codes, Option, Some, None, if◌then◌else◌}
+use Rattle.std.specs.Prelude.{
+  ℕ,
+  Bool,
+  true,
+  false,
+  ◌||◌,
+  not,
+  List,
+  codes,
+  Option,
+  Some,
+  None,
+  if◌then◌else◌,
+}
 use Rattle.tk_handle.specs.declared.dot.Dot.{Dot}
 use Rattle.tk_handle.specs.declared.kind.Kind.{Kind}
 use Rattle.tk_handle.specs.declared.kind.Kind.TheVariants as kind
@@ -25,7 +38,12 @@ use Rattle.tk_params.specs.Params.{Pairs, value_of}
 use Rattle.tk_message.specs.declared.caller.Caller.{Caller}
 use Rattle.tk_message.specs.declared.caller.Caller.TheVariants as caller
 use Rattle.tk_query.specs.declared.introspected.Introspected.{Introspected}
-use Rattle.tk_query.specs.declared.introspected.Introspected.TheVariants.{Refused, Inactive, Access, Refresh}
+use Rattle.tk_query.specs.declared.introspected.Introspected.TheVariants.{
+  Refused,
+  Inactive,
+  Access,
+  Refresh,
+}
 use Rattle.tk_query.specs.declared.refusal.Refusal.TheVariants as refusal
 
 -- a resource server sees every token, and another client its own (RFC 7662, 2.1; who sees what is own)
@@ -64,8 +82,10 @@ introspected_by_status sort asker k (Known s) = introspected_by_standing sort as
 -- a code's handle tells nothing
 abbrev pub introspected_by_kind : FactSet → ℕ → Sort → Dot → Handle → Kind → Introspected
 introspected_by_kind F now sort asker h kind.Code = Inactive
-introspected_by_kind F now sort asker h kind.Access = introspected_by_status sort asker kind.Access (status_in F now h)
-introspected_by_kind F now sort asker h kind.Refresh = introspected_by_status sort asker kind.Refresh (status_in F now h)
+introspected_by_kind F now sort asker h kind.Access =
+    introspected_by_status sort asker kind.Access (status_in F now h)
+introspected_by_kind F now sort asker h kind.Refresh =
+    introspected_by_status sort asker kind.Refresh (status_in F now h)
 
 -- nor does what is no handle (RFC 7662, 2.2)
 abbrev pub introspected_by_handle : FactSet → ℕ → Sort → Dot → Option Handle → Introspected
@@ -75,7 +95,8 @@ introspected_by_handle F now sort asker (Some h) = introspected_by_kind F now so
 -- no token (RFC 7662, 2.1)
 abbrev pub introspected_by_text : FactSet → ℕ → Sort → Dot → Option (List ℕ) → Introspected
 introspected_by_text F now sort asker None = Refused refusal.MissingToken
-introspected_by_text F now sort asker (Some text) = introspected_by_handle F now sort asker (handle_in text)
+introspected_by_text F now sort asker (Some text) =
+    introspected_by_handle F now sort asker (handle_in text)
 
 -- a public client has proved nothing, so it may not ask (RFC 7662, 2.1)
 abbrev pub introspected_as : FactSet → ℕ → Pairs → Dot → Sort → Introspected
@@ -88,11 +109,13 @@ introspected_as F now params asker (Resource digest) =
 -- a client that is authenticated was added, so `None` never comes
 abbrev pub introspected_by_client : FactSet → ℕ → Pairs → Dot → Option ClientFields → Introspected
 introspected_by_client F now params asker None = Refused refusal.InvalidClient
-introspected_by_client F now params asker (Some client) = introspected_as F now params asker client.sort
+introspected_by_client F now params asker (Some client) =
+    introspected_as F now params asker client.sort
 
 -- who asks: a known parameter twice, credentials in two places, no authenticated client (RFC 6749, 2.3 and 3.2; RFC 7662, 2.3)
 abbrev pub introspected_by_caller : FactSet → ℕ → Pairs → Caller → Introspected
 introspected_by_caller F now params caller.DuplicateParameter = Refused refusal.DuplicateParameter
 introspected_by_caller F now params caller.MixedCredentials = Refused refusal.MixedCredentials
 introspected_by_caller F now params caller.InvalidClient = Refused refusal.InvalidClient
-introspected_by_caller F now params (caller.Client asker) = introspected_by_client F now params asker (client_view F asker)
+introspected_by_caller F now params (caller.Client asker) =
+    introspected_by_client F now params asker (client_view F asker)

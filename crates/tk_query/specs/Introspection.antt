@@ -10,7 +10,12 @@ use Rattle.tk_message.specs.Reply.{error_reply, access_reply, refresh_reply, ina
 use Rattle.tk_message.specs.ReplyFields.{ReplyFields}
 use Rattle.tk_message.specs.RequestFields.{RequestFields}
 use Rattle.tk_query.specs.declared.introspected.Introspected.{Introspected}
-use Rattle.tk_query.specs.declared.introspected.Introspected.TheVariants.{Refused, Inactive, Access, Refresh}
+use Rattle.tk_query.specs.declared.introspected.Introspected.TheVariants.{
+  Refused,
+  Inactive,
+  Access,
+  Refresh,
+}
 use Rattle.tk_query.specs.Caller.{known_names}
 use Rattle.tk_query.specs.Introspected.{introspected_by_caller}
 use Rattle.tk_query.specs.Refusal.{refusal_code}
@@ -30,4 +35,5 @@ told (Access s) = told_access s
 told (Refresh s) = told_refresh s
 
 abbrev pub introspection_of : FactSet → ℕ → RequestFields → ReplyFields
-introspection_of F now request = told (introspected_by_caller F now request.params (caller_of F known_names request))
+introspection_of F now request =
+    told (introspected_by_caller F now request.params (caller_of F known_names request))

@@ -19,8 +19,10 @@ use Rattle.tk_query.specs.Introspection.{told}
 -- its client, end, start, scope and subject; a code is never active
 abbrev pub told_by_kind : Kind → Dot → ℕ → ℕ → List ℕ → List ℕ → ReplyFields
 told_by_kind kind.Code client expiry start scope subject = inactive_reply
-told_by_kind kind.Access client expiry start scope subject = access_reply client expiry start scope subject
-told_by_kind kind.Refresh client expiry start scope subject = refresh_reply client expiry start scope subject
+told_by_kind kind.Access client expiry start scope subject =
+    access_reply client expiry start scope subject
+told_by_kind kind.Refresh client expiry start scope subject =
+    refresh_reply client expiry start scope subject
 
 -- what is told of a handle to an asker
 abbrev pub told_to : FactSet → ℕ → Sort → Dot → Handle → ReplyFields
@@ -28,8 +30,12 @@ told_to F now sort asker h = told (introspected_by_handle F now sort asker (Some
 
 -- client and subject are the code's; end, start and scope are those of the fact that minted the token
 abbrev pub SaysActive : Type 0
-SaysActive = (F : FactSet) (now : ℕ) (sort : Sort) (asker : Dot) (h : Handle) (a : IsActive (map.get F) now h) → sees sort asker a.issued.client ≡ true
-    → told_to F now sort asker h ≡ told_by_kind h.id.kind a.issued.client a.minted.expiry a.minted.start a.minted.scope a.issued.subject
+SaysActive =
+    (F : FactSet) (now : ℕ) (sort : Sort) (asker : Dot) (h : Handle)
+    (a : IsActive (map.get F) now h) → sees sort asker a.issued.client ≡ true
+    → told_to F now sort asker h ≡ told_by_kind h.id.kind a.issued.client a.minted.expiry
+    a.minted.start a.minted.scope a.issued.subject
 
 abbrev pub SaysNothing : Type 0
-SaysNothing = (F : FactSet) (now : ℕ) (sort : Sort) (asker : Dot) (h : Handle) → ¬ IsActive (map.get F) now h → told_to F now sort asker h ≡ inactive_reply
+SaysNothing = (F : FactSet) (now : ℕ) (sort : Sort) (asker : Dot) (h : Handle)
+    → ¬ IsActive (map.get F) now h → told_to F now sort asker h ≡ inactive_reply

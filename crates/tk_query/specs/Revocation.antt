@@ -24,4 +24,6 @@ revoked_by (Revokes fact) = record { reply = empty_reply Ok; made = Some (TokenR
 
 -- of the place the number alone is asked for
 abbrev pub revocation_of : FactSet → Place → ℕ → RequestFields → Decision
-revocation_of F place now request = revoked_by (revoked_by_caller F place.number now request.params (caller_of F known_names request))
+revocation_of F place now request =
+    revoked_by (revoked_by_caller F place.number now request.params
+    (caller_of F known_names request))

@@ -14,7 +14,8 @@ pub(crate) fn caller_here(
     ledger: &Ledger,
     request: &Request,
 ) -> Result<Caller, AllocError>
-    ensures { IfOk result (λ caller. caller ≡ caller_of (facts_of ledger.now) known_names request.now) }
+    ensures { IfOk result (λ caller.
+        caller ≡ caller_of (facts_of ledger.now) known_names request.now) }
 {
     let names = ["token", "token_type_hint", "client_id", "client_secret"];
     find_caller(alloc, ledger, &names, request)

@@ -69,7 +69,8 @@ fn introspect_token<'a>(
     asker: Dot,
     text: Option<&str>,
 ) -> Introspected<'a>
-    ensures { result ≡ spec.introspected_by_text (facts_of ledger.now) now sort.now asker (option_copied text.entry) }
+    ensures { result ≡ spec.introspected_by_text (facts_of ledger.now) now sort.now asker
+        (option_copied text.entry) }
 {
     let Some(text) = text else {
         return Introspected::Refused(Refusal::MissingToken);
@@ -87,7 +88,8 @@ fn introspect_handle<'a>(
     asker: Dot,
     handle: &Handle,
 ) -> Introspected<'a>
-    ensures { result ≡ spec.introspected_by_kind (facts_of ledger.now) now sort.now asker handle.now handle.now.id.kind }
+    ensures { result ≡ spec.introspected_by_kind (facts_of ledger.now) now sort.now asker handle.now
+        handle.now.id.kind }
 {
     match handle.id.kind {
         Kind::Code => Introspected::Inactive,

@@ -21,7 +21,8 @@ pub fn decide_introspect(
     now: Moment,
     request: &Request,
 ) -> Result<Decision, AllocError>
-    ensures { IfOk result (λ d. d ≡ answered (spec.introspection_of (facts_of ledger.now) now request.now)) }
+    ensures { IfOk result (λ d. d ≡ answered (spec.introspection_of (facts_of ledger.now) now
+        request.now)) }
 {
     let caller = caller_here(alloc, ledger, request)?;
     let known = introspect(ledger, now, &request.params, caller);

@@ -34,7 +34,8 @@ pub(crate) fn revoke(
     params: &Params,
     caller: Caller,
 ) -> Revocation
-    ensures value { result ≡ spec.revoked_by_caller (facts_of ledger.now) number now params.now caller }
+    ensures value { result ≡ spec.revoked_by_caller (facts_of ledger.now) number now params.now
+        caller }
     ensures sound { IsSoundRevocation result }
 {
     match caller {
@@ -52,7 +53,8 @@ fn revoke_text(
     client: Dot,
     text: Option<&str>,
 ) -> Revocation
-    ensures value { result ≡ spec.revoked_by_text (facts_of ledger.now) number now client (option_copied text.entry) }
+    ensures value { result ≡ spec.revoked_by_text (facts_of ledger.now) number now client
+        (option_copied text.entry) }
     ensures sound { IsSoundRevocation result }
 {
     let Some(text) = text else {
@@ -71,7 +73,8 @@ fn revoke_handle(
     client: Dot,
     handle: &Handle,
 ) -> Revocation
-    ensures value { result ≡ spec.revoked_by_kind (facts_of ledger.now) number now client handle.now handle.now.id.kind }
+    ensures value { result ≡ spec.revoked_by_kind (facts_of ledger.now) number now client handle.now
+        handle.now.id.kind }
     ensures sound { IsSoundRevocation result }
 {
     let is_own = handle.id.dot.region().number() == number.number();
@@ -112,7 +115,8 @@ fn revoke_by_status(
     status: Status<'_>,
 ) -> Revocation
     requires { is_revocable fact.token.kind ≡ true }
-    ensures value { result ≡ spec.revoked_by_status (facts_of ledger.now) is_own now fact status.entry }
+    ensures value { result ≡ spec.revoked_by_status (facts_of ledger.now) is_own now fact
+        status.entry }
     ensures sound { IsSoundRevocation result }
 {
     match status {
@@ -143,7 +147,8 @@ fn revoke_by_status(
 
 fn revoke_known(ledger: &Ledger, fact: TokenRevoked, standing: &Standing<'_>) -> Revocation
     requires { is_revocable fact.token.kind ≡ true }
-    ensures value { result ≡ spec.revoked_by_state (facts_of ledger.now) fact standing.now.client standing.now.state }
+    ensures value { result ≡ spec.revoked_by_state (facts_of ledger.now) fact standing.now.client
+        standing.now.state }
     ensures sound { IsSoundRevocation result }
 {
     revoke_by_state(ledger, fact, standing.client, standing.state)

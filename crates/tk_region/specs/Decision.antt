@@ -7,7 +7,18 @@ use Rattle.tk_message.specs.declared.decision.Decision.{Decision}
 use Rattle.tk_message.specs.declared.error_code.ErrorCode.TheVariants.{TemporarilyUnavailable}
 use Rattle.tk_message.specs.declared.place.Place.{Place}
 use Rattle.tk_message.specs.declared.request.Endpoint.{Endpoint}
-use Rattle.tk_message.specs.declared.request.Endpoint.TheVariants.{Authorize, Token, Introspect, Revoke, AddClient, ShowClient, Retire, Consent, Withdraw, SignOut}
+use Rattle.tk_message.specs.declared.request.Endpoint.TheVariants.{
+  Authorize,
+  Token,
+  Introspect,
+  Revoke,
+  AddClient,
+  ShowClient,
+  Retire,
+  Consent,
+  Withdraw,
+  SignOut,
+}
 use Rattle.tk_message.specs.RequestFields.{RequestFields}
 use Rattle.tk_message.specs.Decision.{answered, refused}
 use Rattle.tk_authorize.specs.Administration.{administration_of}
@@ -33,4 +44,5 @@ decision_of F place now words request = decision_by request.endpoint F place now
 
 -- above the cap no fact is made, whichever it would have been: temporarily_unavailable
 abbrev pub capped : ℕ → Place → Decision → Decision
-capped cap place d = if is_some d.made && nat_lt cap place.next then refused TemporarilyUnavailable else d
+capped cap place d =
+    if is_some d.made && nat_lt cap place.next then refused TemporarilyUnavailable else d

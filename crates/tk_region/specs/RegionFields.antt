@@ -24,15 +24,22 @@ pub record RegionFields : Type 0 where
 abbrev pub coded_region : Coded RegionFields
 coded_region =
     code_by (ℕ × (SettingsFields × Store)) (coded× coded_ℕ (coded× coded_settings coded_facts))
-    (λ r. (r.number, (r.settings, r.facts))) (λ p. record { number = p.0; settings = p.1.0; facts = p.1.1 }) (λ _. refl)
+    (λ r. (r.number, (r.settings, r.facts))) (λ p.
+    record { number = p.0; settings = p.1.0; facts = p.1.1 }) (λ _. refl)
 
 -- its number, the serial of its next fact, and the lives of its settings
 abbrev pub place_in : RegionFields → Place
-place_in r = record { number = r.number; next = next_serial (known_in r.facts) r.number; lives = lives_of r.settings }
+place_in r =
+    record {
+      number = r.number;
+      next = next_serial (known_in r.facts) r.number;
+      lives = lives_of r.settings;
+    }
 
 -- its own facts are at most at its cap, which leaves one serial more
 pub record IsCapped (r : RegionFields) : Type 0 where
-  pub own : (d : Dot) (b : Body) → map.get (known_in r.facts) d ≡ Some b → d.region ≡ r.number → d.serial ≤ r.settings.cap
+  pub own : (d : Dot) (b : Body) → map.get (known_in r.facts) d ≡ Some b → d.region ≡ r.number
+      → d.serial ≤ r.settings.cap
   pub low : r.settings.cap ≤ greatest_cap
 
 -- the facts are joined to those that it holds, and nothing else changes

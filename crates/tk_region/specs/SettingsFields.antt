@@ -49,6 +49,13 @@ pub record IsSettings (s : SettingsFields) : Type 0 where
 -- as pairs
 abbrev pub coded_settings : Coded SettingsFields
 coded_settings =
-    code_by (ℕ × (ℕ × (ℕ × (ℕ × ℕ)))) (coded× coded_ℕ (coded× coded_ℕ (coded× coded_ℕ (coded× coded_ℕ coded_ℕ))))
+    code_by (ℕ × (ℕ × (ℕ × (ℕ × ℕ))))
+    (coded× coded_ℕ (coded× coded_ℕ (coded× coded_ℕ (coded× coded_ℕ coded_ℕ))))
     (λ s. (s.code, (s.access, (s.refresh, (s.family, s.cap)))))
-    (λ p. record { code = p.0; access = p.1.0; refresh = p.1.1.0; family = p.1.1.1.0; cap = p.1.1.1.1 }) (λ _. refl)
+    (λ p. record {
+      code = p.0;
+      access = p.1.0;
+      refresh = p.1.1.0;
+      family = p.1.1.1.0;
+      cap = p.1.1.1.1;
+    }) (λ _. refl)

@@ -47,7 +47,9 @@ abbrev pub prepared_by : ℕ → Place → Decision → PreparedFields
 prepared_by cap place d = prepared_at (next_in place) (capped cap place d)
 
 abbrev pub prepared_of : RegionFields → ℕ → List ℕ → RequestFields → PreparedFields
-prepared_of r now words request = prepared_by r.settings.cap (place_in r) (decision_of (facts_of r.facts) (place_in r) now words request)
+prepared_of r now words request =
+    prepared_by r.settings.cap (place_in r) (decision_of (facts_of r.facts) (place_in r) now words
+    request)
 
 -- it stands where the next fact does, at most at the cap, and passes its check
 pub record IsNextAt (cap : ℕ) (place : Place) (f : Dot × Body) : Type 0 where
@@ -70,6 +72,7 @@ abbrev pub listed : Option (Dot × Body) → Facts
 listed o = option_map_or (λ f. f ∷ []) o []
 
 -- the reply comes where the fact, if there is one, is in
-abbrev pub Commits : RegionFields → PreparedFields → Result HandledFields AllocError → RegionFields → Type 0
+abbrev pub Commits : RegionFields → PreparedFields → Result HandledFields AllocError → RegionFields
+    → Type 0
 Commits old p (Ok handled) new = (handled ≡ handled_of p) × Gains old (listed p.fact) new
 Commits old p (Err e) new = new ≡ old

@@ -4,7 +4,27 @@
 --   Takes         the facts are joined to the set
 --   unread        the refusal of bytes that can't be read
 --   TakesIn       by the bundle that the bytes spell, if they do
-use Rattle.std.specs.Prelude.{◌≡◌, ◌⊎◌, ℕ, ◌+◌, Bool, true, false, ◌&&◌, ◌==◌, nat_le, [], ◌∷◌, take, Option, Some, None, Result, Ok, Err}
+use Rattle.std.specs.Prelude.{
+  ◌≡◌,
+  ◌⊎◌,
+  ℕ,
+  ◌+◌,
+  Bool,
+  true,
+  false,
+  ◌&&◌,
+  ◌==◌,
+  nat_le,
+  [],
+  ◌∷◌,
+  take,
+  Option,
+  Some,
+  None,
+  Result,
+  Ok,
+  Err,
+}
 use Rattle.std.specs.List.{list_any}
 use Rattle.std.specs.FinMap as map
 use Rattle.tk_handle.specs.declared.dot.Dot.{Dot}
@@ -14,7 +34,12 @@ use Rattle.tk_store.specs.Joining.{JoinsFacts}
 use Rattle.tk_format.specs.declared.error.ReadError.{ReadError}
 use Rattle.tk_format.specs.declared.error.ReadError.TheVariants as read
 use Rattle.tk_region.specs.declared.take.TakeError.{TakeError}
-use Rattle.tk_region.specs.declared.take.TakeError.TheVariants.{Malformed, OwnNumber, Conflict, Memory}
+use Rattle.tk_region.specs.declared.take.TakeError.TheVariants.{
+  Malformed,
+  OwnNumber,
+  Conflict,
+  Memory,
+}
 
 -- a fact at the region's next dot, or at a later one of its own
 abbrev pub is_unmade : Dot → Dot × Body → Bool
@@ -58,7 +83,8 @@ TakesIn F next None (Ok n) G = ⊥
 -- a fact of the own number that isn't made
 TakesIn F next (Some fs) (Err OwnNumber) G = (has_unmade next fs ≡ true) × (G ≡ F)
 -- another body at a dot
-TakesIn F next (Some fs) (Err Conflict) G = (has_unmade next fs ≡ false) × (¬ AgreesWith F fs) × (G ≡ F)
+TakesIn F next (Some fs) (Err Conflict) G =
+    (has_unmade next fs ≡ false) × (¬ AgreesWith F fs) × (G ≡ F)
 -- none of these
 TakesIn F next (Some fs) (Err Malformed) G = ⊥
 TakesIn F next (Some fs) (Err Memory) G = (G ≡ F) ⊎ TakesFit F next fs (Err Memory) G

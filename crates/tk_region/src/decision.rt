@@ -22,7 +22,8 @@ pub(crate) fn decide_endpoint(
     words: &[u64; 6],
     request: &Request,
 ) -> Result<Decision, AllocError>
-    ensures value { IfOk result (λ d. d ≡ spec.decision_of (facts_of ledger.now) place.now now words.now request.now) }
+    ensures value { IfOk result (λ d. d ≡ spec.decision_of (facts_of ledger.now) place.now now
+        words.now request.now) }
     ensures passes { IfOk result (λ d. Passes d.made) }
 {
     match request.endpoint {

@@ -23,7 +23,11 @@ impl Model for Region {
 
     ghost view = { λ r. record { number = r.number; settings = r.settings; facts = r.ledger } };
 
-    ghost invariant = { λ r. IsCapped (record { number = r.number; settings = r.settings; facts = r.ledger }) };
+    ghost invariant = { λ r. IsCapped (record {
+      number = r.number;
+      settings = r.settings;
+      facts = r.ledger;
+    }) };
 }
 
 ghost use Rattle.std.specs.Prelude.{◌≡◌, ◌≤◌, IfOk, IfSome, None, OnErr, OnOk};
@@ -108,10 +112,12 @@ impl Region {
         vector: &VersionVector,
         after: Option<Dot>,
     ) -> Result<Page, AllocError>
-        ensures page { IfOk result (λ page. pages.IsPageOf page (pages.page_of (known_in self.now.facts) vector.now after)) }
+        ensures page { IfOk result (λ page.
+            pages.IsPageOf page (pages.page_of (known_in self.now.facts) vector.now after)) }
 
         // So it can be read.
-        ensures fits { OnOk result (bundle.Fits (pages.page_of (known_in self.now.facts) vector.now after).facts) }
+        ensures fits { OnOk result (bundle.Fits (pages.page_of (known_in self.now.facts) vector.now
+            after).facts) }
     {
         make(alloc, self.ledger.store(), vector, after)
     }
@@ -178,10 +184,12 @@ impl Region {
         words: &[u64; 6],
         request: &Request,
     ) -> Result<Handled, AllocError>
-        ensures commits { Commits self.old (prepared_of self.old now words.now request.now) result self.new }
+        ensures commits { Commits self.old (prepared_of self.old now words.now request.now) result
+            self.new }
 
         // The fact added, if there is one, is the region's next.
-        ensures next { OnOk result (IfSome (prepared_of self.old now words.now request.now).fact (IsNextFact self.old)) }
+        ensures next { OnOk result (IfSome (prepared_of self.old now words.now request.now).fact
+            (IsNextFact self.old)) }
     {
         let prepared = self.decide(alloc, now, words, request)?;
         self.commit(prepared)
@@ -193,7 +201,8 @@ impl Region {
     pub fn take_in(&mut self, alloc: Global, bytes: &[u8]) -> Result<u16, TakeError>
         ensures number { self.new.number ≡ self.old.number }
         ensures settings { self.new.settings ≡ self.old.settings }
-        ensures takes { TakesIn (facts_of self.old.facts) (next_in (place_in self.old)) (whole bundle bytes.now) result (facts_of self.new.facts) }
+        ensures takes { TakesIn (facts_of self.old.facts) (next_in (place_in self.old))
+            (whole bundle bytes.now) result (facts_of self.new.facts) }
     {
         let next = self.next_dot();
         take_bytes(alloc, next, &mut self.ledger, bytes)
@@ -212,7 +221,8 @@ fn next_in_ledger(ledger: &Ledger, number: RegionNumber) -> Dot
 fn add_free(ledger: &mut Ledger, fact: Fact) -> Result<(), AllocError>
     requires free { map.get (facts_of ledger.old) fact.0 ≡ None }
     requires passes { refusal_of fact.1 ≡ None }
-    ensures ok { OnOk result (facts_of ledger.new ≡ map.insert (facts_of ledger.old) fact.0 fact.1) }
+    ensures ok { OnOk result (facts_of ledger.new ≡ map.insert (facts_of ledger.old) fact.0
+        fact.1) }
     ensures err { OnErr result (ledger.new ≡ ledger.old) }
 {
     match ledger.add(fact) {

@@ -17,11 +17,29 @@ impl Model for Settings {
 
     ghost Value = { SettingsFields };
 
-    ghost view = { λ s. record { code = s.code; access = s.access; refresh = s.refresh; family = s.family; cap = s.cap } };
+    ghost view = { λ s. record {
+      code = s.code;
+      access = s.access;
+      refresh = s.refresh;
+      family = s.family;
+      cap = s.cap;
+    } };
 
-    ghost invariant = { λ s. IsSettings (record { code = s.code; access = s.access; refresh = s.refresh; family = s.family; cap = s.cap }) };
+    ghost invariant = { λ s. IsSettings (record {
+      code = s.code;
+      access = s.access;
+      refresh = s.refresh;
+      family = s.family;
+      cap = s.cap;
+    }) };
 
-    ghost inverse = { λ s. record { code = s.code; access = s.access; refresh = s.refresh; family = s.family; cap = s.cap } };
+    ghost inverse = { λ s. record {
+      code = s.code;
+      access = s.access;
+      refresh = s.refresh;
+      family = s.family;
+      cap = s.cap;
+    } };
 }
 
 ghost use Rattle.std.specs.Prelude.{◌≡◌, ◌↔◌, IsTrue};
@@ -50,8 +68,20 @@ impl Settings {
     /// None exactly where a number is out of its range: a code lives 1 to 600 seconds, an access token to 86,400,
     /// a refresh token to 31,536,000, a family to 315,360,000; the cap is 1 to the greatest serial less one.
     pub fn new(code: u64, access: u64, refresh: u64, family: u64, cap: u64) -> Option<Settings>
-        ensures { SomeIff result (IsSettings (record { code = code; access = access; refresh = refresh; family = family; cap = cap }))
-            (record { code = code; access = access; refresh = refresh; family = family; cap = cap }) }
+        ensures { SomeIff result (IsSettings (record {
+          code = code;
+          access = access;
+          refresh = refresh;
+          family = family;
+          cap = cap;
+        }))
+            (record {
+              code = code;
+              access = access;
+              refresh = refresh;
+              family = family;
+              cap = cap;
+            }) }
     {
         let in_range = is_up_to(Settings::GREATEST_CODE, code)
             && is_up_to(Settings::GREATEST_ACCESS, access)

@@ -21,7 +21,11 @@ impl Model for Prepared {
 
     ghost Value = { PreparedFields };
 
-    ghost view = { λ p. record { reply = p.reply; fact = p.fact; logged = option_map (λ v. v.items) p.logged } };
+    ghost view = { λ p. record {
+      reply = p.reply;
+      fact = p.fact;
+      logged = option_map (λ v. v.items) p.logged;
+    } };
 }
 
 /// A reply, and the record of the fact that was added. Contracts see the bytes that its parts hold.
@@ -87,7 +91,8 @@ fn with_record(alloc: Global, next: Dot, decision: Decision) -> Result<Prepared,
 // The reply and the fact, with the record of the fact.
 fn recorded(alloc: Global, reply: Reply, fact: Fact) -> Result<Prepared, AllocError>
     requires { refusal_of fact.1 ≡ None }
-    ensures { IfOk result (λ p. p ≡ spec.prepared_at fact.0 (record { reply = reply; made = Some fact.1 })) }
+    ensures { IfOk result (λ p. p ≡ spec.prepared_at fact.0
+        (record { reply = reply; made = Some fact.1 })) }
 {
     let Ok(logged) = single(alloc, &fact) else {
         drop(fact);

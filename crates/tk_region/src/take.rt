@@ -125,7 +125,8 @@ fn take_facts(alloc: Global, ledger: &mut Ledger, facts: &[Fact]) -> Result<u16,
 fn take_fact(alloc: Global, ledger: &mut Ledger, fact: &Fact) -> Result<u16, AllocError>
     requires agree { (b : Body) → sets.get ledger.old fact.now.0 ≡ Some b → b ≡ fact.now.1 }
     requires passes { refusal_of fact.now.1 ≡ None }
-    ensures ok { IfOk result (λ new. (ledger.new ≡ sets.insert ledger.old fact.now.0 fact.now.1) × (sets.len ledger.old + new ≡ sets.len ledger.new) × (new ≤ 1)) }
+    ensures ok { IfOk result (λ new. (ledger.new ≡ sets.insert ledger.old fact.now.0 fact.now.1)
+        × (sets.len ledger.old + new ≡ sets.len ledger.new) × (new ≤ 1)) }
     ensures err { OnErr result (ledger.new ≡ ledger.old) }
 {
     let copy = fact.copy(alloc)?;
