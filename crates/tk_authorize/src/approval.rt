@@ -1,4 +1,4 @@
-//! What a code is issued for: what was asked for, by whom, and on which consent.
+//! Approvals: what a code is issued for, for whom, and by which consent.
 
 ghost use Rattle.std.specs.Prelude.{◌≡◌, IfOk};
 ghost use Rattle.std.specs.Option.{option_copied};
@@ -14,7 +14,7 @@ use tk_ledger::Ledger;
 use tk_match::Challenge;
 use tk_scope::Scope;
 
-// What a code is issued for.
+// The consent, subject, scope and challenge of a code that may be issued.
 #[derive(Drop)]
 pub(crate) struct Approval {
     pub(crate) consent: Dot,
@@ -23,7 +23,8 @@ pub(crate) struct Approval {
     pub(crate) challenge: Option<Challenge>,
 }
 
-// Whether who has signed in has consented to what the client asks for.
+// Returns the approval of what a client asks for, if the subject that has signed in consented to
+// it.
 pub(crate) fn approve(
     alloc: Global,
     ledger: &Ledger,
@@ -40,6 +41,7 @@ pub(crate) fn approve(
     }
 }
 
+// Approves what a client asks for, if there is a subject that consented to it.
 fn approve_by_subject(
     alloc: Global,
     ledger: &Ledger,
@@ -69,6 +71,7 @@ fn approve_by_subject(
     }
 }
 
+// Approves what a client asks for, if there is a consent.
 fn approval_by_consent(
     subject: Subject,
     asked: Asked,

@@ -1,4 +1,5 @@
-//! What a request comes to, over the facts and the parameters: who asks, where the answer goes, and whether a code is issued.
+//! Judgements of authorisation requests: the client, where the reply goes, and whether a code is
+//! issued.
 
 ghost use Rattle.std.specs.Prelude.{◌≡◌, IfOk, Some, true};
 ghost use Rattle.std.specs.Option.{option_copied};
@@ -18,7 +19,7 @@ use tk_ledger::Ledger;
 use tk_match::{Pick, RedirectError, Uri};
 use tk_message::Params;
 
-// Where an answer goes, and whom a code is issued to.
+// The URI that the reply goes to, and the client that a code is issued to.
 #[derive(Drop)]
 pub(crate) struct Target {
     pub(crate) client: Dot,
@@ -27,7 +28,7 @@ pub(crate) struct Target {
     pub(crate) sent: bool,
 }
 
-// What a request comes to.
+// The judgement of an authorisation request.
 #[derive(Drop)]
 pub(crate) enum Judged {
     Refused(Refusal),
@@ -35,7 +36,7 @@ pub(crate) enum Judged {
     Approved(Target, Approval),
 }
 
-// The ordered cases of a request, by its parameters and who has signed in.
+// Judges a request by its parameters and the subject that has signed in: the first case that holds.
 pub(crate) fn judge(
     alloc: Global,
     ledger: &Ledger,
@@ -51,6 +52,7 @@ pub(crate) fn judge(
     judge_by_id(alloc, ledger, params, subject, params.value("client_id"))
 }
 
+// Returns whether the client id or the redirection URI occurs twice.
 fn has_duplicate(params: &Params) -> bool
     ensures { result ≡ has_twice spec.target_names params.now }
 {
@@ -58,6 +60,7 @@ fn has_duplicate(params: &Params) -> bool
     params.has_twice(&names)
 }
 
+// Judges a request by its client id.
 fn judge_by_id(
     alloc: Global,
     ledger: &Ledger,
@@ -77,6 +80,7 @@ fn judge_by_id(
     }
 }
 
+// Judges a request of the client that was added at the dot, if one was.
 fn judge_client(
     alloc: Global,
     ledger: &Ledger,
@@ -106,6 +110,7 @@ fn judge_client(
     }
 }
 
+// Returns the bytes of a text, if there is one.
 fn bytes_of(text: Option<&str>) -> Option<&[u8]>
     ensures { option_copied result ≡ option_copied text.entry }
 {
@@ -115,6 +120,7 @@ fn bytes_of(text: Option<&str>) -> Option<&[u8]>
     }
 }
 
+// Returns the target at a registered URI.
 fn find_target(alloc: Global, client: Dot, uri: &[u8], sent: bool) -> Result<Target, AllocError>
     requires { is_uri uri.now ≡ true }
     ensures { IfOk result (λ target. target ≡ record {
@@ -130,6 +136,7 @@ fn find_target(alloc: Global, client: Dot, uri: &[u8], sent: bool) -> Result<Tar
     }
 }
 
+// Judges a request by its approval. From here on the reply goes to the client's URI.
 fn judged_at(target: Target, approval: Result<Approval, Denial>) -> Judged
     ensures { result ≡ spec.judged_at target approval }
 {
