@@ -1,4 +1,4 @@
-//! A code is redeemed (RFC 6749, 4.1.3).
+//! Redeeming a code (RFC 6749, 4.1.3).
 
 ghost use Rattle.std.specs.Prelude.{◌≡◌, ◌<◌, IfOk};
 ghost use Rattle.std.specs.FinMap as map;
@@ -19,7 +19,7 @@ use tk_ledger::{Ledger, Standing};
 use tk_match::{Challenge, Uri};
 use tk_message::Params;
 
-// Whether the code that serves is redeemed by these parameters.
+// Judges the redemption of the code at the gate, by the parameters.
 pub(crate) fn redeem(
     alloc: Global,
     ledger: &Ledger,
@@ -42,6 +42,7 @@ pub(crate) fn redeem(
     }
 }
 
+// Returns the fact at the dot, if it is that a code was issued.
 fn issued_at(ledger: &Ledger, code: Dot) -> Option<&CodeIssued>
     ensures { option_copied result ≡ tokens.issued_at (map.get (facts_of ledger.now)) code }
 {
@@ -51,6 +52,7 @@ fn issued_at(ledger: &Ledger, code: Dot) -> Option<&CodeIssued>
     }
 }
 
+// Returns the fact that a code was issued, if the body is one.
 fn issued_in(body: &Body) -> Option<&CodeIssued>
     ensures { option_copied result ≡ tokens.issued_in body.now }
 {
@@ -60,6 +62,7 @@ fn issued_in(body: &Body) -> Option<&CodeIssued>
     }
 }
 
+// Judges the redemption of a code that was issued.
 fn redeem_by(
     alloc: Global,
     now: Moment,
@@ -91,6 +94,7 @@ fn redeem_by(
     }))
 }
 
+// Returns whether the request repeats the redirection URI of the code's request, if that named one.
 fn names_uri(sent: bool, uri: &Uri, named: Option<&str>) -> bool
     ensures { result ≡ spec.names_uri sent uri.now (option_copied named.entry) }
 {
@@ -100,6 +104,7 @@ fn names_uri(sent: bool, uri: &Uri, named: Option<&str>) -> bool
     }
 }
 
+// Returns whether the verifier meets the challenge, or there is neither.
 fn meets_challenge(challenge: &Option<Challenge>, verifier: Option<&str>) -> bool
     ensures { result ≡ spec.meets_challenge challenge.now (option_copied verifier.entry) }
 {
