@@ -1,4 +1,4 @@
-//! Who asks, at both endpoints.
+//! The sender of an introspection or revocation request.
 
 ghost use Rattle.std.specs.Prelude.{◌≡◌, IfOk};
 ghost use Rattle.tk_store.specs.Store.{facts_of};
@@ -9,6 +9,7 @@ use std::alloc::{AllocError, Global};
 use tk_ledger::Ledger;
 use tk_message::{Caller, Request, find_caller};
 
+// Returns the sender of a request to either endpoint.
 pub(crate) fn caller_here(
     alloc: Global,
     ledger: &Ledger,

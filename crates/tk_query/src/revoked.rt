@@ -1,14 +1,14 @@
-//! What a revocation comes to: the ordered cases.
+//! The outcome of revocation, by its cases in their order.
 
 use tk_fact::TokenRevoked;
 
-// What a revocation comes to.
+// The outcome of a revocation request.
 #[derive(Drop)]
 pub(crate) enum Revocation {
     Refused(Refusal),
     // Nothing is left to revoke.
     Done(Idle),
-    // A fact says that the client revoked the token, whether or not that has been seen.
+    // The fact that the client revoked the token is made, whether or not the token has been seen.
     Revokes(TokenRevoked),
 }
 
@@ -26,7 +26,7 @@ use tk_handle::{Dot, Handle, Kind, Moment, RegionNumber, TokenId};
 use tk_ledger::{Ledger, Standing, State, Status};
 use tk_message::{Caller, Params};
 
-// The ordered cases, for who asks.
+// Judges a revocation request by its sender: the first case that holds.
 pub(crate) fn revoke(
     ledger: &Ledger,
     number: RegionNumber,
@@ -46,6 +46,7 @@ pub(crate) fn revoke(
     }
 }
 
+// Judges a request by the token's text.
 fn revoke_text(
     ledger: &Ledger,
     number: RegionNumber,
@@ -66,6 +67,7 @@ fn revoke_text(
     }
 }
 
+// Judges a request by the token's handle.
 fn revoke_handle(
     ledger: &Ledger,
     number: RegionNumber,
@@ -93,6 +95,7 @@ fn revoke_handle(
     }
 }
 
+// Returns the fact that the client revoked the token of a handle.
 fn revocation_of(handle: &Handle, kind: Kind, client: Dot) -> TokenRevoked
     ensures { result ≡ spec.revocation_of handle.now kind client }
 {
@@ -107,6 +110,7 @@ fn revocation_of(handle: &Handle, kind: Kind, client: Dot) -> TokenRevoked
     }
 }
 
+// Judges a request by the token's status.
 fn revoke_by_status(
     ledger: &Ledger,
     is_own: bool,
@@ -145,6 +149,7 @@ fn revoke_by_status(
     }
 }
 
+// Judges a request by the token's standing.
 fn revoke_known(ledger: &Ledger, fact: TokenRevoked, standing: &Standing<'_>) -> Revocation
     requires { is_revocable fact.token.kind ≡ true }
     ensures value { result ≡ spec.revoked_by_state (facts_of ledger.now) fact standing.now.client
@@ -154,6 +159,7 @@ fn revoke_known(ledger: &Ledger, fact: TokenRevoked, standing: &Standing<'_>) ->
     revoke_by_state(ledger, fact, standing.client, standing.state)
 }
 
+// Judges a request by the token's state.
 fn revoke_by_state(ledger: &Ledger, fact: TokenRevoked, client: Dot, state: State) -> Revocation
     requires { is_revocable fact.token.kind ≡ true }
     ensures value { result ≡ spec.revoked_by_state (facts_of ledger.now) fact client state }
@@ -166,6 +172,7 @@ fn revoke_by_state(ledger: &Ledger, fact: TokenRevoked, client: Dot, state: Stat
     }
 }
 
+// Judges a request by the token's client, which must be the sender.
 fn revoke_of_client(ledger: &Ledger, fact: TokenRevoked, client: Dot) -> Revocation
     requires { is_revocable fact.token.kind ≡ true }
     ensures value { result ≡ spec.revoked_of_client (facts_of ledger.now) fact client }
@@ -177,6 +184,7 @@ fn revoke_of_client(ledger: &Ledger, fact: TokenRevoked, client: Dot) -> Revocat
     revoke_unless_held(ledger, fact)
 }
 
+// Revokes the token, unless the client revoked it before.
 fn revoke_unless_held(ledger: &Ledger, fact: TokenRevoked) -> Revocation
     requires { is_revocable fact.token.kind ≡ true }
     ensures value { result ≡ spec.revoked_unless_held (facts_of ledger.now) fact }
