@@ -1,5 +1,5 @@
--- The reply to an introspection request (RFC 7662, 2.2). The facts, the moment and the request alone
--- determine the reply: no region number, serial, life or random word is among the arguments.
+-- The reply to an introspection request (RFC 7662, 2.2). Facts, moment and request determine the
+-- reply: no region number, serial, life or random word is among the arguments.
 --   told               the reply by the outcome of introspection
 --   introspection_of   the reply to a request
 use Rattle.std.specs.Prelude.{ℕ}
