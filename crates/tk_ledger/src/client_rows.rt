@@ -1,6 +1,7 @@
 //! The table of clients.
 
-// What is known of a client: whether it was added, and whether it was retired, which may come first.
+// The row of a client: whether a fact adds it, and whether a fact retires it. The retirement may
+// arrive first.
 #[derive(Clone, Copy)]
 pub(crate) struct ClientRow {
     pub(crate) added: bool,
@@ -15,6 +16,7 @@ use std::alloc::AllocError;
 use std::collections::BTreeMap;
 use tk_handle::Dot;
 
+// Returns whether the client's row is that of a client that was added.
 fn is_added(clients: &BTreeMap<Dot, ClientRow>, client: Dot) -> bool
     ensures { result ≡ row_added (row_at clients.now client) }
 {
@@ -24,6 +26,7 @@ fn is_added(clients: &BTreeMap<Dot, ClientRow>, client: Dot) -> bool
     }
 }
 
+// Returns whether the client's row is that of a client that was retired.
 fn is_retired(clients: &BTreeMap<Dot, ClientRow>, client: Dot) -> bool
     ensures { result ≡ row_retired (row_at clients.now client) }
 {
@@ -33,7 +36,7 @@ fn is_retired(clients: &BTreeMap<Dot, ClientRow>, client: Dot) -> bool
     }
 }
 
-// Whether the client was added and not retired, by one look-up.
+// Returns whether the client was added and not retired, by one look-up.
 pub(crate) fn is_live(clients: &BTreeMap<Dot, ClientRow>, client: Dot) -> bool
     ensures { result ≡ (row_added (row_at clients.now client)
         && not (row_retired (row_at clients.now client))) }
@@ -44,6 +47,7 @@ pub(crate) fn is_live(clients: &BTreeMap<Dot, ClientRow>, client: Dot) -> bool
     }
 }
 
+// Replaces the client's row.
 fn put_row(
     clients: &mut BTreeMap<Dot, ClientRow>,
     client: Dot,

@@ -1,4 +1,4 @@
-//! Where a token stands, by at most eight look-ups.
+//! The status of a handle, by at most eight look-ups.
 
 ghost use Rattle.std.specs.Prelude.{◌≡◌, ◌+◌, ◌^◌, ◌<◌, ◌≤◌};
 ghost use Rattle.std.specs.Option.{option_copied, option_map};
@@ -21,7 +21,7 @@ use tk_fact::{Body, CodeIssued, ConsentGiven, Fact, Minted};
 use tk_family::{Steps, Top};
 use tk_handle::{Dot, Handle, Kind, Moment, TokenId};
 
-// What the fact says of the token of the handle, where it minted one of that kind and digest.
+// Returns what the fact mints of the handle's kind, if that has the handle's digest.
 fn minted_as<'a>(fact: &'a Fact, handle: &Handle) -> Option<Minted<'a>>
     ensures { option_map shown_minted result ≡ spec.with_digest (spec.digest_of handle.now)
         (minted_of fact.now.1 handle.now.id.kind) }
@@ -38,7 +38,7 @@ fn minted_as<'a>(fact: &'a Fact, handle: &Handle) -> Option<Minted<'a>>
     }
 }
 
-// How many rotations lie between the code and the tokens of the fact.
+// Returns the generation of the fact's tokens: the number of rotations from the code to them.
 fn generation(body: &Body) -> u16
     ensures { result ≡ spec.generation_of body.now }
 {
@@ -48,6 +48,7 @@ fn generation(body: &Body) -> u16
     }
 }
 
+// Returns whether the kind is that of access tokens.
 fn is_access(kind: Kind) -> bool
     ensures { result ≡ spec.is_access kind }
 {
@@ -57,6 +58,7 @@ fn is_access(kind: Kind) -> bool
 // ---- single look-ups, each counted
 
 impl Ledger {
+    // Looks a fact up, and counts one look-up.
     fn look(&self, dot: Dot, steps: &mut Steps) -> Option<&Fact>
         ensures value { option_copied result ≡ option_map (λ body.
             (dot, body)) (map.get (facts_of self.now) dot) }
@@ -68,6 +70,7 @@ impl Ledger {
         self.store.get(dot)
     }
 
+    // Looks up the top of a dot in the forest, and counts one look-up.
     fn top(&self, dot: Dot, steps: &mut Steps) -> Top
         ensures value { by.TopSays (facts_of self.now) dot result }
         ensures more { steps.old ≤ steps.new }
@@ -76,6 +79,7 @@ impl Ledger {
         self.index.forest.top(dot, steps)
     }
 
+    // Returns whether the client is live, and counts one look-up.
     fn is_live_client(&self, client: Dot, steps: &mut Steps) -> bool
         ensures value { result ≡ clients_of.is_live_client (facts_of self.now) client }
         ensures more { steps.old ≤ steps.new }
@@ -85,6 +89,7 @@ impl Ledger {
         self.has_live_client(client)
     }
 
+    // Returns whether the consent was withdrawn, and counts one look-up.
     fn is_withdrawn(&self, consent: Dot, steps: &mut Steps) -> bool
         ensures value { result ≡ clients_of.is_withdrawn (facts_of self.now) consent }
         ensures more { steps.old ≤ steps.new }
@@ -94,6 +99,7 @@ impl Ledger {
         self.has_withdrawn(consent)
     }
 
+    // Returns whether a fact uses the token, and counts one look-up.
     fn is_used(&self, token: TokenId, steps: &mut Steps) -> bool
         ensures value { result ≡ tokens_of.is_used (facts_of self.now) token }
         ensures more { steps.old ≤ steps.new }
@@ -102,6 +108,7 @@ impl Ledger {
         self.index.forest.used(token, steps)
     }
 
+    // Returns whether the client revoked the token, and counts one look-up.
     fn is_revoked(&self, token: &TokenId, digest: &[u8; 32], client: Dot, steps: &mut Steps) -> bool
         ensures value { result ≡ tokens_of.is_revoked (facts_of self.now) token.now digest.now
             client }
@@ -113,9 +120,10 @@ impl Ledger {
     }
 }
 
-// ---- what they tell together
+// ---- several look-ups together
 
 impl Ledger {
+    // Returns the fact that issued the code at the dot.
     fn issued_at(&self, code: Dot, steps: &mut Steps) -> Option<&CodeIssued>
         ensures value { option_copied result ≡ tokens_of.issued_at (map.get (facts_of self.now))
             code }
@@ -128,7 +136,7 @@ impl Ledger {
         }
     }
 
-    // The root that is this code.
+    // Returns the root with the code at the dot, if a code was issued there.
     fn root_of(&self, code: Dot, steps: &mut Steps) -> Option<Root<'_>>
         ensures value { result ≡ tokens_of.root_of (map.get (facts_of self.now)) code }
         ensures more { steps.old ≤ steps.new }
@@ -140,6 +148,7 @@ impl Ledger {
         }
     }
 
+    // Returns the consent that was given at the dot.
     fn consent_at(&self, at: Dot, steps: &mut Steps) -> Option<&ConsentGiven>
         ensures value { option_copied result ≡ clients_of.consent_at (facts_of self.now) at }
         ensures more { steps.old ≤ steps.new }
@@ -151,7 +160,7 @@ impl Ledger {
         }
     }
 
-    // Whether the consent of a code is live.
+    // Returns whether the consent of a code is live.
     fn is_live_consent(&self, code: &CodeIssued, steps: &mut Steps) -> bool
         ensures value { result ≡ clients_of.is_live_consent (facts_of self.now) code.now }
         ensures more { steps.old ≤ steps.new }
@@ -164,7 +173,7 @@ impl Ledger {
         ) && !self.is_withdrawn(code.consent, steps)
     }
 
-    // The first state that holds, by at most four look-ups.
+    // Returns the first state that holds of a token, by at most four look-ups.
     fn state(
         &self,
         now: Moment,
@@ -200,7 +209,7 @@ impl Ledger {
         }
     }
 
-    // Of a token under the code, where it is known whether its family is dead.
+    // Returns the status of a token under the code. `dead` is whether the code's family is dead.
     fn under<'a>(
         &'a self,
         now: Moment,
@@ -232,7 +241,7 @@ impl Ledger {
         }
     }
 
-    // Of a token that the fact minted so, by where its dot stands.
+    // Returns the status of a token that the fact minted, by the top of its dot.
     fn of_top<'a>(
         &'a self,
         now: Moment,
@@ -255,7 +264,7 @@ impl Ledger {
         }
     }
 
-    // Where the token of a handle stands.
+    // Returns the status of a handle.
     pub(crate) fn of_handle(&self, now: Moment, handle: &Handle, steps: &mut Steps) -> Status<'_>
         ensures value { result ≡ spec.status_in (facts_of self.now) now handle.now }
         ensures at_least { steps.old + 8 < 2 ^ 64 → steps.old + 1 ≤ steps.new }

@@ -1,4 +1,5 @@
-//! Revocations of refresh tokens and sign-outs of subjects, and the marks that they make once what they stop is there.
+//! Marks of refresh tokens that their client revoked, and of codes whose subject signed out,
+//! whichever fact arrives first.
 
 ghost use Rattle.std.specs.Prelude.{◌≡◌, ◌||◌};
 ghost use Rattle.std.specs.Option.{option_map};
@@ -34,6 +35,7 @@ use tk_family::Forest;
 use tk_handle::{Dot, Kind, TokenId};
 use tk_store::FactStore;
 
+// Returns whether the client of the root revoked the token, by the table.
 fn is_ended_by(
     revocations: &BTreeSet<Revocation>,
     token: &TokenId,
@@ -52,7 +54,7 @@ fn is_ended_by(
     }
 }
 
-// Whether the client of the code that it is under revoked the token.
+// Returns whether the client of the code that the token is under revoked the token.
 fn is_ended(
     facts: &FactStore,
     revocations: &BTreeSet<Revocation>,
@@ -72,8 +74,8 @@ fn is_ended(
     )
 }
 
-// Marks the refresh token of the dot, if its client revoked it. A token that is ended stands at a dot that has a link, so
-// this takes no memory.
+// Marks the refresh token of the dot, if its client revoked it. The dot of such a token has a link:
+// the mark allocates no memory.
 fn wake_refresh(facts: &FactStore, revocations: &BTreeSet<Revocation>, forest: &mut Forest, at: Dot)
     requires revocations { IsRevocations (facts_of facts.now) revocations.now }
     requires links { (q : the_dot)
@@ -93,7 +95,8 @@ fn wake_refresh(facts: &FactStore, revocations: &BTreeSet<Revocation>, forest: &
     }
 }
 
-// Marks the code of the dot, if its subject signed out. It has a link too.
+// Marks the code of the dot, if its subject signed out. The dot of a code has a link: the mark
+// allocates no memory.
 fn wake_code(facts: &FactStore, outs: &BTreeSet<OutKey>, forest: &mut Forest, at: Dot)
     requires outs { IsOuts (facts_of facts.now) outs.now }
     requires links { (q : the_dot)
@@ -113,7 +116,7 @@ fn wake_code(facts: &FactStore, outs: &BTreeSet<OutKey>, forest: &mut Forest, at
     }
 }
 
-// Marks what stands at the dot and is stopped.
+// Marks the code and the refresh token of the dot, if a sign-out or a revocation stops them.
 pub(crate) fn wake(
     facts: &FactStore,
     revocations: &BTreeSet<Revocation>,
@@ -134,7 +137,7 @@ pub(crate) fn wake(
     wake_refresh(facts, revocations, forest, at);
 }
 
-// Marks what is stopped at the dots.
+// Marks the tokens of the dots that a sign-out or a revocation stops.
 pub(crate) fn wake_all(
     facts: &FactStore,
     revocations: &BTreeSet<Revocation>,
@@ -156,7 +159,7 @@ pub(crate) fn wake_all(
     }
 }
 
-// Marks what is stopped among the codes of a subject of the digest.
+// Marks the codes of a subject that a sign-out stops, by the digest of the subject.
 pub(crate) fn wake_codes(
     facts: &FactStore,
     revocations: &BTreeSet<Revocation>,
