@@ -19,9 +19,9 @@
 //!   (`revocations`), and the codes and sign-outs of subjects (`subject_keys`)
 //! - a forest of families, with marks
 //!
-//! `change` has the change that a fact makes in the index, and `index` makes the change. `wake` marks
-//! refresh tokens that their client revoked and codes whose subject signed out, whichever fact
-//! arrives first. `looks`, `clients`, `consents`, `sign_outs` and `standing` look facts up.
+//! `change` has the change that a fact makes in the index, and `index` makes the change. `wake`
+//! marks refresh tokens that their client revoked and codes whose subject signed out, whichever
+//! fact arrives first. `looks`, `clients`, `consents`, `sign_outs` and `standing` look facts up.
 //!
 //! In reading order: `Ledger`, `ClientView`, `ConsentView`, `Status`, `Standing`, `State`. The
 //! definitions are in `specs/`: `Clients`, `SignOuts`, `Tokens`, `Status`, `Standings`, `Ends`; for
