@@ -1,4 +1,4 @@
--- Empty tables are those of no fact. Key result: `empty_indexed`.
+-- Empty tables are those of no fact. Key result: empty_indexed.
 use Rattle.std.proofs.Common.{◌≡◌, inl, inr, ℕ, Bool, false, List, [], Option, Some, is_some, sym, ap, ◌∙◌}
 use Rattle.std.proofs.lemmas.Bool.{true≢false, or_cases, false_from_ne_true}
 use Rattle.std.specs.Option.{option_and_then}
@@ -34,7 +34,7 @@ none_held d b h = none_is_not_some b (sym (map.get-empty dot_cmp d) ∙ h)
 any_fact-empty : (p : Dot × Body → Bool) → any_fact p map.empty ≡ false
 any_fact-empty p = false_from_ne_true (any_fact p map.empty) (λ h. (let x : Passing p map.empty = any_fact-held p map.empty h in none_held x.dot x.body x.held))
 
--- nothing stands at any dot
+-- no fact is at any dot
 no_value : {B : Type 0} (f : Body → Option B) (d : Dot) (y : B) → ¬ (option_and_then f (map.get (map.empty {R = dot_cmp}) d) ≡ Some y)
 no_value f d y h = none_is_not_some y (sym (ap (option_and_then f) (map.get-empty dot_cmp d)) ∙ h)
 

@@ -1,6 +1,7 @@
--- Each kind of change, in the form in which the functions need it: over the set that has the fact already, and that set
--- without it. Key results:
---   put_ties, mark_ties, revoke_ties, out_ties   the forest after a link, a reuse, a revocation and a sign-out
+-- Each kind of change, as the functions that make it need it: over the set that has the fact
+-- already, and that set without the fact. Key results:
+--   put_ties, mark_ties, revoke_ties, out_ties
+--                                         the forest after a link, reuse, revocation, sign-out
 --   code_row, code_dropped, out_row       the tables after a code and a sign-out
 --   index_add .. index_out                all tables, for each kind of change
 --   stored, stored_change, stored_back    a fact at a free dot
@@ -117,7 +118,7 @@ pub revoke_ties : (G : FactSet) (d : Dot) (f : revoked.TokenRevoked) (x y : Fore
     → y.links ≡ x.links → ((k : TokenId) → set.contains y.marks k ≡ (woken G k f.token.dot || set.contains x.marks k)) → IsTied G y
 revoke_ties G d f x y h t still new = let c = changed G d (change.Revoke f) h in tied_revoke (map.remove G d) G d c.body f x y c.more c.is t still new
 
--- before the marks, the links are those of the set already, where the change is none
+-- a change without a link leaves the links of the set without the fact
 pub links_before : (G : FactSet) (d : Dot) (y : Change) (x : ForestFacts) → option_map change_in (map.get G d) ≡ Some y → puts y ≡ None → IsTied (map.remove G d) x → (q : Dot) → map.get x.links q ≡ links_in (map.get G) q
 links_before G d y x h none t q = still (changed G d y h)
   where
@@ -164,7 +165,7 @@ revocations_by : (G : FactSet) (d : Dot) (y : Change) (t u : BTreeSet Revocation
     → IsRevocations G u
 revocations_by G d y t u h i r = let x = changed G d y h in revocations_on (map.remove G d) G d x.body t u x.more i (λ k g c. r k g c ∙ ap (λ z. revokes_of k g c z || is_listed_revoked t k g c) (sym x.is))
 
--- a consent's key
+-- the table with the key of a consent
 give_row : (client : Dot) (subject : List ℕ) (d : Dot) (t u : BTreeSet ConsentKey)
     → ((k : ConsentKey) → contains consent_cmp u k ≡ cond (eq_by_cmp consent_cmp (consent_key client subject d) k) true (contains consent_cmp t k))
     → (e : Dot) (h : List ℕ) (q : Dot) → is_listed u e h q ≡ ((gives_to e h (change.Give client subject) && is_same_dot d q) || is_listed t e h q)
@@ -177,7 +178,7 @@ give_row client subject d t u r e h q =
     regroup true b c = refl
     regroup false b c = refl
 
--- a revocation's key
+-- the table with the key of a revocation
 pub revoke_row : (G : FactSet) (d : Dot) (f : revoked.TokenRevoked) (t u : BTreeSet Revocation) → option_map change_in (map.get G d) ≡ Some (change.Revoke f) → IsRevocations (map.remove G d) t
     → ((q : Revocation) → contains revocation_cmp u q ≡ cond (eq_by_cmp revocation_cmp (revocation_key f.token f.digest f.client) q) true (contains revocation_cmp t q))
     → IsRevocations G u
@@ -206,7 +207,7 @@ outs_by G d y t u h i ranged early l =
     outs_on (map.remove G d) G d x.body t u x.more i ranged (subst IsEarly (sym x.is) early)
     (λ subject left q. l subject left q ∙ ap (λ z. (signs_out_by subject left z && is_at d q) || is_listed_out t subject left q) (sym x.is))
 
--- a change that issues no code leaves the codes, one that signs out nobody the sign-outs
+-- a change that issues no code leaves the codes; a change that signs out nobody, the sign-outs
 pub same_codes : (G : FactSet) (d : Dot) (y : Change) (t : BTreeSet CodeKey) → option_map change_in (map.get G d) ≡ Some y → issuing y ≡ None → IsCodes (map.remove G d) t → IsCodes G t
 same_codes G d y t h none i = codes_by G d y t t h i i.ranged
     (λ subject q. sym (ap (λ b. (b && is_at d q) || is_listed_code t subject q) (issues_none subject y none)))
@@ -215,18 +216,18 @@ pub same_outs : (G : FactSet) (d : Dot) (y : Change) (t : BTreeSet OutKey) → o
 same_outs G d y t h none i = outs_by G d y t t h i i.ranged (unsigned_early y none)
     (λ subject left q. sym (ap (λ b. (b && is_at d q) || is_listed_out t subject left q) (signs_none subject left y none)))
 
--- before the change nothing stands at its dot
+-- no fact is at the dot in the set without the fact
 pub change_free : (G : FactSet) (d : Dot) (y : Change) → option_map change_in (map.get G d) ≡ Some y → map.get (map.remove G d) d ≡ None
 change_free G d y h = (changed G d y h).more.free
 
--- a table that has the same keys
+-- a table of codes with the same keys
 pub codes_same : (G : FactSet) (d : Dot) (t u : BTreeSet CodeKey) → IsCodes (map.remove G d) t → ((k : CodeKey) → contains code_cmp u k ≡ contains code_cmp t k) → IsCodes (map.remove G d) u
 codes_same G d t u i same = codes_alike (map.remove G d) t u i same
 
 pub outs_same : (G : FactSet) (d : Dot) (t u : BTreeSet OutKey) → IsOuts (map.remove G d) t → ((k : OutKey) → contains out_cmp u k ≡ contains out_cmp t k) → IsOuts (map.remove G d) u
 outs_same G d t u i same = outs_alike (map.remove G d) t u i same
 
--- a code's key
+-- the table with the key of a code
 pub code_row : (G : FactSet) (d : Dot) (subject : List ℕ) (t u : BTreeSet CodeKey) → option_map change_in (map.get G d) ≡ Some (change.Issue subject) → IsCodes (map.remove G d) t → IsDot d
     → ((k : CodeKey) → contains code_cmp u k ≡ cond (eq_by_cmp code_cmp (code_key subject d) k) true (contains code_cmp t k))
     → IsCodes G u
@@ -237,14 +238,14 @@ code_row G d subject t u h i here r = codes_by G d (change.Issue subject) t u h 
     own g q = r (code_key g q) ∙ or_cond (eq_by_cmp code_cmp (code_key subject d) (code_key g q)) (is_listed_code t g q)
         ∙ ap (λ x. x || is_listed_code t g q) (code_tied subject g d q)
 
--- and it goes again
+-- the table after the key of a code was removed again
 pub code_dropped : (G : FactSet) (d : Dot) (subject : List ℕ) (t u v : BTreeSet CodeKey) → IsCodes (map.remove G d) t → map.get (map.remove G d) d ≡ None
     → ((k : CodeKey) → contains code_cmp u k ≡ cond (eq_by_cmp code_cmp (code_key subject d) k) true (contains code_cmp t k))
     → ((k : CodeKey) → contains code_cmp v k ≡ cond (eq_by_cmp code_cmp (code_key subject d) k) false (contains code_cmp u k))
     → IsCodes (map.remove G d) v
 code_dropped G d subject t u v i free r s = codes_back (map.remove G d) d subject t u v free i (λ k. r k ∙ or_cond (eq_by_cmp code_cmp (code_key subject d) k) (contains code_cmp t k)) s
 
--- a sign-out's key
+-- the table with the key of a sign-out
 pub out_row : (G : FactSet) (d : Dot) (subject : List ℕ) (moment : ℕ) (t u : BTreeSet OutKey) → option_map change_in (map.get G d) ≡ Some (change.SignOut subject moment) → IsOuts (map.remove G d) t → IsDot d → moment ≤ greatest_moment
     → ((k : OutKey) → contains out_cmp u k ≡ cond (eq_by_cmp out_cmp (out_key subject (left_after moment) d) k) true (contains out_cmp t k))
     → IsOuts G u
@@ -260,7 +261,7 @@ out_row G d subject moment t u h i here early r =
     own g l q = r (out_key g l q) ∙ or_cond (eq_by_cmp out_cmp (out_key subject (left_after moment) d) (out_key g l q)) (is_listed_out t g l q)
         ∙ ap (λ x. x || is_listed_out t g l q) (out_tied subject g (left_after moment) l d q ∙ regroup (bytes_eq subject g) (left_after moment == l) (is_same_dot d q))
 
--- ---- all of it, for each change
+-- ---- all tables, for each kind of change
 
 pub index_add : (G : FactSet) (d : Dot) (x : Index) (u : BTreeMap Dot ClientRow)
     → option_map change_in (map.get G d) ≡ Some change.Add → IsIndexed (map.remove G d) x

@@ -1,9 +1,10 @@
 -- The keys of codes and of sign-outs. Key results:
---   code_tied, code_same, out_same, codes_total, outs_total   keys tie exactly where they are one
---   codes_forward, outs_forward, out_order                    the spans run forward
---   in_codes                                                  the dot of each code of the subject is among those of the span
---   in_outs, of_subject                                       the span has the keys of the subject, and no others
---   code_listed, out_listed                                   the keys of a code and of a sign-out that are held
+--   code_tied, code_same, out_same, codes_total, outs_total
+--                                            keys tie exactly if they are equal
+--   codes_forward, outs_forward, out_order   the spans run forward
+--   in_codes                                 the span has the dot of each code of the subject
+--   in_outs, of_subject                      the span has the keys of the subject, and no others
+--   code_listed, out_listed                  the keys of a code and of a sign-out that are held
 use Rattle.std.proofs.Common.{◌≡◌, inl, inr, ℕ, ◌≤◌, ◌==◌, Bool, true, false, ◌&&◌, ◌||◌, not, List, [], ◌∷◌, Option, Some, filter, refl, sym, ap, ◌∙◌, arith, eq-eqb}
 use Rattle.std.proofs.lemmas.Bool.{true≢false, eqb-true, cases_Bool, cond-true, cond-false, or_cases, or_left, and_parts, and_from}
 use Rattle.std.proofs.lemmas.Cmp.{on_total, then_total, tied_itself, nat_list_cmp_total}
@@ -93,7 +94,7 @@ kept_dot c k (x ∷ xs) at kept = elim (or_cases (is_at (code_cmp k) x) (among c
     or_later true b h = refl
     or_later false b h = h
 
--- the dot of each code that is listed under the digest is among those of its span
+-- the span of the digest has the dot of each code that is listed under the digest
 pub in_codes : (t : BTreeSet CodeKey) (subject : List ℕ) (d : Dot) → contains code_cmp t (code_key subject d) ≡ true → IsDot d → has (dots_of (codes_of t subject)) d ≡ true
 in_codes t subject d at ranged = kept_dot (range_contains code_cmp (Included (code_key subject least_dot)) (Included (code_key subject greatest_dot))) (code_key subject d) t.keys at (in_span subject d ranged)
 
@@ -128,7 +129,7 @@ outs_forward subject a b first last =
     ∙ ap (λ (x : OutKey). is_gt (out_cmp (out_key subject 0 least_dot) x)) last
     ∙ ap is_gt (out_order subject 0 greatest_moment least_dot greatest_dot)
 
--- the key of a sign-out of the subject is in its span
+-- the key of a sign-out of the subject is in the span
 pub in_outs : (subject : List ℕ) (l : ℕ) (q : Dot) → l ≤ greatest_moment → IsDot q → range_contains out_cmp (Included (out_key subject 0 least_dot)) (Included (out_key subject greatest_moment greatest_dot)) (out_key subject l q) ≡ true
 in_outs subject l q le h = and_from _ _
     (ap is_le (out_order subject 0 l least_dot q) ∙ elim (number_le 0 l (omega arith)) [
@@ -147,11 +148,11 @@ between Less r t h i = absurd (true≢false (sym i))
 between Equal r t h i = refl
 between Greater r t h i = absurd (true≢false (sym h))
 
--- and a key there is the subject's
+-- a key in the span is one of the subject
 pub of_subject : (subject : List ℕ) (e : OutKey) → range_contains out_cmp (Included (out_key subject 0 least_dot)) (Included (out_key subject greatest_moment greatest_dot)) e ≡ true → e.subject ≡ subject
 of_subject subject e h = let p = and_parts _ _ h in sym (exact_bytes subject e.subject (between (slice_cmp nat_cmp subject e.subject) _ _ p.0 p.1))
 
--- ---- what is held is listed
+-- ---- codes and sign-outs that are held are listed
 
 pub code_listed : (F : FactSet) (t : BTreeSet CodeKey) (d : Dot) (code : issued.CodeIssued) → IsCodes F t
     → issued_at (map.get F) d ≡ Some code → (contains code_cmp t (code_key (sha256 code.subject) d) ≡ true) × IsDot d

@@ -1,7 +1,7 @@
--- How the tables of codes and of sign-outs follow the set, when it has one fact more. Key results:
---   codes_on, outs_on            after any fact, by what its change issues or signs out
---   codes_alike, outs_alike      a table that has the same keys
---   codes_back                   after a code whose key was taken out again
+-- The tables of codes and of sign-outs follow the set when that gets one more fact. Key results:
+--   codes_on, outs_on         the tables after any fact, by what it issues or signs out
+--   codes_alike, outs_alike   a table with the same keys
+--   codes_back                the table after the key of a code was removed again
 use Rattle.std.proofs.Common.{◌≡◌, inl, inr, ℕ, ◌≤◌, Bool, true, false, cond, ◌&&◌, ◌||◌, ◌==◌, List, Option, Some, None, refl, sym, ap, subst, ◌∙◌}
 use Rattle.std.proofs.lemmas.Bool.{true≢false, cases_Bool, or_cases, and_parts}
 use Rattle.std.specs.Option.{option_and_then}
@@ -33,9 +33,9 @@ use Rattle.tk_ledger.proofs.SameLaws.{same_dot-true}
 use Rattle.tk_ledger.proofs.SubjectKeyLaws.{code_tied}
 use Rattle.tk_ledger.proofs.TableLaws.{own_on}
 
--- ---- what a change says is what its body says
+-- ---- a change and its body have the same code and sign-out
 
--- the change issues a code to a subject of the digest
+-- the change issues a code to a subject with the digest
 abbrev pub issues_to : List ℕ → Change → Bool
 issues_to subject (change.Issue digest) = bytes_eq digest subject
 issues_to subject other = false
@@ -53,7 +53,7 @@ pub issues_none : (subject : List ℕ) (y : Change) → issuing y ≡ None → i
 issues_none subject (change.Issue digest) h = absurd (none_is_not_some digest (sym h))
 issues_none subject other h = refl
 
--- the change signs out a subject of the digest, at the moment after which so much of all time is left
+-- the change signs out a subject with the digest, with `left` seconds left after the moment
 abbrev pub signs_out_by : List ℕ → ℕ → Change → Bool
 signs_out_by subject left (change.SignOut digest moment) = bytes_eq digest subject && (left_after moment == left)
 signs_out_by subject left other = false
@@ -77,7 +77,7 @@ moment-change body f h = absurd (none_is_not_some f h)
 
 -- ---- codes
 
--- each code that is listed stands at a dot in range
+-- each code that is listed is at a dot in range
 abbrev pub RangedCodes : BTreeSet CodeKey → Type 0
 RangedCodes t = (subject : List ℕ) (d : Dot) → is_listed_code t subject d ≡ true → IsDot d
 
@@ -99,7 +99,7 @@ codes_on F G d b t u m i ranged l = record {
   ranged = ranged;
 }
 
--- what is listed new is in range where its dot is
+-- codes that are newly listed are in range if their dot is
 pub codes_ranged : (t u : BTreeSet CodeKey) (d : Dot) (n : List ℕ → Bool) → IsDot d → RangedCodes t
     → ((subject : List ℕ) (q : Dot) → is_listed_code u subject q ≡ ((n subject && is_same_dot d q) || is_listed_code t subject q))
     → RangedCodes u
@@ -114,7 +114,7 @@ codes_alike F t u i same = record {
   ranged = λ subject q h. i.ranged subject q (sym (same (code_key subject q)) ∙ h);
 }
 
--- a key that was put in and taken out again leaves the others
+-- a key that was put in and removed again leaves the other keys
 without : (a b : Bool) → (a ≡ true → b ≡ false) → cond a false (a || b) ≡ b
 without true b h = sym (h refl)
 without false b h = refl
@@ -140,7 +140,7 @@ codes_back F d subject t u v free i r s = record {
 
 -- ---- sign-outs
 
--- each sign-out that is listed stands at a dot in range
+-- each sign-out that is listed is at a dot in range
 abbrev pub RangedOuts : BTreeSet OutKey → Type 0
 RangedOuts t = (subject : List ℕ) (left : ℕ) (d : Dot) → is_listed_out t subject left d ≡ true → IsDot d
 
@@ -154,7 +154,7 @@ signed_on F G d b subject left q x m i =
     (λ ne. ap (λ e. is_left_by subject left (option_and_then sign_out_in e)) (m.there q ne))
     i
 
--- no change signs out past the last of all moments
+-- the change signs out nobody after the greatest moment
 abbrev pub IsEarly : Change → Type 0
 IsEarly (change.SignOut digest moment) = moment ≤ greatest_moment
 IsEarly other = Unit {0}
@@ -180,7 +180,7 @@ outs_on F G d b t u m i ranged early l = record {
   ];
 }
 
--- what is listed new is in range where its dot is
+-- sign-outs that are newly listed are in range if their dot is
 pub outs_ranged : (t u : BTreeSet OutKey) (d : Dot) (n : List ℕ → ℕ → Bool) → IsDot d → RangedOuts t
     → ((subject : List ℕ) (left : ℕ) (q : Dot) → is_listed_out u subject left q ≡ ((n subject left && is_same_dot d q) || is_listed_out t subject left q))
     → RangedOuts u
