@@ -250,7 +250,7 @@ walk_bundle fs rest fits =
       small,
     ) (many_framed fs rest fits.0.1)
 
--- ---- a walk over more bytes goes as far, and is cut where a bundle is torn
+-- ---- a walk over more bytes, and the walk over the beginning of a bundle
 
 -- `longer` is the result of a walk over the bytes and `more` behind them, where r is the result
 -- over the bytes alone
@@ -357,7 +357,7 @@ walk_goes_on bytes more =
     unless more (not (bytes_eq h.0.0 magic)) _ _ (unless more (not (is_version h.0.1.0)) _ _
     (unless more (ltb most_facts h.0.1.1) _ _ (many_on h.0.1.1 h.1 more))))
 
--- a walk that goes on to the end is cut where the last of the bytes are taken away
+-- if a walk ends well, the walk over the beginning of the bytes is cut
 cut_before : (more : List ℕ) (r longer : Result (List ℕ) FrontError) → GoesOn more r longer
     → longer ≡ Ok [] → more ≢ [] → r ≡ Err Cut
 cut_before more (Ok rest) longer h whole some =
