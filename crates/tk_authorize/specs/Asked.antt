@@ -44,8 +44,8 @@ asked_by_scope sort params (Some scope) =
     asked_with scope (challenge_sent sort (value_of (codes "code_challenge_method") params)
     (value_of (codes "code_challenge") params))
 
--- what the parameters ask for, by the response type, which must be `code` (RFC 6749, 3.1.1). Without
--- a scope, the request asks for the client's whole scope (RFC 6749, 3.3)
+-- what the parameters ask for, by the response type, which must be `code` (RFC 6749, 3.1.1). A
+-- request without a scope asks for the client's whole scope (RFC 6749, 3.3)
 abbrev pub asked_by_type : Sort → List ℕ → Pairs → Option (List ℕ) → Result Asked Denial
 asked_by_type sort whole params None = Err denial.MissingResponseType
 asked_by_type sort whole params (Some name) =

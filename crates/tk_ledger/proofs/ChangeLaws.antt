@@ -1,7 +1,6 @@
 -- Each kind of change, as the functions that make it need it: over the set that has the fact
 -- already, and that set without the fact. Key results:
---   put_ties, mark_ties, revoke_ties, out_ties
---                                         the forest after a link, reuse, revocation, sign-out
+--   put_ties, mark_ties, revoke_ties, out_ties   the forest after each kind of change
 --   code_row, code_dropped, out_row       the tables after a code and a sign-out
 --   index_add .. index_out                all tables, for each kind of change
 --   stored, stored_change, stored_back    a fact at a free dot
