@@ -86,27 +86,27 @@ abbrev pub is_secret : List ℕ → Bool
 is_secret secret = nat_le 1 (length secret) && nat_le (length secret) most_secret_bytes
     && list_all is_visible secret
 
--- a public client must have no secret (RFC 6749, 2.1)
+-- the kind of a public client, for which no secret may be sent (RFC 6749, 2.1)
 abbrev pub public_sort : Option (List ℕ) → Result Sort AdminRefusal
 public_sort None = Ok Public
 public_sort (Some secret) = Err UnwantedSecret
 
--- the digest of the secret, which is required: facts keep the digest alone
+-- the digest of a required secret: facts keep the digest alone
 abbrev pub digest_asked : Option (List ℕ) → Result (List ℕ) AdminRefusal
 digest_asked None = Err MissingSecret
 digest_asked (Some secret) = if is_secret secret then Ok (sha256 secret) else Err BadSecret
 
--- a confidential client with the digest of its secret
+-- the kind of a confidential client, with the digest of its secret
 abbrev pub confidential_sort : Result (List ℕ) AdminRefusal → Result Sort AdminRefusal
 confidential_sort (Err why) = Err why
 confidential_sort (Ok digest) = Ok (Confidential digest)
 
--- a resource server with the digest of its secret
+-- the kind of a resource server, with the digest of its secret
 abbrev pub resource_sort : Result (List ℕ) AdminRefusal → Result Sort AdminRefusal
 resource_sort (Err why) = Err why
 resource_sort (Ok digest) = Ok (Resource digest)
 
--- the kind by its name, with the digest of the secret if the kind has one
+-- a client's kind by its name, with the digest of the secret if the kind has one
 abbrev pub sort_asked : List ℕ → Option (List ℕ) → Result Sort AdminRefusal
 sort_asked kind secret =
     if bytes_eq kind (codes "public") then public_sort secret
@@ -118,28 +118,28 @@ sort_asked kind secret =
 abbrev pub is_space : ℕ → Bool
 is_space b = b == 32
 
--- the list of URIs, if it may be registered
+-- the redirection URIs, if the list may be registered
 abbrev pub registered : List (List ℕ) → Option (List (List ℕ))
 registered uris = if is_none (registration_refusal uris) then Some uris else None
 
--- the redirection URIs are required to be a list that may be registered
+-- the judgement of a new client by its redirection URIs, which must be a list to be registered
 abbrev pub registered_to : Sort → List ℕ → Option (List (List ℕ)) → Administered
 registered_to sort scope None = Refused BadRedirects
 registered_to sort scope (Some uris) =
     Registers (record { sort = sort; scope = scope; redirects = uris })
 
--- the scope is required to be one that can be read
+-- the judgement of a new client by its scope, which must be readable
 abbrev pub registered_with : Sort → Option (List ℕ) → List ℕ → Administered
 registered_with sort None redirects = Refused BadScope
 registered_with sort (Some scope) redirects =
     registered_to sort scope (registered (slice_split is_space redirects))
 
--- the kind, with its secret, is required to be a good one
+-- the judgement of a new client by its kind and secret
 abbrev pub registered_as : Result Sort AdminRefusal → List ℕ → List ℕ → Administered
 registered_as (Err why) scope redirects = Refused why
 registered_as (Ok sort) scope redirects = registered_with sort (scope_of scope) redirects
 
--- the kind, the scope and the redirection URIs are required
+-- the judgement of a new client by its parameters: kind, scope and redirection URIs are required
 abbrev pub registered_by : Option (List ℕ) → Option (List ℕ) → Option (List ℕ) → Option (List ℕ)
     → Administered
 registered_by None scope redirects secret = Refused MissingParameter
@@ -152,7 +152,7 @@ registered_by (Some kind) (Some scope) (Some redirects) secret =
 abbrev pub registration_names : List (List ℕ)
 registration_names = codes "kind" ∷ codes "secret" ∷ codes "scope" ∷ codes "redirects" ∷ []
 
--- POST /admin/client: no parameter that the endpoint knows may occur twice
+-- the judgement of POST /admin/client: no parameter that the endpoint knows may occur twice
 abbrev pub registered_of : Pairs → Administered
 registered_of params =
     if has_twice registration_names params then Refused DuplicateParameter
@@ -161,82 +161,82 @@ registered_of params =
 
 -- ---- the client that an id names: show it, retire it
 
--- the id is required to be that of a client, added or not
+-- the dot of a client id, or a refusal if the text is no client id
 abbrev pub client_by : Option Dot → Result Dot AdminRefusal
 client_by None = Err UnknownClient
 client_by (Some d) = Ok d
 
--- the id is required
+-- the dot of a required client id
 abbrev pub client_asked : Option (List ℕ) → Result Dot AdminRefusal
 client_asked None = Err MissingParameter
 client_asked (Some id) = client_by (client_in id)
 
--- the names of the parameters that the two endpoints know
+-- the names of the parameters that GET /admin/client and POST /admin/retire know
 abbrev pub client_names : List (List ℕ)
 client_names = codes "client_id" ∷ []
 
--- the dot of the client that the parameters name. The id must not occur twice
+-- the dot of the client id in the parameters, which must not occur twice
 abbrev pub client_named : Pairs → Result Dot AdminRefusal
 client_named params =
     if has_twice client_names params then Err DuplicateParameter
     else client_asked (value_of (codes "client_id") params)
 
--- the client at the dot is shown, if one was added there
+-- the judgement that shows the client at the dot, if one was added there
 abbrev pub shown_at : Dot → Option ClientFields → Administered
 shown_at d None = Refused UnknownClient
 shown_at d (Some client) =
     Shows (record { client = d; sort = client.sort; live = client.live; scope = client.scope })
 
--- the client that an id names is shown
+-- the judgement that shows the client of an id
 abbrev pub shown_by : FactSet → Result Dot AdminRefusal → Administered
 shown_by F (Err why) = Refused why
 shown_by F (Ok d) = shown_at d (client_view F d)
 
--- GET /admin/client
+-- the judgement of GET /admin/client
 abbrev pub shown_of : FactSet → Pairs → Administered
 shown_of F params = shown_by F (client_named params)
 
--- the client at the dot is retired, if one was added there
+-- the judgement that retires the client at the dot, if one was added there
 abbrev pub retired_at : Dot → Option ClientFields → Administered
 retired_at d None = Refused UnknownClient
 retired_at d (Some client) = Retires d client.live
 
--- the client that an id names is retired
+-- the judgement that retires the client of an id
 abbrev pub retired_by : FactSet → Result Dot AdminRefusal → Administered
 retired_by F (Err why) = Refused why
 retired_by F (Ok d) = retired_at d (client_view F d)
 
--- POST /admin/retire
+-- the judgement of POST /admin/retire
 abbrev pub retired_of : FactSet → Pairs → Administered
 retired_of F params = retired_by F (client_named params)
 
 -- ---- give a consent
 
--- the scope is required to be within the client's scope (RFC 6749, 3.3)
+-- the judgement of a new consent by its scope, which must be within the client's (RFC 6749, 3.3)
 abbrev pub consented_for : Dot → List ℕ → Option (List ℕ) → Administered
 consented_for client subject None = Refused WrongScope
 consented_for client subject (Some scope) =
     Consents (record { client = client; subject = subject; scope = scope })
 
--- the subject is required to be the name of one
+-- the judgement of a new consent by its subject, which must be the name of one
 abbrev pub consented_as : Dot → List ℕ → List ℕ → List ℕ → Administered
 consented_as client whole subject scope =
     if is_subject subject then consented_for client subject (scope_asked whole (Some scope))
     else Refused BadSubject
 
--- the client is required to be live
+-- the judgement of a new consent by its client, which must be live
 abbrev pub consented_at : Dot → List ℕ → List ℕ → Option ClientFields → Administered
 consented_at client subject scope None = Refused UnknownClient
 consented_at client subject scope (Some view) =
     if view.live then consented_as client view.scope subject scope else Refused UnknownClient
 
--- the id is required to be that of a client
+-- the judgement of a new consent by the client's id, which must be one
 abbrev pub consented_to : FactSet → List ℕ → List ℕ → Option Dot → Administered
 consented_to F subject scope None = Refused UnknownClient
 consented_to F subject scope (Some client) =
     consented_at client subject scope (client_view F client)
 
--- the client, the subject and the scope are required
+-- the judgement of a new consent by its parameters: client, subject and scope are required
 abbrev pub consented_by : FactSet → Option (List ℕ) → Option (List ℕ) → Option (List ℕ)
     → Administered
 consented_by F None subject scope = Refused MissingParameter
@@ -248,7 +248,7 @@ consented_by F (Some id) (Some subject) (Some scope) = consented_to F subject sc
 abbrev pub consent_names : List (List ℕ)
 consent_names = codes "client_id" ∷ codes "subject" ∷ codes "scope" ∷ []
 
--- POST /admin/consent: no parameter that the endpoint knows may occur twice
+-- the judgement of POST /admin/consent: no parameter that the endpoint knows may occur twice
 abbrev pub consented_of : FactSet → Pairs → Administered
 consented_of F params =
     if has_twice consent_names params then Refused DuplicateParameter
@@ -257,17 +257,17 @@ consented_of F params =
 
 -- ---- withdraw a consent
 
--- the consent at the dot is withdrawn, if one was given there
+-- the judgement that withdraws the consent at the dot, if one was given there
 abbrev pub withdrawn_at : Dot → Option ConsentFields → Administered
 withdrawn_at d None = Refused UnknownConsent
 withdrawn_at d (Some consent) = Withdraws d consent.live
 
--- the id is required to be that of a consent
+-- the judgement of a withdrawal by the consent's id, which must be one
 abbrev pub withdrawn_to : FactSet → Option Dot → Administered
 withdrawn_to F None = Refused UnknownConsent
 withdrawn_to F (Some d) = withdrawn_at d (consent_view F d)
 
--- the id is required
+-- the judgement of a withdrawal by the consent's id, which is required
 abbrev pub withdrawn_by : FactSet → Option (List ℕ) → Administered
 withdrawn_by F None = Refused MissingParameter
 withdrawn_by F (Some id) = withdrawn_to F (consent_in id)
@@ -276,7 +276,7 @@ withdrawn_by F (Some id) = withdrawn_to F (consent_in id)
 abbrev pub withdrawal_names : List (List ℕ)
 withdrawal_names = codes "consent_id" ∷ []
 
--- POST /admin/withdraw: the id must not occur twice
+-- the judgement of POST /admin/withdraw: the id must not occur twice
 abbrev pub withdrawn_of : FactSet → Pairs → Administered
 withdrawn_of F params =
     if has_twice withdrawal_names params then Refused DuplicateParameter
@@ -284,18 +284,18 @@ withdrawn_of F params =
 
 -- ---- sign a subject out everywhere
 
--- the subject is signed out, unless a sign-out at the moment or later is held
+-- the judgement that signs the subject out, unless a sign-out at the moment or later is held
 abbrev pub signed_out_at : FactSet → ℕ → List ℕ → Administered
 signed_out_at F now subject =
     if is_signed_out F subject now then AlreadyOut subject
     else SignsOut (record { subject = subject; moment = now })
 
--- the subject is required to be the name of one
+-- the judgement of a sign-out by its subject, which must be the name of one
 abbrev pub signed_out_as : FactSet → ℕ → List ℕ → Administered
 signed_out_as F now subject =
     if is_subject subject then signed_out_at F now subject else Refused BadSubject
 
--- the subject is required
+-- the judgement of a sign-out by the subject's parameter, which is required
 abbrev pub signed_out_by : FactSet → ℕ → Option (List ℕ) → Administered
 signed_out_by F now None = Refused MissingParameter
 signed_out_by F now (Some subject) = signed_out_as F now subject
@@ -304,7 +304,7 @@ signed_out_by F now (Some subject) = signed_out_as F now subject
 abbrev pub sign_out_names : List (List ℕ)
 sign_out_names = codes "subject" ∷ []
 
--- POST /admin/signout: the subject must not occur twice
+-- the judgement of POST /admin/signout: the subject must not occur twice
 abbrev pub signed_out_of : FactSet → ℕ → Pairs → Administered
 signed_out_of F now params =
     if has_twice sign_out_names params then Refused DuplicateParameter

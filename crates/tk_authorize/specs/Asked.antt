@@ -37,15 +37,15 @@ abbrev pub asked_with : List ℕ → Result (Option ChallengeFields) Denial → 
 asked_with scope (Err why) = Err why
 asked_with scope (Ok challenge) = Ok (record { scope = scope; challenge = challenge })
 
--- the scope is required to be one within the client's scope (RFC 6749, 3.3)
+-- what the parameters ask for, by the scope, which must be within the client's (RFC 6749, 3.3)
 abbrev pub asked_by_scope : Sort → Pairs → Option (List ℕ) → Result Asked Denial
 asked_by_scope sort params None = Err denial.WrongScope
 asked_by_scope sort params (Some scope) =
     asked_with scope (challenge_sent sort (value_of (codes "code_challenge_method") params)
     (value_of (codes "code_challenge") params))
 
--- the response type is required, and required to be `code` (RFC 6749, 3.1.1). Without a scope, the
--- request asks for the client's whole scope (RFC 6749, 3.3)
+-- what the parameters ask for, by the response type, which must be `code` (RFC 6749, 3.1.1). A
+-- request without a scope asks for the client's whole scope (RFC 6749, 3.3)
 abbrev pub asked_by_type : Sort → List ℕ → Pairs → Option (List ℕ) → Result Asked Denial
 asked_by_type sort whole params None = Err denial.MissingResponseType
 asked_by_type sort whole params (Some name) =

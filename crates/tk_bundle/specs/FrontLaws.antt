@@ -2,7 +2,7 @@
 --   walk_more, walk_fail, walk_done   one step of the walk over facts
 --   walk_ends      the walk leaves the end of the bytes
 --   walk_bundle    a bundle at the front is walked over
---   walk_torn      the beginning of a bundle is cut
+--   walk_torn      the beginning of a bundle, unless it is the whole bundle, is cut
 --   front_split    the bytes before the end that the walk leaves are the bundle's
 --   front_is       the bundle that is read there is the one at the front
 use Rattle.std.proofs.Common.{
@@ -88,7 +88,6 @@ use Rattle.tk_bundle.specs.VersionLaws.{version_known}
 use Rattle.tk_bundle.specs.Bundle.{magic, most_facts, bundle}
 use Rattle.tk_bundle.specs.Front.{◌>>=◌, or_cut, malformed_if, header, skipped, skipped_many, walk}
 
--- a fact that is walked over leaves a walk over one fact fewer
 pub walk_more : (count i : ℕ) (now next : List ℕ) (total : Result (List ℕ) FrontError) → i < count
     → skipped now ≡ Ok next → skipped_many (count - i) now ≡ total
     → skipped_many (count - (i + 1)) next ≡ total
@@ -98,7 +97,6 @@ walk_more count i now next total lt h so_far =
     let one : skipped_many (count - i) now ≡ skipped_many (count - (i + 1)) next = rw (k, h) refl in
     sym one ∙ so_far
 
--- an error at a fact is the error of the walk over all facts
 pub walk_fail : (count i : ℕ) (now : List ℕ) (e : FrontError) (total : Result (List ℕ) FrontError)
     → i < count → skipped now ≡ Err e → skipped_many (count - i) now ≡ total → total ≡ Err e
 unfolding skipped_many
@@ -107,7 +105,6 @@ walk_fail count i now e total lt h so_far =
     let one : skipped_many (count - i) now ≡ Err e = rw (k, h) refl in
     sym so_far ∙ one
 
--- after the last fact, the walk leaves the bytes that are left
 pub walk_done : (count i : ℕ) (now : List ℕ) (total : Result (List ℕ) FrontError) → count ≤ i
     → skipped_many (count - i) now ≡ total → total ≡ Ok now
 unfolding skipped_many
@@ -118,26 +115,21 @@ walk_done count i now total le so_far =
 
 -- ---- what the walk leaves is the end of the bytes
 
--- a walk without an error has a first part without an error
 bind_ok : {A B : Type 0} (r : Result A FrontError) (f : A → Result B FrontError) (y : B)
     → (r >>= f) ≡ Ok y → (x : A) × (r ≡ Ok x) × (f x ≡ Ok y)
 bind_ok (Ok x) f y e = (x, refl, e)
 bind_ok (Err d) f y e = absurd cc
 
--- a walk that leaves x
 abbrev walked : {A : Type 0} → A → Result A FrontError
 walked x = Ok x
 
--- two walks that leave the same bytes
 ok_is : {A : Type 0} (x y : A) → walked x ≡ walked y → x ≡ y
 ok_is x y e = cc
 
--- a value that is not cut
 cut_ok : {A : Type 0} (o : Option A) (x : A) → or_cut o ≡ Ok x → o ≡ Some x
 cut_ok None x e = absurd cc
 cut_ok (Some y) x e = ap (λ z. Some z) (ok_is y x e)
 
--- a walk that is not malformed
 test_ok : {A : Type 0} (b : Bool) (e : FrontError) (r : Result A FrontError) (y : A)
     → cond b (Err e) r ≡ Ok y → (b ≡ false) × (r ≡ Ok y)
 test_ok true e r y h = absurd cc
@@ -147,11 +139,9 @@ test_ok false e r y h = (refl, h)
 abbrev Ends : List ℕ → List ℕ → Type 0
 Ends bytes rest = (front : List ℕ) × Takes bytes front rest
 
--- an end of an end is an end
 Ends-then : (a x b : List ℕ) (c : List ℕ) → Takes a x b → Ends b c → Ends a c
 Ends-then a x b c p q = (x ++ q.0, Takes-then a x b q.0 c p q.1)
 
--- the bytes behind a fact are an end of the bytes
 skipped_ends : (bytes rest : List ℕ) → IsBytes bytes → skipped bytes ≡ Ok rest → Ends bytes rest
 skipped_ends bytes rest fits e =
     let a = bind_ok (or_cut ((number w16).read bytes)) (λ n.
@@ -168,7 +158,6 @@ skipped_ends bytes rest fits e =
           (ok_is b.0.1 rest b.2) both,
     )
 
--- the bytes behind n facts are an end of the bytes
 many_end : (n : ℕ) (bytes rest : List ℕ) → IsBytes bytes → skipped_many n bytes ≡ Ok rest
     → Ends bytes rest
 unfolding skipped_many
@@ -182,11 +171,9 @@ many_end (suc n) bytes rest fits e =
     let first = skipped_ends bytes a.0 fits a.1 in
     Ends-then bytes first.0 a.0 rest first.1 (many_end n a.0 rest first.1.rest_fits a.2)
 
--- the header has one spelling
 header_exact : IsExact header
 header_exact = both_exact _ _ (bytes_exact (length magic)) (both_exact _ _ byte_exact u16_exact)
 
--- the bytes that the walk leaves are an end of the bytes
 pub walk_ends : (bytes rest : List ℕ) → IsBytes bytes → walk bytes ≡ Ok rest → Ends bytes rest
 walk_ends bytes rest fits e =
     let h = bind_ok (or_cut (header.read bytes)) (λ h.
@@ -219,7 +206,6 @@ skipped_framed f rest fits =
       (bytes_exact (length s)).again s rest refl,
     ) refl
 
--- n facts at the front are walked over
 many_framed : (fs : Facts) (rest : List ℕ) → AllByRecursion framed.Fits fs
     → skipped_many (length fs) (flat_map framed.spell fs ++ rest) ≡ Ok rest
 unfolding skipped_many
@@ -233,7 +219,6 @@ many_framed (f ∷ fs) rest fits =
     ∙ rw (skipped_framed f (flat_map framed.spell fs ++ rest) fits.0)
     (many_framed fs rest fits.1)
 
--- a bundle at the front is walked over
 pub walk_bundle : (fs : Facts) (rest : List ℕ) → bundle.Fits fs
     → walk (bundle.spell fs ++ rest) ≡ Ok rest
 walk_bundle fs rest fits =
@@ -250,17 +235,15 @@ walk_bundle fs rest fits =
       small,
     ) (many_framed fs rest fits.0.1)
 
--- ---- a walk over more bytes goes as far, and is cut where a bundle is torn
+-- ---- a walk over more bytes, and the walk over the beginning of a bundle
 
--- `longer` is the result of a walk over the bytes and `more` behind them, where r is the result
--- over the bytes alone
+-- a walk that results in r over some bytes results in `longer` if `more` follows them
 abbrev GoesOn : List ℕ → Result (List ℕ) FrontError → Result (List ℕ) FrontError → Type 0
 GoesOn more (Ok rest) longer = longer ≡ Ok (rest ++ more)
 GoesOn more (Err Malformed) longer = longer ≡ Err Malformed
 GoesOn more (Err Cut) longer = Unit {0}
 GoesOn more (Err Memory) longer = ⊥
 
--- a value read at the front is read there too if more bytes follow, and so goes the walk after it
 read_on : {A : Type 0} (more : List ℕ) (o longer : Option (A × List ℕ)) (f : A × List ℕ
     → Result (List ℕ) FrontError) → ((x : A × List ℕ) → o ≡ Some x
     → longer ≡ Some (x.0, x.1 ++ more))
@@ -269,7 +252,6 @@ read_on : {A : Type 0} (more : List ℕ) (o longer : Option (A × List ℕ)) (f 
 read_on more None longer f reads next = tt
 read_on more (Some x) longer f reads next = rw (reads x refl) (next x)
 
--- two walks, one after the other, go on if each does
 walk_on : (more : List ℕ) (r longer : Result (List ℕ) FrontError) (f : List ℕ
     → Result (List ℕ) FrontError) → GoesOn more r longer
     → ((rest : List ℕ) → GoesOn more (f rest) (f (rest ++ more)))
@@ -279,13 +261,11 @@ walk_on more (Err Malformed) longer f so_far next = rw so_far refl
 walk_on more (Err Cut) longer f so_far next = tt
 walk_on more (Err Memory) longer f so_far next = absurd so_far
 
--- a test for malformed bytes goes on if the walk after it does
 unless : (more : List ℕ) (b : Bool) (r longer : Result (List ℕ) FrontError) → GoesOn more r longer
     → GoesOn more (cond b (Err Malformed) r) (cond b (Err Malformed) longer)
 unless more true r longer h = refl
 unless more false r longer h = h
 
--- n bytes at the front are read there too if more bytes follow
 bytes_on : (n : ℕ) (bytes more : List ℕ) (x : List ℕ × List ℕ) → (bytes_of n).read bytes ≡ Some x
     → (bytes_of n).read (bytes ++ more) ≡ Some (x.0, x.1 ++ more)
 unfolding bytes_at
@@ -297,7 +277,6 @@ bytes_on n bytes more x e =
     rw (long, take-append-le n bytes more within, drop-append-le n bytes more within)
     (ap (λ (y : List ℕ × List ℕ). Some (y.0, y.1 ++ more)) g.1)
 
--- a number at the front is read there too if more bytes follow
 number_on : (bytes more : List ℕ) (x : ℕ × List ℕ) → (number w16).read bytes ≡ Some x
     → (number w16).read (bytes ++ more) ≡ Some (x.0, x.1 ++ more)
 unfolding number_at
@@ -310,14 +289,12 @@ number_on bytes more x e =
     rw (long, take-append-le 2 bytes more within, drop-append-le 2 bytes more within)
     (ap (λ (y : ℕ × List ℕ). Some (y.0, y.1 ++ more)) g.1)
 
--- the walk over a fact goes on
 skipped_on : (bytes more : List ℕ) → GoesOn more (skipped bytes) (skipped (bytes ++ more))
 skipped_on bytes more =
     read_on more _ _ _ (number_on bytes more) (λ n.
     unless more (ltb most_bytes n.0) _ _ (read_on more _ _ (λ b. Ok b.1) (bytes_on n.0 n.1 more)
     (λ b. refl)))
 
--- the walk over n facts goes on
 many_on : (n : ℕ) (bytes more : List ℕ)
     → GoesOn more (skipped_many n bytes) (skipped_many n (bytes ++ more))
 unfolding skipped_many
@@ -326,7 +303,6 @@ many_on (suc n) bytes more =
     walk_on more (skipped bytes) (skipped (bytes ++ more)) (λ rest. skipped_many n rest)
     (skipped_on bytes more) (λ rest. many_on n rest more)
 
--- a byte at the front is read there too if more bytes follow
 byte_on : (bytes more : List ℕ) (x : ℕ × List ℕ) → byte.read bytes ≡ Some x
     → byte.read (bytes ++ more) ≡ Some (x.0, x.1 ++ more)
 byte_on [] more x e = absurd cc
@@ -341,7 +317,6 @@ counting_on bytes more x e =
     rw (byte_on bytes more v.0 v.1, number_on v.0.1 more n.0 n.1) (ap (λ (y : (ℕ × ℕ) × List ℕ).
     Some (y.0, y.1 ++ more)) (some_is _ x n.2))
 
--- the header at the front is read there too if more bytes follow
 header_on : (bytes more : List ℕ) (x : (List ℕ × (ℕ × ℕ)) × List ℕ) → header.read bytes ≡ Some x
     → header.read (bytes ++ more) ≡ Some (x.0, x.1 ++ more)
 header_on bytes more x e =
@@ -350,14 +325,13 @@ header_on bytes more x e =
     rw (bytes_on 3 bytes more m.0 m.1, counting_on m.0.1 more n.0 n.1)
     (ap (λ (y : (List ℕ × (ℕ × ℕ)) × List ℕ). Some (y.0, y.1 ++ more)) (some_is _ x n.2))
 
--- the walk over a bundle goes on
 walk_goes_on : (bytes more : List ℕ) → GoesOn more (walk bytes) (walk (bytes ++ more))
 walk_goes_on bytes more =
     read_on more _ _ _ (header_on bytes more) (λ h.
     unless more (not (bytes_eq h.0.0 magic)) _ _ (unless more (not (is_version h.0.1.0)) _ _
     (unless more (ltb most_facts h.0.1.1) _ _ (many_on h.0.1.1 h.1 more))))
 
--- a walk that goes on to the end is cut where the last of the bytes are taken away
+-- if a walk ends well, the walk over the beginning of the bytes is cut
 cut_before : (more : List ℕ) (r longer : Result (List ℕ) FrontError) → GoesOn more r longer
     → longer ≡ Ok [] → more ≢ [] → r ≡ Err Cut
 cut_before more (Ok rest) longer h whole some =
@@ -370,14 +344,12 @@ cut_before more (Err Malformed) longer h whole some = absurd cc
 cut_before more (Err Cut) longer h whole some = refl
 cut_before more (Err Memory) longer h whole some = absurd h
 
--- the beginning of a bundle, unless it is the whole bundle, is cut
 pub walk_torn : (bytes : List ℕ) (fs : Facts) (rest : List ℕ) → bundle.Fits fs
     → bytes ++ rest ≡ bundle.spell fs → rest ≢ [] → walk bytes ≡ Err Cut
 walk_torn bytes fs rest fits e some =
     cut_before rest (walk bytes) (walk (bytes ++ rest)) (walk_goes_on bytes rest)
     (ap walk (e ∙ sym (append-nil (bundle.spell fs))) ∙ walk_bundle fs [] fits) some
 
--- the beginning of a bundle is not walked over to its end
 pub torn_walked : (bytes left : List ℕ) (fs : Facts) (rest : List ℕ) → walk bytes ≡ Ok left
     → bundle.Fits fs → bytes ++ rest ≡ bundle.spell fs → rest ≢ [] → ⊥
 torn_walked bytes left fs rest ok fits e some = let t = walk_torn bytes fs rest fits e some in cc
@@ -396,12 +368,10 @@ Ends-take bytes rest p =
     ∙ take_at front rest (length bytes - length rest) (sym n) in
     (ap (λ (t : List ℕ). t ++ rest) taken ∙ sym p.1.parts, omega arith)
 
--- a bundle at the front is not refused by the walk
 pub front_refused : (bytes : List ℕ) (d : FrontError) (fs : Facts) (rest : List ℕ)
     → walk bytes ≡ Err d → bundle.Fits fs → bytes ≡ bundle.spell fs ++ rest → ⊥
 front_refused bytes d fs rest refused fits e = let t = ap walk e ∙ walk_bundle fs rest fits in cc
 
--- the bytes before the end that the walk leaves are those of the bundle at the front
 pub front_split : (bytes left : List ℕ) (fs : Facts) (rest : List ℕ) → walk bytes ≡ Ok left
     → bundle.Fits fs → bytes ≡ bundle.spell fs ++ rest
     → (take (length bytes - length left) bytes ≡ bundle.spell fs)
@@ -417,7 +387,6 @@ front_split bytes left fs rest ok fits e =
       n,
     )
 
--- a bundle that spells the bytes before the end that the walk leaves is the bundle at the front
 pub front_is : (bytes left : List ℕ) (b fs : Facts) (rest : List ℕ) → walk bytes ≡ Ok left
     → bundle.Fits b → take (length bytes - length left) bytes ≡ bundle.spell b → bundle.Fits fs
     → bytes ≡ bundle.spell fs ++ rest

@@ -1,10 +1,9 @@
 -- Each kind of change, as the functions that make it need it: over the set that has the fact
 -- already, and that set without the fact. Key results:
---   put_ties, mark_ties, revoke_ties, out_ties
---                                         the forest after a link, reuse, revocation, sign-out
---   code_row, code_dropped, out_row       the tables after a code and a sign-out
---   index_add .. index_out                all tables, for each kind of change
---   stored, stored_change, stored_back    a fact at a free dot
+--   put_ties, mark_ties, revoke_ties, out_ties   the forest after each kind of change
+--   code_row, code_dropped, out_row              the tables after a code and a sign-out
+--   index_add .. index_out                       all tables, for each kind of change
+--   stored, stored_change, stored_back           a fact at a free dot
 use Rattle.std.proofs.Common.{◌≡◌, ℕ, ◌≤◌, Bool, true, false, ◌&&◌, ◌||◌, ◌==◌, cond, List, Option, Some, None, Result, Ok, Err, OnOk, refl, sym, ap, subst, ◌∙◌}
 use Rattle.std.specs.Option.{option_and_then, option_map}
 use Rattle.std.specs.Ordering.{eq_by_cmp}

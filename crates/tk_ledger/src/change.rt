@@ -42,7 +42,8 @@ ghost use Rattle.tk_ledger.specs.Changes.{change_in};
 use sha2::{Digest, Sha256};
 use tk_fact::{Body, Subject};
 
-// Returns the digest that the keys of a subject's consents, codes and sign-outs begin with.
+// Returns the SHA-256 digest of a subject, which is in the keys of its consents, codes and
+// sign-outs.
 pub(crate) fn subject_digest(subject: &Subject) -> [u8; 32]
     ensures { result ≡ sha256 subject.now }
 {
