@@ -60,12 +60,12 @@ pub record TakesBundle (old : RegionFields) (bytes : List ℕ) (taken : Result �
   pub takes : TakesIn (facts_of old.facts) (next_in (place_in old)) (whole bundle bytes) taken
       (facts_of new.facts)
 
--- The name of the error for bytes that can't be read. Out of memory has none, since no reply is made then.
+-- the name of the error for bytes that can't be read; out of memory has no name and gets no reply
 abbrev pub unread_code : ReadError → Option ErrorCode
 unread_code read.Malformed = Some code.Malformed
 unread_code read.Memory = None
 
--- The name of the error for a bundle that isn't taken in. Out of memory has none.
+-- the name of the error for a bundle that isn't taken in; out of memory has no name
 abbrev pub refusal_code : TakeError → Option ErrorCode
 refusal_code Malformed = Some code.Malformed
 refusal_code OwnNumber = Some code.OwnNumber
