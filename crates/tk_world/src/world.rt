@@ -30,17 +30,15 @@ impl Model for World {
 
     ghost coded = { coded_state };
 
-    ghost view = { λ w.
-        record {
-          settings = w.settings;
-          regions = map.from_sorted (entries_of w.regions.items);
-          bundles = w.bundles.items;
-        } };
+    ghost view = { λ w. record {
+      settings = w.settings;
+      regions = map.from_sorted (entries_of w.regions.items);
+      bundles = w.bundles.items;
+    } };
 
     ghost invariant = { λ w. T (map.is_sorted nat_cmp (entries_of w.regions.items))
         × HaveSettings w.settings w.regions.items
-        × IsConsistent
-        (record {
+        × IsConsistent (record {
           settings = w.settings;
           regions = map.from_sorted (entries_of w.regions.items);
           bundles = w.bundles.items;
