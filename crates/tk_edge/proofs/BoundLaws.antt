@@ -1,8 +1,10 @@
 -- How much of a source a request takes. Key results:
---   takes_nothing, takes_then    nothing, and more behind something
---   takes_piece, takes_kept      one piece more, and a read that failed
---   takes_within                 no more than a greater number
---   size_within                  a body that may be asked for is within the limit of all bodies
+--   takes_nothing   no byte is within any number
+--   takes_then      bytes taken after others add up
+--   takes_piece     one more piece
+--   takes_kept      a failed read takes nothing
+--   takes_within    bytes within a number are within a greater number
+--   size_within     a body that may be requested is within the limit of all bodies
 use Rattle.std.proofs.Common.{◌≡◌, ℕ, ◌+◌, ◌≤◌, Bool, true, false, List, [], ◌++◌, length, Option, refl, sym, ap, subst, ◌∙◌, arith}
 use Rattle.std.specs.Io.KnownBytes.{Consumes, Keeps}
 use Rattle.std.proofs.KnownBytes.{Consumes-kept, Consumes-nil, Consumes-trans}
@@ -22,13 +24,13 @@ takes_then m n old mid new h k = (
   Consumes-trans old mid new h.0 k.0 h.2 k.2,
 )
 
--- what was taken so far, and one piece more
+-- the bytes taken so far, and one more piece
 pub takes_piece : (at more : ℕ) (old mid new : Option (List ℕ)) (piece : List ℕ) → TakesAtMost at old mid → at + length piece ≡ more
     → Consumes mid new piece → TakesAtMost more old new
 takes_piece at more old mid new piece h long taken =
     (h.0 ++ piece, omega (arith, length-append h.0 piece, h.1, long), Consumes-trans old mid new h.0 piece h.2 taken)
 
--- a read that failed takes nothing
+-- a failed read takes nothing
 pub takes_kept : (most : ℕ) (old mid new : Option (List ℕ)) → TakesAtMost most old mid → Keeps mid new → TakesAtMost most old new
 takes_kept most old mid new h kept = (h.0, h.1, Consumes-kept old mid new h.0 h.2 kept)
 

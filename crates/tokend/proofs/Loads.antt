@@ -1,8 +1,11 @@
--- A log, taken in bundle by bundle. Key results:
---   front_none    nothing yet
---   front_more    and one bundle more
---   unread_front, take_one   what one bundle comes to
---   parts_taken, front_kept, load_fault   what the log comes to
+-- Loading a log, bundle by bundle. Key results:
+--   front_none     no bundle is taken in yet
+--   front_more     one more bundle is taken in
+--   unread_front   the outcome for a front that can't be read
+--   take_one       the outcome of taking one bundle in
+--   parts_taken    the bytes of a bundle, and the rest of the log
+--   front_kept     the region is unchanged since
+--   load_fault     the fault that ends loading
 use Rattle.std.proofs.Common.{◌≡◌, ◌<◌, ◌≤◌, ℕ, true, List, [], ◌∷◌, ◌++◌, length, take, drop, Option, Some, None, Result, Ok, Err, inl, inr, refl, sym, ap, subst, arith, ◌∙◌}
 use Rattle.std.specs.Prelude.{◌⊎◌, zero, suc, IfSome}
 use Rattle.std.specs.List.{flat_map}
@@ -61,11 +64,11 @@ front_more old mid new log rest more fs front fits parts takes = record {
   each = each_more old mid new front.bundles fs front.each takes;
 }
 
--- where nothing has changed since
+-- the bundles taken in, if the region is unchanged since
 pub front_kept : (old mid new : RegionFields) (log rest : List ℕ) → TakesFront old log rest mid → new ≡ mid → TakesFront old log rest new
 front_kept old mid new log rest front same = subst (λ (r : RegionFields). TakesFront old log rest r) (sym same) front
 
--- nothing that is read stands at the front
+-- a front that is malformed is refused
 malformed_front : (region : RegionFields) (rest : List ℕ) (result : Result (Facts × ℕ) FrontError) → result ≡ Err front.Malformed
     → ((e : FrontError) → walk rest ≡ Err e → result ≡ Err e)
     → ((fs : Facts) (more : List ℕ) → bundle.Fits fs → rest ≡ bundle_bytes fs ++ more → IsFrontOf result fs) → IsRefused region rest
@@ -79,7 +82,7 @@ malformed_front region rest result is walked only =
     other : front.Malformed ≡ front.Cut → ⊥
     other e = absurd (cc)
 
--- a bundle stands there that is refused
+-- a bundle at the front that is refused
 refused_bundle : (region : RegionFields) (rest : List ℕ) (x : Facts × ℕ) → ((e : FrontError) → walk rest ≡ Err e → Ok x ≡ Err e)
     → ((fs : Facts) (more : List ℕ) → bundle.Fits fs → rest ≡ bundle_bytes fs ++ more → IsFrontOf (Ok x) fs)
     → ((has_unmade (next_in (place_in region)) x.0 ≡ true) ⊎ ¬ (AgreesWith (facts_of region.facts) x.0)) → IsRefused region rest
@@ -91,7 +94,7 @@ refused_bundle region rest x walked only why = (
     other : Ok x ≡ Err front.Cut → ⊥
     other e = absurd (cc)
 
--- a bundle has bytes
+-- the bytes of a bundle aren't empty
 some_bytes : (rest : List ℕ) (n : ℕ) (fs : Facts) → take n rest ≡ bundle_bytes fs → 0 < n
 some_bytes rest zero fs e = absurd (no_bytes e)
   where
@@ -99,18 +102,18 @@ some_bytes rest zero fs e = absurd (no_bytes e)
     no_bytes e = absurd (cc)
 some_bytes rest (suc n) fs e = omega (arith)
 
--- what taking the bundle in comes to, for the log
+-- the outcome of taking in a bundle of a log
 abbrev pub loaded : ℕ → Result ℕ TakeError → Result (Option ℕ) LoadFault
 loaded n (Ok m) = Ok (Some n)
 loaded n (Err error) = Err (take_fault error)
 
--- the bytes that a bundle is taken from, and the rest
+-- the bytes of the first bundle, and the rest
 pub parts_taken : (rest : List ℕ) (n : ℕ) (more : List ℕ) (fs : Facts) → take n rest ≡ bundle_bytes fs → more ≡ drop n rest
     → rest ≡ bundle_bytes fs ++ more
 parts_taken rest n more fs spells is =
     sym (take-append-drop n rest) ∙ ap (λ l. l ++ drop n rest) spells ∙ ap (λ l. bundle_bytes fs ++ l) (sym is)
 
--- a region whose number, settings and facts are as they were is as it was
+-- a region with equal number, settings and facts is equal
 same_region : (old new : RegionFields) → new.number ≡ old.number → new.settings ≡ old.settings → new.facts ≡ old.facts → new ≡ old
 same_region old new number settings facts = λ i. record { number = number i; settings = settings i; facts = facts i }
 
@@ -141,11 +144,11 @@ take_one old new rest x bytes result number settings walked only within fits spe
     of (Err refusal.OwnNumber) t = (refused_bundle old rest x walked only (inl t.0), same t.1)
     of (Err refusal.Conflict) t = (refused_bundle old rest x walked only (inr t.1), same t.2)
 
--- reading a front that ends with an error
+-- reading a front ends with this error
 abbrev pub fails : FrontError → Result (Facts × ℕ) FrontError
 fails e = Err e
 
--- what isn't read
+-- the outcome for a front that can't be read
 pub unread_front : (region : RegionFields) (rest : List ℕ) (e : FrontError) → ((f : FrontError) → walk rest ≡ Err f → fails e ≡ fails f)
     → ((fs : Facts) (more : List ℕ) → bundle.Fits fs → rest ≡ bundle_bytes fs ++ more → IsFrontOf (fails e) fs)
     → (fails e ≡ fails front.Cut → IsCut rest) → TakesOne region rest (front_end e) region
@@ -153,7 +156,7 @@ unread_front region rest front.Cut walked only cut = (cut refl, refl)
 unread_front region rest front.Malformed walked only cut = (malformed_front region rest (Err front.Malformed) refl walked only, refl)
 unread_front region rest front.Memory walked only cut = inl refl
 
--- what ends the loading of the rest ends that of the log
+-- a fault that ends the loading of the rest ends that of the log
 pub load_fault : (old mid new : RegionFields) (log rest : List ℕ) (fault : LoadFault) → TakesFront old log rest mid
     → TakesOne mid rest (Err fault) new → Loads old log (Err fault) new
 load_fault old mid new log rest Bad front h =
@@ -161,7 +164,7 @@ load_fault old mid new log rest Bad front h =
 load_fault old mid new log rest Memory front h = (rest, mid, front, h)
 load_fault old mid new log rest Read front h = absurd h
 
--- a log that can't be read, or for which there is no memory, brings nothing
+-- a log that can't be read, or for which there is no memory, brings no facts
 pub unread_log : (region : RegionFields) (known : Option (List ℕ)) (fault : LoadFault) → ((fault ≡ Read) ⊎ (fault ≡ Memory))
     → (log : List ℕ) × IfSome known (λ bytes. log ≡ bytes) × Loads region log (Err fault) region
 unread_log region known fault why = (log_in known, same known, brings fault why)

@@ -1,4 +1,8 @@
--- What a run of the program by sockets comes to, by what its pieces do.
+-- Runs of the program by sockets, from what the parts of a run do. Key results:
+--   loopback_printed    the lines of a script were written
+--   loopback_begun      a beginning of the lines was written
+--   loopback_is_input   the script is the input's bytes
+--   loopback_done       the program has done what the script's run did
 use Rattle.std.proofs.Common.{◌≡◌, ℕ, List, Option, Some, None, Result, Ok, Err, subst, sym, inl, inr}
 use Rattle.std.specs.Prelude.{IfSome, IfErr, OnOk}
 use Rattle.std.specs.Io.KnownBytes.{Appends}
@@ -20,7 +24,7 @@ pub loopback_printed : {T : Type 0} (settings : SettingsFields) (script lines : 
 loopback_printed settings script lines old new (Ok x) run appended = (lines, run, appended)
 loopback_printed settings script lines old new (Err fault) run appended = tt
 
--- and a beginning of them, where the output failed
+-- a beginning of the lines of a script was written, if the output failed
 pub loopback_begun : {T : Type 0} (settings : SettingsFields) (script lines : List ℕ) (old new : Option (List ℕ)) (r : Result T Fault)
     → IsLoopbackRun settings script lines → IfErr r (λ fault. (fault ≡ Output) × AppendsFront old new lines)
     → IfErr r (λ fault. LeavesLoopback settings (Some script) fault old new)
@@ -28,7 +32,7 @@ loopback_begun settings script lines old new (Ok x) run begun = tt
 loopback_begun settings script lines old new (Err fault) run begun =
     subst (λ f. LeavesLoopback settings (Some script) f old new) (sym begun.0) (lines, run, begun.1)
 
--- where the input's bytes are known, they are the script
+-- the script is the input's bytes, if these are known
 pub loopback_is_input : {T : Type 0} (settings : SettingsFields) (input : Option (List ℕ)) (script : List ℕ) (old new : Option (List ℕ)) (r : Result T Fault)
     → IfSome input (λ bytes. script ≡ bytes) → OnOk r (PrintsLoopback settings (Some script) old new) → OnOk r (PrintsLoopback settings input old new)
 loopback_is_input settings None script old new (Ok x) whole h = (h.0, tt, h.2)
@@ -76,7 +80,7 @@ pub loopback_left_by_input : {T : Type 0} (settings : SettingsFields) (input : O
 loopback_left_by_input settings input script (Ok x) old new whole h = tt
 loopback_left_by_input settings input script (Err fault) old new whole h = looped_leaves settings input script fault old new whole h
 
--- what is wrong with sockets is wrong with the script
+-- a fault of sockets is a fault of the script's run
 pub socket_fault : (input : Option (List ℕ)) (fault : Fault) → IsSocketFault fault → IsLoopbackFault input fault
 socket_fault input (Words error) h = absurd h
 socket_fault input CannotRead h = absurd h
@@ -90,7 +94,7 @@ socket_fault input (BadLine number) h = absurd h
 socket_fault input Memory h = tt
 socket_fault input Output h = absurd h
 
--- the script's fault is the program's, where the words ask for a script by sockets
+-- a fault of the script's run is the program's, if the arguments request a script by sockets
 loopback_fault : (words : List Text) (input : Option (List ℕ)) → AsksToLoop words → (fault : Fault) → IsLoopbackFault input fault
     → IsFaultFor words input fault
 loopback_fault words input asks (Words error) h = absurd h
@@ -110,7 +114,7 @@ pub faults_of_loopback : {T : Type 0} (words : List Text) (input : Option (List 
 faults_of_loopback words input (Ok x) asks h = tt
 faults_of_loopback words input (Err fault) asks h = loopback_fault words input asks fault h
 
--- and what it printed, and left, is the program's
+-- the lines that the script's run printed, and what its fault left, are the program's
 pub loopback_done : {T : Type 0} (words : List Text) (input old new : Option (List ℕ)) (n : Numbers) (settings : SettingsFields) (r : Result T Fault)
     → Asks words (Loopback n) → settings ≡ settings_of n → OnOk r (PrintsLoopback settings input old new) → OnOk r (IsDone words input old new)
 loopback_done words input old new n settings (Ok x) asks e h = inl (inr (settings, subst (λ s. Asks words (loopback_task s)) (sym e) asks, h))

@@ -1,7 +1,8 @@
--- What a service comes to, by what its pieces do. Key results:
---   listen_faults         a fault of the port or the output is one that keeps a service from its first connection
---   with_some_log         connections with a log are connections with some log
---   has_run, service_run  a service that has run, from its start and from its arguments
+-- What a service has done, from what its parts do. Key results:
+--   listen_faults   a fault of the port or the output keeps a service from its first connection
+--   with_some_log   connections with a log are connections with some log
+--   has_run         a service has run, from its start on
+--   service_run     a service has run, from its arguments on
 use Rattle.std.proofs.Common.{ℕ, Option, List, Result, Ok, Err}
 use Rattle.std.specs.Prelude.{IfErr, OnOk}
 use Rattle.rand_chacha.specs.ChaCha.{ChaCha}

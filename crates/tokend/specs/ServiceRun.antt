@@ -1,6 +1,6 @@
--- What a service that ends well has done (own).
---   HasRun         from its start on
---   IsServiceRun   all of it
+-- What a service that ended well has done (own).
+--   HasRun         the service has run, from its start on
+--   IsServiceRun   the service has run, from reading its seed on
 use Rattle.std.specs.Prelude.{◌≡◌, ℕ, List, Option, Result, Ok}
 use Rattle.rand_chacha.specs.ChaCha.{ChaCha}
 use Rattle.tk_edge.specs.EdgeFields.{EdgeFields}
@@ -15,16 +15,20 @@ use Rattle.tokend.specs.declared.options.Service.{Service}
 abbrev pub with_region : EdgeFields → RegionFields → EdgeFields
 with_region edge region = record { region = region; sync = edge.sync; sealed = edge.sealed }
 
--- The old log is loaded, the announcement is written, and as many connections as the service asks for are served, each with the
--- next words of the generator.
-pub record HasRun (service : Service) (start : EdgeFields) (words : ChaCha) (output faults : Change) : Type 0 where
+-- The old log was loaded, the announcement written, and as many connections as requested were
+-- served. Each connection has the next random words of the generator.
+pub record HasRun (service : Service) (start : EdgeFields) (words : ChaCha)
+    (output faults : Change) : Type 0 where
   pub dropped : ℕ
   pub region : RegionFields
   pub loaded : LoadsOld service.load start.region (Ok dropped) region
   pub announced : Announces dropped service.port output.before output.after
   pub end : EdgeFields
-  pub served : ServesWithLog words service.requests (with_region start region) faults.before end faults.after
+  pub served : ServesWithLog words service.requests (with_region start region) faults.before end
+      faults.after
 
+-- the service has run from some start that its seed gives
 abbrev pub IsServiceRun : Service → Change → Change → Type 0
 IsServiceRun service output faults =
-    (edge : EdgeFields) × (words : ChaCha) × IsStart service edge words × HasRun service edge words output faults
+    (edge : EdgeFields) × (words : ChaCha) × IsStart service edge words
+    × HasRun service edge words output faults

@@ -1,4 +1,4 @@
-//! The file that a region's records are written to.
+//! The file to which a region's records are written: `open_log` opens it.
 
 ghost use Rattle.std.specs.Prelude.{IfErr};
 ghost use Rattle.tokend.specs.Serving.{IsLogFault};
@@ -25,7 +25,7 @@ impl<F: Write + OpenFile> Write for Synced<F> {
     }
 }
 
-/// The log of this name, which must be empty, or is made.
+/// Opens the log of this name, and makes it if it doesn't exist. A log that isn't empty is refused.
 pub(crate) fn open_log<R: Files + AllocGlobal>(
     rt: &R,
     path: &str,

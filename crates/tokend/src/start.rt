@@ -1,4 +1,4 @@
-//! The start of a service: its seed, and its old log.
+//! The start of a service: `begin` reads its seed, and `load_old` loads its old log.
 
 ghost use Rattle.std.specs.Prelude.{IfOk, IfErr, string_bytes};
 ghost use Rattle.tk_handle.specs.Ranges.{IsRegion};
@@ -20,14 +20,14 @@ use tk_edge::Edge;
 use tk_handle::RegionNumber;
 use tk_region::Region;
 
-/// A region at the start of its service, and its random words.
+/// A region at the start of its service, with its random words.
 #[derive(Drop)]
 pub(crate) struct Start {
     pub edge: Edge,
     pub words: ChaCha20Rng,
 }
 
-/// The region without a fact, and its random words by the seed.
+/// Returns the region without facts, with its random words made of the seed.
 pub(crate) fn begin<R: AllocGlobal + Files>(rt: &R, service: &Service) -> Result<Start, Fault>
     requires settings { IsSettings (settings_of service.now.numbers) }
     requires region { IsRegion service.now.region }
@@ -45,7 +45,7 @@ pub(crate) fn begin<R: AllocGlobal + Files>(rt: &R, service: &Service) -> Result
     }
 }
 
-/// Takes the old log of this name in, where there is one, and answers how many bytes at its end were dropped.
+/// Loads the old log of this name, if any, and returns how many bytes at its end were dropped.
 pub(crate) fn load_old<R: AllocGlobal + Files>(
     rt: &R,
     region: &mut Region,
@@ -59,7 +59,7 @@ pub(crate) fn load_old<R: AllocGlobal + Files>(
     }
 }
 
-// Takes an old log in, and returns how many bytes at its end were dropped.
+// Loads the log of this name, and returns how many bytes at its end were dropped.
 fn load_file<R: AllocGlobal + Files>(rt: &R, region: &mut Region, path: &str) -> Result<u64, Fault>
     ensures { LoadsFile path.now region.old result region.new }
 {
@@ -70,7 +70,7 @@ fn load_file<R: AllocGlobal + Files>(rt: &R, region: &mut Region, path: &str) ->
     told(rt.alloc(), path, loaded)
 }
 
-// What loading the log of this name came to, as the program tells it.
+// Returns the program's result of loading the log of this name.
 fn told(alloc: Global, path: &str, loaded: Result<u64, LoadFault>) -> Result<u64, Fault>
     ensures { IsToldAs path.now loaded result }
 {
@@ -82,7 +82,7 @@ fn told(alloc: Global, path: &str, loaded: Result<u64, LoadFault>) -> Result<u64
     }
 }
 
-// The 32 bytes of a seed file.
+// Reads the 32 bytes of a seed file.
 fn read_seed<R: AllocGlobal + Files>(rt: &R, path: &str) -> Result<[u8; 32], Fault>
     ensures { IfErr result (IsSeedFault path.now) }
 {

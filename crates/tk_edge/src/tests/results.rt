@@ -1,5 +1,7 @@
-//! Results of single calls of the crates below that the program doesn't print: the cause for which
-//! a text is no scope, and the id and the secret of a header. `ledger/checked` has those of facts.
+//! Results of single calls of the crates below that the program doesn't print.
+//!
+//! The cause for which a text is no scope, and the id and the secret of a header. `ledger/checked`
+//! has the results of facts.
 
 use std::alloc::Global;
 use tk_params::{Credentials, Params};
@@ -25,7 +27,7 @@ const TEXTS: &[Text] = &[
     ("32 tokens", b"a ", 31, b"b", None),
     ("1,025 letters", b"a", 1_025, b"", Some(ScopeError::TooLong)),
     ("1,024 letters", b"a", 1_024, b"", None),
-    // The length is looked at first, and the number of tokens last.
+    // The length is checked first, and the number of tokens last.
     ("1,025 spaces", b" ", 1_025, b"", Some(ScopeError::TooLong)),
     ("513 tokens", b"a ", 512, b"b", Some(ScopeError::TooLong)),
     ("33 tokens and a backslash", b"a ", 32, b"\\", Some(ScopeError::Grammar)),
@@ -69,7 +71,7 @@ fn a_text_is_no_scope_for_the_first_cause(rt: HostRuntime) {
     }
 }
 
-// Whether the scope and its copy have this text.
+// Returns whether the scope and its copy have this text.
 fn copies_have(alloc: Global, scope: &Scope, text: &str) -> bool {
     match &scope.copy(alloc) {
         Ok(copy) => scope.text() == text && copy.text() == text,

@@ -1,4 +1,4 @@
-//! Connections over memory that fails: what each device holds then, and what the edge.
+//! Connections over devices that fail: what each device holds then, and what the edge holds.
 
 use super::frail::{Fails, FrailSink, FrailSource};
 use super::new_edge;
@@ -12,10 +12,10 @@ use tk_message::Status;
 const AWAY: &[u8] =
     b"HTTP/1.1 503 Service Unavailable\r\nContent-Type: application/json\r\nContent-Length: 35\r\nCache-Control: no-store\r\nPragma: no-cache\r\nConnection: close\r\n\r\n{\"error\":\"temporarily_unavailable\"}";
 
-// The most that a call of the source gives, and one of a sink takes.
+// The most bytes that a call of the source gives, and that a call of a sink takes.
 type Steps = (usize, usize);
 
-// So few that each device is called several times.
+// The steps are so short that each device is called several times.
 const STEP: usize = 20;
 
 const STEPS: Steps = (STEP, STEP);
@@ -27,8 +27,9 @@ const NEVER: Fails = Fails::Never;
 
 const SOUND: Failing = [NEVER, NEVER, NEVER];
 
-// How a connection ended: its result, the facts held, whether the edge is sealed; how many bytes the log and the client were given,
-// None where they don't begin the record and the reply; whether source or log were called, and how many of the client's calls failed.
+// How a connection ended: its result, the facts held, and whether the edge is sealed. Also how many
+// bytes the log and the client were given, `None` if they don't begin the record and the reply;
+// whether source or log were called; and how many of the client's calls failed.
 #[derive(Clone, Copy, PartialEq, Eq)]
 struct End {
     result: Result<Served, Fault>,
@@ -40,7 +41,7 @@ struct End {
     failed: u64,
 }
 
-// How it ends over sound devices.
+// Returns how a connection ends over devices that don't fail.
 fn done(talk: &Talk) -> End {
     End {
         result: Ok(Served::Done(talk.status)),
@@ -53,7 +54,7 @@ fn done(talk: &Talk) -> End {
     }
 }
 
-// How many bytes the part has, which begins the whole.
+// Returns the length of the part if it begins the whole.
 fn begins(whole: &[u8], part: &[u8]) -> Option<usize> {
     if whole.starts_with(part) {
         Some(part.len())
@@ -62,7 +63,7 @@ fn begins(whole: &[u8], part: &[u8]) -> Option<usize> {
     }
 }
 
-// Whether a connection of the client ends so, over such devices.
+// Returns whether a connection of the client ends as expected, over these devices.
 fn ends_at(
     alloc: Global,
     edge: &mut Edge,
@@ -99,7 +100,7 @@ fn ends_at(
     end == *want
 }
 
-// Whether the request is answered, and makes a fact.
+// Returns whether the request gets a reply, and makes a fact.
 fn makes_fact(alloc: Global, edge: &mut Edge, request: &[u8]) -> bool {
     let Some(now) = Moment::new(1_000) else {
         return false;
@@ -123,7 +124,7 @@ fn make_facts(alloc: Global, edge: &mut Edge, requests: &[&[u8]]) -> bool {
     true
 }
 
-// Whether a connection ends so at an edge that answered the requests before, and nothing else.
+// Returns whether a connection ends as expected at an edge that answered only the requests before.
 fn ends(alloc: Global, talk: &Talk, steps: Steps, failing: Failing, want: &End) -> bool {
     match new_edge(alloc) {
         Some(mut edge) => {
@@ -136,7 +137,8 @@ fn ends(alloc: Global, talk: &Talk, steps: Steps, failing: Failing, want: &End) 
     }
 }
 
-// Whether it ends so where one call fails, and where all behind it do too.
+// Returns whether the connection ends as expected if one call fails, and if all later calls fail,
+// too.
 fn both_end(alloc: Global, talk: &Talk, one: Failing, all: Failing, want: &End) -> bool {
     ends(alloc, talk, STEPS, one, want) && ends(alloc, talk, STEPS, all, want)
 }
@@ -152,12 +154,14 @@ fn a_request_is_served_in_any_pieces(rt: HostRuntime) {
 
 const TALKS: &[Talk] = &[REGISTRATION, EXCHANGE];
 
-// How many calls give or take the bytes. If only later calls fail, all is as over sound devices.
+// Returns how many calls give or take the bytes. If only later calls fail, the connection ends as
+// over devices that don't fail.
 fn calls(bytes: &[u8]) -> u64 {
     bytes.len().div_ceil(STEP) as u64
 }
 
-// The first call of the source whose failure changes something, or is told otherwise.
+// Returns the first call of the source whose failure changes something, or is reported as another
+// fault.
 fn misread(alloc: Global, talk: &Talk) -> Option<u64> {
     let (calls, done) = (calls(talk.request), done(talk));
     let want = End {
@@ -190,8 +194,8 @@ fn a_reader_that_fails_changes_nothing(rt: HostRuntime) {
     }
 }
 
-// The first call of the log whose failure doesn't seal the edge before the reply. The last call
-// flushes the log.
+// Returns the first call of the log whose failure doesn't seal the edge before the reply. The last
+// call flushes the log.
 fn mislogged(alloc: Global, talk: &Talk) -> Option<u64> {
     let (puts, done) = (calls(talk.record), done(talk));
     for call in 0..=puts {
@@ -224,8 +228,8 @@ fn a_log_that_fails_seals_before_the_reply(rt: HostRuntime) {
     }
 }
 
-// The first call of the client whose failure leaves no fact, no record, or another part of the reply
-// than was taken.
+// Returns the first call of the client whose failure leaves no fact, no record, or another part of
+// the reply than was taken.
 fn miswritten(alloc: Global, talk: &Talk) -> Option<u64> {
     let (calls, done) = (calls(talk.reply), done(talk));
     for call in 0..calls {
@@ -257,7 +261,7 @@ fn a_writer_that_fails_leaves_fact_and_record(rt: HostRuntime) {
     }
 }
 
-// Whether the bytes are answered so without devices, and make no record.
+// Returns whether the bytes get this reply without devices, and make no record.
 fn is_answered(alloc: Global, edge: &mut Edge, bytes: &[u8], told: (Status, &[u8])) -> bool {
     let Some(now) = Moment::new(1_000) else {
         return false;
@@ -274,7 +278,7 @@ fn is_answered(alloc: Global, edge: &mut Edge, bytes: &[u8], told: (Status, &[u8
     }
 }
 
-// Whether the request is served without a log, and over std's own reader and writer.
+// Returns whether the request is served without a log, and over std's own reader and writer.
 fn is_served_by_std(alloc: Global, edge: &mut Edge) -> bool {
     let Some(now) = Moment::new(1_000) else {
         return false;
@@ -298,7 +302,7 @@ fn is_served_by_std(alloc: Global, edge: &mut Edge) -> bool {
         && writer.inner.as_slice() == REGISTRATION.reply
 }
 
-// A client that sends nothing.
+// A client that sends no byte.
 const SILENT: Talk = Talk {
     request: b"",
     reply: b"",
@@ -328,8 +332,9 @@ const HALF_WRITTEN: Failing = [NEVER, Fails::At(1), NEVER];
 #[rattlefmt::skip]
 const HALF_AWAY: End = End { result: Err(Fault::Write), facts: 2, sealed: true, logged: Some(0), written: Some(STEP), called: false, failed: 1 };
 
-// What an edge comes to: no byte is answered with none, and no call of client or log; std's devices serve, and a log that fails
-// seals. Then it turns away without a call of source or log, once, again and without devices, and a write that fails is a fault.
+// The life of an edge. An empty request gets no byte, and no call of client or log. std's devices
+// serve. A log that fails seals the edge. A sealed edge turns away without a call of source or log,
+// once, again and without devices, and a write that fails is a fault.
 fn life_at(alloc: Global, edge: &mut Edge) -> [bool; 8] {
     [
         is_answered(alloc, edge, b"", (Status::BadRequest, b"")),
@@ -348,7 +353,7 @@ fn life_at(alloc: Global, edge: &mut Edge) -> [bool; 8] {
     ]
 }
 
-// The same of a new one.
+// The life of a new edge.
 fn life(alloc: Global) -> [bool; 8] {
     match new_edge(alloc) {
         Some(mut edge) => {

@@ -1,8 +1,8 @@
-//! Requests that make a fact: what is sent, what comes back, and the record.
+//! Requests that make a fact: the bytes sent, the reply, and the record.
 
 use tk_message::Status;
 
-/// What a client says to an edge that answered other requests before.
+/// The request of a client to an edge that answered other requests before.
 #[derive(Clone, Copy)]
 pub struct Talk {
     pub name: &'static str,
@@ -40,7 +40,7 @@ const BEFORE_TOKENS: &[&[u8]] = &[
         &code_challenge_method=S256 HTTP/1.1\r\nX-Subject: ann\r\n\r\n",
 ];
 
-/// The exchange of the code for tokens. The words of all three handles are 0.
+/// The exchange of the code for tokens. The random words of all three handles are 0.
 pub const EXCHANGE: Talk = Talk {
     name: "a token request",
     before: BEFORE_TOKENS,
@@ -49,7 +49,7 @@ pub const EXCHANGE: Talk = Talk {
         &code=AQEAAQAAAAAAAAADAAAAAAAAAAAAAAAAAAAAAAAAAAAAAAAA\
         &client_id=c1-1&client_secret=s3cret\
         &code_verifier=dBjftJeZ4CVP-mB92K27uhbUJU1p1r_wW1gFWFOEjXk",
-    // The redemption of 1:3 at 1:4, and of each token its digest, its end and its scope.
+    // The redemption of 1:3 at 1:4, with the digest, expiry and scope of each token.
     record: b"OTB1\x00\x01\x00\x85\x00\x01\x00\x00\x00\x00\x00\x00\x00\x04\x06\
         \x00\x01\x00\x00\x00\x00\x00\x00\x00\x03\x00\x00\x00\x00\x00\x00\x03\xe8\
         \xf0m\x0c'\xfe>_Y\x90\xfc\xb7\x00\xf3\xca*\xa5\x93\x7f\xff%\xc3 \xf1m\xe7\t]\xc6\

@@ -1,12 +1,13 @@
-//! The causes for which a list of redirection URIs and a challenge are refused. The program prints
-//! one error for all of them.
+//! The causes for which a list of redirection URIs and a challenge are refused.
+//!
+//! The program prints one error for all of them.
 
 use std::alloc::Global;
 use tk_match::{Challenge, ChallengeError, RedirectError, Redirects};
 
 #[derive(Clone, Copy, PartialEq, Eq)]
 enum Cause {
-    // It isn't refused.
+    // The list isn't refused.
     Nothing,
     Empty,
     TooMany,
@@ -31,7 +32,7 @@ fn cause_of_list(read: Result<Redirects, RedirectError>) -> Cause {
 
 const GOOD: &[u8] = b"https://app.example/cb";
 
-// A URI without a scheme: fine for a fact of another region, and bad for a registration.
+// A URI without a scheme: good for a fact of another region, and bad for a registration.
 const PATH: &[u8] = b"/cb";
 
 // A name, URIs, and why they are refused at a registration, and as those of a fact.

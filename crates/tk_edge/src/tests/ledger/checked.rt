@@ -1,8 +1,7 @@
-//! Facts that are changed after they were read, and which rule they break then. No row shows that,
-//! since bytes of such a fact aren't read.
+//! Facts that are changed after they were read, and the rule that each breaks then.
 //!
-//! The types of a fact's fields keep the limits of subjects, URIs and challenges, so `Limit` is
-//! never returned.
+//! No row shows these rules, because bytes of such a fact aren't read. The types of a fact's fields
+//! keep the limits of subjects, URIs and challenges, so that `Limit` is never returned.
 
 use super::facts::{Told, fact};
 use super::{ISSUED, REDEEMED, ROTATED, SEEN, TOKEN_REVOKED};
@@ -10,7 +9,7 @@ use std::alloc::Global;
 use tk_fact::{Body, CodeIssued, CodeRedeemed, Fact, FactError, RefreshRotated};
 use tk_handle::{Kind, Moment};
 
-// What is changed of a fact.
+// The change of a fact.
 #[derive(Clone, Copy)]
 enum Change {
     Generation(u16),
@@ -18,7 +17,7 @@ enum Change {
     RefreshEnd(u64),
     CodeEnd(u64),
     FamilyEnd(u64),
-    // Of the token that the fact names.
+    // A change of the token that the fact names.
     TokenKind(Kind),
 }
 
@@ -50,7 +49,7 @@ fn change_rotation(fact: &mut RefreshRotated, change: Change) -> Option<()> {
     Some(())
 }
 
-// None where the fact has nothing of the kind.
+// Returns `None` if the fact has nothing of the kind.
 fn change_body(body: &mut Body, change: Change) -> Option<()> {
     match (body, change) {
         (Body::CodeIssued(code), _) => change_code(code, change),
@@ -68,7 +67,7 @@ fn change_body(body: &mut Body, change: Change) -> Option<()> {
     }
 }
 
-// Whether a range is broken once the fact is changed; none where it is another rule.
+// Returns whether the changed fact breaks a range; `None` if it breaks another rule.
 fn breaks_range(fact: &mut Fact, change: Change) -> Option<bool> {
     change_body(&mut fact.body, change)?;
     match fact.check() {

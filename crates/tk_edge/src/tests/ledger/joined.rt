@@ -1,6 +1,8 @@
-//! Two regions redeemed one code while they were cut off from each other. Their ledgers and their
-//! stores are joined, in both directions. Sets that hold two facts at one dot aren't joined, and
-//! the second fact isn't added.
+//! Joins of two regions' ledgers and stores after a cut.
+//!
+//! Two regions redeemed one code while they were cut off from each other. Their ledgers and stores
+//! are joined in both directions. Sets that hold two facts at one dot aren't joined, and the second
+//! fact isn't added.
 
 use super::facts::{Says, Told, fact};
 use super::orders::{Addition, add_to_ledger};
@@ -10,7 +12,7 @@ use std::alloc::Global;
 use tk_store::{AddError, FactStore};
 use tk_vector::{Join, JoinError};
 
-// What the regions 1 and 2 hold: each has the code and its own redemption.
+// The facts of the regions 1 and 2: each has the code and its own redemption.
 const FIRST: &[Told] = &[ADDED, GIVEN, ISSUED, REDEEMED];
 
 const SECOND: &[Told] = &[ADDED, GIVEN, ISSUED, REDEEMED_AGAIN];
@@ -22,12 +24,12 @@ const CLASH: Told = ((1, 4), Says::CodeRedeemed((1, 3), (48, 51)));
 
 const CLASHING: &[Told] = &[ADDED, GIVEN, ISSUED, CLASH];
 
-// Whether the one becomes what holds all: nothing less, and nothing more.
+// Returns whether the first set becomes the union: all facts, and no others.
 fn joins<J: Join>(one: &mut J, other: &J, all: &J) -> bool {
     one.join_from(other) == Ok(()) && all.below(one) && one.below(all)
 }
 
-// Whether the one is told to be apart from the other, and holds the same as before.
+// Returns whether the first set is reported to clash with the other, and stays unchanged.
 fn is_apart<J: Join>(one: &mut J, other: &J, before: &J) -> bool {
     one.join_from(other) == Err(JoinError::Apart) && before.below(one) && one.below(before)
 }
@@ -104,7 +106,7 @@ fn stores_of_two_regions_are_joined_in_both_directions(rt: HostRuntime) {
     }
 }
 
-// Whether the ledger isn't joined with one that clashes, and doesn't take the fact that clashes.
+// Returns whether the ledger refuses to join one that clashes, and to take the fact that clashes.
 fn ledgers_clash(alloc: Global) -> Option<bool> {
     let mut one = fresh(alloc, FIRST)?;
     let before = fresh(alloc, FIRST)?;
