@@ -284,8 +284,8 @@ pub(crate) fn serve_on<R: AllocGlobal + Clock, L: Sink, E: Write>(
     }
 }
 
-// Writes the fault of a connection, if any. Each line is written anew, whether or not the one
-// before failed.
+// Writes the fault of a connection, if any. A writer that fails is ignored, and the next fault is
+// written nevertheless.
 fn tell_end<E: Write>(faults: &mut E, end: Result<Served, EdgeFault>)
     ensures { Told end (E.contents faults.old) (E.contents faults.new) }
 {

@@ -27,22 +27,22 @@ fn place(dot: Dot) -> Place {
 
 // ---- vectors
 
-// The entries of the regions 1 and 2.
+// Returns the entries of the regions 1 and 2.
 fn entries(vector: &VersionVector) -> Option<(u64, u64)> {
     let one = RegionNumber::new(1)?;
     let two = RegionNumber::new(2)?;
     Some((vector.get(one), vector.get(two)))
 }
 
-// Both entries, whether 2:8 is covered, and whether 2:9 is.
+// Returns both entries, whether 2:8 is covered, and whether 2:9 is.
 fn told(vector: &VersionVector) -> Option<(u64, u64, bool, bool)> {
     let (first, second) = entries(vector)?;
     let (last, next) = (dot((2, 8))?, dot((2, 9))?);
     Some((first, second, vector.covers(last), vector.covers(next)))
 }
 
-// The entries of the first vector and what it covers, once the other is joined; `None` if the other
-// isn't below it then.
+// Joins the other vector to the first, and returns the entries of the union and what it covers;
+// `None` if the other vector isn't below the union.
 fn joined(vector: &mut VersionVector, other: &VersionVector) -> Option<(u64, u64, bool, bool)> {
     match vector.join_from(other) {
         Ok(()) if other.below(vector) => told(vector),
@@ -123,7 +123,7 @@ fn walks(store: &FactStore, places: &[Place]) -> bool {
     facts.next().is_none()
 }
 
-// Returns whether there is a fact to take back.
+// Takes the fact at the dot back, and returns whether there was one.
 fn take_back(store: &mut FactStore, at: Dot) -> bool {
     match store.take_back(at) {
         Some(fact) => {
@@ -135,7 +135,7 @@ fn take_back(store: &mut FactStore, at: Dot) -> bool {
     }
 }
 
-// Returns whether there is a fact at 1:3 to take back, and the front of region 1 before and after.
+// Takes the fact at 1:3 back. Returns whether there was one, between the fronts before and after.
 fn taken_back(store: &mut FactStore) -> Option<(u64, bool, u64)> {
     let at = dot((1, 3))?;
     let before = store.vector().get(at.region());

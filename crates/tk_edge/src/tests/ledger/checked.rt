@@ -49,7 +49,7 @@ fn change_rotation(fact: &mut RefreshRotated, change: Change) -> Option<()> {
     Some(())
 }
 
-// Returns `None` if the fact has nothing of the kind.
+// Changes a body. `None` means that the fact has nothing of the kind.
 fn change_body(body: &mut Body, change: Change) -> Option<()> {
     match (body, change) {
         (Body::CodeIssued(code), _) => change_code(code, change),
@@ -67,7 +67,7 @@ fn change_body(body: &mut Body, change: Change) -> Option<()> {
     }
 }
 
-// Returns whether the changed fact breaks a range; `None` if it breaks another rule.
+// Changes a fact, and returns whether it breaks a range then; `None` if another rule is broken.
 fn breaks_range(fact: &mut Fact, change: Change) -> Option<bool> {
     change_body(&mut fact.body, change)?;
     match fact.check() {

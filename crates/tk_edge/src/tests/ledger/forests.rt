@@ -68,8 +68,8 @@ fn is_at(forest: &Forest, at: Place, want: Stands) -> bool {
     }
 }
 
-// Returns the top of a dot, whether its refresh token is used, and how many look-ups each takes,
-// both take, and one more look-up.
+// Returns the top of a dot, whether its refresh token is used, and three counts of look-ups: after
+// the top, after the use, and after one more tick.
 fn looked_up(forest: &Forest, at: Place) -> Option<(Top, bool, [u64; 3])> {
     let (dot, kind) = (dot(at)?, Kind::Refresh);
     let mut steps = Steps::new();
@@ -81,7 +81,8 @@ fn looked_up(forest: &Forest, at: Place) -> Option<(Top, bool, [u64; 3])> {
     Some((top, is_used, [first, both, steps.count()]))
 }
 
-// Every dot with a code takes as many look-ups, and a dot without a link one fewer.
+// Returns whether a dot has this top and this use. The top of a dot with a link takes two look-ups,
+// that of a dot without a link takes one.
 fn is_seen(forest: &Forest, at: Place, want: Stands, is_used: bool) -> bool {
     let counts = match want {
         Stands::Absent => [1, 2, 3],
@@ -133,7 +134,7 @@ fn raises(forest: &mut Forest, row: Row, places: &[Place]) -> bool {
     }
 }
 
-// How many dots are raised.
+// Returns how many dots a put raises.
 fn raised(forest: &mut Forest, row: Row) -> Option<usize> {
     match &put(forest, row) {
         Some(dots) => Some(dots.len()),
@@ -141,7 +142,7 @@ fn raised(forest: &mut Forest, row: Row) -> Option<usize> {
     }
 }
 
-// A mark that runs out of memory is repeated.
+// Marks a token. A mark that runs out of memory is repeated.
 fn mark(forest: &mut Forest, token: &TokenId) -> bool {
     forest.mark(*token).is_ok() || forest.mark(*token).is_ok()
 }

@@ -1,4 +1,4 @@
-//! Random sets of facts, hostile ones among them: the ledger agrees with a walk over the facts.
+//! Pseudo-random sets of facts, hostile ones among them: the ledger agrees with a walk over the facts.
 
 use super::facts::{ANN, Place, READ_WRITE, Says, Token, dot, handle};
 use super::orders::{Both, add_to_both, found, in_short};
@@ -81,13 +81,13 @@ fn gone(number: u64) -> Says {
     }
 }
 
-// Adds eight facts to both ledgers, or fewer if one conflicts, from an index that the number
-// chooses on. Returns whether both ledgers took them alike.
+// Adds ten facts to both ledgers, at dots that the seed chooses. Returns whether both ledgers took
+// or refused each of them alike.
 fn are_filled(alloc: Global, both: &mut Both, seed: u64) -> bool {
     let mut number = next(seed);
     for step in 0..10_u64 {
         number = next(number);
-        // Two of the ten facts come at dots that are taken.
+        // There are eight dots, so two of the ten facts are at dots that are taken.
         let index = seed.wrapping_add(step.wrapping_mul(3 + seed % 4 * 2)) % 8;
         match add_to_both(alloc, both, &(place(index), generated(index, number))) {
             Some(Ok(_)) | Some(Err(AddError::Conflict)) => {}
@@ -97,7 +97,7 @@ fn are_filled(alloc: Global, both: &mut Both, seed: u64) -> bool {
     true
 }
 
-// A token's status in both ledgers, and its revocation by the client at 1:1.
+// Returns whether both ledgers agree on a token's status and its revocation by the client at 1:1.
 fn tells_alike(both: &Both, token: Token) -> Option<bool> {
     let (handle, client) = (handle(token)?, dot((1, 1))?);
     let (id, digest) = (handle.id, handle.digest());
@@ -106,7 +106,7 @@ fn tells_alike(both: &Both, token: Token) -> Option<bool> {
     Some(is_alike && in_short(both, 1_020, token).is_some())
 }
 
-// Each token at a dot, with its own digest and with another.
+// Returns whether both ledgers agree on each token at a dot, with its own digest and with others.
 fn tells_tokens_alike(both: &Both, at: Place) -> bool {
     for kind in KINDS {
         for word in [7, 8, 9] {

@@ -52,7 +52,8 @@ fn add_to_plain(alloc: Global, plain: &mut PlainLedger, told: &Told) -> Addition
     }
 }
 
-// How an addition to both ended; `None` if they differ.
+// Adds a fact to both ledgers. `None` means that they differ, or that there is no memory for the
+// fact.
 pub(super) fn add_to_both(alloc: Global, both: &mut Both, told: &Told) -> Addition {
     let added = add_to_ledger(alloc, &mut both.ledger, told)?;
     if add_to_plain(alloc, &mut both.plain, told)? == added {

@@ -1,6 +1,6 @@
 //! Additions that run out of memory leave every answer of a ledger unchanged.
 //!
-//! The tests run with each allocation refused in turn, as docs/ARCHITECTURE.md describes. If no
+//! The tests run with each allocation refused in turn, as docs/GATE.md describes. If no
 //! allocation is refused, all facts are held.
 
 use super::facts::{ANN, Place, Says, Token, Told, dot, handle};
