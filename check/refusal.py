@@ -42,9 +42,9 @@ class Table:
 class Ran:
     """What a run printed, its status, and what became of its allocations."""
 
-    def __init__(self, status, output, errors, refused, marks):
+    def __init__(self, status, output, errors, table):
         self.status, self.output, self.errors = status, output, errors
-        self.refused, self.marks = refused, marks
+        self.seen, self.marks, self.refused = (table.read(n) for n in ("seen", "marks", "refused"))
 
     def lines(self):
         return self.output.splitlines()
@@ -86,20 +86,16 @@ class Lab:
             self.runs += 1
 
     def run(self, words, script, **refusal):
-        """Runs the program with these arguments on a script, and with this refusal.
+        """Runs the program with these arguments on a script, with a table that has these values.
 
-        `script` is bytes, or an open file. A run that takes longer than a minute has no status.
+        A run that takes longer than a minute has no status.
         """
         table = self.table()
         table.write(**refusal)
-        given = {"input": script} if isinstance(script, bytes) else {"stdin": script}
         self.counted()
         try:
             ran = subprocess.run([self.program] + words, capture_output=True, timeout=SECONDS,
-                                 env=table.environment(self.shim), cwd=self.folder, **given)
+                                 env=table.environment(self.shim), cwd=self.folder, input=script)
         except subprocess.TimeoutExpired:
-            return Ran(None, b"", b"", 0, 0)
-        found = Ran(ran.returncode, ran.stdout, ran.stderr, table.read("refused"),
-                    table.read("marks"))
-        found.seen = table.read("seen")
-        return found
+            return Ran(None, b"", b"", table)
+        return Ran(ran.returncode, ran.stdout, ran.stderr, table)

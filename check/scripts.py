@@ -78,8 +78,8 @@ class Judge:
         return self.wrong_line(made, lines, out) or wrong_count(made, lines)
 
     def wrong_end(self, made):
-        """A script ends out of memory before its first event alone; by sockets, where a reply is read too."""
-        if made.is_plain() or self.command == "loopback" and is_request(made):
+        """A script ends out of memory before its first event only. By sockets it may end at each."""
+        if made.is_plain() or self.command == "loopback":
             return None
         return "the program ended behind its first event"
 
@@ -98,10 +98,6 @@ class Judge:
                 best, told = differ[0], (texts[differ[0]], wanted[differ[0]], lines[differ[0]])
         text, wanted, said = (it if isinstance(it, str) else it.decode() for it in told)
         return "behind it %r prints %r, and not %r" % (text[:150], said, wanted)
-
-
-def is_request(made):
-    return not made.texts[made.place("first")].startswith(("open ", "pull ", "deliver "))
 
 
 def wrong_count(made, lines):
@@ -132,25 +128,31 @@ def sweep(judge, made, is_whole, offset, stride):
     made.prepare()
     script = "\n".join(made.texts).encode()
     span = judge.whole_span(made) if is_whole else 1
-    at, faults = 1 + offset, 0
+    at, faults, ends = 1 + offset, 0, 0
     while faults < MOST_FAULTS:
         ran = judge.lab.run([judge.command], script, at=at, span=span, **judge.counting(made))
-        wrong = judge.wrong(made, ran)
+        wrong, ends = judge.wrong(made, ran), ends + ran.is_out_of_memory()
         if wrong:
             faults += 1
             more = " and what follows" if is_whole else ""
             yield "%s, without allocation %d%s: %s" % (made.title, at, more, wrong)
         if is_past(made, ran):
-            return
+            break
         at += stride
+    if not made.is_plain() and not is_whole and ends > at // stride // 2:
+        yield "%s: the program ended in %d of %d runs" % (made.title, ends, at // stride)
 
 
-def variants(judge, made, chosen=None):
-    """The variants of a story: the plain one, and one for each event, alone and with others."""
+def variants(judge, made, alone=(True,), plain=True):
+    """The variants of a story: the plain one, and for each event one alone and one with others.
+
+    `alone` says which of the two, and `plain` whether the plain one is there.
+    """
     title = "%s, %s" % (judge.command, made.name)
-    yield variant.Variant(title, variant.plain_steps(made), judge.fresh)
-    for place in made.places() if chosen is None else chosen:
-        for with_others in (False, True) if made.others else (False,):
-            steps = variant.steps_of(made, place, with_others)
-            text = "%s, event %d, %r" % (title, place + 1, made.events[place].text[:60])
+    if plain:
+        yield variant.Variant(title, variant.plain_steps(made), judge.fresh)
+    for place in made.places():
+        text = "%s, event %d, %r" % (title, place + 1, made.events[place].text[:60])
+        for is_alone in alone:
+            steps = variant.steps_of(made, place, not is_alone)
             yield variant.Variant(text, steps, judge.fresh)

@@ -11,11 +11,11 @@ A story is text, with an event of tokend's script on each line:
                     of these bundles, and its fronts are the ones before it
     follow          ends that
     asker ID:SECRET the resource server that asks about tokens in look-ups
+    watch R..       the regions that look-ups ask; without such a line all of them
     other           the events below run only where they take the dot of an event out of memory
     # TEXT          for the reader. So are empty lines
 """
 import base64
-import glob
 import os
 import re
 
@@ -54,15 +54,22 @@ class Story:
     """Events, others that take an event's place, and who asks about tokens."""
 
     def __init__(self, name):
-        self.name, self.events, self.others, self.asker = name, [], [], None
+        self.name, self.events, self.others = name, [], []
+        self.asker, self.watched = None, []
 
     def regions(self):
         return [e.region() for e in self.events if e.text.startswith("open ")]
 
+    def is_chosen(self):
+        """Whether memory runs out in chosen events alone."""
+        return any(event.is_chosen for event in self.events)
+
     def places(self):
         """The places of the events that memory runs out in."""
-        chosen = [k for k, event in enumerate(self.events) if event.is_chosen]
-        return chosen or [k for k, event in enumerate(self.events) if not event.is_follower]
+        events = enumerate(self.events)
+        if self.is_chosen():
+            return [place for place, event in events if event.is_chosen]
+        return [place for place, event in events if not event.is_follower]
 
     def all_events(self):
         return self.events + self.others
@@ -78,12 +85,13 @@ class Story:
     def looks(self):
         """Look-ups of all that the regions can hold: facts, clients and tokens."""
         text = " ".join(e.text for e in self.all_events())
-        clients = sorted(set(re.findall(r"\bc\d+-\d+\b", text)) | {"c1-1"})
+        clients = sorted(set(re.findall(r"\bc\d+-\d+\b", text)))
         tokens = [n for e in self.all_events() if "/token" in e.text for n in e.names]
         asks = "req %s %d POST /introspect " + encoded("<%s>" % self.asker) + " - token={%s}"
-        for region in self.regions():
+        regions = self.watched or self.regions()
+        for region in regions:
             yield Event("pull %s - -" % region)
-        for region in self.regions():
+        for region in regions:
             yield from (Event("pull %s - %s" % (region, dot)) for dot in self.dots())
             yield from (Event("look %s %d %s" % (region, LOOKED, it)) for it in clients)
             yield from (Event(asks % (region, LOOKED, it)) for it in tokens)
@@ -106,6 +114,8 @@ class Reader:
         words = line.split()
         if words[0] == "asker":
             self.story.asker = words[1]
+        elif words[0] == "watch":
+            self.story.watched = words[1:]
         elif words[0] == "other":
             self.into = self.story.others
         elif words[0] == "follow":
@@ -138,11 +148,17 @@ def read(name, text):
     return reader.story
 
 
-def all_stories():
-    """The stories of the folder, by name."""
-    found = {}
-    for path in sorted(glob.glob(os.path.join(HERE, "stories", "*.story"))):
-        name = os.path.basename(path)[:-len(".story")]
-        with open(path, encoding="utf-8") as file:
-            found[name] = read(name, file.read())
-    return found
+def read_file(name):
+    with open(os.path.join(HERE, "stories", name + ".story"), encoding="utf-8") as file:
+        return read(name, file.read())
+
+
+def read_script(name, text):
+    """A script as a story. Bundles have other numbers there, so its pulls and deliveries name them."""
+    lines, pulls = [], 0
+    for line in text.splitlines():
+        if line.startswith("pull "):
+            line += " => b%d" % pulls
+            pulls += 1
+        lines.append(re.sub(r"^deliver (\d+) ", r"deliver {b\1} ", line))
+    return read(name, "\n".join(lines))
