@@ -143,16 +143,12 @@ def sweep(judge, made, is_whole, offset, stride):
         yield "%s: the program ended in %d of %d runs" % (made.title, ends, at // stride)
 
 
-def variants(judge, made, alone=(True,), plain=True):
-    """The variants of a story: the plain one, and for each event one alone and one with others.
-
-    `alone` says which of the two, and `plain` whether the plain one is there.
-    """
+def variants(judge, made, plain=True, others=False):
+    """The variants of a story: the plain one, and for each event one alone and one with each group of others."""
     title = "%s, %s" % (judge.command, made.name)
     if plain:
         yield variant.Variant(title, variant.plain_steps(made), judge.fresh)
     for place in made.places():
         text = "%s, event %d, %r" % (title, place + 1, made.events[place].text[:60])
-        for is_alone in alone:
-            steps = variant.steps_of(made, place, not is_alone)
-            yield variant.Variant(text, steps, judge.fresh)
+        for group in [()] + made.others if others else [()]:
+            yield variant.Variant(text, variant.steps_of(made, place, group), judge.fresh)

@@ -12,7 +12,8 @@ A story is text, with an event of tokend's script on each line:
     follow          ends that
     asker ID:SECRET the resource server that asks about tokens in look-ups
     watch R..       the regions that look-ups ask; without such a line all of them
-    other           the events below run only where they take the dot of an event out of memory
+    other           the events below, to the next such line, run only in variants in which they take
+                    the dot of the event that ran out of memory
     # TEXT          for the reader. So are empty lines
 """
 import base64
@@ -51,7 +52,7 @@ class Event:
 
 
 class Story:
-    """Events, others that take an event's place, and who asks about tokens."""
+    """Events, groups of others that take an event's dot, and who asks about tokens."""
 
     def __init__(self, name):
         self.name, self.events, self.others = name, [], []
@@ -72,7 +73,7 @@ class Story:
         return [place for place, event in events if not event.is_follower]
 
     def all_events(self):
-        return self.events + self.others
+        return self.events + [event for group in self.others for event in group]
 
     def dots(self):
         """The dots at which the regions may have made facts."""
@@ -117,7 +118,8 @@ class Reader:
         elif words[0] == "watch":
             self.story.watched = words[1:]
         elif words[0] == "other":
-            self.into = self.story.others
+            self.into = []
+            self.story.others.append(self.into)
         elif words[0] == "follow":
             self.follows = words[1:]
         else:

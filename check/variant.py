@@ -28,11 +28,11 @@ def plain_steps(made):
     return all_as("event", made.events) + all_as("tail", made.looks())
 
 
-def steps_of(made, place, with_others):
+def steps_of(made, place, others=()):
     """The steps of a story that runs out of memory at the event of this place."""
     event, looks = made.events[place], all_as("look", made.looks())
     count = all_as("count", [story.Event("pull %s - -" % event.region())])
-    others = all_as("other", made.others) + looks if with_others else []
+    others = all_as("other", others) + looks if others else []
     return (all_as("event", [OWN_REGION] + made.events[:place]) + all_as("mark", [MARK])
             + [Step(event, "first")] + looks + others + count + [Step(event, "again")] + count
             + all_as("event", made.events[place + 1:]) + all_as("tail", made.looks()))

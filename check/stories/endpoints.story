@@ -43,4 +43,7 @@ pull 1 - -
 
 other
 req 1 1025 POST /token <c1-1:s3cret> - grant_type=refresh_token&refresh_token={refresh0} => access9 refresh9
-req 1 1026 POST /admin/client - - kind=public&scope=read&redirects=https://new.example/cb
+
+other
+req 1 1025 GET /authorize?response_type=code&client_id=c1-1&scope=read - ann - => code10
+req 1 1025 POST /token <c1-1:s3cret> - grant_type=authorization_code&code={code10} => access10 refresh10
