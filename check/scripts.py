@@ -1,16 +1,15 @@
-"""scripts: runs scripts out of memory, and compares each run with one of a fresh program.
+"""scripts: runs scripts out of memory, and compares each run with a run of a fresh program.
 
-An event that ran out of memory prints `memory`, and has changed nothing, unless it is a delivery, which may
-have added the first facts of its bundle. So the run is that of a fresh program with memory enough, whose
-script has nothing in the place of that event, or the delivery of the bundle's front: all other lines
-must be the same. A script's random words go by the place of each event, so both make the same handles.
+An event that runs out of memory prints `memory` and changes nothing, but a delivery may have added the
+first facts of its bundle. So a fresh program with enough memory must print the same lines for the same
+script with nothing in the place of that event, or with the delivery of the bundle's first facts there.
+The random words of an event depend on its place in the script, so both programs make the same handles.
 """
 import re
-import threading
 
-import story
 import variant
 from refusal import FOR_GOOD, Unusable
+from story import NOTHING
 
 TOOK = re.compile(rb"took (\d+)$")
 HELD = re.compile(rb"bundle \d+ (\d+) \S+ end$")
@@ -18,50 +17,44 @@ MOST_FAULTS = 3  # of one sweep
 
 
 class Judge:
-    """Runs the scripts of one command, `script` or `loopback`, and says what is wrong with a run."""
+    """Runs scripts by one command, `script` or `loopback`, and finds what is wrong with a run."""
 
     def __init__(self, lab, command):
         self.lab, self.command = lab, command
-        self.known, self.lock = {}, threading.Lock()
-        self.in_parse, self.in_run = self.marks()
+        self.marks = self.count_marks()
 
-    def marks(self):
-        """How many marks the program sees when it reads the line of a mark, and when it runs it."""
+    def count_marks(self):
+        """How many marks the program makes until it has run the event that is one."""
         line = variant.MARK.text + "\n"
-        read, both = (self.lab.run([self.command], (text + line).encode(), mark=variant.MARK_BYTES).marks
-                      for text in ("", variant.OWN_REGION.text + "\n"))
+        opened = variant.OWN_REGION.text + "\n" + line
+        read, both = (self.run(text.encode(), mark=variant.MARK_BYTES).marks
+                      for text in (line, opened))
         if both <= read:
             raise Unusable("the program copies no id of %d bytes" % variant.MARK_BYTES)
-        return read, both - read
+        return both
 
-    def counting(self, made):
-        """Where the count of allocations begins: at the mark, if the variant has one."""
-        if made.is_plain():
-            return {}
-        return {"mark": variant.MARK_BYTES, "pass": self.in_parse + self.in_run}
-
-    def whole_span(self, made):
-        """How many allocations fail if memory comes back behind the last event of the story only."""
-        if made.is_plain():
-            return FOR_GOOD
-        script = "\n".join(made.texts).encode()
-        lines = self.lab.run([self.command], script, at=1, span=FOR_GOOD, **self.counting(made)).lines()
-        return max(2, lines[:made.place("tail")].count(b"memory") - 1)
+    def run(self, script, **refusal):
+        return self.lab.run([self.command], script, **refusal)
 
     def fresh(self, texts):
-        """The lines of a run with memory enough."""
-        script = "\n".join(texts).encode()
-        with self.lock:
-            lines = self.known.get(script)
-        if lines is None:
-            ran = self.lab.run([self.command], script)
-            lines = ran.lines()
-            if ran.status != 0 or ran.errors or len(lines) != len(texts):
-                raise Unusable("a script with memory enough ends with status %s, %r, %d of %d lines"
-                               % (ran.status, ran.errors, len(lines), len(texts)))
-            with self.lock:
-                self.known[script] = lines
+        """The lines of a run with enough memory."""
+        ran = self.run("\n".join(texts).encode())
+        lines = ran.lines()
+        if ran.status != 0 or ran.errors or len(lines) != len(texts):
+            raise Unusable("a script with enough memory ends with status %s, %r, and %d of %d lines"
+                           % (ran.status, ran.errors, len(lines), len(texts)))
         return lines
+
+    def counting(self, made):
+        """The table's values by which the count begins at the mark, if the variant has one."""
+        return {} if made.is_plain() else {"mark": variant.MARK_BYTES, "pass": self.marks}
+
+    def whole_span(self, made):
+        """How many allocations fail until the story's last event, or all of a plain variant."""
+        if made.is_plain():
+            return FOR_GOOD
+        ran = self.run("\n".join(made.texts).encode(), at=1, span=FOR_GOOD, **self.counting(made))
+        return max(2, ran.lines()[:made.place("tail")].count(b"memory") - 1)
 
     def wrong(self, made, ran):
         """What is wrong with a run, or None."""
@@ -71,37 +64,43 @@ class Judge:
             return self.wrong_end(made)
         lines = ran.lines()
         if ran.status != 0 or ran.errors or len(lines) != len(made.texts):
-            return "status %s, %d of %d lines, %r" % (ran.status, len(lines), len(made.texts), ran.errors)
+            return "status %s, %r, and %d of %d lines" % (
+                ran.status, ran.errors, len(lines), len(made.texts))
         out = [place for place, line in enumerate(lines) if line == b"memory"]
         if len(out) > ran.refused:
             return "%d allocations failed, and %d events print memory" % (ran.refused, len(out))
-        return self.wrong_line(made, lines, out) or wrong_count(made, lines)
+        return wrong_line(made, lines, out) or wrong_count(made, lines)
 
     def wrong_end(self, made):
-        """A script ends out of memory before its first event only. By sockets it may end at each."""
+        """A script may end out of memory before its first event; by sockets it may end at each."""
         if made.is_plain() or self.command == "loopback":
             return None
         return "the program ended behind its first event"
 
-    def wrong_line(self, made, lines, out):
-        """The first line that a fresh program prints otherwise, whatever the first event out of memory did."""
-        texts = [story.NOTHING if place in out else text for place, text in enumerate(made.texts)]
-        best, told = -1, None
-        for cut in made.cuts(out[0]) if out else [None]:
-            if cut:
-                texts[out[0]] = cut
-            wanted = self.fresh(texts)
-            differ = [k for k in range(len(lines)) if k not in out and lines[k] != wanted[k]]
-            if not differ:
-                return None
-            if differ[0] > best:
-                best, told = differ[0], (texts[differ[0]], wanted[differ[0]], lines[differ[0]])
-        text, wanted, said = (it if isinstance(it, str) else it.decode() for it in told)
-        return "behind it %r prints %r, and not %r" % (text[:150], said, wanted)
+
+def wrong_line(made, lines, out):
+    """The first line that a fresh program prints otherwise, or None.
+
+    `out` are the places of the events that ran out of memory. Only the first of them may have done a
+    part: a later one fails at its first allocation.
+    """
+    texts = [NOTHING if place in out else text for place, text in enumerate(made.texts)]
+    furthest, told = -1, None
+    for cut in made.cuts(out[0]) if out else [None]:
+        if cut:
+            texts[out[0]] = cut
+        wanted = made.fresh(texts)
+        differ = [k for k, line in enumerate(lines) if k not in out and line != wanted[k]]
+        if not differ:
+            return None
+        if differ[0] > furthest:
+            furthest = differ[0]
+            told = texts[furthest][:150], lines[furthest].decode(), wanted[furthest].decode()
+    return "behind it %r prints %r, and not %r" % told
 
 
 def wrong_count(made, lines):
-    """Whether a delivery that came again took another number of facts than the region gained."""
+    """Whether a delivery that came again took another number of facts than its region gained."""
     again = made.place("again")
     if again == len(lines):
         return None
@@ -114,37 +113,37 @@ def wrong_count(made, lines):
 
 
 def is_past(made, ran):
-    """Whether the allocation that failed, if any, is behind the event that is to run out of memory."""
+    """Whether no allocation failed, or none up to the end of the event that is to run out of memory."""
     out = [place for place, line in enumerate(ran.lines()) if line == b"memory"]
     return not ran.refused or bool(out) and out[0] > made.place("first")
 
 
 def sweep(judge, made, is_whole, offset, stride):
-    """Yields what is wrong when the allocations of a variant fail, each with its own run.
+    """Yields what is wrong when allocations of a variant fail.
 
-    Runs take each stride-th allocation, from the one behind the offset on; it fails alone, or with all that
-    follow up to the end of the story's events.
+    Each run begins to fail at another allocation: `offset` and then each `stride`-th one. One allocation
+    fails, or with `is_whole` all of them up to the last event of the story.
     """
     made.prepare()
     script = "\n".join(made.texts).encode()
     span = judge.whole_span(made) if is_whole else 1
-    at, faults, ends = 1 + offset, 0, 0
+    at, faults, runs, ends = 1 + offset, 0, 0, 0
     while faults < MOST_FAULTS:
-        ran = judge.lab.run([judge.command], script, at=at, span=span, **judge.counting(made))
-        wrong, ends = judge.wrong(made, ran), ends + ran.is_out_of_memory()
+        ran = judge.run(script, at=at, span=span, **judge.counting(made))
+        wrong, runs, ends = judge.wrong(made, ran), runs + 1, ends + ran.is_out_of_memory()
         if wrong:
             faults += 1
-            more = " and what follows" if is_whole else ""
-            yield "%s, without allocation %d%s: %s" % (made.title, at, more, wrong)
+            yield "%s, allocation %d%s: %s" % (made.title, at, " on" if is_whole else "", wrong)
         if is_past(made, ran):
             break
         at += stride
-    if not made.is_plain() and not is_whole and ends > at // stride // 2:
-        yield "%s: the program ended in %d of %d runs" % (made.title, ends, at // stride)
+    if not made.is_plain() and not is_whole and ends > runs // 2:
+        yield "%s: the program ended in %d of %d runs" % (made.title, ends, runs)
 
 
 def variants(judge, made, plain=True, others=False):
-    """The variants of a story: the plain one, and for each event one alone and one with each group of others."""
+    """The variants of a story: the plain one, and for each event one alone and one with each group
+    of others."""
     title = "%s, %s" % (judge.command, made.name)
     if plain:
         yield variant.Variant(title, variant.plain_steps(made), judge.fresh)

@@ -1,4 +1,5 @@
 """server: a running `tokend serve`, what it is asked, and the bundles that it gives and takes."""
+import contextlib
 import os
 import re
 import select
@@ -11,6 +12,7 @@ from refusal import SECONDS, Table, Unusable
 
 LISTENING = re.compile(rb"listening 127\.0\.0\.1:(\d+)\n")
 NOW = 1_700_000_000  # the time of every server
+ANSWERED = (b"HTTP/1.1 2", b"HTTP/1.1 3", b"HTTP/1.1 400")
 SUBJECT_OUT = 10  # the kind of fact that makes a bundle an OTB2
 CURSOR, EMPTY_VECTOR = bytes(10), b"OTV1\0\0"
 
@@ -73,23 +75,24 @@ class Server:
         self.folder = tempfile.TemporaryDirectory(dir=lab.folder)
         self.table = Table(self.folder.name)
         self.table.write(clock=NOW, **refusal)
-        self.errors_path, self.log_path = self.path("errors"), self.path("log")
-        for name, content in (("seed", bytes(range(32))), ("old", load)):
+        for name, content in (("seed", bytes(range(32))), ("old", load), ("errors", b"")):
             with open(self.path(name), "wb") as file:
                 file.write(content)
-        words = ("serve --region %d --port 0 --seed seed --log log --load old" % region).split()
-        with open(self.errors_path, "wb") as errors:
+        words = "serve --region %d --port 0 --seed seed --log log --load old" % region
+        with open(self.path("errors"), "wb") as errors:
             self.process = subprocess.Popen(
-                [lab.program] + words, cwd=self.folder.name, stdin=subprocess.DEVNULL,
+                [lab.program] + words.split(), cwd=self.folder.name, stdin=subprocess.DEVNULL,
                 stdout=subprocess.PIPE, stderr=errors, env=self.table.environment(lab.shim))
         self.output = self.first_line()
         found = LISTENING.fullmatch(self.output)
         self.port = int(found[1]) if found else None
-        if not found:
-            self.process.wait(SECONDS)
 
     def path(self, name):
         return os.path.join(self.folder.name, name)
+
+    def content(self, name):
+        with open(self.path(name), "rb") as file:
+            return file.read()
 
     def first_line(self):
         ready, _, _ = select.select([self.process.stdout], [], [], SECONDS)
@@ -99,20 +102,27 @@ class Server:
         return self
 
     def __exit__(self, *_):
-        """Ends the server, which serves without end."""
+        """Kills the server, since it serves without end."""
         self.process.kill()
         self.process.communicate()
         self.folder.cleanup()
 
+    def end(self):
+        """Its status, None while it serves, and what it printed."""
+        if not self.port:
+            with contextlib.suppress(subprocess.TimeoutExpired):
+                self.process.wait(SECONDS)
+        return self.process.poll(), self.output, self.errors()
+
     def refuse(self, at, span):
-        """Lets the allocations of the next connections fail, counted from here."""
+        """Lets allocations of the next connections fail, counted from here."""
         self.table.write(count=0, at=at, span=span, refused=0)
 
     def refused(self):
         return self.table.read("refused")
 
     def ask(self, sent):
-        """What comes back of a connection that sends this. Nothing comes if the server is gone."""
+        """What comes back of a connection that sends this; nothing comes from a server that is gone."""
         said = b""
         try:
             with socket.create_connection(("127.0.0.1", self.port), SECONDS) as connection:
@@ -128,21 +138,19 @@ class Server:
         return [self.ask(request) for request in requests]
 
     def made(self):
-        """The log: the facts that this server made."""
-        with open(self.log_path, "rb") as file:
-            return file.read()
+        """The log: the records of the facts that this server made."""
+        return self.content("log")
 
     def errors(self):
-        with open(self.errors_path, "rb") as file:
-            return file.read()
+        return self.content("errors")
 
 
-def run_story(lab, region, story, load, known):
-    """The log of a server that was asked a story's events. Their names come to be known."""
+def run_story(lab, region, events, load, names):
+    """The log of a server that was asked for these events. The names in their answers come to be known."""
     with Server(lab, region, load) as server:
-        for event in story.events:
-            reply = server.ask(request_of(event.filled(known)))
-            event.learn(reply.decode(), known)
-            if not reply.startswith((b"HTTP/1.1 2", b"HTTP/1.1 3", b"HTTP/1.1 400")):
+        for event in events:
+            reply = server.ask(request_of(event.filled(names)))
+            event.learn(reply.decode(), names)
+            if not reply.startswith(ANSWERED):
                 raise Unusable("%r is answered %r" % (event.text, reply[:60]))
         return server.made()

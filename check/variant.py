@@ -1,20 +1,23 @@
-"""variant: a story with one event that runs out of memory, and the same story without that event.
+"""variant: a story in which one event runs out of memory, and the same story without that event.
 
-A variant is a list of steps. The `first` step is the event that runs out of memory; the same event comes
-`again` behind look-ups and, in some variants, behind events that take its dot. The allocations of the
-program are counted from the `mark` on, which is the step before `first`.
+A variant is a list of steps. The step `first` is the event that runs out of memory. The same event comes
+`again` behind look-ups and, in some variants, behind other events that take its dot. The program's
+allocations are counted from the step `mark` on, which stands before `first`.
 """
 import threading
 
 import story
+from refusal import Unusable
 
-MARK_BYTES = 7001  # the length of an id that no client has, and the size of the copy that is made of it
-OWN_REGION = story.Event("open 65535")  # the region that is asked by marks, and holds no fact
+MARK_BYTES = 7001  # the length of an id that no client has, and of the program's copy of that id
+OWN_REGION = story.Event("open 65535")  # the region that marks ask; it holds no fact
 MARK = story.Event("look 65535 1 " + "x" * MARK_BYTES)
 ROUNDS = 30
 
 
 class Step:
+    """An event, and what it is there for."""
+
     def __init__(self, event, role):
         self.event, self.role = event, role
 
@@ -24,7 +27,7 @@ def all_as(role, events):
 
 
 def plain_steps(made):
-    """The steps of a story, with all allocations of the program counted."""
+    """The steps of a story in which all allocations of the program are counted."""
     return all_as("event", made.events) + all_as("tail", made.looks())
 
 
@@ -39,14 +42,18 @@ def steps_of(made, place, others=()):
 
 
 class Variant:
-    """Steps with their texts. `known` has the values of names in a run in which `first` does nothing."""
+    """Steps, and their texts once they are known.
 
-    def __init__(self, title, steps, run_lines):
-        self.title, self.steps, self.run_lines = title, steps, run_lines
-        self.texts, self.known, self.lock = None, {}, threading.Lock()
+    `run` gives the lines that a fresh program with enough memory prints for texts.
+    """
+
+    def __init__(self, title, steps, run):
+        self.title, self.steps, self.run = title, steps, run
+        self.texts, self.names, self.answers = None, {}, {}
+        self.lock = threading.Lock()
 
     def place(self, role):
-        """The place of the first step in this role; behind the last step if there is none."""
+        """The place of the first step with this role; behind the last step if no step has it."""
         roles = [step.role for step in self.steps]
         return roles.index(role) if role in roles else len(roles)
 
@@ -54,25 +61,41 @@ class Variant:
         return self.place("first") == len(self.steps)
 
     def prepare(self):
-        """Finds the values of names: each run may give the names that later events need."""
+        """Finds the texts. Each run may give names that later events need."""
         with self.lock:
-            if self.texts:
-                return self
-            for _ in range(ROUNDS):
-                texts = [step.event.filled(self.known) for step in self.steps]
-                before, first = dict(self.known), self.place("first")
-                lines = self.run_lines(texts[:first] + [story.NOTHING] * (first < len(texts))
-                                       + texts[first + 1:])
-                for step, line in zip(self.steps, lines):
-                    if step.role != "first":
-                        step.event.learn(line.decode(), self.known)
-                if self.known == before:
+            for _ in range(0 if self.texts else ROUNDS):
+                texts = [step.event.filled(self.names) for step in self.steps]
+                before = dict(self.names)
+                self.learn(texts)
+                if self.names == before:
                     self.texts = texts
-                    return self
-            raise ValueError("%s: names without end" % self.title)
+                    break
+            if not self.texts:
+                raise Unusable("%s: its names change without end" % self.title)
+        return self
+
+    def learn(self, texts):
+        """Takes the names from a run in which `first` does nothing."""
+        first = self.place("first")
+        if first < len(texts):
+            texts = texts[:first] + [story.NOTHING] + texts[first + 1:]
+        for step, line in zip(self.steps, self.run(texts)):
+            if step.role != "first":
+                step.event.learn(line.decode(), self.names)
+
+    def fresh(self, texts):
+        """The lines of a fresh program, which is run once for the same texts."""
+        key = "\n".join(texts)
+        with self.lock:
+            lines = self.answers.get(key)
+        if lines is None:
+            lines = self.run(texts)
+            with self.lock:
+                self.answers[key] = lines
+        return lines
 
     def cuts(self, place):
-        """What the event of this place may have done if it ran out of memory: nothing, or a part."""
+        """Texts for what the event of this place may have done out of memory: nothing, or a part."""
         if not self.texts[place].startswith("deliver "):
             return [story.NOTHING]
-        return [story.NOTHING] + self.steps[place].event.cuts(self.known)
+        return [story.NOTHING] + self.steps[place].event.cuts(self.names)
