@@ -19,7 +19,7 @@ client 1 1000 resource s3cret read https://rs.example/cb
 client 1 1000 public - read https://pub.example/cb
 """
 
-# Region 1 makes facts of each kind, region 3 takes them in and adds some, and region 2 takes in all.
+# Region 1 makes facts of each kind, region 3 takes them in and adds some, region 2 takes in all.
 FAMILY = """
 req 1 1001 CONSENT s{n} => consent{n}
 req 1 1002 ASK s{n} - => code{n}
@@ -82,7 +82,7 @@ def written_out(text):
 
 
 def many(families):
-    """A story with one bundle of all facts: four or so for each family of tokens, and nine more."""
+    """A story with one bundle: about four facts for each family of tokens, and nine more."""
     made = "".join((FAMILY + ENDS[n % len(ENDS)] + "\n").replace("{n}", str(n))
                    for n in range(families))
     start = "watch 2\nopen 2\nopen 3\nfollow 1 - - all\n"

@@ -1,10 +1,10 @@
 /* Preloaded into a program: makes chosen allocations fail, and stops its clock.
  *
  * The file named by CHECK_REFUSE is a table of numbers that the program and its tester share. The
- * tester writes `mark`, `pass`, `at`, `span` and `clock`; this library writes the others. Allocations
- * are counted from 1 once `pass` of them had the size `mark`: so a request of a known length, which the
- * program copies, begins the count. With `pass` 0 every allocation is counted. The allocations from
- * number `at` on fail, `span` of them.
+ * tester writes `mark`, `pass`, `at`, `span` and `clock`; this library writes the others. The
+ * count of allocations begins at 1 once `pass` of them had the size `mark`: a request of a known
+ * length, which the program copies, begins it. With `pass` 0 every allocation is counted. The
+ * allocations from number `at` on fail, `span` of them.
  */
 #define _GNU_SOURCE
 #include <errno.h>

@@ -1,9 +1,10 @@
 """scripts: runs scripts out of memory, and compares each run with a run of a fresh program.
 
-An event that runs out of memory prints `memory` and changes nothing, but a delivery may have added the
-first facts of its bundle. So a fresh program with enough memory must print the same lines for the same
-script with nothing in the place of that event, or with the delivery of the bundle's first facts there.
-The random words of an event depend on its place in the script, so both programs make the same handles.
+An event that runs out of memory prints `memory` and changes nothing, but a delivery may have added
+the first facts of its bundle. So a fresh program with enough memory must print the same lines for
+the same script with nothing in the place of that event, or with the delivery of the bundle's first
+facts there. The random words of an event depend on its place in the script, so both programs make
+the same handles.
 """
 import re
 
@@ -41,7 +42,7 @@ class Judge:
         ran = self.run("\n".join(texts).encode())
         lines = ran.lines()
         if ran.status != 0 or ran.errors or len(lines) != len(texts):
-            raise Unusable("a script with enough memory ends with status %s, %r, and %d of %d lines"
+            raise Unusable("with enough memory a script ends with status %s, %r, %d of %d lines"
                            % (ran.status, ran.errors, len(lines), len(texts)))
         return lines
 
@@ -68,7 +69,7 @@ class Judge:
                 ran.status, ran.errors, len(lines), len(made.texts))
         out = [place for place, line in enumerate(lines) if line == b"memory"]
         if len(out) > ran.refused:
-            return "%d allocations failed, and %d events print memory" % (ran.refused, len(out))
+            return "%d allocations failed, %d events print memory" % (ran.refused, len(out))
         return wrong_line(made, lines, out) or wrong_count(made, lines)
 
     def wrong_end(self, made):
@@ -81,8 +82,8 @@ class Judge:
 def wrong_line(made, lines, out):
     """The first line that a fresh program prints otherwise, or None.
 
-    `out` are the places of the events that ran out of memory. Only the first of them may have done a
-    part: a later one fails at its first allocation.
+    `out` are the places of the events that ran out of memory. Only the first of them may have done
+    a part: a later one fails at its first allocation.
     """
     texts = [NOTHING if place in out else text for place, text in enumerate(made.texts)]
     furthest, told = -1, None
@@ -113,7 +114,7 @@ def wrong_count(made, lines):
 
 
 def is_past(made, ran):
-    """Whether no allocation failed, or none up to the end of the event that is to run out of memory."""
+    """Whether the first allocation that failed, if any, was behind the event `first`."""
     out = [place for place, line in enumerate(ran.lines()) if line == b"memory"]
     return not ran.refused or bool(out) and out[0] > made.place("first")
 
@@ -121,8 +122,8 @@ def is_past(made, ran):
 def sweep(judge, made, is_whole, offset, stride):
     """Yields what is wrong when allocations of a variant fail.
 
-    Each run begins to fail at another allocation: `offset` and then each `stride`-th one. One allocation
-    fails, or with `is_whole` all of them up to the last event of the story.
+    Each run has another first allocation that fails: number `offset` + 1, and from there on each
+    `stride`-th one. It fails alone, or with `is_whole` all fail up to the story's last event.
     """
     made.prepare()
     script = "\n".join(made.texts).encode()

@@ -122,7 +122,7 @@ class Server:
         return self.table.read("refused")
 
     def ask(self, sent):
-        """What comes back of a connection that sends this; nothing comes from a server that is gone."""
+        """What comes back of a connection that sends this. From a server that is gone, nothing."""
         said = b""
         try:
             with socket.create_connection(("127.0.0.1", self.port), SECONDS) as connection:
@@ -146,7 +146,7 @@ class Server:
 
 
 def run_story(lab, region, events, load, names):
-    """The log of a server that was asked for these events. The names in their answers come to be known."""
+    """The log of a server that was asked for these events. Their answers give the names."""
     with Server(lab, region, load) as server:
         for event in events:
             reply = server.ask(request_of(event.filled(names)))

@@ -1,10 +1,12 @@
 """serving: connections of a server whose allocations fail, compared with those of a fresh server.
 
-Both servers have the same number, seed and time, so they make the same handles. The fresh server has enough
-memory; it is asked for nothing in the place of a request that got no reply, or is pushed the first facts
-of its bundle. It must give the same replies to all that follows, and have the same log. A server of another
-number that loads the facts held after the request must answer the look-ups alike.
+Both servers have the same number, seed and time, so they make the same handles. The fresh server
+has enough memory; it is asked for nothing in the place of a request that got no reply, or is
+pushed the first facts of its bundle. It must give the same replies to all that follows, and have
+the same log. A server of another number that loads the facts held after the request must answer
+the look-ups alike.
 """
+import re
 import threading
 
 import story
@@ -19,8 +21,8 @@ LOOK = "req 1 0 POST /introspect <c2-2:s3cret> - token="
 
 # The stories of many.py ask for client c1-1; region 2 adds the clients here.
 OLD = """
-req 2 0 POST /admin/client - - kind=confidential&secret=s3cret&scope=read&redirects=https://a.example/
-req 2 0 POST /admin/client - - kind=resource&secret=s3cret&scope=read&redirects=https://b.example/
+req 2 0 POST /admin/client - - kind=confidential&secret=s3cret&scope=read&redirects=https://a.test/
+req 2 0 POST /admin/client - - kind=resource&secret=s3cret&scope=read&redirects=https://b.test/
 req 2 0 CONSENT ann
 req 2 0 ASK ann - => code1
 req 2 0 ASK ann - => code2
@@ -76,7 +78,8 @@ class Scene:
         self.old = run_story(lab, OLD_REGION, events_of(OLD), b"", self.names)
         pushed = run_story(lab, OTHER_REGION, families_of(families), self.old, self.names)
         self.pushed = facts_of(pushed)
-        tokens = [it for name, it in sorted(self.names.items()) if name[:6] in ("access", "refres")]
+        tokens = [it for name, it in sorted(self.names.items())
+                  if re.match("access|refresh", name)]
         self.looks = [VECTOR, PULL, http("GET", "/admin/client?client_id=c2-1")]
         self.looks += [request_of(story.encoded(LOOK) + it) for it in tokens]
 
@@ -133,7 +136,7 @@ class Talk:
         self.errors, self.log = server.errors(), server.made()
 
     def apart(self, wanted):
-        """The first difference to the talk of a fresh server, or None. Empty replies aren't compared."""
+        """The first difference to a fresh server's talk, or None. First replies may be empty."""
         said = [it or one for it, one in zip(self.firsts, wanted.firsts)] + self.looks + self.rest
         for one, other in zip(wanted.firsts + wanted.looks + wanted.rest, said):
             if one != other:
@@ -163,7 +166,7 @@ def wrong(scene, talk, request):
 def sweep(scene, request, is_whole, offset, stride):
     """Yields what is wrong when allocations of a request fail, each time on a new server.
 
-    One allocation fails, or with `is_whole` all that follow too, also of the same request sent again.
+    One allocation fails, or with `is_whole` all that follow too, until the request was sent twice.
     """
     at, faults = 1 + offset, 0
     firsts, span = [request.sent], 1
@@ -183,7 +186,7 @@ def sweep(scene, request, is_whole, offset, stride):
 
 
 def sweep_start(scene, is_whole, offset, stride):
-    """Yields what is wrong when allocations of a start fail: it ends, or all is as it should be."""
+    """Yields what is wrong when allocations of a start fail. It ends, or it serves as ever."""
     at, faults, nothing = 1 + offset, 0, Request("a start", VECTOR)
     span = FOR_GOOD if is_whole else 1
     while faults < MOST_FAULTS:

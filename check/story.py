@@ -4,16 +4,16 @@ A story is text, with an event of tokend's script on each line:
 
     EVENT           an event
     ! EVENT         an event that memory runs out in; a story that has no such line has all of them
-    EVENT => NAME.. an event whose answer holds handles, ids or a bundle's number: {NAME} stands for
-                    them in later events
+    EVENT => NAME.. an event whose answer holds handles, ids or a bundle's number. In later events
+                    {NAME} stands for them
     <ID:SECRET>     inside an event: the text in base64, as `Authorization: Basic` has it
-    follow R V D B  from here on each event of region R is followed by `pull R V D`; {B} is the last
-                    of these bundles, and its fronts are the ones before it
+    follow R V D B  each event of region R from here on is followed by `pull R V D`. {B} is the
+                    last of these bundles, and the bundles before it are its fronts
     follow          ends that
     asker ID:SECRET the resource server that asks about tokens in look-ups
     watch R..       the regions that look-ups ask; without such a line all of them
-    other           the events below, to the next such line, run only in variants in which they take
-                    the dot of the event that ran out of memory
+    other           the events below, up to the next such line, run only in variants in which they
+                    take the dot of the event that ran out of memory
     # TEXT          for the reader. So are empty lines
 """
 import base64
@@ -43,7 +43,7 @@ class Event:
         return re.sub(r"\{(\w+)\}", lambda m: known.get(m[1], UNKNOWN), text or self.text)
 
     def cuts(self, known):
-        """For a delivery: the deliveries of its bundle's fronts, shortest first, and of all of it."""
+        """For a delivery: deliveries of its bundle's fronts, shortest first, and of all of it."""
         before = [self.text.replace(self.text.split()[1], "{%s}" % name) for name in self.fronts]
         return [self.filled(known, text) for text in before + [self.text]]
 
@@ -156,7 +156,7 @@ def read_file(name):
 
 
 def read_script(name, text):
-    """A script as a story. Bundles have other numbers there, so its pulls and deliveries name them."""
+    """A script as a story, in which bundles have names: their numbers change in variants."""
     lines, pulls = [], 0
     for line in text.splitlines():
         if line.startswith("pull "):

@@ -1,8 +1,8 @@
 """variant: a story in which one event runs out of memory, and the same story without that event.
 
-A variant is a list of steps. The step `first` is the event that runs out of memory. The same event comes
-`again` behind look-ups and, in some variants, behind other events that take its dot. The program's
-allocations are counted from the step `mark` on, which stands before `first`.
+A variant is a list of steps. The step `first` is the event that runs out of memory. The same event
+comes `again` behind look-ups and, in some variants, behind other events that take its dot. The
+program's allocations are counted from the step `mark` on, which is before `first`.
 """
 import threading
 
@@ -95,7 +95,7 @@ class Variant:
         return lines
 
     def cuts(self, place):
-        """Texts for what the event of this place may have done out of memory: nothing, or a part."""
+        """Texts for what the event of this place may have done: nothing, or a part of it."""
         if not self.texts[place].startswith("deliver "):
             return [story.NOTHING]
         return [story.NOTHING] + self.steps[place].event.cuts(self.names)
