@@ -81,7 +81,8 @@ class Lab:
         self.own.table.clear()
         return self.own.table
 
-    def counted(self):
+    def count(self):
+        """Counts a run of a sweep. Runs of fresh programs don't count."""
         with self.lock:
             self.runs += 1
 
@@ -92,7 +93,6 @@ class Lab:
         """
         table = self.table()
         table.write(**refusal)
-        self.counted()
         try:
             ran = subprocess.run([self.program] + words, capture_output=True, timeout=SECONDS,
                                  env=table.environment(self.shim), cwd=self.folder, input=script)

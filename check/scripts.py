@@ -130,8 +130,11 @@ def sweep(judge, made, is_whole, offset, stride):
     span = judge.whole_span(made) if is_whole else 1
     at, faults, runs, ends = 1 + offset, 0, 0, 0
     while faults < MOST_FAULTS:
+        judge.lab.count()
         ran = judge.run(script, at=at, span=span, **judge.counting(made))
         wrong, runs, ends = judge.wrong(made, ran), runs + 1, ends + ran.is_out_of_memory()
+        if at == 1 and not ran.refused:
+            wrong = "no allocation is counted"
         if wrong:
             faults += 1
             yield "%s, allocation %d%s: %s" % (made.title, at, " on" if is_whole else "", wrong)

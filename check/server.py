@@ -71,7 +71,6 @@ class Server:
     """A server on a free port, with a table by which its allocations fail."""
 
     def __init__(self, lab, region, load=b"", **refusal):
-        lab.counted()
         self.folder = tempfile.TemporaryDirectory(dir=lab.folder)
         self.table = Table(self.folder.name)
         self.table.write(clock=NOW, **refusal)

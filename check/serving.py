@@ -173,9 +173,12 @@ def sweep(scene, request, is_whole, offset, stride):
     if is_whole:
         firsts, span = firsts * 2, FOR_GOOD
     while faults < MOST_FAULTS:
+        scene.lab.count()
         with Server(scene.lab, REGION, scene.old) as server:
             talk = Talk(scene, server, firsts, request, at, span)
         told = wrong(scene, talk, request)
+        if at == 1 and not talk.refused:
+            told = "no allocation is counted"
         if told:
             faults += 1
             yield "serve, %s, allocation %d%s: %s" % (
@@ -190,6 +193,7 @@ def sweep_start(scene, is_whole, offset, stride):
     at, faults, nothing = 1 + offset, 0, Request("a start", VECTOR)
     span = FOR_GOOD if is_whole else 1
     while faults < MOST_FAULTS:
+        scene.lab.count()
         with Server(scene.lab, REGION, scene.old, at=at, span=span) as server:
             refused, told = server.refused(), None
             if server.port:
@@ -197,6 +201,8 @@ def sweep_start(scene, is_whole, offset, stride):
             end, wanted = server.end(), (None, server.output, b"")
         if not server.port:
             wanted = (1, b"", b"tokend: memory\n")
+        if at == 1 and not refused:
+            told = "no allocation is counted"
         if told or end != wanted:
             faults += 1
             yield "serve, allocation %d%s of a start: %s, and it ends with %s" % (
