@@ -24,6 +24,13 @@ def default_in(text, limits):
     return SPELLINGS.get(text, text)
 
 
+def value_said(is_required, default, limits):
+    """The default of an option, from the match that found it; or that the option must be given."""
+    if is_required:
+        return "must be given"
+    return default_in(default.group(1), limits) if default else ""
+
+
 def help_of(program, command):
     words = [program, command, "--help"]
     return subprocess.run(words, capture_output=True, text=True, timeout=60).stdout
@@ -37,10 +44,7 @@ def of_program(program, command):
         told = " ".join(told.split())
         limits = range_in(told)
         default = re.search(r"\[default: ([^\]]*)\]", told)
-        if "[required]" in told:
-            said = "must be given"
-        else:
-            said = default_in(default.group(1), limits) if default else ""
+        said = value_said("[required]" in told, default, limits)
         same(where, "--%s's value" % name, "N" if limits else "FILE", value)
         options[name] = (limits, said)
     if not options:
@@ -66,10 +70,7 @@ def of_page(part):
     for name, told in re.findall(r"^\.TP\n\.BI --(\w+) +\w+\n((?:[^.].*\n?)*)", text, re.M):
         limits = range_in(told)
         default = re.search(r"Default: ([^.,]*)", told)
-        if "Must be given" in told:
-            said = "must be given"
-        else:
-            said = default_in(default.group(1), limits) if default else ""
+        said = value_said("Must be given" in told, default, limits)
         options[name] = (limits, said)
     return options
 
