@@ -3,20 +3,26 @@ import glob
 import os
 import re
 
+from texts import Bad, bytes_in, counted, number_in, values_in
+
 HERE = os.path.dirname(os.path.abspath(__file__))
 SHARED = "beginnings.rows"
-ESCAPES = {"n": 10, "r": 13, "t": 9, "\\": 92}
-PIECE = re.compile(r"(?P<plain>[^\\]+)|\\(?P<one>[nrt\\])|\\x(?P<byte>[0-9a-f]{2})|\\(?P<any>\?)"
-                   r"|\\\{(?P<text>[^{}]*)(?P<how>[*/])(?P<count>[1-9]\d{0,6})\}")
 NAME = re.compile(r"[A-Za-z0-9][A-Za-z0-9._-]*")
-COUNTED = re.compile(r"(?<!\\)\{(n: [^{}]*|[-+*/%() 0-9]*n[-+*/%() 0-9]*)\}")
 EVENT = re.compile(r"[A-Za-z]|[>\\] |[>\\]$")
+# What may come several times: events, and lines of files and of connections.
+SEVERAL = re.compile(EVENT.pattern + r"|[+=] |(->|<-)( |$)")
 # What stands behind `0<`, and behind `1>` and `2>` where that is no number.
 INPUTS, OUTPUTS = ("folder", "reset", "interrupted"), ("full", "shut", "interrupted")
 
 
-class Bad(Exception):
-    """What can't be read, after its file and line."""
+class Connection:
+    """What a client does, and what it is to get."""
+
+    def __init__(self, pause, drip):
+        self.pause = pause  # how many milliseconds pass before the client connects
+        self.drip = drip  # how many pass between two bytes, how many it may be open, and the place
+        self.sent = b""
+        self.reply = []  # the texts that are to come back, each with its place
 
 
 class Part:
@@ -25,11 +31,13 @@ class Part:
     def __init__(self, place, is_row, name):
         self.place, self.is_row, self.name = place, is_row, name
         self.words = []  # a list for each time that it is run
-        self.events = []  # of each the bytes that are sent, and the lines of its answer, each with its place
+        self.events = []  # of each its bytes, and the lines of its answer, each with its place
         self.errors, self.status = [], 0
         self.devices = {}  # to `0<`, `1>` and `2>` what becomes of them, and the place
-        self.files, self.afterwards = {}, {}  # to each name its bytes; and what they are to be then, each text with its place
-        self.connections = []  # of each what is sent, and what is to come back, each text with its place
+        self.files = {}  # to each name its bytes
+        self.afterwards = {}  # to each name what its bytes are to be then, as texts with places
+        self.connections = []
+        self.coming = {}  # to the signs `--` and `-:` what they say of the next connection
         self.beginnings, self.is_used = [], False
 
     def use(self):
@@ -46,70 +54,16 @@ class Part:
         return [line for _, answer in self.events for line in answer]
 
 
-def number_in(text, least, greatest, place):
-    if not re.fullmatch(r"0|[1-9]\d{0,4}", text) or not least <= int(text) <= greatest:
-        raise Bad("%s: %r is no number from %d to %d" % (place, text, least, greatest))
-    return int(text)
-
-
-def values_in(text, place):
-    """The bytes that a text stands for, None for any."""
-    values, at = [], 0
-    while at < len(text):
-        piece = PIECE.match(text, at)
-        if not piece:
-            raise Bad("%s: a backslash before something else than n, r, t, another one, x and two digits, or { and a repetition" % place)
-        if piece["plain"]:
-            values += piece["plain"].encode()
-        elif piece["how"] == "*":
-            values += values_in(piece["text"], place) * int(piece["count"])
-        elif piece["how"]:
-            whole = values_in(piece["text"], place)
-            if len(whole) < int(piece["count"]):
-                raise Bad("%s: no %s bytes, but %d" % (place, piece["count"], len(whole)))
-            values += whole[:int(piece["count"])]
-        else:
-            values.append(None if piece["any"] else ESCAPES[piece["one"]] if piece["one"] else int(piece["byte"], 16))
-        at = piece.end()
-    return values
-
-
-def bytes_in(text, place):
-    values = values_in(text, place)
-    if None in values:
-        raise Bad("%s: any byte where one is to be sent" % place)
-    return bytes(values)
-
-
-def counted(line, n, times, place):
-    """The line as it comes for the n-th time of so many."""
-    def value(found):
-        if found[1].startswith("n: "):
-            items = found[1][3:].split()
-            if len(items) != times:
-                raise Bad("%s: %d for %d times" % (place, len(items), times))
-            return items[n - 1]
-        try:
-            number = eval(found[1], {"__builtins__": {}}, {"n": n})
-        except (SyntaxError, TypeError, ArithmeticError):
-            number = None
-        if not isinstance(number, int) or number < 0:
-            raise Bad("%s: {%s} is no number" % (place, found[1]))
-        return str(number)
-
-    return COUNTED.sub(value, line)
-
-
 def is_between(line):
     """Whether the line is part of what an event is answered, or of nothing."""
     return line.startswith(("  ", "#")) or not line.strip()
 
 
 def end_of(sign, lines, at):
-    """Where what comes several times ends, which begins at this line: an event and its answer, or all before a line **."""
-    stops = [k for k in range(at, len(lines)) if (lines[k][1] == "**" if sign == "**" else not is_between(lines[k][1]))]
+    """Where what comes several times ends: an event and its answer, a line, or all before a **."""
     if sign == "**":
-        return stops[0] if stops else None
+        return next((k for k in range(at, len(lines)) if lines[k][1] == "**"), None)
+    stops = [k for k in range(at, len(lines)) if not is_between(lines[k][1])]
     return stops[1] if len(stops) > 1 else len(lines)
 
 
@@ -126,8 +80,9 @@ def repeated(lines):
         times, end = number_in(text, 1, 10000, place), end_of(sign, lines, at)
         body = lines[at:end]
         told = [l for _, l in body if l.strip() and not l.startswith("#")]
-        if end is None or not told or not EVENT.match(told[0]) or not all(EVENT.match(l) or l.startswith("  ") for l in told):
-            raise Bad("%s: no event that comes %d times" % (place, times))
+        are_known = all(SEVERAL.match(l) or l.startswith("  ") for l in told)
+        if end is None or not told or told[0].startswith("  ") or not are_known:
+            raise Bad("%s: nothing that can come %d times" % (place, times))
         out += [(p, counted(l, n, times, p)) for n in range(1, times + 1) for p, l in body]
         at = end + 1 if sign == "**" else end
     return out
@@ -186,16 +141,40 @@ def put_afterwards(part, text, place, known):
     part.afterwards.setdefault(name, []).append((values_in(more, place), place))
 
 
+def is_open(part):
+    """Whether the lines below may still be of the last connection."""
+    return bool(part.connections) and not part.connections[-1].reply
+
+
+def put_coming(part, sign, how, place):
+    if sign in part.coming or is_open(part):
+        raise Bad("%s: a second line of this form, or one within a connection" % place)
+    part.coming[sign] = how
+
+
+def put_pause(part, text, place, known):
+    put_coming(part, "--", number_in(text, 1, 30000, place), place)
+
+
+def put_drip(part, text, place, known):
+    words = re.fullmatch(r"(\d+) (\d+)\.\.(\d+)", text)
+    if not words:
+        raise Bad("%s: no number, and two with .. between them" % place)
+    gap, least, most = (number_in(word, 1, 30000, place) for word in words.groups())
+    put_coming(part, "-:", (gap, least, most, place), place)
+
+
 def put_request(part, text, place, known):
-    if not part.connections or part.connections[-1][1]:
-        part.connections.append([b"", []])
-    part.connections[-1][0] += bytes_in(text, place)
+    if not is_open(part):
+        part.connections.append(Connection(part.coming.get("--", 0), part.coming.get("-:")))
+        part.coming = {}
+    part.connections[-1].sent += bytes_in(text, place)
 
 
 def put_reply(part, text, place, known):
-    if not part.connections:
+    if not part.connections or part.coming:
         raise Bad("%s: a reply to nothing" % place)
-    part.connections[-1][1].append((values_in(text, place), place))
+    part.connections[-1].reply.append((values_in(text, place), place))
 
 
 FORMS = {
@@ -203,6 +182,7 @@ FORMS = {
     "1>": lambda part, text, place, known: put_output(part, "1>", text, place),
     "2>": lambda part, text, place, known: put_output(part, "2>", text, place),
     "+": put_file, "=": put_afterwards, "->": put_request, "<-": put_reply,
+    "--": put_pause, "-:": put_drip,
 }
 
 
@@ -214,7 +194,8 @@ def put(part, line, place, known):
             part.events.append((b"", []))
         part.events[-1][1].append((text[1:].encode() + b"\n", place))
     elif EVENT.match(line):
-        part.events.append((bytes_in(text, place) if sign == "\\" else (text if sign == ">" else line).encode() + b"\n", []))
+        whole = (text if sign == ">" else line).encode() + b"\n"
+        part.events.append((bytes_in(text, place) if sign == "\\" else whole, []))
     elif sign not in FORMS:
         raise Bad("%s: neither an event nor a line of another form" % place)
     elif not (part.is_row or sign in ("<<", "+")):
@@ -225,7 +206,8 @@ def put(part, line, place, known):
 
 def read(part, lines, known):
     """Reads the lines of a row or a beginning, which may use these beginnings."""
-    empty, was_answer = 0, False  # how many empty lines there were just now, and whether a line of an answer before them
+    # How many empty lines there were just now, and whether a line of an answer was before them.
+    empty, was_answer = 0, False
     for place, line in repeated(lines):
         if not line.strip():
             empty += 1
@@ -236,7 +218,7 @@ def read(part, lines, known):
         if not line.startswith("#"):
             put(part, line, place, known)
         empty, was_answer = 0, is_answer
-    if part.connections and not part.connections[-1][1]:
+    if part.coming or is_open(part):
         raise Bad("%s: no reply to the last connection of %s" % (part.place, part.name))
     if part.connections and "1>" in part.devices:
         raise Bad("%s: connections to a service whose port nobody is told" % part.devices["1>"][1])
@@ -268,10 +250,11 @@ def rows_in(place, name, lines, known, tables):
     each = [(p, line[2:]) for p, line in lines if line.startswith("% ")]
     rest = [(p, line) for p, line in lines if not line.startswith("% ")]
     if len(each) > 1 or bool(each) != any("{it}" in line for _, line in rest):
-        raise Bad("%s: a row has one line of what it is run for where it has {it}, and else none" % place)
+        raise Bad("%s: a row has {it} and one line of what it is run for, or neither" % place)
     if not each:
         return [read(Part(place, True, name), rest, known)]
-    return [read(Part(place, True, "%s, %s" % (name, what)), [(p, line.replace("{it}", it)) for p, line in rest], known)
+    return [read(Part(place, True, "%s, %s" % (name, what)),
+                 [(p, line.replace("{it}", it)) for p, line in rest], known)
             for what, it in items_in(each[0][1], each[0][0], tables)]
 
 
@@ -289,13 +272,14 @@ class Table:
 
 
 def blocks_in(name):
-    """What a file has: of each row, beginning and table its place, its sign, its name and its lines."""
+    """Of each row, beginning and table of a file its place, its sign, its name and its lines."""
     with open(os.path.join(HERE, name), "rb") as f:
         content = f.read()
     try:
         lines = content.decode().split("\n")
     except UnicodeDecodeError as e:
-        raise Bad("rows/%s:%d: bytes that are no text" % (name, content.count(b"\n", 0, e.start) + 1))
+        line = content.count(b"\n", 0, e.start) + 1
+        raise Bad("rows/%s:%d: bytes that are no text" % (name, line))
     blocks = []
     for number, line in enumerate(lines, 1):
         place, (sign, _, text) = "rows/%s:%d" % (name, number), line.partition(" ")

@@ -22,9 +22,11 @@ class Ran:
     """What came of a run."""
 
     def __init__(self):
-        self.output, self.errors, self.status = b"", b"", None  # no status where it had to be ended
+        self.output, self.errors = b"", b""
+        self.status = None  # None stays where it had to be ended
         self.replies = []  # what came back of each connection
-        self.files = {}  # what each file had then that the row speaks of; None where there was none
+        self.lasted = []  # how many milliseconds each was open
+        self.files = {}  # what each file of the row's had then, if it was there
 
     def port(self):
         """The port that a service told, as text."""
@@ -38,7 +40,8 @@ def reset_behind(sent):
         client = socket.create_connection(server.getsockname())
         here, _ = server.accept()
     client.sendall(sent)
-    client.setsockopt(socket.SOL_SOCKET, socket.SO_LINGER, struct.pack("ii", 1, 0))  # it closes by a reset
+    # It closes by a reset.
+    client.setsockopt(socket.SOL_SOCKET, socket.SO_LINGER, struct.pack("ii", 1, 0))
     client.close()
     return here.detach()
 
@@ -56,11 +59,11 @@ def is_in(process, state):
 
 
 class Interrupted:
-    """A connection on which the program waits, as an input behind these bytes or as an output before its first byte."""
+    """A connection on which the program waits: an input behind these bytes, or an output."""
 
     def __init__(self, sign, sent):
         here, self.there = socket.socketpair()
-        # Only with a limit of time does a signal that stops the program interrupt it; without one it goes on.
+        # A signal that stops the program interrupts it only with a limit of time.
         for option in (socket.SO_RCVTIMEO, socket.SO_SNDTIMEO):
             here.setsockopt(socket.SOL_SOCKET, option, struct.pack("ll", SECONDS, 0))
         self.filled = 0
@@ -128,9 +131,10 @@ def started(program, words, row, room, ends):
     """The program, begun. Where an output fails it is told so, and isn't ended by a signal."""
     given = subprocess.PIPE if row.sent() else subprocess.DEVNULL
     with limited(row):
-        return subprocess.Popen(["tokend"] + words, executable=os.path.abspath(program), cwd=room, restore_signals=not ends,
-                                stdin=ends.get("0<", given), stdout=ends.get("1>", subprocess.PIPE),
-                                stderr=ends.get("2>", subprocess.PIPE))
+        return subprocess.Popen(
+            ["tokend"] + words, executable=os.path.abspath(program), cwd=room,
+            restore_signals=not ends, stdin=ends.get("0<", given),
+            stdout=ends.get("1>", subprocess.PIPE), stderr=ends.get("2>", subprocess.PIPE))
 
 
 def wait_for_port(process, ran):
@@ -143,26 +147,51 @@ def wait_for_port(process, ran):
         ran.output += piece
 
 
-def answered(port, sent):
-    """What comes back of a connection that sends this."""
-    said = b""
+def send_at_once(connection, sent):
+    """Sends the bytes and ends the stream. It yields what comes back."""
+    connection.sendall(sent)
+    connection.shutdown(socket.SHUT_WR)
+    while piece := connection.recv(65536):
+        yield piece
+
+
+def send_in_drips(connection, sent, gap):
+    """Sends the bytes one by one, so many milliseconds apart. It yields what comes back."""
+    left, end = sent, time.monotonic() + SECONDS
+    while time.monotonic() < end:
+        if select.select([connection], [], [], gap / 1000)[0]:
+            piece = connection.recv(65536)
+            if not piece:
+                return
+            yield piece
+        elif left:
+            connection.sendall(left[:1])
+            left = left[1:]
+
+
+def answered(port, wanted):
+    """What comes back of a connection, and how many milliseconds it was open."""
+    time.sleep(wanted.pause / 1000)
+    said, begun = b"", time.monotonic()
     try:
         with socket.create_connection(("127.0.0.1", port), SECONDS) as connection:
-            connection.sendall(sent)
-            connection.shutdown(socket.SHUT_WR)
-            while piece := connection.recv(65536):
+            sending = (send_in_drips(connection, wanted.sent, wanted.drip[0]) if wanted.drip
+                       else send_at_once(connection, wanted.sent))
+            for piece in sending:
                 said += piece
     except OSError:
         pass  # what came before stands
-    return said
+    return said, round((time.monotonic() - begun) * 1000)
 
 
 def talk(process, row, ran):
     """Makes the row's connections, sends the program its events, and waits for its end."""
     if row.connections:
         wait_for_port(process, ran)
-    if ran.port():
-        ran.replies = [answered(int(ran.port()), sent) for sent, _ in row.connections]
+    for connection in row.connections if ran.port() else []:
+        said, lasted = answered(int(ran.port()), connection)
+        ran.replies.append(said)
+        ran.lasted.append(lasted)
     sent = row.sent() if process.stdin else None
     try:
         output, errors = process.communicate(sent, SECONDS)
@@ -187,7 +216,7 @@ def interrupted(process, row, halts):
 
 
 def run(program, words, row):
-    """What comes of the row, run by the program with these words, in an empty folder but for the row's files."""
+    """What comes of the row, run with these arguments in a folder that has its files alone."""
     ran, ends, halts = Ran(), {}, {}
     with tempfile.TemporaryDirectory() as room, contextlib.ExitStack() as stack:
         for name, content in row.files.items():
@@ -202,7 +231,8 @@ def run(program, words, row):
             if halts:
                 interrupted(process, row, halts.values())
             talk(process, row, ran)
-        taken = {sign: os.pread(end, 1 << 20, 0) for sign, end in ends.items() if isinstance(row.devices[sign][0], int)}
+        taken = {sign: os.pread(end, 1 << 20, 0) for sign, end in ends.items()
+                 if isinstance(row.devices[sign][0], int)}
         taken.update((sign, halt.taken()) for sign, halt in halts.items() if sign != "0<")
         ran.output += taken.get("1>", b"")
         ran.errors += taken.get("2>", b"")

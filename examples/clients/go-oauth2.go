@@ -1,7 +1,7 @@
 // go-oauth2: a code flow with PKCE by golang.org/x/oauth2, each answer compared.
 //
-// `tour` says in the environment where and who: AT, CLIENT, SECRET, ODD, ODD_SECRET, SERVER, SERVER_SECRET, REDIRECT. Status 0:
-// every answer was as wanted. 1: one wasn't.
+// `tour` sets in the environment where and who: AT, CLIENT, SECRET, ODD, ODD_SECRET, SERVER,
+// SERVER_SECRET, REDIRECT. Status 0: each reply was as expected. 1: one was not.
 package main
 
 import (
@@ -46,9 +46,14 @@ func must(err error) {
 }
 
 func client(id, secret string, style oauth2.AuthStyle) *oauth2.Config {
-	return &oauth2.Config{ClientID: os.Getenv(id), ClientSecret: os.Getenv(secret), RedirectURL: os.Getenv("REDIRECT"),
-		Scopes:   []string{"read", "write"},
-		Endpoint: oauth2.Endpoint{AuthURL: at + "/authorize", TokenURL: at + "/token", AuthStyle: style}}
+	return &oauth2.Config{
+		ClientID:     os.Getenv(id),
+		ClientSecret: os.Getenv(secret),
+		RedirectURL:  os.Getenv("REDIRECT"),
+		Scopes:       []string{"read", "write"},
+		Endpoint: oauth2.Endpoint{
+			AuthURL: at + "/authorize", TokenURL: at + "/token", AuthStyle: style},
+	}
 }
 
 // where a browser is led to; the front end says who has signed in
@@ -84,16 +89,18 @@ func codeFlow(c *oauth2.Config) (*oauth2.Token, error) {
 	if answer.Get("state") != "xyz" {
 		must(fmt.Errorf("another state"))
 	}
-	return c.Exchange(context.Background(), answer.Get("code"), oauth2.SetAuthURLParam("code_verifier", verifier))
+	return c.Exchange(context.Background(), answer.Get("code"),
+		oauth2.SetAuthURLParam("code_verifier", verifier))
 }
 
 func refresh(c *oauth2.Config, token string) (*oauth2.Token, error) {
 	return c.TokenSource(context.Background(), &oauth2.Token{RefreshToken: token}).Token()
 }
 
-// it has no introspection and no revocation: a form, with id and secret encoded as the library does
+// the library has no introspection and no revocation: a form, with id and secret encoded likewise
 func post(path, id, secret, token string) (int, string) {
-	request, err := http.NewRequest("POST", at+path, strings.NewReader(url.Values{"token": {token}}.Encode()))
+	form := strings.NewReader(url.Values{"token": {token}}.Encode())
+	request, err := http.NewRequest("POST", at+path, form)
 	must(err)
 	request.Header.Set("Content-Type", "application/x-www-form-urlencoded")
 	request.SetBasicAuth(url.QueryEscape(os.Getenv(id)), url.QueryEscape(secret))
@@ -122,18 +129,26 @@ func main() {
 	_, said = post("/introspect", "SERVER", server, renewed.AccessToken)
 	expect("introspected", `{"active":false}`, said)
 
-	expect("a secret with + and % in Basic, form-encoded", "no error: Bearer", shown(codeFlow(client("ODD", "ODD_SECRET", oauth2.AuthStyleInHeader))))
-	expect("the same in the body", "no error: Bearer", shown(codeFlow(client("ODD", "ODD_SECRET", oauth2.AuthStyleInParams))))
-	// as long as none has succeeded, a request that failed is sent again, with the secret in the body
+	inHeader := client("ODD", "ODD_SECRET", oauth2.AuthStyleInHeader)
+	expect("a secret with + and % in Basic, form-encoded", "no error: Bearer",
+		shown(codeFlow(inHeader)))
+	inBody := client("ODD", "ODD_SECRET", oauth2.AuthStyleInParams)
+	expect("the same in the body", "no error: Bearer", shown(codeFlow(inBody)))
+	// as long as no request has succeeded, one that failed is sent again, with the secret in the body
 	requests := &counter{}
-	counted := context.WithValue(context.Background(), oauth2.HTTPClient, &http.Client{Transport: requests})
-	_, err = client("CLIENT", "SECRET", oauth2.AuthStyleAutoDetect).Exchange(counted, "none")
-	expect("where it is to find the way by itself, a refused code", "2 requests", fmt.Sprintf("%d requests, %s", requests.count, shown(nil, err)))
-	expect("where it finds the way by itself", "no error: Bearer", shown(codeFlow(client("CLIENT", "SECRET", oauth2.AuthStyleAutoDetect))))
+	counted := context.WithValue(context.Background(), oauth2.HTTPClient,
+		&http.Client{Transport: requests})
+	detects := client("CLIENT", "SECRET", oauth2.AuthStyleAutoDetect)
+	_, err = detects.Exchange(counted, "none")
+	expect("with AutoDetect, a refused code", "2 requests",
+		fmt.Sprintf("%d requests, %s", requests.count, shown(nil, err)))
+	detects = client("CLIENT", "SECRET", oauth2.AuthStyleAutoDetect)
+	expect("with AutoDetect, a good code", "no error: Bearer", shown(codeFlow(detects)))
 
 	wide := client("CLIENT", "SECRET", oauth2.AuthStyleInHeader)
 	wide.Scopes = []string{"admin"}
-	expect("/authorize, a scope too wide", "invalid_scope", signIn(wide.AuthCodeURL("xyz")).Get("error"))
+	expect("/authorize, a scope too wide", "invalid_scope",
+		signIn(wide.AuthCodeURL("xyz")).Get("error"))
 	expect("/token, no such code", "invalid_grant", shown(app.Exchange(context.Background(), "none")))
 	expect("/token, a used refresh token", "invalid_grant", shown(refresh(app, token.RefreshToken)))
 	status, said = post("/introspect", "CLIENT", "wrong", "none")

@@ -1,4 +1,5 @@
--- Where the answer to an authorisation request leads. Key result: decision_leads.
+-- The URI that the reply to an authorisation request leads to. Key result:
+--   decision_leads   the reply leads to a registered URI of the client, or to no URI
 use Rattle.std.proofs.Common.{◌≡◌, ℕ, Bool, true, false, if◌then◌else◌, List, [], ◌∷◌, codes, Option, Some, None, Ok, Err, IfOk, Contains, bytes_eq, refl, ap, sym, subst, arith}
 use Rattle.std.specs.Option.{option_and_then}
 use Rattle.std.specs.Prelude.{Result}
@@ -27,21 +28,23 @@ use Rattle.tk_authorize.specs.Authorization.{decided_by, authorization_of}
 use Rattle.tk_authorize.specs.Judged.{judged_at, target_of, judged_by_redirect, judged_by_view, judged_by_client, judged_by_id, judged_of, target_names}
 use Rattle.tk_authorize.specs.Registered.{IsRegistered, LeadsToClient}
 
--- the URI that is meant is in the list
+-- the URI of a list with one URI is in the list
 only_listed : (uris : List (List ℕ)) (uri : List ℕ) → only_uri uris ≡ Uri uri → Contains uris uri
 only_listed [] uri h = cc
 only_listed (x ∷ []) uri h = let same : x ≡ uri = cc in (0, omega arith, same)
 only_listed (x ∷ y ∷ uris) uri h = cc
 
+-- a URI that was sent and is found in the list is in the list
 sent_listed : (uris : List (List ℕ)) (sent uri : List ℕ) (b : Bool) → list_any (bytes_eq sent) uris ≡ b → (if b then Uri sent else Unknown) ≡ Uri uri → Contains uris uri
 sent_listed uris sent uri true is h = let same : sent ≡ uri = cc in subst (Contains uris) same (Contains-from_any (λ x y e. (bytes_eq-Decides x y).0 e) sent uris is)
 sent_listed uris sent uri false is h = cc
 
+-- the URI that is picked from a list is in the list
 picked_listed : (uris : List (List ℕ)) (sent : Option (List ℕ)) (uri : List ℕ) → picked uris sent ≡ Uri uri → Contains uris uri
 picked_listed uris None uri h = only_listed uris uri h
 picked_listed uris (Some sent) uri h = sent_listed uris sent uri (list_any (bytes_eq sent) uris) refl h
 
--- a judgement that leads somewhere leads to a registered URI
+-- a judgement leads to a registered URI or to no URI
 abbrev LeadsTo : FactSet → Pairs → Judged → Type 0
 LeadsTo F params (Refused why) = Unit {0}
 LeadsTo F params (Denied target why) = IsRegistered F params target.uri
@@ -84,15 +87,17 @@ by_duplicate : (F : FactSet) (params : Pairs) (subject : Option (List ℕ)) (b :
 by_duplicate F params subject true = tt
 by_duplicate F params subject false = by_id F params subject _ refl
 
+-- a redirect leads to the registered URI that it is made of
 redirect_leads : (F : FactSet) (params : Pairs) (uri name value : List ℕ) (state : Option (List ℕ)) → IsRegistered F params uri → LeadsToClient F params (redirect_reply uri name value state)
 redirect_leads F params uri name value state known = record { uri = uri; known = known; pairs = with_state name value state; location_is = refl }
 
--- the reply leads where the judgement leads
+-- the reply leads to the URI that the judgement leads to
 decided_leads : (F : FactSet) (params : Pairs) (place : Place) (now : ℕ) (words : List ℕ) (state : Option (List ℕ)) (judged : Judged) → LeadsTo F params judged → LeadsToClient F params (decided_by place now words state judged).reply
 decided_leads F params place now words state (Refused why) known = tt
 decided_leads F params place now words state (Denied target why) known = redirect_leads F params target.uri _ _ state known
 decided_leads F params place now words state (Approved target approval) known = redirect_leads F params target.uri _ _ state known
 
+-- the reply to an authorisation request leads to a registered URI or to no URI
 leads : (F : FactSet) (place : Place) (now : ℕ) (words : List ℕ) (request : RequestFields) → LeadsToClient F request.params (authorization_of F place now words request).reply
 leads F place now words request =
     decided_leads F request.params place now words _ (judged_of F request.params request.subject) (by_duplicate F request.params request.subject (has_twice target_names request.params))

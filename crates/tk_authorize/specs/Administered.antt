@@ -1,12 +1,32 @@
--- What becomes of an administration request: for each endpoint its cases, in their order (own; RFC 6749, 2 and 3.3).
---   registered_of   POST /admin/client
---   shown_of        GET /admin/client
---   retired_of      POST /admin/retire
---   consented_of    POST /admin/consent
---   withdrawn_of    POST /admin/withdraw
---   signed_out_of   POST /admin/signout
---   administered_of   by the endpoint
-use Rattle.std.specs.Prelude.{ℕ, Bool, ◌&&◌, ◌==◌, nat_le, List, [], ◌∷◌, length, codes, Option, Some, None, is_none, Result, Ok, Err, if◌then◌else◌}
+-- The judgement of an administration request: the cases of each endpoint, in their order (own;
+-- RFC 6749, 2 and 3.3).
+--   registered_of     POST /admin/client
+--   shown_of          GET /admin/client
+--   retired_of        POST /admin/retire
+--   consented_of      POST /admin/consent
+--   withdrawn_of      POST /admin/withdraw
+--   signed_out_of     POST /admin/signout
+--   administered_of   the judgement by the endpoint
+use Rattle.std.specs.Prelude.{
+  ℕ,
+  Bool,
+  ◌&&◌,
+  ◌==◌,
+  nat_le,
+  List,
+  [],
+  ◌∷◌,
+  length,
+  codes,
+  Option,
+  Some,
+  None,
+  is_none,
+  Result,
+  Ok,
+  Err,
+  if◌then◌else◌,
+}
 use Rattle.std.specs.List.{list_all, slice_split}
 use Rattle.std.specs.Str.{bytes_eq}
 use Rattle.sha2.specs.Sha256.{sha256}
@@ -28,38 +48,65 @@ use Rattle.tk_message.specs.declared.request.Endpoint.TheVariants as endpoint
 use Rattle.tk_message.specs.RequestFields.{RequestFields}
 use Rattle.tk_message.specs.ScopeAsked.{scope_asked}
 use Rattle.tk_authorize.specs.declared.admin_refusal.AdminRefusal.{AdminRefusal}
-use Rattle.tk_authorize.specs.declared.admin_refusal.AdminRefusal.TheVariants.{DuplicateParameter, MissingParameter, UnknownKind, UnwantedSecret, MissingSecret, BadSecret, BadScope, BadRedirects, UnknownClient, BadSubject, WrongScope, UnknownConsent, UnknownEndpoint}
+use Rattle.tk_authorize.specs.declared.admin_refusal.AdminRefusal.TheVariants.{
+  DuplicateParameter,
+  MissingParameter,
+  UnknownKind,
+  UnwantedSecret,
+  MissingSecret,
+  BadSecret,
+  BadScope,
+  BadRedirects,
+  UnknownClient,
+  BadSubject,
+  WrongScope,
+  UnknownConsent,
+  UnknownEndpoint,
+}
 use Rattle.tk_authorize.specs.declared.administered.Administered.{Administered}
-use Rattle.tk_authorize.specs.declared.administered.Administered.TheVariants.{Refused, Registers, Shows, Retires, Consents, Withdraws, AlreadyOut, SignsOut}
+use Rattle.tk_authorize.specs.declared.administered.Administered.TheVariants.{
+  Refused,
+  Registers,
+  Shows,
+  Retires,
+  Consents,
+  Withdraws,
+  AlreadyOut,
+  SignsOut,
+}
 
 -- ---- add a client
 
--- the most bytes of a client's secret (own)
+-- the greatest number of bytes of a client's secret (own)
 abbrev pub most_secret_bytes : ℕ
 most_secret_bytes = 128
 
--- 1 to that many visible bytes (own)
+-- the secret has 1 to 128 visible bytes (own)
 abbrev pub is_secret : List ℕ → Bool
-is_secret secret = nat_le 1 (length secret) && nat_le (length secret) most_secret_bytes && list_all is_visible secret
+is_secret secret = nat_le 1 (length secret) && nat_le (length secret) most_secret_bytes
+    && list_all is_visible secret
 
--- a public client has no secret (RFC 6749, 2.1)
+-- the kind of a public client, for which no secret may be sent (RFC 6749, 2.1)
 abbrev pub public_sort : Option (List ℕ) → Result Sort AdminRefusal
 public_sort None = Ok Public
 public_sort (Some secret) = Err UnwantedSecret
 
--- another has one, of which the digest is kept
+-- the digest of a required secret: facts keep the digest alone
 abbrev pub digest_asked : Option (List ℕ) → Result (List ℕ) AdminRefusal
 digest_asked None = Err MissingSecret
 digest_asked (Some secret) = if is_secret secret then Ok (sha256 secret) else Err BadSecret
 
+-- the kind of a confidential client, with the digest of its secret
 abbrev pub confidential_sort : Result (List ℕ) AdminRefusal → Result Sort AdminRefusal
 confidential_sort (Err why) = Err why
 confidential_sort (Ok digest) = Ok (Confidential digest)
 
+-- the kind of a resource server, with the digest of its secret
 abbrev pub resource_sort : Result (List ℕ) AdminRefusal → Result Sort AdminRefusal
 resource_sort (Err why) = Err why
 resource_sort (Ok digest) = Ok (Resource digest)
 
+-- a client's kind by its name, with the digest of the secret if the kind has one
 abbrev pub sort_asked : List ℕ → Option (List ℕ) → Result Sort AdminRefusal
 sort_asked kind secret =
     if bytes_eq kind (codes "public") then public_sort secret
@@ -67,149 +114,169 @@ sort_asked kind secret =
     else if bytes_eq kind (codes "resource") then resource_sort (digest_asked secret)
     else Err UnknownKind
 
--- what parts redirection URIs
+-- the byte between two redirection URIs
 abbrev pub is_space : ℕ → Bool
 is_space b = b == 32
 
--- the list of these URIs, where each may be registered
+-- the redirection URIs, if the list may be registered
 abbrev pub registered : List (List ℕ) → Option (List (List ℕ))
 registered uris = if is_none (registration_refusal uris) then Some uris else None
 
--- a list that may not be registered
+-- the judgement of a new client by its redirection URIs, which must be a list to be registered
 abbrev pub registered_to : Sort → List ℕ → Option (List (List ℕ)) → Administered
 registered_to sort scope None = Refused BadRedirects
-registered_to sort scope (Some uris) = Registers (record { sort = sort; scope = scope; redirects = uris })
+registered_to sort scope (Some uris) =
+    Registers (record { sort = sort; scope = scope; redirects = uris })
 
--- a scope that can't be read
+-- the judgement of a new client by its scope, which must be readable
 abbrev pub registered_with : Sort → Option (List ℕ) → List ℕ → Administered
 registered_with sort None redirects = Refused BadScope
-registered_with sort (Some scope) redirects = registered_to sort scope (registered (slice_split is_space redirects))
+registered_with sort (Some scope) redirects =
+    registered_to sort scope (registered (slice_split is_space redirects))
 
--- a kind that is none, or a secret that doesn't go with it
+-- the judgement of a new client by its kind and secret
 abbrev pub registered_as : Result Sort AdminRefusal → List ℕ → List ℕ → Administered
 registered_as (Err why) scope redirects = Refused why
 registered_as (Ok sort) scope redirects = registered_with sort (scope_of scope) redirects
 
--- the kind, the scope or the redirection URIs absent
-abbrev pub registered_by : Option (List ℕ) → Option (List ℕ) → Option (List ℕ) → Option (List ℕ) → Administered
+-- the judgement of a new client by its parameters: kind, scope and redirection URIs are required
+abbrev pub registered_by : Option (List ℕ) → Option (List ℕ) → Option (List ℕ) → Option (List ℕ)
+    → Administered
 registered_by None scope redirects secret = Refused MissingParameter
 registered_by (Some kind) None redirects secret = Refused MissingParameter
 registered_by (Some kind) (Some scope) None secret = Refused MissingParameter
-registered_by (Some kind) (Some scope) (Some redirects) secret = registered_as (sort_asked kind secret) scope redirects
+registered_by (Some kind) (Some scope) (Some redirects) secret =
+    registered_as (sort_asked kind secret) scope redirects
 
+-- the names of the parameters that POST /admin/client knows
 abbrev pub registration_names : List (List ℕ)
 registration_names = codes "kind" ∷ codes "secret" ∷ codes "scope" ∷ codes "redirects" ∷ []
 
--- a known parameter twice
+-- the judgement of POST /admin/client: no parameter that the endpoint knows may occur twice
 abbrev pub registered_of : Pairs → Administered
 registered_of params =
     if has_twice registration_names params then Refused DuplicateParameter
-    else registered_by (value_of (codes "kind") params) (value_of (codes "scope") params) (value_of (codes "redirects") params) (value_of (codes "secret") params)
+    else registered_by (value_of (codes "kind") params) (value_of (codes "scope") params)
+    (value_of (codes "redirects") params) (value_of (codes "secret") params)
 
 -- ---- the client that an id names: show it, retire it
 
--- no client's id
+-- the dot of a client id, or a refusal if the text is no client id
 abbrev pub client_by : Option Dot → Result Dot AdminRefusal
 client_by None = Err UnknownClient
 client_by (Some d) = Ok d
 
--- the id absent
+-- the dot of a required client id
 abbrev pub client_asked : Option (List ℕ) → Result Dot AdminRefusal
 client_asked None = Err MissingParameter
 client_asked (Some id) = client_by (client_in id)
 
+-- the names of the parameters that GET /admin/client and POST /admin/retire know
 abbrev pub client_names : List (List ℕ)
 client_names = codes "client_id" ∷ []
 
--- the id twice
+-- the dot of the client id in the parameters, which must not occur twice
 abbrev pub client_named : Pairs → Result Dot AdminRefusal
 client_named params =
     if has_twice client_names params then Err DuplicateParameter
     else client_asked (value_of (codes "client_id") params)
 
--- no client there
+-- the judgement that shows the client at the dot, if one was added there
 abbrev pub shown_at : Dot → Option ClientFields → Administered
 shown_at d None = Refused UnknownClient
-shown_at d (Some client) = Shows (record { client = d; sort = client.sort; live = client.live; scope = client.scope })
+shown_at d (Some client) =
+    Shows (record { client = d; sort = client.sort; live = client.live; scope = client.scope })
 
+-- the judgement that shows the client of an id
 abbrev pub shown_by : FactSet → Result Dot AdminRefusal → Administered
 shown_by F (Err why) = Refused why
 shown_by F (Ok d) = shown_at d (client_view F d)
 
+-- the judgement of GET /admin/client
 abbrev pub shown_of : FactSet → Pairs → Administered
 shown_of F params = shown_by F (client_named params)
 
--- no client there
+-- the judgement that retires the client at the dot, if one was added there
 abbrev pub retired_at : Dot → Option ClientFields → Administered
 retired_at d None = Refused UnknownClient
 retired_at d (Some client) = Retires d client.live
 
+-- the judgement that retires the client of an id
 abbrev pub retired_by : FactSet → Result Dot AdminRefusal → Administered
 retired_by F (Err why) = Refused why
 retired_by F (Ok d) = retired_at d (client_view F d)
 
+-- the judgement of POST /admin/retire
 abbrev pub retired_of : FactSet → Pairs → Administered
 retired_of F params = retired_by F (client_named params)
 
 -- ---- give a consent
 
--- a scope that can't be read, or goes beyond the client's (RFC 6749, 3.3)
+-- the judgement of a new consent by its scope, which must be within the client's (RFC 6749, 3.3)
 abbrev pub consented_for : Dot → List ℕ → Option (List ℕ) → Administered
 consented_for client subject None = Refused WrongScope
-consented_for client subject (Some scope) = Consents (record { client = client; subject = subject; scope = scope })
+consented_for client subject (Some scope) =
+    Consents (record { client = client; subject = subject; scope = scope })
 
--- a subject that is none
+-- the judgement of a new consent by its subject, which must be the name of one
 abbrev pub consented_as : Dot → List ℕ → List ℕ → List ℕ → Administered
 consented_as client whole subject scope =
-    if is_subject subject then consented_for client subject (scope_asked whole (Some scope)) else Refused BadSubject
+    if is_subject subject then consented_for client subject (scope_asked whole (Some scope))
+    else Refused BadSubject
 
--- no client there, or a retired one
+-- the judgement of a new consent by its client, which must be live
 abbrev pub consented_at : Dot → List ℕ → List ℕ → Option ClientFields → Administered
 consented_at client subject scope None = Refused UnknownClient
-consented_at client subject scope (Some view) = if view.live then consented_as client view.scope subject scope else Refused UnknownClient
+consented_at client subject scope (Some view) =
+    if view.live then consented_as client view.scope subject scope else Refused UnknownClient
 
--- no client's id
+-- the judgement of a new consent by the client's id, which must be one
 abbrev pub consented_to : FactSet → List ℕ → List ℕ → Option Dot → Administered
 consented_to F subject scope None = Refused UnknownClient
-consented_to F subject scope (Some client) = consented_at client subject scope (client_view F client)
+consented_to F subject scope (Some client) =
+    consented_at client subject scope (client_view F client)
 
--- the client, the subject or the scope absent
-abbrev pub consented_by : FactSet → Option (List ℕ) → Option (List ℕ) → Option (List ℕ) → Administered
+-- the judgement of a new consent by its parameters: client, subject and scope are required
+abbrev pub consented_by : FactSet → Option (List ℕ) → Option (List ℕ) → Option (List ℕ)
+    → Administered
 consented_by F None subject scope = Refused MissingParameter
 consented_by F (Some id) None scope = Refused MissingParameter
 consented_by F (Some id) (Some subject) None = Refused MissingParameter
 consented_by F (Some id) (Some subject) (Some scope) = consented_to F subject scope (client_in id)
 
+-- the names of the parameters that POST /admin/consent knows
 abbrev pub consent_names : List (List ℕ)
 consent_names = codes "client_id" ∷ codes "subject" ∷ codes "scope" ∷ []
 
--- a known parameter twice
+-- the judgement of POST /admin/consent: no parameter that the endpoint knows may occur twice
 abbrev pub consented_of : FactSet → Pairs → Administered
 consented_of F params =
     if has_twice consent_names params then Refused DuplicateParameter
-    else consented_by F (value_of (codes "client_id") params) (value_of (codes "subject") params) (value_of (codes "scope") params)
+    else consented_by F (value_of (codes "client_id") params) (value_of (codes "subject") params)
+    (value_of (codes "scope") params)
 
 -- ---- withdraw a consent
 
--- no consent there
+-- the judgement that withdraws the consent at the dot, if one was given there
 abbrev pub withdrawn_at : Dot → Option ConsentFields → Administered
 withdrawn_at d None = Refused UnknownConsent
 withdrawn_at d (Some consent) = Withdraws d consent.live
 
--- no consent's id
+-- the judgement of a withdrawal by the consent's id, which must be one
 abbrev pub withdrawn_to : FactSet → Option Dot → Administered
 withdrawn_to F None = Refused UnknownConsent
 withdrawn_to F (Some d) = withdrawn_at d (consent_view F d)
 
--- the id absent
+-- the judgement of a withdrawal by the consent's id, which is required
 abbrev pub withdrawn_by : FactSet → Option (List ℕ) → Administered
 withdrawn_by F None = Refused MissingParameter
 withdrawn_by F (Some id) = withdrawn_to F (consent_in id)
 
+-- the names of the parameters that POST /admin/withdraw knows
 abbrev pub withdrawal_names : List (List ℕ)
 withdrawal_names = codes "consent_id" ∷ []
 
--- the id twice
+-- the judgement of POST /admin/withdraw: the id must not occur twice
 abbrev pub withdrawn_of : FactSet → Pairs → Administered
 withdrawn_of F params =
     if has_twice withdrawal_names params then Refused DuplicateParameter
@@ -217,24 +284,27 @@ withdrawn_of F params =
 
 -- ---- sign a subject out everywhere
 
--- a sign-out of it is held, whose moment isn't before this one
+-- the judgement that signs the subject out, unless a sign-out at the moment or later is held
 abbrev pub signed_out_at : FactSet → ℕ → List ℕ → Administered
 signed_out_at F now subject =
-    if is_signed_out F subject now then AlreadyOut subject else SignsOut (record { subject = subject; moment = now })
+    if is_signed_out F subject now then AlreadyOut subject
+    else SignsOut (record { subject = subject; moment = now })
 
--- a subject that is none
+-- the judgement of a sign-out by its subject, which must be the name of one
 abbrev pub signed_out_as : FactSet → ℕ → List ℕ → Administered
-signed_out_as F now subject = if is_subject subject then signed_out_at F now subject else Refused BadSubject
+signed_out_as F now subject =
+    if is_subject subject then signed_out_at F now subject else Refused BadSubject
 
--- the subject absent
+-- the judgement of a sign-out by the subject's parameter, which is required
 abbrev pub signed_out_by : FactSet → ℕ → Option (List ℕ) → Administered
 signed_out_by F now None = Refused MissingParameter
 signed_out_by F now (Some subject) = signed_out_as F now subject
 
+-- the names of the parameters that POST /admin/signout knows
 abbrev pub sign_out_names : List (List ℕ)
 sign_out_names = codes "subject" ∷ []
 
--- the subject twice
+-- the judgement of POST /admin/signout: the subject must not occur twice
 abbrev pub signed_out_of : FactSet → ℕ → Pairs → Administered
 signed_out_of F now params =
     if has_twice sign_out_names params then Refused DuplicateParameter
@@ -242,6 +312,7 @@ signed_out_of F now params =
 
 -- ---- by the endpoint
 
+-- the judgement by the endpoint and the parameters
 abbrev pub administered_at : Endpoint → FactSet → ℕ → Pairs → Administered
 administered_at endpoint.Authorize F now params = Refused UnknownEndpoint
 administered_at endpoint.Token F now params = Refused UnknownEndpoint
@@ -254,5 +325,6 @@ administered_at endpoint.Consent F now params = consented_of F params
 administered_at endpoint.Withdraw F now params = withdrawn_of F params
 administered_at endpoint.SignOut F now params = signed_out_of F now params
 
+-- the judgement of an administration request
 abbrev pub administered_of : FactSet → ℕ → RequestFields → Administered
 administered_of F now request = administered_at request.endpoint F now request.params

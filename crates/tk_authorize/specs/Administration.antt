@@ -1,19 +1,28 @@
--- What an administration request is answered, and the fact that it makes (own; RFC 6749, 2 for what a client is).
---   code_of             what a refusal is called
---   decided_registered, decided_shown, decided_retired, decided_consented, decided_withdrawn, decided_out
---                       what is done with a judgement of that kind
---   administered_by     what is done with a judgement
---   administration_of   the decision: the judgement of specs/Administered, and what is done with it
+-- The decision of an administration request (own; RFC 6749, 2 for clients).
+--   code_of             the error code of a refusal
+--   decided_..          the decision by a judgement of one kind
+--   administered_by     the decision by a judgement
+--   administration_of   the decision of a request: the judgement of specs/Administered, carried out
 use Rattle.std.specs.Prelude.{ℕ, Bool, Some, None, if◌then◌else◌}
 use Rattle.tk_handle.specs.declared.dot.Dot.{Dot}
-use Rattle.tk_fact.specs.declared.body.Body.TheVariants.{ClientAdded, ClientRetired, ConsentGiven, ConsentWithdrawn, SubjectOut}
+use Rattle.tk_fact.specs.declared.body.Body.TheVariants.{
+  ClientAdded,
+  ClientRetired,
+  ConsentGiven,
+  ConsentWithdrawn,
+  SubjectOut,
+}
 use Rattle.tk_fact.specs.declared.client_added.ClientAdded as added
 use Rattle.tk_fact.specs.declared.consent_given.ConsentGiven as given
 use Rattle.tk_fact.specs.declared.subject_out.SubjectOut as out
 use Rattle.tk_store.specs.FactSet.{FactSet}
 use Rattle.tk_message.specs.declared.decision.Decision.{Decision}
 use Rattle.tk_message.specs.declared.error_code.ErrorCode.{ErrorCode}
-use Rattle.tk_message.specs.declared.error_code.ErrorCode.TheVariants.{InvalidRequest, InvalidScope, NotFound}
+use Rattle.tk_message.specs.declared.error_code.ErrorCode.TheVariants.{
+  InvalidRequest,
+  InvalidScope,
+  NotFound,
+}
 use Rattle.tk_message.specs.declared.place.Place.{Place}
 use Rattle.tk_message.specs.declared.status.Status.TheVariants as status
 use Rattle.tk_message.specs.Decision.{answered, refused}
@@ -24,9 +33,19 @@ use Rattle.tk_authorize.specs.declared.admin_refusal.AdminRefusal.{AdminRefusal}
 use Rattle.tk_authorize.specs.declared.admin_refusal.AdminRefusal.TheVariants as refusal
 use Rattle.tk_authorize.specs.declared.administered.Administered.{Administered}
 use Rattle.tk_authorize.specs.declared.administered.ShownClient.{ShownClient}
-use Rattle.tk_authorize.specs.declared.administered.Administered.TheVariants.{Refused, Registers, Shows, Retires, Consents, Withdraws, AlreadyOut, SignsOut}
+use Rattle.tk_authorize.specs.declared.administered.Administered.TheVariants.{
+  Refused,
+  Registers,
+  Shows,
+  Retires,
+  Consents,
+  Withdraws,
+  AlreadyOut,
+  SignsOut,
+}
 use Rattle.tk_authorize.specs.Administered.{administered_of}
 
+-- the error code of a refusal
 abbrev pub code_of : AdminRefusal → ErrorCode
 code_of refusal.DuplicateParameter = InvalidRequest
 code_of refusal.MissingParameter = InvalidRequest
@@ -42,31 +61,43 @@ code_of refusal.WrongScope = InvalidScope
 code_of refusal.UnknownConsent = NotFound
 code_of refusal.UnknownEndpoint = NotFound
 
--- a client and a consent get the id of the next dot; what is retired, withdrawn or signed out already makes no fact
+-- a client is added, and gets the id of the next dot
 abbrev pub decided_registered : Place → added.ClientAdded → Decision
-decided_registered place client = record { reply = client_reply status.Created (next_in place); made = Some (ClientAdded client) }
+decided_registered place client =
+    record { reply = client_reply status.Created (next_in place); made = Some (ClientAdded client) }
 
+-- a client is shown
 abbrev pub decided_shown : ShownClient → Decision
 decided_shown client = answered (shown_reply client.client client.sort client.live client.scope)
 
+-- a client is retired. A client that is not live makes no fact
 abbrev pub decided_retired : Dot → Bool → Decision
 decided_retired client live = record {
   reply = client_reply status.Ok client;
   made = if live then Some (ClientRetired (record { client = client })) else None;
 }
 
+-- a consent is given, and gets the id of the next dot
 abbrev pub decided_consented : Place → given.ConsentGiven → Decision
-decided_consented place consent = record { reply = consent_reply status.Created (next_in place); made = Some (ConsentGiven consent) }
+decided_consented place consent =
+    record {
+      reply = consent_reply status.Created (next_in place);
+      made = Some (ConsentGiven consent);
+    }
 
+-- a consent is withdrawn. A consent that is not live makes no fact
 abbrev pub decided_withdrawn : Dot → Bool → Decision
 decided_withdrawn consent live = record {
   reply = consent_reply status.Ok consent;
   made = if live then Some (ConsentWithdrawn (record { consent = consent })) else None;
 }
 
+-- a subject is signed out
 abbrev pub decided_out : out.SubjectOut → Decision
-decided_out sign_out = record { reply = subject_reply sign_out.subject; made = Some (SubjectOut sign_out) }
+decided_out sign_out =
+    record { reply = subject_reply sign_out.subject; made = Some (SubjectOut sign_out) }
 
+-- the decision by a judgement. A subject that is signed out already makes no fact
 abbrev pub administered_by : Place → Administered → Decision
 administered_by place (Refused why) = refused (code_of why)
 administered_by place (Registers client) = decided_registered place client
@@ -77,5 +108,6 @@ administered_by place (Withdraws consent live) = decided_withdrawn consent live
 administered_by place (AlreadyOut subject) = answered (subject_reply subject)
 administered_by place (SignsOut sign_out) = decided_out sign_out
 
+-- the decision of an administration request
 abbrev pub administration_of : FactSet → Place → ℕ → RequestFields → Decision
 administration_of F place now request = administered_by place (administered_of F now request)

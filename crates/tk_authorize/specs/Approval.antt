@@ -1,5 +1,5 @@
--- What a code is issued for, or why the request is denied (RFC 6749, 4.1.1 and 4.1.2.1).
---   approval_of   what was asked for, with who consented and by which consent; or the first denial that holds
+-- Approvals: what a code is issued for, or why the request is denied (RFC 6749, 4.1.1 and 4.1.2.1).
+--   approval_of   the scope and challenge asked for, with the subject and consent; or a denial
 use Rattle.std.specs.Prelude.{ℕ, if◌then◌else◌, List, Option, Some, None, Result, Ok, Err}
 use Rattle.tk_handle.specs.declared.dot.Dot.{Dot}
 use Rattle.tk_fact.specs.Subject.{is_subject}
@@ -10,20 +10,29 @@ use Rattle.tk_authorize.specs.declared.asked.Asked.{Asked}
 use Rattle.tk_authorize.specs.declared.denial.Denial.{Denial}
 use Rattle.tk_authorize.specs.declared.denial.Denial.TheVariants as denial
 
--- no consent that includes the scope (RFC 6749, 4.1.2.1); else a code is issued
+-- the approval by a consent. Without one that includes the scope, the request is denied (RFC 6749,
+-- 4.1.2.1)
 abbrev pub approval_by_consent : List ℕ → Asked → Option Dot → Result Approval Denial
 approval_by_consent subject asked None = Err denial.MissingConsent
 approval_by_consent subject asked (Some consent) =
-    Ok (record { consent = consent; subject = subject; scope = asked.scope; challenge = asked.challenge })
+    Ok (record {
+      consent = consent;
+      subject = subject;
+      scope = asked.scope;
+      challenge = asked.challenge;
+    })
 
--- nobody has signed in (RFC 6749, 3.1), or no subject has (own); else it rests on the least consent for the scope
+-- the approval by the least consent of the subject for the scope. A subject must have signed in
+-- (RFC 6749, 3.1) under the name of one (own)
 abbrev pub approval_by_subject : FactSet → Dot → Asked → Option (List ℕ) → Result Approval Denial
 approval_by_subject F client asked None = Err denial.MissingSubject
 approval_by_subject F client asked (Some subject) =
-    if is_subject subject then approval_by_consent subject asked (consent_for F client subject asked.scope)
+    if is_subject subject then approval_by_consent subject asked
+    (consent_for F client subject asked.scope)
     else Err denial.MalformedSubject
 
--- a denial for the parameters comes first
-abbrev pub approval_of : FactSet → Dot → Option (List ℕ) → Result Asked Denial → Result Approval Denial
+-- the approval of what the parameters ask for. A denial for the parameters comes before others
+abbrev pub approval_of : FactSet → Dot → Option (List ℕ) → Result Asked Denial
+    → Result Approval Denial
 approval_of F client subject (Err why) = Err why
 approval_of F client subject (Ok asked) = approval_by_subject F client asked subject

@@ -1,8 +1,26 @@
--- What an authorisation request asks for by its parameters, or why it is denied for them (RFC 6749, 4.1.1 and 4.1.2.1).
+-- What the parameters of an authorisation request ask for (RFC 6749, 4.1.1 and 4.1.2.1).
 --   asked_of       the scope and the challenge, or the first denial that holds
---   is_state       a state that may be given back, or none
---   is_printable   its bytes
-use Rattle.std.specs.Prelude.{ℕ, Bool, true, ◌&&◌, not, nat_le, if◌then◌else◌, List, [], ◌∷◌, codes, Option, Some, None, Result, Ok, Err}
+--   is_state       a state, if there is one, may be sent back
+--   is_printable   a byte may be in a state
+use Rattle.std.specs.Prelude.{
+  ℕ,
+  Bool,
+  true,
+  ◌&&◌,
+  not,
+  nat_le,
+  if◌then◌else◌,
+  List,
+  [],
+  ◌∷◌,
+  codes,
+  Option,
+  Some,
+  None,
+  Result,
+  Ok,
+  Err,
+}
 use Rattle.std.specs.List.{list_all}
 use Rattle.std.specs.Str.{bytes_eq}
 use Rattle.tk_match.specs.Challenge.{ChallengeFields}
@@ -14,39 +32,45 @@ use Rattle.tk_authorize.specs.declared.denial.Denial.{Denial}
 use Rattle.tk_authorize.specs.declared.denial.Denial.TheVariants as denial
 use Rattle.tk_authorize.specs.Challenge.{challenge_sent}
 
--- the challenge, or why there is none (RFC 7636, 4.3)
+-- the scope and the challenge, or the denial for the challenge (RFC 7636, 4.3)
 abbrev pub asked_with : List ℕ → Result (Option ChallengeFields) Denial → Result Asked Denial
 asked_with scope (Err why) = Err why
 asked_with scope (Ok challenge) = Ok (record { scope = scope; challenge = challenge })
 
--- a scope that can't be read, or isn't within the client's (RFC 6749, 3.3)
+-- what the parameters ask for, by the scope, which must be within the client's (RFC 6749, 3.3)
 abbrev pub asked_by_scope : Sort → Pairs → Option (List ℕ) → Result Asked Denial
 asked_by_scope sort params None = Err denial.WrongScope
 asked_by_scope sort params (Some scope) =
-    asked_with scope (challenge_sent sort (value_of (codes "code_challenge_method") params) (value_of (codes "code_challenge") params))
+    asked_with scope (challenge_sent sort (value_of (codes "code_challenge_method") params)
+    (value_of (codes "code_challenge") params))
 
--- no response type, or another than `code` (RFC 6749, 3.1.1); the client's whole scope where none is sent (3.3)
+-- what the parameters ask for, by the response type, which must be `code` (RFC 6749, 3.1.1). A
+-- request without a scope asks for the client's whole scope (RFC 6749, 3.3)
 abbrev pub asked_by_type : Sort → List ℕ → Pairs → Option (List ℕ) → Result Asked Denial
 asked_by_type sort whole params None = Err denial.MissingResponseType
 asked_by_type sort whole params (Some name) =
-    if bytes_eq name (codes "code") then asked_by_scope sort params (scope_asked whole (value_of (codes "scope") params))
+    if bytes_eq name (codes "code")
+    then asked_by_scope sort params (scope_asked whole (value_of (codes "scope") params))
     else Err denial.UnsupportedResponseType
 
--- %x20-7E (RFC 6749, appendix A.5)
+-- a byte in %x20-7E (RFC 6749, appendix A.5)
 abbrev pub is_printable : ℕ → Bool
 is_printable b = nat_le 32 b && nat_le b 126
 
--- a state of such bytes, or none
+-- each byte of the state, if there is one, may be in a state
 abbrev pub is_state : Option (List ℕ) → Bool
 is_state None = true
 is_state (Some text) = list_all is_printable text
 
--- the parameters that are known here, but for the client's and the URI's (RFC 6749, 4.1.1; RFC 7636, 4.3)
+-- the names of the parameters that the endpoint knows, but for those of the client and the URI (RFC
+-- 6749, 4.1.1; RFC 7636, 4.3)
 abbrev pub other_names : List (List ℕ)
 other_names =
-    codes "response_type" ∷ codes "scope" ∷ codes "state" ∷ codes "code_challenge" ∷ codes "code_challenge_method" ∷ []
+    codes "response_type" ∷ codes "scope" ∷ codes "state" ∷ codes "code_challenge"
+    ∷ codes "code_challenge_method" ∷ []
 
--- one of them twice (RFC 6749, 3.1), then a state with another byte
+-- what the parameters ask for. None of them may occur twice (RFC 6749, 3.1), and the state must be
+-- one that may be sent back
 abbrev pub asked_of : Sort → List ℕ → Pairs → Result Asked Denial
 asked_of sort whole params =
     if has_twice other_names params then Err denial.DuplicateParameter

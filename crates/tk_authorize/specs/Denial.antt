@@ -1,11 +1,11 @@
--- What a denial is called (RFC 6749, 4.1.2.1; RFC 7636, 4.4.1).
---   denial_code   what each is called
+-- The error codes of denials (RFC 6749, 4.1.2.1; RFC 7636, 4.4.1).
+--   denial_code   the error code of a denial
 use Rattle.tk_message.specs.declared.error_code.ErrorCode.{ErrorCode}
 use Rattle.tk_message.specs.declared.error_code.ErrorCode.TheVariants as code
 use Rattle.tk_authorize.specs.declared.denial.Denial.{Denial}
 use Rattle.tk_authorize.specs.declared.denial.Denial.TheVariants as denial
 
--- its error code: a denied consent, a wrong scope and another response type have codes of their own
+-- the error code of a denial. A response type, a scope and a consent have codes of their own
 abbrev pub denial_code : Denial → ErrorCode
 denial_code denial.DuplicateParameter = code.InvalidRequest
 denial_code denial.BadState = code.InvalidRequest

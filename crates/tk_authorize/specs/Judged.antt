@@ -1,6 +1,21 @@
--- What an authorisation request comes to: the ordered cases (RFC 6749, 3.1.2.3, 3.1.2.4, 4.1.1 and 4.1.2.1).
---   judged_of   refused in place, denied at the client's URI, or approved: the first case that holds
-use Rattle.std.specs.Prelude.{ℕ, if◌then◌else◌, List, [], ◌∷◌, codes, Option, Some, None, is_some, Result, Ok, Err}
+-- The judgement of an authorisation request: its cases in their order (RFC 6749, 3.1.2.3, 3.1.2.4,
+-- 4.1.1 and 4.1.2.1).
+--   judged_of   the first case that holds: refused in place, denied at the URI, or approved
+use Rattle.std.specs.Prelude.{
+  ℕ,
+  if◌then◌else◌,
+  List,
+  [],
+  ◌∷◌,
+  codes,
+  Option,
+  Some,
+  None,
+  is_some,
+  Result,
+  Ok,
+  Err,
+}
 use Rattle.tk_handle.specs.declared.dot.Dot.{Dot}
 use Rattle.tk_handle.specs.ClientId.{client_in}
 use Rattle.tk_match.specs.Pick.{Picked, Uri, Missing, Unknown, picked}
@@ -17,44 +32,52 @@ use Rattle.tk_authorize.specs.declared.refusal.Refusal.TheVariants as refusal
 use Rattle.tk_authorize.specs.Approval.{approval_of}
 use Rattle.tk_authorize.specs.Asked.{asked_of}
 
--- from here on the answer goes to the client's URI (RFC 6749, 4.1.2.1)
+-- the judgement by an approval or a denial. The reply goes to the client's URI (RFC 6749, 4.1.2.1)
 abbrev pub judged_at : Target → Result Approval Denial → Judged
 judged_at target (Err why) = Denied target why
 judged_at target (Ok approval) = Approved target approval
 
--- where the answer goes, and whether the request named it (RFC 6749, 4.1.3 asks for it again)
+-- the client, the URI that the reply goes to, and whether the request named the URI: the token
+-- request must repeat it then (RFC 6749, 4.1.3)
 abbrev pub target_of : Dot → List ℕ → Pairs → Target
-target_of client uri params = record { client = client; uri = uri; sent = is_some (value_of (codes "redirect_uri") params) }
+target_of client uri params =
+    record { client = client; uri = uri; sent = is_some (value_of (codes "redirect_uri") params) }
 
--- none of several URIs meant, or one meant that isn't registered (RFC 6749, 3.1.2.3)
-abbrev pub judged_by_redirect : FactSet → Pairs → Option (List ℕ) → Dot → ClientFields → Picked → Judged
+-- the judgement by the redirection URI. There must be one, and it must be registered (RFC 6749,
+-- 3.1.2.3)
+abbrev pub judged_by_redirect : FactSet → Pairs → Option (List ℕ) → Dot → ClientFields → Picked
+    → Judged
 judged_by_redirect F params subject client view Missing = Refused refusal.MissingRedirect
 judged_by_redirect F params subject client view Unknown = Refused refusal.UnknownRedirect
 judged_by_redirect F params subject client view (Uri uri) =
-    judged_at (target_of client uri params) (approval_of F client subject (asked_of view.sort view.scope params))
+    judged_at (target_of client uri params)
+    (approval_of F client subject (asked_of view.sort view.scope params))
 
--- a client that wasn't added (RFC 6749, 4.1.2.1), or was retired (own)
+-- the judgement by the client, which must be added (RFC 6749, 4.1.2.1) and not retired (own)
 abbrev pub judged_by_view : FactSet → Pairs → Option (List ℕ) → Dot → Option ClientFields → Judged
 judged_by_view F params subject client None = Refused refusal.UnknownClient
 judged_by_view F params subject client (Some view) =
-    if view.live then judged_by_redirect F params subject client view (picked view.redirects (value_of (codes "redirect_uri") params))
+    if view.live then judged_by_redirect F params subject client view
+    (picked view.redirects (value_of (codes "redirect_uri") params))
     else Refused refusal.RetiredClient
 
--- no client's id (RFC 6749, 4.1.2.1)
+-- the judgement by the client id, which must be one (RFC 6749, 4.1.2.1)
 abbrev pub judged_by_client : FactSet → Pairs → Option (List ℕ) → Option Dot → Judged
 judged_by_client F params subject None = Refused refusal.UnknownClient
-judged_by_client F params subject (Some client) = judged_by_view F params subject client (client_view F client)
+judged_by_client F params subject (Some client) =
+    judged_by_view F params subject client (client_view F client)
 
--- none at all (RFC 6749, 4.1.1)
+-- the judgement by the client id, which is required (RFC 6749, 4.1.1)
 abbrev pub judged_by_id : FactSet → Pairs → Option (List ℕ) → Option (List ℕ) → Judged
 judged_by_id F params subject None = Refused refusal.MissingClient
 judged_by_id F params subject (Some id) = judged_by_client F params subject (client_in id)
 
--- the parameters that tell where the answer goes
+-- the names of the parameters that decide where the reply goes
 abbrev pub target_names : List (List ℕ)
 target_names = codes "client_id" ∷ codes "redirect_uri" ∷ []
 
--- one of them twice (RFC 6749, 3.1)
+-- the judgement of a request. The client id and the redirection URI must not occur twice (RFC 6749,
+-- 3.1)
 abbrev pub judged_of : FactSet → Pairs → Option (List ℕ) → Judged
 judged_of F params subject =
     if has_twice target_names params then Refused refusal.DuplicateClientOrRedirect

@@ -1,17 +1,16 @@
--- The words of this crate.
--- Of authorisation requests:
---   Refusal         refusal_code, what an error is called that is told in place
---   Denial          denial_code, what an error is called that is told at the client's URI
+-- The definitions of this crate, by file. For authorisation requests:
+--   Refusal         refusal_code, the code of an error in place
+--   Denial          denial_code, the code of an error at the client's URI
 --   Challenge       challenge_sent, the challenge that a request sends
---   Asked           asked_of, what its parameters ask for
+--   Asked           asked_of, the scope and challenge that a request asks for
 --   Approval        approval_of, what a code is issued for
---   Judged          judged_of, the ordered cases of an authorisation request
---   Authorization   authorization_of, what it is answered, and the fact that it makes
---   Registered      LeadsToClient, where the answer may lead
--- Of administration requests:
---   Administered        administered_of, the ordered cases of each endpoint
---   Administration      administration_of, what it is answered, and the fact that it makes
---   SoundAdministered   that the fact made passes its check
+--   Judged          judged_of, the cases of a request in their order
+--   Authorization   authorization_of, the decision of a request
+--   Registered      LeadsToClient, a reply leads to a registered URI or to no URI
+-- For administration requests:
+--   Administered        administered_of, the cases of each endpoint in their order
+--   Administration      administration_of, the decision of a request
+--   SoundAdministered   IsSoundAdministered, the fact that a judgement makes passes its check
 pub mod Administered
 pub mod Administration
 pub mod Approval

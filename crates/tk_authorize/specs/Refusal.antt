@@ -1,11 +1,11 @@
--- What a refusal is called (RFC 6749, 4.1.2.1).
---   refusal_code   the error code of each
+-- The error codes of refusals in place (RFC 6749, 4.1.2.1).
+--   refusal_code   the error code of a refusal
 use Rattle.tk_message.specs.declared.error_code.ErrorCode.{ErrorCode}
 use Rattle.tk_message.specs.declared.error_code.ErrorCode.TheVariants.{InvalidRequest}
 use Rattle.tk_authorize.specs.declared.refusal.Refusal.{Refusal}
 use Rattle.tk_authorize.specs.declared.refusal.Refusal.TheVariants as refusal
 
--- all of them are bad requests
+-- the error code of a refusal: `invalid_request` for each
 abbrev pub refusal_code : Refusal → ErrorCode
 refusal_code refusal.DuplicateClientOrRedirect = InvalidRequest
 refusal_code refusal.MissingClient = InvalidRequest

@@ -1,11 +1,21 @@
--- What holds of every judgement of an administration request (own): it is what makes each fact pass its check.
+-- What holds of every judgement of an administration request (own).
+--   IsSoundAdministered   the fact that the judgement makes passes its check
 use Rattle.std.specs.Prelude.{◌≡◌, None}
 use Rattle.tk_fact.specs.Check.{refusal_of}
 use Rattle.tk_fact.specs.declared.body.Body.TheVariants.{ClientAdded, ConsentGiven, SubjectOut}
 use Rattle.tk_authorize.specs.declared.administered.Administered.{Administered}
-use Rattle.tk_authorize.specs.declared.administered.Administered.TheVariants.{Refused, Registers, Shows, Retires, Consents, Withdraws, AlreadyOut, SignsOut}
+use Rattle.tk_authorize.specs.declared.administered.Administered.TheVariants.{
+  Refused,
+  Registers,
+  Shows,
+  Retires,
+  Consents,
+  Withdraws,
+  AlreadyOut,
+  SignsOut,
+}
 
--- the client, the consent and the sign-out pass their checks
+-- the client, the consent or the sign-out in the judgement passes its check
 abbrev pub IsSoundAdministered : Administered → Type 0
 IsSoundAdministered (Refused why) = Unit {0}
 IsSoundAdministered (Registers client) = refusal_of (ClientAdded client) ≡ None

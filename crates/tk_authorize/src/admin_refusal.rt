@@ -1,44 +1,45 @@
-//! Why an administration request is refused.
+//! The reasons why an administration request is refused.
 
 ghost use Rattle.std.specs.Prelude.{◌≡◌};
 ghost use Rattle.tk_authorize.specs.Administration.{code_of};
 
 use tk_message::ErrorCode;
 
-/// Why an administration request is refused: the first that holds, in the order that specs/Administration.antt has for
-/// its endpoint (own).
+/// The reason why an administration request is refused (own): the first that holds, in the order
+/// that `specs/Administered.antt` has for the endpoint.
 #[derive(Clone, Copy)]
 pub(crate) enum AdminRefusal {
-    /// A parameter that is known there occurs twice.
+    /// A parameter that the endpoint knows occurs twice.
     DuplicateParameter,
-    /// A parameter that is required there is absent.
+    /// A required parameter is absent.
     MissingParameter,
-    /// The kind of client is none of `public`, `confidential` and `resource`.
+    /// The kind of client is not `public`, `confidential` or `resource`.
     UnknownKind,
-    /// A public client with a secret (RFC 6749, 2.1).
+    /// A secret was sent for a public client (RFC 6749, 2.1).
     UnwantedSecret,
-    /// Another client without one.
+    /// No secret was sent for a client of another kind.
     MissingSecret,
-    /// The secret isn't 1 to 128 visible ASCII bytes.
+    /// The secret is not 1 to 128 visible ASCII bytes.
     BadSecret,
     /// The scope can't be read (RFC 6749, 3.3).
     BadScope,
-    /// The redirection URIs are none, too many, or not all of them may be registered (RFC 6749, 3.1.2).
+    /// There is no redirection URI, there are too many, or one may not be registered (RFC 6749,
+    /// 3.1.2).
     BadRedirects,
-    /// No client has the id; where a consent is given, or it was retired.
+    /// No client has the id; for a new consent, the client may also be retired.
     UnknownClient,
-    /// The subject isn't 1 to 128 visible ASCII bytes.
+    /// The subject is not 1 to 128 visible ASCII bytes.
     BadSubject,
-    /// The scope can't be read, or goes beyond the client's (RFC 6749, 3.3).
+    /// The scope can't be read, or goes beyond the client's scope (RFC 6749, 3.3).
     WrongScope,
     /// No consent has the id.
     UnknownConsent,
-    /// The request is to no endpoint of administration.
+    /// The request is not for an endpoint of administration.
     UnknownEndpoint,
 }
 
 impl AdminRefusal {
-    /// What the error is called.
+    /// Returns the error code of the refusal.
     pub(crate) fn code(self) -> ErrorCode
         ensures { result ≡ code_of self }
     {

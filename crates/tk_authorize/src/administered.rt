@@ -1,27 +1,28 @@
-//! What becomes of an administration request, and which endpoint goes through which cases.
+//! Judgements of administration requests, by their endpoint.
 
 use crate::admin_refusal::AdminRefusal;
 use tk_fact::{ClientAdded, ConsentGiven, Sort, Subject, SubjectOut};
 use tk_handle::Dot;
 use tk_scope::Scope;
 
-// What becomes of an administration request.
+// The judgement of an administration request.
 #[derive(Drop)]
 pub(crate) enum Administered {
     Refused(AdminRefusal),
     Registers(ClientAdded),
     Shows(ShownClient),
-    // The client, and whether it is live.
+    // Retires the client, unless it is retired already: the flag is whether the client is live.
     Retires(Dot, bool),
     Consents(ConsentGiven),
-    // The consent, and whether it is live.
+    // Withdraws the consent, unless it is withdrawn already: the flag is whether the consent is
+    // live.
     Withdraws(Dot, bool),
-    // The subject was signed out, then or later.
+    // The subject was signed out at the moment, or is signed out later.
     AlreadyOut(Subject),
     SignsOut(SubjectOut),
 }
 
-// What is shown of a client.
+// A client, as an administrator sees it.
 #[derive(Drop)]
 pub(crate) struct ShownClient {
     pub(crate) client: Dot,
@@ -44,14 +45,15 @@ use tk_handle::Moment;
 use tk_ledger::Ledger;
 use tk_message::{Endpoint, Request};
 
-// The cases of the request's endpoint.
+// Judges an administration request by the cases of its endpoint.
 pub(crate) fn administer(
     alloc: Global,
     ledger: &Ledger,
     now: Moment,
     request: &Request,
 ) -> Result<Administered, AllocError>
-    ensures value { IfOk result (λ a. a ≡ spec.administered_of (facts_of ledger.now) now request.now) }
+    ensures value { IfOk result (λ a.
+        a ≡ spec.administered_of (facts_of ledger.now) now request.now) }
     ensures sound { IfOk result IsSoundAdministered }
 {
     match request.endpoint {

@@ -1,4 +1,4 @@
-//! The requests of an administrator: what is done with the judgement of each.
+//! Decisions of administration requests.
 
 ghost use Rattle.std.specs.Prelude.{◌≡◌, IfOk};
 ghost use Rattle.tk_store.specs.Store.{facts_of};
@@ -16,9 +16,12 @@ use tk_handle::{Dot, Moment};
 use tk_ledger::Ledger;
 use tk_message::{Decision, Place, Request, Status, Told};
 
-/// What an administration request is answered at a moment, and the fact that it makes: clients added, shown and retired,
-/// consents given and withdrawn, subjects signed out everywhere (own). A request to another endpoint is `not_found`. An
-/// error where memory is refused.
+/// Decides an administration request at a moment (own). Returns the reply, and the fact that the
+/// request makes, if any.
+///
+/// Administrators add, show and retire clients, give and withdraw consents, and sign subjects out
+/// everywhere. A request for another endpoint is `not_found`. Whether the sender may administer is
+/// not examined: the front end must see to that. Returns an error if memory runs out.
 pub fn decide_admin(
     alloc: Global,
     ledger: &Ledger,
@@ -26,15 +29,17 @@ pub fn decide_admin(
     now: Moment,
     request: &Request,
 ) -> Result<Decision, AllocError>
-    ensures value { IfOk result (λ d. d ≡ spec.administration_of (facts_of ledger.now) place.now now request.now) }
+    ensures value { IfOk result (λ d. d ≡ spec.administration_of (facts_of ledger.now) place.now now
+        request.now) }
 
-    // The fact made, if any, passes its check.
+    // The fact that the request makes, if any, passes its check.
     ensures passes { IfOk result (λ d. Passes d.made) }
 {
     let administered = administer(alloc, ledger, now, request)?;
     decide_by(alloc, place, administered)
 }
 
+// Decides a request by its judgement.
 fn decide_by(
     alloc: Global,
     place: &Place,
@@ -56,6 +61,7 @@ fn decide_by(
     }
 }
 
+// Adds a client.
 fn decide_registered(
     alloc: Global,
     place: &Place,
@@ -72,6 +78,7 @@ fn decide_registered(
     })
 }
 
+// Shows a client.
 fn decide_shown(alloc: Global, shown: &ShownClient) -> Result<Decision, AllocError>
     ensures { IfOk result (λ d. d ≡ spec.decided_shown shown.now) }
 {
@@ -79,6 +86,7 @@ fn decide_shown(alloc: Global, shown: &ShownClient) -> Result<Decision, AllocErr
     Ok(Decision::answer(told.reply(alloc)?))
 }
 
+// Retires a client. A client that is not live makes no fact.
 fn decide_retired(alloc: Global, client: Dot, live: bool) -> Result<Decision, AllocError>
     ensures value { IfOk result (λ d. d ≡ spec.decided_retired client live) }
     ensures passes { IfOk result (λ d. Passes d.made) }
@@ -92,6 +100,7 @@ fn decide_retired(alloc: Global, client: Dot, live: bool) -> Result<Decision, Al
     Ok(Decision { reply, made })
 }
 
+// Gives a consent.
 fn decide_consented(
     alloc: Global,
     place: &Place,
@@ -108,6 +117,7 @@ fn decide_consented(
     })
 }
 
+// Withdraws a consent. A consent that is not live makes no fact.
 fn decide_withdrawn(alloc: Global, consent: Dot, live: bool) -> Result<Decision, AllocError>
     ensures value { IfOk result (λ d. d ≡ spec.decided_withdrawn consent live) }
     ensures passes { IfOk result (λ d. Passes d.made) }
@@ -121,6 +131,7 @@ fn decide_withdrawn(alloc: Global, consent: Dot, live: bool) -> Result<Decision,
     Ok(Decision { reply, made })
 }
 
+// Names a subject that is signed out already, without a fact.
 fn decide_already_out(alloc: Global, subject: &Subject) -> Result<Decision, AllocError>
     ensures { IfOk result (λ d. d ≡ answered (subject_reply subject.now)) }
 {
@@ -128,6 +139,7 @@ fn decide_already_out(alloc: Global, subject: &Subject) -> Result<Decision, Allo
     Ok(Decision::answer(reply))
 }
 
+// Signs a subject out.
 fn decide_out(alloc: Global, sign_out: SubjectOut) -> Result<Decision, AllocError>
     requires { IsSoundAdministered (Administered.SignsOut sign_out) }
     ensures value { IfOk result (λ d. d ≡ spec.decided_out sign_out) }

@@ -1,4 +1,4 @@
-//! What a code is issued for: what was asked for, by whom, and on which consent.
+//! Approvals: what a code is issued for, for whom, and by which consent.
 
 ghost use Rattle.std.specs.Prelude.{◌≡◌, IfOk};
 ghost use Rattle.std.specs.Option.{option_copied};
@@ -14,7 +14,7 @@ use tk_ledger::Ledger;
 use tk_match::Challenge;
 use tk_scope::Scope;
 
-// What a code is issued for.
+// The consent, subject, scope and challenge of a code that may be issued.
 #[derive(Drop)]
 pub(crate) struct Approval {
     pub(crate) consent: Dot,
@@ -23,7 +23,8 @@ pub(crate) struct Approval {
     pub(crate) challenge: Option<Challenge>,
 }
 
-// Whether who has signed in has consented to what the client asks for.
+// Returns the approval of what a client asks for, if the subject that has signed in consented to
+// it.
 pub(crate) fn approve(
     alloc: Global,
     ledger: &Ledger,
@@ -31,7 +32,8 @@ pub(crate) fn approve(
     subject: Option<&[u8]>,
     asked: Result<Asked, Denial>,
 ) -> Result<Result<Approval, Denial>, AllocError>
-    ensures { IfOk result (λ approval. approval ≡ spec.approval_of (facts_of ledger.now) client (option_copied subject.entry) asked) }
+    ensures { IfOk result (λ approval. approval ≡ spec.approval_of (facts_of ledger.now) client
+        (option_copied subject.entry) asked) }
 {
     match asked {
         Ok(asked) => approve_by_subject(alloc, ledger, client, asked, subject),
@@ -39,6 +41,7 @@ pub(crate) fn approve(
     }
 }
 
+// Approves what a client asks for, if there is a subject that consented to it.
 fn approve_by_subject(
     alloc: Global,
     ledger: &Ledger,
@@ -46,7 +49,8 @@ fn approve_by_subject(
     asked: Asked,
     subject: Option<&[u8]>,
 ) -> Result<Result<Approval, Denial>, AllocError>
-    ensures { IfOk result (λ approval. approval ≡ spec.approval_by_subject (facts_of ledger.now) client asked (option_copied subject.entry)) }
+    ensures { IfOk result (λ approval. approval ≡ spec.approval_by_subject (facts_of ledger.now)
+        client asked (option_copied subject.entry)) }
 {
     let Some(subject) = subject else {
         drop(asked);
@@ -67,6 +71,7 @@ fn approve_by_subject(
     }
 }
 
+// Approves what a client asks for, if there is a consent.
 fn approval_by_consent(
     subject: Subject,
     asked: Asked,

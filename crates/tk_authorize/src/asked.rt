@@ -1,4 +1,4 @@
-//! What a request asks for by its parameters, or why it is denied for them.
+//! The scope and challenge that the parameters of an authorisation request ask for.
 
 ghost use Rattle.std.specs.Prelude.{◌≡◌, IfOk};
 ghost use Rattle.std.specs.List.{list_all};
@@ -14,14 +14,15 @@ use tk_match::Challenge;
 use tk_message::{Params, scope_asked};
 use tk_scope::Scope;
 
-// What a code is asked for.
+// The scope and challenge that a code is asked for.
 #[derive(Drop)]
 pub(crate) struct Asked {
     pub(crate) scope: Scope,
     pub(crate) challenge: Option<Challenge>,
 }
 
-// By the client's sort and whole scope, and the parameters.
+// Returns what the parameters ask for, or the first denial that holds. `whole` is the client's
+// scope.
 pub(crate) fn find_asked(
     alloc: Global,
     sort: &Sort,
@@ -39,6 +40,7 @@ pub(crate) fn find_asked(
     ask_by_type(alloc, sort, whole, params, params.value("response_type"))
 }
 
+// Returns whether a parameter other than the client's and the URI's occurs twice.
 fn has_duplicate(params: &Params) -> bool
     ensures { result ≡ has_twice spec.other_names params.now }
 {
@@ -52,6 +54,7 @@ fn has_duplicate(params: &Params) -> bool
     params.has_twice(&names)
 }
 
+// Returns whether a state, if there is one, may be sent back.
 pub(crate) fn is_state(state: Option<&str>) -> bool
     ensures { result ≡ spec.is_state (option_copied state.entry) }
 {
@@ -61,12 +64,14 @@ pub(crate) fn is_state(state: Option<&str>) -> bool
     }
 }
 
+// Returns whether all bytes are printable ASCII.
 fn is_all_printable(bytes: &[u8]) -> bool
     ensures { result ≡ list_all spec.is_printable bytes.now }
 {
     bytes.iter().all(|b| (0x20..=0x7e).contains(b))
 }
 
+// Returns what the parameters ask for, by the response type.
 fn ask_by_type(
     alloc: Global,
     sort: &Sort,
@@ -74,7 +79,8 @@ fn ask_by_type(
     params: &Params,
     response_type: Option<&str>,
 ) -> Result<Result<Asked, Denial>, AllocError>
-    ensures { IfOk result (λ asked. asked ≡ spec.asked_by_type sort.now whole.now params.now (option_copied response_type.entry)) }
+    ensures { IfOk result (λ asked. asked ≡ spec.asked_by_type sort.now whole.now params.now
+        (option_copied response_type.entry)) }
 {
     let Some(response_type) = response_type else {
         return Ok(Err(Denial::MissingResponseType));
@@ -86,6 +92,7 @@ fn ask_by_type(
     Ok(Err(Denial::UnsupportedResponseType))
 }
 
+// Returns what the parameters ask for, by their scope.
 fn ask_by_scope(
     alloc: Global,
     sort: &Sort,
@@ -102,6 +109,7 @@ fn ask_by_scope(
     Ok(asked_with(scope, challenge))
 }
 
+// Joins the scope and the challenge.
 fn asked_with(scope: Scope, challenge: Result<Option<Challenge>, Denial>) -> Result<Asked, Denial>
     ensures { result ≡ spec.asked_with scope challenge }
 {

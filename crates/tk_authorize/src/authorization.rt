@@ -1,4 +1,4 @@
-//! What an authorisation request is answered, and the fact that a code was issued.
+//! Decisions of authorisation requests.
 
 ghost use Rattle.std.specs.Prelude.{◌≡◌, ◌≤◌, IfOk, None};
 ghost use Rattle.std.specs.Option.{option_copied};
@@ -19,9 +19,12 @@ use tk_ledger::Ledger;
 use tk_match::Uri;
 use tk_message::{Decision, Place, Reply, Request, handle_string, redirect_reply};
 
-/// What an authorisation request is answered, and the fact that a code was issued, at the place's dot (RFC 6749, 4.1.1 to
-/// 4.1.2.1; RFC 7636, 4.3 and 4.4). A code takes the first three words. A bad client or redirection URI is told in place, and
-/// all else at the URI. An error where memory is refused.
+/// Decides an authorisation request at a moment (RFC 6749, 4.1.1 to 4.1.2.1; RFC 7636, 4.3 and
+/// 4.4). Returns the reply, and the fact that a code was issued, if one is.
+///
+/// The handle of the code is made of the first three random words. If the client or the redirection
+/// URI is bad, the reply is an error in place. Any other error goes to the redirection URI. Returns
+/// an error if memory runs out.
 pub fn decide_authorize(
     alloc: Global,
     ledger: &Ledger,
@@ -30,23 +33,28 @@ pub fn decide_authorize(
     words: &[u64; 6],
     request: &Request,
 ) -> Result<Decision, AllocError>
-    ensures value { IfOk result (λ d. d ≡ spec.authorization_of (facts_of ledger.now) place.now now words.now request.now) }
+    ensures value { IfOk result (λ d. d ≡ spec.authorization_of (facts_of ledger.now) place.now now
+        words.now request.now) }
     ensures passes { IfOk result (λ d. Passes d.made) }
 
-    // A browser is sent to a URI of the client's that the request names, or nowhere.
-    ensures leads { IfOk result (λ d. LeadsToClient (facts_of ledger.now) request.now.params d.reply) }
+    // The reply sends the browser to a registered URI of the client that the request names, or to
+    // no URI.
+    ensures leads { IfOk result (λ d.
+        LeadsToClient (facts_of ledger.now) request.now.params d.reply) }
 {
     let judged = judge(alloc, ledger, &request.params, request.subject())?;
     let state = kept_state(request.params.value("state"));
     decide_by(alloc, place, now, words, state, judged)
 }
 
+// Returns the state as it was sent, if it may be sent back.
 fn kept_state(state: Option<&str>) -> Option<&str>
     ensures { option_copied result ≡ spec.kept_state (option_copied state.entry) }
 {
     if is_state(state) { state } else { None }
 }
 
+// Decides a request by its judgement.
 fn decide_by(
     alloc: Global,
     place: &Place,
@@ -55,7 +63,8 @@ fn decide_by(
     state: Option<&str>,
     judged: Judged,
 ) -> Result<Decision, AllocError>
-    ensures value { IfOk result (λ d. d ≡ spec.decided_by place.now now words.now (option_copied state.entry) judged) }
+    ensures value { IfOk result (λ d.
+        d ≡ spec.decided_by place.now now words.now (option_copied state.entry) judged) }
     ensures passes { IfOk result (λ d. Passes d.made) }
 {
     match judged {
@@ -72,6 +81,7 @@ fn decide_by(
     }
 }
 
+// Issues a code for an approval.
 fn decide_approved(
     alloc: Global,
     place: &Place,
@@ -81,7 +91,9 @@ fn decide_approved(
     target: Target,
     approval: Approval,
 ) -> Result<Decision, AllocError>
-    ensures value { IfOk result (λ d. d ≡ spec.decided_by place.now now words.now (option_copied state.entry) (Judged.Approved target approval)) }
+    ensures value { IfOk result (λ d.
+        d ≡ spec.decided_by place.now now words.now (option_copied state.entry)
+        (Judged.Approved target approval)) }
     ensures passes { IfOk result (λ d. Passes d.made) }
 {
     let code = code_handle(place.next_dot(), words);
@@ -97,6 +109,7 @@ fn decide_approved(
     })
 }
 
+// Makes the handle of a code at the dot, of the first three random words.
 fn code_handle(next: Dot, words: &[u64; 6]) -> Handle
     ensures { result ≡ spec.code_handle next words.now }
 {
@@ -107,19 +120,21 @@ fn code_handle(next: Dot, words: &[u64; 6]) -> Handle
     Handle::mint(id, [words[0], words[1], words[2]])
 }
 
-// A browser is sent to the URI with the code.
+// Returns the redirect that takes a code to the client.
 fn code_reply(
     alloc: Global,
     uri: &Uri,
     code: &Handle,
     state: Option<&str>,
 ) -> Result<Reply, AllocError>
-    ensures { IfOk result (λ reply. reply ≡ spec.code_reply uri.now code.now (option_copied state.entry)) }
+    ensures { IfOk result (λ reply.
+        reply ≡ spec.code_reply uri.now code.now (option_copied state.entry)) }
 {
     let text = handle_string(alloc, code)?;
     redirect_reply(alloc, uri.as_str(), "code", text.as_str(), state)
 }
 
+// Returns the fact that a code was issued.
 fn code_issued(
     place: &Place,
     now: Moment,
@@ -139,7 +154,7 @@ fn code_issued(
         scope,
         challenge,
     } = approval;
-    // The proof reads from these calls that each is within its limits.
+    // These calls give the proof that each value is within its limits.
     let (_uri, _subject) = (uri.as_str(), subject.as_str());
     if let Some(challenge) = &challenge {
         let _text = challenge.text();
@@ -159,7 +174,7 @@ fn code_issued(
     }
 }
 
-// So many seconds later, which isn't before.
+// Returns the moment `life` seconds later, which is not before `now`.
 fn later(now: Moment, life: u64) -> Moment
     ensures value { result ≡ moment_plus now life }
     ensures later { now ≤ result }

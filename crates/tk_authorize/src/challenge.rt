@@ -1,4 +1,4 @@
-//! The challenge that a request sends, or why it is denied for it (RFC 7636, 4.3 and 4.4.1).
+//! The challenge that an authorisation request sends (RFC 7636, 4.3 and 4.4.1).
 
 ghost use Rattle.std.specs.Prelude.{◌≡◌, IfOk};
 ghost use Rattle.std.specs.Option.{option_copied};
@@ -9,14 +9,16 @@ use std::alloc::{AllocError, Global};
 use tk_fact::Sort;
 use tk_match::{Challenge, ChallengeError};
 
-// The challenge, or none where a client may do without.
+// Returns the challenge, None if the client may do without, or the first denial that holds.
 pub(crate) fn find_challenge(
     alloc: Global,
     sort: &Sort,
     method: Option<&str>,
     text: Option<&str>,
 ) -> Result<Result<Option<Challenge>, Denial>, AllocError>
-    ensures { IfOk result (λ challenge. challenge ≡ spec.challenge_sent sort.now (option_copied method.entry) (option_copied text.entry)) }
+    ensures { IfOk result (λ challenge.
+        challenge ≡ spec.challenge_sent sort.now (option_copied method.entry)
+        (option_copied text.entry)) }
 {
     match text {
         Some(text) => read_challenge(alloc, method_of(method), text),
@@ -24,6 +26,7 @@ pub(crate) fn find_challenge(
     }
 }
 
+// Judges a request that sends no challenge.
 fn without_challenge(sort: &Sort, method: Option<&str>) -> Result<Option<Challenge>, Denial>
     ensures { result ≡ spec.without_challenge sort.now (option_copied method.entry) }
 {
@@ -36,6 +39,7 @@ fn without_challenge(sort: &Sort, method: Option<&str>) -> Result<Option<Challen
     Ok(None)
 }
 
+// Returns whether a client of this kind is public.
 fn is_public(sort: &Sort) -> bool
     ensures { result ≡ spec.is_public sort.now }
 {
@@ -46,6 +50,7 @@ fn is_public(sort: &Sort) -> bool
     }
 }
 
+// Returns the method that was sent, or `plain` if none was sent.
 fn method_of(method: Option<&str>) -> &str
     ensures { result.now ≡ spec.method_of (option_copied method.entry) }
 {
@@ -55,6 +60,7 @@ fn method_of(method: Option<&str>) -> &str
     }
 }
 
+// Reads a challenge with its method.
 fn read_challenge(
     alloc: Global,
     method: &str,

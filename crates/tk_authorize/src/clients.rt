@@ -1,4 +1,4 @@
-//! Clients that are shown and retired: the cases in their order.
+//! Judgements of requests that show or retire a client.
 
 ghost use Rattle.std.specs.Prelude.{◌≡◌, IfOk, Ok as Found};
 ghost use Rattle.std.specs.Option.{option_copied};
@@ -14,6 +14,7 @@ use tk_handle::{Dot, read_client};
 use tk_ledger::Ledger;
 use tk_message::Params;
 
+// Judges a request to show a client.
 pub(crate) fn show(
     alloc: Global,
     ledger: &Ledger,
@@ -28,6 +29,7 @@ pub(crate) fn show(
     }
 }
 
+// Shows the client that was added at the dot, if one was.
 fn show_at(alloc: Global, ledger: &Ledger, client: Dot) -> Result<Administered, AllocError>
     ensures value { IfOk result (λ a. a ≡ spec.shown_by (facts_of ledger.now) (Found client)) }
     ensures sound { IfOk result IsSoundAdministered }
@@ -44,6 +46,7 @@ fn show_at(alloc: Global, ledger: &Ledger, client: Dot) -> Result<Administered, 
     }))
 }
 
+// Judges a request to retire a client.
 pub(crate) fn retire(ledger: &Ledger, params: &Params) -> Administered
     ensures value { result ≡ spec.retired_of (facts_of ledger.now) params.now }
     ensures sound { IsSoundAdministered result }
@@ -54,6 +57,7 @@ pub(crate) fn retire(ledger: &Ledger, params: &Params) -> Administered
     }
 }
 
+// Retires the client that was added at the dot, if one was.
 fn retire_at(ledger: &Ledger, client: Dot) -> Administered
     ensures value { result ≡ spec.retired_by (facts_of ledger.now) (Found client) }
     ensures sound { IsSoundAdministered result }
@@ -64,7 +68,7 @@ fn retire_at(ledger: &Ledger, client: Dot) -> Administered
     }
 }
 
-// The dot of the client's id that was sent, whether or not a client was added there.
+// Returns the dot of the client id in the parameters, whether or not a client was added there.
 fn client_named(params: &Params) -> Result<Dot, AdminRefusal>
     ensures { result ≡ spec.client_named params.now }
 {
@@ -74,6 +78,7 @@ fn client_named(params: &Params) -> Result<Dot, AdminRefusal>
     client_asked(params.value("client_id"))
 }
 
+// Returns whether the client id occurs twice.
 fn is_id_twice(params: &Params) -> bool
     ensures { result ≡ has_twice spec.client_names params.now }
 {
@@ -81,6 +86,7 @@ fn is_id_twice(params: &Params) -> bool
     params.has_twice(&names)
 }
 
+// Returns the dot of a client id, if one was sent.
 fn client_asked(id: Option<&str>) -> Result<Dot, AdminRefusal>
     ensures { result ≡ spec.client_asked (option_copied id.entry) }
 {

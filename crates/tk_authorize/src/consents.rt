@@ -1,4 +1,4 @@
-//! Consents that are given and withdrawn: the cases in their order (RFC 6749, 4.1, for what a consent is).
+//! Judgements of requests that give or withdraw a consent (RFC 6749, 4.1).
 
 ghost use Rattle.std.specs.Prelude.{◌≡◌, IfOk, Some, IsTrue};
 ghost use Rattle.std.specs.Option.{option_copied};
@@ -35,6 +35,7 @@ pub(crate) fn consent(
     consent_by(alloc, ledger, id, subject, params.value("scope"))
 }
 
+// Returns whether a parameter that the endpoint knows occurs twice.
 fn has_repeats(params: &Params) -> bool
     ensures { result ≡ has_twice spec.consent_names params.now }
 {
@@ -42,6 +43,7 @@ fn has_repeats(params: &Params) -> bool
     params.has_twice(&names)
 }
 
+// Judges a request to give a consent, by its parameters.
 fn consent_by(
     alloc: Global,
     ledger: &Ledger,
@@ -49,7 +51,9 @@ fn consent_by(
     subject: Option<&str>,
     scope: Option<&str>,
 ) -> Result<Administered, AllocError>
-    ensures value { IfOk result (λ a. a ≡ spec.consented_by (facts_of ledger.now) (option_copied id.entry) (option_copied subject.entry) (option_copied scope.entry)) }
+    ensures value { IfOk result (λ a.
+        a ≡ spec.consented_by (facts_of ledger.now) (option_copied id.entry)
+        (option_copied subject.entry) (option_copied scope.entry)) }
     ensures sound { IfOk result IsSoundAdministered }
 {
     let Some(id) = id else {
@@ -67,6 +71,7 @@ fn consent_by(
     }
 }
 
+// Judges a consent to a client, if the client is live.
 fn consent_to(
     alloc: Global,
     ledger: &Ledger,
@@ -74,7 +79,8 @@ fn consent_to(
     subject: &str,
     scope: &str,
 ) -> Result<Administered, AllocError>
-    ensures value { IfOk result (λ a. a ≡ spec.consented_to (facts_of ledger.now) subject.now scope.now (Some client)) }
+    ensures value { IfOk result (λ a. a ≡ spec.consented_to (facts_of ledger.now) subject.now
+        scope.now (Some client)) }
     ensures sound { IfOk result IsSoundAdministered }
 {
     let Some(view) = ledger.client(client) else {
@@ -86,6 +92,7 @@ fn consent_to(
     consent_as(alloc, client, view.scope, subject, scope)
 }
 
+// Judges a consent of a subject, if the text names one.
 fn consent_as(
     alloc: Global,
     client: Dot,
@@ -93,7 +100,8 @@ fn consent_as(
     subject: &str,
     scope: &str,
 ) -> Result<Administered, AllocError>
-    ensures value { IfOk result (λ a. a ≡ spec.consented_as client whole.now subject.now scope.now) }
+    ensures value { IfOk result (λ a.
+        a ≡ spec.consented_as client whole.now subject.now scope.now) }
     ensures sound { IfOk result IsSoundAdministered }
 {
     match Subject::read(alloc, subject.as_bytes()) {
@@ -106,6 +114,7 @@ fn consent_as(
     }
 }
 
+// Judges a consent to a scope, if there is one.
 fn consent_for(client: Dot, subject: Subject, scope: Option<Scope>) -> Administered
     ensures value { result ≡ spec.consented_for client subject scope }
     ensures sound { IsSoundAdministered result }
@@ -113,7 +122,7 @@ fn consent_for(client: Dot, subject: Subject, scope: Option<Scope>) -> Administe
     let Some(scope) = scope else {
         return Administered::Refused(AdminRefusal::WrongScope);
     };
-    // The proof reads from this call that it is a subject.
+    // This call gives the proof that the subject's name is within its limits.
     let _name = subject.as_str();
     Administered::Consents(ConsentGiven {
         client,
@@ -134,6 +143,7 @@ pub(crate) fn withdraw(ledger: &Ledger, params: &Params) -> Administered
     withdraw_by(ledger, params.value("consent_id"))
 }
 
+// Returns whether the consent id occurs twice.
 fn is_id_twice(params: &Params) -> bool
     ensures { result ≡ has_twice spec.withdrawal_names params.now }
 {
@@ -141,6 +151,7 @@ fn is_id_twice(params: &Params) -> bool
     params.has_twice(&names)
 }
 
+// Judges a request to withdraw a consent, by its id.
 fn withdraw_by(ledger: &Ledger, id: Option<&str>) -> Administered
     ensures value { result ≡ spec.withdrawn_by (facts_of ledger.now) (option_copied id.entry) }
     ensures sound { IsSoundAdministered result }
@@ -154,6 +165,7 @@ fn withdraw_by(ledger: &Ledger, id: Option<&str>) -> Administered
     }
 }
 
+// Withdraws the consent that was given at the dot, if one was.
 fn withdraw_at(ledger: &Ledger, consent: Dot) -> Administered
     ensures value { result ≡ spec.withdrawn_to (facts_of ledger.now) (Some consent) }
     ensures sound { IsSoundAdministered result }

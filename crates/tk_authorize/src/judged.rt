@@ -1,4 +1,5 @@
-//! What a request comes to, over the facts and the parameters: who asks, where the answer goes, and whether a code is issued.
+//! Judgements of authorisation requests: the client, where the reply goes, and whether a code is
+//! issued.
 
 ghost use Rattle.std.specs.Prelude.{◌≡◌, IfOk, Some, true};
 ghost use Rattle.std.specs.Option.{option_copied};
@@ -18,7 +19,7 @@ use tk_ledger::Ledger;
 use tk_match::{Pick, RedirectError, Uri};
 use tk_message::Params;
 
-// Where an answer goes, and whom a code is issued to.
+// The URI that the reply goes to, and the client that a code is issued to.
 #[derive(Drop)]
 pub(crate) struct Target {
     pub(crate) client: Dot,
@@ -27,7 +28,7 @@ pub(crate) struct Target {
     pub(crate) sent: bool,
 }
 
-// What a request comes to.
+// The judgement of an authorisation request.
 #[derive(Drop)]
 pub(crate) enum Judged {
     Refused(Refusal),
@@ -35,14 +36,15 @@ pub(crate) enum Judged {
     Approved(Target, Approval),
 }
 
-// The ordered cases of a request, by its parameters and who has signed in.
+// Judges a request by its parameters and the subject that has signed in: the first case that holds.
 pub(crate) fn judge(
     alloc: Global,
     ledger: &Ledger,
     params: &Params,
     subject: Option<&[u8]>,
 ) -> Result<Judged, AllocError>
-    ensures { IfOk result (λ judged. judged ≡ spec.judged_of (facts_of ledger.now) params.now (option_copied subject.entry)) }
+    ensures { IfOk result (λ judged. judged ≡ spec.judged_of (facts_of ledger.now) params.now
+        (option_copied subject.entry)) }
 {
     if has_duplicate(params) {
         return Ok(Judged::Refused(Refusal::DuplicateClientOrRedirect));
@@ -50,6 +52,7 @@ pub(crate) fn judge(
     judge_by_id(alloc, ledger, params, subject, params.value("client_id"))
 }
 
+// Returns whether the client id or the redirection URI occurs twice.
 fn has_duplicate(params: &Params) -> bool
     ensures { result ≡ has_twice spec.target_names params.now }
 {
@@ -57,6 +60,7 @@ fn has_duplicate(params: &Params) -> bool
     params.has_twice(&names)
 }
 
+// Judges a request by its client id.
 fn judge_by_id(
     alloc: Global,
     ledger: &Ledger,
@@ -64,7 +68,8 @@ fn judge_by_id(
     subject: Option<&[u8]>,
     id: Option<&str>,
 ) -> Result<Judged, AllocError>
-    ensures { IfOk result (λ judged. judged ≡ spec.judged_by_id (facts_of ledger.now) params.now (option_copied subject.entry) (option_copied id.entry)) }
+    ensures { IfOk result (λ judged. judged ≡ spec.judged_by_id (facts_of ledger.now) params.now
+        (option_copied subject.entry) (option_copied id.entry)) }
 {
     let Some(id) = id else {
         return Ok(Judged::Refused(Refusal::MissingClient));
@@ -75,6 +80,7 @@ fn judge_by_id(
     }
 }
 
+// Judges a request of the client that was added at the dot, if one was.
 fn judge_client(
     alloc: Global,
     ledger: &Ledger,
@@ -82,7 +88,8 @@ fn judge_client(
     subject: Option<&[u8]>,
     client: Dot,
 ) -> Result<Judged, AllocError>
-    ensures { IfOk result (λ judged. judged ≡ spec.judged_by_client (facts_of ledger.now) params.now (option_copied subject.entry) (Some client)) }
+    ensures { IfOk result (λ judged. judged ≡ spec.judged_by_client (facts_of ledger.now) params.now
+        (option_copied subject.entry) (Some client)) }
 {
     let Some(view) = ledger.client(client) else {
         return Ok(Judged::Refused(Refusal::UnknownClient));
@@ -103,6 +110,7 @@ fn judge_client(
     }
 }
 
+// Returns the bytes of a text, if there is one.
 fn bytes_of(text: Option<&str>) -> Option<&[u8]>
     ensures { option_copied result ≡ option_copied text.entry }
 {
@@ -112,9 +120,14 @@ fn bytes_of(text: Option<&str>) -> Option<&[u8]>
     }
 }
 
+// Returns the target at a registered URI.
 fn find_target(alloc: Global, client: Dot, uri: &[u8], sent: bool) -> Result<Target, AllocError>
     requires { is_uri uri.now ≡ true }
-    ensures { IfOk result (λ target. target ≡ record { client = client; uri = uri.now; sent = sent }) }
+    ensures { IfOk result (λ target. target ≡ record {
+      client = client;
+      uri = uri.now;
+      sent = sent;
+    }) }
 {
     match Uri::read(alloc, uri) {
         Ok(uri) => Ok(Target { client, uri, sent }),
@@ -123,6 +136,7 @@ fn find_target(alloc: Global, client: Dot, uri: &[u8], sent: bool) -> Result<Tar
     }
 }
 
+// Judges a request by its approval. From here on the reply goes to the client's URI.
 fn judged_at(target: Target, approval: Result<Approval, Denial>) -> Judged
     ensures { result ≡ spec.judged_at target approval }
 {

@@ -1,18 +1,25 @@
-//! What authorisation and administration requests are answered, and the facts that they make.
+//! Decisions of authorisation and administration requests: the replies, and the facts that they
+//! make.
 //!
-//! `decide_authorize` (RFC 6749, 4.1.1 to 4.1.2.1; RFC 7636, 4.3 and 4.4) gives a reply, and where the request is granted the
-//! fact that a code was issued. First the request is judged, over the facts and the parameters alone: a `Refusal` is told in
-//! place and never redirected, a `Denial` is told at the client's redirection URI, and an `Approval` is what a code is issued
-//! for. Then the judgement becomes the reply and the fact. Who has signed in is told by the front end, and asking for a
-//! consent is its business too.
+//! `decide_authorize` (RFC 6749, 4.1.1 to 4.1.2.1; RFC 7636, 4.3 and 4.4) decides a request to
+//! `/authorize`. First the request is judged, by the facts and the parameters alone:
 //!
-//! `decide_admin` (own) does the same for clients that are added, shown and retired, for consents that are given and
-//! withdrawn, and for subjects that are signed out everywhere: an `AdminRefusal` says which case of its endpoint held. Who may
-//! ask is the deployment's to see to.
+//! - A `Refusal` is an error in place. The browser is not redirected.
+//! - A `Denial` is an error at the client's redirection URI.
+//! - An `Approval` is what a code is issued for.
 //!
-//! In reading order: `Refusal`, `Denial`, `challenge`, `Asked`, `Approval`, `Judged`, `decide_authorize`; then `AdminRefusal`,
-//! `registration`, `clients`, `consents`, `sign_outs`, `Administered`, `decide_admin`. The definitions are in specs/: for the first half
-//! one file for each of them, for the second `Administered` and `Administration`.
+//! Then the judgement becomes the reply, and the fact if a code is issued. The front end reports
+//! which subject has signed in, and asks the subject for consent.
+//!
+//! `decide_admin` (own) decides a request to an endpoint under `/admin/`: clients are added, shown
+//! and retired, consents are given and withdrawn, subjects are signed out everywhere. An
+//! `AdminRefusal` is the first case of the endpoint that held. The deployment must see to who may
+//! send these requests.
+//!
+//! In reading order: `Refusal`, `Denial`, `challenge`, `Asked`, `Approval`, `Judged`,
+//! `decide_authorize`; then `AdminRefusal`, `registration`, `clients`, `consents`, `sign_outs`,
+//! `Administered`, `decide_admin`. The definitions are in `specs/`: for authorisation one file for
+//! each of these names, for administration `Administered` and `Administration`.
 #![tactic(auto)]
 
 mod admin_refusal;

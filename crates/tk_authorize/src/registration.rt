@@ -1,4 +1,4 @@
-//! A client that is added: the cases in their order (RFC 6749, 2).
+//! Judgements of requests that add a client (RFC 6749, 2).
 
 ghost use Rattle.std.specs.Prelude.{◌≡◌, IfOk, OnOk, Ok as Found, Some, map, codes};
 ghost use Rattle.std.specs.List.{list_all, slice_split};
@@ -17,9 +17,10 @@ use tk_match::{RedirectError, Redirects};
 use tk_message::Params;
 use tk_scope::{Scope, ScopeError};
 
-/// The most bytes of a client's secret (own).
+/// The greatest number of bytes of a client's secret (own).
 const MOST_SECRET_BYTES: usize = 128;
 
+// Judges a request to add a client.
 pub(crate) fn register(alloc: Global, params: &Params) -> Result<Administered, AllocError>
     ensures value { IfOk result (λ a. a ≡ spec.registered_of params.now) }
     ensures sound { IfOk result IsSoundAdministered }
@@ -33,6 +34,7 @@ pub(crate) fn register(alloc: Global, params: &Params) -> Result<Administered, A
     register_by(alloc, kind, scope, redirects, params.value("secret"))
 }
 
+// Returns whether a parameter that the endpoint knows occurs twice.
 fn has_repeats(params: &Params) -> bool
     ensures { result ≡ has_twice spec.registration_names params.now }
 {
@@ -40,6 +42,7 @@ fn has_repeats(params: &Params) -> bool
     params.has_twice(&names)
 }
 
+// Judges a request to add a client, by its parameters.
 fn register_by(
     alloc: Global,
     kind: Option<&str>,
@@ -47,7 +50,9 @@ fn register_by(
     redirects: Option<&str>,
     secret: Option<&str>,
 ) -> Result<Administered, AllocError>
-    ensures value { IfOk result (λ a. a ≡ spec.registered_by (option_copied kind.entry) (option_copied scope.entry) (option_copied redirects.entry) (option_copied secret.entry)) }
+    ensures value { IfOk result (λ a.
+        a ≡ spec.registered_by (option_copied kind.entry) (option_copied scope.entry)
+        (option_copied redirects.entry) (option_copied secret.entry)) }
     ensures sound { IfOk result IsSoundAdministered }
 {
     let Some(kind) = kind else {
@@ -82,6 +87,7 @@ fn sort_asked(kind: &str, secret: Option<&str>) -> Result<Sort, AdminRefusal>
     Err(AdminRefusal::UnknownKind)
 }
 
+// Returns the kind of a public client, which has no secret.
 fn public_sort(secret: Option<&str>) -> Result<Sort, AdminRefusal>
     ensures { result ≡ spec.public_sort (option_copied secret.entry) }
 {
@@ -91,6 +97,7 @@ fn public_sort(secret: Option<&str>) -> Result<Sort, AdminRefusal>
     }
 }
 
+// Returns the kind of a confidential client with the secret.
 fn confidential_sort(secret: Option<&str>) -> Result<Sort, AdminRefusal>
     ensures { result ≡ spec.confidential_sort (spec.digest_asked (option_copied secret.entry)) }
 {
@@ -100,6 +107,7 @@ fn confidential_sort(secret: Option<&str>) -> Result<Sort, AdminRefusal>
     }
 }
 
+// Returns the kind of a resource server with the secret.
 fn resource_sort(secret: Option<&str>) -> Result<Sort, AdminRefusal>
     ensures { result ≡ spec.resource_sort (spec.digest_asked (option_copied secret.entry)) }
 {
@@ -109,6 +117,7 @@ fn resource_sort(secret: Option<&str>) -> Result<Sort, AdminRefusal>
     }
 }
 
+// Returns the digest of the secret, which is required.
 fn digest_asked(secret: Option<&str>) -> Result<[u8; 32], AdminRefusal>
     ensures { result ≡ spec.digest_asked (option_copied secret.entry) }
 {
@@ -121,12 +130,14 @@ fn digest_asked(secret: Option<&str>) -> Result<[u8; 32], AdminRefusal>
     Ok(Sha256::digest(secret.as_bytes()))
 }
 
+// Returns whether a secret has 1 to 128 visible bytes.
 fn is_secret(secret: &[u8]) -> bool
     ensures { result ≡ spec.is_secret secret.now }
 {
     (1..=MOST_SECRET_BYTES).contains(&secret.len()) && is_all_visible(secret)
 }
 
+// Returns whether all bytes are visible ASCII.
 fn is_all_visible(secret: &[u8]) -> bool
     ensures { result ≡ list_all is_visible secret.now }
 {
@@ -153,6 +164,7 @@ fn register_as(
     }
 }
 
+// Judges a client with a scope, if the text of the scope can be read.
 fn register_with(
     alloc: Global,
     sort: Sort,
@@ -171,21 +183,24 @@ fn register_with(
     }
 }
 
+// Reads redirection URIs between single spaces, None if the list may not be registered.
 fn split_redirects(alloc: Global, text: &str) -> Result<Option<Redirects>, AllocError>
-    ensures { IfOk result (λ redirects. redirects ≡ spec.registered (slice_split spec.is_space text.now)) }
+    ensures { IfOk result (λ redirects.
+        redirects ≡ spec.registered (slice_split spec.is_space text.now)) }
 {
     let uris = split_spaces(alloc, text.as_bytes())?;
     read_redirects(alloc, uris.as_slice())
 }
 
-// The pieces between single spaces.
+// Splits a text at each space.
 fn split_spaces(alloc: Global, text: &[u8]) -> Result<Vec<&[u8]>, AllocError>
-    ensures { IfOk result (λ pieces. map (λ x. x.now) pieces.items ≡ slice_split spec.is_space text.now) }
+    ensures { IfOk result (λ pieces. map (λ x. x.now) pieces.items ≡ slice_split spec.is_space
+        text.now) }
 {
     text.split(|b| *b == b' ').collect(alloc)
 }
 
-// The list of these URIs, None where one may not be registered.
+// Reads a list of redirection URIs, None if the list may not be registered.
 #[tactic(auto, using(crate::proofs::RegistrationLaws::registered_list, crate::proofs::RegistrationLaws::unregistered_list))]
 fn read_redirects(alloc: Global, uris: &[&[u8]]) -> Result<Option<Redirects>, AllocError>
     ensures { IfOk result (λ redirects. redirects ≡ spec.registered (map (λ x. x.now) uris.now)) }
@@ -197,6 +212,7 @@ fn read_redirects(alloc: Global, uris: &[&[u8]]) -> Result<Option<Redirects>, Al
     }
 }
 
+// Judges a client with redirection URIs, if the list may be registered.
 fn register_to(sort: Sort, scope: Scope, redirects: Option<Redirects>) -> Administered
     ensures value { result ≡ spec.registered_to sort scope redirects }
     ensures sound { IsSoundAdministered result }
@@ -204,7 +220,7 @@ fn register_to(sort: Sort, scope: Scope, redirects: Option<Redirects>) -> Admini
     let Some(redirects) = redirects else {
         return Administered::Refused(AdminRefusal::BadRedirects);
     };
-    // The proof reads from this call that each is a URI.
+    // This call gives the proof that each URI is within its limits.
     let _uris = redirects.uris();
     Administered::Registers(ClientAdded {
         sort,

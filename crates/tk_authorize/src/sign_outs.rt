@@ -1,4 +1,4 @@
-//! Subjects that are signed out everywhere: the cases in their order.
+//! Judgements of requests that sign a subject out everywhere.
 
 ghost use Rattle.std.specs.Prelude.{◌≡◌, IfOk};
 ghost use Rattle.std.specs.Option.{option_copied};
@@ -16,6 +16,7 @@ use tk_handle::Moment;
 use tk_ledger::Ledger;
 use tk_message::Params;
 
+// Judges a request to sign a subject out everywhere.
 pub(crate) fn sign_out(
     alloc: Global,
     ledger: &Ledger,
@@ -31,6 +32,7 @@ pub(crate) fn sign_out(
     sign_out_by(alloc, ledger, now, params.value("subject"))
 }
 
+// Returns whether the subject occurs twice.
 fn is_subject_twice(params: &Params) -> bool
     ensures { result ≡ has_twice spec.sign_out_names params.now }
 {
@@ -38,13 +40,15 @@ fn is_subject_twice(params: &Params) -> bool
     params.has_twice(&names)
 }
 
+// Judges a sign-out by the text of the subject, which is required.
 fn sign_out_by(
     alloc: Global,
     ledger: &Ledger,
     now: Moment,
     subject: Option<&str>,
 ) -> Result<Administered, AllocError>
-    ensures value { IfOk result (λ a. a ≡ spec.signed_out_by (facts_of ledger.now) now (option_copied subject.entry)) }
+    ensures value { IfOk result (λ a.
+        a ≡ spec.signed_out_by (facts_of ledger.now) now (option_copied subject.entry)) }
     ensures sound { IfOk result IsSoundAdministered }
 {
     let Some(subject) = subject else {
@@ -53,13 +57,15 @@ fn sign_out_by(
     sign_out_as(alloc, ledger, now, subject)
 }
 
+// Judges a sign-out of a subject, if the text names one.
 fn sign_out_as(
     alloc: Global,
     ledger: &Ledger,
     now: Moment,
     subject: &str,
 ) -> Result<Administered, AllocError>
-    ensures value { IfOk result (λ a. a ≡ spec.signed_out_as (facts_of ledger.now) now subject.now) }
+    ensures value { IfOk result (λ a.
+        a ≡ spec.signed_out_as (facts_of ledger.now) now subject.now) }
     ensures sound { IfOk result IsSoundAdministered }
 {
     match Subject::read(alloc, subject.as_bytes()) {
@@ -69,6 +75,7 @@ fn sign_out_as(
     }
 }
 
+// Signs a subject out, unless the subject is signed out at the moment or later.
 fn sign_out_at(ledger: &Ledger, now: Moment, subject: Subject) -> Administered
     ensures value { result ≡ spec.signed_out_at (facts_of ledger.now) now subject }
     ensures sound { IsSoundAdministered result }
@@ -76,7 +83,7 @@ fn sign_out_at(ledger: &Ledger, now: Moment, subject: Subject) -> Administered
     if is_out(ledger, now, &subject) {
         return Administered::AlreadyOut(subject);
     }
-    // The proof reads from this call that it is a subject.
+    // This call gives the proof that the subject's name is within its limits.
     let _name = subject.as_str();
     Administered::SignsOut(SubjectOut {
         subject,
@@ -84,7 +91,7 @@ fn sign_out_at(ledger: &Ledger, now: Moment, subject: Subject) -> Administered
     })
 }
 
-// Whether the subject was signed out at the moment, or later.
+// Returns whether the subject was signed out at the moment, or is signed out later.
 fn is_out(ledger: &Ledger, now: Moment, subject: &Subject) -> bool
     ensures { result ≡ is_signed_out (facts_of ledger.now) subject.now now }
 {

@@ -1,7 +1,7 @@
--- A page is what a set holds at the first dots beyond a vector, and can be read. Key results:
---   facts_at-more   what a set holds at one dot more
---   dots_are        the first dots beyond a vector are those of the page's facts
---   page_is         a page at these dots is the page
+-- A page has the facts of a set at the first dots that a vector does not cover. Key results:
+--   facts_at-more   the facts at one dot more
+--   dots_are        the first dots that a vector does not cover are those of the page's facts
+--   page_is         a page made at these dots is the page of the set
 --   page_fits       a page has a spelling
 use Rattle.std.proofs.Common.{◌≡◌, ℕ, ◌+◌, ◌<◌, ◌≤◌, ◌^◌, ◌-◌, Bool, true, false, ◌&&◌, cond, T, nat_lt, nat_le, List, [], ◌∷◌, ◌++◌, get_or, length, map, max, min, filter, take, zero, suc, Option, Some, None, slice_get, refl, sym, ap, subst, ◌∙◌, append_assoc, arith}
 use Rattle.std.specs.List.{AllByRecursion, cons_option, flat_map}
@@ -28,33 +28,34 @@ use Rattle.tk_bundle.specs.Versions.{kind_of, newest_kind}
 use Rattle.tk_bundle.specs.Bundle.{ascends, most_facts, bundle}
 use Rattle.tk_bundle.specs.Page.{fact_at, facts_at, last_of, page_within, IsPageAt, IsPageOf}
 
--- ---- what a set holds at some dots
+-- ---- the facts of a set at given dots
 
--- facts that are in the set are what it holds at their dots
+-- facts in the set are those that it has at their dots
 facts_at-dots : (F : FactSet) (fs : Facts) → AllIn F fs → facts_at F (map dot_of fs) ≡ fs
 facts_at-dots F [] all = refl
 facts_at-dots F (f ∷ fs) all =
     ap (λ o. cons_option (option_map (λ body. (f.0, body)) o) (facts_at F (map dot_of fs))) all.0
     ∙ ap (λ l. f ∷ l) (facts_at-dots F fs all.1)
 
--- what a set holds at one dot more
+-- the facts at the first i dots and at the next one are those at the first i + 1
 pub facts_at-more : (F : FactSet) (dots : List Dot) (i : ℕ) (dot : Dot) → i < length dots → dot ≡ get_or dots i dot → facts_at F (take i dots) ++ facts_at F (dot ∷ []) ≡ facts_at F (take (i + 1) dots)
 facts_at-more F dots i dot within is =
     sym (filter_map-append (fact_at F) (take i dots) (dot ∷ []))
     ∙ ap (facts_at F) (ap (λ d. take i dots ++ d ∷ []) is ∙ sym (take_at_read dots i dot within).1)
 
+-- the newest kind of two lists, one after the other
 newest_append : (last : ℕ) (fs gs : Facts) → newest_kind last (fs ++ gs) ≡ newest_kind (newest_kind last fs) gs
 newest_append last [] gs = refl
 newest_append last (f ∷ fs) gs = newest_append (max last (kind_of f.1)) fs gs
 
--- its kind is seen too
+-- the newest kind with the fact at one dot more
 pub more_newest : (F : FactSet) (dots : List Dot) (i : ℕ) (dot : Dot) (before after : ℕ) → i < length dots → dot ≡ get_or dots i dot
     → before ≡ newest_kind 0 (facts_at F (take i dots)) → after ≡ newest_kind before (facts_at F (dot ∷ [])) → after ≡ newest_kind 0 (facts_at F (take (i + 1) dots))
 more_newest F dots i dot before after within is so_far one =
     one ∙ ap (λ last. newest_kind last (facts_at F (dot ∷ []))) so_far
     ∙ sym (newest_append 0 (facts_at F (take i dots)) (facts_at F (dot ∷ []))) ∙ ap (newest_kind 0) (facts_at-more F dots i dot within is)
 
--- and as bytes: one fact more is written, and has a spelling
+-- the bytes with the fact at one dot more
 pub more_written : (F : FactSet) (dots : List Dot) (i : ℕ) (dot : Dot) (old before after : List ℕ) → i < length dots → dot ≡ get_or dots i dot
     → before ≡ old ++ flat_map framed.spell (facts_at F (take i dots)) → after ≡ before ++ flat_map framed.spell (facts_at F (dot ∷ []))
     → after ≡ old ++ flat_map framed.spell (facts_at F (take (i + 1) dots))
@@ -63,32 +64,36 @@ more_written F dots i dot old before after within is so_far one =
     ∙ append_assoc old (flat_map framed.spell (facts_at F (take i dots))) (flat_map framed.spell (facts_at F (dot ∷ [])))
     ∙ ap (λ bytes. old ++ bytes) (sym (flat_map-append framed.spell (facts_at F (take i dots)) (facts_at F (dot ∷ []))) ∙ ap (flat_map framed.spell) (facts_at-more F dots i dot within is))
 
+-- facts of two lists that each have a spelling
 all_append : (fs gs : Facts) → AllByRecursion framed.Fits fs → AllByRecursion framed.Fits gs → AllByRecursion framed.Fits (fs ++ gs)
 all_append [] gs a b = b
 all_append (f ∷ fs) gs a b = (a.0, all_append fs gs a.1 b)
 
+-- the fact at one dot more has a spelling
 pub more_fits : (F : FactSet) (dots : List Dot) (i : ℕ) (dot : Dot) → i < length dots → dot ≡ get_or dots i dot
     → AllByRecursion framed.Fits (facts_at F (take i dots)) → AllByRecursion framed.Fits (facts_at F (dot ∷ [])) → AllByRecursion framed.Fits (facts_at F (take (i + 1) dots))
 more_fits F dots i dot within is so_far one = subst (AllByRecursion framed.Fits) (facts_at-more F dots i dot within is) (all_append (facts_at F (take i dots)) (facts_at F (dot ∷ [])) so_far one)
 
--- the first dots beyond a vector are those of the first facts
+-- the first dots that a vector does not cover are those of the first facts
 pub dots_are : (F : FactSet) (v : Vector) (after : Option Dot) (limit : ℕ) → take limit (take (limit + 1) (map dot_of (beyond F v after))) ≡ map dot_of (take limit (beyond F v after))
 dots_are F v after limit = take-take limit (limit + 1) (map dot_of (beyond F v after)) (omega arith) ∙ take-map dot_of limit (beyond F v after)
 
+-- the facts at the dots of a page are the page's
 page_facts : (F : FactSet) (v : Vector) (after : Option Dot) (limit : ℕ) → facts_at F (map dot_of (take limit (beyond F v after))) ≡ take limit (beyond F v after)
 page_facts F v after limit = facts_at-dots F (take limit (beyond F v after)) (AllIn-take F limit (beyond F v after) (AllIn-beyond F v after))
 
--- one dot more than there is room for tells whether more follow
+-- one dot more than there is room for shows whether more facts follow
 pub page_more : (fs : Facts) (limit : ℕ) → nat_lt limit (length (take (limit + 1) (map dot_of fs))) ≡ nat_lt limit (length fs)
 page_more fs limit = ap (nat_lt limit) (length-take (limit + 1) (map dot_of fs) ∙ ap (min (limit + 1)) (length-map fs dot_of)) ∙ same limit (length fs)
   where
     same : (m n : ℕ) → nat_lt m (min (m + 1) n) ≡ nat_lt m n
     same m n = grind (arith, nat_tests)
 
+-- the dots of a page are few
 pub short_dots : (dots : List Dot) (limit : ℕ) → limit ≤ most_facts → length (take limit dots) ≤ most_facts
 short_dots dots limit low = omega (arith, length-take limit dots)
 
--- ---- the page in bytes
+-- ---- a page in bytes
 
 pub page_is : (made : Page) (F : FactSet) (v : Vector) (after : Option Dot) (limit : ℕ) (dots : List Dot) (more : Bool) → dots ≡ map dot_of (take limit (beyond F v after)) → more ≡ nat_lt limit (length (beyond F v after)) → IsPageAt made F dots more → IsPageOf made (page_within limit F v after)
 page_is made F v after limit dots more same follows at =
@@ -149,7 +154,7 @@ ascends_sorted : (es : Facts) → T (sets.is_sorted dot_cmp es) → ascends None
 ascends_sorted [] sorted = refl
 ascends_sorted (e ∷ es) sorted = let s = both _ _ sorted in ascends_above e.0 es s.0 s.1
 
--- so a page has a spelling
+-- a page has a spelling
 pub page_fits : (F : FactSet) (v : Vector) (after : Option Dot) (limit : ℕ) (dots : List Dot) → limit ≤ most_facts → dots ≡ map dot_of (take limit (beyond F v after)) → AllByRecursion framed.Fits (facts_at F dots) → bundle.Fits (take limit (beyond F v after))
 page_fits F v after limit dots low same fits =
     let fs = take limit (beyond F v after) in

@@ -1,4 +1,4 @@
--- Pages by what they tell of themselves are the pages of tk_store. Key result: complete.
+-- Paging by the flag `more` is the paging of tk_store. Key result: complete, paging loses nothing.
 use Rattle.std.proofs.Common.{◌≡◌, ℕ, ◌<◌, ◌≤◌, true, false, nat_lt, List, [], ◌∷◌, Option, None, arith}
 use Rattle.std.proofs.lemmas.Bool.Decides.{nat_tests}
 use Rattle.tk_handle.specs.declared.dot.Dot.{Dot}

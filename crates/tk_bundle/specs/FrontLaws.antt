@@ -1,13 +1,79 @@
--- The walk over lengths: a loop of it, what it leaves, and that it is cut where a bundle is torn.
-use Rattle.std.proofs.Common.{◌≡◌, ◌≢◌, ℕ, zero, suc, ◌+◌, ◌-◌, ◌<◌, ◌≤◌, Bool, true, false, cond, not, ltb, List, [], ◌∷◌, ◌++◌, length, take, drop, Option, Some, None, Result, Ok, Err, refl, sym, ap, subst, ◌∙◌, append_assoc, arith}
+-- The walk over the lengths of a bundle at the front of bytes. Key results:
+--   walk_more, walk_fail, walk_done   one step of the walk over facts
+--   walk_ends      the walk leaves the end of the bytes
+--   walk_bundle    a bundle at the front is walked over
+--   walk_torn      the beginning of a bundle, unless it is the whole bundle, is cut
+--   front_split    the bytes before the end that the walk leaves are the bundle's
+--   front_is       the bundle that is read there is the one at the front
+use Rattle.std.proofs.Common.{
+  ◌≡◌,
+  ◌≢◌,
+  ℕ,
+  zero,
+  suc,
+  ◌+◌,
+  ◌-◌,
+  ◌<◌,
+  ◌≤◌,
+  Bool,
+  true,
+  false,
+  cond,
+  not,
+  ltb,
+  List,
+  [],
+  ◌∷◌,
+  ◌++◌,
+  length,
+  take,
+  drop,
+  Option,
+  Some,
+  None,
+  Result,
+  Ok,
+  Err,
+  refl,
+  sym,
+  ap,
+  subst,
+  ◌∙◌,
+  append_assoc,
+  arith,
+}
 use Rattle.std.specs.Str.{bytes_eq}
 use Rattle.std.specs.Int.{w16, from_be_bytes}
 use Rattle.std.specs.List.{flat_map, AllByRecursion}
-use Rattle.std.proofs.lemmas.List.{take_at, take-append-le, drop-append-le, length-append, append-nil}
+use Rattle.std.proofs.lemmas.List.{
+  take_at,
+  take-append-le,
+  drop-append-le,
+  length-append,
+  append-nil,
+}
 use Rattle.std.proofs.lemmas.Bool.{le-ltb, ltb-false}
-use Rattle.tk_format.specs.Format.{◌⊗◌, number, byte, number_at, number_spelling, bytes_at, bytes_of, text_spelling}
+use Rattle.tk_format.specs.Format.{
+  ◌⊗◌,
+  number,
+  byte,
+  number_at,
+  number_spelling,
+  bytes_at,
+  bytes_of,
+  text_spelling,
+}
 use Rattle.tk_format.specs.Laws.{byte_exact, u16_exact, bytes_exact, both_exact}
-use Rattle.tk_format.specs.Exact.{IsBytes, IsExact, Takes, Takes-then, bind_some, guard_some, some_is, prefix_free}
+use Rattle.tk_format.specs.Exact.{
+  IsBytes,
+  IsExact,
+  Takes,
+  Takes-then,
+  bind_some,
+  guard_some,
+  some_is,
+  prefix_free,
+}
 use Rattle.tk_bundle.specs.BundleLaws.{bundle_exact}
 use Rattle.tk_bundle.specs.declared.error.FrontError.{FrontError}
 use Rattle.tk_bundle.specs.declared.error.FrontError.TheVariants.{Malformed, Memory, Cut}
@@ -22,21 +88,25 @@ use Rattle.tk_bundle.specs.VersionLaws.{version_known}
 use Rattle.tk_bundle.specs.Bundle.{magic, most_facts, bundle}
 use Rattle.tk_bundle.specs.Front.{◌>>=◌, or_cut, malformed_if, header, skipped, skipped_many, walk}
 
-pub walk_more : (count i : ℕ) (now next : List ℕ) (total : Result (List ℕ) FrontError) → i < count → skipped now ≡ Ok next → skipped_many (count - i) now ≡ total → skipped_many (count - (i + 1)) next ≡ total
+pub walk_more : (count i : ℕ) (now next : List ℕ) (total : Result (List ℕ) FrontError) → i < count
+    → skipped now ≡ Ok next → skipped_many (count - i) now ≡ total
+    → skipped_many (count - (i + 1)) next ≡ total
 unfolding skipped_many
 walk_more count i now next total lt h so_far =
     let k : count - i ≡ suc (count - (i + 1)) = omega arith in
     let one : skipped_many (count - i) now ≡ skipped_many (count - (i + 1)) next = rw (k, h) refl in
     sym one ∙ so_far
 
-pub walk_fail : (count i : ℕ) (now : List ℕ) (e : FrontError) (total : Result (List ℕ) FrontError) → i < count → skipped now ≡ Err e → skipped_many (count - i) now ≡ total → total ≡ Err e
+pub walk_fail : (count i : ℕ) (now : List ℕ) (e : FrontError) (total : Result (List ℕ) FrontError)
+    → i < count → skipped now ≡ Err e → skipped_many (count - i) now ≡ total → total ≡ Err e
 unfolding skipped_many
 walk_fail count i now e total lt h so_far =
     let k : count - i ≡ suc (count - (i + 1)) = omega arith in
     let one : skipped_many (count - i) now ≡ Err e = rw (k, h) refl in
     sym so_far ∙ one
 
-pub walk_done : (count i : ℕ) (now : List ℕ) (total : Result (List ℕ) FrontError) → count ≤ i → skipped_many (count - i) now ≡ total → total ≡ Ok now
+pub walk_done : (count i : ℕ) (now : List ℕ) (total : Result (List ℕ) FrontError) → count ≤ i
+    → skipped_many (count - i) now ≡ total → total ≡ Ok now
 unfolding skipped_many
 walk_done count i now total le so_far =
     let k : count - i ≡ 0 = omega arith in
@@ -45,7 +115,8 @@ walk_done count i now total le so_far =
 
 -- ---- what the walk leaves is the end of the bytes
 
-bind_ok : {A B : Type 0} (r : Result A FrontError) (f : A → Result B FrontError) (y : B) → (r >>= f) ≡ Ok y → (x : A) × (r ≡ Ok x) × (f x ≡ Ok y)
+bind_ok : {A B : Type 0} (r : Result A FrontError) (f : A → Result B FrontError) (y : B)
+    → (r >>= f) ≡ Ok y → (x : A) × (r ≡ Ok x) × (f x ≡ Ok y)
 bind_ok (Ok x) f y e = (x, refl, e)
 bind_ok (Err d) f y e = absurd cc
 
@@ -59,10 +130,12 @@ cut_ok : {A : Type 0} (o : Option A) (x : A) → or_cut o ≡ Ok x → o ≡ Som
 cut_ok None x e = absurd cc
 cut_ok (Some y) x e = ap (λ z. Some z) (ok_is y x e)
 
-test_ok : {A : Type 0} (b : Bool) (e : FrontError) (r : Result A FrontError) (y : A) → cond b (Err e) r ≡ Ok y → (b ≡ false) × (r ≡ Ok y)
+test_ok : {A : Type 0} (b : Bool) (e : FrontError) (r : Result A FrontError) (y : A)
+    → cond b (Err e) r ≡ Ok y → (b ≡ false) × (r ≡ Ok y)
 test_ok true e r y h = absurd cc
 test_ok false e r y h = (refl, h)
 
+-- `rest` is the end of `bytes`
 abbrev Ends : List ℕ → List ℕ → Type 0
 Ends bytes rest = (front : List ℕ) × Takes bytes front rest
 
@@ -71,17 +144,28 @@ Ends-then a x b c p q = (x ++ q.0, Takes-then a x b q.0 c p q.1)
 
 skipped_ends : (bytes rest : List ℕ) → IsBytes bytes → skipped bytes ≡ Ok rest → Ends bytes rest
 skipped_ends bytes rest fits e =
-    let a = bind_ok (or_cut ((number w16).read bytes)) (λ n. cond (ltb most_bytes n.0) (Err Malformed) (or_cut ((bytes_of n.0).read n.1) >>= λ b. Ok b.1)) rest e in
+    let a = bind_ok (or_cut ((number w16).read bytes)) (λ n.
+    cond (ltb most_bytes n.0) (Err Malformed) (or_cut ((bytes_of n.0).read n.1) >>= λ b.
+    Ok b.1)) rest e in
     let first = u16_exact.takes bytes a.0 fits (cut_ok _ a.0 a.1) in
-    let t = test_ok (ltb most_bytes a.0.0) Malformed (or_cut ((bytes_of a.0.0).read a.0.1) >>= λ b. Ok b.1) rest a.2 in
+    let t = test_ok (ltb most_bytes a.0.0) Malformed (or_cut ((bytes_of a.0.0).read a.0.1) >>= λ b.
+    Ok b.1) rest a.2 in
     let b = bind_ok (or_cut ((bytes_of a.0.0).read a.0.1)) (λ b. Ok b.1) rest t.1 in
     let second = (bytes_exact a.0.0).takes a.0.1 b.0 first.0.rest_fits (cut_ok _ b.0 b.1) in
-    let both = Takes-then bytes (number_spelling w16 a.0.0) a.0.1 b.0.0 b.0.1 first.0 second.0 in
-    (number_spelling w16 a.0.0 ++ b.0.0, subst (λ (r : List ℕ). Takes bytes (number_spelling w16 a.0.0 ++ b.0.0) r) (ok_is b.0.1 rest b.2) both)
+    let both = Takes-then bytes (number_spelling w16 a.0.0) a.0.1 b.0.0 b.0.1 first.0 second.0 in (
+      number_spelling w16 a.0.0 ++ b.0.0,
+      subst (λ (r : List ℕ). Takes bytes (number_spelling w16 a.0.0 ++ b.0.0) r)
+          (ok_is b.0.1 rest b.2) both,
+    )
 
-many_end : (n : ℕ) (bytes rest : List ℕ) → IsBytes bytes → skipped_many n bytes ≡ Ok rest → Ends bytes rest
+many_end : (n : ℕ) (bytes rest : List ℕ) → IsBytes bytes → skipped_many n bytes ≡ Ok rest
+    → Ends bytes rest
 unfolding skipped_many
-many_end zero bytes rest fits e = ([], subst (λ (r : List ℕ). Takes bytes [] r) (ok_is bytes rest e) (record { parts = refl; rest_fits = fits }))
+many_end zero bytes rest fits e = (
+  [],
+  subst (λ (r : List ℕ). Takes bytes [] r) (ok_is bytes rest e)
+      (record { parts = refl; rest_fits = fits }),
+)
 many_end (suc n) bytes rest fits e =
     let a = bind_ok (skipped bytes) (λ r. skipped_many n r) rest e in
     let first = skipped_ends bytes a.0 fits a.1 in
@@ -92,112 +176,166 @@ header_exact = both_exact _ _ (bytes_exact (length magic)) (both_exact _ _ byte_
 
 pub walk_ends : (bytes rest : List ℕ) → IsBytes bytes → walk bytes ≡ Ok rest → Ends bytes rest
 walk_ends bytes rest fits e =
-    let h = bind_ok (or_cut (header.read bytes)) (λ h. malformed_if (not (bytes_eq h.0.0 magic)) (malformed_if (not (is_version h.0.1.0)) (malformed_if (ltb most_facts h.0.1.1) (skipped_many h.0.1.1 h.1)))) rest e in
+    let h = bind_ok (or_cut (header.read bytes)) (λ h.
+    malformed_if (not (bytes_eq h.0.0 magic)) (malformed_if (not (is_version h.0.1.0))
+    (malformed_if (ltb most_facts h.0.1.1) (skipped_many h.0.1.1 h.1)))) rest e in
     let first = header_exact.takes bytes h.0 fits (cut_ok _ h.0 h.1) in
     let count = h.0.0.1.1 in
-    let p = test_ok (not (bytes_eq h.0.0.0 magic)) Malformed (malformed_if (not (is_version h.0.0.1.0)) (malformed_if (ltb most_facts count) (skipped_many count h.0.1))) rest h.2 in
-    let v = test_ok (not (is_version h.0.0.1.0)) Malformed (malformed_if (ltb most_facts count) (skipped_many count h.0.1)) rest p.1 in
+    let p = test_ok (not (bytes_eq h.0.0.0 magic)) Malformed
+    (malformed_if (not (is_version h.0.0.1.0))
+    (malformed_if (ltb most_facts count) (skipped_many count h.0.1))) rest h.2 in
+    let v = test_ok (not (is_version h.0.0.1.0)) Malformed
+    (malformed_if (ltb most_facts count) (skipped_many count h.0.1)) rest p.1 in
     let t = test_ok (ltb most_facts count) Malformed (skipped_many count h.0.1) rest v.1 in
-    Ends-then bytes (header.spell h.0.0) h.0.1 rest first.0 (many_end count h.0.1 rest first.0.rest_fits t.1)
+    Ends-then bytes (header.spell h.0.0) h.0.1 rest first.0
+    (many_end count h.0.1 rest first.0.rest_fits t.1)
 
 -- ---- a bundle at the front is walked over
 
-skipped_framed : (f : Dot × Body) (rest : List ℕ) → framed.Fits f → skipped (framed.spell f ++ rest) ≡ Ok rest
+skipped_framed : (f : Dot × Body) (rest : List ℕ) → framed.Fits f → skipped (framed.spell f ++ rest)
+    ≡ Ok rest
 unfolding text_spelling
 skipped_framed f rest fits =
     let s = fact.spell f in
-    let small : ltb most_bytes (length s) ≡ false = le-ltb most_bytes (length s) (leb-true (length s) most_bytes fits.1.1) in
+    let small : ltb most_bytes (length s) ≡ false =
+    le-ltb most_bytes (length s) (leb-true (length s) most_bytes fits.1.1) in
     ap skipped (append_assoc (number_spelling w16 (length s)) s rest)
-    ∙ rw (u16_exact.again (length s) (s ++ rest) fits.1.0, small, (bytes_exact (length s)).again s rest refl) refl
+    ∙ rw (
+      u16_exact.again (length s) (s ++ rest) fits.1.0,
+      small,
+      (bytes_exact (length s)).again s rest refl,
+    ) refl
 
-many_framed : (fs : Facts) (rest : List ℕ) → AllByRecursion framed.Fits fs → skipped_many (length fs) (flat_map framed.spell fs ++ rest) ≡ Ok rest
+many_framed : (fs : Facts) (rest : List ℕ) → AllByRecursion framed.Fits fs
+    → skipped_many (length fs) (flat_map framed.spell fs ++ rest) ≡ Ok rest
 unfolding skipped_many
 many_framed [] rest fits = refl
 many_framed (f ∷ fs) rest fits =
-    let regrouped : flat_map framed.spell (f ∷ fs) ++ rest ≡ framed.spell f ++ (flat_map framed.spell fs ++ rest) = ap (λ (t : List ℕ). t ++ rest) (flat_map-cons framed.spell f fs) ∙ append_assoc (framed.spell f) (flat_map framed.spell fs) rest in
-    ap (skipped_many (suc (length fs))) regrouped ∙ rw (skipped_framed f (flat_map framed.spell fs ++ rest) fits.0) (many_framed fs rest fits.1)
+    let regrouped : flat_map framed.spell (f ∷ fs) ++ rest ≡ framed.spell f
+    ++ (flat_map framed.spell fs ++ rest) =
+    ap (λ (t : List ℕ). t ++ rest) (flat_map-cons framed.spell f fs)
+    ∙ append_assoc (framed.spell f) (flat_map framed.spell fs) rest in
+    ap (skipped_many (suc (length fs))) regrouped
+    ∙ rw (skipped_framed f (flat_map framed.spell fs ++ rest) fits.0)
+    (many_framed fs rest fits.1)
 
-pub walk_bundle : (fs : Facts) (rest : List ℕ) → bundle.Fits fs → walk (bundle.spell fs ++ rest) ≡ Ok rest
+pub walk_bundle : (fs : Facts) (rest : List ℕ) → bundle.Fits fs
+    → walk (bundle.spell fs ++ rest) ≡ Ok rest
 walk_bundle fs rest fits =
     let count = number_spelling w16 (length fs) in
     let facts = flat_map framed.spell fs in
-    let small : ltb most_facts (length fs) ≡ false = le-ltb most_facts (length fs) (leb-true (length fs) most_facts fits.0.0.1) in
+    let small : ltb most_facts (length fs) ≡ false =
+    le-ltb most_facts (length fs) (leb-true (length fs) most_facts fits.0.0.1) in
     let behind = version_of fs ∷ count ++ (facts ++ rest) in
     ap walk (ap (λ (t : List ℕ). magic ++ (version_of fs ∷ t)) (append_assoc count facts rest))
-    ∙ rw ((bytes_exact 3).again magic behind refl, u16_exact.again (length fs) (facts ++ rest) fits.0.0.0, version_known fs, small) (many_framed fs rest fits.0.1)
+    ∙ rw (
+      (bytes_exact 3).again magic behind refl,
+      u16_exact.again (length fs) (facts ++ rest) fits.0.0.0,
+      version_known fs,
+      small,
+    ) (many_framed fs rest fits.0.1)
 
--- ---- a walk over more bytes goes as far, and is cut where a bundle is torn
+-- ---- a walk over more bytes, and the walk over the beginning of a bundle
 
--- what a walk answers once more bytes follow: the same, with these behind, unless it was cut
+-- a walk that results in r over some bytes results in `longer` if `more` follows them
 abbrev GoesOn : List ℕ → Result (List ℕ) FrontError → Result (List ℕ) FrontError → Type 0
 GoesOn more (Ok rest) longer = longer ≡ Ok (rest ++ more)
 GoesOn more (Err Malformed) longer = longer ≡ Err Malformed
 GoesOn more (Err Cut) longer = Unit {0}
 GoesOn more (Err Memory) longer = ⊥
 
-read_on : {A : Type 0} (more : List ℕ) (o longer : Option (A × List ℕ)) (f : A × List ℕ → Result (List ℕ) FrontError) → ((x : A × List ℕ) → o ≡ Some x → longer ≡ Some (x.0, x.1 ++ more)) → ((x : A × List ℕ) → GoesOn more (f x) (f (x.0, x.1 ++ more))) → GoesOn more (or_cut o >>= f) (or_cut longer >>= f)
+read_on : {A : Type 0} (more : List ℕ) (o longer : Option (A × List ℕ)) (f : A × List ℕ
+    → Result (List ℕ) FrontError) → ((x : A × List ℕ) → o ≡ Some x
+    → longer ≡ Some (x.0, x.1 ++ more))
+    → ((x : A × List ℕ) → GoesOn more (f x) (f (x.0, x.1 ++ more)))
+    → GoesOn more (or_cut o >>= f) (or_cut longer >>= f)
 read_on more None longer f reads next = tt
 read_on more (Some x) longer f reads next = rw (reads x refl) (next x)
 
-walk_on : (more : List ℕ) (r longer : Result (List ℕ) FrontError) (f : List ℕ → Result (List ℕ) FrontError) → GoesOn more r longer → ((rest : List ℕ) → GoesOn more (f rest) (f (rest ++ more))) → GoesOn more (r >>= f) (longer >>= f)
+walk_on : (more : List ℕ) (r longer : Result (List ℕ) FrontError) (f : List ℕ
+    → Result (List ℕ) FrontError) → GoesOn more r longer
+    → ((rest : List ℕ) → GoesOn more (f rest) (f (rest ++ more)))
+    → GoesOn more (r >>= f) (longer >>= f)
 walk_on more (Ok rest) longer f so_far next = rw so_far (next rest)
 walk_on more (Err Malformed) longer f so_far next = rw so_far refl
 walk_on more (Err Cut) longer f so_far next = tt
 walk_on more (Err Memory) longer f so_far next = absurd so_far
 
-unless : (more : List ℕ) (b : Bool) (r longer : Result (List ℕ) FrontError) → GoesOn more r longer → GoesOn more (cond b (Err Malformed) r) (cond b (Err Malformed) longer)
+unless : (more : List ℕ) (b : Bool) (r longer : Result (List ℕ) FrontError) → GoesOn more r longer
+    → GoesOn more (cond b (Err Malformed) r) (cond b (Err Malformed) longer)
 unless more true r longer h = refl
 unless more false r longer h = h
 
-bytes_on : (n : ℕ) (bytes more : List ℕ) (x : List ℕ × List ℕ) → (bytes_of n).read bytes ≡ Some x → (bytes_of n).read (bytes ++ more) ≡ Some (x.0, x.1 ++ more)
+bytes_on : (n : ℕ) (bytes more : List ℕ) (x : List ℕ × List ℕ) → (bytes_of n).read bytes ≡ Some x
+    → (bytes_of n).read (bytes ++ more) ≡ Some (x.0, x.1 ++ more)
 unfolding bytes_at
 bytes_on n bytes more x e =
     let g = guard_some (ltb (length bytes) n) (take n bytes, drop n bytes) x e in
     let within : n ≤ length bytes = ltb-false (length bytes) n g.0 in
-    let long : ltb (length (bytes ++ more)) n ≡ false = le-ltb _ _ (omega (arith, length-append bytes more)) in
-    rw (long, take-append-le n bytes more within, drop-append-le n bytes more within) (ap (λ (y : List ℕ × List ℕ). Some (y.0, y.1 ++ more)) g.1)
+    let long : ltb (length (bytes ++ more)) n ≡ false =
+    le-ltb _ _ (omega (arith, length-append bytes more)) in
+    rw (long, take-append-le n bytes more within, drop-append-le n bytes more within)
+    (ap (λ (y : List ℕ × List ℕ). Some (y.0, y.1 ++ more)) g.1)
 
-number_on : (bytes more : List ℕ) (x : ℕ × List ℕ) → (number w16).read bytes ≡ Some x → (number w16).read (bytes ++ more) ≡ Some (x.0, x.1 ++ more)
+number_on : (bytes more : List ℕ) (x : ℕ × List ℕ) → (number w16).read bytes ≡ Some x
+    → (number w16).read (bytes ++ more) ≡ Some (x.0, x.1 ++ more)
 unfolding number_at
 number_on bytes more x e =
-    let g = guard_some (ltb (length bytes) 2) (from_be_bytes w16 (take 2 bytes), drop 2 bytes) x e in
+    let g = guard_some (ltb (length bytes) 2) (from_be_bytes w16 (take 2 bytes), drop 2 bytes) x
+    e in
     let within : 2 ≤ length bytes = ltb-false (length bytes) 2 g.0 in
-    let long : ltb (length (bytes ++ more)) 2 ≡ false = le-ltb _ _ (omega (arith, length-append bytes more)) in
-    rw (long, take-append-le 2 bytes more within, drop-append-le 2 bytes more within) (ap (λ (y : ℕ × List ℕ). Some (y.0, y.1 ++ more)) g.1)
+    let long : ltb (length (bytes ++ more)) 2 ≡ false =
+    le-ltb _ _ (omega (arith, length-append bytes more)) in
+    rw (long, take-append-le 2 bytes more within, drop-append-le 2 bytes more within)
+    (ap (λ (y : ℕ × List ℕ). Some (y.0, y.1 ++ more)) g.1)
 
 skipped_on : (bytes more : List ℕ) → GoesOn more (skipped bytes) (skipped (bytes ++ more))
 skipped_on bytes more =
-    read_on more _ _ _ (number_on bytes more) (λ n. unless more (ltb most_bytes n.0) _ _ (read_on more _ _ (λ b. Ok b.1) (bytes_on n.0 n.1 more) (λ b. refl)))
+    read_on more _ _ _ (number_on bytes more) (λ n.
+    unless more (ltb most_bytes n.0) _ _ (read_on more _ _ (λ b. Ok b.1) (bytes_on n.0 n.1 more)
+    (λ b. refl)))
 
-many_on : (n : ℕ) (bytes more : List ℕ) → GoesOn more (skipped_many n bytes) (skipped_many n (bytes ++ more))
+many_on : (n : ℕ) (bytes more : List ℕ)
+    → GoesOn more (skipped_many n bytes) (skipped_many n (bytes ++ more))
 unfolding skipped_many
 many_on zero bytes more = refl
-many_on (suc n) bytes more = walk_on more (skipped bytes) (skipped (bytes ++ more)) (λ rest. skipped_many n rest) (skipped_on bytes more) (λ rest. many_on n rest more)
+many_on (suc n) bytes more =
+    walk_on more (skipped bytes) (skipped (bytes ++ more)) (λ rest. skipped_many n rest)
+    (skipped_on bytes more) (λ rest. many_on n rest more)
 
-byte_on : (bytes more : List ℕ) (x : ℕ × List ℕ) → byte.read bytes ≡ Some x → byte.read (bytes ++ more) ≡ Some (x.0, x.1 ++ more)
+byte_on : (bytes more : List ℕ) (x : ℕ × List ℕ) → byte.read bytes ≡ Some x
+    → byte.read (bytes ++ more) ≡ Some (x.0, x.1 ++ more)
 byte_on [] more x e = absurd cc
-byte_on (b ∷ bytes) more x e = ap (λ (y : ℕ × List ℕ). Some (y.0, y.1 ++ more)) (some_is (b, bytes) x e)
+byte_on (b ∷ bytes) more x e =
+    ap (λ (y : ℕ × List ℕ). Some (y.0, y.1 ++ more)) (some_is (b, bytes) x e)
 
-counting_on : (bytes more : List ℕ) (x : (ℕ × ℕ) × List ℕ) → (byte ⊗ number w16).read bytes ≡ Some x → (byte ⊗ number w16).read (bytes ++ more) ≡ Some (x.0, x.1 ++ more)
+counting_on : (bytes more : List ℕ) (x : (ℕ × ℕ) × List ℕ) → (byte ⊗ number w16).read bytes ≡ Some x
+    → (byte ⊗ number w16).read (bytes ++ more) ≡ Some (x.0, x.1 ++ more)
 counting_on bytes more x e =
     let v = bind_some (byte.read bytes) _ x e in
     let n = bind_some ((number w16).read v.0.1) _ x v.2 in
-    rw (byte_on bytes more v.0 v.1, number_on v.0.1 more n.0 n.1) (ap (λ (y : (ℕ × ℕ) × List ℕ). Some (y.0, y.1 ++ more)) (some_is _ x n.2))
+    rw (byte_on bytes more v.0 v.1, number_on v.0.1 more n.0 n.1) (ap (λ (y : (ℕ × ℕ) × List ℕ).
+    Some (y.0, y.1 ++ more)) (some_is _ x n.2))
 
-header_on : (bytes more : List ℕ) (x : (List ℕ × (ℕ × ℕ)) × List ℕ) → header.read bytes ≡ Some x → header.read (bytes ++ more) ≡ Some (x.0, x.1 ++ more)
+header_on : (bytes more : List ℕ) (x : (List ℕ × (ℕ × ℕ)) × List ℕ) → header.read bytes ≡ Some x
+    → header.read (bytes ++ more) ≡ Some (x.0, x.1 ++ more)
 header_on bytes more x e =
     let m = bind_some ((bytes_of 3).read bytes) _ x e in
     let n = bind_some ((byte ⊗ number w16).read m.0.1) _ x m.2 in
-    rw (bytes_on 3 bytes more m.0 m.1, counting_on m.0.1 more n.0 n.1) (ap (λ (y : (List ℕ × (ℕ × ℕ)) × List ℕ). Some (y.0, y.1 ++ more)) (some_is _ x n.2))
+    rw (bytes_on 3 bytes more m.0 m.1, counting_on m.0.1 more n.0 n.1)
+    (ap (λ (y : (List ℕ × (ℕ × ℕ)) × List ℕ). Some (y.0, y.1 ++ more)) (some_is _ x n.2))
 
 walk_goes_on : (bytes more : List ℕ) → GoesOn more (walk bytes) (walk (bytes ++ more))
 walk_goes_on bytes more =
     read_on more _ _ _ (header_on bytes more) (λ h.
-    unless more (not (bytes_eq h.0.0 magic)) _ _ (unless more (not (is_version h.0.1.0)) _ _ (unless more (ltb most_facts h.0.1.1) _ _ (many_on h.0.1.1 h.1 more))))
+    unless more (not (bytes_eq h.0.0 magic)) _ _ (unless more (not (is_version h.0.1.0)) _ _
+    (unless more (ltb most_facts h.0.1.1) _ _ (many_on h.0.1.1 h.1 more))))
 
--- a walk that goes on to the end is cut where the last of the bytes are taken away
-cut_before : (more : List ℕ) (r longer : Result (List ℕ) FrontError) → GoesOn more r longer → longer ≡ Ok [] → more ≢ [] → r ≡ Err Cut
-cut_before more (Ok rest) longer h whole some = absurd (some (append_is_nil rest (ok_is (rest ++ more) [] (sym h ∙ whole))))
+-- if a walk ends well, the walk over the beginning of the bytes is cut
+cut_before : (more : List ℕ) (r longer : Result (List ℕ) FrontError) → GoesOn more r longer
+    → longer ≡ Ok [] → more ≢ [] → r ≡ Err Cut
+cut_before more (Ok rest) longer h whole some =
+    absurd (some (append_is_nil rest (ok_is (rest ++ more) [] (sym h ∙ whole))))
   where
     append_is_nil : (a : List ℕ) → a ++ more ≡ [] → more ≡ []
     append_is_nil [] e = e
@@ -206,36 +344,56 @@ cut_before more (Err Malformed) longer h whole some = absurd cc
 cut_before more (Err Cut) longer h whole some = refl
 cut_before more (Err Memory) longer h whole some = absurd h
 
-pub walk_torn : (bytes : List ℕ) (fs : Facts) (rest : List ℕ) → bundle.Fits fs → bytes ++ rest ≡ bundle.spell fs → rest ≢ [] → walk bytes ≡ Err Cut
+pub walk_torn : (bytes : List ℕ) (fs : Facts) (rest : List ℕ) → bundle.Fits fs
+    → bytes ++ rest ≡ bundle.spell fs → rest ≢ [] → walk bytes ≡ Err Cut
 walk_torn bytes fs rest fits e some =
-    cut_before rest (walk bytes) (walk (bytes ++ rest)) (walk_goes_on bytes rest) (ap walk (e ∙ sym (append-nil (bundle.spell fs))) ∙ walk_bundle fs [] fits) some
+    cut_before rest (walk bytes) (walk (bytes ++ rest)) (walk_goes_on bytes rest)
+    (ap walk (e ∙ sym (append-nil (bundle.spell fs))) ∙ walk_bundle fs [] fits) some
 
-pub torn_walked : (bytes left : List ℕ) (fs : Facts) (rest : List ℕ) → walk bytes ≡ Ok left → bundle.Fits fs → bytes ++ rest ≡ bundle.spell fs → rest ≢ [] → ⊥
+pub torn_walked : (bytes left : List ℕ) (fs : Facts) (rest : List ℕ) → walk bytes ≡ Ok left
+    → bundle.Fits fs → bytes ++ rest ≡ bundle.spell fs → rest ≢ [] → ⊥
 torn_walked bytes left fs rest ok fits e some = let t = walk_torn bytes fs rest fits e some in cc
 
 -- ---- the bytes before the rest
 
-pub Ends-take : (bytes rest : List ℕ) → Ends bytes rest → (take (length bytes - length rest) bytes ++ rest ≡ bytes) × (length rest ≤ length bytes)
+pub Ends-take : (bytes rest : List ℕ) → Ends bytes rest
+    → (take (length bytes - length rest) bytes ++ rest ≡ bytes) × (length rest ≤ length bytes)
 Ends-take bytes rest p =
     let front = p.0 in
-    let sizes : length bytes ≡ length front + length rest = ap length p.1.parts ∙ length-append front rest in
+    let sizes : length bytes ≡ length front + length rest =
+    ap length p.1.parts ∙ length-append front rest in
     let n : length bytes - length rest ≡ length front = omega arith in
-    let taken : take (length bytes - length rest) bytes ≡ front = ap (take (length bytes - length rest)) p.1.parts ∙ take_at front rest (length bytes - length rest) (sym n) in
+    let taken : take (length bytes - length rest) bytes ≡ front =
+    ap (take (length bytes - length rest)) p.1.parts
+    ∙ take_at front rest (length bytes - length rest) (sym n) in
     (ap (λ (t : List ℕ). t ++ rest) taken ∙ sym p.1.parts, omega arith)
 
-pub front_refused : (bytes : List ℕ) (d : FrontError) (fs : Facts) (rest : List ℕ) → walk bytes ≡ Err d → bundle.Fits fs → bytes ≡ bundle.spell fs ++ rest → ⊥
+pub front_refused : (bytes : List ℕ) (d : FrontError) (fs : Facts) (rest : List ℕ)
+    → walk bytes ≡ Err d → bundle.Fits fs → bytes ≡ bundle.spell fs ++ rest → ⊥
 front_refused bytes d fs rest refused fits e = let t = ap walk e ∙ walk_bundle fs rest fits in cc
 
-pub front_split : (bytes left : List ℕ) (fs : Facts) (rest : List ℕ) → walk bytes ≡ Ok left → bundle.Fits fs → bytes ≡ bundle.spell fs ++ rest
-    → (take (length bytes - length left) bytes ≡ bundle.spell fs) × (length bytes - length left ≡ length (bundle.spell fs))
+pub front_split : (bytes left : List ℕ) (fs : Facts) (rest : List ℕ) → walk bytes ≡ Ok left
+    → bundle.Fits fs → bytes ≡ bundle.spell fs ++ rest
+    → (take (length bytes - length left) bytes ≡ bundle.spell fs)
+    × (length bytes - length left ≡ length (bundle.spell fs))
 front_split bytes left fs rest ok fits e =
     let same : left ≡ rest = ok_is left rest (sym ok ∙ ap walk e ∙ walk_bundle fs rest fits) in
-    let sizes : length bytes ≡ length (bundle.spell fs) + length rest = ap length e ∙ length-append (bundle.spell fs) rest in
-    let n : length bytes - length left ≡ length (bundle.spell fs) = omega (arith, ap length same) in
-    (ap (take (length bytes - length left)) e ∙ take_at (bundle.spell fs) rest (length bytes - length left) (sym n), n)
+    let sizes : length bytes ≡ length (bundle.spell fs) + length rest =
+    ap length e ∙ length-append (bundle.spell fs) rest in
+    let n : length bytes - length left ≡ length (bundle.spell fs) =
+    omega (arith, ap length same) in (
+      ap (take (length bytes - length left)) e
+          ∙ take_at (bundle.spell fs) rest (length bytes - length left) (sym n),
+      n,
+    )
 
-pub front_is : (bytes left : List ℕ) (b fs : Facts) (rest : List ℕ) → walk bytes ≡ Ok left → bundle.Fits b → take (length bytes - length left) bytes ≡ bundle.spell b → bundle.Fits fs → bytes ≡ bundle.spell fs ++ rest
+pub front_is : (bytes left : List ℕ) (b fs : Facts) (rest : List ℕ) → walk bytes ≡ Ok left
+    → bundle.Fits b → take (length bytes - length left) bytes ≡ bundle.spell b → bundle.Fits fs
+    → bytes ≡ bundle.spell fs ++ rest
     → (b ≡ fs) × (length bytes - length left ≡ length (bundle.spell fs))
 front_is bytes left b fs rest ok fb taken fits e =
-    let s = front_split bytes left fs rest ok fits e in
-    ((prefix_free bundle bundle_exact b fs [] [] fb fits (ap (λ (t : List ℕ). t ++ []) (sym taken ∙ s.0))).0, s.1)
+    let s = front_split bytes left fs rest ok fits e in (
+      (prefix_free bundle bundle_exact b fs [] [] fb fits (ap (λ (t : List ℕ). t ++ []) (sym taken
+          ∙ s.0))).0,
+      s.1,
+    )

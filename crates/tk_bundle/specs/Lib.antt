@@ -1,9 +1,12 @@
--- The words of this crate:
---   Versions versions, the table of the versions of a bundle; version_of, the one of some facts
---   Bundle   bundle, how a list of facts is spelled; bundle_bytes
---   Page     page_of, the first facts above a place that a vector doesn't cover
---   Paging   PagesComplete, what a receiver of all pages holds
---   Front    walk, over the lengths of the first bundle of many bytes; IsCut
+-- The definitions of this crate, by file:
+--   Versions      versions, the table of the versions of a bundle; version_of, the version of facts
+--   Bundle        bundle, how a list of facts is spelled; bundle_bytes
+--   Page          page_of, the first facts above a cursor that a vector does not cover
+--   Paging        PagesComplete, what a receiver of all pages holds
+--   Front         walk, over the lengths of the first bundle of many bytes; IsCut
+--   BundleLaws    bundle_exact, a bundle has one spelling
+--   FrontLaws     walk_bundle, a bundle at the front is walked over; walk_torn
+--   VersionLaws   version_known, facts have a version; version_tells
 pub mod Bundle
 pub mod BundleLaws
 pub mod Front

@@ -1,7 +1,9 @@
--- What a vector leaves of a set above a place: the first facts that it doesn't cover (own).
---   page_of    the facts of a page, the dot of the last, and whether more follow
---   IsPageOf   the parts of a page in bytes are these
---   facts_at   what a set holds at some dots
+-- Pages: the first facts of a set, above a cursor, that a vector does not cover (own).
+--   PageFields   the facts of a page, the dot of the last, and whether more follow
+--   page_of      the page of a set for a vector and a cursor
+--   IsPageOf     a page in bytes has these parts
+--   facts_at     the facts of a set at given dots
+--   IsPageAt     a page in bytes has the facts of a set at given dots
 use Rattle.std.specs.Prelude.{◌≡◌, ℕ, ◌-◌, Bool, nat_lt, List, ◌∷◌, ◌++◌, length, slice_get, Option}
 use Rattle.std.specs.Int.{w16}
 use Rattle.std.specs.List.{filter_map, flat_map}
@@ -19,16 +21,17 @@ use Rattle.tk_bundle.specs.Versions.{version_of}
 use Rattle.tk_bundle.specs.Bundle.{magic, most_facts, bundle_bytes}
 use Rattle.tk_bundle.specs.declared.page.Page.{Page}
 
+-- the facts of a page, the dot of the last, and whether more follow
 pub record PageFields : Type 0 where
   pub facts : Facts
   pub last : Option Dot
   pub more : Bool
 
--- the last of some dots
+-- the last of the dots, if there is one
 abbrev pub last_of : List Dot → Option Dot
 last_of dots = slice_get dots (length dots - 1)
 
--- as many of the facts as the limit says, which the vector doesn't cover and which stand above the place, if one is given
+-- the first facts above the cursor `after` that the vector does not cover, at most `limit`
 abbrev pub page_within : ℕ → FactSet → Vector → Option Dot → PageFields
 page_within limit F v after = record {
   facts = page limit F v after;
@@ -36,27 +39,32 @@ page_within limit F v after = record {
   more = nat_lt limit (length (beyond F v after));
 }
 
--- a page is a bundle, and has as many facts at most
+-- the page of a set for a vector and a cursor, of at most 128 facts
 abbrev pub page_of : FactSet → Vector → Option Dot → PageFields
 page_of F v after = page_within most_facts F v after
 
--- the page has these facts in bytes, their number, the dot of the last, and tells whether more follow
+-- the page in bytes: the bundle of the facts, their number, the dot of the last, and whether more
+-- follow
 pub record IsPageOf (page : Page) (fields : PageFields) : Type 0 where
   pub bytes : page.bytes.items ≡ bundle_bytes fields.facts
   pub count : page.count ≡ length fields.facts
   pub last : page.last ≡ fields.last
   pub more : page.more ≡ fields.more
 
+-- the fact of a set at the dot, if there is one
 abbrev pub fact_at : FactSet → Dot → Option (Dot × Body)
 fact_at F d = option_map (λ body. (d, body)) (sets.get F d)
 
--- the facts at those of the dots that hold one
+-- the facts of a set at the dots, without the dots that have no fact
 abbrev pub facts_at : FactSet → List Dot → Facts
 facts_at F dots = filter_map (fact_at F) dots
 
--- the page has what a set holds at these dots, behind the magic, their version and their number
+-- the page in bytes: the facts of a set at the dots, behind the magic, their version and the number
+-- of the dots
 pub record IsPageAt (page : Page) (F : FactSet) (dots : List Dot) (follows : Bool) : Type 0 where
-  pub bytes : page.bytes.items ≡ magic ++ (version_of (facts_at F dots) ∷ (number w16).spell (length dots) ++ flat_map framed.spell (facts_at F dots))
+  pub bytes : page.bytes.items ≡ magic
+      ++ (version_of (facts_at F dots) ∷ (number w16).spell (length dots) ++ flat_map framed.spell
+      (facts_at F dots))
   pub count : page.count ≡ length dots
   pub last : page.last ≡ last_of dots
   pub more : page.more ≡ follows

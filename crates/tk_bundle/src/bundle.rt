@@ -1,12 +1,12 @@
-//! A bundle: facts, ascending by dot, and how they are read.
+//! Bundles: facts, ascending by dot, and how they are read.
 
 use std::marker::Model;
 use tk_fact::Fact;
 
-/// What a bundle begins with, before the letter of its version (own).
+/// The bytes with which a bundle begins, before the digit of its version (own).
 pub(crate) const MAGIC: &[u8] = b"OTB";
 
-/// The most facts of a bundle (own).
+/// The greatest number of facts in a bundle (own).
 pub(crate) const MOST_FACTS: u16 = 128;
 
 /// Facts, strictly ascending by dot, at most 128 of them.
@@ -28,7 +28,14 @@ impl Model for Bundle {
 ghost use Rattle.std.specs.Prelude.{◌≡◌, ◌≢◌, ◌++◌, [], List, ℕ, IfOk, IsErrOf};
 ghost use Rattle.tk_format.specs.Reading.{Gets, GetsAll};
 ghost use Rattle.tk_store.specs.FactSet.{Facts};
-ghost use Rattle.tk_bundle.specs.Bundle.{counted_facts, versioned, listed, bundle, bundle_bytes, SignOutsTold};
+ghost use Rattle.tk_bundle.specs.Bundle.{
+  counted_facts,
+  versioned,
+  listed,
+  bundle,
+  bundle_bytes,
+  SignOutsTold,
+};
 
 use crate::order::is_ascending;
 use crate::version::version_of;
@@ -36,18 +43,22 @@ use std::alloc::Global;
 use tk_format::{ReadError, Reader, Spelled, read_all, read_many};
 
 impl Bundle {
-    /// The bundle that the bytes spell, all of the bytes.
+    /// Reads the bundle that the bytes spell, all of them.
+    ///
+    /// The bytes may be hostile: no memory is reserved for a count that they only claim. Returns
+    /// `Malformed` if the bytes spell no bundle, `Memory` if memory runs out.
     pub fn read(alloc: Global, bytes: &[u8]) -> Result<Bundle, ReadError>
         ensures found { IfOk result (λ b. bundle.Fits b × (bytes.now ≡ bundle_bytes b)) }
-        ensures malformed { IsErrOf result ReadError.Malformed → (fs : Facts) → bundle.Fits fs → bytes.now ≢ bundle_bytes fs }
+        ensures malformed { IsErrOf result ReadError.Malformed → (fs : Facts) → bundle.Fits fs
+            → bytes.now ≢ bundle_bytes fs }
 
-        // The same, as what the format reads.
+        // The result as the format `bundle` reads the bytes.
         ensures exact { GetsAll (λ b. b) bundle result bytes.now }
     {
         read_all(alloc, bytes)
     }
 
-    /// Its facts, ascending by dot.
+    /// Returns the facts, ascending by dot.
     pub fn facts(&self) -> &[Fact]
         ensures { result.now ≡ self.now }
     {
@@ -55,6 +66,7 @@ impl Bundle {
     }
 }
 
+// Reads the magic, and the facts behind it.
 fn read_listed(alloc: Global, reader: &mut Reader<'_>) -> Result<Vec<Fact>, ReadError>
     ensures { Gets (λ v. v.items) listed result reader.old reader.new }
 {
@@ -62,7 +74,7 @@ fn read_listed(alloc: Global, reader: &mut Reader<'_>) -> Result<Vec<Fact>, Read
     read_versioned(alloc, reader)
 }
 
-// Facts behind the letter of their own version.
+// Reads a digit and facts. The digit must be that of the version of these facts.
 fn read_versioned(alloc: Global, reader: &mut Reader<'_>) -> Result<Vec<Fact>, ReadError>
     ensures { Gets (λ v. v.items) versioned result reader.old reader.new }
 {
@@ -75,6 +87,7 @@ fn read_versioned(alloc: Global, reader: &mut Reader<'_>) -> Result<Vec<Fact>, R
     }
 }
 
+// Reads a count of at most 128, and that many facts.
 fn read_counted(alloc: Global, reader: &mut Reader<'_>) -> Result<Vec<Fact>, ReadError>
     ensures { Gets (λ v. v.items) counted_facts result reader.old reader.new }
 {
@@ -103,12 +116,14 @@ impl Spelled for Bundle {
     ghost exact = { bundle_exact };
 }
 
-/// A law: no bundle's bytes begin another's.
+/// States a law: no bundle's bytes begin those of another bundle.
 pub fn none_begins_another()
-    ensures { (a b : Facts) (rest : List ℕ) → bundle.Fits a → bundle.Fits b → bundle_bytes a ++ rest ≡ bundle_bytes b → (a ≡ b) × (rest ≡ []) }
+    ensures { (a b : Facts) (rest : List ℕ) → bundle.Fits a → bundle.Fits b
+        → bundle_bytes a ++ rest ≡ bundle_bytes b → (a ≡ b) × (rest ≡ []) }
 {}
 
-/// A law: a bundle begins with `OTB2` where one of its facts is a sign-out, and else with `OTB1`.
+/// States a law: a bundle begins with `OTB2` if one of its facts is a sign-out, otherwise with
+/// `OTB1`.
 pub fn sign_outs_told()
     ensures { SignOutsTold }
 {}

@@ -1,8 +1,22 @@
-//! The first bundle of many bytes.
+//! Reading the first bundle of many bytes.
 
-ghost use Rattle.std.specs.Prelude.{◌≡◌, ◌≢◌, ◌≤◌, ◌++◌, [], List, ℕ, length, take, IfOk, IsErrOf, Err};
+ghost use Rattle.std.specs.Prelude.{
+  ◌≡◌,
+  ◌≢◌,
+  ◌≤◌,
+  ◌++◌,
+  [],
+  List,
+  ℕ,
+  length,
+  take,
+  IfOk,
+  IsErrOf,
+  Err,
+};
 ghost use Rattle.tk_store.specs.FactSet.{Facts};
 ghost use Rattle.tk_bundle.specs.Bundle.{bundle, bundle_bytes};
+ghost use Rattle.tk_bundle.specs.Front as spec;
 ghost use Rattle.tk_bundle.specs.Front.{Walks, IsCut, skipped, skipped_many, walk, IsFrontOf};
 ghost use Rattle.tk_bundle.specs.declared.error.FrontError.{FrontError as AnyError};
 
@@ -13,18 +27,24 @@ use std::alloc::Global;
 use tk_fact::Fact;
 use tk_format::{ReadError, Reader};
 
-/// The bundle at the front of the bytes, and how many bytes it takes. The lengths are walked over first.
+/// Reads the bundle at the front of the bytes, and returns it with the number of bytes that it
+/// takes.
+///
+/// The lengths are walked over before any fact is read. Bytes behind the bundle are not looked at.
 pub fn read_front(alloc: Global, bytes: &[u8]) -> Result<(Bundle, usize), FrontError>
-    // What the walk over the lengths refuses is refused so, and nothing else is cut.
+    // An error of the walk over the lengths is the result. No other bytes are `Cut`.
     ensures walked { (e : AnyError) → walk bytes.now ≡ Err e → result ≡ Err e }
     ensures cut { IsErrOf result FrontError.Cut → IsCut bytes.now }
-    ensures found { IfOk result (λ x. (x.1 ≤ length bytes.now) × bundle.Fits x.0 × (take x.1 bytes.now ≡ bundle_bytes x.0)) }
+    ensures found { IfOk result (λ x. (x.1 ≤ length bytes.now) × bundle.Fits x.0
+        × (take x.1 bytes.now ≡ bundle_bytes x.0)) }
 
-    // A bundle that stands at the front is read, unless memory runs out.
-    ensures only { (fs : Facts) (rest : List ℕ) → bundle.Fits fs → bytes.now ≡ bundle_bytes fs ++ rest → IsFrontOf result fs }
+    // A bundle at the front is read, unless memory runs out.
+    ensures only { (fs : Facts) (rest : List ℕ) → bundle.Fits fs
+        → bytes.now ≡ bundle_bytes fs ++ rest → IsFrontOf result fs }
 
-    // The beginning of a bundle is cut, unless it is all of it.
-    ensures torn { (fs : Facts) (rest : List ℕ) → bundle.Fits fs → bytes.now ++ rest ≡ bundle_bytes fs → rest ≢ [] → result ≡ Err FrontError.Cut }
+    // The beginning of a bundle is `Cut`, unless it is the whole bundle.
+    ensures torn { (fs : Facts) (rest : List ℕ) → bundle.Fits fs
+        → bytes.now ++ rest ≡ bundle_bytes fs → rest ≢ [] → result ≡ Err FrontError.Cut }
 {
     let mut reader = Reader::new(bytes);
     walk(&mut reader)?;
@@ -32,11 +52,21 @@ pub fn read_front(alloc: Global, bytes: &[u8]) -> Result<(Bundle, usize), FrontE
     let (front, _) = bytes.split_at(count);
     match Bundle::read(alloc, front) {
         Ok(bundle) => Ok((bundle, count)),
-        Err(ReadError::Malformed) => Err(FrontError::Malformed),
-        Err(ReadError::Memory) => Err(FrontError::Memory),
+        Err(error) => Err(unread(error)),
     }
 }
 
+// Returns the error of a front that has the lengths of a bundle but can't be read.
+fn unread(error: ReadError) -> FrontError
+    ensures { result ≡ spec.unread error }
+{
+    match error {
+        ReadError::Malformed => FrontError::Malformed,
+        ReadError::Memory => FrontError::Memory,
+    }
+}
+
+// Walks over the magic, the version, the count and that number of facts.
 fn walk(reader: &mut Reader<'_>) -> Result<(), FrontError>
     ensures { Walks result (walk reader.old) reader.new }
 {
@@ -55,6 +85,7 @@ fn walk(reader: &mut Reader<'_>) -> Result<(), FrontError>
     skip_many(count, reader)
 }
 
+// Walks over the given number of facts.
 fn skip_many(count: u16, reader: &mut Reader<'_>) -> Result<(), FrontError>
     ensures { Walks result (skipped_many count reader.old) reader.new }
 {
@@ -64,7 +95,7 @@ fn skip_many(count: u16, reader: &mut Reader<'_>) -> Result<(), FrontError>
     Ok(())
 }
 
-// One fact behind its length.
+// Walks over one fact behind its length.
 fn skip(reader: &mut Reader<'_>) -> Result<(), FrontError>
     ensures { Walks result (skipped reader.old) reader.new }
 {

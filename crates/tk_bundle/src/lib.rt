@@ -1,17 +1,23 @@
 //! Bundles: facts as bytes, on their way from region to region.
 //!
-//! A bundle is a list of at most 128 facts, strictly ascending by dot, with one spelling. `make` writes the first facts
-//! of a store that a version vector doesn't cover, above a dot if one is given, and `pages_complete` says that all pages together
-//! miss nothing; `single` writes one fact, as a log has it; `Bundle::read` reads bytes
-//! that may be hostile, and takes no memory for a number that they only claim; `read_front` reads the first bundle of
-//! many, and tells bytes that end too early from bytes that are no bundle.
+//! A bundle is a list of at most 128 facts, strictly ascending by dot. A bundle has exactly one
+//! spelling.
 //!
-//! There are versions of the bytes, in one table, each with the kinds of facts of those before it. A bundle is of the
-//! first that has all of its facts: `OTB2` where a sign-out is inside, as `sign_outs_told` says, and else `OTB1`. So what
-//! was written before the sign-outs is read as it was, and a log may have both.
+//! - `make` writes a page: the first facts of a store, above a cursor, that a version vector does
+//!   not cover. `pages_complete` states that a receiver of all pages misses nothing.
+//! - `single` writes a record of a log: the bundle of one fact.
+//! - `Bundle::read` reads bytes that may be hostile, and reserves no memory for a number that they
+//!   only claim.
+//! - `read_front` reads the first bundle of many, and tells apart bytes that end too early and
+//!   bytes that are no bundle.
 //!
-//! In reading order: `Version`, `Page`, `make`, `single`, `Bundle`, `read_front`. The definitions are in specs/: `Versions`,
-//! their table; `Bundle`, the bytes; `Page`, what a vector leaves; `Front`, the walk over lengths.
+//! The bytes have versions, in one table. A version has the kinds of facts of the versions before
+//! it, and more. A bundle has the first version that has all of its facts: `OTB2` if one of them is
+//! a sign-out, otherwise `OTB1` (`sign_outs_told`). A log may hold bundles of both versions.
+//!
+//! In reading order: `Version`, `Page`, `make`, `single`, `Bundle`, `read_front`. The definitions
+//! are in `specs/`: `Versions` for the table of versions, `Bundle` for the bytes, `Page` and
+//! `Paging` for what a vector does not cover, `Front` for the walk over lengths.
 #![tactic(auto)]
 
 mod bundle;

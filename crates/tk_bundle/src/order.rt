@@ -8,7 +8,7 @@ ghost use Rattle.tk_bundle.specs.Bundle.{ascends};
 use tk_fact::Fact;
 use tk_handle::Dot;
 
-// Whether the facts rise by dot, without doubles.
+// Returns whether the facts rise by dot, no two at one dot.
 pub(crate) fn is_ascending(facts: &[Fact]) -> bool
     ensures { result ≡ ascends None facts.now }
 {
@@ -24,6 +24,7 @@ pub(crate) fn is_ascending(facts: &[Fact]) -> bool
     true
 }
 
+// Returns whether one dot is below another.
 fn is_below(a: Dot, b: Dot) -> bool
     ensures { result ≡ is_lt (dot_cmp a b) }
 {

@@ -1,17 +1,17 @@
-//! What a store has beyond a vector, as a bundle.
+//! Pages: the facts of a store that a vector does not cover, as bundles.
 
 use tk_handle::Dot;
 
-/// What a pull gives: a bundle, and what it says of the facts to come.
+/// The reply to a pull: a bundle, and whether more facts follow.
 #[derive(Drop)]
 pub struct Page {
-    /// The bundle.
+    /// The bundle's bytes.
     pub bytes: Vec<u8>,
-    /// How many facts it has, 0 to 128.
+    /// The number of facts in the bundle, 0 to 128.
     pub count: u16,
-    /// The dot of its last fact.
+    /// The dot of the bundle's last fact, which is the cursor of the next page.
     pub last: Option<Dot>,
-    /// Whether more facts follow it.
+    /// Whether the store has more facts for the vector, above the last.
     pub more: bool,
 }
 
@@ -35,23 +35,29 @@ use tk_format::Writer;
 use tk_store::FactStore;
 use tk_vector::VersionVector;
 
-/// The first 128 facts that the vector doesn't cover and that stand above the dot, if one is given, as a bundle. Where
-/// more follow, the next page is that above the last one's dot.
+/// Makes the page of a store for a vector: the first 128 facts above the cursor `after` that the
+/// vector does not cover.
+///
+/// If more facts follow, the next page is the one with the last dot as its cursor. Facts that the
+/// vector covers are skipped without a walk over them.
 pub fn make(
     alloc: Global,
     store: &FactStore,
     vector: &VersionVector,
     after: Option<Dot>,
 ) -> Result<Page, AllocError>
-    ensures page { IfOk result (λ page. spec.IsPageOf page (spec.page_of (known_in store.now) vector.now after)) }
+    ensures page { IfOk result (λ page.
+        spec.IsPageOf page (spec.page_of (known_in store.now) vector.now after)) }
 
-    // So it can be read.
-    ensures fits { OnOk result (bundle.Fits (spec.page_of (known_in store.now) vector.now after).facts) }
+    // A page can be read.
+    ensures fits { OnOk result (bundle.Fits (spec.page_of (known_in store.now) vector.now
+        after).facts) }
 {
     page_within(alloc, store, vector, after, MOST_FACTS as usize)
 }
 
-// One more dot than the page has room for tells whether more follow.
+// Makes a page of at most `limit` facts. One dot more than that is sought, to see whether more
+// facts follow.
 fn page_within(
     alloc: Global,
     store: &FactStore,
@@ -60,8 +66,10 @@ fn page_within(
     limit: usize,
 ) -> Result<Page, AllocError>
     requires { limit ≤ most_facts }
-    ensures page { IfOk result (λ page. spec.IsPageOf page (spec.page_within limit (known_in store.now) vector.now after)) }
-    ensures fits { OnOk result (bundle.Fits (paging.page limit (known_in store.now) vector.now after)) }
+    ensures page { IfOk result (λ page.
+        spec.IsPageOf page (spec.page_within limit (known_in store.now) vector.now after)) }
+    ensures fits { OnOk result (bundle.Fits (paging.page limit (known_in store.now) vector.now
+        after)) }
 {
     let mut dots = store.since(alloc, vector, after, limit + 1)?;
     let more = dots.as_slice().len() > limit;
@@ -69,11 +77,12 @@ fn page_within(
     page_at(alloc, store, &dots, more)
 }
 
-// The page of the facts at these dots.
+// Makes the page of the facts at the dots.
 fn page_at(alloc: Global, store: &FactStore, dots: &[Dot], more: bool) -> Result<Page, AllocError>
     requires { length dots.now ≤ most_facts }
     ensures page { IfOk result (λ page. spec.IsPageAt page (facts_of store.now) dots.now more) }
-    ensures fits { OnOk result (AllByRecursion framed.Fits (spec.facts_at (facts_of store.now) dots.now)) }
+    ensures fits { OnOk result (AllByRecursion framed.Fits
+        (spec.facts_at (facts_of store.now) dots.now)) }
 {
     let count = dots.len() as u16;
     let mut writer = begin_bundle(alloc, newest_at(store, dots), count)?;
@@ -86,7 +95,7 @@ fn page_at(alloc: Global, store: &FactStore, dots: &[Dot], more: bool) -> Result
     })
 }
 
-// The newest kind of the facts at these dots, each looked up.
+// Returns the newest kind among the facts at the dots.
 fn newest_at(store: &FactStore, dots: &[Dot]) -> u8
     ensures { result ≡ newest_kind 0 (spec.facts_at (facts_of store.now) dots.now) }
 {
@@ -97,7 +106,7 @@ fn newest_at(store: &FactStore, dots: &[Dot]) -> u8
     newest
 }
 
-// The newest kind with the fact at the dot, if there is one.
+// Returns the greater of a kind and that of the fact at the dot, if there is one.
 fn newest_with(last: u8, store: &FactStore, dot: Dot) -> u8
     ensures { result ≡ newest_kind last (spec.facts_at (facts_of store.now) (dot ∷ [])) }
 {
@@ -107,9 +116,11 @@ fn newest_with(last: u8, store: &FactStore, dot: Dot) -> u8
     }
 }
 
-// What stands before so many facts, whose newest kind is this one.
+// Begins a bundle of `count` facts, the newest of which has the given kind: the magic, the version,
+// the count.
 fn begin_bundle(alloc: Global, newest: u8, count: u16) -> Result<Writer, AllocError>
-    ensures { IfOk result (λ writer. writer ≡ magic ++ (version_with newest ∷ (number w16).spell count)) }
+    ensures { IfOk result (λ writer.
+        writer ≡ magic ++ (version_with newest ∷ (number w16).spell count)) }
 {
     let mut writer = Writer::new(alloc);
     writer.put_bytes(MAGIC)?;
@@ -118,6 +129,7 @@ fn begin_bundle(alloc: Global, newest: u8, count: u16) -> Result<Writer, AllocEr
     Ok(writer)
 }
 
+// Returns the last of the dots, if there is one.
 fn last_of(dots: &[Dot]) -> Option<Dot>
     ensures { result ≡ spec.last_of dots.now }
 {
@@ -127,14 +139,17 @@ fn last_of(dots: &[Dot]) -> Option<Dot>
     }
 }
 
+// Writes the facts at the dots.
 fn write_facts(
     alloc: Global,
     store: &FactStore,
     dots: &[Dot],
     writer: &mut Writer,
 ) -> Result<(), AllocError>
-    ensures written { OnOk result (writer.new ≡ writer.old ++ flat_map framed.spell (spec.facts_at (facts_of store.now) dots.now)) }
-    ensures fits { OnOk result (AllByRecursion framed.Fits (spec.facts_at (facts_of store.now) dots.now)) }
+    ensures written { OnOk result (writer.new ≡ writer.old ++ flat_map framed.spell
+        (spec.facts_at (facts_of store.now) dots.now)) }
+    ensures fits { OnOk result (AllByRecursion framed.Fits
+        (spec.facts_at (facts_of store.now) dots.now)) }
 {
     for dot in dots {
         write_fact(alloc, store, *dot, writer)?;
@@ -142,15 +157,17 @@ fn write_facts(
     Ok(())
 }
 
-// The fact at the dot, if there is one.
+// Writes the fact at the dot, if there is one.
 fn write_fact(
     alloc: Global,
     store: &FactStore,
     dot: Dot,
     writer: &mut Writer,
 ) -> Result<(), AllocError>
-    ensures written { OnOk result (writer.new ≡ writer.old ++ flat_map framed.spell (spec.facts_at (facts_of store.now) (dot ∷ []))) }
-    ensures fits { OnOk result (AllByRecursion framed.Fits (spec.facts_at (facts_of store.now) (dot ∷ []))) }
+    ensures written { OnOk result (writer.new ≡ writer.old ++ flat_map framed.spell
+        (spec.facts_at (facts_of store.now) (dot ∷ []))) }
+    ensures fits { OnOk result (AllByRecursion framed.Fits
+        (spec.facts_at (facts_of store.now) (dot ∷ []))) }
 {
     store.known();
     match store.get(dot) {
@@ -163,12 +180,12 @@ fn write_fact(
     }
 }
 
-/// The bundle of one fact that passes its check: a record of a log.
+/// Writes the bundle of one fact that passes its check: a record of a log.
 pub fn single(alloc: Global, fact: &Fact) -> Result<Vec<u8>, AllocError>
     requires { refusal_of fact.now.1 ≡ None }
     ensures spelled { IfOk result (λ bytes. bytes.items ≡ bundle_bytes (fact.now ∷ [])) }
 
-    // So it can be read.
+    // A record can be read.
     ensures fits { bundle.Fits (fact.now ∷ []) }
 {
     fact.known();

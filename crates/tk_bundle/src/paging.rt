@@ -1,9 +1,12 @@
-//! All pages of a store, one after another.
+//! The law of all pages of a store.
 
 ghost use Rattle.tk_bundle.specs.Paging.{PagesComplete};
 
-/// A law: who holds all that a vector covers, and took in the pages made for it by [`crate::make`], each above the last
-/// one's dot, until no more followed, holds all that the sender held when the first was made (own). Nothing is done.
+/// States a law: a receiver of all pages misses nothing (own).
+///
+/// The receiver holds all that a vector covers. The receiver took in the pages that [`crate::make`]
+/// made for that vector, each with the last dot of the page before as its cursor, until no more
+/// followed. Then it holds all that the sender held at the first page. Nothing happens at run time.
 pub fn pages_complete()
     ensures { PagesComplete }
 {}

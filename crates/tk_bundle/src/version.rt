@@ -1,15 +1,16 @@
-//! The versions of a bundle's bytes: which kinds of facts each has.
+//! The versions of a bundle's bytes, and the kinds of facts that each has.
 
-/// A version of a bundle's bytes, each with the kinds of those before it (own).
+/// A version of a bundle's bytes. A version has the kinds of the versions before it (own).
 #[derive(Clone, Copy)]
 pub(crate) struct Version {
-    /// What stands behind `OTB`.
+    /// The digit behind `OTB`.
     digit: u8,
-    /// It has the kinds of facts from 1 to this one.
+    /// The number of the newest kind: the version has the kinds 1 to this one.
     kinds: u8,
 }
 
-// Bundles that were written keep their version, so a row never changes, and a later version is one row more.
+// A bundle keeps the version that it was written in: a row never changes, and a later version is
+// one row more.
 const VERSIONS: [Version; 2] = [
     Version {
         digit: b'1',
@@ -26,7 +27,7 @@ ghost use Rattle.tk_bundle.specs.Versions as spec;
 
 use tk_fact::{Body, Fact};
 
-// The number of its kind, with which its bytes begin.
+// Returns the number of a body's kind, with which its bytes begin.
 #[tactic(auto, unfolding(tk_fact::specs::FactBytes::kinds))]
 pub(crate) fn kind_of(body: &Body) -> u8
     ensures { result ≡ spec.kind_of body.now }
@@ -45,7 +46,8 @@ pub(crate) fn kind_of(body: &Body) -> u8
     }
 }
 
-// The digit of the first version that has the kinds up to this one.
+// Returns the digit of the first version that has the kinds up to the given one; 0, which is the
+// digit of no version, if no version has.
 pub(crate) fn version_with(kind: u8) -> u8
     ensures { result ≡ spec.version_with kind }
 {
@@ -57,7 +59,7 @@ pub(crate) fn version_with(kind: u8) -> u8
     0
 }
 
-// The digit of the first version that has the kinds of all of these facts.
+// Returns the digit of the first version that has the kinds of all of the facts.
 pub(crate) fn version_of(facts: &[Fact]) -> u8
     ensures { result ≡ spec.version_of facts.now }
 {
@@ -68,7 +70,7 @@ pub(crate) fn version_of(facts: &[Fact]) -> u8
     version_with(newest)
 }
 
-// Whether it is the digit of a version.
+// Returns whether the digit is that of a version.
 #[tactic(auto, unfolding(crate::specs::Versions::is_version))]
 pub(crate) fn is_version(digit: u8) -> bool
     ensures { result ≡ spec.is_version digit }

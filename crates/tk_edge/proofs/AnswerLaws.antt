@@ -1,12 +1,16 @@
--- What is answered, with a fact and without. Key results:
---   refused          a refusal's answer is of its code and its methods
---   gains_nothing    a region gains no facts, and is as it was
+-- Laws of answers, with a fact and without. Key results:
+--   refused          a refusal's answer has its code and its methods
+--   gains_nothing    a region that gains no facts is unchanged
 --   answers_nothing  an answer without a fact changes nothing
 --   answers_request  what was prepared for a request is its answer
---   short_of         want of memory leaves the region as it was, or with the first facts of a bundle; short_answer, over bytes
---   pulls            a page is given, and nothing changes
---   unread           a reader is at no fault where a reply fails; faults_as, one fault
---   served           what replying to what arrived comes to is what a connection does; faulted, where it fails
+--   short_of         running out of memory leaves the region unchanged, or with the first facts of
+--                    a bundle
+--   short_answer     short_of, for a stream whose bytes are known
+--   pulls            replying to a pull changes nothing
+--   unread           a fault while replying isn't a read fault
+--   faults_as        equal faults of a connection are equal faults of telling
+--   served           replying to an arrival is what a connection does
+--   faulted          a fault while replying is a connection's fault
 use Rattle.std.proofs.Common.{◌≡◌, ◌≢◌, ℕ, Bool, List, [], Option, None, Some, Result, Ok, Err, IfOk, OnErr, refl, subst, ap, ◌∙◌, inl, inr}
 use Rattle.std.specs.declared.alloc.AllocError.{AllocError}
 use Rattle.tk_format.specs.Format.{whole}
@@ -60,7 +64,7 @@ pub answers_request : (r : RegionFields) (now : ℕ) (words : List ℕ) (request
 answers_request r now words request p result new is told =
     subst (λ (x : PreparedFields). AnswersBy r (rendered x.reply None x.logged) x.fact result new) is told
 
--- want of memory leaves the region as it was, or with the first facts of a bundle
+-- running out of memory leaves the region unchanged, or with the first facts of a bundle
 pub short_of : (sync : Bool) (known : Option (List ℕ)) (now : ℕ) (words : List ℕ) (came : Arrival) (old new : RegionFields) (e : AllocError) → Arrives sync known came
     → AnswersArrival old now words came (Err e) new → IsShort sync known old new
 short_of sync known now words (Heard heard) old new e arrives told = inl told
@@ -68,7 +72,8 @@ short_of sync known now words (Exchange Vector) old new e arrives told = inl tol
 short_of sync known now words (Exchange (Pull sent)) old new e arrives told = inl told
 short_of sync known now words (Exchange (Push sent)) old new e arrives told = inr (sent, arrives, told.0, told.1)
 
--- where it comes over bytes that then end
+-- running out of memory over known bytes leaves the region unchanged, or with the first facts of a
+-- bundle
 pub short_answer : (sync : Bool) (bytes : List ℕ) (now : ℕ) (words : List ℕ) (came : Arrival) (old new : RegionFields) (result : Result AnswerFields AllocError)
     → IsArrival sync bytes came → MayArrive sync came → AnswersArrival old now words came result new → OnErr result (IsShort sync (Some bytes) old new)
 short_answer sync bytes now words came old new (Ok answer) is may told = tt
@@ -77,44 +82,44 @@ short_answer sync bytes now words came old new (Err e) is may told = short_of sy
     some_is : (b : List ℕ) → Some bytes ≡ Some b → bytes ≡ b
     some_is b same = cc
 
--- a page is given, and nothing changes
+-- replying to a pull with a page changes nothing
 pub pulls : (r : RegionFields) (sent : List ℕ) (result : Result AnswerFields AllocError) → IfOk result (λ a. a ≡ rendered (page_reply (known_in r.facts) (whole wanted sent)) None None)
     → Exchanges r (Pull sent) result r
 pulls r sent (Ok a) h = (h, refl)
 pulls r sent (Err e) h = refl
 
--- a fault, as a connection's end and as a telling's
+-- a fault as the result of a connection
 abbrev fails : Fault → Result Served Fault
 fails fault = Err fault
 
 abbrev told_fault : Fault → Result Status Fault
 told_fault fault = Err fault
 
-module _ (asked : Asked) (came : Arrival) (old new seen : RegionFields) (same : old ≡ seen) (log writer : Change) (sealed : Bool) (arrives : Arrives asked.sync asked.known came) (spoke : came ≢ Heard Silence) where
-  -- by the region as contracts see it
-  as_seen : (result : Result Status Fault) → Replies asked.now asked.words came (record { before = old; after = new }) log writer sealed result
-      → Replies asked.now asked.words came (record { before = seen; after = new }) log writer sealed result
-  as_seen result told = subst (λ r. Replies asked.now asked.words came (record { before = r; after = new }) log writer sealed result) same told
+module _ (asked : Asked) (came : Arrival) (old new seen : RegionFields) (same : old ≡ seen) (log : Change) (still : Type 0) (writer : Change) (sealed : Bool) (arrives : Arrives asked.sync asked.known came) (spoke : came ≢ Heard Silence) where
+  -- replying to an arrival, with the region as contracts see it
+  as_seen : (result : Result Status Fault) → Replies asked.now asked.words came (record { before = old; after = new }) log still writer sealed result
+      → Replies asked.now asked.words came (record { before = seen; after = new }) log still writer sealed result
+  as_seen result told = subst (λ r. Replies asked.now asked.words came (record { before = r; after = new }) log still writer sealed result) same told
 
-  pub served : (status : Status) → Replies asked.now asked.words came (record { before = old; after = new }) log writer sealed (Ok status)
-      → IsServed asked (record { before = seen; after = new }) log writer sealed (Ok (Done status))
+  pub served : (status : Status) → Replies asked.now asked.words came (record { before = old; after = new }) log still writer sealed (Ok status)
+      → IsServed asked (record { before = seen; after = new }) log still writer sealed (Ok (Done status))
   served status told = (came, arrives, spoke, as_seen (Ok status) told)
 
-  pub faulted : (fault : Fault) → Replies asked.now asked.words came (record { before = old; after = new }) log writer sealed (Err fault)
-      → IsServed asked (record { before = seen; after = new }) log writer sealed (Err fault)
+  pub faulted : (fault : Fault) → Replies asked.now asked.words came (record { before = old; after = new }) log still writer sealed (Err fault)
+      → IsServed asked (record { before = seen; after = new }) log still writer sealed (Err fault)
   faulted Read told = absurd told
   faulted Write told = (came, arrives, spoke, as_seen (Err Write) told)
   faulted Log told = (came, arrives, spoke, as_seen (Err Log) told)
   faulted Memory told = let short = as_seen (Err Memory) told in (short_of asked.sync asked.known asked.now asked.words came seen new short.0 arrives short.1, short.2)
 
--- what failed is not the reader
-pub unread : (now : ℕ) (words : List ℕ) (came : Arrival) (region : Step) (log writer : Change) (sealed : Bool) (fault : Fault)
-    → Replies now words came region log writer sealed (Err fault) → fails fault ≢ fails Read
-unread now words came region log writer sealed Read told = absurd told
-unread now words came region log writer sealed Write told = λ is. cc
-unread now words came region log writer sealed Log told = λ is. cc
-unread now words came region log writer sealed Memory told = λ is. cc
+-- a fault while replying isn't a read fault
+pub unread : (now : ℕ) (words : List ℕ) (came : Arrival) (region : Step) (log : Change) (still : Type 0) (writer : Change) (sealed : Bool) (fault : Fault)
+    → Replies now words came region log still writer sealed (Err fault) → fails fault ≢ fails Read
+unread now words came region log still writer sealed Read told = absurd told
+unread now words came region log still writer sealed Write told = λ is. cc
+unread now words came region log still writer sealed Log told = λ is. cc
+unread now words came region log still writer sealed Memory told = λ is. cc
 
--- a fault of a connection is one of the telling
+-- equal faults of a connection are equal faults of telling
 pub faults_as : (fault other : Fault) → fails fault ≡ fails other → told_fault fault ≡ told_fault other
 faults_as fault other is = cc

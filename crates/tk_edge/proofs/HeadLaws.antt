@@ -1,4 +1,8 @@
--- A buffer is the front of a stream.
+-- A buffer is the front of a stream. Key results:
+--   take-filled      the buffer after a read into its rest
+--   known_front      the known bytes begin with what was consumed
+--   whole_head       a head found in the buffer is a head of the stream
+--   no_short_head    a full buffer without a head means that the stream has no short head
 use Rattle.std.proofs.Common.{◌≡◌, ℕ, ◌+◌, ◌-◌, ◌≤◌, List, [], ◌++◌, length, take, drop, Option, Some, None, sym, ap, ◌∙◌, subst, arith, length-take, length-append}
 use Rattle.std.proofs.Math.Seq.{take-append-add, take-append_seam}
 use Rattle.std.proofs.lemmas.List.{take-append-le, take-append-drop, length-map}
@@ -33,7 +37,7 @@ front-within a b c d e short =
     let same : take (length c) a ≡ c = sym (take-append-le (length c) a b short) ∙ ap (take (length c)) e ∙ take-append_seam c d in
     sym (take-append-drop (length c) a) ∙ ap (λ l. l ++ drop (length c) a) same
 
--- what the parser found in the buffer is a head of the stream
+-- a head that the parser found in the buffer is a head of the stream
 pub whole_head : (bytes front rest : List ℕ) (size room : ℕ) (headers : List HeaderSpan) (spans : RequestSpans)
     → bytes ≡ front ++ rest → length front ≤ size → length headers ≡ room
     → IsRequestWithin front headers spans → IsRequestOf front headers spans
@@ -50,7 +54,7 @@ whole_head bytes front rest size room headers spans e fits full within (h, at) =
       at,
     )
 
--- where the full buffer has no head, the stream has none that is short enough
+-- if the full buffer has no head, the stream has no head within the limit
 pub no_short_head : (bytes front rest : List ℕ) (size room : ℕ) → bytes ≡ front ++ rest → size ≤ length front → HasNoRequest front
     → (h : RequestHead) → HasHead bytes size room h → ⊥
 no_short_head bytes front rest size room e full none h ((after, reads), short, few) =
@@ -59,7 +63,7 @@ no_short_head bytes front rest size room e full none h ((after, reads), short, f
       front-within front rest (print_request h) after (sym e ∙ reads.1) (omega (arith)),
     )
 
--- nothing is no head
+-- no bytes are no head
 pub no_head_of_none : HasNoRequest []
 unfolding print_request
 no_head_of_none h rest (valid, e) =

@@ -1,5 +1,6 @@
 pub mod AnswerLaws
 pub mod BodyLaws
+pub mod BoundLaws
 pub mod HeadLaws
 pub mod PieceLaws
 pub mod RecordLaws

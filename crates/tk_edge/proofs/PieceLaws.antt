@@ -1,5 +1,5 @@
 -- Pieces, joined one after the other. Key result:
---   concat_take_more   with one piece more
+--   concat_take_more   the join grows by each next piece
 use Rattle.std.proofs.Common.{◌≡◌, ℕ, ◌+◌, ◌<◌, List, [], ◌∷◌, ◌++◌, length, take, map, get_or, ap, ◌∙◌, Bor}
 use Rattle.std.specs.List.{concat}
 use Rattle.std.proofs.lemmas.List.{take_more, map-append, append-nil}

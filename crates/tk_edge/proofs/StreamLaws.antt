@@ -1,18 +1,21 @@
--- What was read is the whole of what was sent. Key results:
---   IfOk-kept         what holds of an answer holds of the same answer under another error
---   filled            a body that was read whole, and one that wasn't
---   form_in_front     one that came whole with its head
---   judged_same       what a head comes to, by what was judged of its parts
---   hears_head        what a head that was read from a source, and what follows it, come to
---   has_one_meaning   a stream has one meaning at most; one_arrival, where regions exchange facts over it, too
---   silent_is_empty   it is silent where it has no byte alone
---   judged_may        what regions exchange is asked for only where they exchange anything
---   all_heard         where they don't, a stream is heard as anyone's
+-- The bytes read are the whole of the bytes sent. Key results:
+--   IfOk-kept         a property of an answer holds of the equal answer under another error type
+--   filled            a body that was read whole, and a body that wasn't
+--   form_in_front     a form that came whole with its head
+--   judged_same       the meaning of a head, by what was judged of its parts
+--   hears_head        the meaning of a head that was read from a source, and of what follows it
+--   has_one_meaning   a stream has at most one meaning
+--   one_arrival       a stream has at most one meaning, also if regions exchange facts
+--   silent_is_empty   only an empty stream is silent
+--   judged_may        an exchange is requested only if regions exchange facts, and a body is within
+--                     its limit
+--   all_heard         no exchange arrives unless regions exchange facts
 use Rattle.std.proofs.Common.{◌≡◌, ℕ, ◌≤◌, Bool, true, false, cond, List, [], ◌∷◌, ◌++◌, length, take, drop, Option, Some, None, Result, Ok, Err, IfOk, map, sym, ap, ◌∙◌, subst, arith, nat_le, min, length-take, inl, inr, refl}
 use Rattle.std.specs.Io.KnownBytes.{Consumes}
 use Rattle.std.specs.Str.{bytes_eq}
+use Rattle.std.specs.Str.Parse.{digits_value}
 use Rattle.std.specs.Prelude.{codes}
-use Rattle.std.proofs.lemmas.Bool.{le-leb}
+use Rattle.std.proofs.lemmas.Bool.{le-leb, leb-true}
 use Rattle.std.proofs.lemmas.Bool.Decides.{nat_tests}
 use Rattle.std.proofs.lemmas.List.{take_all, take-append-le, length-append}
 use Rattle.httparse.specs.Grammar.{RequestHead, ReadsRequest}
@@ -27,7 +30,7 @@ use Rattle.tk_edge.specs.Heard.{request_at, posted_to, arrival_by, arrival_of, I
 use Rattle.tk_edge.specs.Judged.{judged_of, at_path, at_service, asked, with_body, sized, fits_type, limit_of, MayPost, MayAsk}
 use Rattle.tk_edge.specs.Laws.{HasOneMeaning, HearsAll}
 use Rattle.tk_edge.specs.Paths.{path_of, path_named, sync_named, query_of, method_named, service_at}
-use Rattle.tk_format.specs.Numerals.{numeral_up_to}
+use Rattle.tk_format.specs.Numerals.{is_numeral, numeral_up_to}
 use Rattle.tk_format.specs.declared.numeral.Numeral.{Numeral}
 use Rattle.tk_format.specs.declared.numeral.Numeral.TheVariants as numeral
 use Rattle.tk_params.specs.Params.{Pairs}
@@ -52,7 +55,7 @@ pub IfOk-kept : {A E F : Type 0} (P : A → Type 0) (r : Result A E) (s : Result
 IfOk-kept P r (Ok a) same holds = subst (λ x. IfOk x P) same holds
 IfOk-kept P r (Err f) same holds = tt
 
--- so many bytes of what there is were read into a body, and no more had room in it: all, or all that there were
+-- count bytes were read into a body that has room for size: all of the bytes, or as many as fit
 pub filled : (count size : ℕ) (body all : List ℕ) → length body ≡ size → count ≤ size → take count body ≡ take size all
     → (nat_le size count ≡ nat_le size (length all)) × (nat_le size count ≡ true → body ≡ take size all)
 filled count size body all full within e =
@@ -149,9 +152,9 @@ silent_is_empty sync (b ∷ bytes) (inr (h, rest, reads, has, e)) =
 pub hears_nothing : (sync : Bool) (known : Option (List ℕ)) (came : Arrival) → came ≡ arrival.Heard Silence → Arrives sync known came → (bytes : List ℕ) → known ≡ Some bytes → bytes ≡ []
 hears_nothing sync known came silent arrives bytes is = silent_is_empty sync bytes (subst (IsArrival sync bytes) silent (arrives.1 bytes is))
 
--- ---- where regions exchange nothing
+-- ---- if regions exchange no facts
 
--- by which paths they do
+-- the paths that are served only if regions exchange facts
 abbrev MayServe : Bool → Path → Type 0
 MayServe sync path.Authorize = Unit {0}
 MayServe sync path.Token = Unit {0}
@@ -196,7 +199,7 @@ may_serve sync text =
     (pick sync (bytes_eq text (codes "/admin/withdraw")) (Some path.Withdraw) _ tt
     (pick sync (bytes_eq text (codes "/admin/signout")) (Some path.SignOut) _ tt (if_synced sync text)))))))))
 
--- what is served there
+-- the services that exist only if regions exchange facts
 abbrev MayDo : Bool → Service → Type 0
 MayDo sync (service.Query e) = Unit {0}
 MayDo sync service.Vector = sync ≡ true
@@ -237,15 +240,34 @@ choose : (sync b : Bool) (j k : Judged) → MayAsk sync j → MayAsk sync k → 
 choose sync true j k h l = h
 choose sync false j k h l = l
 
-may_size : (sync : Bool) (posted : Posted) (told : Numeral) (kinds : List (List ℕ)) → MayPost sync posted → MayAsk sync (sized posted told kinds)
-may_size sync posted numeral.Malformed kinds h = tt
-may_size sync posted numeral.Above kinds h = tt
-may_size sync posted (numeral.Within n) kinds h = choose sync (fits_type posted kinds) (Body posted n) _ h tt
+-- a number that was read is within its limit
+abbrev pub IsBounded : ℕ → Numeral → Type 0
+IsBounded limit numeral.Malformed = Unit {0}
+IsBounded limit numeral.Above = Unit {0}
+IsBounded limit (numeral.Within n) = n ≤ limit
+
+bounded : (limit : ℕ) (text : List ℕ) → IsBounded limit (numeral_up_to limit text)
+bounded limit text = of (is_numeral text) (nat_le n limit) refl
+  where
+    n : ℕ
+    n = digits_value 10 text
+
+    of : (a b : Bool) → nat_le n limit ≡ b → IsBounded limit (cond a (cond b (numeral.Within n) numeral.Above) numeral.Malformed)
+    of false b e = tt
+    of true false e = tt
+    of true true e = leb-true n limit e
+
+may_size : (sync : Bool) (posted : Posted) (told : Numeral) (kinds : List (List ℕ)) → IsBounded (limit_of posted) told
+    → MayPost sync posted → MayAsk sync (sized posted told kinds)
+may_size sync posted numeral.Malformed kinds fits h = tt
+may_size sync posted numeral.Above kinds fits h = tt
+may_size sync posted (numeral.Within n) kinds fits h = choose sync (fits_type posted kinds) (Body posted n) _ (h, fits) tt
 
 may_post : (sync : Bool) (posted : Posted) (codings lengths kinds : List (List ℕ)) → MayPost sync posted → MayAsk sync (with_body posted codings lengths kinds)
 may_post sync posted (coding ∷ codings) lengths kinds h = tt
 may_post sync posted [] [] kinds h = tt
-may_post sync posted [] (text ∷ more) kinds h = may_size sync posted (numeral_up_to (limit_of posted) text) kinds h
+may_post sync posted [] (text ∷ more) kinds h =
+    may_size sync posted (numeral_up_to (limit_of posted) text) kinds (bounded (limit_of posted) text) h
 
 may_be_asked : (sync : Bool) (s : Service) (pairs : Pairs) → MayDo sync s → MayAsk sync (asked s pairs)
 may_be_asked sync (service.Query e) pairs h = tt
@@ -263,12 +285,12 @@ may_at_path sync (Some p) m pairs h = may_at sync p (service_at p m) pairs (may_
 may_ask : (sync : Bool) (method target : List ℕ) (pairs : Pairs) → MayAsk sync (judged_of sync method target pairs)
 may_ask sync method target pairs = may_at_path sync _ (method_named method) pairs (may_serve sync (path_of target))
 
--- by what was judged of the fields that are read
+-- a judgement requests an exchange only if regions exchange facts, whatever fields were read
 pub judged_may : (sync : Bool) (method target : List ℕ) (fields : Fields) (pairs : Pairs) (judged : Judged) → AreFields fields pairs
     → ((all : Pairs) → AreFields fields all → judged ≡ judged_of sync method target all) → MayAsk sync judged
 judged_may sync method target fields pairs judged are told = subst (MayAsk sync) (sym (told pairs are)) (may_ask sync method target pairs)
 
--- so it is heard
+-- false is not true
 off : ¬ (false ≡ true)
 off e = cc
 
@@ -281,8 +303,8 @@ by_judged target pairs rest (Body (Form e) n) h =
       | true ↦ (Asked (request_at e (take n rest) pairs), refl)
       | false ↦ (heard.Refused ShortBody, refl)
     ]
-by_judged target pairs rest (Body Pull n) h = absurd (off h)
-by_judged target pairs rest (Body Push n) h = absurd (off h)
+by_judged target pairs rest (Body Pull n) h = absurd (off h.0)
+by_judged target pairs rest (Body Push n) h = absurd (off h.0)
 
 pub all_heard : HearsAll
 all_heard bytes came (inl (none, p)) = (_, p)

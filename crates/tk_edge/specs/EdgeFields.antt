@@ -1,15 +1,17 @@
--- What contracts see of an edge: its region, whether regions exchange facts over it, and whether it is sealed (own).
+-- What contracts see of an edge: EdgeFields (own).
 use Rattle.std.specs.Prelude.{Bool, refl}
 use Rattle.std.specs.Coded.{Coded, code_by, coded×, coded_bool}
 use Rattle.tk_region.specs.RegionFields.{RegionFields, coded_region}
 
+-- an edge: its region, whether regions exchange facts over it, and whether it is sealed
 pub record EdgeFields : Type 0 where
   pub region : RegionFields
   pub sync : Bool
   pub sealed : Bool
 
--- as pairs
+-- the code of an edge, as nested pairs
 abbrev pub coded_edge : Coded EdgeFields
 coded_edge =
     code_by (RegionFields × (Bool × Bool)) (coded× coded_region (coded× coded_bool coded_bool))
-    (λ e. (e.region, (e.sync, e.sealed))) (λ p. record { region = p.0; sync = p.1.0; sealed = p.1.1 }) (λ _. refl)
+    (λ e. (e.region, (e.sync, e.sealed)))
+    (λ p. record { region = p.0; sync = p.1.0; sealed = p.1.1 }) (λ _. refl)

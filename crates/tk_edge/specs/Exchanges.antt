@@ -1,11 +1,17 @@
--- What another region is answered, and what it does to this one (own).
---   TellsVector     its vector, in bytes
---   page_reply      the bundle of a page, for what a pull asks
---   TakesBundle     a bundle that was sent is taken in; IsTakenReply, what that is answered; TakesAndTells, both
---   Exchanges       what each of the three may end with
+-- The reply to another region, and what its request does to this one (own).
+--   TellsVector     the answer has the bytes of the front
+--   page_reply      the reply to a pull: the bundle of a page
+--   unread_code     the name of the error for bytes that can't be read
+--   refusal_code    the name of the error for a bundle that isn't taken in
+--   TakesBundle     a pushed bundle is taken in, refused, or cut off by lack of memory
+--   IsTakenReply    the reply to a push, by its result
+--   TakesAndTells   how a push may end
+--   Exchanges       how each of the three requests may end
 use Rattle.std.specs.Prelude.{◌≡◌, ℕ, List, Option, None, Some, Result, Ok, Err}
 use Rattle.std.specs.declared.alloc.AllocError.{AllocError}
 use Rattle.tk_format.specs.Format.{whole}
+use Rattle.tk_format.specs.declared.error.ReadError.{ReadError}
+use Rattle.tk_format.specs.declared.error.ReadError.TheVariants as read
 use Rattle.tk_vector.specs.VersionVector.{Vector as AnyVector}
 use Rattle.tk_vector.specs.VectorBytes.{vector, vector_bytes}
 use Rattle.tk_store.specs.FactSet.{FactSet}
@@ -16,11 +22,17 @@ use Rattle.tk_bundle.specs.Page.{page_of}
 use Rattle.tk_message.specs.Place.{next_in}
 use Rattle.tk_message.specs.Reply.{bytes_reply, error_reply, taken_reply}
 use Rattle.tk_message.specs.ReplyFields.{ReplyFields}
+use Rattle.tk_message.specs.declared.error_code.ErrorCode.{ErrorCode}
 use Rattle.tk_message.specs.declared.error_code.ErrorCode.TheVariants as code
 use Rattle.tk_region.specs.RegionFields.{RegionFields, place_in}
 use Rattle.tk_region.specs.Taking.{TakesIn}
 use Rattle.tk_region.specs.declared.take.TakeError.{TakeError}
-use Rattle.tk_region.specs.declared.take.TakeError.TheVariants.{Malformed, OwnNumber, Conflict, Memory}
+use Rattle.tk_region.specs.declared.take.TakeError.TheVariants.{
+  Malformed,
+  OwnNumber,
+  Conflict,
+  Memory,
+}
 use Rattle.tk_edge.specs.Answers.{rendered}
 use Rattle.tk_edge.specs.Pulls.{wanted}
 use Rattle.tk_edge.specs.Told.{AnswerFields}
@@ -28,38 +40,64 @@ use Rattle.tk_edge.specs.declared.exchange.Exchange.{Exchange}
 use Rattle.tk_edge.specs.declared.exchange.Exchange.TheVariants.{Vector, Pull, Push}
 use Rattle.tk_edge.specs.declared.pull.Wanted.{Wanted}
 
--- the bytes of the front of the facts held, which can be read
+-- the answer has the bytes of the front of the facts held, which fits into bytes
 abbrev pub TellsVector : FactSet → AnswerFields → Type 0
-TellsVector F answer = (v : AnyVector) × IsFront F v × vector.Fits v × (answer ≡ rendered (bytes_reply (vector_bytes v)) None None)
+TellsVector F answer =
+    (v : AnyVector) × IsFront F v × vector.Fits v
+    × (answer ≡ rendered (bytes_reply (vector_bytes v)) None None)
 
--- the bundle of what the vector doesn't cover above the cursor
+-- the reply to a pull: the bundle of a page, or the error for bytes that are no pull
 abbrev pub page_reply : FactSet → Option Wanted → ReplyFields
 page_reply F None = error_reply code.Malformed
 page_reply F (Some w) = bytes_reply (bundle_bytes (page_of F w.vector w.after).facts)
 
--- the bundle that the bytes spell is taken in, or refused, or for want of memory the first of its facts are in
-pub record TakesBundle (old : RegionFields) (bytes : List ℕ) (taken : Result ℕ TakeError) (new : RegionFields) : Type 0 where
+-- The bundle that the bytes spell is taken in or refused. If memory runs out, the first of its
+-- facts are in.
+pub record TakesBundle (old : RegionFields) (bytes : List ℕ) (taken : Result ℕ TakeError)
+    (new : RegionFields) : Type 0 where
   pub number : new.number ≡ old.number
   pub settings : new.settings ≡ old.settings
-  pub takes : TakesIn (facts_of old.facts) (next_in (place_in old)) (whole bundle bytes) taken (facts_of new.facts)
+  pub takes : TakesIn (facts_of old.facts) (next_in (place_in old)) (whole bundle bytes) taken
+      (facts_of new.facts)
 
--- how many of its facts were new, or why it was refused
+-- the name of the error for bytes that can't be read; out of memory has no name and gets no reply
+abbrev pub unread_code : ReadError → Option ErrorCode
+unread_code read.Malformed = Some code.Malformed
+unread_code read.Memory = None
+
+-- the name of the error for a bundle that isn't taken in; out of memory has no name
+abbrev pub refusal_code : TakeError → Option ErrorCode
+refusal_code Malformed = Some code.Malformed
+refusal_code OwnNumber = Some code.OwnNumber
+refusal_code Conflict = Some code.Conflict
+refusal_code Memory = None
+
+-- the reply is the error of this name; without a name no reply is right
+abbrev pub IsErrorReply : Option ErrorCode → ReplyFields → Type 0
+IsErrorReply (Some name) reply = reply ≡ error_reply name
+IsErrorReply None reply = ⊥
+
+-- the reply to a push: how many facts were new, or why the bundle was refused
 abbrev pub IsTakenReply : Result ℕ TakeError → ReplyFields → Type 0
 IsTakenReply (Ok n) reply = reply ≡ taken_reply n
-IsTakenReply (Err Malformed) reply = reply ≡ error_reply code.Malformed
-IsTakenReply (Err OwnNumber) reply = reply ≡ error_reply code.OwnNumber
-IsTakenReply (Err Conflict) reply = reply ≡ error_reply code.Conflict
-IsTakenReply (Err Memory) reply = ⊥
+IsTakenReply (Err error) reply = IsErrorReply (refusal_code error) reply
 
--- the answer tells what became of the bundle; where memory is refused it may have been taken in all the same
-abbrev pub TakesAndTells : RegionFields → List ℕ → Result AnswerFields AllocError → RegionFields → Type 0
+-- Success: the answer reports what became of the bundle. Out of memory: the bundle may still have
+-- been taken in, in whole or in part.
+abbrev pub TakesAndTells : RegionFields → List ℕ → Result AnswerFields AllocError → RegionFields
+    → Type 0
 TakesAndTells old bytes (Ok answer) new =
-    (taken : Result ℕ TakeError) × TakesBundle old bytes taken new × (reply : ReplyFields) × IsTakenReply taken reply × (answer ≡ rendered reply None None)
+    (taken : Result ℕ TakeError) × TakesBundle old bytes taken new × (reply : ReplyFields)
+    × IsTakenReply taken reply × (answer ≡ rendered reply None None)
 TakesAndTells old bytes (Err e) new = (taken : Result ℕ TakeError) × TakesBundle old bytes taken new
 
-abbrev pub Exchanges : RegionFields → Exchange → Result AnswerFields AllocError → RegionFields → Type 0
+-- how a request of another region may end; only a push changes the region
+abbrev pub Exchanges : RegionFields → Exchange → Result AnswerFields AllocError → RegionFields
+    → Type 0
 Exchanges old Vector (Ok answer) new = TellsVector (known_in old.facts) answer × (new ≡ old)
 Exchanges old Vector (Err e) new = new ≡ old
-Exchanges old (Pull bytes) (Ok answer) new = (answer ≡ rendered (page_reply (known_in old.facts) (whole wanted bytes)) None None) × (new ≡ old)
+Exchanges old (Pull bytes) (Ok answer) new =
+    (answer ≡ rendered (page_reply (known_in old.facts) (whole wanted bytes)) None None)
+    × (new ≡ old)
 Exchanges old (Pull bytes) (Err e) new = new ≡ old
 Exchanges old (Push bytes) result new = TakesAndTells old bytes result new

@@ -1,38 +1,61 @@
--- The fields of a head that are read (RFC 9110, 5.1, 8.3, 8.6 and 11.6.2; RFC 9112, 6.1; `X-Subject` is own).
+-- The fields of a head that tokend reads (RFC 9110, 5.1, 8.3, 8.6 and 11.6.2; RFC 9112, 6.1;
+-- `X-Subject` is own).
 --   values_named   the values under a name, in any case
---   IsField        none, the only one, or several
---   AreFields      the fields that are read, among names and values
---   has_repeats    one of four fields comes twice
-use Rattle.std.specs.Prelude.{◌≡◌, ℕ, ◌≤◌, ◌||◌, Bool, nat_le, List, [], ◌∷◌, length, map, filter, codes}
+--   IsField        a field is absent, has one value, or is repeated
+--   AreFields      the five fields, among names and values
+--   has_repeats    one of the four fields is repeated that may be given only once
+use Rattle.std.specs.Prelude.{
+  ◌≡◌,
+  ℕ,
+  ◌≤◌,
+  ◌||◌,
+  Bool,
+  nat_le,
+  List,
+  [],
+  ◌∷◌,
+  length,
+  map,
+  filter,
+  codes,
+}
 use Rattle.std.specs.Str.{str_eq_ignore_ascii_case}
 use Rattle.tk_params.specs.Params.{Pairs}
 use Rattle.tk_edge.specs.declared.field.Field.{Field}
 use Rattle.tk_edge.specs.declared.field.Field.TheVariants.{Absent, Value, Twice}
 use Rattle.tk_edge.specs.declared.field.Fields.{Fields}
 
+-- the values under a name, in any case and in order
 abbrev pub values_named : List ℕ → Pairs → List (List ℕ)
 values_named name pairs = map (λ p. p.1) (filter (λ p. str_eq_ignore_ascii_case p.0 name) pairs)
 
+-- a field is absent, has the only value, or is repeated
 abbrev pub IsField : Field → List (List ℕ) → Type 0
 IsField Absent values = values ≡ []
 IsField (Value text) values = values ≡ text.now ∷ []
 IsField Twice values = 2 ≤ length values
 
+-- the values of Authorization
 abbrev pub authorization_in : Pairs → List (List ℕ)
 authorization_in pairs = values_named (codes "authorization") pairs
 
+-- the values of X-Subject
 abbrev pub subject_in : Pairs → List (List ℕ)
 subject_in pairs = values_named (codes "x-subject") pairs
 
+-- the values of Content-Length
 abbrev pub length_in : Pairs → List (List ℕ)
 length_in pairs = values_named (codes "content-length") pairs
 
+-- the values of Content-Type
 abbrev pub type_in : Pairs → List (List ℕ)
 type_in pairs = values_named (codes "content-type") pairs
 
+-- the values of Transfer-Encoding
 abbrev pub coding_in : Pairs → List (List ℕ)
 coding_in pairs = values_named (codes "transfer-encoding") pairs
 
+-- the five fields that tokend reads, among the names and values of a head
 pub record AreFields (fields : Fields) (pairs : Pairs) : Type 0 where
   pub authorization : IsField fields.authorization (authorization_in pairs)
   pub subject : IsField fields.subject (subject_in pairs)
@@ -40,11 +63,12 @@ pub record AreFields (fields : Fields) (pairs : Pairs) : Type 0 where
   pub kind : IsField fields.kind (type_in pairs)
   pub coding : IsField fields.coding (coding_in pairs)
 
--- a field comes twice, or more often
+-- a field is given twice or more often
 abbrev pub repeats : List (List ℕ) → Bool
 repeats values = nat_le 2 (length values)
 
--- Authorization, Content-Length, Content-Type or X-Subject does
+-- Authorization, Content-Length, Content-Type or X-Subject is given twice or more often
 abbrev pub has_repeats : Pairs → Bool
 has_repeats pairs =
-    repeats (authorization_in pairs) || (repeats (length_in pairs) || (repeats (type_in pairs) || repeats (subject_in pairs)))
+    repeats (authorization_in pairs)
+    || (repeats (length_in pairs) || (repeats (type_in pairs) || repeats (subject_in pairs)))

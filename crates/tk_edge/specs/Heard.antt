@@ -1,10 +1,30 @@
--- A stream of bytes that then ends, as a request (RFC 9112, 3, 5 and 6; the limits, `X-Subject` and what regions exchange are own).
---   request_at   what is asked of an endpoint, with the form and the fields that a decision reads
---   arrival_of   what a head and the bytes behind it come to: the last of the cases is `ShortBody`
---   IsArrival    what the bytes of a stream come to, where regions exchange facts over it or don't
---   IsHeard      what they come to where they don't
---   Arrives      what comes of a source that may not tell its bytes; MayArrive, whatever they are
-use Rattle.std.specs.Prelude.{◌≡◌, ◌⊎◌, ⊤, ℕ, Bool, true, false, nat_le, List, [], ◌∷◌, length, take, map, Option, Some, if◌then◌else◌}
+-- The meaning of a stream of bytes that then ends (RFC 9112, 3, 5 and 6; the limits, `X-Subject`
+-- and exchanges between regions are own).
+--   request_at   the request for an endpoint, with its form and the fields that a decision reads
+--   arrival_of   the meaning of a head and the bytes behind it; the last refusal is `ShortBody`
+--   IsArrival    the meaning of a stream, by whether regions exchange facts
+--   IsHeard      the meaning of a stream if regions don't exchange facts
+--   Arrives      what may arrive from a source, whose bytes may be unknown
+--   MayArrive    what may arrive whatever the bytes are
+use Rattle.std.specs.Prelude.{
+  ◌≡◌,
+  ◌⊎◌,
+  ⊤,
+  ℕ,
+  Bool,
+  true,
+  false,
+  nat_le,
+  List,
+  [],
+  ◌∷◌,
+  length,
+  take,
+  map,
+  Option,
+  Some,
+  if◌then◌else◌,
+}
 use Rattle.httparse.specs.Grammar.{RequestHead, ReadsRequest}
 use Rattle.httparse.specs.Spans.{name_and_value}
 use Rattle.tk_params.specs.Params.{Pairs, only, params_of}
@@ -25,6 +45,7 @@ use Rattle.tk_edge.specs.declared.path.Posted.{Posted}
 use Rattle.tk_edge.specs.declared.path.Posted.TheVariants.{Form, Pull, Push}
 use Rattle.tk_edge.specs.declared.refusal.Refusal.TheVariants.{NoHead, ShortBody}
 
+-- the request for an endpoint, with its form and the fields that a decision reads
 abbrev pub request_at : Endpoint → List ℕ → Pairs → RequestFields
 request_at endpoint form pairs = record {
   endpoint = endpoint;
@@ -33,44 +54,53 @@ request_at endpoint form pairs = record {
   subject = only (subject_in pairs);
 }
 
--- what a whole body asks
+-- the meaning of a whole body, by its use
 abbrev pub posted_to : Posted → List ℕ → Pairs → Arrival
 posted_to (Form endpoint) body pairs = arrival.Heard (Asked (request_at endpoint body pairs))
 posted_to Pull body pairs = arrival.Exchange (exchange.Pull body)
 posted_to Push body pairs = arrival.Exchange (exchange.Push body)
 
--- by what was judged of the head: the query of a GET, the body of a POST
+-- the meaning of a head that was judged: the query of a GET, or the body of a POST
 abbrev pub arrival_by : List ℕ → Pairs → List ℕ → Judged → Arrival
 arrival_by target pairs rest (judged.Refused why) = arrival.Heard (Refused why)
-arrival_by target pairs rest (judged.Query endpoint) = arrival.Heard (Asked (request_at endpoint (query_of target) pairs))
+arrival_by target pairs rest (judged.Query endpoint) =
+    arrival.Heard (Asked (request_at endpoint (query_of target) pairs))
 arrival_by target pairs rest judged.Vector = arrival.Exchange exchange.Vector
 arrival_by target pairs rest (judged.Body posted n) =
-    if nat_le n (length rest) then posted_to posted (take n rest) pairs else arrival.Heard (Refused ShortBody)
+    if nat_le n (length rest)
+    then posted_to posted (take n rest) pairs else arrival.Heard (Refused ShortBody)
 
+-- the meaning of a head and the bytes behind it
 abbrev pub arrival_of : Bool → RequestHead → List ℕ → Arrival
 arrival_of sync h rest =
-    arrival_by h.target (map name_and_value h.fields) rest (judged_of sync h.method h.target (map name_and_value h.fields))
+    arrival_by h.target (map name_and_value h.fields) rest
+    (judged_of sync h.method h.target (map name_and_value h.fields))
 
--- where no beginning of the bytes is a head
+-- the meaning of a stream without a head: silence if it is empty, `NoHead` otherwise
 abbrev pub headless : List ℕ → Heard
 headless [] = Silence
 headless (b ∷ bytes) = Refused NoHead
 
--- A stream has one meaning: at most one beginning of it is a head.
+-- The meaning of a stream, by whether regions exchange facts. At most one beginning of a stream is
+-- a head, so that the meaning is unique.
 abbrev pub IsArrival : Bool → List ℕ → Arrival → Type 0
 IsArrival sync bytes came =
-    (((h : RequestHead) → HasHead bytes head_limit field_limit h → ⊥) × (came ≡ arrival.Heard (headless bytes)))
-    ⊎ ((h : RequestHead) × (rest : List ℕ) × ReadsRequest bytes h rest × HasHead bytes head_limit field_limit h
+    (((h : RequestHead) → HasHead bytes head_limit field_limit h → ⊥)
+    × (came ≡ arrival.Heard (headless bytes)))
+    ⊎ ((h : RequestHead) × (rest : List ℕ) × ReadsRequest bytes h rest
+    × HasHead bytes head_limit field_limit h
     × (came ≡ arrival_of sync h rest))
 
--- where regions exchange nothing over it
+-- the meaning of a stream if regions don't exchange facts
 abbrev pub IsHeard : List ℕ → Heard → Type 0
 IsHeard bytes heard = IsArrival false bytes (arrival.Heard heard)
 
--- whatever the bytes, an exchange comes only where regions exchange anything
+-- whatever the bytes are, an exchange arrives only if regions exchange facts
 abbrev pub MayArrive : Bool → Arrival → Type 0
 MayArrive sync (arrival.Heard heard) = ⊤
 MayArrive sync (arrival.Exchange asked) = sync ≡ true
 
+-- what may arrive from a source: the meaning of its bytes, if these are known
 abbrev pub Arrives : Bool → Option (List ℕ) → Arrival → Type 0
-Arrives sync known came = MayArrive sync came × ((bytes : List ℕ) → known ≡ Some bytes → IsArrival sync bytes came)
+Arrives sync known came =
+    MayArrive sync came × ((bytes : List ℕ) → known ≡ Some bytes → IsArrival sync bytes came)

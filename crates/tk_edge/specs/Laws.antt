@@ -1,16 +1,20 @@
--- What holds of streams whatever a program does (RFC 9112, 3 and 6).
---   HasOneMeaning   a stream has one meaning at most
---   HearsAll        where regions exchange nothing, it is heard as anyone's
+-- Laws of streams, whatever a program does (RFC 9112, 3 and 6).
+--   HasOneMeaning   a stream has at most one meaning
+--   HearsAll        no exchange arrives unless regions exchange facts
 use Rattle.std.specs.Prelude.{◌≡◌, ℕ, Bool, false, List}
 use Rattle.tk_edge.specs.Heard.{IsArrival}
 use Rattle.tk_edge.specs.declared.hear.Arrival.{Arrival}
 use Rattle.tk_edge.specs.declared.hear.Arrival.TheVariants as arrival
 use Rattle.tk_edge.specs.declared.hear.Heard.{Heard}
 
--- a stream has one meaning at most
+-- a stream has at most one meaning
 abbrev pub HasOneMeaning : Type 0
-HasOneMeaning = (sync : Bool) (bytes : List ℕ) (a b : Arrival) → IsArrival sync bytes a → IsArrival sync bytes b → a ≡ b
+HasOneMeaning =
+    (sync : Bool) (bytes : List ℕ) (a b : Arrival) → IsArrival sync bytes a → IsArrival sync bytes b
+    → a ≡ b
 
--- no path leads to an exchange where regions exchange nothing
+-- no exchange arrives unless regions exchange facts
 abbrev pub HearsAll : Type 0
-HearsAll = (bytes : List ℕ) (came : Arrival) → IsArrival false bytes came → (heard : Heard) × (came ≡ arrival.Heard heard)
+HearsAll =
+    (bytes : List ℕ) (came : Arrival) → IsArrival false bytes came
+    → (heard : Heard) × (came ≡ arrival.Heard heard)

@@ -1,30 +1,60 @@
--- The paths that are served, and what each serves under a method (RFC 6749, 3.1 and 3.2; RFC 7662, 2; RFC 7009, 2; the
--- paths of administration, and those by which regions exchange facts, are own).
---   path_of, query_of   a target's parts before and behind its first `?` (RFC 9112, 3.2.1)
---   path_named          what is served under a path, byte for byte; sync_named, where regions exchange facts
---   method_named        a method by its name, which is told in this case alone (RFC 9110, 9.1)
---   service_at          what a path serves under a method
---   allowed_at          the methods of a path, as `Allow` names them (RFC 9110, 10.2.1)
-use Rattle.std.specs.Prelude.{ℕ, ◌+◌, ◌==◌, Bool, List, take, drop, Option, None, Some, codes, if◌then◌else◌}
+-- The paths that tokend serves, and what each serves under a method (RFC 6749, 3.1 and 3.2; RFC
+-- 7662, 2; RFC 7009, 2; the paths of administration and of exchanges between regions are own).
+--   path_of        the part of a target before its first `?` (RFC 9112, 3.2.1)
+--   query_of       the part of a target behind its first `?`
+--   path_named     the path of a name, byte for byte
+--   sync_named     the path of a name among those by which regions exchange facts
+--   method_named   the method of a name, which is case-sensitive (RFC 9110, 9.1)
+--   service_at     what a path serves under a method
+--   allowed_at     the methods of a path, as `Allow` names them (RFC 9110, 10.2.1)
+use Rattle.std.specs.Prelude.{
+  ℕ,
+  ◌+◌,
+  ◌==◌,
+  Bool,
+  List,
+  take,
+  drop,
+  Option,
+  None,
+  Some,
+  codes,
+  if◌then◌else◌,
+}
 use Rattle.std.specs.List.{position_or_len}
 use Rattle.std.specs.Str.{bytes_eq}
 use Rattle.tk_message.specs.declared.request.Endpoint.{Endpoint}
 use Rattle.tk_message.specs.declared.request.Endpoint.TheVariants as endpoint
 use Rattle.tk_edge.specs.declared.path.Path.{Path}
-use Rattle.tk_edge.specs.declared.path.Path.TheVariants.{Authorize, Token, Introspect, Revoke, Client, Retire, Consent, Withdraw, SignOut, Vector, Pull, Push}
+use Rattle.tk_edge.specs.declared.path.Path.TheVariants.{
+  Authorize,
+  Token,
+  Introspect,
+  Revoke,
+  Client,
+  Retire,
+  Consent,
+  Withdraw,
+  SignOut,
+  Vector,
+  Pull,
+  Push,
+}
 use Rattle.tk_edge.specs.declared.path.Method.{Method}
 use Rattle.tk_edge.specs.declared.path.Method.TheVariants.{Get, Post}
 use Rattle.tk_edge.specs.declared.path.Posted.TheVariants as posted
 use Rattle.tk_edge.specs.declared.path.Service.{Service}
 use Rattle.tk_edge.specs.declared.path.Service.TheVariants as service
 
+-- the part of a target before its first `?`, which has the code 63
 abbrev pub path_of : List ℕ → List ℕ
 path_of target = take (position_or_len (λ b. b == 63) target) target
 
+-- the part of a target behind its first `?`
 abbrev pub query_of : List ℕ → List ℕ
 query_of target = drop (position_or_len (λ b. b == 63) target + 1) target
 
--- by which regions exchange facts
+-- the path of a name among those by which regions exchange facts
 abbrev pub sync_named : List ℕ → Option Path
 sync_named path =
     if bytes_eq path (codes "/sync/vector") then Some Vector
@@ -32,7 +62,7 @@ sync_named path =
     else if bytes_eq path (codes "/sync/push") then Some Push
     else None
 
--- these are served where they exchange any
+-- the path of a name, by whether regions exchange facts
 abbrev pub path_named : Bool → List ℕ → Option Path
 path_named sync path =
     if bytes_eq path (codes "/authorize") then Some Authorize
@@ -47,24 +77,25 @@ path_named sync path =
     else if sync then sync_named path
     else None
 
+-- the method of a name, GET or POST alone
 abbrev pub method_named : List ℕ → Option Method
 method_named name =
     if bytes_eq name (codes "GET") then Some Get
     else if bytes_eq name (codes "POST") then Some Post
     else None
 
--- what is asked without a body
+-- what a path serves under GET
 abbrev pub get_service : Path → Option Service
 get_service Authorize = Some (service.Query endpoint.Authorize)
 get_service Client = Some (service.Query endpoint.ShowClient)
 get_service Vector = Some service.Vector
 get_service path = None
 
--- what a form is for
+-- the service whose body is a form for this endpoint
 abbrev pub form_for : Endpoint → Option Service
 form_for e = Some (service.Body (posted.Form e))
 
--- what a body is for
+-- what a path serves under POST
 abbrev pub post_service : Path → Option Service
 post_service Authorize = None
 post_service Token = form_for endpoint.Token
@@ -79,12 +110,13 @@ post_service Vector = None
 post_service Pull = Some (service.Body posted.Pull)
 post_service Push = Some (service.Body posted.Push)
 
--- another method than these two has none
+-- what a path serves under a method; methods other than GET and POST are `None`
 abbrev pub service_at : Path → Option Method → Option Service
 service_at path None = None
 service_at path (Some Get) = get_service path
 service_at path (Some Post) = post_service path
 
+-- the methods of a path, as `Allow` names them
 abbrev pub allowed_at : Path → List ℕ
 allowed_at Authorize = codes "GET"
 allowed_at Client = codes "GET, POST"

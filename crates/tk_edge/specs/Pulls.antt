@@ -1,5 +1,5 @@
--- What a pull asks for, in bytes (own): a cursor, and behind it the vector of who asks.
---   cursor   the dot above which the page begins, or none
+-- The format of a pull (own): a cursor, then the vector of what the puller holds.
+--   cursor   the dot above which the page begins, or the beginning
 --   wanted   a cursor and a vector
 use Rattle.std.specs.Prelude.{ℕ, ◌&&◌, ◌==◌, Option, Some, None, if◌then◌else◌}
 use Rattle.std.specs.Int.{w16, w64}
@@ -9,20 +9,23 @@ use Rattle.tk_handle.specs.Ranges.{is_region, is_serial}
 use Rattle.tk_vector.specs.VectorBytes.{vector}
 use Rattle.tk_edge.specs.declared.pull.Wanted.{Wanted}
 
--- two zeros are no dot, and other numbers are one where they are in range
+-- the cursor of two numbers: two zeros are the beginning, other numbers a dot if they are in range
 abbrev pub cursor_at : ℕ × ℕ → Option (Option Dot)
 cursor_at p =
     if (p.0 == 0) && (p.1 == 0) then Some None
     else if is_region p.0 && is_serial p.1 then Some (Some (record { region = p.0; serial = p.1 }))
     else None
 
+-- the two numbers of a cursor
 abbrev pub numbers_of : Option Dot → ℕ × ℕ
 numbers_of None = (0, 0)
 numbers_of (Some d) = (d.region, d.serial)
 
--- the region's number in two bytes, and the serial in eight
+-- the format of a cursor: the region's number in two bytes, then the serial in eight
 abbrev pub cursor : Format (Option Dot)
 cursor = partly cursor_at numbers_of (number w16 ⊗ number w64)
 
+-- the format of a pull: a cursor, then a vector
 abbrev pub wanted : Format Wanted
-wanted = shaped (λ p. record { after = p.0; vector = p.1 }) (λ w. (w.after, w.vector)) (cursor ⊗ vector)
+wanted =
+    shaped (λ p. record { after = p.0; vector = p.1 }) (λ w. (w.after, w.vector)) (cursor ⊗ vector)

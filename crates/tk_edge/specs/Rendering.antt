@@ -1,14 +1,42 @@
--- The bytes of a reply (RFC 9112, 4; RFC 9110, 15 for the reasons; RFC 6749, 5.1 for what may not be stored, 5.2 for the challenge).
+-- The bytes of a reply (RFC 9112, 4; RFC 9110, 15 for the reasons; RFC 6749, 5.1 for what may not
+-- be stored, 5.2 for the challenge).
 --   reason_of     the reason phrase of a status
---   body_of       the bytes that a reply carries
+--   body_of       the bytes of a reply's body
 --   reply_bytes   the whole reply, with the methods allowed, if it names them
-use Rattle.std.specs.Prelude.{ℕ, Bool, true, false, List, [], ◌∷◌, length, codes, decimal, Option, Some, None}
+use Rattle.std.specs.Prelude.{
+  ℕ,
+  Bool,
+  true,
+  false,
+  List,
+  [],
+  ◌∷◌,
+  length,
+  codes,
+  decimal,
+  Option,
+  Some,
+  None,
+}
 use Rattle.std.specs.List.{concat}
 use Rattle.tk_message.specs.ReplyFields.{ReplyFields, Content, Nothing, JsonText, OtherBytes}
 use Rattle.tk_message.specs.Status.{status_number}
 use Rattle.tk_message.specs.declared.status.Status.{Status}
-use Rattle.tk_message.specs.declared.status.Status.TheVariants.{Ok, Created, Found, BadRequest, Unauthorized, NotFound, MethodNotAllowed, Conflict, LengthRequired, ContentTooLarge, ServiceUnavailable}
+use Rattle.tk_message.specs.declared.status.Status.TheVariants.{
+  Ok,
+  Created,
+  Found,
+  BadRequest,
+  Unauthorized,
+  NotFound,
+  MethodNotAllowed,
+  Conflict,
+  LengthRequired,
+  ContentTooLarge,
+  ServiceUnavailable,
+}
 
+-- the reason phrase of a status
 abbrev pub reason_of : Status → List ℕ
 reason_of Ok = codes "OK"
 reason_of Created = codes "Created"
@@ -22,41 +50,46 @@ reason_of LengthRequired = codes "Length Required"
 reason_of ContentTooLarge = codes "Content Too Large"
 reason_of ServiceUnavailable = codes "Service Unavailable"
 
+-- the bytes of a reply's body
 abbrev pub body_of : Content → List ℕ
 body_of Nothing = []
 body_of (JsonText bytes) = bytes
 body_of (OtherBytes bytes) = bytes
 
--- a line, which an empty body lacks
+-- a line that is left out if the body is empty
 abbrev pub where_any : List ℕ → List ℕ → List ℕ
 where_any [] line = []
 where_any (b ∷ body) line = line
 
--- the line of the body's type
+-- the line of Content-Type, by the kind of body
 abbrev pub type_line : Content → List ℕ
 type_line Nothing = []
 type_line (JsonText bytes) = where_any bytes (codes "Content-Type: application/json\r\n")
 type_line (OtherBytes bytes) = where_any bytes (codes "Content-Type: application/octet-stream\r\n")
 
--- where credentials are asked for
+-- the line of the challenge, if the reply asks for credentials
 abbrev pub challenge_line : Bool → List ℕ
 challenge_line true = codes "WWW-Authenticate: Basic realm=\"tokend\"\r\n"
 challenge_line false = []
 
--- a field, where it has a value
+-- the line of a field, if the field has a value
 abbrev pub field_line : List ℕ → Option (List ℕ) → List ℕ
 field_line name None = []
 field_line name (Some value) = concat (name ∷ value ∷ codes "\r\n" ∷ [])
 
--- the parts of a reply in their order
+-- the parts of a reply, joined in their order
 abbrev pub assembly : List ℕ → List ℕ → List ℕ → List ℕ → List ℕ → List ℕ → List ℕ → List ℕ → List ℕ
 assembly number reason type_of_body len challenge location allow body = concat (
-    codes "HTTP/1.1 " ∷ number ∷ codes " " ∷ reason ∷ codes "\r\n" ∷ type_of_body ∷ codes "Content-Length: " ∷ len
+    codes "HTTP/1.1 " ∷ number ∷ codes " " ∷ reason ∷ codes "\r\n" ∷ type_of_body
+    ∷ codes "Content-Length: " ∷ len
     ∷ codes "\r\nCache-Control: no-store\r\nPragma: no-cache\r\nConnection: close\r\n"
     ∷ challenge ∷ location ∷ allow ∷ codes "\r\n" ∷ body ∷ [])
 
+-- the whole reply, with the methods allowed, if it names them
 abbrev pub reply_bytes : ReplyFields → Option (List ℕ) → List ℕ
 reply_bytes reply allowed =
     let body = body_of reply.content in
-    assembly (decimal (status_number reply.status)) (reason_of reply.status) (type_line reply.content) (decimal (length body))
-    (challenge_line reply.www) (field_line (codes "Location: ") reply.location) (field_line (codes "Allow: ") allowed) body
+    assembly (decimal (status_number reply.status)) (reason_of reply.status)
+    (type_line reply.content) (decimal (length body))
+    (challenge_line reply.www) (field_line (codes "Location: ") reply.location)
+    (field_line (codes "Allow: ") allowed) body

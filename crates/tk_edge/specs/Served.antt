@@ -1,7 +1,9 @@
--- One connection is one step, and the log comes first (own).
---   IsServed       what a connection to an edge that isn't sealed does, by what it ends with
---   IsTurnedAway   what one to a sealed edge does
---   IsReadFault    the one device that may be at fault while a request is read
+-- One connection is one step, and the log is written before the reply (own).
+--   IsServed       what a connection to an edge that isn't sealed does, by its result
+--   IsTurnedAway   what a connection to a sealed edge does
+--   IsReadFault    the only device that may be at fault while a request is read
+-- Throughout, `still` is the statement that the log is as it was before, because no call reached
+-- it.
 use Rattle.std.specs.Prelude.{◌≡◌, ◌≢◌, ℕ, ⊤, Bool, false, List, [], Option, Some, Result, Ok, Err}
 use Rattle.std.specs.declared.alloc.AllocError.{AllocError}
 use Rattle.std.specs.Io.KnownBytes.{Appends, Keeps}
@@ -11,7 +13,7 @@ use Rattle.tk_edge.specs.Answers.{refused_by}
 use Rattle.tk_edge.specs.Arrivals.{AnswersArrival, IsShort}
 use Rattle.tk_edge.specs.Failures.{Rose}
 use Rattle.tk_edge.specs.Heard.{Arrives}
-use Rattle.tk_edge.specs.Told.{AnswerFields, AppendsFront, Change, IsTold}
+use Rattle.tk_edge.specs.Told.{AnswerFields, AppendsFront, Change, IsTold, UsesLog}
 use Rattle.tk_edge.specs.declared.edge.Served.{Served}
 use Rattle.tk_edge.specs.declared.edge.Served.TheVariants.{Nothing, Done}
 use Rattle.tk_edge.specs.declared.hear.Arrival.{Arrival}
@@ -21,65 +23,88 @@ use Rattle.tk_edge.specs.declared.refusal.Refusal.TheVariants.{Sealed}
 use Rattle.tk_edge.specs.declared.tell.Fault.{Fault}
 use Rattle.tk_edge.specs.declared.tell.Fault.TheVariants.{Read, Write, Log, Memory}
 
--- a connection: whether regions exchange facts over it, its bytes, if they are known, and what comes with them
+-- a connection: whether regions exchange facts, its bytes, if known, the moment, and the random
+-- words
 pub record Asked : Type 0 where
   pub sync : Bool
   pub known : Option (List ℕ)
   pub now : ℕ
   pub words : List ℕ
 
--- a region before a step, and after it
+-- a region before a step and after it
 pub record Step : Type 0 where
   pub before : RegionFields
   pub after : RegionFields
 
--- nothing was written, and the edge isn't sealed
-abbrev pub WritesNothing : Change → Change → Bool → Type 0
-WritesNothing log writer sealed = Keeps log.before log.after × Keeps writer.before writer.after × (sealed ≡ false)
+-- nothing was written, no call reached the log, and the edge isn't sealed
+abbrev pub WritesNothing : Change → Type 0 → Change → Bool → Type 0
+WritesNothing log still writer sealed =
+    Keeps log.before log.after × Keeps writer.before writer.after × (sealed ≡ false) × still
 
--- and nothing has changed
-abbrev pub IsUntouched : Step → Change → Change → Bool → Type 0
-IsUntouched region log writer sealed = (region.after ≡ region.before) × WritesNothing log writer sealed
+-- the region is unchanged and nothing was written
+abbrev pub IsUntouched : Step → Change → Type 0 → Change → Bool → Type 0
+IsUntouched region log still writer sealed =
+    (region.after ≡ region.before) × WritesNothing log still writer sealed
 
--- what arrived is answered at the moment and with the words: its facts are in, and the answer was told
-abbrev pub AnswersAndTells : ℕ → List ℕ → Arrival → Step → Change → Change → Bool → Result Status Fault → Type 0
-AnswersAndTells now words came region log writer sealed result =
-    (answer : AnswerFields) × AnswersArrival region.before now words came (Ok answer) region.after × IsTold answer log writer sealed result
+-- the arrival is answered at the moment and with the random words: its facts are added, and the
+-- record and the reply are written
+abbrev pub AnswersAndTells : ℕ → List ℕ → Arrival → Step → Change → Type 0 → Change → Bool
+    → Result Status Fault → Type 0
+AnswersAndTells now words came region log still writer sealed result =
+    (answer : AnswerFields) × AnswersArrival region.before now words came (Ok answer) region.after
+    × IsTold answer log writer sealed result × UsesLog answer still result
 
--- unless memory was refused
-abbrev pub Replies : ℕ → List ℕ → Arrival → Step → Change → Change → Bool → Result Status Fault → Type 0
-Replies now words came region log writer sealed (Ok status) = AnswersAndTells now words came region log writer sealed (Ok status)
-Replies now words came region log writer sealed (Err Read) = ⊥
-Replies now words came region log writer sealed (Err Write) = AnswersAndTells now words came region log writer sealed (Err Write)
-Replies now words came region log writer sealed (Err Log) = AnswersAndTells now words came region log writer sealed (Err Log)
-Replies now words came region log writer sealed (Err Memory) =
-    (e : AllocError) × AnswersArrival region.before now words came (Err e) region.after × WritesNothing log writer sealed
+-- how serving an arrival may end; if memory runs out, nothing is written
+abbrev pub Replies : ℕ → List ℕ → Arrival → Step → Change → Type 0 → Change → Bool
+    → Result Status Fault → Type 0
+Replies now words came region log still writer sealed (Ok status) =
+    AnswersAndTells now words came region log still writer sealed (Ok status)
+Replies now words came region log still writer sealed (Err Read) = ⊥
+Replies now words came region log still writer sealed (Err Write) =
+    AnswersAndTells now words came region log still writer sealed (Err Write)
+Replies now words came region log still writer sealed (Err Log) =
+    AnswersAndTells now words came region log still writer sealed (Err Log)
+Replies now words came region log still writer sealed (Err Memory) =
+    (e : AllocError) × AnswersArrival region.before now words came (Err e) region.after
+    × WritesNothing log still writer sealed
 
--- what the source's bytes mean is answered so
-abbrev pub IsAnswered : Asked → Step → Change → Change → Bool → Result Status Fault → Type 0
-IsAnswered asked region log writer sealed result =
+-- some arrival that the source may send, which isn't silence, is answered and the reply is written
+abbrev pub IsAnswered : Asked → Step → Change → Type 0 → Change → Bool → Result Status Fault
+    → Type 0
+IsAnswered asked region log still writer sealed result =
     (came : Arrival) × Arrives asked.sync asked.known came × (came ≢ Heard Silence)
-    × AnswersAndTells asked.now asked.words came region log writer sealed result
+    × AnswersAndTells asked.now asked.words came region log still writer sealed result
 
-abbrev pub IsServed : Asked → Step → Change → Change → Bool → Result Served Fault → Type 0
-IsServed asked region log writer sealed (Ok (Done status)) = IsAnswered asked region log writer sealed (Ok status)
-IsServed asked region log writer sealed (Ok Nothing) =
-    ((bytes : List ℕ) → asked.known ≡ Some bytes → bytes ≡ []) × IsUntouched region log writer sealed
-IsServed asked region log writer sealed (Err Log) = IsAnswered asked region log writer sealed (Err Log)
-IsServed asked region log writer sealed (Err Write) = IsAnswered asked region log writer sealed (Err Write)
-IsServed asked region log writer sealed (Err Read) = IsUntouched region log writer sealed
-IsServed asked region log writer sealed (Err Memory) =
-    IsShort asked.sync asked.known region.before region.after × WritesNothing log writer sealed
+-- what a connection to an edge that isn't sealed does, by its result
+abbrev pub IsServed : Asked → Step → Change → Type 0 → Change → Bool → Result Served Fault → Type 0
+IsServed asked region log still writer sealed (Ok (Done status)) =
+    IsAnswered asked region log still writer sealed (Ok status)
+IsServed asked region log still writer sealed (Ok Nothing) =
+    ((bytes : List ℕ) → asked.known ≡ Some bytes → bytes ≡ [])
+    × IsUntouched region log still writer sealed
+IsServed asked region log still writer sealed (Err Log) =
+    IsAnswered asked region log still writer sealed (Err Log)
+IsServed asked region log still writer sealed (Err Write) =
+    IsAnswered asked region log still writer sealed (Err Write)
+IsServed asked region log still writer sealed (Err Read) =
+    IsUntouched region log still writer sealed
+IsServed asked region log still writer sealed (Err Memory) =
+    IsShort asked.sync asked.known region.before region.after
+    × WritesNothing log still writer sealed
 
--- the reply is that of `Sealed`, whoever asks for what
+-- what a connection to a sealed edge does: the reply is that of `Sealed`, whatever the request
 abbrev pub IsTurnedAway : Change → Result Served Fault → Type 0
-IsTurnedAway writer (Ok (Done status)) = (status ≡ (refused_by Sealed).status) × Appends writer.before writer.after (refused_by Sealed).bytes
+IsTurnedAway writer (Ok (Done status)) =
+    (status ≡ (refused_by Sealed).status)
+    × Appends writer.before writer.after (refused_by Sealed).bytes
 IsTurnedAway writer (Ok Nothing) = ⊥
 IsTurnedAway writer (Err Write) = AppendsFront writer.before writer.after (refused_by Sealed).bytes
 IsTurnedAway writer (Err Memory) = Keeps writer.before writer.after
 IsTurnedAway writer (Err Read) = ⊥
 IsTurnedAway writer (Err Log) = ⊥
 
+-- the source failed in this call if a read fault is returned; the faults of log and client are
+-- never returned
 abbrev pub IsReadFault : {A : Type 0} → Result A Fault → ℕ → ℕ → Type 0
 IsReadFault (Ok a) old new = ⊤
 IsReadFault (Err Read) old new = Rose old new

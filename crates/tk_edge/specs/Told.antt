@@ -1,24 +1,45 @@
 -- What one connection writes to the log and to its client, in this order (own).
---   AppendsFront     a device holds the beginning of some bytes more
---   Change           what a device held before a call, and after it
+--   AppendsFront     a device gained a beginning of some bytes
+--   Change           what a device held before a call and after it
 --   AnswerFields     what contracts see of an answer
 --   IsTold           the record and then the reply were written
---   IsFaultOfDevice  each fault comes only where its device failed
-use Rattle.std.specs.Prelude.{◌≡◌, ℕ, ◌≤◌, Bool, true, false, List, [], length, take, Option, Some, None, Result, Ok, Err}
+--   UsesLog          the log is called only for a record
+--   IsFaultOfDevice  each fault is returned only if its device failed
+use Rattle.std.specs.Prelude.{
+  ◌≡◌,
+  ℕ,
+  ◌≤◌,
+  Bool,
+  true,
+  false,
+  List,
+  [],
+  length,
+  take,
+  Option,
+  Some,
+  None,
+  IsSome,
+  Result,
+  Ok,
+  Err,
+}
 use Rattle.std.specs.Io.KnownBytes.{Appends, Keeps}
 use Rattle.tk_message.specs.declared.status.Status.{Status}
 use Rattle.tk_edge.specs.Failures.{Rose}
 use Rattle.tk_edge.specs.declared.tell.Fault.{Fault}
 use Rattle.tk_edge.specs.declared.tell.Fault.TheVariants.{Read, Write, Log, Memory}
 
+-- a device gained a beginning of the bytes, or all of them
 abbrev pub AppendsFront : Option (List ℕ) → Option (List ℕ) → List ℕ → Type 0
 AppendsFront old new bytes = (n : ℕ) × (n ≤ length bytes) × Appends old new (take n bytes)
 
+-- what a device held before a call and after it
 pub record Change : Type 0 where
   pub before : Option (List ℕ)
   pub after : Option (List ℕ)
 
--- the reply's status and bytes, and the record of the fact made, if any
+-- an answer: the reply's status and bytes, and the record of the fact made, if any
 pub record AnswerFields : Type 0 where
   pub status : Status
   pub bytes : List ℕ
@@ -29,20 +50,31 @@ abbrev pub record_in : Option (List ℕ) → List ℕ
 record_in None = []
 record_in (Some bytes) = bytes
 
--- The record was written and then the reply, and the edge isn't sealed. Where the log failed, a beginning of the record was
--- written and nothing of the reply, and the edge is sealed; where the client's side did, the record and a beginning of the reply.
+-- Success: the record and then the reply were written, and the edge isn't sealed. Log fault: the
+-- log has a beginning of the record, the client nothing, and the edge is sealed. Write fault: the
+-- log has the record, the client a beginning of the reply.
 abbrev pub IsTold : AnswerFields → Change → Change → Bool → Result Status Fault → Type 0
 IsTold answer log writer sealed (Ok status) =
     (status ≡ answer.status) × Appends log.before log.after (record_in answer.logged)
     × Appends writer.before writer.after answer.bytes × (sealed ≡ false)
 IsTold answer log writer sealed (Err Log) =
-    AppendsFront log.before log.after (record_in answer.logged) × Keeps writer.before writer.after × (sealed ≡ true)
+    AppendsFront log.before log.after (record_in answer.logged) × Keeps writer.before writer.after
+    × (sealed ≡ true)
 IsTold answer log writer sealed (Err Write) =
     Appends log.before log.after (record_in answer.logged)
     × AppendsFront writer.before writer.after answer.bytes × (sealed ≡ false)
 IsTold answer log writer sealed (Err Read) = ⊥
 IsTold answer log writer sealed (Err Memory) = ⊥
 
-pub record IsFaultOfDevice (result : Result Status Fault) (log_old log_new writer_old writer_new : ℕ) : Type 0 where
+-- The log is called only for a record. Without a record the whole device is as it was, which
+-- `still` states, and no log fault is returned.
+pub record UsesLog (answer : AnswerFields) (still : Type 0)
+    (result : Result Status Fault) : Type 0 where
+  pub unused : answer.logged ≡ None → still
+  pub fault : result ≡ Err Log → IsSome answer.logged
+
+-- each fault is returned only if its device failed
+pub record IsFaultOfDevice (result : Result Status Fault)
+    (log_old log_new writer_old writer_new : ℕ) : Type 0 where
   pub log : result ≡ Err Log → Rose log_old log_new
   pub writer : result ≡ Err Write → Rose writer_old writer_new

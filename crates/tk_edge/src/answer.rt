@@ -1,16 +1,20 @@
-//! What is answered, and the fact that is added before it goes out.
+//! Replies to what arrives over a connection, and adds the fact before the reply goes out.
+//!
+//! `Answer` is the reply in bytes with the record of its fact. `answer_arrival` makes it.
 
 use std::marker::Model;
 use tk_message::Status;
 
-/// A reply as bytes, with the record of the fact that was made for it. Contracts see the bytes that its parts hold.
+/// A reply in bytes, with the record of the fact that was made for it.
+///
+/// Contracts see the status and the bytes of its parts.
 #[derive(Drop)]
 pub struct Answer {
-    /// The status of the reply.
+    /// The reply's status.
     pub status: Status,
     /// The whole reply: head and body.
     pub bytes: Vec<u8>,
-    /// The record of the fact, the bundle of it alone; None where the request made none.
+    /// The fact's record: the bundle of that fact alone. `None` if the request made no fact.
     pub logged: Option<Vec<u8>>,
 }
 
@@ -20,7 +24,11 @@ impl Model for Answer {
 
     ghost Value = { AnswerFields };
 
-    ghost view = { λ a. record { status = a.status; bytes = a.bytes.items; logged = option_map (λ v. v.items) a.logged } };
+    ghost view = { λ a. record {
+      status = a.status;
+      bytes = a.bytes.items;
+      logged = option_map (λ v. v.items) a.logged;
+    } };
 }
 
 ghost use Rattle.std.specs.Prelude.{◌≡◌, IfOk, IfSome, None};
@@ -37,7 +45,7 @@ use tk_handle::Moment;
 use tk_message::{Reply, Request, error_reply};
 use tk_region::{Handled, Prepared, Region};
 
-// Answers what arrived, at the moment and with the six words.
+// Replies to an arrival. `now` is the current moment, `words` the random words for new handles.
 pub(crate) fn answer_arrival(
     alloc: Global,
     region: &mut Region,
@@ -53,7 +61,7 @@ pub(crate) fn answer_arrival(
     }
 }
 
-// Answers what was heard. Where memory is refused nothing has changed.
+// Replies to what anyone may send. The region is unchanged when memory runs out.
 fn answer_heard(
     alloc: Global,
     region: &mut Region,
@@ -70,6 +78,7 @@ fn answer_heard(
     }
 }
 
+// Returns the empty reply to an empty stream: status 400 and no bytes.
 fn silent(alloc: Global) -> Answer
     ensures { result ≡ spec.silent }
 {
@@ -80,7 +89,7 @@ fn silent(alloc: Global) -> Answer
     }
 }
 
-// The answer to what isn't handed to the region.
+// Returns the reply to a request that the region doesn't see.
 pub(crate) fn refuse(alloc: Global, why: Refusal) -> Result<Answer, AllocError>
     ensures { IfOk result (λ answer. answer ≡ spec.refused_by why) }
 {
@@ -108,10 +117,11 @@ fn answer_request(
     send(alloc, region, prepared)
 }
 
-// Renders and only then adds the fact: where memory is refused, no fact is without its reply.
+// Renders the reply, then adds the fact. No fact is added if memory runs out for its reply.
 fn send(alloc: Global, region: &mut Region, prepared: Prepared) -> Result<Answer, AllocError>
     requires { IfSome prepared.fact (IsNextFact region.old) }
-    ensures { spec.AnswersBy region.old (spec.rendered prepared.reply None prepared.logged) prepared.fact result region.new }
+    ensures { spec.AnswersBy region.old (spec.rendered prepared.reply None prepared.logged)
+        prepared.fact result region.new }
 {
     match render(alloc, &prepared.reply, None) {
         Ok(bytes) => commit(region, prepared, bytes),
@@ -122,10 +132,12 @@ fn send(alloc: Global, region: &mut Region, prepared: Prepared) -> Result<Answer
     }
 }
 
-// Adds the fact, whose reply has these bytes.
+// Adds the fact of a rendered reply. `bytes` is that reply.
 fn commit(region: &mut Region, prepared: Prepared, bytes: Vec<u8>) -> Result<Answer, AllocError>
     requires { IfSome prepared.fact (IsNextFact region.old) }
-    ensures { spec.AnswersBy region.old (spec.told_by prepared.reply.status bytes.items prepared.logged) prepared.fact result region.new }
+    ensures { spec.AnswersBy region.old
+        (spec.told_by prepared.reply.status bytes.items prepared.logged) prepared.fact result
+        region.new }
 {
     let Ok(handled) = region.commit(prepared) else {
         return Err(AllocError);
@@ -133,6 +145,7 @@ fn commit(region: &mut Region, prepared: Prepared, bytes: Vec<u8>) -> Result<Ans
     Ok(told_by(handled, bytes))
 }
 
+// Joins the bytes of a reply with the record of its fact.
 fn told_by(handled: Handled, bytes: Vec<u8>) -> Answer
     ensures { result ≡ spec.told_by handled.reply.status bytes.items handled.logged }
 {
@@ -144,7 +157,7 @@ fn told_by(handled: Handled, bytes: Vec<u8>) -> Answer
     }
 }
 
-// A reply that no fact was made for.
+// Returns the answer to a request that makes no fact.
 pub(crate) fn answer_with(alloc: Global, reply: &Reply) -> Result<Answer, AllocError>
     ensures { IfOk result (λ answer. answer ≡ spec.rendered reply.now None None) }
 {

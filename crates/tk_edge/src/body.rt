@@ -1,13 +1,14 @@
-//! The body of a request, behind a head that may have brought some of it.
+//! Reads the body of a request. The head before it may have brought some of the body.
 
 ghost use Rattle.std.specs.Prelude.{◌≡◌, ℕ, ◌≤◌, ◌++◌, List, length, take, Some, IfOk};
+ghost use Rattle.tk_edge.specs.Bounds.{TakesAtMost};
 ghost use Rattle.tk_edge.specs.Failures.{CountsFailure};
 
 use crate::device::{Failed, Source};
 use crate::head::take_more;
 
-// Fills the body from the bytes that came with the head, and then from the source. Answers how many bytes there were: fewer
-// than the body has room for, where the stream ended first.
+// Fills the body, first from the bytes that came with the head, then from the source.
+// Returns how many bytes there were: fewer than `body` has room for if the stream ended early.
 pub(crate) fn read_body<S: Source>(
     source: &mut S,
     front: &[u8],
@@ -17,6 +18,7 @@ pub(crate) fn read_body<S: Source>(
     ensures room { length body.new ≡ length body.old }
     ensures taken { IfOk result (λ n. (rest : List ℕ) → S.coming source.old ≡ Some rest
         → take n body.new ≡ take (length body.old) (front.now ++ rest)) }
+    ensures most { TakesAtMost (length body.new) (S.coming source.old) (S.coming source.new) }
     ensures failures { CountsFailure result (S.failed source.old) (S.failed source.new) }
 {
     let size = body.len();

@@ -1,4 +1,4 @@
-//! The devices of std's readers and writers.
+//! Devices made of std's readers and writers: `Counted` wraps one and counts its failures.
 
 ghost use Rattle.std.specs.Prelude.{◌≡◌};
 
@@ -8,14 +8,14 @@ use std::io::{Read, Write};
 /// A reader or a writer, with a count of its failures.
 #[derive(Drop)]
 pub struct Counted<T> {
-    /// What is read from or written to.
+    /// The wrapped reader or writer.
     pub inner: T,
-    /// How many calls have failed. At the greatest `u64` it stays.
+    /// How many calls have failed. The count saturates at `u64::MAX`.
     pub failures: u64,
 }
 
 impl<T> Counted<T> {
-    /// One that hasn't failed.
+    /// Returns a device without failures so far.
     pub fn new(inner: T) -> Counted<T>
         ensures inner { result.inner ≡ inner }
         ensures none { result.failures ≡ 0 }
@@ -44,7 +44,7 @@ impl<R: Read> Source for Counted<R> {
     }
 }
 
-/// A write of nothing, where there is something to write, is a failure too.
+/// Counts a write that takes no byte of a non-empty piece as a failure.
 impl<W: Write> Sink for Counted<W> {
     ghost holds = { λ s. W.contents s.inner };
 

@@ -1,10 +1,14 @@
-//! An edge: a region behind its connections.
+//! The edge: a region behind its connections.
+//!
+//! `Edge::answer` takes a request as bytes, `Edge::serve_one` serves a connection over devices.
 
 use std::marker::Model;
 use tk_region::Region;
 
-/// A region behind its connections. Other regions may exchange facts over it or not. It is sealed once its log has failed,
-/// since what it would then answer might be lost. Contracts see the region, whether facts are exchanged, and whether it is sealed.
+/// A region behind its connections, over which other regions may exchange facts.
+///
+/// An edge is sealed once its log has failed, because facts that it made later might be lost.
+/// Contracts see the region, whether regions exchange facts, and whether the edge is sealed.
 #[derive(Drop)]
 pub struct Edge {
     region: Region,
@@ -22,21 +26,37 @@ impl Model for Edge {
     ghost view = { λ e. record { region = e.region; sync = e.sync; sealed = e.sealed } };
 }
 
-/// How a connection was served.
+/// How a connection ended without a fault.
 #[derive(Clone, Copy, PartialEq, Eq)]
 pub enum Served {
     /// The stream ended before its first byte. Nothing was written.
     Nothing,
-    /// The reply of this status was written.
+    /// The reply with this status was written.
     Done(Status),
 }
 
-ghost use Rattle.std.specs.Prelude.{◌≡◌, ◌≢◌, ℕ, Bool, true, false, List, length, Option, Some, Err, IfOk, OnOk, OnErr};
+ghost use Rattle.std.specs.Prelude.{
+  ◌≡◌,
+  ◌≢◌,
+  ℕ,
+  Bool,
+  true,
+  false,
+  List,
+  length,
+  Option,
+  Some,
+  Err,
+  IfOk,
+  OnOk,
+  OnErr,
+};
 ghost use Rattle.std.specs.Borrow.{Lends, sem};
 ghost use Rattle.tk_region.specs.contracts.region.Region.{the_row as region_row};
 ghost use Rattle.tk_edge.specs.contracts.edge.Edge.{the_row as edge_row};
 ghost use Rattle.tk_edge.specs.Answers.{refused_by};
 ghost use Rattle.tk_edge.specs.Arrivals.{AnswersArrival, IsShort};
+ghost use Rattle.tk_edge.specs.Bounds.{TakesAtMost, request_limit};
 ghost use Rattle.tk_edge.specs.Failures.{Rose};
 ghost use Rattle.tk_edge.specs.Told.{IsFaultOfDevice};
 ghost use Rattle.tk_edge.specs.Heard.{Arrives, IsArrival, MayArrive};
@@ -56,8 +76,10 @@ use tk_handle::Moment;
 use tk_message::Status;
 
 impl Edge {
-    /// The region, whose log has not failed. Where `sync` is true, other regions ask for its vector and for pages of what they
-    /// lack, and send bundles, over the paths below `/sync/`; else nothing is served there.
+    /// Returns an edge that isn't sealed, over this region.
+    ///
+    /// If `sync` is true, the paths below `/sync/` let other regions ask for the region's vector,
+    /// pull pages of what they lack and push bundles. If `sync` is false, these paths are unknown.
     pub fn new(region: Region, sync: bool) -> Edge
         ensures { result ≡ record { region = region; sync = sync; sealed = false } }
     {
@@ -68,32 +90,43 @@ impl Edge {
         }
     }
 
-    /// Its region.
+    /// Returns the edge's region.
     pub fn region(&self) -> &Region
         ensures { result.now ≡ self.now.region }
     {
         &self.region
     }
 
-    /// Its region, to take bundles in.
+    /// Returns the edge's region mutably, to take bundles in.
     pub fn region_mut(&mut self) -> &mut Region
-        ensures* writes_back { sem 𝓛 (Lends edge_row region_row self.entry result (λ region. record { region = region; sync = self.entry.now.sync; sealed = self.entry.now.sealed })) }
+        ensures* writes_back { sem 𝓛 (Lends edge_row region_row self.entry result
+            (λ region. record {
+              region = region;
+              sync = self.entry.now.sync;
+              sealed = self.entry.now.sealed;
+            })) }
         ensures value { result.now ≡ self.old.region }
     {
         &mut self.region
     }
 
-    /// Whether its log has failed.
+    /// Returns whether the edge is sealed: its log has failed.
     pub fn sealed(&self) -> bool
         ensures { result ≡ self.now.sealed }
     {
         self.sealed
     }
 
-    /// What the bytes of a stream that then ends are answered at the moment, with six words that handles are made of. The
-    /// fact made, if any, is added before the answer is given; where memory is refused nothing has changed, but of a bundle that
-    /// was sent the first facts may be in. Where the edge is sealed, 503 temporarily_unavailable and no fact. No byte is
-    /// answered with the status 400 and none.
+    /// Handles one request, given as the bytes of a stream that then ends.
+    ///
+    /// `now` is the current moment, `words` the random words for new handles. The fact made for the
+    /// reply, if any, is already added. A sealed edge replies 503 temporarily_unavailable and makes
+    /// no fact. An empty request gets the status 400 and no bytes.
+    ///
+    /// # Errors
+    ///
+    /// `AllocError` if memory runs out. The region is then unchanged, except that the first facts
+    /// of a pushed bundle may be in.
     pub fn answer(
         &mut self,
         alloc: Global,
@@ -101,13 +134,16 @@ impl Edge {
         words: &[u64; 6],
         bytes: &[u8],
     ) -> Result<Answer, AllocError>
-        ensures answers { self.old.sealed ≡ false → OnOk result ((came : AnyArrival) × IsArrival self.old.sync bytes.now came
+        ensures answers { self.old.sealed ≡ false
+            → OnOk result ((came : AnyArrival) × IsArrival self.old.sync bytes.now came
             × AnswersArrival self.old.region now words.now came result self.new.region) }
-        ensures away { self.old.sealed ≡ true → IfOk result (λ answer. answer ≡ refused_by Refusal.Sealed) }
+        ensures away { self.old.sealed ≡ true
+            → IfOk result (λ answer. answer ≡ refused_by Refusal.Sealed) }
         ensures untouched { self.old.sealed ≡ true → self.new ≡ self.old }
         ensures sealed { self.new.sealed ≡ self.old.sealed }
         ensures sync { self.new.sync ≡ self.old.sync }
-        ensures err { OnErr result (IsShort self.old.sync (Some bytes.now) self.old.region self.new.region) }
+        ensures err { OnErr result
+            (IsShort self.old.sync (Some bytes.now) self.old.region self.new.region) }
     {
         if self.sealed {
             return refuse(alloc, Refusal::Sealed);
@@ -116,9 +152,12 @@ impl Edge {
         answer_arrival(alloc, &mut self.region, now, words, &came)
     }
 
-    /// Serves one connection: reads a request, answers it as [`Edge::answer`] does, writes the record of the fact made, if
-    /// any, to the log and flushes it, and only then writes the reply. `buf` is what heads are read into, 8,192 bytes of
-    /// any value. A sealed edge reads nothing, and writes the reply 503 temporarily_unavailable.
+    /// Serves one connection: reads a request, logs its fact and writes the reply, in this order.
+    ///
+    /// The reply is that of [`Edge::answer`]. The record of the fact is written to the log and
+    /// flushed before the first byte of the reply. The log isn't called without a fact. `buf` holds
+    /// the head while it is read: 8,192 bytes of any value. A sealed edge reads nothing, and writes
+    /// the reply 503 temporarily_unavailable.
     pub fn serve_one<S: Source, L: Sink, W: Sink>(
         &mut self,
         alloc: Global,
@@ -133,18 +172,34 @@ impl Edge {
         ensures room { length buf.new ≡ length buf.old }
         ensures sync { self.new.sync ≡ self.old.sync }
 
-        // What stands after each result. Where the source doesn't tell its bytes, an answer to some request.
+        // What holds after each result. If the source's bytes are unknown, some request was
+        // answered.
         ensures served { self.old.sealed ≡ false → IsServed
-            (record { sync = self.old.sync; known = S.coming reader.old; now = now; words = words.now })
+            (record {
+              sync = self.old.sync;
+              known = S.coming reader.old;
+              now = now;
+              words = words.now;
+            })
             (record { before = self.old.region; after = self.new.region })
-            (record { before = L.holds log.old; after = L.holds log.new })
-            (record { before = W.holds writer.old; after = W.holds writer.new }) self.new.sealed result }
-        ensures turned_away { self.old.sealed ≡ true → IsTurnedAway (record { before = W.holds writer.old; after = W.holds writer.new }) result }
-        ensures untouched { self.old.sealed ≡ true → (self.new ≡ self.old) × (reader.new ≡ reader.old) × (log.new ≡ log.old) }
+            (record { before = L.holds log.old; after = L.holds log.new }) (log.new ≡ log.old)
+            (record { before = W.holds writer.old; after = W.holds writer.new }) self.new.sealed
+            result }
+        ensures turned_away { self.old.sealed ≡ true
+            → IsTurnedAway (record { before = W.holds writer.old; after = W.holds writer.new })
+            result }
+        ensures untouched { self.old.sealed ≡ true
+            → (self.new ≡ self.old) × (reader.new ≡ reader.old) × (log.new ≡ log.old) }
 
-        // A device is at fault only where it failed in this call.
-        ensures reader_fault { result ≡ Err Fault.Read → Rose (S.failed reader.old) (S.failed reader.new) }
-        ensures writer_fault { result ≡ Err Fault.Write → Rose (W.failed writer.old) (W.failed writer.new) }
+        // The edge reads at most a head and a body within their limits.
+        ensures bounded { TakesAtMost (request_limit self.old.sync) (S.coming reader.old)
+            (S.coming reader.new) }
+
+        // A fault of a device is returned only if that device failed in this call.
+        ensures reader_fault { result ≡ Err Fault.Read
+            → Rose (S.failed reader.old) (S.failed reader.new) }
+        ensures writer_fault { result ≡ Err Fault.Write
+            → Rose (W.failed writer.old) (W.failed writer.new) }
         ensures log_fault { result ≡ Err Fault.Log → Rose (L.failed log.old) (L.failed log.new) }
     {
         if self.sealed {
@@ -176,13 +231,15 @@ fn serve_arrival<L: Sink, W: Sink>(
     came: &Arrival,
 ) -> Result<Served, Fault>
     requires { sealed.old ≡ false }
-    ensures served { (sync : Bool) (known : Option (List ℕ)) → Arrives sync known came.now → IsServed
+    ensures served { (sync : Bool) (known : Option (List ℕ)) → Arrives sync known came.now
+        → IsServed
         (record { sync = sync; known = known; now = now; words = words.now })
         (record { before = region.old; after = region.new })
-        (record { before = L.holds log.old; after = L.holds log.new })
+        (record { before = L.holds log.old; after = L.holds log.new }) (log.new ≡ log.old)
         (record { before = W.holds writer.old; after = W.holds writer.new }) sealed.new result }
     ensures read { result ≢ Err Fault.Read }
-    ensures writer_fault { result ≡ Err Fault.Write → Rose (W.failed writer.old) (W.failed writer.new) }
+    ensures writer_fault { result ≡ Err Fault.Write
+        → Rose (W.failed writer.old) (W.failed writer.new) }
     ensures log_fault { result ≡ Err Fault.Log → Rose (L.failed log.old) (L.failed log.new) }
 {
     if is_silent(came) {
@@ -201,7 +258,7 @@ fn is_silent(came: &Arrival) -> bool
     matches!(came, Arrival::Heard(Heard::Silence))
 }
 
-// Answers what arrived, and tells the answer to the log and the client.
+// Answers what arrived, and writes the record to the log and the reply to the client.
 fn reply<L: Sink, W: Sink>(
     alloc: Global,
     region: &mut Region,
@@ -213,10 +270,12 @@ fn reply<L: Sink, W: Sink>(
     came: &Arrival,
 ) -> Result<Status, Fault>
     requires { sealed.old ≡ false }
-    ensures replies { Replies now words.now came.now (record { before = region.old; after = region.new })
-        (record { before = L.holds log.old; after = L.holds log.new })
+    ensures replies { Replies now words.now came.now
+        (record { before = region.old; after = region.new })
+        (record { before = L.holds log.old; after = L.holds log.new }) (log.new ≡ log.old)
         (record { before = W.holds writer.old; after = W.holds writer.new }) sealed.new result }
-    ensures faults { IsFaultOfDevice result (L.failed log.old) (L.failed log.new) (W.failed writer.old) (W.failed writer.new) }
+    ensures faults { IsFaultOfDevice result (L.failed log.old) (L.failed log.new)
+        (W.failed writer.old) (W.failed writer.new) }
 {
     let Ok(answer) = answer_arrival(alloc, region, now, words, came) else {
         return Err(Fault::Memory);
@@ -224,10 +283,12 @@ fn reply<L: Sink, W: Sink>(
     tell(&answer, sealed, log, writer)
 }
 
-// The reply of a sealed edge.
+// Writes the reply of a sealed edge.
 fn turn_away<W: Sink>(alloc: Global, writer: &mut W) -> Result<Served, Fault>
-    ensures turned_away { IsTurnedAway (record { before = W.holds writer.old; after = W.holds writer.new }) result }
-    ensures writer_fault { result ≡ Err Fault.Write → Rose (W.failed writer.old) (W.failed writer.new) }
+    ensures turned_away { IsTurnedAway
+        (record { before = W.holds writer.old; after = W.holds writer.new }) result }
+    ensures writer_fault { result ≡ Err Fault.Write
+        → Rose (W.failed writer.old) (W.failed writer.new) }
 {
     let Ok(away) = refuse(alloc, Refusal::Sealed) else {
         return Err(Fault::Memory);
@@ -238,7 +299,7 @@ fn turn_away<W: Sink>(alloc: Global, writer: &mut W) -> Result<Served, Fault>
     }
 }
 
-// What the bytes of a stream that then ends come to.
+// Reads a request from the bytes of a stream that then ends.
 fn hear_bytes(alloc: Global, sync: bool, bytes: &[u8]) -> Result<Arrival, AllocError>
     ensures came { IfOk result (IsArrival sync bytes.now) }
     ensures may { IfOk result (MayArrive sync) }

@@ -1,13 +1,16 @@
-//! What regions exchange: a vector, a page, a bundle.
+//! The exchange of facts between regions: `Exchange` is a request for a vector, a page, or to take
+//! a bundle in.
+//!
+//! `answer_exchange` replies to an exchange.
 
 use std::marker::Model;
 
-/// What another region asks for (own).
+/// A request of another region (own).
 #[derive(Drop)]
 pub enum Exchange {
-    /// The region's vector.
+    /// For the region's vector.
     Vector,
-    /// The page that a cursor and a vector leave.
+    /// For the page above a cursor of the facts that a vector does not cover.
     Pull(Sent),
     /// To take a bundle in.
     Push(Sent),
@@ -42,7 +45,7 @@ use tk_message::{ErrorCode, Reply, Told, bytes_reply, error_reply};
 use tk_region::{Region, TakeError};
 
 impl Sent {
-    // These bytes.
+    // Wraps a body.
     pub(crate) fn new(bytes: Vec<u8>) -> Sent
         ensures { result ≡ bytes.items }
     {
@@ -56,7 +59,7 @@ impl Sent {
     }
 }
 
-// Answers another region. Where memory is refused, the first facts of a bundle that it sent may be in.
+// Replies to another region. If memory runs out, the first facts of a pushed bundle may be in.
 pub(crate) fn answer_exchange(
     alloc: Global,
     region: &mut Region,
@@ -71,6 +74,7 @@ pub(crate) fn answer_exchange(
     }
 }
 
+// Replies with the region's front, in bytes.
 fn tell_vector(alloc: Global, region: &Region) -> Result<Answer, AllocError>
     ensures { IfOk result (spec.TellsVector (known_in region.now.facts)) }
 {
@@ -79,26 +83,63 @@ fn tell_vector(alloc: Global, region: &Region) -> Result<Answer, AllocError>
     answer_with(alloc, &bytes_reply(bytes))
 }
 
+// Replies with the page that a pull requests.
 fn send_page(alloc: Global, region: &Region, bytes: &[u8]) -> Result<Answer, AllocError>
-    ensures { IfOk result (λ answer. answer ≡ rendered (spec.page_reply (known_in region.now.facts) (whole wanted bytes.now)) None None) }
+    ensures { IfOk result (λ answer. answer
+        ≡ rendered (spec.page_reply (known_in region.now.facts) (whole wanted bytes.now)) None
+        None) }
 {
     let reply = page_reply(alloc, region, bytes)?;
     answer_with(alloc, &reply)
 }
 
+// Returns the page that a pull requests, or the error for bytes that are no pull.
 fn page_reply(alloc: Global, region: &Region, bytes: &[u8]) -> Result<Reply, AllocError>
-    ensures { IfOk result (λ reply. reply ≡ spec.page_reply (known_in region.now.facts) (whole wanted bytes.now)) }
+    ensures { IfOk result (λ reply. reply
+        ≡ spec.page_reply (known_in region.now.facts) (whole wanted bytes.now)) }
 {
     match read_wanted(alloc, bytes) {
         Ok(wanted) => {
             let page = region.page(alloc, &wanted.vector, wanted.after)?;
             Ok(bytes_reply(page.bytes))
         }
-        Err(ReadError::Malformed) => error_reply(alloc, ErrorCode::Malformed),
-        Err(ReadError::Memory) => Err(AllocError),
+        Err(error) => refuse_by(alloc, unread_code(error)),
     }
 }
 
+// Returns the reply for the error of this name. No name means that memory ran out.
+fn refuse_by(alloc: Global, name: Option<ErrorCode>) -> Result<Reply, AllocError>
+    ensures { IfOk result (spec.IsErrorReply name) }
+{
+    match name {
+        Some(name) => error_reply(alloc, name),
+        None => Err(AllocError),
+    }
+}
+
+// The name of the error for bytes that can't be read. Out of memory has no name.
+fn unread_code(error: ReadError) -> Option<ErrorCode>
+    ensures { result ≡ spec.unread_code error }
+{
+    match error {
+        ReadError::Malformed => Some(ErrorCode::Malformed),
+        ReadError::Memory => None,
+    }
+}
+
+// The name of the error for a bundle that isn't taken in. Out of memory has no name.
+fn refusal_code(error: TakeError) -> Option<ErrorCode>
+    ensures { result ≡ spec.refusal_code error }
+{
+    match error {
+        TakeError::Malformed => Some(ErrorCode::Malformed),
+        TakeError::OwnNumber => Some(ErrorCode::OwnNumber),
+        TakeError::Conflict => Some(ErrorCode::Conflict),
+        TakeError::Memory => None,
+    }
+}
+
+// Takes a pushed bundle in, and replies with the number of new facts or the reason of a refusal.
 fn take_bundle(alloc: Global, region: &mut Region, bytes: &[u8]) -> Result<Answer, AllocError>
     ensures { spec.TakesAndTells region.old bytes.now result region.new }
 {
@@ -107,15 +148,12 @@ fn take_bundle(alloc: Global, region: &mut Region, bytes: &[u8]) -> Result<Answe
     answer_with(alloc, &reply)
 }
 
-// What taking a bundle in is answered; nothing where memory was refused.
+// Returns the reply to a push, by its result. Memory that ran out while taking in gets no reply.
 fn taken_answer(alloc: Global, taken: Result<u16, TakeError>) -> Result<Reply, AllocError>
     ensures { IfOk result (spec.IsTakenReply taken) }
 {
     match taken {
         Ok(count) => Told::Taken(count).reply(alloc),
-        Err(TakeError::Malformed) => error_reply(alloc, ErrorCode::Malformed),
-        Err(TakeError::OwnNumber) => error_reply(alloc, ErrorCode::OwnNumber),
-        Err(TakeError::Conflict) => error_reply(alloc, ErrorCode::Conflict),
-        Err(TakeError::Memory) => Err(AllocError),
+        Err(error) => refuse_by(alloc, refusal_code(error)),
     }
 }

@@ -1,4 +1,6 @@
-//! The fields of a head that are read, by their names in any case.
+//! The fields of a head that tokend reads, by their names in any case.
+//!
+//! `fields_of` finds them. A `Field` is absent, has one value, or is repeated.
 
 ghost use Rattle.std.specs.Prelude.{◌≡◌, ℕ, List, [], ◌∷◌, ◌++◌, length, map, nat_le, All};
 ghost use Rattle.std.specs.Option.{option_copied};
@@ -9,7 +11,7 @@ ghost use Rattle.tk_edge.specs.HeadFields.{AreFields, IsField, values_named, has
 
 use httparse::spans::HeaderSpan;
 
-// What a head has under a name.
+// The value of a head's field, if there is exactly one.
 #[derive(Clone, Copy)]
 pub(crate) enum Field<'b> {
     Absent,
@@ -17,7 +19,7 @@ pub(crate) enum Field<'b> {
     Twice,
 }
 
-// The fields that are read.
+// The five fields that tokend reads.
 #[derive(Clone, Copy)]
 pub(crate) struct Fields<'b> {
     pub(crate) authorization: Field<'b>,
@@ -27,7 +29,7 @@ pub(crate) struct Fields<'b> {
     pub(crate) coding: Field<'b>,
 }
 
-// The fields that are read, among those of a head.
+// Finds the fields that tokend reads among the headers of a head.
 pub(crate) fn fields_of<'b>(buf: &'b [u8], headers: &[HeaderSpan]) -> Fields<'b>
     requires { All (IsHeaderWithin (length buf.now)) headers.now }
     ensures { AreFields result (map (header_bytes buf.now) headers.now) }
@@ -41,6 +43,7 @@ pub(crate) fn fields_of<'b>(buf: &'b [u8], headers: &[HeaderSpan]) -> Fields<'b>
     }
 }
 
+// Returns what the headers have under a name.
 fn value_named<'b>(buf: &'b [u8], headers: &[HeaderSpan], name: &[u8]) -> Field<'b>
     requires { All (IsHeaderWithin (length buf.now)) headers.now }
     ensures { IsField result (values_named name.now (map (header_bytes buf.now) headers.now)) }
@@ -60,9 +63,10 @@ fn is_same(a: &[u8], b: &[u8]) -> bool
     a.eq_ignore_ascii_case(b)
 }
 
-// One more value.
+// Adds one more value to what was found.
 fn with_value<'b>(found: Field<'b>, value: &'b [u8]) -> Field<'b>
-    ensures { (values : List (List ℕ)) → IsField found.entry values → IsField result (values ++ value.entry.now ∷ []) }
+    ensures { (values : List (List ℕ)) → IsField found.entry values
+        → IsField result (values ++ value.entry.now ∷ []) }
 {
     match found {
         Field::Absent => Field::Value(value),
@@ -70,9 +74,10 @@ fn with_value<'b>(found: Field<'b>, value: &'b [u8]) -> Field<'b>
     }
 }
 
-// The value, where there is one and no other.
+// Returns the value of a field that has exactly one.
 pub(crate) fn only_value<'b>(field: &Field<'b>) -> Option<&'b [u8]>
-    ensures { (values : List (List ℕ)) → IsField field.now values → option_copied result ≡ only values }
+    ensures { (values : List (List ℕ)) → IsField field.now values
+        → option_copied result ≡ only values }
 {
     match *field {
         Field::Value(text) => Some(text),
@@ -80,7 +85,7 @@ pub(crate) fn only_value<'b>(field: &Field<'b>) -> Option<&'b [u8]>
     }
 }
 
-// Whether one of the fields comes twice that may not.
+// Returns whether a field is repeated that may be given only once.
 pub(crate) fn any_repeats(fields: &Fields<'_>) -> bool
     ensures { (pairs : Pairs) → AreFields fields.now pairs → result ≡ has_repeats pairs }
 {

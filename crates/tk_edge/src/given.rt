@@ -1,8 +1,8 @@
-//! Bytes in memory as a source.
+//! Bytes in memory as a source: `Given`.
 
 use crate::device::{Failed, Source};
 
-// Memory as a source: it never fails.
+// A source of the bytes of a slice. Its calls never fail.
 #[derive(Drop)]
 pub(crate) struct Given<'a> {
     pub(crate) rest: &'a [u8],

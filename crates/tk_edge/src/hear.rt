@@ -1,4 +1,6 @@
-//! A request, read from a source.
+//! Reads one request from a source: `hear` returns what arrived.
+//!
+//! An `Arrival` is `Heard`, which anyone may send, or an `Exchange` with another region.
 
 use crate::exchange::{Exchange, Sent};
 use crate::refusal::Refusal;
@@ -7,28 +9,44 @@ use tk_message::Request;
 /// What arrived over a connection.
 #[derive(Drop)]
 pub enum Arrival {
-    /// What anyone may send.
+    /// A request, refusal or silence, which anyone may cause.
     Heard(Heard),
-    /// What another region asks.
+    /// A request of another region.
     Exchange(Exchange),
 }
 
-/// What came over a connection, whoever sent it.
+/// What anyone may send over a connection.
 #[derive(Drop)]
 pub enum Heard {
     /// Nothing: the stream ended before its first byte.
     Silence,
-    /// Something that isn't handed to a region.
+    /// A request that isn't handed to the region.
     Refused(Refusal),
-    /// A request.
+    /// A request for the region.
     Asked(Request),
 }
 
-ghost use Rattle.std.specs.Prelude.{◌≡◌, ℕ, Bool, ◌++◌, List, length, drop, take, nat_le, map, All, Some, true, IfOk};
+ghost use Rattle.std.specs.Prelude.{
+  ◌≡◌,
+  ℕ,
+  Bool,
+  ◌++◌,
+  List,
+  length,
+  drop,
+  take,
+  nat_le,
+  map,
+  All,
+  Some,
+  true,
+  IfOk,
+};
 ghost use Rattle.std.specs.Option.{option_copied, option_map};
 ghost use Rattle.httparse.specs.Grammar.{RequestHead};
 ghost use Rattle.httparse.specs.Spans.{IsRequestAt, IsRequestWithin};
 ghost use Rattle.tk_params.specs.Params.{Pairs};
+ghost use Rattle.tk_edge.specs.Bounds.{TakesAtMost, body_limit, request_limit};
 ghost use Rattle.tk_edge.specs.HeadFields.{AreFields};
 ghost use Rattle.tk_edge.specs.Heads.{head_limit};
 ghost use Rattle.tk_edge.specs.Heard as spec;
@@ -48,7 +66,8 @@ use std::alloc::{AllocError, Global};
 use tk_message::Endpoint;
 use tk_params::Params;
 
-// Reads a request, where regions exchange facts or don't. A stream that ends early is one, too: what came of it is judged.
+// Reads a request. `sync` is whether regions exchange facts.
+// A stream that ends early is no read error: the bytes before the end are judged.
 pub(crate) fn hear<S: Source>(
     alloc: Global,
     sync: bool,
@@ -58,6 +77,7 @@ pub(crate) fn hear<S: Source>(
     requires { length buf.old ≡ head_limit }
     ensures room { length buf.new ≡ length buf.old }
     ensures came { IfOk result (spec.Arrives sync (S.coming reader.old)) }
+    ensures most { TakesAtMost (request_limit sync) (S.coming reader.old) (S.coming reader.new) }
     ensures fault { IsReadFault result (S.failed reader.old) (S.failed reader.new) }
 {
     let mut headers = [EMPTY_HEADER_SPAN; 64];
@@ -77,13 +97,14 @@ pub(crate) fn hear<S: Source>(
     }
 }
 
+// Wraps a refusal as an arrival.
 fn refused(why: Refusal) -> Arrival
     ensures { result ≡ Arrival.Heard (Heard.Refused why) }
 {
     Arrival::Heard(Heard::Refused(why))
 }
 
-// The head at the front of `buf`, with what follows it.
+// Reads the request whose head is at the front of `buf`. The bytes behind that head begin the body.
 fn head_heard<S: Source>(
     alloc: Global,
     sync: bool,
@@ -93,9 +114,11 @@ fn head_heard<S: Source>(
     spans: RequestSpans,
 ) -> Result<Arrival, Fault>
     requires { IsRequestWithin buf.now headers.now spans }
-    ensures came { (h : RequestHead) (rest : List ℕ) → IsRequestAt buf.now headers.now spans h → S.coming reader.old ≡ Some rest
+    ensures came { (h : RequestHead) (rest : List ℕ) → IsRequestAt buf.now headers.now spans h
+        → S.coming reader.old ≡ Some rest
         → IfOk result (λ came. came ≡ spec.arrival_of sync h (drop spans.len buf.now ++ rest)) }
     ensures may { IfOk result (spec.MayArrive sync) }
+    ensures most { TakesAtMost (body_limit sync) (S.coming reader.old) (S.coming reader.new) }
     ensures fault { IsReadFault result (S.failed reader.old) (S.failed reader.new) }
 {
     let fields = fields_of(buf, &headers[..spans.headers]);
@@ -115,7 +138,7 @@ fn head_heard<S: Source>(
     }
 }
 
-// Reads a body of this size. A form that came with its head is not copied.
+// Reads a body of this size. A form that came whole with its head is not copied.
 fn body_heard<S: Source>(
     alloc: Global,
     reader: &mut S,
@@ -124,9 +147,12 @@ fn body_heard<S: Source>(
     front: &[u8],
     fields: &Fields<'_>,
 ) -> Result<Arrival, Fault>
-    ensures came { (target rest : List ℕ) (pairs : Pairs) → AreFields fields.now pairs → S.coming reader.old ≡ Some rest
-        → IfOk result (λ came. came ≡ spec.arrival_by target pairs (front.now ++ rest) (Body posted size)) }
+    ensures came { (target rest : List ℕ) (pairs : Pairs) → AreFields fields.now pairs
+        → S.coming reader.old ≡ Some rest
+        → IfOk result (λ came. came
+        ≡ spec.arrival_by target pairs (front.now ++ rest) (Body posted size)) }
     ensures may { (sync : Bool) → MayPost sync posted → IfOk result (spec.MayArrive sync) }
+    ensures most { TakesAtMost size (S.coming reader.old) (S.coming reader.new) }
     ensures fault { IsReadFault result (S.failed reader.old) (S.failed reader.new) }
 {
     if size <= front.len() {
@@ -142,13 +168,15 @@ fn body_heard<S: Source>(
     }
 }
 
-// Fills the body, and answers whether there were bytes enough.
+// Fills the body, and returns whether the stream had enough bytes.
 fn fill<S: Source>(reader: &mut S, front: &[u8], body: &mut [u8]) -> Result<bool, Fault>
     ensures room { length body.new ≡ length body.old }
     ensures enough { (rest : List ℕ) → S.coming reader.old ≡ Some rest
         → IfOk result (λ enough. enough ≡ nat_le (length body.old) (length (front.now ++ rest))) }
     ensures filled { (rest : List ℕ) → S.coming reader.old ≡ Some rest
-        → IfOk result (λ enough. enough ≡ true → body.new ≡ take (length body.old) (front.now ++ rest)) }
+        → IfOk result (λ enough. enough ≡ true
+        → body.new ≡ take (length body.old) (front.now ++ rest)) }
+    ensures most { TakesAtMost (length body.old) (S.coming reader.old) (S.coming reader.new) }
     ensures fault { IsReadFault result (S.failed reader.old) (S.failed reader.new) }
 {
     let size = body.len();
@@ -158,9 +186,10 @@ fn fill<S: Source>(reader: &mut S, front: &[u8], body: &mut [u8]) -> Result<bool
     }
 }
 
-// A body that is whole, in another's buffer.
+// Makes the arrival of a whole body that is in the buffer of its head.
 fn lent(alloc: Global, posted: Posted, body: &[u8], fields: &Fields<'_>) -> Result<Arrival, Fault>
-    ensures came { (pairs : Pairs) → AreFields fields.now pairs → IfOk result (λ came. came ≡ spec.posted_to posted body.now pairs) }
+    ensures came { (pairs : Pairs) → AreFields fields.now pairs
+        → IfOk result (λ came. came ≡ spec.posted_to posted body.now pairs) }
     ensures may { (sync : Bool) → MayPost sync posted → IfOk result (spec.MayArrive sync) }
     ensures fault { IsReadFault result 0 0 }
 {
@@ -175,9 +204,10 @@ fn lent(alloc: Global, posted: Posted, body: &[u8], fields: &Fields<'_>) -> Resu
     }
 }
 
-// A body that is whole, in a buffer of its own.
+// Makes the arrival of a whole body that has a buffer of its own.
 fn kept(alloc: Global, posted: Posted, body: Vec<u8>, fields: &Fields<'_>) -> Result<Arrival, Fault>
-    ensures came { (pairs : Pairs) → AreFields fields.now pairs → IfOk result (λ came. came ≡ spec.posted_to posted body.items pairs) }
+    ensures came { (pairs : Pairs) → AreFields fields.now pairs
+        → IfOk result (λ came. came ≡ spec.posted_to posted body.items pairs) }
     ensures may { (sync : Bool) → MayPost sync posted → IfOk result (spec.MayArrive sync) }
     ensures fault { IsReadFault result 0 0 }
 {
@@ -188,7 +218,7 @@ fn kept(alloc: Global, posted: Posted, body: Vec<u8>, fields: &Fields<'_>) -> Re
     }
 }
 
-// A request that is whole.
+// Makes the arrival of a whole request.
 fn asked(
     alloc: Global,
     endpoint: Endpoint,
@@ -196,7 +226,8 @@ fn asked(
     fields: &Fields<'_>,
 ) -> Result<Arrival, Fault>
     ensures came { (pairs : Pairs) → AreFields fields.now pairs
-        → IfOk result (λ came. came ≡ Arrival.Heard (Heard.Asked (spec.request_at endpoint form.now pairs))) }
+        → IfOk result (λ came. came
+        ≡ Arrival.Heard (Heard.Asked (spec.request_at endpoint form.now pairs))) }
     ensures may { (sync : Bool) → IfOk result (spec.MayArrive sync) }
     ensures fault { IsReadFault result 0 0 }
 {
@@ -206,13 +237,15 @@ fn asked(
     }
 }
 
+// Copies what the region reads of a request: the form and two fields of the head.
 fn request_of(
     alloc: Global,
     endpoint: Endpoint,
     form: &[u8],
     fields: &Fields<'_>,
 ) -> Result<Request, AllocError>
-    ensures { (pairs : Pairs) → AreFields fields.now pairs → IfOk result (λ request. request ≡ spec.request_at endpoint form.now pairs) }
+    ensures { (pairs : Pairs) → AreFields fields.now pairs
+        → IfOk result (λ request. request ≡ spec.request_at endpoint form.now pairs) }
 {
     let params = Params::read(alloc, form)?;
     let authorization = owned(alloc, only_value(&fields.authorization))?;
@@ -225,6 +258,7 @@ fn request_of(
     })
 }
 
+// Copies a value, if there is one.
 fn owned(alloc: Global, value: Option<&[u8]>) -> Result<Option<Vec<u8>>, AllocError>
     ensures { IfOk result (λ o. option_map (λ v. v.items) o ≡ option_copied value.entry) }
 {

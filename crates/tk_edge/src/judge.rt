@@ -1,4 +1,6 @@
-//! What a head asks for, or the first rule that it breaks.
+//! Judges a head: which service it requests, or which rule it breaks first.
+//!
+//! `judge` returns a `Judged`.
 
 ghost use Rattle.std.specs.Prelude.{◌≡◌, ◌≤◌, ℕ, false, List, length};
 ghost use Rattle.tk_params.specs.Params.{Pairs};
@@ -12,7 +14,8 @@ use crate::refusal::Refusal;
 use tk_format::{Numeral, read_numeral};
 use tk_message::Endpoint;
 
-// What a head asks for: nothing that is served, what its query asks, the region's vector, or what a body of so many bytes asks.
+// What a head requests: nothing that is served, the query of a GET, the region's vector, or a
+// service with a body of the given number of bytes.
 #[derive(Clone, Copy)]
 pub(crate) enum Judged {
     Refused(Refusal),
@@ -21,9 +24,10 @@ pub(crate) enum Judged {
     Body(Posted, u32),
 }
 
-// What a head asks for, by its method, its target and its fields, where regions exchange facts or don't.
+// Judges a head by its method, target and fields. `sync` is whether regions exchange facts.
 pub(crate) fn judge(sync: bool, method: &[u8], target: &[u8], fields: &Fields<'_>) -> Judged
-    ensures { (pairs : Pairs) → AreFields fields.now pairs → result ≡ spec.judged_of sync method.now target.now pairs }
+    ensures { (pairs : Pairs) → AreFields fields.now pairs
+        → result ≡ spec.judged_of sync method.now target.now pairs }
 {
     at_path(
         path_named(sync, split_target(target).0),
@@ -32,8 +36,10 @@ pub(crate) fn judge(sync: bool, method: &[u8], target: &[u8], fields: &Fields<'_
     )
 }
 
+// Judges a head from the path on.
 fn at_path(path: Option<Path>, method: Option<Method>, fields: &Fields<'_>) -> Judged
-    ensures { (pairs : Pairs) → AreFields fields.now pairs → result ≡ spec.at_path path method pairs }
+    ensures { (pairs : Pairs) → AreFields fields.now pairs
+        → result ≡ spec.at_path path method pairs }
 {
     match path {
         Some(path) => at_service(path, path.service(method), fields),
@@ -41,8 +47,10 @@ fn at_path(path: Option<Path>, method: Option<Method>, fields: &Fields<'_>) -> J
     }
 }
 
+// Judges a head on a known path, from the method on.
 fn at_service(path: Path, service: Option<Service>, fields: &Fields<'_>) -> Judged
-    ensures { (pairs : Pairs) → AreFields fields.now pairs → result ≡ spec.at_service path service pairs }
+    ensures { (pairs : Pairs) → AreFields fields.now pairs
+        → result ≡ spec.at_service path service pairs }
 {
     let Some(service) = service else {
         return Judged::Refused(Refusal::WrongMethod(path));
@@ -53,8 +61,10 @@ fn at_service(path: Path, service: Option<Service>, fields: &Fields<'_>) -> Judg
     asked(service, fields)
 }
 
+// Judges a head for a known service, without repeated fields.
 fn asked(service: Service, fields: &Fields<'_>) -> Judged
-    ensures { (pairs : Pairs) → AreFields fields.now pairs → has_repeats pairs ≡ false → result ≡ spec.asked service pairs }
+    ensures { (pairs : Pairs) → AreFields fields.now pairs → has_repeats pairs ≡ false
+        → result ≡ spec.asked service pairs }
 {
     match service {
         Service::Query(endpoint) => Judged::Query(endpoint),
@@ -63,9 +73,11 @@ fn asked(service: Service, fields: &Fields<'_>) -> Judged
     }
 }
 
+// Judges a head whose service needs a body, by its coding, length and type.
 fn with_body(posted: Posted, fields: &Fields<'_>) -> Judged
     ensures { (codings lengths kinds : List (List ℕ)) → IsField fields.now.coding codings
-        → IsField fields.now.length lengths → length lengths ≤ 1 → IsField fields.now.kind kinds → length kinds ≤ 1
+        → IsField fields.now.length lengths → length lengths ≤ 1 → IsField fields.now.kind kinds
+        → length kinds ≤ 1
         → result ≡ spec.with_body posted codings lengths kinds }
 {
     match (fields.coding, fields.length) {
@@ -76,7 +88,7 @@ fn with_body(posted: Posted, fields: &Fields<'_>) -> Judged
     }
 }
 
-// The greatest body in bytes.
+// Returns the limit of a body, in bytes.
 fn limit_of(posted: Posted) -> u32
     ensures { result ≡ spec.limit_of posted }
 {
@@ -86,8 +98,10 @@ fn limit_of(posted: Posted) -> u32
     }
 }
 
+// Judges a head by its Content-Length, then by its type.
 fn sized(posted: Posted, told: Numeral, kind: Field<'_>) -> Judged
-    ensures { (kinds : List (List ℕ)) → IsField kind.entry kinds → length kinds ≤ 1 → result ≡ spec.sized posted told kinds }
+    ensures { (kinds : List (List ℕ)) → IsField kind.entry kinds → length kinds ≤ 1
+        → result ≡ spec.sized posted told kinds }
 {
     match told {
         Numeral::Malformed => Judged::Refused(Refusal::BadLength),
@@ -102,8 +116,10 @@ fn sized(posted: Posted, told: Numeral, kind: Field<'_>) -> Judged
     }
 }
 
+// Returns whether the type fits: a form's type may be absent, an exchange may have any type.
 fn fits_type(posted: Posted, kind: Field<'_>) -> bool
-    ensures { (kinds : List (List ℕ)) → IsField kind.entry kinds → length kinds ≤ 1 → result ≡ spec.fits_type posted kinds }
+    ensures { (kinds : List (List ℕ)) → IsField kind.entry kinds → length kinds ≤ 1
+        → result ≡ spec.fits_type posted kinds }
 {
     match (posted, kind) {
         (Posted::Form(_), Field::Value(text)) => is_form_type(text),

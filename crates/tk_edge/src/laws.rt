@@ -1,13 +1,14 @@
-//! Laws of the definitions.
+//! Laws of the definitions: the meaning of a stream is unique.
 
 ghost use Rattle.tk_edge.specs.Laws.{HasOneMeaning, HearsAll};
 
-/// A stream has one meaning at most: told to callers, nothing is done.
+/// States that a stream has at most one meaning. The call does nothing at run time.
 pub fn one_meaning()
     ensures { HasOneMeaning }
 {}
 
-/// Where regions exchange nothing, what arrives is no exchange: told to callers, nothing is done.
+/// States that no exchange arrives unless regions exchange facts. The call does nothing at run
+/// time.
 pub fn hears_all()
     ensures { HearsAll }
 {}

@@ -1,21 +1,24 @@
-//! Bytes to reply bytes, and the log before the reply.
+//! From the bytes of a request to the bytes of its reply, with the log written before the reply.
 //!
-//! An [`Edge`] is a region behind its connections. One connection brings one request of HTTP/1.1 and takes one reply; what it
-//! comes to is said of the bytes of the stream, however they were cut.
+//! An [`Edge`] is a region behind its connections. A connection brings one HTTP/1.1 request and
+//! takes one reply. The meaning of a request depends on the bytes of its stream alone, not on the
+//! pieces in which they come.
 //!
 //! In reading order:
 //!
-//! - [`Source`] and [`Sink`], what bytes come from and go to, by what they hold and how often they failed; [`Counted`] makes
-//!   them of std's readers and writers, [`Discard`] takes all;
-//! - `head`, `field`, `body`: what is read of a request;
-//! - [`Path`] and `judge`: what a head asks for, or the [`Refusal`] of it, by ordered cases;
-//! - [`Arrival`], what a stream comes to: [`Heard`], whoever sent it, or an [`Exchange`] between regions; `answer`, what it is
-//!   answered; `render`, the bytes of a reply;
-//! - `tell`: the record of a fact, and only then the reply; [`Fault`], where that ends otherwise;
+//! - [`Source`] and [`Sink`]: devices that give and take bytes, and count their failures.
+//!   [`Counted`] makes them of std's readers and writers, and [`Discard`] drops what it takes.
+//! - `head`, `field`, `body`: read the parts of a request.
+//! - [`Path`] and `judge`: which service a head requests, or the [`Refusal`] of it, by ordered
+//!   cases.
+//! - [`Arrival`]: what a stream means. [`Heard`] is what anyone may send, an [`Exchange`] is with
+//!   another region.
+//! - `answer` makes the reply to an arrival, and `render` its bytes.
+//! - `tell` writes the record of a fact and only then the reply, or returns a [`Fault`].
 //! - [`Edge`]: [`Edge::answer`] over bytes, [`Edge::serve_one`] over devices.
 //!
-//! `specs/Judged.antt` has the cases, `specs/Heard.antt` the meaning of a stream, `specs/Answers.antt` and
-//! `specs/Exchanges.antt` its answer, and `specs/Served.antt` what one connection does.
+//! The definitions are in `specs/`: `Judged` has the cases, `Heard` the meaning of a stream,
+//! `Answers` and `Exchanges` the replies, and `Served` what one connection does.
 #![tactic(auto)]
 
 mod answer;

@@ -1,4 +1,6 @@
-//! The paths that are served, and what each serves under a method.
+//! The paths that tokend serves, and what each serves under a method.
+//!
+//! `path_named` finds a `Path`, and `Path::service` the `Service` under a `Method`.
 
 ghost use Rattle.std.specs.Prelude.{◌≡◌, ◌≤◌, ◌==◌, length};
 ghost use Rattle.std.specs.List.{position_or_len};
@@ -7,36 +9,36 @@ ghost use Rattle.tk_edge.specs.Paths as spec;
 
 use tk_message::Endpoint;
 
-/// What is served under a path.
+/// A path that tokend serves.
 #[derive(Clone, Copy)]
 pub enum Path {
-    /// `/authorize` (RFC 6749, 3.1).
+    /// The authorization endpoint, `/authorize` (RFC 6749, 3.1).
     Authorize,
-    /// `/token` (RFC 6749, 3.2).
+    /// The token endpoint, `/token` (RFC 6749, 3.2).
     Token,
-    /// `/introspect` (RFC 7662, 2).
+    /// The introspection endpoint, `/introspect` (RFC 7662, 2).
     Introspect,
-    /// `/revoke` (RFC 7009, 2).
+    /// The revocation endpoint, `/revoke` (RFC 7009, 2).
     Revoke,
-    /// `/admin/client` (own).
+    /// Adds or shows a client, `/admin/client` (own).
     Client,
-    /// `/admin/retire` (own).
+    /// Retires a client, `/admin/retire` (own).
     Retire,
-    /// `/admin/consent` (own).
+    /// Adds a consent, `/admin/consent` (own).
     Consent,
-    /// `/admin/withdraw` (own).
+    /// Withdraws a consent, `/admin/withdraw` (own).
     Withdraw,
-    /// `/admin/signout` (own).
+    /// Signs a subject out, `/admin/signout` (own).
     SignOut,
-    /// `/sync/vector` (own).
+    /// Shows the region's vector, `/sync/vector` (own).
     Vector,
-    /// `/sync/pull` (own).
+    /// Returns a page of facts, `/sync/pull` (own).
     Pull,
-    /// `/sync/push` (own).
+    /// Takes a bundle in, `/sync/push` (own).
     Push,
 }
 
-// How it is asked for.
+// A method that some path has.
 #[derive(Clone, Copy)]
 pub(crate) enum Method {
     Get,
@@ -46,26 +48,26 @@ pub(crate) enum Method {
 // What a path serves under a method.
 #[derive(Clone, Copy)]
 pub(crate) enum Service {
-    // What the query asks of an endpoint.
+    // An endpoint whose parameters are in the query.
     Query(Endpoint),
     // The region's vector.
     Vector,
-    // What a body asks.
+    // A service that needs a body.
     Body(Posted),
 }
 
-// What a body is for.
+// The use of a body.
 #[derive(Clone, Copy)]
 pub(crate) enum Posted {
-    // The parameters of an endpoint.
+    // The form holds the parameters of an endpoint.
     Form(Endpoint),
-    // A cursor and a vector.
+    // The body is a cursor and a vector.
     Pull,
-    // A bundle.
+    // The body is a bundle.
     Push,
 }
 
-// The place of the first byte of this value, or the length.
+// Returns the index of the first byte with this value, or the length.
 pub(crate) fn place_of(bytes: &[u8], value: u8) -> usize
     ensures place { result ≡ position_or_len (λ b. b == value) bytes.now }
     ensures within { result ≤ length bytes.now }
@@ -82,7 +84,7 @@ pub(crate) fn place_of(bytes: &[u8], value: u8) -> usize
     at
 }
 
-// The parts of a target before and behind its first `?`.
+// Splits a target at its first `?` into path and query.
 pub(crate) fn split_target(target: &[u8]) -> (&[u8], &[u8])
     ensures path { result.0.now ≡ spec.path_of target.now }
     ensures query { result.1.now ≡ spec.query_of target.now }
@@ -94,14 +96,14 @@ pub(crate) fn split_target(target: &[u8]) -> (&[u8], &[u8])
     (&target[..at], &target[at + 1..])
 }
 
-// Whether a text is this name, byte for byte.
+// Returns whether a text is this name, byte for byte.
 fn is(text: &[u8], name: &[u8]) -> bool
     ensures { result ≡ bytes_eq text.now name.now }
 {
     text == name
 }
 
-// What is served under a path, where regions exchange facts or don't.
+// Returns the path of this name. The paths of `/sync/` exist only if `sync` is true.
 pub(crate) fn path_named(sync: bool, path: &[u8]) -> Option<Path>
     ensures { result ≡ spec.path_named sync path.now }
 {
@@ -135,6 +137,7 @@ pub(crate) fn path_named(sync: bool, path: &[u8]) -> Option<Path>
     if sync { sync_named(path) } else { None }
 }
 
+// Returns the path of this name among those of `/sync/`.
 fn sync_named(path: &[u8]) -> Option<Path>
     ensures { result ≡ spec.sync_named path.now }
 {
@@ -150,7 +153,7 @@ fn sync_named(path: &[u8]) -> Option<Path>
     None
 }
 
-// A method by its name.
+// Returns the method of this name. Names are case-sensitive (RFC 9110, 9.1).
 pub(crate) fn method_named(name: &[u8]) -> Option<Method>
     ensures { result ≡ spec.method_named name.now }
 {
@@ -164,7 +167,7 @@ pub(crate) fn method_named(name: &[u8]) -> Option<Method>
 }
 
 impl Path {
-    // What it serves under a method.
+    // Returns what the path serves under a method.
     pub(crate) fn service(self, method: Option<Method>) -> Option<Service>
         ensures { result ≡ spec.service_at self method }
     {
@@ -175,6 +178,7 @@ impl Path {
         }
     }
 
+    // Returns what the path serves under GET.
     fn get_service(self) -> Option<Service>
         ensures { result ≡ spec.get_service self }
     {
@@ -186,6 +190,7 @@ impl Path {
         }
     }
 
+    // Returns what the path serves under POST.
     fn post_service(self) -> Option<Service>
         ensures { result ≡ spec.post_service self }
     {
@@ -204,7 +209,7 @@ impl Path {
         }
     }
 
-    /// Its methods, as `Allow` names them (RFC 9110, 10.2.1).
+    /// Returns the path's methods as the value of `Allow` (RFC 9110, 10.2.1).
     pub(crate) fn allowed(self) -> &'static [u8]
         ensures { result.now ≡ spec.allowed_at self }
     {
@@ -216,6 +221,7 @@ impl Path {
     }
 }
 
+// The service whose body is a form for this endpoint.
 fn form_for(endpoint: Endpoint) -> Option<Service>
     ensures { result ≡ spec.form_for endpoint }
 {

@@ -1,9 +1,9 @@
-//! What a pull asks for.
+//! The body of a pull: `Wanted` is a cursor and a vector, and `read_wanted` reads one.
 
 use tk_handle::Dot;
 use tk_vector::VersionVector;
 
-// The dot above which the page begins, or none, and what who asks holds already.
+// A pull: the cursor above which the page begins, and the vector of what the puller holds.
 #[derive(Drop)]
 pub(crate) struct Wanted {
     pub(crate) after: Option<Dot>,
@@ -18,7 +18,7 @@ use std::alloc::Global;
 use tk_format::{ReadError, Reader, Spelled, read_all};
 use tk_handle::RegionNumber;
 
-// What all of the bytes ask for.
+// Reads a pull from all of the bytes.
 pub(crate) fn read_wanted(alloc: Global, bytes: &[u8]) -> Result<Wanted, ReadError>
     ensures { GetsAll (λ w. w) wanted result bytes.now }
 {
@@ -40,7 +40,7 @@ impl Spelled for Wanted {
     ghost exact = { wanted_exact };
 }
 
-// A cursor at the front.
+// Reads a cursor from the front.
 fn read_cursor(reader: &mut Reader<'_>) -> Option<Option<Dot>>
     ensures { Reads (λ c. c) cursor result reader.old reader.new }
 {
@@ -49,6 +49,7 @@ fn read_cursor(reader: &mut Reader<'_>) -> Option<Option<Dot>>
     cursor_at(region, serial)
 }
 
+// Returns the cursor that two numbers spell, if any. Two zeros spell the cursor at the beginning.
 fn cursor_at(region: u16, serial: u64) -> Option<Option<Dot>>
     ensures { result ≡ cursor_at (region, serial) }
 {

@@ -1,4 +1,4 @@
-//! Whole pieces put into any sink, and a sink that takes all.
+//! Writes whole pieces into any sink (`put_all`), and has a sink that drops them (`Discard`).
 
 ghost use Rattle.std.specs.Prelude.{◌≡◌, ℕ, ◌≤◌, length, OnOk, OnErr};
 ghost use Rattle.std.specs.Io.KnownBytes.{Appends};
@@ -7,7 +7,7 @@ ghost use Rattle.tk_edge.specs.Told.{AppendsFront};
 
 use crate::device::{Failed, Sink};
 
-// Puts all of the bytes, or the beginning of them where the sink fails.
+// Puts all of the bytes. If the sink fails, it has taken only their beginning.
 pub(crate) fn put_all<S: Sink>(sink: &mut S, bytes: &[u8]) -> Result<(), Failed>
     ensures all { OnOk result (Appends (S.holds sink.old) (S.holds sink.new) bytes.now) }
     ensures front { OnErr result (AppendsFront (S.holds sink.old) (S.holds sink.new) bytes.now) }
@@ -20,7 +20,7 @@ pub(crate) fn put_all<S: Sink>(sink: &mut S, bytes: &[u8]) -> Result<(), Failed>
     Ok(())
 }
 
-/// A sink that takes all and keeps nothing: the log of who keeps none.
+/// A sink that takes all bytes and drops them. Used when the server runs without `--log`.
 #[derive(Drop)]
 pub struct Discard;
 

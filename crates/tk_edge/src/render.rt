@@ -1,4 +1,4 @@
-//! The bytes of a reply.
+//! Renders a reply as bytes: `render`.
 
 ghost use Rattle.std.specs.Prelude.{◌≡◌, map, IfOk};
 ghost use Rattle.std.specs.List.{concat};
@@ -10,13 +10,14 @@ use itoa::Buffer;
 use std::alloc::{AllocError, Global};
 use tk_message::{Payload, Reply, Status};
 
-// The whole reply, with the methods allowed, if it names them.
+// Renders the whole reply. `allowed` is the value of its `Allow`, if it has one.
 pub(crate) fn render(
     alloc: Global,
     reply: &Reply,
     allowed: Option<&[u8]>,
 ) -> Result<Vec<u8>, AllocError>
-    ensures { IfOk result (λ bytes. bytes.items ≡ spec.reply_bytes reply.now (option_copied allowed.entry)) }
+    ensures { IfOk result (λ bytes. bytes.items
+        ≡ spec.reply_bytes reply.now (option_copied allowed.entry)) }
 {
     let body = body_of(&reply.body);
     let (mut number, mut len) = (Buffer::new(), Buffer::new());
@@ -64,6 +65,7 @@ fn type_line(payload: &Payload) -> &'static [u8]
     }
 }
 
+// Returns the line, or nothing if the body is empty.
 fn where_any(body: &[u8], line: &'static [u8]) -> &'static [u8]
     ensures { result.now ≡ spec.where_any body.now line.entry.now }
 {
@@ -98,9 +100,10 @@ fn challenge_line(www: bool) -> &'static [u8]
     }
 }
 
-// A field, where it has a value; no memory is taken where it has none.
+// Returns the line of a field, or no bytes without a value. An absent field takes no memory.
 fn field_line(alloc: Global, name: &[u8], value: Option<&[u8]>) -> Result<Vec<u8>, AllocError>
-    ensures { IfOk result (λ line. line.items ≡ spec.field_line name.now (option_copied value.entry)) }
+    ensures { IfOk result (λ line. line.items
+        ≡ spec.field_line name.now (option_copied value.entry)) }
 {
     match value {
         Some(value) => joined(
@@ -112,7 +115,7 @@ fn field_line(alloc: Global, name: &[u8], value: Option<&[u8]>) -> Result<Vec<u8
     }
 }
 
-// The reply out of its parts.
+// Joins the parts of a reply.
 fn assembled<'a>(
     alloc: Global,
     number: &'a [u8],
@@ -125,7 +128,8 @@ fn assembled<'a>(
     body: &'a [u8],
 ) -> Result<Vec<u8>, AllocError>
     ensures { IfOk result (λ bytes. bytes.items
-        ≡ spec.assembly number.now reason.now type_line.now len.now challenge.now location.now allow.now body.now) }
+        ≡ spec.assembly number.now reason.now type_line.now len.now challenge.now location.now
+        allow.now body.now) }
 {
     let room = body
         .len()
@@ -153,7 +157,7 @@ fn assembled<'a>(
     )
 }
 
-// The pieces in order, with room for so many bytes at first.
+// Joins the pieces in order. `room` is how many bytes the buffer has room for at first.
 fn joined(alloc: Global, room: usize, pieces: &[&[u8]]) -> Result<Vec<u8>, AllocError>
     ensures { IfOk result (λ bytes. bytes.items ≡ concat (map (λ p. p.now) pieces.now)) }
 {

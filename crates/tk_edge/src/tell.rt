@@ -1,9 +1,9 @@
-//! A record, and then a reply.
+//! Writes the record of a fact, then the reply: `tell`, which may end with a `Fault`.
 
 ghost use Rattle.std.specs.Prelude.{◌≡◌, false, OnOk, OnErr};
 ghost use Rattle.std.specs.Io.KnownBytes.{Appends};
 ghost use Rattle.tk_edge.specs.Failures.{CountsFailure};
-ghost use Rattle.tk_edge.specs.Told.{AppendsFront, IsFaultOfDevice, IsTold};
+ghost use Rattle.tk_edge.specs.Told.{AppendsFront, IsFaultOfDevice, IsTold, UsesLog};
 
 use crate::answer::Answer;
 use crate::device::{Failed, Sink};
@@ -13,17 +13,19 @@ use tk_message::Status;
 /// Why a connection wasn't served.
 #[derive(Clone, Copy, PartialEq, Eq)]
 pub enum Fault {
-    /// The request couldn't be read. Nothing has changed, and nothing was written.
+    /// The request couldn't be read. The region is unchanged, and nothing was written.
     Read,
-    /// The reply couldn't be written whole. The fact stands, and its record is in the log.
+    /// The reply couldn't be written whole. The fact is added, and its record is in the log.
     Write,
-    /// The record couldn't be written whole. The fact stands, nothing was replied, and the edge is sealed.
+    /// The record couldn't be written whole. The fact is added, the client got no reply, and the
+    /// edge is sealed.
     Log,
-    /// Memory was refused. Nothing has changed, and nothing was written.
+    /// Memory ran out. Nothing was written. The region is unchanged, except that the first facts of
+    /// a pushed bundle may be in.
     Memory,
 }
 
-// Writes the record of the fact made, if any, and only then the reply. A log that fails seals.
+// Writes the record of the fact made, if any, and then the reply. A log that fails seals the edge.
 pub(crate) fn tell<W: Sink, L: Sink>(
     answer: &Answer,
     sealed: &mut bool,
@@ -33,7 +35,9 @@ pub(crate) fn tell<W: Sink, L: Sink>(
     requires { sealed.old ≡ false }
     ensures told { IsTold answer.now (record { before = L.holds log.old; after = L.holds log.new })
         (record { before = W.holds writer.old; after = W.holds writer.new }) sealed.new result }
-    ensures faults { IsFaultOfDevice result (L.failed log.old) (L.failed log.new) (W.failed writer.old) (W.failed writer.new) }
+    ensures log { UsesLog answer.now (log.new ≡ log.old) result }
+    ensures faults { IsFaultOfDevice result (L.failed log.old) (L.failed log.new)
+        (W.failed writer.old) (W.failed writer.new) }
 {
     if let Some(bytes) = &answer.logged {
         if write_record(log, bytes).is_err() {

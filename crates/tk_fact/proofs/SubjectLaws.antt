@@ -1,4 +1,4 @@
--- The name of a subject is ASCII, and so is UTF-8: `subject_utf8`, cited by its reader.
+-- The name of a subject is ASCII, and therefore UTF-8 (`subject_utf8`).
 use Rattle.std.proofs.Common.{◌≡◌, ℕ, ◌<◌, true, zero, suc, List, [], ◌∷◌, arith}
 use Rattle.std.specs.List.{list_all}
 use Rattle.std.specs.Str.{IsAscii, IsUtf8}

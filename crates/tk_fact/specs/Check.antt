@@ -1,5 +1,5 @@
--- Which rule a fact breaks (own).
---   refusal_of   the first rule that what a fact says breaks, if any
+-- The rules that a fact must keep (own).
+--   refusal_of   the first rule that a body breaks, if any
 use Rattle.std.specs.Prelude.{ℕ, Bool, true, false, ◌&&◌, nat_le, Option, Some, None, if◌then◌else◌}
 use Rattle.std.specs.List.{list_all}
 use Rattle.tk_handle.specs.declared.kind.Kind.{Kind}
@@ -14,32 +14,32 @@ use Rattle.tk_fact.specs.Subject.{is_subject}
 
 -- ---- the limits
 
--- none, or one with the text of a challenge (RFC 7636, 4.2)
+-- no challenge, or a challenge whose text has the grammar (RFC 7636, 4.2)
 abbrev pub is_challenge : Option ChallengeFields → Bool
 is_challenge None = true
 is_challenge (Some challenge) = is_verifier challenge.text
 
 -- ---- the ranges
 
--- neither token ends before the start
+-- neither token expires before the start
 abbrev pub ends_after : ℕ → MintedToken → MintedToken → Bool
 ends_after start access refresh = nat_le start access.end && nat_le start refresh.end
 
--- the most generations of a family: how often its refresh token is rotated (own)
+-- the greatest number of generations of a family: how often its refresh token is rotated (own)
 abbrev pub most_generations : ℕ
 most_generations = 10000
 
--- 1 to that many
+-- a generation: 1 to `most_generations`
 abbrev pub is_generation : ℕ → Bool
 is_generation n = nat_le 1 n && nat_le n most_generations
 
--- an access or refresh token: a code isn't revoked (RFC 7009, 2)
+-- a kind of token that can be revoked: access or refresh, not a code (RFC 7009, 2)
 abbrev pub is_revocable : Kind → Bool
 is_revocable Code = false
 is_revocable Access = true
 is_revocable Refresh = true
 
--- a code or a refresh token: an access token is used as often as its holder likes
+-- a kind of token that can be used only once: a code or a refresh token
 abbrev pub is_used_once : Kind → Bool
 is_used_once Code = true
 is_used_once Access = false
@@ -47,24 +47,28 @@ is_used_once Refresh = true
 
 -- ---- the check
 
--- the first rule that is broken: the limits, then the ranges
+-- the first kind of rule that is broken: the limits, then the ranges
 abbrev pub first_broken : Bool → Bool → Option FactError
 first_broken limits ranges =
     if limits then (if ranges then None else Some FactError.Range)
     else Some FactError.Limit
 
--- Of each kind its limits and its ranges. The limits: each subject, redirection URI and challenge is within its length and
--- its alphabet. The ranges: no end, the family's too, is before its start, and each generation and kind of token is within
--- its range.
+-- the first rule that a body breaks, if any. The limits: each subject, redirection URI and
+-- challenge is within its length and its alphabet. The ranges: no expiry, nor the end of a family,
+-- is before its start, and each generation and kind of token is within its range
 abbrev pub refusal_of : Body → Option FactError
 refusal_of (bodies.ClientAdded fact) = first_broken (list_all is_uri fact.redirects) true
 refusal_of (bodies.ClientRetired fact) = None
 refusal_of (bodies.ConsentGiven fact) = first_broken (is_subject fact.subject) true
 refusal_of (bodies.ConsentWithdrawn fact) = None
 refusal_of (bodies.CodeIssued fact) =
-    first_broken (is_subject fact.subject && is_uri fact.uri && is_challenge fact.challenge) (nat_le fact.start fact.expiry && nat_le fact.start fact.family_end)
-refusal_of (bodies.CodeRedeemed fact) = first_broken true (ends_after fact.start fact.access fact.refresh)
-refusal_of (bodies.RefreshRotated fact) = first_broken true (is_generation fact.generation && ends_after fact.start fact.access fact.refresh)
+    first_broken (is_subject fact.subject && is_uri fact.uri && is_challenge fact.challenge)
+    (nat_le fact.start fact.expiry && nat_le fact.start fact.family_end)
+refusal_of (bodies.CodeRedeemed fact) =
+    first_broken true (ends_after fact.start fact.access fact.refresh)
+refusal_of (bodies.RefreshRotated fact) =
+    first_broken true (is_generation fact.generation
+    && ends_after fact.start fact.access fact.refresh)
 refusal_of (bodies.TokenRevoked fact) = first_broken true (is_revocable fact.token.kind)
 refusal_of (bodies.ReuseSeen fact) = first_broken true (is_used_once fact.token.kind)
 refusal_of (bodies.SubjectOut fact) = first_broken (is_subject fact.subject) true

@@ -1,4 +1,5 @@
--- The law of each kind of fact, of a fact and of a framed fact: what is read is spelled so, and what is spelled so is read.
+-- The law of each kind of fact, of a fact and of a framed fact: a value that is read is spelled by
+-- the bytes taken, and a spelling is read as its value.
 use Rattle.std.proofs.Common.{refl}
 use Rattle.tk_format.specs.Format.{◌and_then◌}
 use Rattle.tk_format.specs.Exact.{IsExact}
@@ -8,59 +9,118 @@ use Rattle.tk_handle.proofs.FormatLaws.{dot_field_exact, moment_exact, token_exa
 use Rattle.tk_fact.specs.declared.body.Body.TheVariants as bodies
 use Rattle.tk_fact.specs.Kinds as fields
 use Rattle.tk_fact.specs.FactBytes.{kinds, body, passes, fact, most_bytes, framed}
-use Rattle.tk_fact.specs.FieldLaws.{digest_exact, sort_exact, scope_exact, subject_exact, uri_exact, redirects_exact, flag_exact, challenge_exact, minted_exact}
+use Rattle.tk_fact.specs.FieldLaws.{
+  digest_exact,
+  sort_exact,
+  scope_exact,
+  subject_exact,
+  uri_exact,
+  redirects_exact,
+  flag_exact,
+  challenge_exact,
+  minted_exact,
+}
 
+-- the law of the fields of ClientAdded
 client_added_exact : IsExact fields.client_added
-client_added_exact = shaped_exact _ _ _ (both_exact _ _ sort_exact (both_exact _ _ scope_exact redirects_exact)) (λ _. refl) (λ _. refl)
+client_added_exact =
+    shaped_exact _ _ _ (both_exact _ _ sort_exact (both_exact _ _ scope_exact redirects_exact))
+    (λ _. refl) (λ _. refl)
 
+-- the law of the fields of ClientRetired
 client_retired_exact : IsExact fields.client_retired
 client_retired_exact = shaped_exact _ _ _ dot_field_exact (λ _. refl) (λ _. refl)
 
+-- the law of the fields of ConsentGiven
 consent_given_exact : IsExact fields.consent_given
-consent_given_exact = shaped_exact _ _ _ (both_exact _ _ dot_field_exact (both_exact _ _ subject_exact scope_exact)) (λ _. refl) (λ _. refl)
+consent_given_exact =
+    shaped_exact _ _ _ (both_exact _ _ dot_field_exact (both_exact _ _ subject_exact scope_exact))
+    (λ _. refl) (λ _. refl)
 
+-- the law of the fields of ConsentWithdrawn
 consent_withdrawn_exact : IsExact fields.consent_withdrawn
 consent_withdrawn_exact = shaped_exact _ _ _ dot_field_exact (λ _. refl) (λ _. refl)
 
+-- the law of the fields of CodeIssued
 code_issued_exact : IsExact fields.code_issued
 code_issued_exact = shaped_exact _ _ _
     (both_exact fields.code_parties _ (both_exact _ _ dot_field_exact dot_field_exact)
-    (both_exact fields.code_times _ (both_exact _ _ digest_exact (both_exact _ _ moment_exact (both_exact _ _ moment_exact moment_exact)))
+    (both_exact fields.code_times _
+    (both_exact _ _ digest_exact
+    (both_exact _ _ moment_exact (both_exact _ _ moment_exact moment_exact)))
     (both_exact fields.code_rights fields.code_bindings (both_exact _ _ subject_exact scope_exact)
-    (both_exact _ _ uri_exact (both_exact _ _ flag_exact challenge_exact))))) (λ _. refl) (λ _. refl)
+    (both_exact _ _ uri_exact (both_exact _ _ flag_exact challenge_exact))))) (λ _. refl)
+    (λ _. refl)
 
+-- the law of the fields of CodeRedeemed
 code_redeemed_exact : IsExact fields.code_redeemed
-code_redeemed_exact = shaped_exact _ _ _ (both_exact _ _ dot_field_exact (both_exact _ _ moment_exact (both_exact _ _ minted_exact minted_exact))) (λ _. refl) (λ _. refl)
+code_redeemed_exact =
+    shaped_exact _ _ _ (both_exact _ _ dot_field_exact
+    (both_exact _ _ moment_exact (both_exact _ _ minted_exact minted_exact))) (λ _. refl)
+    (λ _. refl)
 
+-- the law of the fields of RefreshRotated
 refresh_rotated_exact : IsExact fields.refresh_rotated
-refresh_rotated_exact = shaped_exact _ _ _ (both_exact _ _ dot_field_exact (both_exact _ _ u16_exact (both_exact _ _ moment_exact (both_exact _ _ minted_exact minted_exact)))) (λ _. refl) (λ _. refl)
+refresh_rotated_exact =
+    shaped_exact _ _ _ (both_exact _ _ dot_field_exact
+    (both_exact _ _ u16_exact
+    (both_exact _ _ moment_exact (both_exact _ _ minted_exact minted_exact)))) (λ _. refl)
+    (λ _. refl)
 
+-- the law of the fields of TokenRevoked
 token_revoked_exact : IsExact fields.token_revoked
-token_revoked_exact = shaped_exact _ _ _ (both_exact _ _ token_exact (both_exact _ _ digest_exact dot_field_exact)) (λ _. refl) (λ _. refl)
+token_revoked_exact =
+    shaped_exact _ _ _ (both_exact _ _ token_exact (both_exact _ _ digest_exact dot_field_exact))
+    (λ _. refl) (λ _. refl)
 
+-- the law of the fields of ReuseSeen
 reuse_seen_exact : IsExact fields.reuse_seen
 reuse_seen_exact = shaped_exact _ _ _ token_exact (λ _. refl) (λ _. refl)
 
+-- the law of the fields of SubjectOut
 subject_out_exact : IsExact fields.subject_out
-subject_out_exact = shaped_exact _ _ _ (both_exact _ _ subject_exact moment_exact) (λ _. refl) (λ _. refl)
+subject_out_exact = shaped_exact _ _ _ (both_exact _ _ subject_exact moment_exact) (λ _. refl)
+    (λ _. refl)
 
+-- the law of the format of bodies: a row for each kind
 body_exact : IsExact body
 unfolding kinds
 body_exact =
-    kind_exact _ _ client_added_exact (elim [ bodies.ClientAdded f ↦ its _ f | b ↦ not_its _ b ]) (λ a. refl) (λ a h. h) (λ bytes. refl)
-    and_then kind_exact _ _ client_retired_exact (elim [ bodies.ClientRetired f ↦ its _ f | b ↦ not_its _ b ]) (λ a. refl) (λ a h. h) (λ bytes. refl)
-    and_then kind_exact _ _ consent_given_exact (elim [ bodies.ConsentGiven f ↦ its _ f | b ↦ not_its _ b ]) (λ a. refl) (λ a h. h) (λ bytes. refl)
-    and_then kind_exact _ _ consent_withdrawn_exact (elim [ bodies.ConsentWithdrawn f ↦ its _ f | b ↦ not_its _ b ]) (λ a. refl) (λ a h. h) (λ bytes. refl)
-    and_then kind_exact _ _ code_issued_exact (elim [ bodies.CodeIssued f ↦ its _ f | b ↦ not_its _ b ]) (λ a. refl) (λ a h. h) (λ bytes. refl)
-    and_then kind_exact _ _ code_redeemed_exact (elim [ bodies.CodeRedeemed f ↦ its _ f | b ↦ not_its _ b ]) (λ a. refl) (λ a h. h) (λ bytes. refl)
-    and_then kind_exact _ _ refresh_rotated_exact (elim [ bodies.RefreshRotated f ↦ its _ f | b ↦ not_its _ b ]) (λ a. refl) (λ a h. h) (λ bytes. refl)
-    and_then kind_exact _ _ token_revoked_exact (elim [ bodies.TokenRevoked f ↦ its _ f | b ↦ not_its _ b ]) (λ a. refl) (λ a h. h) (λ bytes. refl)
-    and_then kind_exact _ _ reuse_seen_exact (elim [ bodies.ReuseSeen f ↦ its _ f | b ↦ not_its _ b ]) (λ a. refl) (λ a h. h) (λ bytes. refl)
-    and_then kind_exact _ _ subject_out_exact (elim [ bodies.SubjectOut f ↦ its _ f | b ↦ not_its _ b ]) (λ a. refl) (λ a h. h) (λ bytes. refl)
+    kind_exact _ _ client_added_exact (elim [ bodies.ClientAdded f ↦ its _ f | b ↦ not_its _ b ])
+    (λ a. refl) (λ a h. h) (λ bytes. refl)
+    and_then kind_exact _ _ client_retired_exact
+    (elim [ bodies.ClientRetired f ↦ its _ f | b ↦ not_its _ b ]) (λ a. refl) (λ a h. h)
+    (λ bytes. refl)
+    and_then kind_exact _ _ consent_given_exact
+    (elim [ bodies.ConsentGiven f ↦ its _ f | b ↦ not_its _ b ]) (λ a. refl) (λ a h. h)
+    (λ bytes. refl)
+    and_then kind_exact _ _ consent_withdrawn_exact
+    (elim [ bodies.ConsentWithdrawn f ↦ its _ f | b ↦ not_its _ b ]) (λ a. refl) (λ a h. h)
+    (λ bytes. refl)
+    and_then kind_exact _ _ code_issued_exact
+    (elim [ bodies.CodeIssued f ↦ its _ f | b ↦ not_its _ b ]) (λ a. refl) (λ a h. h)
+    (λ bytes. refl)
+    and_then kind_exact _ _ code_redeemed_exact
+    (elim [ bodies.CodeRedeemed f ↦ its _ f | b ↦ not_its _ b ]) (λ a. refl) (λ a h. h)
+    (λ bytes. refl)
+    and_then kind_exact _ _ refresh_rotated_exact
+    (elim [ bodies.RefreshRotated f ↦ its _ f | b ↦ not_its _ b ]) (λ a. refl) (λ a h. h)
+    (λ bytes. refl)
+    and_then kind_exact _ _ token_revoked_exact
+    (elim [ bodies.TokenRevoked f ↦ its _ f | b ↦ not_its _ b ]) (λ a. refl) (λ a h. h)
+    (λ bytes. refl)
+    and_then kind_exact _ _ reuse_seen_exact
+    (elim [ bodies.ReuseSeen f ↦ its _ f | b ↦ not_its _ b ]) (λ a. refl) (λ a h. h)
+    (λ bytes. refl)
+    and_then kind_exact _ _ subject_out_exact
+    (elim [ bodies.SubjectOut f ↦ its _ f | b ↦ not_its _ b ]) (λ a. refl) (λ a h. h)
+    (λ bytes. refl)
     and_then no_kind_exact
 
+-- the law of the format of facts
 pub fact_exact : IsExact fact
 fact_exact = only_exact passes _ (both_exact _ _ dot_field_exact body_exact)
 
+-- the law of the format of framed facts
 pub framed_exact : IsExact framed
 framed_exact = sized_exact most_bytes fact fact_exact

@@ -1,4 +1,5 @@
--- The fields of each kind of fact, in the order of its spelling (own). Facts that were written keep this order, so it never changes.
+-- The fields of each kind of fact, in the order in which they are spelled (own). Facts that were
+-- written keep this order, so it never changes.
 use Rattle.std.specs.Prelude.{ℕ, Bool, List, Option}
 use Rattle.std.specs.Int.{w16}
 use Rattle.tk_format.specs.Format.{Format, ◌⊗◌, number, shaped}
@@ -7,7 +8,17 @@ use Rattle.tk_handle.specs.Moment.{moment}
 use Rattle.tk_handle.specs.DotBytes.{dot_field}
 use Rattle.tk_handle.specs.TokenId.{token}
 use Rattle.tk_match.specs.Challenge.{ChallengeFields}
-use Rattle.tk_fact.specs.Fields.{digest_field, sort_field, scope_field, subject_field, uri_field, redirects_field, flag_field, challenge_field, minted_field}
+use Rattle.tk_fact.specs.Fields.{
+  digest_field,
+  sort_field,
+  scope_field,
+  subject_field,
+  uri_field,
+  redirects_field,
+  flag_field,
+  challenge_field,
+  minted_field,
+}
 use Rattle.tk_fact.specs.declared.client_added.ClientAdded.{ClientAdded}
 use Rattle.tk_fact.specs.declared.client_retired.ClientRetired.{ClientRetired}
 use Rattle.tk_fact.specs.declared.consent_given.ConsentGiven.{ConsentGiven}
@@ -19,43 +30,55 @@ use Rattle.tk_fact.specs.declared.token_revoked.TokenRevoked.{TokenRevoked}
 use Rattle.tk_fact.specs.declared.reuse_seen.ReuseSeen.{ReuseSeen}
 use Rattle.tk_fact.specs.declared.subject_out.SubjectOut.{SubjectOut}
 
+-- ClientAdded: the client kind, the scope, the redirection URIs
 abbrev pub client_added : Format ClientAdded
 client_added = shaped
     (λ (sort, (scope, redirects)). record { sort = sort; scope = scope; redirects = redirects })
     (λ f. (f.sort, (f.scope, f.redirects)))
     (sort_field ⊗ (scope_field ⊗ redirects_field))
 
+-- ClientRetired: the dot of the client
 abbrev pub client_retired : Format ClientRetired
 client_retired = shaped (λ d. record { client = d }) (λ f. f.client) dot_field
 
+-- ConsentGiven: the dot of the client, the subject, the scope
 abbrev pub consent_given : Format ConsentGiven
 consent_given = shaped
     (λ (client, (subject, scope)). record { client = client; subject = subject; scope = scope })
     (λ f. (f.client, (f.subject, f.scope)))
     (dot_field ⊗ (subject_field ⊗ scope_field))
 
+-- ConsentWithdrawn: the dot of the consent
 abbrev pub consent_withdrawn : Format ConsentWithdrawn
 consent_withdrawn = shaped (λ d. record { consent = d }) (λ f. f.consent) dot_field
 
--- whom a code is for: its client, and the consent that it rests on
+-- the dots of an issued code: its client, and the consent on which it rests
 abbrev pub code_parties : Format (Dot × Dot)
 code_parties = dot_field ⊗ dot_field
 
--- the digest of its handle; its start, its expiry and the end of its family
+-- the digest of an issued code's handle, its start, its expiry, and the end of its family
 abbrev pub code_times : Format (List ℕ × (ℕ × (ℕ × ℕ)))
 code_times = digest_field ⊗ (moment ⊗ (moment ⊗ moment))
 
--- what it stands for: a scope of a subject
+-- the rights of an issued code: its subject and its scope
 abbrev pub code_rights : Format (List ℕ × List ℕ)
 code_rights = subject_field ⊗ scope_field
 
--- what the token request must match: the URI, whether it was sent, and the challenge
+-- what the token request must match for an issued code: the URI, whether it was sent, and the
+-- challenge
 abbrev pub code_bindings : Format (List ℕ × (Bool × Option ChallengeFields))
 code_bindings = uri_field ⊗ (flag_field ⊗ challenge_field)
 
+-- CodeIssued: the two dots, the digest and times, the rights, and what the token request must match
 abbrev pub code_issued : Format CodeIssued
 code_issued = shaped
-    (λ ((client, consent), ((digest, (start, (expiry, family_end))), ((subject, scope), (uri, (sent, challenge))))). record {
+    (λ (
+      (client, consent),
+      (
+        (digest, (start, (expiry, family_end))),
+        ((subject, scope), (uri, (sent, challenge))),
+      ),
+    ). record {
       client = client;
       consent = consent;
       digest = digest;
@@ -68,15 +91,25 @@ code_issued = shaped
       sent = sent;
       challenge = challenge;
     })
-    (λ f. ((f.client, f.consent), ((f.digest, (f.start, (f.expiry, f.family_end))), ((f.subject, f.scope), (f.uri, (f.sent, f.challenge))))))
+    (λ f. (
+      (f.client, f.consent),
+      (
+        (f.digest, (f.start, (f.expiry, f.family_end))),
+        ((f.subject, f.scope), (f.uri, (f.sent, f.challenge))),
+      ),
+    ))
     (code_parties ⊗ (code_times ⊗ (code_rights ⊗ code_bindings)))
 
+-- CodeRedeemed: the dot of the code, the start, the access token, the refresh token
 abbrev pub code_redeemed : Format CodeRedeemed
 code_redeemed = shaped
-    (λ (code, (start, (access, refresh))). record { code = code; start = start; access = access; refresh = refresh })
+    (λ (code, (start, (access, refresh))).
+    record { code = code; start = start; access = access; refresh = refresh })
     (λ f. (f.code, (f.start, (f.access, f.refresh))))
     (dot_field ⊗ (moment ⊗ (minted_field ⊗ minted_field)))
 
+-- RefreshRotated: the dot of the parent, the generation, the start, the access token, the refresh
+-- token
 abbrev pub refresh_rotated : Format RefreshRotated
 refresh_rotated = shaped
     (λ (parent, (generation, (start, (access, refresh)))). record {
@@ -89,14 +122,18 @@ refresh_rotated = shaped
     (λ f. (f.parent, (f.generation, (f.start, (f.access, f.refresh)))))
     (dot_field ⊗ (number w16 ⊗ (moment ⊗ (minted_field ⊗ minted_field))))
 
+-- TokenRevoked: the name of the token, its digest, the dot of the client
 abbrev pub token_revoked : Format TokenRevoked
 token_revoked = shaped
     (λ (token, (digest, client)). record { token = token; digest = digest; client = client })
     (λ f. (f.token, (f.digest, f.client)))
     (token ⊗ (digest_field ⊗ dot_field))
 
+-- ReuseSeen: the name of the token that was used again
 abbrev pub reuse_seen : Format ReuseSeen
 reuse_seen = shaped (λ t. record { token = t }) (λ f. f.token) token
 
+-- SubjectOut: the subject, and the moment of the sign-out
 abbrev pub subject_out : Format SubjectOut
-subject_out = shaped (λ (subject, at). record { subject = subject; moment = at }) (λ f. (f.subject, f.moment)) (subject_field ⊗ moment)
+subject_out = shaped (λ (subject, at). record { subject = subject; moment = at })
+    (λ f. (f.subject, f.moment)) (subject_field ⊗ moment)

@@ -1,5 +1,28 @@
--- A fact that has a spelling has a short one (`fact_short`), also behind its length (`framed_fits`).
-use Rattle.std.proofs.Common.{◌≡◌, ℕ, ◌*◌, ◌≤◌, Bool, true, false, cond, not, nat_lt, List, [], ◌∷◌, ◌++◌, length, Option, Some, None, refl, ap, arith}
+-- A fact that has a spelling has at most 8,192 bytes (`fact_short`), and has a spelling behind its
+-- length too (`framed_fits`).
+use Rattle.std.proofs.Common.{
+  ◌≡◌,
+  ℕ,
+  ◌*◌,
+  ◌≤◌,
+  Bool,
+  true,
+  false,
+  cond,
+  not,
+  nat_lt,
+  List,
+  [],
+  ◌∷◌,
+  ◌++◌,
+  length,
+  Option,
+  Some,
+  None,
+  refl,
+  ap,
+  arith,
+}
 use Rattle.std.specs.Prelude.{is_some}
 use Rattle.std.specs.Int.{w16, w64}
 use Rattle.std.specs.List.{list_all, flat_map}
@@ -11,7 +34,14 @@ use borrow.Author.Tests.{le-leb}
 use Rattle.tk_format.specs.Format.{text, number_spelling}
 use Rattle.tk_format.specs.Exact.{bind_some}
 use Rattle.tk_format.specs.Spellings.{number_length, both_short, text_short}
-use Rattle.tk_scope.specs.Scope.{greatest_length, is_token, most_tokens, scope_of, scope_text, tokens_of}
+use Rattle.tk_scope.specs.Scope.{
+  greatest_length,
+  is_token,
+  most_tokens,
+  scope_of,
+  scope_text,
+  tokens_of,
+}
 use Rattle.tk_scope.specs.declared.error.ScopeError.{ScopeError}
 use Rattle.tk_match.specs.Redirects.{most_uri_bytes, is_uri}
 use Rattle.tk_match.specs.Challenge.{ChallengeFields, most_verifier_bytes}
@@ -24,52 +54,94 @@ use Rattle.tk_fact.specs.declared.minted_token.MintedToken.{MintedToken}
 use Rattle.tk_fact.specs.declared.body.Body.{Body}
 use Rattle.tk_fact.specs.declared.body.Body.TheVariants as bodies
 use Rattle.tk_fact.specs.Subject.{most_subject_bytes}
-use Rattle.tk_fact.specs.Fields.{sorts, sort_field, scope_field, redirects_field, ChallengeFits, challenge_field, minted_field}
+use Rattle.tk_fact.specs.Fields.{
+  sorts,
+  sort_field,
+  scope_field,
+  redirects_field,
+  ChallengeFits,
+  challenge_field,
+  minted_field,
+}
 use Rattle.tk_fact.specs.FactBytes.{kinds, body, fact, most_bytes, framed}
-use Rattle.tk_fact.specs.FieldLaws.{both_true, kept_list, few, subject_short, uri_short, redirects_keep, verifier_short}
+use Rattle.tk_fact.specs.FieldLaws.{
+  both_true,
+  kept_list,
+  few,
+  subject_short,
+  uri_short,
+  redirects_keep,
+  verifier_short,
+}
 
 -- ---- lengths of the fields
 
--- a dot has 10 bytes at most
+-- a dot has at most 10 bytes
 dot_short : (d : Dot) → length (dot_field.spell d) ≤ 10
-dot_short d = both_short (number_spelling w16 d.region) (number_spelling w64 d.serial) 2 8 (omega (arith, number_length w16 d.region)) (omega (arith, number_length w64 d.serial))
+dot_short d = both_short (number_spelling w16 d.region) (number_spelling w64 d.serial) 2 8
+    (omega (arith, number_length w16 d.region)) (omega (arith, number_length w64 d.serial))
 
--- a moment 8
+-- a moment has at most 8 bytes
 moment_short : (n : ℕ) → length (moment.spell n) ≤ 8
 moment_short n = omega (arith, number_length w64 n)
 
--- a text that is a scope has no more bytes than it may
-scope_by : (long grammar many : Bool) (s t : List ℕ) → cond (is_some (cond long (Some ScopeError.TooLong) (cond grammar (Some ScopeError.Grammar) (cond many (Some ScopeError.TooMany) None)))) None (Some s) ≡ Some t → long ≡ false
+-- for `scope_within`: a text that breaks no rule of a scope is not too long
+scope_by : (long grammar many : Bool) (s t : List ℕ)
+    → cond (is_some (cond long (Some ScopeError.TooLong)
+    (cond grammar (Some ScopeError.Grammar) (cond many (Some ScopeError.TooMany) None)))) None
+    (Some s) ≡ Some t → long ≡ false
 scope_by true grammar many s t h = absurd cc
 scope_by false grammar many s t h = refl
 
+-- a text that is a scope has at most `greatest_length` bytes
 scope_within : (t s : List ℕ) → scope_of t ≡ Some s → length t ≤ greatest_length
-scope_within t s h = ltb-false greatest_length (length t) (scope_by (nat_lt greatest_length (length t)) (not (list_all is_token (tokens_of t))) (nat_lt most_tokens (length (tokens_of t))) (scope_text (tokens_of t)) s h)
+scope_within t s h =
+    ltb-false greatest_length (length t)
+    (scope_by (nat_lt greatest_length (length t)) (not (list_all is_token (tokens_of t)))
+    (nat_lt most_tokens (length (tokens_of t))) (scope_text (tokens_of t)) s h)
 
+-- the field of a scope has at most 1,026 bytes
 scope_short : (t : List ℕ) → scope_field.Fits t → length (text.spell t) ≤ 1026
 scope_short t fits =
     let found = bind_some (scope_of t) (λ s. cond (bytes_eq s t) (Some s) None) t fits.1 in
     text_short t greatest_length (scope_within t found.0 found.1)
 
--- 514 bytes a redirection URI
-uris_short : (us : List (List ℕ)) → list_all is_uri us ≡ true → length (flat_map text.spell us) ≤ 514 * length us
+-- a redirection URI has at most 514 bytes with its length
+uris_short : (us : List (List ℕ)) → list_all is_uri us ≡ true
+    → length (flat_map text.spell us) ≤ 514 * length us
 uris_short [] h = omega arith
 uris_short (u ∷ us) h =
     let b = both_true (is_uri u) (list_all is_uri us) h in
-    omega (arith, length-append (text.spell u) (flat_map text.spell us), ap length (flat_map-cons text.spell u us), text_short u most_uri_bytes (uri_short u b.0), uris_short us b.1)
+    omega (
+      arith,
+      length-append (text.spell u) (flat_map text.spell us),
+      ap length (flat_map-cons text.spell u us),
+      text_short u most_uri_bytes (uri_short u b.0),
+      uris_short us b.1,
+    )
 
-redirects_short : (us : List (List ℕ)) → redirects_field.Fits us → length (redirects_field.spell us) ≤ 4113
+-- the field of a list of redirection URIs has at most 4,113 bytes
+redirects_short : (us : List (List ℕ)) → redirects_field.Fits us
+    → length (redirects_field.spell us) ≤ 4113
 redirects_short us fits =
     let kept = kept_list us (redirects_keep us fits.1) in
     omega (arith, few (length us) kept.0, uris_short us kept.1)
 
+-- the field of a minted token has at most 1,066 bytes
 minted_short : (m : MintedToken) → minted_field.Fits m → length (minted_field.spell m) ≤ 1066
-minted_short m fits = both_short m.digest (moment.spell m.end ++ text.spell m.scope) 32 1034 (omega (arith, fits.0)) (both_short (moment.spell m.end) (text.spell m.scope) 8 1026 (moment_short m.end) (scope_short m.scope fits.1.1))
+minted_short m fits =
+    both_short m.digest (moment.spell m.end ++ text.spell m.scope) 32 1034 (omega (arith, fits.0))
+    (both_short (moment.spell m.end) (text.spell m.scope) 8 1026 (moment_short m.end)
+    (scope_short m.scope fits.1.1))
 
-challenge_short : (c : Option ChallengeFields) → ChallengeFits c → length (challenge_field.spell c) ≤ 131
+-- the field of an optional challenge has at most 131 bytes
+challenge_short : (c : Option ChallengeFields) → ChallengeFits c
+    → length (challenge_field.spell c) ≤ 131
 challenge_short None fits = omega arith
-challenge_short (Some c) fits = omega (arith, text_short c.text most_verifier_bytes (verifier_short c.text fits.1))
+challenge_short (Some c) fits =
+    omega (arith, text_short c.text most_verifier_bytes (verifier_short c.text fits.1))
 
+-- the field of a client kind has at most 33 bytes
 sort_short : (s : Sort) → sort_field.Fits s → length (sort_field.spell s) ≤ 33
 unfolding sorts
 sort_short Public fits = omega arith
@@ -78,30 +150,84 @@ sort_short (Resource d) fits = omega (arith, fits)
 
 -- ---- lengths of bodies and facts
 
+-- a body has at most 8,000 bytes
 body_short : (b : Body) → body.Fits b → length (body.spell b) ≤ 8000
 unfolding kinds
 body_short (bodies.ClientAdded f) fits =
-    simp length-append (omega (arith, sort_short f.sort fits.0, scope_short f.scope fits.1.0, simp length-append at (redirects_short f.redirects fits.1.1)))
-body_short (bodies.ClientRetired f) fits = simp length-append (omega (arith, simp length-append at (dot_short f.client)))
+    simp length-append (omega (
+      arith,
+      sort_short f.sort fits.0,
+      scope_short f.scope fits.1.0,
+      simp length-append at (redirects_short f.redirects fits.1.1),
+    ))
+body_short (bodies.ClientRetired f) fits =
+    simp length-append (omega (arith, simp length-append at (dot_short f.client)))
 body_short (bodies.ConsentGiven f) fits =
-    simp length-append (omega (arith, simp length-append at (dot_short f.client), text_short f.subject most_subject_bytes (subject_short f.subject fits.1.0.1), scope_short f.scope fits.1.1))
-body_short (bodies.ConsentWithdrawn f) fits = simp length-append (omega (arith, simp length-append at (dot_short f.consent)))
+    simp length-append (omega (
+      arith,
+      simp length-append at (dot_short f.client),
+      text_short f.subject most_subject_bytes (subject_short f.subject fits.1.0.1),
+      scope_short f.scope fits.1.1,
+    ))
+body_short (bodies.ConsentWithdrawn f) fits =
+    simp length-append (omega (arith, simp length-append at (dot_short f.consent)))
 body_short (bodies.CodeIssued f) fits =
-    simp length-append (omega (arith, simp length-append at (dot_short f.client), simp length-append at (dot_short f.consent), fits.1.0.0, moment_short f.start, moment_short f.expiry, moment_short f.family_end, text_short f.subject most_subject_bytes (subject_short f.subject fits.1.1.0.0.1), scope_short f.scope fits.1.1.0.1, text_short f.uri most_uri_bytes (uri_short f.uri fits.1.1.1.0.1), challenge_short f.challenge fits.1.1.1.1.1))
+    simp length-append (omega (
+      arith,
+      simp length-append at (dot_short f.client),
+      simp length-append at (dot_short f.consent),
+      fits.1.0.0,
+      moment_short f.start,
+      moment_short f.expiry,
+      moment_short f.family_end,
+      text_short f.subject most_subject_bytes (subject_short f.subject fits.1.1.0.0.1),
+      scope_short f.scope fits.1.1.0.1,
+      text_short f.uri most_uri_bytes (uri_short f.uri fits.1.1.1.0.1),
+      challenge_short f.challenge fits.1.1.1.1.1,
+    ))
 body_short (bodies.CodeRedeemed f) fits =
-    simp length-append (omega (arith, simp length-append at (dot_short f.code), moment_short f.start, simp length-append at (minted_short f.access fits.1.1.0), simp length-append at (minted_short f.refresh fits.1.1.1)))
+    simp length-append (omega (
+      arith,
+      simp length-append at (dot_short f.code),
+      moment_short f.start,
+      simp length-append at (minted_short f.access fits.1.1.0),
+      simp length-append at (minted_short f.refresh fits.1.1.1),
+    ))
 body_short (bodies.RefreshRotated f) fits =
-    simp length-append (omega (arith, simp length-append at (dot_short f.parent), number_length w16 f.generation, moment_short f.start, simp length-append at (minted_short f.access fits.1.1.1.0), simp length-append at (minted_short f.refresh fits.1.1.1.1)))
-body_short (bodies.TokenRevoked f) fits = simp length-append (omega (arith, simp length-append at (dot_short f.token.dot), fits.1.0, simp length-append at (dot_short f.client)))
-body_short (bodies.ReuseSeen f) fits = simp length-append (omega (arith, simp length-append at (dot_short f.token.dot)))
+    simp length-append (omega (
+      arith,
+      simp length-append at (dot_short f.parent),
+      number_length w16 f.generation,
+      moment_short f.start,
+      simp length-append at (minted_short f.access fits.1.1.1.0),
+      simp length-append at (minted_short f.refresh fits.1.1.1.1),
+    ))
+body_short (bodies.TokenRevoked f) fits =
+    simp length-append (omega (
+      arith,
+      simp length-append at (dot_short f.token.dot),
+      fits.1.0,
+      simp length-append at (dot_short f.client),
+    ))
+body_short (bodies.ReuseSeen f) fits =
+    simp length-append (omega (arith, simp length-append at (dot_short f.token.dot)))
 body_short (bodies.SubjectOut f) fits =
-    simp length-append (omega (arith, text_short f.subject most_subject_bytes (subject_short f.subject fits.0.1), moment_short f.moment))
+    simp length-append (omega (
+      arith,
+      text_short f.subject most_subject_bytes (subject_short f.subject fits.0.1),
+      moment_short f.moment,
+    ))
 
--- a fact has so few bytes
+-- a fact has at most `most_bytes`
 pub fact_short : (f : Dot × Body) → fact.Fits f → length (fact.spell f) ≤ most_bytes
-fact_short f fits = omega (arith, length-append (dot_field.spell f.0) (body.spell f.1), dot_short f.0, body_short f.1 fits.0.1)
+fact_short f fits = omega (
+  arith,
+  length-append (dot_field.spell f.0) (body.spell f.1),
+  dot_short f.0,
+  body_short f.1 fits.0.1,
+)
 
--- so it has a spelling behind its length
+-- a fact that has a spelling has one behind its length
 pub framed_fits : (f : Dot × Body) → fact.Fits f → framed.Fits f
 framed_fits f fits =
     let short = fact_short f fits in

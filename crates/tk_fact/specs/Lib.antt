@@ -1,12 +1,12 @@
--- The words of this crate:
+-- The definitions of this crate, by file:
 --   Subject     is_subject, the name of a resource owner
 --   Check       refusal_of, the rule that a fact breaks
---   Fields      how the fields of facts are spelled
---   Kinds       how the fields of each kind are spelled together
---   FactBytes   fact_bytes, the spelling of a fact; framed, the same behind its length
---   Tokens      minted_of, the tokens that a fact mints; uses_of, the one that it uses
---   FieldLaws, FactLaws   what is read is spelled so, and what is spelled so is read
---   LengthLaws  a fact that has a spelling has a short one
+--   Fields      the formats of the fields of facts
+--   Kinds       the format of the fields of each kind together
+--   FactBytes   fact_bytes, the spelling of a fact; framed, a fact behind its length
+--   Tokens      minted_of, the tokens that a fact mints; uses_of, the token that it uses
+--   FieldLaws, FactLaws   reading and spelling undo each other
+--   LengthLaws  a fact that has a spelling has at most 8,192 bytes
 pub mod Check
 pub mod FactBytes
 pub mod FactLaws

@@ -1,4 +1,4 @@
--- Which tokens a fact mints, and which it uses (own).
+-- The tokens that a fact mints, and the token that it uses (own).
 --   MintedFields   what contracts see of a minted token
 --   minted_of      the token of a kind that a fact mints
 --   uses_of        the code or refresh token that a fact redeems or rotates
@@ -11,31 +11,40 @@ use Rattle.tk_fact.specs.declared.body.Body.TheVariants.{CodeIssued, CodeRedeeme
 use Rattle.tk_fact.specs.declared.minted_token.MintedToken.{MintedToken}
 use Rattle.tk_fact.specs.declared.tokens.Minted.{Minted}
 
--- the digest of a token's handle, when it begins and ends, and the printed form of its scope
+-- a minted token as contracts see it: the digest of its handle, its start and expiry, the printed
+-- form of its scope
 pub record MintedFields : Type 0 where
   pub digest : List ℕ
   pub start : ℕ
   pub expiry : ℕ
   pub scope : List ℕ
 
--- what a `Minted` shows
+-- a `Minted` of the code as contracts see it
 abbrev pub shown_minted : Minted → MintedFields
-shown_minted m = record { digest = m.digest.now; start = m.start; expiry = m.expiry; scope = m.scope.now }
+shown_minted m = record {
+  digest = m.digest.now;
+  start = m.start;
+  expiry = m.expiry;
+  scope = m.scope.now;
+}
 
--- an access or refresh token that begins at that moment
+-- an access or refresh token with the given start
 abbrev pub minted_at : ℕ → MintedToken → MintedFields
 minted_at start m = record { digest = m.digest; start = start; expiry = m.end; scope = m.scope }
 
--- CodeIssued mints a code, CodeRedeemed and RefreshRotated an access token and a refresh token each
+-- the token of a kind that a body mints: CodeIssued mints a code, CodeRedeemed and RefreshRotated
+-- each an access token and a refresh token
 abbrev pub minted_of : Body → Kind → Option MintedFields
-minted_of (CodeIssued f) Code = Some (record { digest = f.digest; start = f.start; expiry = f.expiry; scope = f.scope })
+minted_of (CodeIssued f) Code =
+    Some (record { digest = f.digest; start = f.start; expiry = f.expiry; scope = f.scope })
 minted_of (CodeRedeemed f) Access = Some (minted_at f.start f.access)
 minted_of (CodeRedeemed f) Refresh = Some (minted_at f.start f.refresh)
 minted_of (RefreshRotated f) Access = Some (minted_at f.start f.access)
 minted_of (RefreshRotated f) Refresh = Some (minted_at f.start f.refresh)
 minted_of body kind = None
 
--- the code that CodeRedeemed redeems, the refresh token that RefreshRotated rotates
+-- the token that a body uses: the code that CodeRedeemed redeems, the refresh token that
+-- RefreshRotated rotates
 abbrev pub uses_of : Body → Option TokenId
 uses_of (CodeRedeemed f) = Some (record { dot = f.code; kind = Code })
 uses_of (RefreshRotated f) = Some (record { dot = f.parent; kind = Refresh })

@@ -1,31 +1,42 @@
-//! What a fact says: one of ten kinds.
+//! The body of a fact: one of ten kinds.
 //!
 //! To add a kind:
 //!
-//! 1. `src/KIND.rt`: its struct, with derives where all of the fields are plain, or else with `copy` and `same`; `known`,
-//!    `read`, `write`. Two lines of `src/lib.rt` declare and export it.
-//! 2. This file: the import, the variant, and a row each in `copy`, `same`, `known`, `read`, `number` and `write_fields`,
-//!    `read` and `number` with a number that no kind ever had. Only `same` compiles without its row.
-//! 3. `specs/Kinds.antt`: the format of its fields. `specs/FactBytes.antt`: its row in `kinds`, with the number.
-//! 4. `specs/FactLaws.antt`: the law of its fields, and its row in `body_exact`. `specs/LengthLaws.antt`: its row in
-//!    `body_short`; a fact has 8,192 bytes at most.
-//! 5. `specs/Check.antt`, `src/check.rt`: the rules that it keeps.
-//! 6. `specs/Tokens.antt`, `src/tokens.rt`: whether it mints tokens or uses one. Nothing asks for this row.
-//! 7. Rows: its bytes in `rows/bytes_facts.rows`, at its limits, and one past each among the bytes of no fact, where the kind 11 becomes
-//!    12; `rows/bytes_made.rows` makes one. An edit in `must-fail/` for what it means.
-//! 8. tk_bundle: its number in `kind_of` of `src/version.rt`, and a row of `VERSIONS` there and of `versions` in
-//!    `specs/Versions.antt`. A build that doesn't know the kind finds each bundle with such a fact malformed.
-//! 9. tk_ledger: a row in `change_in` of `specs/Changes.antt` and `change_of` of `src/change.rt`, with what it changes in
-//!    the tables; a row each in `uses_agree` of `proofs/TokenLaws.antt`, `issues` of `proofs/StandingLaws.antt`, and for codes
-//!    and for refresh tokens in `grant_of` of `proofs/FamilyEnds.antt`. Where it is a link of a family or says of one that it
-//!    ends: `link_of`, `revoked_by`, `reuse_of` or `IsStopped` of `specs/Tokens.antt`, and `generation_of` of `specs/Status.antt`. Where
-//!    it makes or ends a client or a consent: `specs/Clients.antt`. With each what says the same in tk_edge, `src/tests/ledger/plain.rt`. Those
-//!    of specs/ but `change_in` end in a row for the other kinds, so nothing asks for these rows.
-//! 10. The request that makes such facts: an `Endpoint` of tk_message with its reply, the decision in tk_authorize, tk_grant or
-//!     tk_query with its row in `decision_by` of tk_region, its path in tk_edge, and perhaps a line in tokend's
-//!     `request_line.rt`.
-//! 11. Words: "ten" here, in `src/lib.rt`, in README.md and in docs/ARCHITECTURE.md, the kinds 1 to 10 and their table in
-//!     docs/FORMATS.md, the row "fact" of docs/DEFINITIONS.md.
+//! 1. `src/KIND.rt`: the kind's struct, with derives if all fields are plain, otherwise with `copy`
+//!    and `same`; `known`, `read`, `write`. Two lines of `src/lib.rt` declare and export it.
+//! 2. This file: the import, the variant, and a row each in `copy`, `same`, `known`, `read`,
+//!    `number` and `write_fields`. `read` and `number` take a number that no kind ever had. Only
+//!    `same` compiles without its row. The proofs of `copy`, `known`, `read` and `write_fields` in
+//!    `proofs/body/Body/` have rows too.
+//! 3. `specs/Kinds.antt`: the format of its fields. `specs/FactBytes.antt`: its row in `kinds`,
+//!    with the number.
+//! 4. `specs/FactLaws.antt`: the law of its fields, and its row in `body_exact`.
+//!    `specs/LengthLaws.antt`: its row in `body_short`; a fact has 8,192 bytes at most.
+//! 5. `specs/Check.antt`, `src/check.rt`: the rules that such a fact must keep.
+//! 6. `specs/Tokens.antt`, `src/tokens.rt`: whether the kind mints tokens or uses one. The compiler
+//!    does not ask for this row.
+//! 7. `rows/bytes_facts.rows` at the top of the repository: its bytes at its limits, and one past
+//!    each among the bytes of no fact, where the kind 11 becomes 12. `rows/bytes_made.rows`: a
+//!    region that makes such a fact. `must-fail/`: an edit for what the kind means.
+//! 8. tk_bundle: a row in `kind_of` of `src/version.rt`, in `VERSIONS` there, in `versions` of
+//!    `specs/Versions.antt` and in `kind_told` of `specs/VersionLaws.antt`. A build that does not
+//!    know the kind finds each bundle with such a fact malformed.
+//! 9. tk_ledger: a row in `change_in` of `specs/Changes.antt` and in `change_of` of
+//!    `src/change.rt`, with what the kind changes in the tables. The proofs have rows in
+//!    `uses_agree` of `proofs/TokenLaws.antt`, in `issues` of `proofs/StandingLaws.antt`, and for
+//!    codes and for refresh tokens in `grant_of` of `proofs/FamilyEnds.antt`.
+//! 10. tk_ledger, if the kind is a link of a family or ends one: `link_of`, `revoked_by`,
+//!     `reuse_of` or `IsStopped` of `specs/Tokens.antt`, `signs_out_in` of `specs/SignOuts.antt`,
+//!     `generation_of` of `specs/Status.antt`. If the kind makes or ends a client or a consent:
+//!     `specs/Clients.antt`. These definitions end in a row for all other kinds, so the compiler
+//!     does not ask for a new row. The tests of tk_edge restate them in
+//!     `src/tests/ledger/plain.rt`.
+//! 11. The request that makes such facts: an `Endpoint` of tk_message with its reply; the decision
+//!     in tk_authorize, tk_grant or tk_query with its row in `decision_by` of tk_region; its path
+//!     in tk_edge; perhaps a line in `src/request_line.rt` of tk_world.
+//! 12. The number of kinds: "ten" in this file, in `src/lib.rt`, in docs/GLOSSARY.md and in
+//!     docs/ARCHITECTURE.md; the kinds 1 to 10 and their list in docs/FORMATS.md; the row "fact" of
+//!     docs/DEFINITIONS.md.
 
 ghost use Rattle.std.specs.Prelude.{◌≡◌, ◌++◌, ◌∷◌, ◌↔◌, drop, IfOk, IsTrue, OnOk};
 ghost use Rattle.tk_format.specs.Reading.{Gets};
@@ -43,29 +54,30 @@ use crate::token_revoked::TokenRevoked;
 use std::alloc::{AllocError, Global};
 use tk_format::{ReadError, Reader, Writer};
 
-/// What a fact says: one of ten kinds (own). The ranges told of their fields are those of a fact that passes its
-/// check.
+/// The body of a fact: one of ten kinds.
+///
+/// The ranges that fields document are those of a fact that passes its check.
 #[derive(Drop)]
 pub enum Body {
     /// A client was registered (RFC 6749, 2).
     ClientAdded(ClientAdded),
-    /// A client was retired (own).
+    /// A client was retired.
     ClientRetired(ClientRetired),
     /// A subject let a client have a scope (RFC 6749, 4.1).
     ConsentGiven(ConsentGiven),
-    /// A consent was withdrawn (own).
+    /// A consent was withdrawn.
     ConsentWithdrawn(ConsentWithdrawn),
     /// An authorization code was issued (RFC 6749, 4.1.2).
     CodeIssued(CodeIssued),
     /// A code was redeemed for tokens (RFC 6749, 4.1.3 and 4.1.4).
     CodeRedeemed(CodeRedeemed),
-    /// A refresh token was used for new tokens (RFC 6749, 6).
+    /// A refresh token was rotated: used for new tokens (RFC 6749, 6).
     RefreshRotated(RefreshRotated),
     /// A client revoked a token (RFC 7009, 2).
     TokenRevoked(TokenRevoked),
     /// A code or a refresh token was used again (RFC 6749, 4.1.2 and 10.4).
     ReuseSeen(ReuseSeen),
-    /// A subject signed out everywhere (own).
+    /// A subject signed out everywhere.
     SubjectOut(SubjectOut),
 }
 
@@ -89,7 +101,7 @@ impl Body {
         }
     }
 
-    /// Whether both say the same.
+    /// Returns whether both are of one kind and have equal fields.
     pub fn same(&self, other: &Body) -> bool
         ensures { IsTrue result ↔ (self.now ≡ other.now) }
     {
@@ -108,7 +120,7 @@ impl Body {
         }
     }
 
-    // What a fact says has a spelling.
+    // Gives a caller's proof the fact that the body has a spelling.
     #[tactic(auto, unfolding(crate::specs::FactBytes::kinds))]
     pub(crate) fn known(&self)
         ensures { body.Fits self.now }
@@ -169,7 +181,7 @@ impl Body {
         self.write_fields(writer)
     }
 
-    // The number of its kind.
+    // Returns the number of the body's kind.
     #[tactic(auto, unfolding(crate::specs::FactBytes::kinds))]
     fn number(&self) -> u8
         ensures { body.spell self.now ≡ result ∷ drop 1 (body.spell self.now) }
@@ -188,7 +200,7 @@ impl Body {
         }
     }
 
-    // Writes what comes behind the number.
+    // Writes the fields that follow the number of the kind.
     #[tactic(auto, unfolding(crate::specs::FactBytes::kinds))]
     fn write_fields(&self, writer: &mut Writer) -> Result<(), AllocError>
         requires { body.Fits self.now }

@@ -1,4 +1,4 @@
-//! The field of a challenge: a byte for its method, and its text, unless there is none.
+//! The field of an optional challenge: a byte for its method, and its text if there is a challenge.
 
 ghost use Rattle.std.specs.Prelude.{◌≡◌, ◌++◌, ◌↔◌, IfOk, IsTrue, OnOk};
 ghost use Rattle.tk_fact.specs.Fields.{challenge_field, challenge_with, challenge_bytes};
@@ -9,6 +9,7 @@ use std::alloc::{AllocError, Global};
 use tk_format::{ReadError, Reader, Writer};
 use tk_match::{Challenge, ChallengeError};
 
+// Gives a proof the fact that an optional challenge has a spelling.
 #[tactic(auto, using(crate::specs::FieldLaws::challenge_fits))]
 pub(crate) fn known_challenge(value: &Option<Challenge>)
     ensures { challenge_field.Fits value.now }
@@ -35,7 +36,7 @@ pub(crate) fn read_challenge(
     }
 }
 
-// The challenge with the text that comes next, and with the method S256, or else plain.
+// Reads the text of a challenge, whose method is S256 if `is_s256` holds and otherwise plain.
 #[tactic(auto, using(crate::specs::FieldLaws::plain_challenge, crate::specs::FieldLaws::s256_challenge))]
 fn read_with(
     alloc: Global,

@@ -1,8 +1,15 @@
-//! The rules that a fact keeps.
+//! The rules that a fact must keep.
 
 ghost use Rattle.std.specs.Prelude.{◌≡◌, ◌&&◌, OnOk, IfErr, IsTrue, None, Some, true};
 ghost use Rattle.std.specs.List.{list_all};
-ghost use Rattle.tk_fact.specs.Check.{first_broken, refusal_of, ends_after, is_challenge, is_revocable, is_used_once};
+ghost use Rattle.tk_fact.specs.Check.{
+  first_broken,
+  refusal_of,
+  ends_after,
+  is_challenge,
+  is_revocable,
+  is_used_once,
+};
 ghost use Rattle.tk_fact.specs.Subject.{is_subject};
 ghost use Rattle.tk_match.specs.Redirects.{is_uri};
 
@@ -12,19 +19,26 @@ use crate::minted_token::MintedToken;
 use tk_handle::{Kind, Moment};
 use tk_match::{Challenge, Redirects};
 
-/// Which rule a fact breaks: the first, in this order.
+/// The first rule that a fact breaks, in the order of the variants.
 #[derive(Clone, Copy)]
 pub enum FactError {
-    /// A subject, a redirection URI or a challenge is outside its length or its alphabet. No fact that is built is refused
-    /// so: `Subject`, `Uri`, `Redirects` and `Challenge` keep these limits.
+    /// A subject, a redirection URI or a challenge is outside its length or its alphabet.
+    ///
+    /// Never returned for a fact built in memory: `Subject`, `Uri`, `Redirects` and `Challenge`
+    /// enforce these limits.
     Limit,
-    /// An end is before its start, a generation isn't 1 to 10,000, a code is revoked, or an access token is used again.
+    /// A field is outside its range.
+    ///
+    /// - An expiry, or the end of a family, is before the start.
+    /// - A generation is not 1 to 10,000.
+    /// - A revoked token is a code, or a token used again is an access token.
     Range,
 }
 
-/// The most generations of a family (own).
+/// The greatest number of generations of a family. This limit is our own.
 const MOST_GENERATIONS: u16 = 10_000;
 
+// Returns the first rule that a body breaks, if any.
 pub(crate) fn check_body(body: &Body) -> Result<(), FactError>
     ensures ok { OnOk result (refusal_of body.now ≡ None) }
     ensures err { IfErr result (λ e. refusal_of body.now ≡ Some e) }
@@ -58,7 +72,7 @@ pub(crate) fn check_body(body: &Body) -> Result<(), FactError>
     }
 }
 
-// Whether the ranges are kept: the limits always are.
+// Returns whether the ranges are kept. The limits always are.
 fn in_range(ranges: bool) -> Result<(), FactError>
     ensures ok { OnOk result (first_broken true ranges ≡ None) }
     ensures err { IfErr result (λ e. first_broken true ranges ≡ Some e) }
@@ -70,13 +84,14 @@ fn in_range(ranges: bool) -> Result<(), FactError>
     }
 }
 
+// Returns whether neither token expires before the start.
 fn end_after(start: Moment, access: &MintedToken, refresh: &MintedToken) -> bool
     ensures { result ≡ ends_after start access.now refresh.now }
 {
     start.seconds() <= access.end.seconds() && start.seconds() <= refresh.end.seconds()
 }
 
-// A list that was made keeps the limits.
+// Gives a proof the fact that a list of redirection URIs keeps the limits.
 #[tactic(auto, using(crate::proofs::CheckLaws::kept_uris))]
 fn known_uris(redirects: &Redirects)
     ensures { IsTrue (list_all is_uri redirects.now) }
@@ -84,15 +99,17 @@ fn known_uris(redirects: &Redirects)
     redirects.known();
 }
 
-// So does a code, whose fields were made.
+// Gives a proof the fact that the fields of an issued code keep the limits.
 fn known_limits(code: &CodeIssued)
-    ensures { IsTrue (is_subject code.now.subject && is_uri code.now.uri && is_challenge code.now.challenge) }
+    ensures { IsTrue (is_subject code.now.subject && is_uri code.now.uri
+        && is_challenge code.now.challenge) }
 {
     let _name = code.subject.as_str();
     let _text = code.uri.as_str();
     known_challenge_text(&code.challenge);
 }
 
+// Gives a proof the fact that an optional challenge keeps the limits.
 fn known_challenge_text(challenge: &Option<Challenge>)
     ensures { IsTrue (is_challenge challenge.now) }
 {

@@ -12,14 +12,14 @@ use tk_format::{ReadError, Reader, Writer};
 use tk_match::Redirects;
 use tk_scope::Scope;
 
-/// A client was registered (RFC 6749, 2). Its id is the fact's own dot.
+/// A client was registered (RFC 6749, 2). The fact's dot is the client's id.
 #[derive(Drop)]
 pub struct ClientAdded {
-    /// What the client is, with the digest of its secret where it has one (RFC 6749, 2.1).
+    /// The client kind, with the digest of the client's secret if it has one (RFC 6749, 2.1).
     pub sort: Sort,
-    /// What the client may ask for at most, 1 to 32 scope-tokens (RFC 6749, 3.3).
+    /// The greatest scope that the client may request, 1 to 32 scope-tokens (RFC 6749, 3.3).
     pub scope: Scope,
-    /// Where a browser may be sent back to, 1 to 8 URIs (RFC 6749, 3.1.2.2).
+    /// The URIs to which a browser may be sent back, 1 to 8 (RFC 6749, 3.1.2.2).
     pub redirects: Redirects,
 }
 

@@ -8,10 +8,10 @@ use std::alloc::AllocError;
 use tk_format::{Reader, Writer};
 use tk_handle::Dot;
 
-/// A client was retired (own).
+/// A client was retired.
 #[derive(Clone, Copy, PartialEq, Eq)]
 pub struct ClientRetired {
-    /// Where the client was added.
+    /// The dot at which the client was added.
     pub client: Dot,
 }
 

@@ -18,31 +18,34 @@ use tk_handle::{Dot, Moment};
 use tk_match::{Challenge, Uri};
 use tk_scope::Scope;
 
-/// An authorization code was issued (RFC 6749, 4.1.2), and with it a family begins: the code, and the tokens that
-/// descend from it.
+/// An authorization code was issued (RFC 6749, 4.1.2).
+///
+/// A family begins with the code: the code, and the tokens that descend from it.
 #[derive(Drop)]
 pub struct CodeIssued {
-    /// Where the client was added that the code was issued to.
+    /// The dot of the client to which the code was issued.
     pub client: Dot,
-    /// Where the consent was given that the code rests on.
+    /// The dot of the consent on which the code rests.
     pub consent: Dot,
     /// SHA-256 of the code's handle.
     pub digest: [u8; 32],
-    /// When the code begins.
+    /// When the code's life starts.
     pub start: Moment,
-    /// The code's end, from which on it is past; not before the start.
+    /// The code's expiry, not before the start. From this moment on the code is past.
     pub expiry: Moment,
-    /// The end of the whole family, from which on it is over; not before the start (own).
+    /// The end of the whole family, not before the start. From this moment on the family is over.
     pub family_end: Moment,
     /// The resource owner who consented (RFC 6749, 1.1).
     pub subject: Subject,
-    /// What the code stands for, 1 to 32 scope-tokens (RFC 6749, 3.3).
+    /// The scope that the code grants, 1 to 32 scope-tokens (RFC 6749, 3.3).
     pub scope: Scope,
     /// The redirection URI that was picked (RFC 6749, 3.1.2.3).
     pub uri: Uri,
-    /// Whether the request named the URI, so that the token request must name it too (RFC 6749, 4.1.3).
+    /// Whether the request named the URI. If so, the token request must name it too (RFC 6749,
+    /// 4.1.3).
     pub sent: bool,
-    /// What the verifier of the token request is matched against, where the request had one (RFC 7636, 4.3).
+    /// The challenge that the verifier of the token request must meet, if there is one (RFC 7636,
+    /// 4.3).
     pub challenge: Option<Challenge>,
 }
 
@@ -159,8 +162,14 @@ impl CodeIssued {
         self.write_bindings(writer)
     }
 
+    // Writes the digest, the start, the expiry and the end of the family.
     fn write_times(&self, writer: &mut Writer) -> Result<(), AllocError>
-        ensures { OnOk result (writer.new ≡ writer.old ++ code_times.spell (self.now.digest, (self.now.start, (self.now.expiry, self.now.family_end)))) }
+        ensures { OnOk result
+            (writer.new ≡ writer.old
+            ++ code_times.spell (
+              self.now.digest,
+              (self.now.start, (self.now.expiry, self.now.family_end)),
+            )) }
     {
         writer.put_bytes(&self.digest)?;
         self.start.write(writer)?;
@@ -168,9 +177,12 @@ impl CodeIssued {
         self.family_end.write(writer)
     }
 
+    // Writes what the token request must match: the URI, whether it was sent, and the challenge.
     fn write_bindings(&self, writer: &mut Writer) -> Result<(), AllocError>
         requires { code_issued.Fits self.now }
-        ensures { OnOk result (writer.new ≡ writer.old ++ code_bindings.spell (self.now.uri, (self.now.sent, self.now.challenge))) }
+        ensures { OnOk result
+            (writer.new ≡ writer.old
+            ++ code_bindings.spell (self.now.uri, (self.now.sent, self.now.challenge))) }
     {
         write_uri(&self.uri, writer)?;
         write_flag(self.sent, writer)?;

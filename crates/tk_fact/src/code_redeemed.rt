@@ -12,13 +12,13 @@ use tk_handle::{Dot, Moment};
 /// A code was redeemed for an access token and a refresh token (RFC 6749, 4.1.3 and 4.1.4).
 #[derive(Drop)]
 pub struct CodeRedeemed {
-    /// Where the code was issued.
+    /// The dot at which the code was issued.
     pub code: Dot,
-    /// When both tokens begin.
+    /// When the lives of both tokens start.
     pub start: Moment,
-    /// The access token (RFC 6749, 1.4); its end is not before the start.
+    /// The access token (RFC 6749, 1.4). Its expiry is not before the start.
     pub access: MintedToken,
-    /// The refresh token (RFC 6749, 1.5); its end is not before the start.
+    /// The refresh token (RFC 6749, 1.5). Its expiry is not before the start.
     pub refresh: MintedToken,
 }
 

@@ -11,14 +11,14 @@ use tk_format::{ReadError, Reader, Writer};
 use tk_handle::Dot;
 use tk_scope::Scope;
 
-/// A subject let a client have a scope (RFC 6749, 4.1). The consent's id is the fact's own dot.
+/// A subject let a client have a scope (RFC 6749, 4.1). The fact's dot is the consent's id.
 #[derive(Drop)]
 pub struct ConsentGiven {
-    /// Where the client was added that the consent was given to.
+    /// The dot of the client to which the consent was given.
     pub client: Dot,
-    /// The resource owner who gave it (RFC 6749, 1.1).
+    /// The resource owner who gave the consent (RFC 6749, 1.1).
     pub subject: Subject,
-    /// What the client may have, 1 to 32 scope-tokens (RFC 6749, 3.3).
+    /// The scope that the client may have, 1 to 32 scope-tokens (RFC 6749, 3.3).
     pub scope: Scope,
 }
 

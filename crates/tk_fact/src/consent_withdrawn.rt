@@ -8,10 +8,10 @@ use std::alloc::AllocError;
 use tk_format::{Reader, Writer};
 use tk_handle::Dot;
 
-/// A consent was withdrawn (own).
+/// A consent was withdrawn.
 #[derive(Clone, Copy, PartialEq, Eq)]
 pub struct ConsentWithdrawn {
-    /// Where the consent was given.
+    /// The dot at which the consent was given.
     pub consent: Dot,
 }
 

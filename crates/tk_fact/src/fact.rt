@@ -1,15 +1,15 @@
-//! A fact: what is said at a dot, and its bytes.
+//! A fact: a body at a dot, and its bytes.
 
 use crate::body::Body;
 use std::marker::Model;
 use tk_handle::Dot;
 
-/// A body at its dot (own). Contracts see the pair of both.
+/// A fact: a body at a dot. Contracts see the pair of both.
 #[derive(Drop)]
 pub struct Fact {
-    /// Where the fact stands; a set has one fact at a dot.
+    /// The name of the fact. A set has one fact at a dot.
     pub dot: Dot,
-    /// What the fact says.
+    /// What happened.
     pub body: Body,
 }
 
@@ -24,7 +24,23 @@ impl Model for Fact {
     ghost inverse = { λ p. record { dot = p.0; body = p.1 } };
 }
 
-ghost use Rattle.std.specs.Prelude.{◌≡◌, ◌≢◌, ◌≤◌, ◌++◌, ◌↔◌, length, false, None, Some, IfOk, IfErr, IsErrOf, IsTrue, OnErr, OnOk};
+ghost use Rattle.std.specs.Prelude.{
+  ◌≡◌,
+  ◌≢◌,
+  ◌≤◌,
+  ◌++◌,
+  ◌↔◌,
+  length,
+  false,
+  None,
+  Some,
+  IfOk,
+  IfErr,
+  IsErrOf,
+  IsTrue,
+  OnErr,
+  OnOk,
+};
 ghost use Rattle.tk_fact.specs.FactBytes.{passes};
 ghost use Rattle.tk_format.specs.Reading.{Gets, GetsAll};
 
@@ -38,10 +54,10 @@ impl Fact {
     ghost use Rattle.tk_handle.specs.declared.dot.Dot.{Dot as AnyDot};
     ghost use Rattle.tk_fact.specs.declared.body.Body.{Body as AnyBody};
 
-    /// The most bytes of a fact (own).
+    /// The greatest length of a fact in bytes. This limit is our own.
     pub const MOST_BYTES: usize = 8_192;
 
-    /// Which rule the fact breaks, if any: `Limit` before `Range`. Takes no memory.
+    /// Returns the first rule that the fact breaks, `Limit` before `Range`. Takes no memory.
     pub fn check(&self) -> Result<(), FactError>
         ensures ok { OnOk result (refusal_of self.now.1 ≡ None) }
         ensures err { IfErr result (λ e. refusal_of self.now.1 ≡ Some e) }
@@ -49,7 +65,7 @@ impl Fact {
         check_body(&self.body)
     }
 
-    /// The same fact, in memory of its own.
+    /// Returns a copy of this fact. Fails if memory runs out.
     pub fn copy(&self, alloc: Global) -> Result<Fact, AllocError>
         ensures { IfOk result (λ fact. fact ≡ self.now) }
     {
@@ -60,14 +76,15 @@ impl Fact {
         })
     }
 
-    /// Whether both stand at one dot and say the same.
+    /// Returns whether both have the same dot and equal bodies.
     pub fn same(&self, other: &Fact) -> bool
         ensures { IsTrue result ↔ (self.now ≡ other.now) }
     {
         self.dot == other.dot && self.body.same(&other.body)
     }
 
-    /// Tells a caller's proof that a fact that passes its check has a spelling, also behind its length.
+    /// Gives a caller's proof the fact that a fact that passes its check has a spelling, also
+    /// behind its length. Does nothing at run time.
     #[tactic(auto, using(crate::specs::LengthLaws::framed_fits))]
     pub fn known(&self)
         requires { refusal_of self.now.1 ≡ None }
@@ -76,6 +93,7 @@ impl Fact {
         self.fits();
     }
 
+    // Gives a proof the fact that a fact that passes its check has a spelling.
     fn fits(&self)
         requires { refusal_of self.now.1 ≡ None }
         ensures { fact.Fits self.now }
@@ -84,18 +102,19 @@ impl Fact {
         self.body.known();
     }
 
-    /// The fact that the bytes spell, all of the bytes.
+    /// Returns the fact that all of the bytes together spell.
     pub fn read(alloc: Global, bytes: &[u8]) -> Result<Fact, ReadError>
         ensures found { IfOk result (λ f. fact.Fits f × (bytes.now ≡ fact_bytes f)) }
-        ensures malformed { IsErrOf result ReadError.Malformed → (f : AnyDot × AnyBody) → fact.Fits f → bytes.now ≢ fact_bytes f }
+        ensures malformed { IsErrOf result ReadError.Malformed → (f : AnyDot × AnyBody)
+            → fact.Fits f → bytes.now ≢ fact_bytes f }
 
-        // The same, as what the format reads.
+        // This clause states the result by what the format reads.
         ensures exact { GetsAll (λ f. f) fact result bytes.now }
     {
         read_all(alloc, bytes)
     }
 
-    /// The one spelling of the fact, at most 8,192 bytes.
+    /// Returns the only spelling of the fact, at most 8,192 bytes.
     pub fn write(&self, alloc: Global) -> Result<Vec<u8>, AllocError>
         requires { refusal_of self.now.1 ≡ None }
         ensures spelled { IfOk result (λ bytes. bytes.items ≡ fact_bytes self.now) }
@@ -108,8 +127,8 @@ impl Fact {
         Ok(writer.into_bytes())
     }
 
-    /// Writes the length of the fact's spelling in two bytes, high byte first, and then the spelling. Where memory is
-    /// refused it writes nothing.
+    /// Writes the length of the fact's spelling in two bytes, high byte first, and then the
+    /// spelling. If memory runs out, the method writes nothing.
     pub fn write_framed(&self, alloc: Global, writer: &mut Writer) -> Result<(), AllocError>
         requires { refusal_of self.now.1 ≡ None }
         ensures ok { OnOk result (writer.new ≡ writer.old ++ framed.spell self.now) }
@@ -139,7 +158,7 @@ impl Spelled for Fact {
     ghost exact = { fact_exact };
 }
 
-// The fact where it passes its check.
+// Returns the fact, if it passes its check.
 fn checked(read: Fact) -> Result<Fact, ReadError>
     ensures ok { IfOk result (λ f. (f ≡ read) × IsTrue (passes f)) }
     ensures err { IfErr result (λ e. (e ≡ ReadError.Malformed) × (passes read ≡ false)) }
@@ -153,7 +172,7 @@ fn checked(read: Fact) -> Result<Fact, ReadError>
     }
 }
 
-// A fact behind its length, as bundles have it.
+// A fact behind its length, as bundles contain it.
 impl FromBytes for Fact {
     ghost use Rattle.tk_fact.specs.FactBytes.{framed};
 

@@ -1,4 +1,4 @@
-//! The field of a yes or no.
+//! The field of a flag: 0 for no, 1 for yes.
 
 ghost use Rattle.std.specs.Prelude.{◌≡◌, ◌++◌, OnOk};
 ghost use Rattle.tk_fact.specs.Fields.{flag_field};

@@ -1,17 +1,24 @@
 //! Facts: what a region knows, each at its dot. A fact is never changed or taken away.
 //!
-//! A `Fact` is a `Body` at a `Dot`, and a body is of one of ten kinds. `Fact::check` tells which rule a fact breaks,
-//! if any. `Fact::write` and `Fact::read` are its one spelling in bytes: the dot, a byte for the kind, and the fields
-//! in the order in which the kind's struct has them. `Fact::minted` and `Fact::uses` tell which tokens a fact mints,
-//! and which it uses up. What follows from several facts together is said above.
+//! A `Fact` is a `Body` at a `Dot`, and a body is of one of ten kinds.
 //!
-//! Each type is copied and compared, by `copy` and `same` or by derives where it is plain, and a contract sees it as the
-//! plain value that it stands for. What a scope, a redirect list, a URI and a challenge are is said below, in tk_scope
-//! and tk_match.
+//! - `Fact::check` returns which rule a fact breaks, if any.
+//! - `Fact::write` and `Fact::read` convert a fact to and from bytes: the dot, a byte for the kind,
+//!   and the fields in the order of the kind's struct. A fact has exactly one spelling.
+//! - `Fact::minted` and `Fact::uses` return the tokens that a fact mints, and the token that it
+//!   uses up.
 //!
-//! In reading order: `Subject`, `Sort`, `MintedToken`, the ten kinds from `ClientAdded` to `SubjectOut`, `Body`, `Fact`,
-//! `Minted`. The definitions are in specs/: `Subject` for the name of a subject, `Check` for the rules, `Fields`, `Kinds`
-//! and `FactBytes` for the bytes, `Tokens` for the tokens.
+//! The crates above define what follows from several facts together. tk_scope and tk_match define
+//! scopes, redirection URIs, lists of them, and challenges.
+//!
+//! Each type is copied and compared, by `copy` and `same` or by derives if it is plain. The methods
+//! `known` do nothing at run time: they give a proof the fact that a value has a spelling.
+//! Contracts see a value as the plain value that it stands for.
+//!
+//! In reading order: `Subject`, `Sort`, `MintedToken`, the ten kinds from `ClientAdded` to
+//! `SubjectOut`, `Body`, `Fact`, `Minted`. The definitions are in `specs/`: `Subject` for the name
+//! of a subject, `Check` for the rules, `Fields`, `Kinds` and `FactBytes` for the bytes, `Tokens`
+//! for the tokens.
 #![tactic(auto)]
 
 mod body;

@@ -11,14 +11,14 @@ use tk_format::{ReadError, Reader, Writer};
 use tk_handle::Moment;
 use tk_scope::Scope;
 
-/// What a fact says of an access or refresh token that it mints (RFC 6749, 1.4 and 1.5). Its start stands in the fact.
+/// An access or refresh token that a fact mints (RFC 6749, 1.4 and 1.5). The fact has its start.
 #[derive(Drop)]
 pub struct MintedToken {
     /// SHA-256 of the token's handle.
     pub digest: [u8; 32],
-    /// The token's end, from which on it is past.
+    /// The token's expiry. From this moment on the token is past.
     pub end: Moment,
-    /// What the token gives access to, 1 to 32 scope-tokens (RFC 6749, 3.3).
+    /// The scope that the token grants, 1 to 32 scope-tokens (RFC 6749, 3.3).
     pub scope: Scope,
 }
 
@@ -36,7 +36,7 @@ impl MintedToken {
         })
     }
 
-    /// Whether both say the same.
+    /// Returns whether both have equal fields.
     pub(crate) fn same(&self, other: &MintedToken) -> bool
         ensures { IsTrue result ↔ (self.now ≡ other.now) }
     {

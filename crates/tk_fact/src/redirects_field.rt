@@ -35,13 +35,14 @@ pub(crate) fn read_redirects(alloc: Global, reader: &mut Reader<'_>) -> Result<R
     }
 }
 
-// That many texts, lent from the bytes that are read.
+// Reads `count` texts, borrowed from the bytes that are read.
 fn read_texts<'a>(
     alloc: Global,
     count: u8,
     reader: &mut Reader<'a>,
 ) -> Result<Vec<&'a [u8]>, ReadError>
-    ensures { Gets (λ texts. map (λ x. x.now) texts.items) (repeated count text) result reader.old reader.new }
+    ensures { Gets (λ texts. map (λ x. x.now) texts.items)
+        (repeated count text) result reader.old reader.new }
 {
     let mut texts = Vec::new(alloc);
     for _ in 0..count {

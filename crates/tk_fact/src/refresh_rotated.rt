@@ -1,4 +1,4 @@
-//! The fact that a refresh token was used for new tokens.
+//! The fact that a refresh token was rotated: used for new tokens.
 
 ghost use Rattle.std.specs.Prelude.{◌≡◌, ◌++◌, ◌↔◌, IfOk, IsTrue, OnOk};
 ghost use Rattle.tk_fact.specs.Kinds.{refresh_rotated};
@@ -12,15 +12,15 @@ use tk_handle::{Dot, Moment};
 /// A refresh token was used for a new access token and a new refresh token (RFC 6749, 6).
 #[derive(Drop)]
 pub struct RefreshRotated {
-    /// Where the fact stands that minted the refresh token that was used.
+    /// The dot of the fact that minted the refresh token that was used.
     pub parent: Dot,
-    /// How many rotations lie between the code and the new tokens, this one counted; 1 to 10,000 (own).
+    /// How many rotations made the new tokens since the code, counting this one: 1 to 10,000.
     pub generation: u16,
-    /// When both new tokens begin.
+    /// When the lives of both new tokens start.
     pub start: Moment,
-    /// The new access token (RFC 6749, 1.4); its end is not before the start.
+    /// The new access token (RFC 6749, 1.4). Its expiry is not before the start.
     pub access: MintedToken,
-    /// The new refresh token (RFC 6749, 1.5); its end is not before the start.
+    /// The new refresh token (RFC 6749, 1.5). Its expiry is not before the start.
     pub refresh: MintedToken,
 }
 

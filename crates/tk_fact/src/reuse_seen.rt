@@ -11,7 +11,7 @@ use tk_handle::TokenId;
 /// A code or a refresh token was used again, which kills its family (RFC 6749, 4.1.2 and 10.4).
 #[derive(Clone, Copy, PartialEq, Eq)]
 pub struct ReuseSeen {
-    /// The name of what was used again, whose kind isn't an access token.
+    /// The name of the code or refresh token that was used again.
     pub token: TokenId,
 }
 

@@ -1,4 +1,4 @@
-//! The field of a scope: its printed form, and no other text of the same tokens.
+//! The field of a scope: its printed form. No other text of the same tokens is read.
 
 ghost use Rattle.std.specs.Prelude.{◌≡◌, ◌++◌, OnOk};
 ghost use Rattle.tk_fact.specs.Fields.{scope_field};

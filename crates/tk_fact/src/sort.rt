@@ -1,4 +1,4 @@
-//! What a client is, and its field.
+//! The kind of a client, and its field.
 
 ghost use Rattle.std.specs.Prelude.{◌≡◌, ◌++◌, OnOk};
 ghost use Rattle.tk_fact.specs.Fields.{sort_field};
@@ -8,15 +8,14 @@ use crate::digest::{known_digest, read_digest};
 use std::alloc::AllocError;
 use tk_format::{Reader, Writer};
 
-/// What a client is (RFC 6749, 2.1; a resource client stands for a resource server that asks about tokens), with
-/// the SHA-256 digest of its secret where it has one.
+/// The kind of a client (RFC 6749, 2.1), with the SHA-256 digest of its secret if it has one.
 #[derive(Clone, Copy, PartialEq, Eq)]
 pub enum Sort {
-    /// It can't keep a secret, and has none.
+    /// A public client, which cannot keep a secret and has none.
     Public,
-    /// It keeps a secret, of which this is the digest.
+    /// A confidential client, with the digest of its secret.
     Confidential([u8; 32]),
-    /// A resource server, which asks about tokens (RFC 7662, 2.1), with the digest of its secret.
+    /// A resource server, which introspects tokens (RFC 7662, 2.1), with the digest of its secret.
     Resource([u8; 32]),
 }
 

@@ -1,8 +1,9 @@
-//! The resource owner whom a consent and a code are for, by its name.
+//! The name of a resource owner, as consents and codes have it.
 
 use std::marker::Model;
 
-/// The name of a resource owner (RFC 6749, 1.1): 1 to 128 visible ASCII bytes (own). Contracts see its bytes.
+/// The name of a resource owner (RFC 6749, 1.1): 1 to 128 visible ASCII bytes. Contracts see its
+/// bytes.
 #[derive(Drop)]
 pub struct Subject {
     text: String,
@@ -20,12 +21,12 @@ impl Model for Subject {
     ghost invariant = { λ s. IsTrue (is_subject (string_bytes s.text)) };
 }
 
-/// Why bytes are no subject.
+/// The reason why bytes are not read as a subject.
 #[derive(Clone, Copy)]
 pub enum SubjectError {
-    /// They aren't 1 to 128 visible ASCII bytes.
+    /// The bytes are not 1 to 128 visible ASCII bytes.
     Malformed,
-    /// A growth of memory was refused.
+    /// Memory ran out.
     Memory,
 }
 
@@ -49,12 +50,12 @@ ghost use Rattle.tk_format.specs.Reading.{Gets};
 use std::alloc::{AllocError, Global};
 use tk_format::{ReadError, Reader, Writer};
 
-/// The most bytes of a subject (own).
+/// The greatest length of a subject in bytes. This limit is our own.
 const MOST_BYTES: usize = 128;
 
 impl Subject {
-    /// The subject with this name: `Malformed` where the bytes are no name of a subject, and `Memory` where memory is
-    /// refused.
+    /// Reads the name of a subject. Returns `Malformed` if the bytes are no such name, and `Memory`
+    /// if memory runs out.
     pub fn read(alloc: Global, text: &[u8]) -> Result<Subject, SubjectError>
         ensures ok { IfOk result (λ subject. (subject ≡ text.now) × IsTrue (is_subject text.now)) }
         ensures malformed { IsErrOf result SubjectError.Malformed → is_subject text.now ≡ false }
@@ -69,7 +70,7 @@ impl Subject {
         Ok(Subject { text })
     }
 
-    /// The name.
+    /// Returns the name as a text.
     pub fn as_str(&self) -> &str
         ensures value { result.now ≡ self.now }
         ensures known { IsTrue (is_subject self.now) }
@@ -77,7 +78,7 @@ impl Subject {
         self.text.as_str()
     }
 
-    /// The bytes of the name.
+    /// Returns the bytes of the name.
     pub fn as_bytes(&self) -> &[u8]
         ensures value { result.now ≡ self.now }
         ensures known { IsTrue (is_subject self.now) }
@@ -85,7 +86,7 @@ impl Subject {
         self.text.as_bytes()
     }
 
-    // The same subject, in memory of its own; an error where memory is refused.
+    // Returns a copy of this subject. Fails if memory runs out.
     pub(crate) fn copy(&self, alloc: Global) -> Result<Subject, AllocError>
         ensures { IfOk result (λ subject. subject ≡ self.now) }
     {
@@ -93,14 +94,14 @@ impl Subject {
         Ok(Subject { text })
     }
 
-    // Whether both have the same name.
+    // Returns whether both are the same name.
     pub(crate) fn same(&self, other: &Subject) -> bool
         ensures { IsTrue result ↔ (self.now ≡ other.now) }
     {
         self.as_str() == other.as_str()
     }
 
-    // A subject has a spelling.
+    // Gives a caller's proof the fact that the subject has a spelling.
     #[tactic(auto, using(crate::specs::FieldLaws::subject_fits))]
     pub(crate) fn known(&self)
         ensures { subject_field.Fits self.now }

@@ -9,12 +9,13 @@ use std::alloc::{AllocError, Global};
 use tk_format::{ReadError, Reader, Writer};
 use tk_handle::Moment;
 
-/// A subject signed out everywhere (own): its families whose code didn't begin after the moment are dead.
+/// A subject signed out everywhere: each of its families whose code started at or before the moment
+/// is dead.
 #[derive(Drop)]
 pub struct SubjectOut {
-    /// Who signed out (RFC 6749, 1.1).
+    /// The subject who signed out (RFC 6749, 1.1).
     pub subject: Subject,
-    /// When, by the clock of the region that was asked.
+    /// When the subject signed out, by the clock of the region that received the request.
     pub moment: Moment,
 }
 

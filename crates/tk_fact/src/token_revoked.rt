@@ -9,15 +9,17 @@ use std::alloc::AllocError;
 use tk_format::{Reader, Writer};
 use tk_handle::{Dot, TokenId};
 
-/// A client revoked an access or refresh token (RFC 7009, 2). The fact that mints the token may come later: the
-/// revocation works where that one names the same digest, under a code of the same client.
+/// A client revoked an access or refresh token (RFC 7009, 2).
+///
+/// The fact that mints the token may arrive later. The revocation takes effect if that fact has the
+/// same digest, under a code of the same client.
 #[derive(Clone, Copy, PartialEq, Eq)]
 pub struct TokenRevoked {
-    /// The name of the token, whose kind isn't a code.
+    /// The name of the token, which is not a code.
     pub token: TokenId,
     /// SHA-256 of the token's handle.
     pub digest: [u8; 32],
-    /// Where the client was added that asked.
+    /// The dot of the client that revoked the token.
     pub client: Dot,
 }
 

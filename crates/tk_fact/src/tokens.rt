@@ -10,19 +10,20 @@ use crate::minted_token::MintedToken;
 use tk_handle::{Kind, Moment, TokenId};
 use tk_scope::Scope;
 
-/// What a fact says of a code or token that it mints (own).
+/// A code or token that a fact mints.
 #[derive(Clone, Copy)]
 pub struct Minted<'a> {
     /// SHA-256 of the token's handle.
     pub digest: &'a [u8; 32],
-    /// When the token begins.
+    /// When the token's life starts.
     pub start: Moment,
-    /// The token's end, from which on it is past.
+    /// The token's expiry. From this moment on the token is past.
     pub expiry: Moment,
-    /// What the token gives access to, 1 to 32 scope-tokens (RFC 6749, 3.3).
+    /// The scope that the token grants, 1 to 32 scope-tokens (RFC 6749, 3.3).
     pub scope: &'a Scope,
 }
 
+// Returns an access or refresh token as `Minted`, with the start that its fact has.
 fn minted_at(start: Moment, token: &MintedToken) -> Minted<'_>
     ensures { shown_minted result ≡ minted_at start token.now }
 {
@@ -35,7 +36,7 @@ fn minted_at(start: Moment, token: &MintedToken) -> Minted<'_>
 }
 
 impl Fact {
-    /// The token of that kind that the fact mints, if any.
+    /// Returns the token of the given kind that the fact mints, if any.
     pub fn minted(&self, kind: Kind) -> Option<Minted<'_>>
         ensures { option_map shown_minted result ≡ minted_of self.now.1 kind }
     {
@@ -56,7 +57,7 @@ impl Fact {
         }
     }
 
-    /// The code or refresh token that the fact redeems or rotates, if any.
+    /// Returns the code or refresh token that the fact redeems or rotates, if any.
     pub fn uses(&self) -> Option<TokenId>
         ensures { result ≡ uses_of self.now.1 }
     {

@@ -1,4 +1,4 @@
--- One more link, and what it adds.
+-- One more link, and the dots that it brings under a code (`IsPath-adds`).
 use Rattle.std.proofs.Common.{◌≡◌, ◌≢◌, ◌⊎◌, inl, inr, Bool, true, None, Some, List, [], ◌∷◌, ap, sym, ◌∙◌}
 use Rattle.tk_family.proofs.DotLaws.{cases_dots}
 use Rattle.tk_handle.specs.declared.dot.Dot.{Dot}
@@ -6,7 +6,7 @@ use Rattle.tk_family.specs.declared.link.Link.{Link}
 use Rattle.tk_family.specs.declared.link.Link.TheVariants.{Code}
 use Rattle.tk_family.specs.Families.{Links, IsParent, IsPath, IsUnder, LinksWithin}
 
--- g is f with one more link
+-- g is f with one more link, l at d
 pub record Adds (f g : Links) (d : Dot) (l : Link) : Type 0 where
   pub free : f d ≡ None
   pub here : g d ≡ Some l
@@ -18,16 +18,16 @@ Within-adds f g d l a q k h = elim (cases_dots q d) [
   | inr ne ↦ a.others q ne ∙ h
 ]
 
--- a path begins at a link
+-- a path begins at a dot with a link
 pub IsPath-here : (f : Links) (d : Dot) (ps : List Dot) (c : Dot) → IsPath f d ps c → f d ≡ None → ⊥
 IsPath-here f d [] c m none = let clash : Some Code ≡ None = sym m.1 ∙ (ap f (sym m.0) ∙ none) in cc
 IsPath-here f d (p ∷ ps) c m none = let clash : Some m.0.0.link ≡ None = sym m.0.0.here ∙ none in cc
 
--- a code without the new link is under itself
+-- a code other than the new link was under itself before
 pub alone : (f g : Links) (d : Dot) (l : Link) → Adds f g d l → (q c : Dot) → q ≢ d → IsPath g q [] c → IsUnder f q c
 alone f g d l a q c ne m = record { path = []; leads = (m.0, ap f (sym m.0) ∙ (sym (a.others q ne) ∙ (ap g m.0 ∙ m.1))) }
 
--- a parent that has neither end at the new link was one before
+-- a parent whose two dots are not the new link's was a parent before
 pub IsParent-before : (f g : Links) (d : Dot) (l : Link) → Adds f g d l → (q p : Dot) → q ≢ d → p ≢ d → IsParent g q p → IsParent f q p
 IsParent-before f g d l a q p ne nep m = record {
   link = m.link;
@@ -38,13 +38,14 @@ IsParent-before f g d l a q p ne nep m = record {
   fitting = m.fitting;
 }
 
--- what is under a code was under it before, if its parent was
+-- a dot whose parent was under a code was under that code itself
 pub below_under : (f g : Links) (d : Dot) (l : Link) → Adds f g d l → (q p c : Dot) → q ≢ d → IsParent g q p → IsUnder f p c → IsUnder f q c
 below_under f g d l a q p c ne m under =
     let nep : p ≢ d = λ same. IsPath-here f p under.path c under.leads (ap f same ∙ a.free) in
     record { path = p ∷ under.path; leads = ((IsParent-before f g d l a q p ne nep m, under.leads.0), under.leads.1) }
 
--- what is under a code with one more link is in a set that is closed under children and has the new dot, or was under it before
+-- a dot that is under a code with one more link was under that code before, or is in the set `In`;
+-- the set has the new dot and all children of its dots
 pub IsPath-adds : (f g : Links) (d : Dot) (l : Link) (In : Dot → Bool) → Adds f g d l → In d ≡ true → ((x e : Dot) → In x ≡ true → IsParent g e x → In e ≡ true) → (q : Dot) (ps : List Dot) (c : Dot) → IsPath g q ps c → (In q ≡ true) ⊎ IsUnder f q c
 IsPath-adds f g d l In a root closed q [] c m = elim (cases_dots q d) [
   | inl same ↦ inl (ap In same ∙ root)

@@ -1,4 +1,6 @@
--- The steps together: `put` keeps what the rows keep.
+-- The steps of `put` together: `put` keeps what the rows keep.
+--   put-whole   the link's chain reaches a code
+--   put-waits   the link's chain reaches no code yet
 use Rattle.std.proofs.Common.{◌≡◌, inl, inr, ◌||◌, ◌&&◌, true, cond, Option, None, Some, List, [], ◌∷◌, ap, sym, ◌∙◌, refl, subst, IsSome}
 use Rattle.std.proofs.lemmas.Bool.{true≢false, cases_Bool, cond-true, cond-false, or_cases, and_parts}
 use Rattle.std.specs.List.{IsDistinct}
@@ -115,7 +117,7 @@ pub trail_under : (g : Links) (q d : Dot) (ps : List Dot) (c : Dot) → IsTrail 
 trail_under g q d [] c leads u = subst (λ (y : Dot). IsUnder g y c) (sym leads) u
 trail_under g q d (p ∷ ps) c leads u = let above : IsUnder g p c = trail_under g p d ps c leads.1 u in record { path = p ∷ above.path; leads = ((leads.0, above.leads.0), above.leads.1) }
 
--- what hangs below a dot without a link was under no code
+-- a dot that hangs below a dot without a link was under no code
 trail_free : (f g : Links) (q d : Dot) (ps : List Dot) → LinksWithin f g → f d ≡ None → IsTrail g q ps d → (c : Dot) (qs : List Dot) → IsPath f q qs c → ⊥
 trail_free f g q d [] w free leads c qs m = IsPath-here f q qs c m (ap f leads ∙ free)
 trail_free f g q d (p ∷ ps) w free leads c [] m = IsParent-code g q p (w q Code (ap f m.0 ∙ m.1)) leads.0
@@ -137,7 +139,7 @@ Grown-gathered T g d l c ys t a chain got =
     (λ x e walked par. got.closed x e walked (IsParent-within g (with_link (links_of T) d l) back e x par))
     (λ q walked. IsUnder-within (with_link (links_of T) d l) g there q c (trail_under (with_link (links_of T) d l) q d (got.below q walked).path c (got.below q walked).leads u))
 
--- a link was put whose chain is whole
+-- putting a link whose chain reaches a code
 pub put-whole : (T M A N : Rows) (d : Dot) (l : Link) (c : Dot) (ys : List Dot) → IsForest T → links_of T d ≡ None → IsSome (T d) → ((p : Dot) → named_by l ≡ Some p → IsSome (T p)) → ((q : Dot) → M q ≡ hung T d l q) → chain_code T d l ≡ Some c → Gathers (links_of T) d l ys → ((q : Dot) → A q ≡ raised M ys c q) → Last A N l → IsForest N × Adds (links_of T) (links_of N) d l × ((k : TokenId) → marks_of N k ≡ marks_of T k) × Grown (links_of T) (links_of N) c ys
 put-whole T M A N d l c ys t free at_d at_p hangs chain got raises last =
     let h : Hung T M d l = hung-all T M d l free at_d at_p hangs in
@@ -151,7 +153,7 @@ put-whole T M A N d l c ys t free at_d at_p hangs chain got raises last =
     let p : PutRows T N d l c ys = PutRows-from T M A N d l c ys t h grown mid last in
     (IsForest-put T N d l c ys t p, adds, p.marks, grown)
 
--- a link was put whose chain isn't whole
+-- putting a link whose chain reaches no code yet
 pub put-waits : (T M N : Rows) (d : Dot) (l : Link) → IsForest T → links_of T d ≡ None → IsSome (T d) → ((p : Dot) → named_by l ≡ Some p → IsSome (T p)) → ((q : Dot) → M q ≡ hung T d l q) → chain_code T d l ≡ None → Last M N l → IsForest N × Adds (links_of T) (links_of N) d l × ((k : TokenId) → marks_of N k ≡ marks_of T k) × Grown (links_of T) (links_of N) d []
 put-waits T M N d l t free at_d at_p hangs chain last =
     let h : Hung T M d l = hung-all T M d l free at_d at_p hangs in
@@ -160,7 +162,7 @@ put-waits T M N d l t free at_d at_p hangs chain last =
     let p : PutRows T N d l d [] = PutRows-from T M M N d l d [] t h grown (Mid-none M M d (λ q. refl)) last in
     (IsForest-put T N d l d [] t p, adds, p.marks, grown)
 
--- ---- what `put` says
+-- ---- the contract of `put`
 
 pub Puts-whole : (T M A N : Rows) (d : Dot) (l : Link) (c : Dot) (ys : List Dot) → IsForest T → links_of T d ≡ None → IsSome (T d) → ((p : Dot) → named_by l ≡ Some p → IsSome (T p)) → ((q : Dot) → M q ≡ hung T d l q) → chain_code T d l ≡ Some c → Gathers (links_of T) d l ys → ((q : Dot) → A q ≡ raised M ys c q) → Last A N l → Puts T N d l ys
 Puts-whole T M A N d l c ys t free at_d at_p hangs chain got raises last =

@@ -26,12 +26,12 @@ use Rattle.tk_family.proofs.FamilyLaws.{IsUnder-within, IsTwice-within, IsDead-w
 
 -- ---- columns
 
--- what a column has at a choice, where both sides have the same
+-- a column at a choice whose two sides agree in that column
 pub column : {X : Type 0} (π : Option Row → X) (b : Bool) (changed old : Option Row) → π changed ≡ π old → π (cond b changed old) ≡ π old
 column π true changed old same = same
 column π false changed old same = refl
 
--- two tables alike in each column
+-- two tables agree in each column
 pub record Alike (T N : Rows) : Type 0 where
   pub link : (q : Dot) → link_in (N q) ≡ link_in (T q)
   pub code : (q : Dot) → code_in (N q) ≡ code_in (T q)
@@ -52,7 +52,7 @@ same_blank : (o : Option Row) → (link_in (or_blank o) ≡ link_in o) × (code_
 same_blank None = (refl, refl, refl, refl, refl)
 same_blank (Some r) = (refl, refl, refl, refl, refl)
 
--- a row that says nothing changes nothing
+-- adding a blank row changes no column
 pub Alike-blank : (T N : Rows) (at : Dot) → ((q : Dot) → N q ≡ cond (dot_eq at q) (or_blank (T q)) (T q)) → Alike T N
 Alike-blank T N at h = record {
   link = λ q. ap link_in (h q) ∙ column link_in (dot_eq at q) (or_blank (T q)) (T q) (same_blank (T q)).0;
@@ -159,7 +159,7 @@ Alike-dropped T N at h rows = elim (blank_or (T at) h) [
 
 -- ---- marking: also what a row that says nothing needs, as a mark of no token
 
--- N is T with more marks, all of them k's, and with the tombstone that k asks for
+-- N is T with the token k marked, and with the tombstone that the mark of k requires
 pub record MarkRows (T N : Rows) (k : TokenId) : Type 0 where
   pub link : (q : Dot) → link_in (N q) ≡ link_in (T q)
   pub code : (q : Dot) → code_in (N q) ≡ code_in (T q)

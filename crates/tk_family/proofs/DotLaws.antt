@@ -1,4 +1,4 @@
--- Dots, and lists of dots.
+-- Laws of dots and of lists of dots.
 use Rattle.std.proofs.Common.{◌≡◌, ◌≢◌, ◌⊎◌, inl, inr, true, false, List, [], ◌∷◌, ◌++◌, ap, sym, ◌∙◌, refl, append_assoc, append-nil}
 use Rattle.std.proofs.lemmas.Bool.{true≢false, cases_Bool, false_from_ne_true, or_cases, or_left, or_right, or_from}
 use Rattle.std.proofs.lemmas.List.Folds.{list_any-append}
@@ -70,7 +70,7 @@ IsDistinct-append a (y ∷ ys) da db apart =
     ] in
     rw (← append_assoc a (y ∷ []) ys) (IsDistinct-append (a ++ y ∷ []) ys (IsDistinct-push dots_equiv a y da fresh) (IsDistinct-tail dot_eq y ys db) rest_apart)
 
--- what stands in the middle of a list of distinct dots doesn't stand before it
+-- an element in the middle of a list of distinct dots is not among those before it
 pub IsDistinct-middle : (a : List Dot) (x : Dot) (b : List Dot) → IsDistinct dot_eq (a ++ x ∷ b) → has a x ≡ false
 IsDistinct-middle [] x b d = refl
 IsDistinct-middle (z ∷ zs) x b d =

@@ -1,4 +1,4 @@
--- The laws of families, over links and marks.
+-- The laws of families, over links and marks: proofs of `specs/Laws.antt`.
 use Rattle.std.proofs.Common.{◌≡◌, inl, inr, ◌+◌, true, Option, None, Some, List, [], ◌∷◌, length, ap, sym, ◌∙◌, refl, arith}
 use Rattle.tk_handle.specs.declared.dot.Dot.{Dot}
 use Rattle.tk_handle.specs.declared.token_id.TokenId.{TokenId}
@@ -35,7 +35,7 @@ IsPath-one f d (p ∷ ps) (q ∷ qs) b c m n =
 pub IsUnder-one : (f : Links) (d b c : Dot) → IsUnder f d b → IsUnder f d c → b ≡ c
 IsUnder-one f d b c m n = IsPath-one f d m.path n.path b c m.leads n.leads
 
--- the rank falls by one from a link to its parent's
+-- the rank falls by one from a link to its parent's link
 pub fits-rank : (l k : Link) → fits l k ≡ true → rank l ≡ rank k + 1
 fits-rank Code k h = absurd (cc)
 fits-rank (Redeems c) Code h = refl
@@ -45,7 +45,7 @@ fits-rank (Rotates p g) Code h = absurd (cc)
 fits-rank (Rotates p g) (Redeems d) h = grind (arith)
 fits-rank (Rotates p g) (Rotates d j) h = grind (arith)
 
--- ---- what is so in some links is so in more
+-- ---- what holds of some links holds of more
 
 pub IsParent-within : (f g : Links) → LinksWithin f g → (e p : Dot) → IsParent f e p → IsParent g e p
 IsParent-within f g w e p a = record {
@@ -109,7 +109,7 @@ IsTrail-length f d e (p ∷ ps) m =
 pub IsTrail-no_ring : (f : Links) (d p : Dot) (ps : List Dot) → ¬ IsTrail f d (p ∷ ps) d
 IsTrail-no_ring f d p ps m = let whole : length (p ∷ ps) + rank_of (f d) ≡ rank_of (f d) = IsTrail-length f d d (p ∷ ps) m in absurd (omega (arith, whole))
 
--- a chain to a code has as many parents as the rank
+-- a chain to a code has as many parents as the rank of its first dot
 pub IsPath-length : (f : Links) (d c : Dot) (ps : List Dot) → IsPath f d ps c → length ps ≡ rank_of (f d)
 IsPath-length f d c ps m =
     let whole : length ps + rank_of (f c) ≡ rank_of (f d) = IsTrail-length f d c ps m.0 in

@@ -21,7 +21,7 @@ use Rattle.tk_family.proofs.FamilyLaws.{IsUnder-one, IsUnder-within, IsTwice-wit
 
 -- ---- what is under a code with one more link
 
--- ys are the dots that have come under c0
+-- ys are exactly the dots that came under c0
 pub record Grown (f g : Links) (c0 : Dot) (ys : List Dot) : Type 0 where
   pub claim : (q c : Dot) → IsUnder g q c → (has ys q ≡ true) ⊎ IsUnder f q c
   pub sound : (q : Dot) → has ys q ≡ true → IsUnder g q c0
@@ -50,7 +50,7 @@ Grown-waits f g d l c0 a none_under = record {
 
 -- ---- uses
 
--- a dot that has a use has a link
+-- a dot with a use has a link
 some_use : (f : Links) (e : Dot) (k : TokenId) → use_of (f e) ≡ Some k → f e ≡ None → ⊥
 some_use f e k h none = let clash : None ≡ Some k = sym (ap use_of none) ∙ h in cc
 
@@ -150,7 +150,7 @@ used_by-uses Code k h = absurd (cc)
 used_by-uses (Redeems c) k h = subst (λ (t : TokenId). uses_it (Redeems c) t ≡ true) (ap (token_or k) h) (and_from _ _ (dot_eq-same c) refl)
 used_by-uses (Rotates p g) k h = subst (λ (t : TokenId). uses_it (Rotates p g) t ≡ true) (ap (token_or k) h) (and_from _ _ (dot_eq-same p) refl)
 
--- N is T after the link l was put at d, where the dots ys have come under c0
+-- N is T after the link l was put at d and brought the dots ys under c0
 pub record PutRows (T N : Rows) (d : Dot) (l : Link) (c0 : Dot) (ys : List Dot) : Type 0 where
   pub adds : Adds (links_of T) (links_of N) d l
   pub grown : Grown (links_of T) (links_of N) c0 ys
@@ -237,7 +237,7 @@ IsForest-put T N d l c0 ys t p =
 
 -- ---- the chains after a link was put
 
--- next and first are as they were but for d, which stands first among those that name p
+-- N has the chains of T, but d is now the first of those that name p
 pub record PutChains (T N : Rows) (d p : Dot) (l : Link) : Type 0 where
   pub names : named_by l ≡ Some p
   pub next_here : next_in (N d) ≡ first_in (T p)
@@ -245,7 +245,7 @@ pub record PutChains (T N : Rows) (d p : Dot) (l : Link) : Type 0 where
   pub first_here : first_in (N p) ≡ Some d
   pub first_old : (q : Dot) → q ≢ p → first_in (N q) ≡ first_in (T q)
 
--- d isn't among the dots that name any, before it has a link
+-- d is in no chain before it has a link
 fresh : (f g : Links) (d : Dot) (l : Link) → Adds f g d l → (p : Dot) (list : List Dot) → NamesAll f p list → has list d ≡ false
 fresh f g d l a p list n = false_from_ne_true (has list d) (λ h. let clash : None ≡ Some p = sym (ap named_of a.free) ∙ n.sound d h in cc)
 
@@ -298,7 +298,7 @@ Hangs-put T N d p l a c r h =
       }
     ]
 
--- a code hangs below nothing
+-- a code is put into no chain
 pub Hangs-code : (T N : Rows) (d : Dot) → Adds (links_of T) (links_of N) d Code → ((q : Dot) → q ≢ d → N q ≡ T q) → ((q : Dot) → first_in (N q) ≡ first_in (T q)) → (r : Dot) → Hangs T r → Hangs N r
 Hangs-code T N d a apart first r h = record {
   list = h.list;

@@ -72,7 +72,8 @@ joined false old kept e = refl
 
 -- ---- the loop along the list
 
--- the list has what fits of the dots seen, and the rest hang on from the cursor
+-- the invariant: the list has the fitting dots of those seen, and the rest of the chain goes on
+-- from the cursor
 pub record Pushing (T : Rows) (x : Dot) (above : Link) (cursor : Option Dot) (old now : List Dot) (left : ℕ) : Type 0 where
   pub seen : List Dot
   pub rest : List Dot

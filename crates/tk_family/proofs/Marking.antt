@@ -1,4 +1,4 @@
--- A token is marked.
+-- Marking a token keeps what the rows keep.
 use Rattle.std.proofs.Common.{◌≡◌, ◌⊎◌, inl, inr, true, false, cond, Option, None, Some, ap, sym, ◌∙◌, refl, IsSome}
 use Rattle.std.proofs.lemmas.Bool.{true≢false, cases_Bool, cond-true, cond-false, or_left}
 use Rattle.tk_handle.specs.declared.dot.Dot.{Dot}

@@ -56,7 +56,7 @@ pub if_ok : (r : Result (Vec Dot Global) AllocError) (P Q : Vec Dot Global → T
 if_ok (Ok v) P Q h f = f v h
 if_ok (Err e) P Q h f = tt
 
--- ---- the forest with nothing
+-- ---- the empty forest
 
 no_names : (T : Rows) (p : Dot) → ((q : Dot) → T q ≡ None) → Hangs T p
 unfolding IsDistinct
@@ -89,7 +89,7 @@ IsForest-empty T h = record {
 pub used_seen : (m : RowMap) (v : ForestFacts) → seen m ≡ v → (k : TokenId) (b : Bool) → ((b ≡ true) → IsUsed (links_of (table m)) k) × (IsUsed (links_of (table m)) k → (b ≡ true)) → ((b ≡ true) → IsUsed (links_at v) k) × (IsUsed (links_at v) k → (b ≡ true))
 used_seen m v is k b h = subst (λ (f : Links). ((b ≡ true) → IsUsed f k) × (IsUsed f k → (b ≡ true))) (links_seen m v is) h
 
--- ---- a mark
+-- ---- marking a token
 
 tokens_equiv : IsEquivalence (eq_by_cmp token_cmp)
 tokens_equiv = eq_by_cmp_equiv tokens_total

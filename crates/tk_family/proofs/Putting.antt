@@ -22,7 +22,7 @@ use Rattle.tk_family.proofs.DotLaws.{dot_eq-true, dot_eq-same, dot_eq-apart, has
 use Rattle.tk_family.proofs.Adding.{Adds}
 use Rattle.tk_family.proofs.Columns.{column}
 
--- ---- the columns that no tombstone changes
+-- ---- the columns that a tombstone does not change
 
 pub record AlikeButDeath (A B : Rows) : Type 0 where
   pub link : (q : Dot) → link_in (B q) ≡ link_in (A q)
@@ -69,13 +69,13 @@ bad_at-same : (o : Option Link) (x y : Option Row) → ((k : Kind) → marked_in
 bad_at-same None x y marked again = refl
 bad_at-same (Some l) x y marked again = ap (λ (b : Bool). b || again_in y (grant_kind l)) (marked (grant_kind l)) ∙ ap (λ (b : Bool). marked_in x (grant_kind l) || b) (again (grant_kind l))
 
--- whether a token is bad is read off three columns
+-- whether a token is bad depends on three columns
 pub bad-same : (x y : Option Row) → link_in y ≡ link_in x → ((k : Kind) → marked_in y k ≡ marked_in x k) → ((k : Kind) → again_in y k ≡ again_in x k) → bad_in y ≡ bad_in x
 bad-same x y link marked again = ap (λ (o : Option Link). bad_at o y) link ∙ bad_at-same (link_in x) x y marked again
 
 -- ---- a link is hung
 
--- what hanging leaves in the columns
+-- the columns of N after the link l was hung at d in T
 pub record Hung (T N : Rows) (d : Dot) (l : Link) : Type 0 where
   pub adds : Adds (links_of T) (links_of N) d l
   pub code : (q : Dot) → code_in (N q) ≡ code_in (T q)
@@ -149,7 +149,7 @@ rotator_again r d kind.Code = or_false (is_often r.redeemed)
 rotator_again r d kind.Access = refl
 rotator_again r d kind.Refresh = more_again r.rotated
 
--- the step at the named dot, alike for both kinds of use
+-- a step F at the named dot that adds one use of the kinds `of`
 record UseStep (F : Option Row → Dot → Option Row) (of : Kind → Bool) : Type 0 where
   pub cols : (o : Option Row) (d : Dot) → (code_in (F o d) ≡ code_in o) × (dead_in (F o d) ≡ dead_in o) × (link_in (F o d) ≡ link_in o) × (next_in (F o d) ≡ next_in o)
   pub marked : (o : Option Row) (d : Dot) (k : Kind) → marked_in (F o d) k ≡ marked_in o k
@@ -163,7 +163,7 @@ redeems_step = record { cols = redeemer_cols; marked = redeemer_marked; used = r
 rotates_step : UseStep with_rotator is_refresh
 rotates_step = record { cols = rotator_cols; marked = rotator_marked; used = rotator_used; again = rotator_again; first = λ r d. refl }
 
--- a row where there was one
+-- there is a row
 pub record RowAt (o : Option Row) : Type 0 where
   pub row : Row
   pub is : o ≡ Some row
@@ -257,7 +257,7 @@ hung-at T N d p l names free c =
       hangs = λ r was. Hangs-put T N d p l adds (record { names = names; next_here = c.next_here; next_old = c.next_old; first_here = c.first_here; first_old = c.first_old }) r was;
     }
 
--- a code hangs below nothing
+-- a code is hung below no dot
 hung-code : (T N : Rows) (d : Dot) → links_of T d ≡ None → RowAt (T d) → ((q : Dot) → N q ≡ put_at T d Code None q) → Hung T N d Code
 hung-code T N d free at_d h =
     let apart : (q : Dot) → q ≢ d → N q ≡ T q = λ q ne. h q ∙ cond-false (dot_eq d q) (with_put (T q) Code None) (T q) (dot_eq-apart d q (λ same. ne (sym same))) in
@@ -283,7 +283,7 @@ hung-all T N d (Rotates p g) free at_d at_p h = hung-at T N d p (Rotates p g) re
 
 -- ---- codes and tombstones are written
 
--- the codes of ys are written, and perhaps a tombstone at c0
+-- A is M with the code c0 at each dot of ys, and perhaps a tombstone at c0
 pub record Mid (M A : Rows) (c0 : Dot) (ys : List Dot) : Type 0 where
   pub link : (q : Dot) → link_in (A q) ≡ link_in (M q)
   pub first : (q : Dot) → first_in (A q) ≡ first_in (M q)
@@ -383,7 +383,7 @@ Mid-raised M A c0 ys rows at_code h =
           ap dead_in (h c0 ∙ cond-true (bad && dot_eq c0 c0) (with_dead (S c0)) (S c0) killed) ∙ dead_there (S c0) (with_code_row (M c0) (has ys c0) c0 at_code);
     }
 
--- the named dot's family is buried, if its token is bad
+-- N is A with a tombstone for the family of the named dot, if that dot's token is bad
 pub record Last (A N : Rows) (l : Link) : Type 0 where
   pub alike : AlikeButDeath A N
   pub dead_old : (c : Dot) → dead_in (A c) ≡ true → dead_in (N c) ≡ true

@@ -1,4 +1,5 @@
--- The walk from a dot whose chain has become whole through all that hangs below it: a list that is its own queue.
+-- The walk through all that hangs below a dot whose chain now reaches a code. The walk keeps a list
+-- that is its own queue (`Walk`, its invariant).
 use Rattle.std.proofs.Common.{◌≡◌, ◌≢◌, ◌⊎◌, inl, inr, ◌+◌, ◌≤◌, true, false, List, [], ◌∷◌, ◌++◌, ap, sym, ◌∙◌, arith, append_assoc, subst, rules}
 use Rattle.std.proofs.lemmas.Bool.{true≢false}
 use Rattle.std.specs.List.{IsDistinct}
@@ -14,7 +15,7 @@ pub record IsRooted (g : Links) (d : Dot) (done : List Dot) (q : Dot) : Type 0 w
   pub parent : Dot
   pub why : (q ≡ d) ⊎ (IsParent g q parent × (has done parent ≡ true))
 
--- the walk below d: it is done with some dots, and the rest are waiting
+-- the invariant of the walk below d: some dots are done, and the rest are waiting
 pub record Walk (g : Links) (d : Dot) (done rest : List Dot) : Type 0 where
   pub root : has (done ++ rest) d ≡ true
   pub below : (q : Dot) → has (done ++ rest) q ≡ true → IsBelow g d q
@@ -23,7 +24,7 @@ pub record Walk (g : Links) (d : Dot) (done rest : List Dot) : Type 0 where
   pub closed : (x e : Dot) → has done x ≡ true → IsParent g e x → has (done ++ rest) e ≡ true
   pub distinct : IsDistinct dot_eq (done ++ rest)
 
--- the children of x, each once, but perhaps without d
+-- cs has the children of x, each once, but perhaps not d
 pub record AreChildren (g : Links) (d x : Dot) (cs : List Dot) : Type 0 where
   pub sound : (e : Dot) → has cs e ≡ true → IsParent g e x
   pub all : (e : Dot) → e ≢ d → IsParent g e x → has cs e ≡ true
@@ -43,7 +44,7 @@ Walk-starts g d = record {
   distinct = search rules;
 }
 
--- one turn: the children of the next waiting dot are put at the end
+-- one turn: the children of the next waiting dot are added at the end
 pub Walk-turns : (g : Links) (d : Dot) (done : List Dot) (x : Dot) (rest cs : List Dot) → Walk g d done (x ∷ rest) → AreChildren g d x cs → Walk g d (done ++ x ∷ []) (rest ++ cs)
 Walk-turns g d done x rest cs w ch =
     let x_in : has (done ++ x ∷ rest) x ≡ true = has-right done (x ∷ rest) x (has-here x rest) in

@@ -64,7 +64,7 @@ contains-seen_mark : (s : set.FinSet token_cmp) (k : TokenId) (b : Bool) (j : To
 contains-seen_mark s k true j = set.contains-insert tokens_total s k j ∙ insert_cond (eq_by_cmp token_cmp j k) (set.contains s j)
 contains-seen_mark s k false j = set.contains-remove tokens_total s k j ∙ remove_cond (eq_by_cmp token_cmp j k) (set.contains s j)
 
--- the three marks of a row
+-- what the marks of a row show of the token of a kind
 three : (b : Bool) (r : Row) (k : Kind) (old : Bool) (o : Option Row) → old ≡ marked_in o k
     → cond (b && is_eq (nat_cmp (kind_number k) 3)) r.marked_refresh (cond (b && is_eq (nat_cmp (kind_number k) 2)) r.marked_access (cond (b && is_eq (nat_cmp (kind_number k) 1)) r.marked_code old)) ≡ marked_in (cond b (Some r) o) k
 three false r k old o h = h

@@ -1,4 +1,4 @@
--- The walk finds the code that a dot is under.
+-- The walk finds the code that a dot is under: proof of `walk_finds`.
 use Rattle.std.proofs.Common.{◌≡◌, inl, inr, ◌+◌, ◌≤◌, ℕ, zero, suc, true, false, Option, None, Some, List, [], ◌∷◌, ap, sym, ◌∙◌, refl, arith, option_and_then}
 use Rattle.std.proofs.lemmas.Bool.{true≢false, cases_Bool, cond-true, cond-false, false_from_ne_true}
 use Rattle.tk_handle.specs.declared.dot.Dot.{Dot}

@@ -1,11 +1,12 @@
--- The words of this crate:
---   Families      families over links and marks: parent, under a code, uses, bad grants, dead families
+-- The definitions of this crate, by file:
+--   Families      families over links and marks: parent, under a code, uses, bad grants, dead
+--                 families
 --   Walks         the code that a dot is under, found from parent to parent
---   Laws          what holds of all links and marks
---   Tops          where a dot stands, and which dots a link raises
---   Dots          dots in lists
+--   Laws          the laws that hold of all links and marks
+--   Tops          where a dot is among families, and which dots a link raises
+--   Dots          lists of dots
 --   ForestFacts   a forest as contracts see it: a finite map of links, and a finite set of marks
---   View          what the rows of a forest show
+--   View          the links and marks of the rows of a forest
 --   Rows          the rows of a forest, and their columns
 --   Packed        a row in little room
 --   Kept          what the rows of a forest keep

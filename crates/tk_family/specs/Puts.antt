@@ -3,9 +3,21 @@
 --   IsBelow            a dot hangs below another by fitting links
 --   FitsAll, Pushes    the children of a dot, at the end of a list
 --   Gathers            all that hangs below a dot
---   NothingSeen        rows that say nothing may have come
+--   NothingSeen        rows may have become more, but only by blank ones
 --   Puts, MarksOne     a link is put, a token is marked
-use Rattle.std.specs.Prelude.{◌≡◌, ◌⊎◌, Bool, true, false, if◌then◌else◌, List, ◌++◌, Option, Some, None}
+use Rattle.std.specs.Prelude.{
+  ◌≡◌,
+  ◌⊎◌,
+  Bool,
+  true,
+  false,
+  if◌then◌else◌,
+  List,
+  ◌++◌,
+  Option,
+  Some,
+  None,
+}
 use Rattle.std.specs.List.{IsDistinct}
 use Rattle.tk_handle.specs.declared.dot.Dot.{Dot}
 use Rattle.tk_handle.specs.declared.token_id.TokenId.{TokenId}
@@ -16,58 +28,59 @@ use Rattle.tk_family.specs.Kept.{IsForest}
 use Rattle.tk_family.specs.Rows.{Rows, links_of, marks_of, named_of}
 use Rattle.tk_family.specs.Tops.{IsRaised}
 
--- the links f with l at d
+-- the links f, with the link l at d
 abbrev pub with_link : Links → Dot → Link → Links
 with_link f d l q = if dot_eq d q then Some l else f q
 
 -- ---- what hangs below a dot
 
--- q is d, or hangs below it by fitting links
+-- q is d, or q hangs below d by fitting links
 pub record IsBelow (f : Links) (d q : Dot) : Type 0 where
   pub path : List Dot
   pub leads : IsTrail f q path d
 
--- what is at a dot fits the link above it
+-- the link at a dot fits the link above
 abbrev pub fits_at : Option Link → Link → Bool
 fits_at None above = false
 fits_at (Some link) above = fits link above
 
--- the list has the dots whose links name x and fit the link above, each once
+-- the list has exactly the dots whose links name x and fit the link above, each once
 pub record FitsAll (f : Links) (x : Dot) (above : Link) (cs : List Dot) : Type 0 where
   pub names : (e : Dot) → has cs e ≡ true → named_of (f e) ≡ Some x
   pub fitting : (e : Dot) → has cs e ≡ true → fits_at (f e) above ≡ true
   pub all : (e : Dot) → named_of (f e) ≡ Some x → fits_at (f e) above ≡ true → has cs e ≡ true
   pub distinct : IsDistinct dot_eq cs
 
--- a list has got these at its end
+-- the list has got the children of x at its end
 pub record Pushes (f : Links) (x : Dot) (above : Link) (old new : List Dot) : Type 0 where
   pub children : List Dot
   pub after : new ≡ old ++ children
   pub fit : FitsAll f x above children
 
--- the list has d and all that hangs below it, each once, where the link l is at d
+-- once the link l is at d, the list has d and all that hangs below d, each once
 pub record Gathers (f : Links) (d : Dot) (l : Link) (ys : List Dot) : Type 0 where
   pub root : has ys d ≡ true
   pub closed : (x e : Dot) → has ys x ≡ true → IsParent (with_link f d l) e x → has ys e ≡ true
   pub below : (q : Dot) → has ys q ≡ true → IsBelow (with_link f d l) d q
   pub distinct : IsDistinct dot_eq ys
 
--- ---- what the calls do
+-- ---- what `put` and `mark` do
 
--- rows that say nothing may have come
+-- N is T, but blank rows may have been added
 pub record NothingSeen (T N : Rows) : Type 0 where
   pub forest : IsForest N
   pub links : (q : Dot) → links_of N q ≡ links_of T q
   pub marks : (k : TokenId) → marks_of N k ≡ marks_of T k
 
--- the link is put at d, and ys are the dots that have come under a code by that
+-- the link l is put at d, and ys are the dots that this brought under a code
 pub record Puts (T N : Rows) (d : Dot) (l : Link) (ys : List Dot) : Type 0 where
   pub forest : IsForest N
   pub links : (q : Dot) → links_of N q ≡ with_link (links_of T) d l q
   pub marks : (k : TokenId) → marks_of N k ≡ marks_of T k
   pub distinct : IsDistinct dot_eq ys
   pub raised_now : (q : Dot) → has ys q ≡ true → IsRaised (links_of T) (links_of N) q
-  pub no_other : (q c : Dot) → IsUnder (links_of N) q c → (has ys q ≡ true) ⊎ IsUnder (links_of T) q c
+  pub no_other : (q c : Dot) → IsUnder (links_of N) q c
+      → (has ys q ≡ true) ⊎ IsUnder (links_of T) q c
 
 -- the token k is marked
 pub record MarksOne (T N : Rows) (k : TokenId) : Type 0 where

@@ -2,7 +2,7 @@
 --   Rows, RowMap, table            the row at each dot, if there is one; those of a map
 --   link_in, code_in, dead_in      the link at a dot, the code that it is under, the death of its family
 --   first_in, next_in              the chain of the dots whose links name a dot
---   marked_in, used_in, again_in   by kind: a token of the dot is marked, is used, is used once more
+--   marked_in, used_in, again_in   by kind: a token of the dot is marked, is used, is used twice
 --   bad_in                         the code or refresh token of the dot is marked, or used twice
 --   links_of, marks_of, named_of   the links and marks of the rows; the dot that a link names
 use Rattle.std.specs.Prelude.{Bool, true, false, ◌||◌, Option, Some, None}
@@ -33,7 +33,7 @@ table rows q = map.get rows q
 
 -- ---- columns
 
--- the link that was put
+-- the link that was put at a dot
 abbrev pub link_in : Option Row → Option Link
 link_in None = None
 link_in (Some row) = row.link
@@ -43,7 +43,7 @@ abbrev pub code_in : Option Row → Option Dot
 code_in None = None
 code_in (Some row) = row.code
 
--- at a code: its family is dead
+-- the family of the code at the dot is dead
 abbrev pub dead_in : Option Row → Bool
 dead_in None = false
 dead_in (Some row) = row.dead
@@ -53,45 +53,48 @@ abbrev pub first_in : Option Row → Option Dot
 first_in None = None
 first_in (Some row) = row.first
 
--- the dot after it among those whose links name the same dot
+-- the next dot of the chain of those whose links name one dot
 abbrev pub next_in : Option Row → Option Dot
 next_in None = None
 next_in (Some row) = row.next
 
 -- ---- columns by kind
 
--- the token of the kind is marked
+-- the token of a kind is marked in a row
 abbrev pub mark_of : Row → Kind → Bool
 mark_of row kind.Code = row.marked_code
 mark_of row kind.Access = row.marked_access
 mark_of row kind.Refresh = row.marked_refresh
 
--- how many links use the token of the kind; no link uses an access token
+-- how many links use the token of a kind; no link uses an access token
 abbrev pub uses_of : Row → Kind → Uses
 uses_of row kind.Code = row.redeemed
 uses_of row kind.Access = Never
 uses_of row kind.Refresh = row.rotated
 
--- one link or more
+-- a number of uses is one or more
 abbrev pub is_some_use : Uses → Bool
 is_some_use Never = false
 is_some_use Once = true
 is_some_use Often = true
 
--- two links or more
+-- a number of uses is two or more
 abbrev pub is_often : Uses → Bool
 is_often Never = false
 is_often Once = false
 is_often Often = true
 
+-- the token of a kind at a dot is marked
 abbrev pub marked_in : Option Row → Kind → Bool
 marked_in None k = false
 marked_in (Some row) k = mark_of row k
 
+-- a link uses the token of a kind at a dot
 abbrev pub used_in : Option Row → Kind → Bool
 used_in None k = false
 used_in (Some row) k = is_some_use (uses_of row k)
 
+-- two links use the token of a kind at a dot
 abbrev pub again_in : Option Row → Kind → Bool
 again_in None k = false
 again_in (Some row) k = is_often (uses_of row k)
@@ -104,23 +107,26 @@ grant_kind Code = kind.Code
 grant_kind (Redeems code) = kind.Refresh
 grant_kind (Rotates parent generation) = kind.Refresh
 
--- the token that the link mints there is marked, or used twice
+-- the token that a link mints at its dot is marked, or used twice
 abbrev pub bad_at : Option Link → Option Row → Bool
 bad_at None row = false
 bad_at (Some link) row = marked_in row (grant_kind link) || again_in row (grant_kind link)
 
+-- the code or refresh token at a dot is marked, or used twice
 abbrev pub bad_in : Option Row → Bool
 bad_in row = bad_at (link_in row) row
 
 -- ---- links and marks
 
+-- the links of the rows
 abbrev pub links_of : Rows → Links
 links_of T q = link_in (T q)
 
+-- the marks of the rows
 abbrev pub marks_of : Rows → TokenId → Bool
 marks_of T k = marked_in (T k.dot) k.kind
 
--- the dot that a link names, where there is one
+-- the dot that a link names, if there is a link and it names one
 abbrev pub named_of : Option Link → Option Dot
 named_of None = None
 named_of (Some link) = named_by link

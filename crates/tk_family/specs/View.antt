@@ -1,4 +1,4 @@
--- What the rows of a forest show: each row's link, and its marks (own).
+-- The forest that contracts see of rows (own).
 --   seen   the links and marks of the rows
 use Rattle.std.specs.Prelude.{Bool, true, false, Option, None, Some, List, [], ◌∷◌}
 use Rattle.std.specs.FinMap as map
@@ -13,7 +13,7 @@ use Rattle.tk_family.specs.declared.row.Row.{Row}
 use Rattle.tk_family.specs.ForestFacts.{ForestFacts}
 use Rattle.tk_family.specs.Rows.{RowMap}
 
--- the map with a link put, or without one
+-- a map with a link at d, or without
 abbrev pub seen_link : map.FinMap dot_cmp Link → Dot → Option Link → map.FinMap dot_cmp Link
 seen_link m d None = map.remove m d
 seen_link m d (Some l) = map.insert m d l
@@ -23,12 +23,12 @@ abbrev pub seen_links : List (Dot × Row) → map.FinMap dot_cmp Link
 seen_links [] = map.empty
 seen_links (e ∷ es) = seen_link (seen_links es) e.0 e.1.link
 
--- the set with a token, or without it
+-- a set with a token, or without
 abbrev pub seen_mark : set.FinSet token_cmp → TokenId → Bool → set.FinSet token_cmp
 seen_mark s k true = set.insert s k
 seen_mark s k false = set.remove s k
 
--- the set with the marks of a row
+-- a set with the marks of a row
 abbrev pub seen_row : set.FinSet token_cmp → Dot → Row → set.FinSet token_cmp
 seen_row s d row =
     let code = seen_mark s (record { dot = d; kind = kind.Code }) row.marked_code in

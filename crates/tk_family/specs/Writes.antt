@@ -1,7 +1,8 @@
 -- What the steps of `put` and `mark` write into rows, each as a function of the rows before it (own).
 --   blank, or_blank, is_blank       a row that says nothing
 --   once_more                       one use more
---   with_code, with_dead, with_put, with_redeemer, with_rotator, with_marked   a row with one thing written
+--   with_code, with_dead, with_put, with_redeemer, with_rotator, with_marked   a row with one thing
+--                                                                              written
 --   put_at, hung                    a link is put, and hung below the dot that it names
 --   without_code, without_dead, without_users, without_link, without_mark   a row with one thing taken away
 --   settled, raised                 a code is written at dots, and its tombstone where a token of theirs is bad
@@ -26,7 +27,7 @@ use Rattle.tk_family.specs.Walks.{fits_over}
 
 -- ---- rows with one thing written
 
--- a row that says nothing
+-- a blank row
 abbrev pub blank : Row
 blank = record {
   link = None;
@@ -41,6 +42,7 @@ blank = record {
   next = None;
 }
 
+-- the row, or a blank one if there is none
 abbrev pub or_blank : Option Row → Option Row
 or_blank None = Some blank
 or_blank (Some row) = Some row
@@ -65,28 +67,32 @@ once_more Never = Once
 once_more Once = Often
 once_more Often = Often
 
+-- the row, under the code c
 abbrev pub with_code : Option Row → Dot → Option Row
 with_code None c = None
 with_code (Some row) c = Some (record row { code = Some c })
 
+-- the row with a tombstone
 abbrev pub with_dead : Option Row → Option Row
 with_dead None = None
 with_dead (Some row) = Some (record row { dead = true })
 
+-- the row with a link, in front of the next dot of its chain
 abbrev pub with_put : Option Row → Link → Option Dot → Option Row
 with_put None l next = None
 with_put (Some row) l next = Some (record row { link = Some l; next = next })
 
--- the link at d redeems the code of the row
+-- the row, whose code the link at d redeems too
 abbrev pub with_redeemer : Option Row → Dot → Option Row
 with_redeemer None d = None
 with_redeemer (Some row) d = Some (record row { first = Some d; redeemed = once_more row.redeemed })
 
--- the link at d rotates the refresh token of the row
+-- the row, whose refresh token the link at d rotates too
 abbrev pub with_rotator : Option Row → Dot → Option Row
 with_rotator None d = None
 with_rotator (Some row) d = Some (record row { first = Some d; rotated = once_more row.rotated })
 
+-- the row with the token of a kind marked
 abbrev pub with_marked : Option Row → Kind → Option Row
 with_marked None k = None
 with_marked (Some row) kind.Code = Some (record row { marked_code = true })
@@ -121,15 +127,16 @@ without_mark (Some row) kind.Refresh = Some (record row { marked_refresh = false
 
 -- ---- steps
 
+-- an optional dot is the dot q
 abbrev pub is_dot : Option Dot → Dot → Bool
 is_dot None q = false
 is_dot (Some d) q = dot_eq d q
 
--- T with the link at d, before the others that name the same dot
+-- T with the link l at d, in front of the next dot of its chain
 abbrev pub put_at : Rows → Dot → Link → Option Dot → Rows
 put_at T d l next q = if dot_eq d q then with_put (T q) l next else T q
 
--- T with the link at d, which hangs below the dot that it names
+-- T with the link l at d, hung below the dot that it names
 abbrev pub hung : Rows → Dot → Link → Rows
 hung T d Code q = put_at T d Code None q
 hung T d (Redeems p) q =
@@ -150,20 +157,21 @@ cleared T list q = if has list q then without_code (T q) else T q
 -- and with the tombstone at c, if a token of the list is bad
 abbrev pub raised : Rows → List Dot → Dot → Rows
 raised T list c q =
-    if list_any (λ e. bad_in (settled T list c e)) list && dot_eq c q then with_dead (settled T list c q)
+    if list_any (λ e. bad_in (settled T list c e)) list && dot_eq c q
+    then with_dead (settled T list c q)
     else settled T list c q
 
--- T with the tombstone of the family that the dot is in, if its token is bad
+-- T with the tombstone of the dot's family, if the dot's token is bad
 abbrev pub buried : Rows → Dot → Rows
 buried T at q = if bad_in (T at) && is_dot (code_in (T at)) q then with_dead (T q) else T q
 
 -- ---- the code that a link comes under
 
--- by the dot that the link names: the code of its parent, and the dot itself where it names none
+-- the code that a link comes under: the code of its parent, or its own dot if it names no dot
 abbrev pub chain_by : Rows → Dot → Link → Option Dot → Option Dot
 chain_by T d l None = Some d
 chain_by T d l (Some p) = if fits_over l (link_in (T p)) then code_in (T p) else None
 
--- the code that the link comes under at d
+-- the code that the link l comes under at d
 abbrev pub chain_code : Rows → Dot → Link → Option Dot
 chain_code T d l = chain_by T d l (named_by l)

@@ -1,4 +1,4 @@
-//! Where a dot stands, and whether a token is used, by rows alone: nothing walks.
+//! The state of a dot in its family, and whether a token is used, read from rows: nothing walks.
 
 ghost use Rattle.std.specs.Prelude.{◌≡◌, ◌+◌, ◌^◌, ◌<◌, ◌≤◌, ◌↔◌, IsTrue};
 ghost use Rattle.tk_family.specs.Families.{IsUsed};
@@ -17,7 +17,8 @@ use tk_handle::{Dot, TokenId};
 /// Where a dot stands, by one look-up, and one more where it is under a code.
 pub(crate) fn top_of(rows: &DotMap<PackedRow>, dot: Dot, steps: &mut Steps) -> Top
     requires { IsForest (table rows.now) }
-    ensures top { IsTop (links_of (table rows.now)) (passing (marks_of (table rows.now))) dot result }
+    ensures top { IsTop (links_of (table rows.now))
+        (passing (marks_of (table rows.now))) dot result }
     ensures at_least { steps.old + 1 < 2 ^ 64 → steps.old + 1 ≤ steps.new }
     ensures more { steps.old ≤ steps.new }
     ensures at_most { steps.new ≤ steps.old + 2 }

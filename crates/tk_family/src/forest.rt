@@ -1,4 +1,4 @@
-//! Families kept with indexes.
+//! Families, kept so that look-ups are fast.
 
 ghost use Rattle.tk_handle.specs.declared.dot.Dot.{Dot as the_dot};
 ghost use Rattle.tk_handle.specs.declared.token_id.TokenId.{TokenId as the_token};
@@ -16,8 +16,7 @@ use std::marker::Model;
 use tk_dots::DotMap;
 use tk_handle::{Dot, TokenId};
 
-/// Links and marks, and what follows from them, whatever the order in which they came (own). Contracts see a finite map
-/// from dots to links, and a finite set of marked tokens.
+/// Links and marks, and what follows from them, whatever the order in which they were put.
 ///
 /// No look-up walks: each dot keeps the code that it is under, and each code whether its family is dead. With n links
 /// and marks, `mark`, `top` and `used` cost O(log n), and `put` O(log n) for each dot that comes under a code by it and
@@ -60,7 +59,7 @@ impl Forest {
     ghost use Rattle.tk_family.specs.Tops.{IsTop, IsRaised};
     ghost use Rattle.tk_handle.specs.Dot.{dot_cmp};
 
-    /// No link and no mark.
+    /// Returns a forest without links and marks.
     pub fn new(alloc: Global) -> Forest
         ensures links { result.links ≡ map.empty }
         ensures marks { result.marks ≡ set.empty }
@@ -72,14 +71,20 @@ impl Forest {
         }
     }
 
-    /// Puts a link at a dot that has none, and gives the dots that come under a code by that, in order. The error is want
-    /// of memory, and then nothing changes.
+    /// Puts a link at a dot that has none. Returns the dots that the link brings under a code, in
+    /// order.
+    ///
+    /// Fails if memory runs out; the forest is unchanged then.
     pub fn put(&mut self, dot: Dot, link: Link) -> Result<Vec<Dot>, AllocError>
         requires { map.get self.old.links dot ≡ None }
         ensures links { OnOk result (self.new.links ≡ map.insert self.old.links dot link) }
         ensures marks { OnOk result (self.new.marks ≡ self.old.marks) }
-        ensures raised { IfOk result (λ ys. (q : the_dot) → has ys.items q ≡ true → IsRaised (links_at self.old) (links_at self.new) q) }
-        ensures all_raised { IfOk result (λ ys. (q : the_dot) → IsRaised (links_at self.old) (links_at self.new) q → has ys.items q ≡ true) }
+        ensures raised { IfOk result
+            (λ ys. (q : the_dot) → has ys.items q ≡ true
+            → IsRaised (links_at self.old) (links_at self.new) q) }
+        ensures all_raised { IfOk result
+            (λ ys. (q : the_dot) → IsRaised (links_at self.old) (links_at self.new) q
+            → has ys.items q ≡ true) }
         ensures distinct { IfOk result (λ ys. IsDistinct dot_eq ys.items) }
         ensures sorted { IfOk result (λ ys. IsSorted dot_cmp ys.items) }
         ensures err { OnErr result (self.new ≡ self.old) }
@@ -87,8 +92,10 @@ impl Forest {
         put_within(self.alloc, &mut self.rows, &mut self.room, dot, &link)
     }
 
-    /// Marks a token, which may come before its link. The error is want of memory, and then nothing changes; where a
-    /// link is at the token's dot, no memory is taken.
+    /// Marks a token. The mark may be made before the token's link is put.
+    ///
+    /// Fails if memory runs out; the forest is unchanged then. If there is a link at the token's
+    /// dot, no memory is taken.
     pub fn mark(&mut self, token: TokenId) -> Result<(), AllocError>
         ensures links { self.new.links ≡ self.old.links }
         ensures marks { OnOk result (self.new.marks ≡ set.insert self.old.marks token) }
@@ -123,7 +130,7 @@ impl Forest {
         self.room.shrink_to(self.rows.len() as usize);
     }
 
-    /// Where a dot stands, by one or two look-ups, which are counted.
+    /// Returns where a dot is among families. Makes one or two look-ups, which are counted.
     pub fn top(&self, dot: Dot, steps: &mut Steps) -> Top
         ensures top { IsTop (links_at self.now) (marks_at self.now) dot result }
         ensures at_least { steps.old + 1 < 2 ^ 64 → steps.old + 1 ≤ steps.new }
@@ -133,7 +140,7 @@ impl Forest {
         top_of(&self.rows, dot, steps)
     }
 
-    /// Whether a link uses a token, by one look-up, which is counted.
+    /// Returns whether a link uses a token. Makes one look-up, which is counted.
     pub fn used(&self, token: TokenId, steps: &mut Steps) -> bool
         ensures used { IsTrue result ↔ IsUsed (links_at self.now) token }
         ensures first { steps.old + 1 < 2 ^ 64 → steps.new ≡ steps.old + 1 }

@@ -1,4 +1,4 @@
-//! All that hangs below a dot, as a list that is its own queue.
+//! Gathering all that hangs below a dot, in a list that is its own queue.
 
 ghost use Rattle.std.specs.FinMap as map;
 ghost use Rattle.std.specs.Prelude.{◌≡◌, ◌<◌, ◌≤◌, [], None, OnOk, OnErr, IfOk, IsSome, vec_capacity};

@@ -1,23 +1,33 @@
-//! Families of tokens: which code a code, an access token or a refresh token descends from, and whether that family is dead.
+//! Families of tokens: which code a token descends from, and whether that family is dead.
 //!
-//! A `Link` is what one fact does in a family: it mints a code, redeems one, or rotates a refresh token. Families are
-//! defined over the links and marks of a set, given by their look-ups, so that one text serves every way to keep them.
-//! Links may come from anyone, in any order: what a link names may be missing, or not fit, and rotations may form a ring.
+//! A `Link` is what one fact does in a family: it mints a code, redeems one, or rotates a refresh
+//! token. The definitions speak of the links and marks of a set, given by their look-ups, so that
+//! they serve every way to keep them. Links may come from anyone, in any order: what a link names
+//! may be missing, or not fit, and rotations may form a ring.
 //!
-//! `Forest` keeps links and marks so that no look-up walks, and `Steps` counts its look-ups. The functions are laws, with empty
-//! bodies.
+//! `Forest` keeps links and marks so that no look-up walks. `Steps` counts the look-ups. The
+//! functions of `laws` have empty bodies and state laws.
 //!
-//! A forest has a row for each dot. `look` reads rows, and `write` writes them; `gather` finds what hangs below a dot,
-//! `put` puts a link by these, `mark` marks a token, and `find` answers. What the rows keep is `IsForest` of
-//! specs/Kept.antt: each dot under a code names it, each code of a dead family has a tombstone, each token tells how many
-//! links use it, and the dots whose links name a dot hang in a chain from it, whether or not they fit, so that they wait
-//! there for a dot that has no link yet. A family's death is kept at its code alone: what comes under the code later is
-//! dead by that.
+//! A forest has a row for each dot. `IsForest` of `specs/Kept.antt` states what the rows keep:
 //!
-//! In reading order: `Link`, then specs/Families.antt, the definitions, specs/Walks.antt, the walk, and `laws`, each stated
-//! in specs/Laws.antt and proved in proofs/; then specs/Tops.antt, `Top` and `Forest`, specs/Rows.antt, specs/Kept.antt,
-//! specs/Writes.antt and specs/Puts.antt, `row`, `look`, `write`, `gather`, `put`, `mark`, `find`. proofs/Growth.antt has
-//! the heart of `put`.
+//! - each dot under a code has the name of that code;
+//! - each code of a dead family has a tombstone, and no other dot of the family has one: what comes
+//!   under the code later is dead by the code's tombstone;
+//! - each token has the number of links that use it: none, one, or more;
+//! - the dots whose links name a dot hang in a chain from that dot, whether or not they fit. There
+//!   they wait for a dot that has no link yet.
+//!
+//! Modules: `look` reads rows, `write` writes them, `gather` finds what hangs below a dot, `put`
+//! puts a link by these, `mark` marks a token, `find` looks things up.
+//!
+//! In reading order:
+//!
+//! 1. `Link`; `specs/Families.antt`, the definitions; `specs/Walks.antt`, the walk;
+//! 2. `laws`, each stated in `specs/Laws.antt` and proved in `proofs/`;
+//! 3. `specs/Tops.antt`, `Top` and `Forest`;
+//! 4. `specs/Rows.antt`, `specs/Kept.antt`, `specs/Writes.antt` and `specs/Puts.antt`;
+//! 5. `row`, `look`, `write`, `gather`, `put`, `mark`, `find`; `proofs/Growth.antt` has the main
+//!    lemmas of `put`.
 #![tactic(auto)]
 
 mod find;

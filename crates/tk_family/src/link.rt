@@ -1,24 +1,26 @@
-//! What a fact does in a family, and what follows from that alone: the dot it names, and what may be its parent.
+//! What a fact does in a family; the dot that it names; which link may be its parent.
 
 ghost use Rattle.std.specs.Prelude.{◌≡◌};
 ghost use Rattle.tk_family.specs.Families.{named_by, fits as is_fit};
 
 use tk_handle::Dot;
 
-/// What a fact does in a family (own). Any dot and any generation may stand in it.
+/// What a fact does in a family. Any dot and any generation are allowed.
 #[derive(Clone, Copy)]
 pub enum Link {
-    /// It mints a code (RFC 6749, 4.1.2).
+    /// Issues a code (RFC 6749, 4.1.2).
     Code,
-    /// It redeems the code at a dot, and mints an access token and a refresh token (RFC 6749, 4.1.3 and 4.1.4).
+    /// Redeems the code at a dot, for an access token and a refresh token (RFC 6749, 4.1.3 and
+    /// 4.1.4).
     Redeems(Dot),
-    /// It rotates the refresh token at a dot, and mints an access token and the next refresh token (RFC 6749, 6). The
-    /// generation counts the rotations from the redemption on, 1 at the first; 0 to 65,535.
+    /// Rotates the refresh token at a dot, for an access token and the next refresh token (RFC
+    /// 6749, 6). The generation counts the rotations since the redemption, 1 at the first; 0 to
+    /// 65,535.
     Rotates { parent: Dot, generation: u16 },
 }
 
-// The dot that a link names (own): of the code that it redeems, or of the refresh token that it rotates. None for a
-// code, which names nothing.
+// Returns the dot that a link names: of the code that it redeems, or of the refresh token that it
+// rotates. Returns `None` for a code, which names no dot.
 pub(crate) fn named(link: &Link) -> Option<Dot>
     ensures { result ≡ named_by link.now }
 {
@@ -29,8 +31,9 @@ pub(crate) fn named(link: &Link) -> Option<Dot>
     }
 }
 
-// Whether a link fits the link at the dot that it names, so that this is its parent (RFC 6749, 4.1 and 6): a redemption
-// fits a code, a rotation of generation 1 a redemption, and any rotation one of the generation less one.
+// Returns whether a link fits the link at the dot that it names, which is then its parent (RFC
+// 6749, 4.1 and 6). A redemption fits a code, a rotation of generation 1 fits a redemption, and any
+// rotation fits a rotation of the generation below.
 pub(crate) fn fits(link: &Link, above: &Link) -> bool
     ensures { result ≡ is_fit link.now above.now }
 {

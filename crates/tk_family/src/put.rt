@@ -50,8 +50,8 @@ fn code_for(rows: &DotMap<PackedRow>, dot: Dot, link: &Link) -> Option<Dot>
     }
 }
 
-/// The dots that come under a code by a link, where its chain is whole. They are all the memory that a put needs beside
-/// its rows.
+/// Returns the dots that a link brings under a code, if its chain reaches the code. Besides the
+/// rows this list is all the memory that a put takes.
 fn answer(
     alloc: Global,
     rows: &DotMap<PackedRow>,
@@ -62,7 +62,8 @@ fn answer(
     requires forest { IsForest (table rows.now) }
     requires row { IsSome (table rows.now dot) }
     requires free { links_of (table rows.now) dot ≡ None }
-    ensures whole { IfOk result (λ ys. whole ≡ true → Gathers (links_of (table rows.now)) dot link.now ys.items) }
+    ensures whole { IfOk result
+        (λ ys. whole ≡ true → Gathers (links_of (table rows.now)) dot link.now ys.items) }
     ensures waits { IfOk result (λ ys. whole ≡ false → ys.items ≡ []) }
     ensures sorted { IfOk result (λ ys. IsSorted dot_cmp ys.items) }
 {

@@ -7,19 +7,19 @@ ghost use Rattle.tk_family.specs.Writes.{once_more, is_never};
 use crate::link::Link;
 use tk_handle::{Dot, Kind};
 
-/// How many links use a token (own).
+/// How many links use a token: none, one, or more.
 #[derive(Clone, Copy)]
 pub(crate) enum Uses {
-    /// None.
+    /// No link uses the token.
     Never,
-    /// One.
+    /// One link uses the token.
     Once,
-    /// Two or more.
+    /// Two links or more use the token.
     Often,
 }
 
 impl Uses {
-    /// One more.
+    /// Returns the count with one use more.
     pub(crate) fn more(self) -> Uses
         ensures { result ≡ once_more self }
     {
@@ -30,7 +30,7 @@ impl Uses {
         }
     }
 
-    /// One or more.
+    /// Returns whether there is at least one use.
     pub(crate) fn is_some(self) -> bool
         ensures { result ≡ is_some_use self }
     {
@@ -64,35 +64,36 @@ impl Uses {
     }
 }
 
-/// What is kept at a dot: its link, marks and uses, and what follows from all links and marks (own).
+/// What is kept at a dot: its link, marks and uses, and what follows from all links and marks.
 #[derive(Clone, Copy)]
 pub(crate) struct Row {
-    /// What was put there.
+    /// The link that was put at the dot.
     pub link: Option<Link>,
     /// The code that the dot is under.
     pub code: Option<Dot>,
     /// At a code: its family is dead.
     pub dead: bool,
-    /// The code at the dot is marked.
+    /// Whether the code at the dot is marked.
     pub marked_code: bool,
-    /// The access token at the dot is marked.
+    /// Whether the access token at the dot is marked.
     pub marked_access: bool,
-    /// The refresh token at the dot is marked.
+    /// Whether the refresh token at the dot is marked.
     pub marked_refresh: bool,
     /// How many links redeem the code at the dot.
     pub redeemed: Uses,
     /// How many links rotate the refresh token at the dot.
     pub rotated: Uses,
-    /// The last dot whose link named this one.
+    /// The last dot that was put with a link to this one: the first of the chain.
     pub first: Option<Dot>,
-    /// The dot before this one among those whose links name the same dot.
+    /// The dot put before this one among those whose links name the same dot: the next of the
+    /// chain.
     pub next: Option<Dot>,
 }
 
 impl Row {
     ghost use Rattle.tk_family.specs.Writes.{blank, is_blank, with_code, with_dead, with_put, with_redeemer, with_rotator, with_marked, without_code, without_dead, without_users, without_link, without_mark};
 
-    /// A row that says nothing but the link at its dot, if there is one.
+    /// Returns a row that is blank but for the link at its dot, if there is one.
     pub(crate) fn new(link: Option<Link>) -> Row
         ensures { result ≡ record blank { link = link } }
     {
@@ -135,7 +136,7 @@ impl Row {
         row
     }
 
-    /// The row of a code whose family is dead.
+    /// Returns the row, as the row of a code whose family is dead.
     pub(crate) fn with_dead(&self) -> Row
         ensures { with_dead (Some self.now) ≡ Some result }
     {
@@ -144,7 +145,7 @@ impl Row {
         row
     }
 
-    /// The row with a link, before another dot whose link names the same one.
+    /// Returns the row with a link, in front of the next dot whose link names the same dot.
     pub(crate) fn with_link(&self, link: Link, next: Option<Dot>) -> Row
         ensures { with_put (Some self.now) link next ≡ Some result }
     {
@@ -154,7 +155,7 @@ impl Row {
         row
     }
 
-    /// The row whose code the link at a dot redeems.
+    /// Returns the row, whose code the link at `dot` redeems too.
     pub(crate) fn redeemed_by(&self, dot: Dot) -> Row
         ensures { with_redeemer (Some self.now) dot ≡ Some result }
     {
@@ -164,7 +165,7 @@ impl Row {
         row
     }
 
-    /// The row whose refresh token the link at a dot rotates.
+    /// Returns the row, whose refresh token the link at `dot` rotates too.
     pub(crate) fn rotated_by(&self, dot: Dot) -> Row
         ensures { with_rotator (Some self.now) dot ≡ Some result }
     {
@@ -174,7 +175,7 @@ impl Row {
         row
     }
 
-    /// The row with the token of a kind marked.
+    /// Returns the row, with the token of a kind marked.
     pub(crate) fn marked_as(&self, kind: Kind) -> Row
         ensures { with_marked (Some self.now) kind ≡ Some result }
     {

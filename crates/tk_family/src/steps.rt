@@ -4,7 +4,7 @@ ghost use Rattle.std.specs.Prelude.{◌≡◌, ◌+◌, ◌^◌, ◌<◌, ◌≤
 
 use std::marker::Model;
 
-/// How many look-ups were made, 0 to 18,446,744,073,709,551,615 (own). Contracts see the number.
+/// A number of look-ups, 0 to 18,446,744,073,709,551,615. Contracts see the number.
 #[derive(Drop)]
 pub struct Steps {
     count: u64,
@@ -19,14 +19,14 @@ impl Model for Steps {
 }
 
 impl Steps {
-    /// No look-up.
+    /// Returns a count of 0.
     pub fn new() -> Steps
         ensures { result ≡ 0 }
     {
         Steps { count: 0 }
     }
 
-    /// One more. At the greatest number it stays.
+    /// Adds one. The greatest number stays as it is.
     pub fn tick(&mut self)
         ensures more { self.old + 1 < 2 ^ 64 → self.new ≡ self.old + 1 }
         ensures greatest { self.old + 1 ≡ 2 ^ 64 → self.new ≡ self.old }
@@ -36,7 +36,7 @@ impl Steps {
         self.count = self.count.saturating_add(1);
     }
 
-    /// The number.
+    /// Returns the number of look-ups.
     pub fn count(&self) -> u64
         ensures { result ≡ self.now }
     {

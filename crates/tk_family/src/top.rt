@@ -1,16 +1,16 @@
-//! Where a dot stands.
+//! Where a dot is among families.
 
 use tk_handle::Dot;
 
-/// Where a dot stands among links and marks (own).
+/// Where a dot is among families, by links and marks.
 #[derive(Clone, Copy, PartialEq, Eq)]
 pub enum Top {
-    /// No link is there.
+    /// There is no link at the dot.
     Absent,
-    /// No chain of fitting parents leads from it to a code.
+    /// There is a link at the dot, but no chain of fitting parents leads to a code.
     Broken,
-    /// It is under the code at a dot, whose family lives.
+    /// The dot is under this code, whose family is not dead.
     Code(Dot),
-    /// It is under the code at a dot, whose family is dead.
+    /// The dot is under this code, whose family is dead.
     Dead(Dot),
 }

@@ -1,4 +1,4 @@
-//! Writes of rows. None but `add_row` takes memory.
+//! Writes of rows. Only `add_row` takes memory.
 
 ghost use Rattle.std.specs.FinMap as map;
 ghost use Rattle.std.specs.Prelude.{◌≡◌, ◌≤◌, ◌+◌, None, OnOk, OnErr, IsOk, IsSome, if◌then◌else◌, option_map};

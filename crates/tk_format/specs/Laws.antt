@@ -1,4 +1,5 @@
--- The law of each way to make a format: what is read is spelled so, and what is spelled so is read. Those that formats cite end in `_exact`.
+-- The law of each way to make a format: a value that is read is spelled by the bytes taken, and a
+-- spelling is read as its value. The laws that formats cite end in `_exact`.
 use Rattle.std.proofs.Common.{◌≡◌, ℕ, zero, suc, ◌^◌, ◌<◌, ◌≤◌, Bool, true, false, cond, eqb, ltb, nat_le, List, [], ◌∷◌, ◌++◌, length, take, drop, Option, Some, None, refl, sym, ap, subst, ◌∙◌, append_assoc, arith}
 use Rattle.std.specs.Int.{Width, w16, w64, byte_len, from_be_bytes, to_be_bytes}
 use Rattle.std.specs.List.{AllByRecursion, flat_map}
@@ -14,14 +15,15 @@ use Rattle.tk_format.specs.Exact.{IsBytes, IsBytes-drop, IsBytes-take, IsExact, 
 
 -- ---- numbers
 
--- what is asked of a width: its numbers are so many bytes, and back
+-- what a width owes: each number has as many bytes as the width, and the bytes give the number back
 pub record IsWide (w : Width) : Type 0 where
   pub len : (n : ℕ) → length (to_be_bytes w n) ≡ byte_len w
-  pub back : (bytes : List ℕ) → length bytes ≡ byte_len w → IsBytes bytes → to_be_bytes w (from_be_bytes w bytes) ≡ bytes
+  pub back : (bytes : List ℕ) → length bytes ≡ byte_len w → IsBytes bytes
+      → to_be_bytes w (from_be_bytes w bytes) ≡ bytes
   pub again : (n : ℕ) → n < 256 ^ byte_len w → from_be_bytes w (to_be_bytes w n) ≡ n
   pub below : (bytes : List ℕ) → IsBytes bytes → from_be_bytes w bytes < 256 ^ byte_len w
 
--- two bytes are so
+-- the width of two bytes keeps `IsWide`
 pub wide16 : IsWide w16
 wide16 = record {
   len = λ n. refl;
@@ -30,24 +32,36 @@ wide16 = record {
   below = λ bytes fits. omega (arith, fits 0, fits 1);
 }
 
--- eight bytes are so
+-- the width of eight bytes keeps `IsWide`
 pub wide64 : IsWide w64
 wide64 = record {
   len = λ n. refl;
   back = λ bytes len fits. be_bytes_8 bytes _ len fits refl;
   again = λ n lt. from_be_bytes-to_be_bytes_8 n lt;
-  below = λ bytes fits. omega (arith, fits 0, fits 1, fits 2, fits 3, fits 4, fits 5, fits 6, fits 7);
+  below = λ bytes fits.
+      omega (arith, fits 0, fits 1, fits 2, fits 3, fits 4, fits 5, fits 6, fits 7);
 }
 
--- what is read as a number is spelled so
-number_takes : (w : Width) (wide : IsWide w) (bytes : List ℕ) (x : ℕ × List ℕ) → IsBytes bytes → (number w).read bytes ≡ Some x → Takes bytes (number_spelling w x.0) x.1 × (x.0 < 256 ^ byte_len w)
+-- a number that is read is spelled by the bytes taken
+number_takes : (w : Width) (wide : IsWide w) (bytes : List ℕ) (x : ℕ × List ℕ) → IsBytes bytes
+    → (number w).read bytes ≡ Some x
+    → Takes bytes (number_spelling w x.0) x.1 × (x.0 < 256 ^ byte_len w)
 unfolding number_at number_spelling
 number_takes w wide bytes x fits e =
-    let g = guard_some (ltb (length bytes) (byte_len w)) (from_be_bytes w (take (byte_len w) bytes), drop (byte_len w) bytes) x e in
+    let g = guard_some (ltb (length bytes) (byte_len w))
+    (from_be_bytes w (take (byte_len w) bytes), drop (byte_len w) bytes) x e in
     let long : byte_len w ≤ length bytes = ltb-false _ _ g.0 in
-    let front : to_be_bytes w (from_be_bytes w (take (byte_len w) bytes)) ≡ take (byte_len w) bytes = wide.back (take (byte_len w) bytes) (omega (arith, length-take (byte_len w) bytes)) (IsBytes-take (byte_len w) bytes fits) in
-    subst (λ (y : ℕ × List ℕ). Takes bytes (to_be_bytes w y.0) y.1 × (y.0 < 256 ^ byte_len w)) g.1
-    (record { parts = rw front (sym (take-append-drop (byte_len w) bytes)); rest_fits = IsBytes-drop (byte_len w) bytes fits }, wide.below (take (byte_len w) bytes) (IsBytes-take (byte_len w) bytes fits))
+    let front : to_be_bytes w (from_be_bytes w (take (byte_len w) bytes))
+    ≡ take (byte_len w) bytes =
+    wide.back (take (byte_len w) bytes) (omega (arith, length-take (byte_len w) bytes))
+    (IsBytes-take (byte_len w) bytes fits) in
+    subst (λ (y : ℕ × List ℕ). Takes bytes (to_be_bytes w y.0) y.1 × (y.0 < 256 ^ byte_len w)) g.1 (
+      record {
+        parts = rw front (sym (take-append-drop (byte_len w) bytes));
+        rest_fits = IsBytes-drop (byte_len w) bytes fits;
+      },
+      wide.below (take (byte_len w) bytes) (IsBytes-take (byte_len w) bytes fits),
+    )
 
 -- the law of `number`
 pub number_exact : (w : Width) → IsWide w → IsExact (number w)
@@ -56,43 +70,54 @@ number_exact w wide = record {
   takes = number_takes w wide;
   again = λ n rest lt.
       let len = wide.len n in
-      let long : ltb (length (to_be_bytes w n ++ rest)) (byte_len w) ≡ false = le-ltb _ _ (omega (arith, length-append (to_be_bytes w n) rest)) in
-      rw (long, take_at (to_be_bytes w n) rest (byte_len w) len, drop_at (to_be_bytes w n) rest (byte_len w) len, wide.again n lt) refl;
+      let long : ltb (length (to_be_bytes w n ++ rest)) (byte_len w) ≡ false =
+      le-ltb _ _ (omega (arith, length-append (to_be_bytes w n) rest)) in
+      rw (
+        long,
+        take_at (to_be_bytes w n) rest (byte_len w) len,
+        drop_at (to_be_bytes w n) rest (byte_len w) len,
+        wide.again n lt,
+      ) refl;
 }
 
--- at two bytes
+-- the law of a number of two bytes
 pub u16_exact : IsExact (number w16)
 u16_exact = number_exact w16 wide16
 
--- at eight bytes
+-- the law of a number of eight bytes
 pub u64_exact : IsExact (number w64)
 u64_exact = number_exact w64 wide64
 
 -- ---- bytes
 
--- bytes but the first are bytes
+-- a list of bytes without its first is a list of bytes
 pub IsBytes-rest : (b : ℕ) (bytes : List ℕ) → IsBytes (b ∷ bytes) → IsBytes bytes
 IsBytes-rest b bytes h i = h (suc i)
 
--- what is read as a byte is spelled so
-byte_takes : (bytes : List ℕ) (x : ℕ × List ℕ) → IsBytes bytes → byte_at_front bytes ≡ Some x → Takes bytes (x.0 ∷ []) x.1 × (x.0 < 256)
+-- a byte that is read is spelled by the byte taken
+byte_takes : (bytes : List ℕ) (x : ℕ × List ℕ) → IsBytes bytes → byte_at_front bytes ≡ Some x
+    → Takes bytes (x.0 ∷ []) x.1 × (x.0 < 256)
 byte_takes [] x fits e = absurd cc
 byte_takes (b ∷ bytes) x fits e =
-    subst (λ (y : ℕ × List ℕ). Takes (b ∷ bytes) (y.0 ∷ []) y.1 × (y.0 < 256)) (some_is (b, bytes) x e)
+    subst (λ (y : ℕ × List ℕ). Takes (b ∷ bytes) (y.0 ∷ []) y.1 × (y.0 < 256))
+    (some_is (b, bytes) x e)
     (record { parts = refl; rest_fits = IsBytes-rest b bytes fits }, fits 0)
 
 -- the law of `byte`
 pub byte_exact : IsExact byte
 byte_exact = record { takes = byte_takes; again = λ b rest lt. refl }
 
--- what is read as that many bytes is spelled so
-bytes_take : (n : ℕ) (bytes : List ℕ) (x : List ℕ × List ℕ) → IsBytes bytes → (bytes_of n).read bytes ≡ Some x → Takes bytes x.0 x.1 × (length x.0 ≡ n)
+-- n bytes that are read are the bytes taken
+bytes_take : (n : ℕ) (bytes : List ℕ) (x : List ℕ × List ℕ) → IsBytes bytes
+    → (bytes_of n).read bytes ≡ Some x → Takes bytes x.0 x.1 × (length x.0 ≡ n)
 unfolding bytes_at
 bytes_take n bytes x fits e =
     let g = guard_some (ltb (length bytes) n) (take n bytes, drop n bytes) x e in
     let long : n ≤ length bytes = ltb-false _ _ g.0 in
-    subst (λ (y : List ℕ × List ℕ). Takes bytes y.0 y.1 × (length y.0 ≡ n)) g.1
-    (record { parts = sym (take-append-drop n bytes); rest_fits = IsBytes-drop n bytes fits }, omega (arith, length-take n bytes))
+    subst (λ (y : List ℕ × List ℕ). Takes bytes y.0 y.1 × (length y.0 ≡ n)) g.1 (
+      record { parts = sym (take-append-drop n bytes); rest_fits = IsBytes-drop n bytes fits },
+      omega (arith, length-take n bytes),
+    )
 
 -- the law of `bytes_of`
 pub bytes_exact : (n : ℕ) → IsExact (bytes_of n)
@@ -100,48 +125,64 @@ unfolding bytes_at
 bytes_exact n = record {
   takes = bytes_take n;
   again = λ bs rest len.
-      let long : ltb (length (bs ++ rest)) n ≡ false = le-ltb _ _ (omega (arith, length-append bs rest)) in
+      let long : ltb (length (bs ++ rest)) n ≡ false =
+      le-ltb _ _ (omega (arith, length-append bs rest)) in
       rw (long, take_at bs rest n len, drop_at bs rest n len) refl;
 }
 
 -- the law of `nothing`
 pub nothing_exact : IsExact nothing
 nothing_exact = record {
-  takes = λ bytes x fits e. subst (λ (y : Unit {0} × List ℕ). Takes bytes [] y.1 × Unit {0}) (some_is (tt, bytes) x e) (record { parts = refl; rest_fits = fits }, tt);
+  takes = λ bytes x fits e.
+      subst (λ (y : Unit {0} × List ℕ). Takes bytes [] y.1 × Unit {0}) (some_is (tt, bytes) x e)
+      (record { parts = refl; rest_fits = fits }, tt);
   again = λ u rest fits. refl;
 }
 
 -- ---- one after the other
 
--- what is read as two is spelled so
-both_take : {A B : Type 0} (f : Format A) (g : Format B) → IsExact f → IsExact g → (bytes : List ℕ) (x : (A × B) × List ℕ) → IsBytes bytes → (f ⊗ g).read bytes ≡ Some x
+-- a pair that is read is spelled by the bytes taken
+both_take : {A B : Type 0} (f : Format A) (g : Format B) → IsExact f → IsExact g
+    → (bytes : List ℕ) (x : (A × B) × List ℕ) → IsBytes bytes → (f ⊗ g).read bytes ≡ Some x
     → Takes bytes (f.spell x.0.0 ++ g.spell x.0.1) x.1 × (f.Fits x.0.0 × g.Fits x.0.1)
 both_take {A} {B} f g p q bytes x fits e =
     let a = bind_some (f.read bytes) (λ a. g.read a.1 >>= λ b. Some ((a.0, b.0), b.1)) x e in
     let b = bind_some (g.read a.0.1) (λ b. Some ((a.0.0, b.0), b.1)) x a.2 in
     let first = p.takes bytes a.0 fits a.1 in
     let second = q.takes a.0.1 b.0 first.0.rest_fits b.1 in
-    subst (λ (y : (A × B) × List ℕ). Takes bytes (f.spell y.0.0 ++ g.spell y.0.1) y.1 × (f.Fits y.0.0 × g.Fits y.0.1)) (some_is ((a.0.0, b.0.0), b.0.1) x b.2)
-    (Takes-then bytes (f.spell a.0.0) a.0.1 (g.spell b.0.0) b.0.1 first.0 second.0, (first.1, second.1))
+    subst (λ (y : (A × B) × List ℕ). Takes bytes (f.spell y.0.0 ++ g.spell y.0.1) y.1
+    × (f.Fits y.0.0 × g.Fits y.0.1)) (some_is ((a.0.0, b.0.0), b.0.1) x b.2) (
+      Takes-then bytes (f.spell a.0.0) a.0.1 (g.spell b.0.0) b.0.1 first.0 second.0,
+      (first.1, second.1),
+    )
 
 -- the law of `⊗`
-pub both_exact : {A B : Type 0} (f : Format A) (g : Format B) → IsExact f → IsExact g → IsExact (f ⊗ g)
+pub both_exact : {A B : Type 0} (f : Format A) (g : Format B) → IsExact f → IsExact g
+    → IsExact (f ⊗ g)
 both_exact f g p q = record {
   takes = both_take f g p q;
-  again = λ x rest fits. rw (append_assoc (f.spell x.0) (g.spell x.1) rest, p.again x.0 (g.spell x.1 ++ rest) fits.0, q.again x.1 rest fits.1) refl;
+  again = λ x rest fits.
+      rw (
+        append_assoc (f.spell x.0) (g.spell x.1) rest,
+        p.again x.0 (g.spell x.1 ++ rest) fits.0,
+        q.again x.1 rest fits.1,
+      ) refl;
 }
 
 -- ---- text
 
--- what is read as a text is spelled so
-text_takes : (bytes : List ℕ) (x : List ℕ × List ℕ) → IsBytes bytes → text.read bytes ≡ Some x → Takes bytes (text.spell x.0) x.1 × (length x.0 < 256 ^ 2)
+-- a text that is read is spelled by the bytes taken
+text_takes : (bytes : List ℕ) (x : List ℕ × List ℕ) → IsBytes bytes → text.read bytes ≡ Some x
+    → Takes bytes (text.spell x.0) x.1 × (length x.0 < 256 ^ 2)
 unfolding text_at text_spelling
 text_takes bytes x fits e =
     let a = bind_some ((number w16).read bytes) (λ n. (bytes_of n.0).read n.1) x e in
     let first = u16_exact.takes bytes a.0 fits a.1 in
     let second = bytes_take a.0.0 a.0.1 x first.0.rest_fits a.2 in
-    let both = Takes-then bytes (number_spelling w16 a.0.0) a.0.1 x.0 x.1 first.0 second.0 in
-    (subst (λ (k : ℕ). Takes bytes (number_spelling w16 k ++ x.0) x.1) (sym second.1) both, omega (arith, first.1, second.1))
+    let both = Takes-then bytes (number_spelling w16 a.0.0) a.0.1 x.0 x.1 first.0 second.0 in (
+      subst (λ (k : ℕ). Takes bytes (number_spelling w16 k ++ x.0) x.1) (sym second.1) both,
+      omega (arith, first.1, second.1),
+    )
 
 -- the law of `text`
 pub text_exact : IsExact text
@@ -149,19 +190,23 @@ unfolding text_at text_spelling
 text_exact = record {
   takes = text_takes;
   again = λ bs rest lt.
-      ap text.read (append_assoc (number_spelling w16 (length bs)) bs rest) ∙ rw (u16_exact.again (length bs) (bs ++ rest) lt) ((bytes_exact (length bs)).again bs rest refl);
+      ap text.read (append_assoc (number_spelling w16 (length bs)) bs rest)
+      ∙ rw (u16_exact.again (length bs) (bs ++ rest) lt)
+      ((bytes_exact (length bs)).again bs rest refl);
 }
 
 -- ---- tests and shapes
 
--- what is read and passes is spelled so
-only_takes : {A : Type 0} (test : A → Bool) (f : Format A) → IsExact f → (bytes : List ℕ) (x : A × List ℕ) → IsBytes bytes → (only test f).read bytes ≡ Some x
+-- a value that is read and passes the test is spelled by the bytes taken
+only_takes : {A : Type 0} (test : A → Bool) (f : Format A) → IsExact f
+    → (bytes : List ℕ) (x : A × List ℕ) → IsBytes bytes → (only test f).read bytes ≡ Some x
     → Takes bytes (f.spell x.0) x.1 × (f.Fits x.0 × (test x.0 ≡ true))
 only_takes {A} test f p bytes x fits e =
     let a = bind_some (f.read bytes) (λ a. cond (test a.0) (Some a) None) x e in
     let g = cond_some (test a.0.0) a.0 x a.2 in
     let first = p.takes bytes a.0 fits a.1 in
-    subst (λ (y : A × List ℕ). Takes bytes (f.spell y.0) y.1 × (f.Fits y.0 × (test y.0 ≡ true))) g.1 (first.0, (first.1, g.0))
+    subst (λ (y : A × List ℕ). Takes bytes (f.spell y.0) y.1 × (f.Fits y.0 × (test y.0 ≡ true))) g.1
+    (first.0, (first.1, g.0))
 
 -- the law of `only`
 pub only_exact : {A : Type 0} (test : A → Bool) (f : Format A) → IsExact f → IsExact (only test f)
@@ -170,126 +215,177 @@ only_exact test f p = record {
   again = λ a rest fits. rw (p.again a rest fits.0, fits.1) refl;
 }
 
--- what is read in another shape is spelled so
-shaped_takes : {A B : Type 0} (to : A → B) (of : B → A) (f : Format A) → IsExact f → ((a : A) → of (to a) ≡ a) → (bytes : List ℕ) (x : B × List ℕ) → IsBytes bytes
+-- a value that is read in another shape is spelled by the bytes taken
+shaped_takes : {A B : Type 0} (to : A → B) (of : B → A) (f : Format A) → IsExact f
+    → ((a : A) → of (to a) ≡ a) → (bytes : List ℕ) (x : B × List ℕ) → IsBytes bytes
     → (shaped to of f).read bytes ≡ Some x → Takes bytes (f.spell (of x.0)) x.1 × f.Fits (of x.0)
 shaped_takes {A} {B} to of f p back bytes x fits e =
     let a = bind_some (f.read bytes) (λ a. Some (to a.0, a.1)) x e in
     let first = p.takes bytes a.0 fits a.1 in
-    subst (λ (y : B × List ℕ). Takes bytes (f.spell (of y.0)) y.1 × f.Fits (of y.0)) (some_is (to a.0.0, a.0.1) x a.2)
+    subst (λ (y : B × List ℕ). Takes bytes (f.spell (of y.0)) y.1 × f.Fits (of y.0))
+    (some_is (to a.0.0, a.0.1) x a.2)
     (subst (λ (v : A). Takes bytes (f.spell v) a.0.1 × f.Fits v) (sym (back a.0.0)) first)
 
--- the law of `shaped`, where the two functions undo each other
-pub shaped_exact : {A B : Type 0} (to : A → B) (of : B → A) (f : Format A) → IsExact f → ((a : A) → of (to a) ≡ a) → ((b : B) → to (of b) ≡ b) → IsExact (shaped to of f)
+-- the law of `shaped`, if the two functions undo each other
+pub shaped_exact : {A B : Type 0} (to : A → B) (of : B → A) (f : Format A) → IsExact f
+    → ((a : A) → of (to a) ≡ a) → ((b : B) → to (of b) ≡ b) → IsExact (shaped to of f)
 shaped_exact to of f p back forth = record {
   takes = shaped_takes to of f p back;
   again = λ b rest fits. rw (p.again (of b) rest fits, forth b) refl;
 }
 
--- the law of `partly`, where the second function undoes the first
-pub partly_exact : {A B : Type 0} (to : A → Option B) (of : B → A) (f : Format A) → IsExact f → ((a : A) (b : B) → to a ≡ Some b → of b ≡ a) → IsExact (partly to of f)
+-- the law of `partly`, if the second function undoes the first
+pub partly_exact : {A B : Type 0} (to : A → Option B) (of : B → A) (f : Format A) → IsExact f
+    → ((a : A) (b : B) → to a ≡ Some b → of b ≡ a) → IsExact (partly to of f)
 partly_exact {A} {B} to of f p back = record {
   takes = λ bytes x fits e.
       let a = bind_some (f.read bytes) (λ a. to a.0 >>= λ b. Some (b, a.1)) x e in
       let b = bind_some (to a.0.0) (λ b. Some (b, a.0.1)) x a.2 in
       let first = p.takes bytes a.0 fits a.1 in
       let is = back a.0.0 b.0 b.1 in
-      subst (λ (y : B × List ℕ). Takes bytes (f.spell (of y.0)) y.1 × (f.Fits (of y.0) × (to (of y.0) ≡ Some y.0))) (some_is (b.0, a.0.1) x b.2)
+      subst (λ (y : B × List ℕ). Takes bytes (f.spell (of y.0)) y.1
+      × (f.Fits (of y.0) × (to (of y.0) ≡ Some y.0))) (some_is (b.0, a.0.1) x b.2)
       (rw is (first.0, (first.1, b.1)));
   again = λ b rest fits. rw (p.again (of b) rest fits.0, fits.1) refl;
 }
 
 -- ---- several
 
--- what is read as several is spelled so
-many_take : {A : Type 0} (f : Format A) → IsExact f → (n : ℕ) (bytes : List ℕ) (x : List A × List ℕ) → IsBytes bytes → read_many f.read n bytes ≡ Some x
+-- n values that are read are spelled by the bytes taken
+many_take : {A : Type 0} (f : Format A) → IsExact f → (n : ℕ) (bytes : List ℕ) (x : List A × List ℕ)
+    → IsBytes bytes → read_many f.read n bytes ≡ Some x
     → Takes bytes (flat_map f.spell x.0) x.1 × (length x.0 ≡ n) × AllByRecursion f.Fits x.0
 unfolding read_many
 many_take {A} f p zero bytes x fits e =
-    subst (λ (y : List A × List ℕ). Takes bytes (flat_map f.spell y.0) y.1 × (length y.0 ≡ 0) × AllByRecursion f.Fits y.0) (some_is ([], bytes) x e) (record { parts = refl; rest_fits = fits }, refl, tt)
+    subst (λ (y : List A × List ℕ). Takes bytes (flat_map f.spell y.0) y.1 × (length y.0 ≡ 0)
+    × AllByRecursion f.Fits y.0) (some_is ([], bytes) x e)
+    (record { parts = refl; rest_fits = fits }, refl, tt)
 many_take {A} f p (suc n) bytes x fits e =
-    let a = bind_some (f.read bytes) (λ a. read_many f.read n a.1 >>= λ others. Some (a.0 ∷ others.0, others.1)) x e in
-    let b = bind_some (read_many f.read n a.0.1) (λ others. Some (a.0.0 ∷ others.0, others.1)) x a.2 in
+    let a = bind_some (f.read bytes)
+    (λ a. read_many f.read n a.1 >>= λ others. Some (a.0 ∷ others.0, others.1)) x e in
+    let b = bind_some (read_many f.read n a.0.1)
+    (λ others. Some (a.0.0 ∷ others.0, others.1)) x a.2 in
     let first = p.takes bytes a.0 fits a.1 in
     let second = many_take f p n a.0.1 b.0 first.0.rest_fits b.1 in
-    let both = Takes-then bytes (f.spell a.0.0) a.0.1 (flat_map f.spell b.0.0) b.0.1 first.0 second.0 in
-    subst (λ (y : List A × List ℕ). Takes bytes (flat_map f.spell y.0) y.1 × (length y.0 ≡ suc n) × AllByRecursion f.Fits y.0) (some_is (a.0.0 ∷ b.0.0, b.0.1) x b.2) (rw flat_map-cons both, ap suc second.1, (first.1, second.2))
+    let both = Takes-then bytes (f.spell a.0.0) a.0.1
+    (flat_map f.spell b.0.0) b.0.1 first.0 second.0 in
+    subst (λ (y : List A × List ℕ). Takes bytes (flat_map f.spell y.0) y.1 × (length y.0 ≡ suc n)
+    × AllByRecursion f.Fits y.0) (some_is (a.0.0 ∷ b.0.0, b.0.1) x b.2)
+    (rw flat_map-cons both, ap suc second.1, (first.1, second.2))
 
--- what is spelled as several is read so
-many_again : {A : Type 0} (f : Format A) → IsExact f → (xs : List A) (rest : List ℕ) → AllByRecursion f.Fits xs → read_many f.read (length xs) (flat_map f.spell xs ++ rest) ≡ Some (xs, rest)
+-- the spelling of a list of values is read as that list
+many_again : {A : Type 0} (f : Format A) → IsExact f → (xs : List A) (rest : List ℕ)
+    → AllByRecursion f.Fits xs
+    → read_many f.read (length xs) (flat_map f.spell xs ++ rest) ≡ Some (xs, rest)
 unfolding read_many
 many_again f p [] rest fits = refl
 many_again f p (x ∷ xs) rest fits =
-    let regrouped : flat_map f.spell (x ∷ xs) ++ rest ≡ f.spell x ++ (flat_map f.spell xs ++ rest) = ap (λ (t : List ℕ). t ++ rest) (flat_map-cons f.spell x xs) ∙ append_assoc (f.spell x) (flat_map f.spell xs) rest in
-    ap (read_many f.read (suc (length xs))) regrouped ∙ rw (p.again x (flat_map f.spell xs ++ rest) fits.0, many_again f p xs rest fits.1) refl
+    let regrouped : flat_map f.spell (x ∷ xs) ++ rest ≡ f.spell x ++ (flat_map f.spell xs ++ rest) =
+    ap (λ (t : List ℕ). t ++ rest) (flat_map-cons f.spell x xs)
+    ∙ append_assoc (f.spell x) (flat_map f.spell xs) rest in
+    ap (read_many f.read (suc (length xs))) regrouped
+    ∙ rw (p.again x (flat_map f.spell xs ++ rest) fits.0, many_again f p xs rest fits.1) refl
 
--- what is read behind a count is spelled so
-counted_takes : {A : Type 0} (count : Format ℕ) (f : Format A) → IsExact count → IsExact f → (bytes : List ℕ) (x : List A × List ℕ) → IsBytes bytes → (counted count f).read bytes ≡ Some x
-    → Takes bytes (count.spell (length x.0) ++ flat_map f.spell x.0) x.1 × (count.Fits (length x.0) × AllByRecursion f.Fits x.0)
+-- a list of values that is read behind its count is spelled by the bytes taken
+counted_takes : {A : Type 0} (count : Format ℕ) (f : Format A) → IsExact count → IsExact f
+    → (bytes : List ℕ) (x : List A × List ℕ) → IsBytes bytes → (counted count f).read bytes ≡ Some x
+    → Takes bytes (count.spell (length x.0) ++ flat_map f.spell x.0) x.1
+    × (count.Fits (length x.0) × AllByRecursion f.Fits x.0)
 counted_takes {A} count f p q bytes x fits e =
     let a = bind_some (count.read bytes) (λ n. read_many f.read n.0 n.1) x e in
     let first = p.takes bytes a.0 fits a.1 in
     let second = many_take f q a.0.0 a.0.1 x first.0.rest_fits a.2 in
-    let both = Takes-then bytes (count.spell a.0.0) a.0.1 (flat_map f.spell x.0) x.1 first.0 second.0 in
-    (subst (λ (k : ℕ). Takes bytes (count.spell k ++ flat_map f.spell x.0) x.1) (sym second.1) both, (subst count.Fits (sym second.1) first.1, second.2))
+    let both = Takes-then bytes (count.spell a.0.0) a.0.1
+    (flat_map f.spell x.0) x.1 first.0 second.0 in (
+      subst (λ (k : ℕ). Takes bytes (count.spell k ++ flat_map f.spell x.0) x.1)
+          (sym second.1) both,
+      (subst count.Fits (sym second.1) first.1, second.2),
+    )
 
 -- the law of `counted`
-pub counted_exact : {A : Type 0} (count : Format ℕ) (f : Format A) → IsExact count → IsExact f → IsExact (counted count f)
+pub counted_exact : {A : Type 0} (count : Format ℕ) (f : Format A) → IsExact count → IsExact f
+    → IsExact (counted count f)
 counted_exact count f p q = record {
   takes = counted_takes count f p q;
-  again = λ xs rest fits. rw (append_assoc (count.spell (length xs)) (flat_map f.spell xs) rest, p.again (length xs) (flat_map f.spell xs ++ rest) fits.0) (many_again f q xs rest fits.1);
+  again = λ xs rest fits.
+      rw (
+        append_assoc (count.spell (length xs)) (flat_map f.spell xs) rest,
+        p.again (length xs) (flat_map f.spell xs ++ rest) fits.0,
+      ) (many_again f q xs rest fits.1);
 }
 
 -- the law of `repeated`
 pub repeated_exact : {A : Type 0} (n : ℕ) (f : Format A) → IsExact f → IsExact (repeated n f)
 repeated_exact {A} n f p = record {
   takes = λ bytes x fits e. let t = many_take f p n bytes x fits e in (t.0, (t.1, t.2));
-  again = λ xs rest fits. subst (λ (k : ℕ). read_many f.read k (flat_map f.spell xs ++ rest) ≡ Some (xs, rest)) fits.0 (many_again f p xs rest fits.1);
+  again = λ xs rest fits.
+      subst (λ (k : ℕ). read_many f.read k (flat_map f.spell xs ++ rest) ≡ Some (xs, rest)) fits.0
+      (many_again f p xs rest fits.1);
 }
 
 -- ---- a value behind its length
 
--- what begins bytes is bytes
+-- the front of a list of bytes is a list of bytes
 IsBytes-front : (front rest : List ℕ) → IsBytes (front ++ rest) → IsBytes front
-IsBytes-front front rest h = subst IsBytes (take_at front rest (length front) refl) (IsBytes-take (length front) (front ++ rest) h)
+IsBytes-front front rest h =
+    subst IsBytes (take_at front rest (length front) refl)
+    (IsBytes-take (length front) (front ++ rest) h)
 
--- the bytes of a text that was taken
+-- a text that is taken from bytes is a list of bytes
 IsBytes-text : (bytes t rest : List ℕ) → IsBytes bytes → Takes bytes (text.spell t) rest → IsBytes t
 unfolding text_spelling
 IsBytes-text bytes t rest fits taken =
     let whole_text = IsBytes-front (text_spelling t) rest (subst IsBytes taken.parts fits) in
-    subst IsBytes (drop_at (number_spelling w16 (length t)) t (length (number_spelling w16 (length t))) refl) (IsBytes-drop (length (number_spelling w16 (length t))) (text_spelling t) whole_text)
+    subst IsBytes (drop_at (number_spelling w16 (length t)) t
+    (length (number_spelling w16 (length t))) refl)
+    (IsBytes-drop (length (number_spelling w16 (length t))) (text_spelling t) whole_text)
 
--- what is read behind its length is spelled so
-sized_takes : {A : Type 0} (limit : ℕ) (f : Format A) → IsExact f → (bytes : List ℕ) (x : A × List ℕ) → IsBytes bytes → (sized limit f).read bytes ≡ Some x
-    → Takes bytes (text.spell (f.spell x.0)) x.1 × (f.Fits x.0 × (text.Fits (f.spell x.0) × (nat_le (length (f.spell x.0)) limit ≡ true)))
+-- a value that is read behind its length is spelled by the bytes taken
+sized_takes : {A : Type 0} (limit : ℕ) (f : Format A) → IsExact f
+    → (bytes : List ℕ) (x : A × List ℕ) → IsBytes bytes → (sized limit f).read bytes ≡ Some x
+    → Takes bytes (text.spell (f.spell x.0)) x.1
+    × (f.Fits x.0 × (text.Fits (f.spell x.0) × (nat_le (length (f.spell x.0)) limit ≡ true)))
 sized_takes {A} limit f p bytes x fits e =
-    let t = bind_some ((only (λ t. nat_le (length t) limit) text).read bytes) (λ t. whole f t.0 >>= λ a. Some (a, t.1)) x e in
+    let t = bind_some ((only (λ t. nat_le (length t) limit) text).read bytes)
+    (λ t. whole f t.0 >>= λ a. Some (a, t.1)) x e in
     let w = bind_some (whole f t.0.0) (λ a. Some (a, t.0.1)) x t.2 in
     let first = only_takes (λ t. nat_le (length t) limit) text text_exact bytes t.0 fits t.1 in
     let inside = whole_takes f p t.0.0 w.0 (IsBytes-text bytes t.0.0 t.0.1 fits first.0) w.1 in
-    subst (λ (y : A × List ℕ). Takes bytes (text.spell (f.spell y.0)) y.1 × (f.Fits y.0 × (text.Fits (f.spell y.0) × (nat_le (length (f.spell y.0)) limit ≡ true)))) (some_is (w.0, t.0.1) x w.2)
-    (subst (λ (s : List ℕ). Takes bytes (text.spell s) t.0.1 × (f.Fits w.0 × (text.Fits s × (nat_le (length s) limit ≡ true)))) inside.1 (first.0, (inside.0, first.1)))
+    subst (λ (y : A × List ℕ). Takes bytes (text.spell (f.spell y.0)) y.1
+    × (f.Fits y.0 × (text.Fits (f.spell y.0) × (nat_le (length (f.spell y.0)) limit ≡ true))))
+    (some_is (w.0, t.0.1) x w.2)
+    (subst (λ (s : List ℕ). Takes bytes (text.spell s) t.0.1
+    × (f.Fits w.0 × (text.Fits s × (nat_le (length s) limit ≡ true)))) inside.1
+    (first.0, (inside.0, first.1)))
 
 -- the law of `sized`
 pub sized_exact : {A : Type 0} (limit : ℕ) (f : Format A) → IsExact f → IsExact (sized limit f)
 sized_exact limit f p = record {
   takes = sized_takes limit f p;
-  again = λ a rest fits. rw ((only_exact (λ t. nat_le (length t) limit) text text_exact).again (f.spell a) rest fits.1, whole_again f p a fits.0) refl;
+  again = λ a rest fits.
+      rw (
+        (only_exact (λ t. nat_le (length t) limit) text text_exact).again (f.spell a) rest fits.1,
+        whole_again f p a fits.0,
+      ) refl;
 }
 
 -- ---- bytes in front
 
--- what is read behind these bytes is spelled so
-after_takes : {A : Type 0} (magic : List ℕ) (f : Format A) → IsExact f → (bytes : List ℕ) (x : A × List ℕ) → IsBytes bytes → (after magic f).read bytes ≡ Some x
+-- a value that is read behind `magic` is spelled by the bytes taken
+after_takes : {A : Type 0} (magic : List ℕ) (f : Format A) → IsExact f
+    → (bytes : List ℕ) (x : A × List ℕ) → IsBytes bytes → (after magic f).read bytes ≡ Some x
     → Takes bytes (magic ++ f.spell x.0) x.1 × f.Fits x.0
 after_takes magic f p bytes x fits e =
-    let m = bind_some ((bytes_of (length magic)).read bytes) (λ m. cond (bytes_eq m.0 magic) (f.read m.1) None) x e in
+    let m = bind_some ((bytes_of (length magic)).read bytes)
+    (λ m. cond (bytes_eq m.0 magic) (f.read m.1) None) x e in
     let g = chosen_some (bytes_eq m.0.0 magic) (f.read m.0.1) x m.2 in
     let first = bytes_take (length magic) bytes m.0 fits m.1 in
     let is : m.0.0 ≡ magic = (bytes_eq-Decides m.0.0 magic).0 g.0 in
-    let second = p.takes m.0.1 x first.0.rest_fits g.1 in
-    (subst (λ (t : List ℕ). Takes bytes (t ++ f.spell x.0) x.1) is (Takes-then bytes m.0.0 m.0.1 (f.spell x.0) x.1 first.0 second.0), second.1)
+    let second = p.takes m.0.1 x first.0.rest_fits g.1 in (
+      subst (λ (t : List ℕ). Takes bytes (t ++ f.spell x.0) x.1) is
+          (Takes-then bytes m.0.0 m.0.1 (f.spell x.0) x.1 first.0 second.0),
+      second.1,
+    )
 
 -- the law of `after`
 pub after_exact : {A : Type 0} (magic : List ℕ) (f : Format A) → IsExact f → IsExact (after magic f)
@@ -297,71 +393,92 @@ after_exact magic f p = record {
   takes = after_takes magic f p;
   again = λ a rest fits.
       ap (after magic f).read (append_assoc magic (f.spell a) rest)
-      ∙ rw ((bytes_exact (length magic)).again magic (f.spell a ++ rest) refl, (bytes_eq-Decides magic magic).1 refl) (p.again a rest fits);
+      ∙ rw (
+        (bytes_exact (length magic)).again magic (f.spell a ++ rest) refl,
+        (bytes_eq-Decides magic magic).1 refl,
+      ) (p.again a rest fits);
 }
 
 -- ---- a byte for a value
 
--- the two functions of a code undo each other
+-- the two functions of a one-byte code undo each other
 pub record IsCode {A : Type 0} (code : A → ℕ) (of : ℕ → Option A) : Type 0 where
   pub back : (b : ℕ) (a : A) → of b ≡ Some a → code a ≡ b
   pub forth : (a : A) → of (code a) ≡ Some a
 
--- what is read as a code is spelled so
-coded_takes : {A : Type 0} (code : A → ℕ) (of : ℕ → Option A) → IsCode code of → (bytes : List ℕ) (x : A × List ℕ) → IsBytes bytes → (coded code of).read bytes ≡ Some x
+-- a value that is read from its code is spelled by the byte taken
+coded_takes : {A : Type 0} (code : A → ℕ) (of : ℕ → Option A) → IsCode code of
+    → (bytes : List ℕ) (x : A × List ℕ) → IsBytes bytes → (coded code of).read bytes ≡ Some x
     → Takes bytes (code x.0 ∷ []) x.1 × Unit {0}
 coded_takes {A} code of is bytes x fits e =
     let b = bind_some (byte.read bytes) (λ b. of b.0 >>= λ a. Some (a, b.1)) x e in
     let a = bind_some (of b.0.0) (λ a. Some (a, b.0.1)) x b.2 in
     let first = byte_takes bytes b.0 fits b.1 in
-    subst (λ (y : A × List ℕ). Takes bytes (code y.0 ∷ []) y.1 × Unit {0}) (some_is (a.0, b.0.1) x a.2)
+    subst (λ (y : A × List ℕ). Takes bytes (code y.0 ∷ []) y.1 × Unit {0})
+    (some_is (a.0, b.0.1) x a.2)
     (subst (λ (t : ℕ). Takes bytes (t ∷ []) b.0.1) (sym (is.back b.0.0 a.0 a.1)) first.0, tt)
 
 -- the law of `coded`
-pub coded_exact : {A : Type 0} (code : A → ℕ) (of : ℕ → Option A) → IsCode code of → IsExact (coded code of)
+pub coded_exact : {A : Type 0} (code : A → ℕ) (of : ℕ → Option A) → IsCode code of
+    → IsExact (coded code of)
 coded_exact code of is = record {
   takes = coded_takes code of is;
   again = λ a rest fits. rw (is.forth a) refl;
 }
 
--- ---- a byte that says which fields follow
+-- ---- a byte that selects a case
 
--- what stands behind the byte t
-pub record Follows {A : Type 0} (tag : A → ℕ) (fields : A → List ℕ) (Fits : A → Type 0) (t : ℕ) (bytes : List ℕ) (x : A × List ℕ) : Type 0 where
+-- x was read behind the byte t: t is the tag of x, and the bytes taken are the fields of x
+pub record Follows {A : Type 0} (tag : A → ℕ) (fields : A → List ℕ) (Fits : A → Type 0) (t : ℕ)
+    (bytes : List ℕ) (x : A × List ℕ) : Type 0 where
   pub tagged : tag x.0 ≡ t
   pub taken : Takes bytes (fields x.0) x.1
   pub fit : Fits x.0
 
--- what is asked of the cases of a choice
-pub record IsChoice {A : Type 0} (tag : A → ℕ) (fields : A → List ℕ) (Fits : A → Type 0) (cases : ℕ → List ℕ → Option (A × List ℕ)) : Type 0 where
-  pub takes : (t : ℕ) (bytes : List ℕ) (x : A × List ℕ) → IsBytes bytes → cases t bytes ≡ Some x → Follows tag fields Fits t bytes x
+-- what the cases of a choice owe: a value read as a case follows its tag, and its fields are read
+-- as that value
+pub record IsChoice {A : Type 0} (tag : A → ℕ) (fields : A → List ℕ) (Fits : A → Type 0)
+    (cases : ℕ → List ℕ → Option (A × List ℕ)) : Type 0 where
+  pub takes : (t : ℕ) (bytes : List ℕ) (x : A × List ℕ) → IsBytes bytes → cases t bytes ≡ Some x
+      → Follows tag fields Fits t bytes x
   pub again : (a : A) (rest : List ℕ) → Fits a → cases (tag a) (fields a ++ rest) ≡ Some (a, rest)
 
 -- the law of `choice`
-pub choice_exact : {A : Type 0} (tag : A → ℕ) (fields : A → List ℕ) (Fits : A → Type 0) (cases : ℕ → List ℕ → Option (A × List ℕ)) → IsChoice tag fields Fits cases → IsExact (choice tag fields Fits cases)
+pub choice_exact : {A : Type 0} (tag : A → ℕ) (fields : A → List ℕ) (Fits : A → Type 0)
+    (cases : ℕ → List ℕ → Option (A × List ℕ)) → IsChoice tag fields Fits cases
+    → IsExact (choice tag fields Fits cases)
 choice_exact {A} tag fields Fits cases is = record {
   takes = λ bytes x fits e.
       let b = bind_some (byte.read bytes) (λ b. cases b.0 b.1) x e in
       let first = byte_takes bytes b.0 fits b.1 in
-      let rest = is.takes b.0.0 b.0.1 x first.0.rest_fits b.2 in
-      (subst (λ (t : ℕ). Takes bytes (t ∷ fields x.0) x.1) (sym rest.tagged) (Takes-then bytes (b.0.0 ∷ []) b.0.1 (fields x.0) x.1 first.0 rest.taken), rest.fit);
+      let rest = is.takes b.0.0 b.0.1 x first.0.rest_fits b.2 in (
+        subst (λ (t : ℕ). Takes bytes (t ∷ fields x.0) x.1) (sym rest.tagged)
+            (Takes-then bytes (b.0.0 ∷ []) b.0.1 (fields x.0) x.1 first.0 rest.taken),
+        rest.fit,
+      );
   again = λ a rest fits. is.again a rest fits;
 }
 
--- what holds of a case, however it is spelled, holds of what is read as that case
-pub via_takes : {A B : Type 0} (into : A → B) (f : Format A) → IsExact f → (bytes : List ℕ) (x : B × List ℕ) (P : B × List ℕ → Type 0) → IsBytes bytes
-    → ((a : A) (rest : List ℕ) → Takes bytes (f.spell a) rest → f.Fits a → P (into a, rest)) → via into f bytes ≡ Some x → P x
+-- P holds of whatever is read as a case, if P holds of each value of the case, however spelled
+pub via_takes : {A B : Type 0} (into : A → B) (f : Format A) → IsExact f
+    → (bytes : List ℕ) (x : B × List ℕ) (P : B × List ℕ → Type 0) → IsBytes bytes
+    → ((a : A) (rest : List ℕ) → Takes bytes (f.spell a) rest → f.Fits a → P (into a, rest))
+    → via into f bytes ≡ Some x → P x
 via_takes into f p bytes x P fits holds e =
     let a = bind_some (f.read bytes) (λ a. Some (into a.0, a.1)) x e in
     let first = p.takes bytes a.0 fits a.1 in
     subst P (some_is (into a.0.0, a.0.1) x a.2) (holds a.0.0 a.0.1 first.0 first.1)
 
--- what is spelled as a case is read as that case
-pub via_again : {A B : Type 0} (into : A → B) (f : Format A) → IsExact f → (a : A) (rest : List ℕ) → f.Fits a → via into f (f.spell a ++ rest) ≡ Some (into a, rest)
+-- the spelling of a case's fields is read as a value of that case
+pub via_again : {A B : Type 0} (into : A → B) (f : Format A) → IsExact f → (a : A) (rest : List ℕ)
+    → f.Fits a → via into f (f.spell a ++ rest) ≡ Some (into a, rest)
 via_again into f p a rest fits = rw (p.again a rest fits) refl
 
--- what holds of the value of the first case, and of the others, holds of the value of all
-pub case_takes : {X : Type 0} (t k : ℕ) (this next : Option X) (x : X) (P : X → Type 0) → (t ≡ k → this ≡ Some x → P x) → (next ≡ Some x → P x) → cond (eqb t k) this next ≡ Some x → P x
+-- P holds of whatever a chain of cases reads, if P holds of the first case's value and of the
+-- others'
+pub case_takes : {X : Type 0} (t k : ℕ) (this next : Option X) (x : X) (P : X → Type 0)
+    → (t ≡ k → this ≡ Some x → P x) → (next ≡ Some x → P x) → cond (eqb t k) this next ≡ Some x
+    → P x
 case_takes {X} t k this next x P here later e =
     (elim (eqb t k) as (λ b. eqb t k ≡ b → cond b this next ≡ Some x → P x) [
       | true ↦ λ is h. here (eqb-true t k is) h

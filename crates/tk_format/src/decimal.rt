@@ -3,8 +3,9 @@
 ghost use Rattle.std.specs.Prelude.{◌≡◌, IfSome, IfNone};
 ghost use Rattle.tk_format.specs.Decimals.{decimal_in, IsDecimalOf, IsNoDecimal};
 
-/// The number whose decimal the text is, 0 to 18,446,744,073,709,551,615, without a sign, and without leading zeros
-/// but in `0` itself. None for every other text.
+/// Returns the number whose decimal the text is, from 0 to 18,446,744,073,709,551,615.
+///
+/// A decimal has no sign, and no leading zero but in `0` itself. Returns `None` for any other text.
 pub fn read_decimal(text: &[u8]) -> Option<u64>
     ensures value { result ≡ decimal_in text.now }
     ensures found { IfSome result (IsDecimalOf text.now) }

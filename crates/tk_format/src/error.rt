@@ -6,10 +6,10 @@ ghost use Rattle.tk_format.specs.declared.error.ReadError.TheVariants.{Memory};
 use std::alloc::{AllocError, AllocFailed};
 use thiserror::Error;
 
-/// Why bytes were not read as a value.
+/// The reason why bytes were not read as a value.
 #[derive(Clone, Copy, Debug, PartialEq, Eq, Error)]
 pub enum ReadError {
-    /// No value is spelled so.
+    /// The bytes are no spelling of a value.
     #[error("malformed bytes")]
     Malformed,
     /// Memory ran out.

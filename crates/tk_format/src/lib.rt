@@ -1,9 +1,10 @@
 //! Formats of bytes: how values are spelled, and how they are read back.
 //!
-//! A format says which values have a spelling, which bytes it is, and what is read from the front of bytes. Formats
-//! are put together by combinators, and each combinator has one law: what is read is spelled so, and what is spelled
-//! so is read. So no value has two spellings, and no spelling begins another. The crate knows of no format in
-//! particular: those of handles, facts and bundles stand with their types.
+//! A format defines which values have a spelling, what that spelling is, and what is read from the
+//! front of bytes. Combinators put formats together, and each combinator has one law: a value that
+//! is read is spelled by the bytes read, and a spelling is read as its value. Therefore no value
+//! has two spellings, and no spelling begins another. This crate knows no particular format: those
+//! of handles, facts and bundles are defined beside their types.
 //!
 //! In reading order:
 //!
@@ -15,8 +16,11 @@
 //! - [`read_decimal`], a number that is written in decimal digits;
 //! - [`read_numeral`], a number of any length, up to a limit.
 //!
-//! `specs/Format.antt` defines formats, `specs/Reading.antt` says what a reader may return, and `specs/Exact.antt`,
-//! `specs/Laws.antt` and `specs/KindLaws.antt` have the laws.
+//! The definitions and laws are in `specs/`:
+//!
+//! - `Format.antt` defines formats;
+//! - `Reading.antt` defines what a reader may return;
+//! - `Exact.antt`, `Laws.antt` and `KindLaws.antt` have the laws.
 #![tactic(auto)]
 
 mod decimal;

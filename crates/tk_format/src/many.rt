@@ -6,17 +6,17 @@ ghost use Rattle.tk_format.specs.Reading.{GetsBy, GetsManyBy};
 use crate::{ReadError, Reader};
 use std::alloc::Global;
 
-/// A type whose values are read one after the other.
+/// A type whose values can be read one after the other.
 pub trait FromBytes: Drop {
-    /// What is read at the front of bytes: the value and the rest, or none.
+    /// The value at the front of bytes and the bytes behind it, if the bytes begin with a value.
     ghost value_at: { List ℕ → Option (Self × List ℕ) };
 
-    /// Reads a value from the front. What the reader has left after an error is not said.
+    /// Reads a value from the front. After an error the reader's position is unspecified.
     fn read_from(alloc: Global, reader: &mut Reader<'_>) -> Result<Self, ReadError>
         ensures { GetsBy value_at result reader.old reader.new };
 }
 
-/// Reads as many values as the count says. What the reader has left after an error is not said.
+/// Reads `count` values. After an error the reader's position is unspecified.
 pub fn read_many<T: FromBytes>(
     alloc: Global,
     count: u16,

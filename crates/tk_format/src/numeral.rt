@@ -6,10 +6,10 @@ ghost use Rattle.std.specs.Str.{all_ascii_digits};
 ghost use Rattle.std.specs.Str.Parse.{digits_value};
 ghost use Rattle.tk_format.specs.Numerals.{is_numeral, numeral_up_to};
 
-/// What a text says as a number, with a limit.
+/// What a text is as a number, compared with a limit.
 #[derive(Clone, Copy)]
 pub enum Numeral {
-    /// It is no number: it is empty, or a byte of it is no digit.
+    /// The text is empty, or a byte of the text is no digit.
     Malformed,
     /// The number is above the limit.
     Above,
@@ -17,8 +17,10 @@ pub enum Numeral {
     Within(u32),
 }
 
-/// The number that one or more ASCII digits write, leading zeros among them, if it is at most the limit. There may be
-/// thousands of digits: no number is too great to be told `Above`.
+/// Reads one or more ASCII digits as a number, if the number is at most the limit.
+///
+/// Leading zeros are allowed. The text may be any length: for a number too great for any integer
+/// type the result is `Above`.
 pub fn read_numeral(text: &[u8], limit: u32) -> Numeral
     ensures { result ≡ numeral_up_to limit text.now }
 {
@@ -52,7 +54,7 @@ fn all_digits(text: &[u8]) -> bool
     true
 }
 
-// The number that the digits write, or `most` where it is greater.
+// Returns the lesser of `most` and the number that the digits write.
 #[tactic(auto, using(crate::proofs::NumeralLaws::digit_in, crate::proofs::NumeralLaws::one_digit_more))]
 fn value_up_to(text: &[u8], most: u64) -> u64
     requires digits { all_ascii_digits text.now ≡ true }

@@ -4,11 +4,11 @@ use std::marker::Model;
 
 /// The bytes that are left to read.
 ///
-/// Each `take_` takes a value from the front, and answers `None` where no such value stands there; then it takes
-/// nothing. Numbers have the high byte first.
+/// Each `take_` method takes a value from the front. If the bytes do not begin with such a value,
+/// the method returns `None` and takes nothing. Numbers have the high byte first.
 #[derive(Drop)]
 pub struct Reader<'a> {
-    /// The bytes behind those that were taken.
+    /// The bytes that are not yet taken.
     rest: &'a [u8],
 }
 
@@ -26,21 +26,21 @@ ghost use Rattle.tk_format.specs.Format.{byte, bytes_of, number, text};
 ghost use Rattle.tk_format.specs.Reading.{Reads, ReadsMagic};
 
 impl<'a> Reader<'a> {
-    /// A reader of all of these bytes.
+    /// Returns a reader of all of these bytes.
     pub fn new(bytes: &'a [u8]) -> Reader<'a>
         ensures { result ≡ bytes.now }
     {
         Reader { rest: bytes }
     }
 
-    /// How many bytes are left.
+    /// Returns how many bytes are left.
     pub fn len(&self) -> usize
         ensures { result ≡ length self.now }
     {
         self.rest.len()
     }
 
-    /// Whether no byte is left.
+    /// Returns whether no byte is left.
     pub fn is_empty(&self) -> bool
         ensures { result ≡ (length self.now == 0) }
     {
@@ -79,7 +79,7 @@ impl<'a> Reader<'a> {
         Some(u64::from_be_bytes(*front))
     }
 
-    /// Takes that many bytes.
+    /// Takes `count` bytes.
     #[tactic(auto, unfolding(crate::specs::Format::bytes_at))]
     pub fn take_bytes(&mut self, count: usize) -> Option<&'a [u8]>
         ensures read { Reads (λ s. s.now) (bytes_of count) result self.old self.new }
@@ -91,7 +91,7 @@ impl<'a> Reader<'a> {
         Some(front)
     }
 
-    /// Takes a number of two bytes, and that many bytes behind it.
+    /// Takes a length in two bytes, and then that number of bytes.
     #[tactic(auto, unfolding(crate::specs::Format::text_at))]
     pub fn take_text(&mut self) -> Option<&'a [u8]>
         ensures read { Reads (λ s. s.now) text result self.old self.new }
@@ -106,7 +106,7 @@ impl<'a> Reader<'a> {
         content
     }
 
-    /// Takes these very bytes.
+    /// Takes the bytes of `magic`, if the rest begins with them.
     #[tactic(auto, unfolding(crate::specs::Format::bytes_at))]
     pub fn take_magic(&mut self, magic: &[u8]) -> Option<()>
         ensures read { ReadsMagic magic.now result self.old self.new }

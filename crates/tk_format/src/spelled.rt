@@ -8,25 +8,25 @@ ghost use Rattle.tk_format.specs.Reading.{Gets, GetsAll};
 use crate::{ReadError, Reader};
 use std::alloc::Global;
 
-/// A type with one format, and its law.
+/// A type with one format, and the law of that format.
 pub trait Spelled: Drop {
-    /// How the values are spelled.
+    /// The format of the values.
     ghost format: { Format Self };
 
-    /// Reads a value from the front. What the reader has left after an error is not said.
+    /// Reads a value from the front. After an error the reader's position is unspecified.
     fn read_from(alloc: Global, reader: &mut Reader<'_>) -> Result<Self, ReadError>
         ensures { Gets (λ x. x) format result reader.old reader.new };
 
     ghost exact: { IsExact format };
 }
 
-/// The value that the bytes spell, all of the bytes.
+/// Returns the value that all of the bytes together spell.
 pub fn read_all<T: Spelled>(alloc: Global, bytes: &[u8]) -> Result<T, ReadError>
     ensures found { IfOk result (λ x. T.format.Fits x × (bytes.now ≡ T.format.spell x)) }
     ensures malformed { IsErrOf result ReadError.Malformed →
         (x : T) → T.format.Fits x → bytes.now ≢ T.format.spell x }
 
-    // The same, as what the format reads.
+    // This clause states the result by what the format reads.
     ensures exact { GetsAll (λ x. x) T.format result bytes.now }
 {
     read_whole(alloc, bytes)

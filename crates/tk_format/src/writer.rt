@@ -4,10 +4,11 @@ use std::marker::Model;
 
 /// Bytes that are written one after the other.
 ///
-/// Each `put_` writes a value behind them. Where memory runs out it writes nothing. Numbers have the high byte first.
+/// Each `put_` method writes a value at the end. If memory runs out, the method writes nothing.
+/// Numbers have the high byte first.
 #[derive(Drop)]
 pub struct Writer {
-    /// The bytes so far.
+    /// The bytes written so far.
     bytes: Vec<u8>,
 }
 
@@ -26,7 +27,7 @@ ghost use Rattle.tk_format.specs.Format.{byte, number, text};
 use std::alloc::{AllocError, Global};
 
 impl Writer {
-    /// A writer that has written nothing.
+    /// Returns a writer that has written nothing.
     pub fn new(alloc: Global) -> Writer
         ensures { result ≡ [] }
     {
@@ -35,7 +36,7 @@ impl Writer {
         }
     }
 
-    /// The bytes that were written.
+    /// Returns the bytes that were written.
     pub fn into_bytes(self) -> Vec<u8>
         ensures { result.items ≡ self }
     {
@@ -70,7 +71,7 @@ impl Writer {
         self.bytes.extend_from_slice(&u64::to_be_bytes(value))
     }
 
-    /// Writes these bytes.
+    /// Writes the bytes as they are.
     pub fn put_bytes(&mut self, bytes: &[u8]) -> Result<(), AllocError>
         ensures ok { OnOk result (self.new ≡ self.old ++ bytes.now) }
         ensures err { OnErr result (self.new ≡ self.old) }
@@ -78,7 +79,7 @@ impl Writer {
         self.bytes.extend_from_slice(bytes)
     }
 
-    /// Writes the length of these bytes as a number in two bytes, and then the bytes.
+    /// Writes the length of `content` as a number in two bytes, and then `content`.
     #[tactic(auto, unfolding(crate::specs::Format::text_spelling, crate::specs::Format::number_spelling))]
     pub fn put_text(&mut self, content: &[u8]) -> Result<(), AllocError>
         requires { length content.now < 2 ^ 16 }

@@ -1,7 +1,9 @@
--- What a token request is answered, and the fact that it makes (RFC 6749, 4.1.4, 5.1, 6 and 10.4).
---   ends_at        when a token ends: its life after the moment, cut at the family's end
---   access_token   what the fact keeps of an access token; refresh_token, of a refresh token
---   grant_of       the decision
+-- The decision of a token request (RFC 6749, 4.1.4, 5.1, 6 and 10.4).
+--   ends_at         a token's expiry: its life after the moment, cut at the family's end
+--   access_token    the access token that a fact mints
+--   refresh_token   the refresh token that a fact mints
+--   granted_by      the decision by a judgement
+--   grant_of        the decision of a request
 use Rattle.std.specs.Prelude.{ℕ, ◌-◌, nat_le, List, [], ◌∷◌, Some, slice_index, if◌then◌else◌}
 use Rattle.tk_handle.specs.declared.dot.Dot.{Dot}
 use Rattle.tk_handle.specs.declared.kind.Kind.TheVariants as kind
@@ -29,24 +31,25 @@ use Rattle.tk_grant.specs.Refusal.{refusal_code}
 abbrev pub earlier : ℕ → ℕ → ℕ
 earlier a b = if nat_le a b then a else b
 
--- no token outlasts its family (own)
+-- a token's expiry: its life after the moment, but at most the family's end (own)
 abbrev pub ends_at : ℕ → ℕ → ℕ → ℕ
 ends_at now life family_end = earlier (moment_plus now life) family_end
 
--- the access token's handle, with the first three words, and the refresh token's, with the others (own)
+-- the handle of the access token at the dot, of the first three random words (own)
 abbrev pub access_handle : Dot → List ℕ → Handle
 access_handle next words = record {
   id = record { dot = next; kind = kind.Access };
   words = slice_index words 0 ∷ slice_index words 1 ∷ slice_index words 2 ∷ [];
 }
 
+-- the handle of the refresh token at the dot, of the last three random words (own)
 abbrev pub refresh_handle : Dot → List ℕ → Handle
 refresh_handle next words = record {
   id = record { dot = next; kind = kind.Refresh };
   words = slice_index words 3 ∷ slice_index words 4 ∷ slice_index words 5 ∷ [];
 }
 
--- the digest of the handle, the token's end and its scope
+-- the access token that a fact mints: its digest, its expiry and its scope
 abbrev pub access_token : Place → ℕ → List ℕ → Grant → MintedToken
 access_token place now words grant = record {
   digest = digest_of (access_handle (next_in place) words);
@@ -54,6 +57,7 @@ access_token place now words grant = record {
   scope = grant.access;
 }
 
+-- the refresh token that a fact mints: its digest, its expiry and its scope
 abbrev pub refresh_token : Place → ℕ → List ℕ → Grant → MintedToken
 refresh_token place now words grant = record {
   digest = digest_of (refresh_handle (next_in place) words);
@@ -61,17 +65,19 @@ refresh_token place now words grant = record {
   scope = grant.refresh;
 }
 
--- both handles, and how long the access token lasts (RFC 6749, 5.1)
+-- the reply with both handles, and the life of the access token (RFC 6749, 5.1)
 abbrev pub granted_reply : Place → ℕ → List ℕ → Grant → ReplyFields
 granted_reply place now words grant = token_reply
     (access_handle (next_in place) words) (ends_at now place.lives.access grant.family_end - now)
     (refresh_handle (next_in place) words) grant.access
 
--- an error (RFC 6749, 5.2); a reuse, which is an error and is recorded (4.1.2 and 10.4); the tokens of a code (4.1.4), or of a
--- refresh token (6), with the fact that minted them
+-- the decision by a judgement: an error (RFC 6749, 5.2); a reuse, which is an error and makes a
+-- fact (RFC 6749, 4.1.2 and 10.4); tokens for a code (RFC 6749, 4.1.4) or for a refresh token (RFC
+-- 6749, 6), with the fact that minted them
 abbrev pub granted_by : Place → ℕ → List ℕ → Judged → Decision
 granted_by place now words (Refused why) = refused (refusal_code why)
-granted_by place now words (Reused id) = record { reply = error_reply InvalidGrant; made = Some (ReuseSeen (record { token = id })) }
+granted_by place now words (Reused id) =
+    record { reply = error_reply InvalidGrant; made = Some (ReuseSeen (record { token = id })) }
 granted_by place now words (Redeems grant) = record {
   reply = granted_reply place now words grant;
   made = Some (CodeRedeemed (record {
@@ -92,6 +98,6 @@ granted_by place now words (Rotates generation grant) = record {
   }));
 }
 
--- by the judgement
+-- the decision of a token request
 abbrev pub grant_of : FactSet → Place → ℕ → List ℕ → RequestFields → Decision
 grant_of F place now words request = granted_by place now words (judged_of F now request)

@@ -1,11 +1,12 @@
--- The words of this crate:
---   Refusal       refusal_code, what an error is called
---   Gate          gate_of, whether the code or refresh token that was sent serves
---   Redeemed      redeemed_of, whether a code is redeemed
---   Rotated       rotated_of, whether a refresh token is rotated
---   Judged        judged_of, the ordered cases of a token request
---   Granted       grant_of, what it is answered, and the fact that it makes
---   SoundGate     what holds of every gate; SoundJudged, of every judgement
+-- The definitions of this crate, by file:
+--   Refusal       refusal_code, the error code of a refusal
+--   Gate          gate_of, whether the code or refresh token that was sent can be redeemed
+--   Redeemed      redeemed_of, the judgement of a code
+--   Rotated       rotated_of, the judgement of a refresh token
+--   Judged        judged_of, the cases of a token request in their order
+--   Granted       grant_of, the decision of a token request
+--   SoundGate     IsSoundGate, what holds of every gate
+--   SoundJudged   IsSoundJudged, what holds of every judgement
 pub mod Gate
 pub mod Granted
 pub mod Judged

@@ -1,8 +1,20 @@
--- Whether a code is redeemed, and else why not (RFC 6749, 4.1.3; RFC 7636, 4.6).
---   names_uri         the redirection URI is the one that the code was sent to
+-- The judgement of a code (RFC 6749, 4.1.3; RFC 7636, 4.6).
+--   names_uri         the request repeats the redirection URI of the code's request
 --   meets_challenge   a verifier meets the challenge, or there is neither
---   redeemed_of       what a request for a code's tokens comes to
-use Rattle.std.specs.Prelude.{ℕ, Bool, true, false, not, List, codes, Option, Some, None, if◌then◌else◌}
+--   redeemed_of       the judgement of a request for a code's tokens
+use Rattle.std.specs.Prelude.{
+  ℕ,
+  Bool,
+  true,
+  false,
+  not,
+  List,
+  codes,
+  Option,
+  Some,
+  None,
+  if◌then◌else◌,
+}
 use Rattle.std.specs.Str.{bytes_eq}
 use Rattle.std.specs.FinMap as map
 use Rattle.tk_match.specs.Challenge.{ChallengeFields, is_met}
@@ -15,31 +27,45 @@ use Rattle.tk_grant.specs.declared.gate.Gate.{Gate}
 use Rattle.tk_grant.specs.declared.gate.Gate.TheVariants.{Shut, Reuse, Open}
 use Rattle.tk_grant.specs.declared.judged.Judged.{Judged}
 use Rattle.tk_grant.specs.declared.judged.Judged.TheVariants.{Refused, Reused, Redeems}
-use Rattle.tk_grant.specs.declared.refusal.Refusal.TheVariants.{UnknownGrant, WrongRedirect, WrongVerifier}
+use Rattle.tk_grant.specs.declared.refusal.Refusal.TheVariants.{
+  UnknownGrant,
+  WrongRedirect,
+  WrongVerifier,
+}
 
--- the code's URI, byte for byte; it may be left out only where the code's request left it out (RFC 6749, 4.1.3)
+-- the URI is the code's, byte for byte. The request may leave the URI out only if the code's
+-- request did (RFC 6749, 4.1.3)
 abbrev pub names_uri : Bool → List ℕ → Option (List ℕ) → Bool
 names_uri sent uri None = not sent
 names_uri sent uri (Some named) = bytes_eq named uri
 
--- a verifier that meets the challenge (RFC 7636, 4.6), or neither of both (own)
+-- the verifier meets the challenge (RFC 7636, 4.6), or there is neither (own)
 abbrev pub meets_challenge : Option ChallengeFields → Option (List ℕ) → Bool
 meets_challenge None None = true
 meets_challenge None (Some verifier) = false
 meets_challenge (Some challenge) None = false
 meets_challenge (Some challenge) (Some verifier) = is_met challenge verifier
 
--- another URI (RFC 6749, 4.1.3); a verifier that doesn't fit (RFC 7636, 4.6); else both tokens have the code's scope (RFC 6749,
--- 4.1.4 and 6). A code that serves was issued, so `None` never comes.
+-- the judgement of the code by the URI (RFC 6749, 4.1.3) and the verifier (RFC 7636, 4.6). Both
+-- tokens get the code's scope (RFC 6749, 4.1.4 and 6). The code at an open gate was issued: `None`
+-- never happens
 abbrev pub redeemed_by : Pairs → StandingFields → Option issued.CodeIssued → Judged
 redeemed_by params standing None = Refused UnknownGrant
 redeemed_by params standing (Some code) =
-    if not (names_uri code.sent code.uri (value_of (codes "redirect_uri") params)) then Refused WrongRedirect
-    else if not (meets_challenge code.challenge (value_of (codes "code_verifier") params)) then Refused WrongVerifier
-    else Redeems (record { from = standing.code; family_end = standing.family_end; access = standing.scope; refresh = standing.scope })
+    if not (names_uri code.sent code.uri (value_of (codes "redirect_uri") params))
+    then Refused WrongRedirect
+    else if not (meets_challenge code.challenge (value_of (codes "code_verifier") params))
+    then Refused WrongVerifier
+    else Redeems (record {
+      from = standing.code;
+      family_end = standing.family_end;
+      access = standing.scope;
+      refresh = standing.scope;
+    })
 
--- only where the code serves
+-- the judgement of the code at the gate
 abbrev pub redeemed_of : FactSet → Pairs → Gate → Judged
 redeemed_of F params (Shut why) = Refused why
 redeemed_of F params (Reuse id) = Reused id
-redeemed_of F params (Open id standing) = redeemed_by params standing (issued_at (map.get F) standing.code)
+redeemed_of F params (Open id standing) =
+    redeemed_by params standing (issued_at (map.get F) standing.code)

@@ -1,11 +1,12 @@
--- What a refusal of a token request is called (RFC 6749, 5.2).
---   refusal_code   the error code of each
+-- The error codes of refusals of token requests (RFC 6749, 5.2).
+--   refusal_code   the error code of a refusal
 use Rattle.tk_message.specs.declared.error_code.ErrorCode.{ErrorCode}
 use Rattle.tk_message.specs.declared.error_code.ErrorCode.TheVariants as code
 use Rattle.tk_grant.specs.declared.refusal.Refusal.{Refusal}
 use Rattle.tk_grant.specs.declared.refusal.Refusal.TheVariants as refusal
 
--- a grant that doesn't serve is an invalid one, for whatever cause
+-- the error code of a refusal: `invalid_grant` for a code or refresh token that can't be redeemed,
+-- whatever the reason
 abbrev pub refusal_code : Refusal → ErrorCode
 refusal_code refusal.DuplicateParameter = code.InvalidRequest
 refusal_code refusal.MixedCredentials = code.InvalidRequest

@@ -1,5 +1,5 @@
--- Whether a refresh token is rotated, and else why not (RFC 6749, 6).
---   rotated_of   what a request for a refresh token's tokens comes to
+-- The judgement of a refresh token (RFC 6749, 6).
+--   rotated_of   the judgement of a request for a refresh token's tokens
 use Rattle.std.specs.Prelude.{ℕ, ◌+◌, nat_le, List, codes, Option, Some, None, if◌then◌else◌}
 use Rattle.tk_handle.specs.declared.dot.Dot.{Dot}
 use Rattle.tk_fact.specs.Check.{most_generations}
@@ -12,14 +12,20 @@ use Rattle.tk_grant.specs.declared.judged.Judged.{Judged}
 use Rattle.tk_grant.specs.declared.judged.Judged.TheVariants.{Refused, Reused, Rotates}
 use Rattle.tk_grant.specs.declared.refusal.Refusal.TheVariants.{LastGeneration, WrongScope}
 
--- a scope that can't be read, or isn't within the token's; else the access token has it alone, and the new refresh token keeps
--- the old one's (RFC 6749, 6)
+-- the judgement by the scope, which must be within the token's. The access token gets that scope,
+-- the new refresh token that of the old one (RFC 6749, 6)
 abbrev pub rotated_by : Dot → StandingFields → Option (List ℕ) → Judged
 rotated_by from standing None = Refused WrongScope
 rotated_by from standing (Some scope) =
-    Rotates (standing.generation + 1) (record { from = from; family_end = standing.family_end; access = scope; refresh = standing.scope })
+    Rotates (standing.generation + 1) (record {
+      from = from;
+      family_end = standing.family_end;
+      access = scope;
+      refresh = standing.scope;
+    })
 
--- the last generation (own); else it is the scope that was sent, or the token's where none was (RFC 6749, 6)
+-- the judgement of the refresh token at the gate. The last generation is not rotated (own). A
+-- request without a scope asks for the token's scope (RFC 6749, 6)
 abbrev pub rotated_of : Pairs → Gate → Judged
 rotated_of params (Shut why) = Refused why
 rotated_of params (Reuse id) = Reused id

@@ -1,4 +1,4 @@
-//! Whether the code or refresh token that was sent serves, and else why not.
+//! The gate of both grants: whether the code or refresh token that was sent can be redeemed.
 
 ghost use Rattle.std.specs.Prelude.{◌≡◌, true};
 ghost use Rattle.std.specs.Option.{option_copied};
@@ -13,18 +13,18 @@ use tk_family::Steps;
 use tk_handle::{Dot, Handle, Kind, Moment, TokenId};
 use tk_ledger::{Ledger, Standing, State, Status};
 
-// Whether the code or refresh token that was sent serves.
+// Whether the code or refresh token that was sent can be redeemed.
 #[derive(Drop)]
 pub(crate) enum Gate<'a> {
-    // It doesn't.
+    // The token can't be redeemed.
     Shut(Refusal),
-    // It was used before.
+    // The token was used before.
     Reuse(TokenId),
-    // It does.
+    // The token can be redeemed.
     Open(TokenId, Standing<'a>),
 }
 
-// The gate of the client's token of that kind, by its text.
+// Returns the gate of a token of the given kind, by the text that the client sent.
 pub(crate) fn find_gate<'a>(
     ledger: &'a Ledger,
     now: Moment,
@@ -33,7 +33,8 @@ pub(crate) fn find_gate<'a>(
     text: Option<&str>,
 ) -> Gate<'a>
     requires { is_used_once kind ≡ true }
-    ensures value { result ≡ spec.gate_of (facts_of ledger.now) now client kind (option_copied text.entry) }
+    ensures value { result ≡ spec.gate_of (facts_of ledger.now) now client kind
+        (option_copied text.entry) }
     ensures sound { IsSoundGate now result }
 {
     match text {
@@ -42,6 +43,7 @@ pub(crate) fn find_gate<'a>(
     }
 }
 
+// Returns the gate of a token by its text.
 fn gate_by_text<'a>(
     ledger: &'a Ledger,
     now: Moment,
@@ -59,6 +61,7 @@ fn gate_by_text<'a>(
     }
 }
 
+// Returns the gate of a token by its handle.
 fn gate_by_handle<'a>(
     ledger: &'a Ledger,
     now: Moment,
@@ -81,6 +84,7 @@ fn gate_by_handle<'a>(
     gate_by_status(now, id, client, status)
 }
 
+// Returns the gate of a token by its status.
 fn gate_by_status<'a>(now: Moment, id: TokenId, client: Dot, status: Status<'a>) -> Gate<'a>
     requires once { is_used_once id.kind ≡ true }
     requires sound { IsSound now status }
@@ -95,6 +99,7 @@ fn gate_by_status<'a>(now: Moment, id: TokenId, client: Dot, status: Status<'a>)
     }
 }
 
+// Returns the gate of a token by its standing. The token must be the client's own.
 fn gate_by_client<'a>(now: Moment, id: TokenId, client: Dot, standing: Standing<'a>) -> Gate<'a>
     requires once { is_used_once id.kind ≡ true }
     requires sound { IsSoundStanding now standing }

@@ -1,4 +1,4 @@
-//! What a token request is answered, and the fact that it makes.
+//! Decisions of token requests.
 
 ghost use Rattle.std.specs.Prelude.{◌≡◌, ◌<◌, ◌≤◌, IfOk};
 ghost use Rattle.tk_store.specs.Store.{facts_of};
@@ -13,9 +13,12 @@ use tk_handle::{Dot, Handle, Kind, Moment, TokenId};
 use tk_ledger::Ledger;
 use tk_message::{Decision, ErrorCode, Place, Reply, Request, Told, error_reply};
 
-/// What a token request is answered, and the fact that it makes, at the place's dot: a code was redeemed, a refresh token
-/// rotated, or a reuse of one seen (RFC 6749, 4.1.3, 4.1.4, 5, 6 and 10.4; RFC 7636, 4.5 and 4.6). The access token takes the
-/// first three words, the refresh token the others. An error where memory is refused.
+/// Decides a token request at a moment (RFC 6749, 4.1.3, 4.1.4, 5, 6 and 10.4; RFC 7636, 4.5 and
+/// 4.6). Returns the reply, and the fact that the request makes, if any.
+///
+/// The fact, at the place's dot, is that a code was redeemed, a refresh token rotated, or the reuse
+/// of either seen. The access token's handle is made of the first three random words, the refresh
+/// token's of the last three. Returns an error if memory runs out.
 pub fn decide_token(
     alloc: Global,
     ledger: &Ledger,
@@ -24,15 +27,17 @@ pub fn decide_token(
     words: &[u64; 6],
     request: &Request,
 ) -> Result<Decision, AllocError>
-    ensures value { IfOk result (λ d. d ≡ spec.grant_of (facts_of ledger.now) place.now now words.now request.now) }
+    ensures value { IfOk result (λ d.
+        d ≡ spec.grant_of (facts_of ledger.now) place.now now words.now request.now) }
 
-    // The fact made, if any, passes its check.
+    // The fact that the request makes, if any, passes its check.
     ensures passes { IfOk result (λ d. Passes d.made) }
 {
     let judged = judge(alloc, ledger, now, request)?;
     decide_by(alloc, place, now, words, judged)
 }
 
+// Decides a request by its judgement.
 fn decide_by(
     alloc: Global,
     place: &Place,
@@ -60,6 +65,7 @@ fn decide_by(
     }
 }
 
+// Redeems a code.
 fn decide_redeemed(
     alloc: Global,
     place: &Place,
@@ -68,7 +74,8 @@ fn decide_redeemed(
     grant: Grant,
 ) -> Result<Decision, AllocError>
     requires { IsSoundJudged now (Judged.Redeems grant) }
-    ensures value { IfOk result (λ d. d ≡ spec.granted_by place.now now words.now (Judged.Redeems grant)) }
+    ensures value { IfOk result (λ d.
+        d ≡ spec.granted_by place.now now words.now (Judged.Redeems grant)) }
     ensures passes { IfOk result (λ d. Passes d.made) }
 {
     let reply = reply_for(alloc, place, now, words, &grant)?;
@@ -86,6 +93,7 @@ fn decide_redeemed(
     })
 }
 
+// Rotates a refresh token into the given generation.
 fn decide_rotated(
     alloc: Global,
     place: &Place,
@@ -95,7 +103,8 @@ fn decide_rotated(
     grant: Grant,
 ) -> Result<Decision, AllocError>
     requires { IsSoundJudged now (Judged.Rotates generation grant) }
-    ensures value { IfOk result (λ d. d ≡ spec.granted_by place.now now words.now (Judged.Rotates generation grant)) }
+    ensures value { IfOk result (λ d.
+        d ≡ spec.granted_by place.now now words.now (Judged.Rotates generation grant)) }
     ensures passes { IfOk result (λ d. Passes d.made) }
 {
     let reply = reply_for(alloc, place, now, words, &grant)?;
@@ -114,10 +123,13 @@ fn decide_rotated(
     })
 }
 
-// Both tokens, as the fact has them.
+// Returns the access token and the refresh token that the fact mints.
 fn tokens(place: &Place, now: Moment, words: &[u64; 6], grant: Grant) -> (MintedToken, MintedToken)
     requires { now < grant.family_end }
-    ensures value { result ≡ (spec.access_token place.now now words.now grant, spec.refresh_token place.now now words.now grant) }
+    ensures value { result ≡ (
+      spec.access_token place.now now words.now grant,
+      spec.refresh_token place.now now words.now grant,
+    ) }
     ensures access { now ≤ result.0.end }
     ensures refresh { now ≤ result.1.end }
 {
@@ -141,6 +153,7 @@ fn tokens(place: &Place, now: Moment, words: &[u64; 6], grant: Grant) -> (Minted
     (access, refresh)
 }
 
+// Returns the reply with both tokens.
 fn reply_for(
     alloc: Global,
     place: &Place,
@@ -159,6 +172,7 @@ fn reply_for(
     Told::Tokens(&access, lifetime, &refresh, &grant.access).reply(alloc)
 }
 
+// Makes the access token's handle, of the first three random words.
 fn access_handle(next: Dot, words: &[u64; 6]) -> Handle
     ensures { result ≡ spec.access_handle next words.now }
 {
@@ -169,6 +183,7 @@ fn access_handle(next: Dot, words: &[u64; 6]) -> Handle
     Handle::mint(id, [words[0], words[1], words[2]])
 }
 
+// Makes the refresh token's handle, of the last three random words.
 fn refresh_handle(next: Dot, words: &[u64; 6]) -> Handle
     ensures { result ≡ spec.refresh_handle next words.now }
 {
@@ -179,7 +194,7 @@ fn refresh_handle(next: Dot, words: &[u64; 6]) -> Handle
     Handle::mint(id, [words[3], words[4], words[5]])
 }
 
-// When a token ends that lasts so many seconds, in a family that ends then.
+// Returns the expiry of a token that lives `life` seconds, at most until its family ends.
 fn ends_at(now: Moment, life: u64, family_end: Moment) -> Moment
     requires { now < family_end }
     ensures value { result ≡ spec.ends_at now life family_end }

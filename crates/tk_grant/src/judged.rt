@@ -1,4 +1,4 @@
-//! What a token request comes to: the ordered cases, over the facts, the moment and the parameters.
+//! Judgements of token requests, by the facts, the moment and the parameters.
 
 use tk_handle::{Dot, Moment, TokenId};
 use tk_scope::Scope;
@@ -6,7 +6,7 @@ use tk_scope::Scope;
 // What tokens are minted for: they descend from the code or refresh token that was sent.
 #[derive(Drop)]
 pub(crate) struct Grant {
-    // Where the fact stands that minted what was sent.
+    // The dot of the fact that minted the code or refresh token that was sent.
     pub(crate) from: Dot,
     // When the family ends.
     pub(crate) family_end: Moment,
@@ -16,7 +16,7 @@ pub(crate) struct Grant {
     pub(crate) refresh: Scope,
 }
 
-// What a token request comes to.
+// The judgement of a token request.
 #[derive(Drop)]
 pub(crate) enum Judged {
     Refused(Refusal),
@@ -24,7 +24,7 @@ pub(crate) enum Judged {
     Reused(TokenId),
     // A code is redeemed.
     Redeems(Grant),
-    // A refresh token is rotated, into that generation.
+    // A refresh token is rotated, into the given generation.
     Rotates(u16, Grant),
 }
 
@@ -44,22 +44,25 @@ use tk_handle::Kind;
 use tk_ledger::Ledger;
 use tk_message::{Caller, Params, Request, find_caller};
 
-// The ordered cases of a token request.
+// Judges a token request: the first case that holds.
 pub(crate) fn judge(
     alloc: Global,
     ledger: &Ledger,
     now: Moment,
     request: &Request,
 ) -> Result<Judged, AllocError>
-    ensures value { IfOk result (λ judged. judged ≡ spec.judged_of (facts_of ledger.now) now request.now) }
+    ensures value { IfOk result (λ judged.
+        judged ≡ spec.judged_of (facts_of ledger.now) now request.now) }
     ensures sound { IfOk result (IsSoundJudged now) }
 {
     let caller = caller_here(alloc, ledger, request)?;
     judge_by_caller(alloc, ledger, now, &request.params, caller)
 }
 
+// Returns the sender of a token request.
 fn caller_here(alloc: Global, ledger: &Ledger, request: &Request) -> Result<Caller, AllocError>
-    ensures { IfOk result (λ caller. caller ≡ caller_of (facts_of ledger.now) spec.known_names request.now) }
+    ensures { IfOk result (λ caller. caller ≡ caller_of (facts_of ledger.now) spec.known_names
+        request.now) }
 {
     let names = [
         "grant_type",
@@ -74,6 +77,7 @@ fn caller_here(alloc: Global, ledger: &Ledger, request: &Request) -> Result<Call
     find_caller(alloc, ledger, &names, request)
 }
 
+// Judges a request by its sender.
 fn judge_by_caller(
     alloc: Global,
     ledger: &Ledger,
@@ -81,7 +85,8 @@ fn judge_by_caller(
     params: &Params,
     caller: Caller,
 ) -> Result<Judged, AllocError>
-    ensures value { IfOk result (λ judged. judged ≡ spec.judged_by_caller (facts_of ledger.now) now params.now caller) }
+    ensures value { IfOk result (λ judged. judged ≡ spec.judged_by_caller (facts_of ledger.now) now
+        params.now caller) }
     ensures sound { IfOk result (IsSoundJudged now) }
 {
     match caller {
@@ -95,6 +100,7 @@ fn judge_by_caller(
     }
 }
 
+// Judges a request by its grant type.
 fn judge_by_type(
     alloc: Global,
     ledger: &Ledger,
@@ -103,7 +109,9 @@ fn judge_by_type(
     client: Dot,
     grant_type: Option<&str>,
 ) -> Result<Judged, AllocError>
-    ensures value { IfOk result (λ judged. judged ≡ spec.judged_by_type (facts_of ledger.now) now params.now client (option_copied grant_type.entry)) }
+    ensures value { IfOk result (λ judged.
+        judged ≡ spec.judged_by_type (facts_of ledger.now) now params.now client
+        (option_copied grant_type.entry)) }
     ensures sound { IfOk result (IsSoundJudged now) }
 {
     let Some(grant_type) = grant_type else {

@@ -1,13 +1,18 @@
-//! What token requests are answered, and the facts that they make: codes are redeemed, and refresh tokens rotated.
+//! Decisions of token requests: codes are redeemed, and refresh tokens rotated.
 //!
-//! `decide_token` (RFC 6749, 4.1.3, 4.1.4, 5 and 6; RFC 7636, 4.5 and 4.6) gives a reply, and where tokens are granted the
-//! fact that minted them. First the request is judged, over the facts, the moment and the parameters: a `Refusal` says which
-//! case held, a reuse of what was used before is a judgement of its own, and a `Grant` is what tokens are minted for. Then the
-//! judgement becomes the reply and the fact. Both grants go through one `Gate`: whether what was sent serves at all.
+//! `decide_token` (RFC 6749, 4.1.3, 4.1.4, 5 and 6; RFC 7636, 4.5 and 4.6) decides a request to
+//! `/token`. First the request is judged, by the facts, the moment and the parameters:
 //!
-//! In reading order: `Refusal`, `Gate`, `Grant`, `Judged`, `redeem`, `rotate`, `decide_token`. The definitions are in specs/:
-//! `Refusal`, `Gate`, `Redeemed`, `Rotated`, `Judged`, `Granted`; `SoundGate` and `SoundJudged` say what makes each fact pass
-//! its check.
+//! - A `Refusal` is the first case that held.
+//! - The reuse of a code or refresh token has a judgement of its own, and makes a fact.
+//! - A `Grant` is what tokens are minted for.
+//!
+//! Then the judgement becomes the reply, and the fact if one is made. Both grants go through one
+//! `Gate`: whether the code or refresh token that was sent can be redeemed.
+//!
+//! In reading order: `Refusal`, `Gate`, `Grant`, `Judged`, `redeem`, `rotate`, `decide_token`. The
+//! definitions are in `specs/`: `Refusal`, `Gate`, `Redeemed`, `Rotated`, `Judged`, `Granted`.
+//! `SoundGate` and `SoundJudged` define what makes each fact pass its check.
 #![tactic(auto)]
 
 mod gate;

@@ -1,4 +1,4 @@
-//! A code is redeemed (RFC 6749, 4.1.3).
+//! Redeeming a code (RFC 6749, 4.1.3).
 
 ghost use Rattle.std.specs.Prelude.{◌≡◌, ◌<◌, IfOk};
 ghost use Rattle.std.specs.FinMap as map;
@@ -19,7 +19,7 @@ use tk_ledger::{Ledger, Standing};
 use tk_match::{Challenge, Uri};
 use tk_message::Params;
 
-// Whether the code that serves is redeemed by these parameters.
+// Judges the redemption of the code at the gate, by the parameters.
 pub(crate) fn redeem(
     alloc: Global,
     ledger: &Ledger,
@@ -28,7 +28,8 @@ pub(crate) fn redeem(
     gate: Gate<'_>,
 ) -> Result<Judged, AllocError>
     requires { IsSoundGate now gate }
-    ensures value { IfOk result (λ judged. judged ≡ spec.redeemed_of (facts_of ledger.now) params.now gate.entry) }
+    ensures value { IfOk result (λ judged.
+        judged ≡ spec.redeemed_of (facts_of ledger.now) params.now gate.entry) }
     ensures sound { IfOk result (IsSoundJudged now) }
 {
     match gate {
@@ -41,6 +42,7 @@ pub(crate) fn redeem(
     }
 }
 
+// Returns the fact at the dot, if it is that a code was issued.
 fn issued_at(ledger: &Ledger, code: Dot) -> Option<&CodeIssued>
     ensures { option_copied result ≡ tokens.issued_at (map.get (facts_of ledger.now)) code }
 {
@@ -50,6 +52,7 @@ fn issued_at(ledger: &Ledger, code: Dot) -> Option<&CodeIssued>
     }
 }
 
+// Returns the fact that a code was issued, if the body is one.
 fn issued_in(body: &Body) -> Option<&CodeIssued>
     ensures { option_copied result ≡ tokens.issued_in body.now }
 {
@@ -59,6 +62,7 @@ fn issued_in(body: &Body) -> Option<&CodeIssued>
     }
 }
 
+// Judges the redemption of a code that was issued.
 fn redeem_by(
     alloc: Global,
     now: Moment,
@@ -67,7 +71,8 @@ fn redeem_by(
     code: Option<&CodeIssued>,
 ) -> Result<Judged, AllocError>
     requires { now < standing.now.family_end }
-    ensures value { IfOk result (λ judged. judged ≡ spec.redeemed_by params.now standing.now (option_copied code.entry)) }
+    ensures value { IfOk result (λ judged.
+        judged ≡ spec.redeemed_by params.now standing.now (option_copied code.entry)) }
     ensures sound { IfOk result (IsSoundJudged now) }
 {
     let Some(code) = code else {
@@ -89,6 +94,7 @@ fn redeem_by(
     }))
 }
 
+// Returns whether the request repeats the redirection URI of the code's request, if that named one.
 fn names_uri(sent: bool, uri: &Uri, named: Option<&str>) -> bool
     ensures { result ≡ spec.names_uri sent uri.now (option_copied named.entry) }
 {
@@ -98,6 +104,7 @@ fn names_uri(sent: bool, uri: &Uri, named: Option<&str>) -> bool
     }
 }
 
+// Returns whether the verifier meets the challenge, or there is neither.
 fn meets_challenge(challenge: &Option<Challenge>, verifier: Option<&str>) -> bool
     ensures { result ≡ spec.meets_challenge challenge.now (option_copied verifier.entry) }
 {

@@ -1,50 +1,55 @@
-//! Why a token request is refused.
+//! The reasons why a token request is refused.
 
 ghost use Rattle.std.specs.Prelude.{◌≡◌};
 ghost use Rattle.tk_grant.specs.Refusal.{refusal_code};
 
 use tk_message::ErrorCode;
 
-/// Why a token request is refused: the first that holds, in this order (RFC 6749, 4.1.3, 5.2 and 6; RFC 7636, 4.6). Between
-/// `FamilyOver` and `PastGrant` stands the reuse of a grant, which is refused too.
+/// The reason why a token request is refused: the first that holds, in this order (RFC 6749, 4.1.3,
+/// 5.2 and 6; RFC 7636, 4.6).
+///
+/// The reuse of a grant is refused too, between `FamilyOver` and `PastGrant`.
 #[derive(Clone, Copy)]
 pub(crate) enum Refusal {
-    /// A parameter that is known here occurs twice (RFC 6749, 3.2).
+    /// A parameter that the endpoint knows occurs twice (RFC 6749, 3.2).
     DuplicateParameter,
-    /// Credentials come in two places (RFC 6749, 2.3).
+    /// The request has credentials in two places (RFC 6749, 2.3).
     MixedCredentials,
-    /// The client isn't authenticated (RFC 6749, 3.2.1).
+    /// No client is authenticated (RFC 6749, 3.2.1).
     InvalidClient,
-    /// No `grant_type` (RFC 6749, 4.1.3 and 6).
+    /// There is no `grant_type` (RFC 6749, 4.1.3 and 6).
     MissingGrantType,
-    /// Neither `authorization_code` nor `refresh_token` (RFC 6749, 5.2).
+    /// The `grant_type` is not `authorization_code` or `refresh_token` (RFC 6749, 5.2).
     UnsupportedGrantType,
-    /// No `code`, or no `refresh_token` (RFC 6749, 4.1.3 and 6).
+    /// There is no `code`, or no `refresh_token` (RFC 6749, 4.1.3 and 6).
     MissingGrant,
-    /// It is no handle of that kind, or no such token was minted under a code (RFC 6749, 5.2).
+    /// The grant is not the handle of a token of its kind that was minted under a code (RFC 6749,
+    /// 5.2).
     UnknownGrant,
-    /// It is another client's (RFC 6749, 5.2).
+    /// The grant belongs to another client (RFC 6749, 5.2).
     ForeignGrant,
-    /// Its family is dead (RFC 6749, 4.1.2, 10.4 and 10.5).
+    /// The grant's family is dead (RFC 6749, 4.1.2, 10.4 and 10.5).
     DeadFamily,
-    /// Its client or its consent isn't live (own).
+    /// The grant's client or consent is not live (own).
     WithdrawnGrant,
-    /// Its family has ended (own).
+    /// The grant's family has ended (own).
     FamilyOver,
-    /// It has ended itself (RFC 6749, 4.1.2 and 5.2).
+    /// The grant has expired (RFC 6749, 4.1.2 and 5.2).
     PastGrant,
-    /// A redirection URI was named to get the code and isn't named now, or another is named (RFC 6749, 4.1.3).
+    /// The redirection URI is another than the code's, or is absent though the code's request named
+    /// one (RFC 6749, 4.1.3).
     WrongRedirect,
-    /// No verifier meets the code's challenge, or one comes where there is no challenge (RFC 7636, 4.6; the second is own).
+    /// The verifier does not meet the code's challenge (RFC 7636, 4.6), or there is a verifier
+    /// without a challenge (own).
     WrongVerifier,
     /// The refresh token is of the last generation (own).
     LastGeneration,
-    /// The scope can't be read, or isn't within the token's (RFC 6749, 6).
+    /// The scope can't be read, or goes beyond the token's scope (RFC 6749, 6).
     WrongScope,
 }
 
 impl Refusal {
-    /// What the error is called.
+    /// Returns the error code of the refusal.
     pub(crate) fn code(self) -> ErrorCode
         ensures { result ≡ refusal_code self }
     {

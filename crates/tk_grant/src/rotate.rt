@@ -1,4 +1,4 @@
-//! A refresh token is rotated (RFC 6749, 6).
+//! Rotating a refresh token (RFC 6749, 6).
 
 ghost use Rattle.std.specs.Prelude.{◌≡◌, ◌<◌, IfOk};
 ghost use Rattle.tk_fact.specs.Check.{most_generations};
@@ -15,10 +15,10 @@ use tk_ledger::Standing;
 use tk_message::{Params, scope_asked};
 use tk_scope::Scope;
 
-/// The last generation of a family (own).
+/// The last generation of a family, which is not rotated (own).
 const LAST_GENERATION: u16 = 10_000;
 
-// Whether the refresh token that serves is rotated by these parameters.
+// Judges the rotation of the refresh token at the gate, by the parameters.
 pub(crate) fn rotate(
     alloc: Global,
     now: Moment,
@@ -42,6 +42,7 @@ pub(crate) fn rotate(
     }
 }
 
+// Judges the rotation of a refresh token to a scope, if there is one.
 fn rotate_by(
     alloc: Global,
     now: Moment,

@@ -1,8 +1,9 @@
 -- The texts of dots and ids are read back, and nothing else is read. Key results:
---   parted_back, parted_found   the test finds the dot of a text, and only there
---   reads_parted                so it finds exactly the dots of texts
---   reads_id                    and exactly the dots of ids, whatever the letter is
---   parted_injective            two dots of one text are one
+--   parted_back, parted_found   `parted_in` finds the dot of a text, and nothing in any other text
+--   reads_parted                a reader that agrees with `parted_in` reads exactly the texts of
+--                               dots
+--   reads_id                    a reader that agrees with `id_in` reads exactly the ids of dots
+--   parted_injective            two dots with one text are equal
 use Rattle.std.proofs.Common.{◌≡◌, ◌≢◌, ℕ, ◌+◌, ◌<◌, ◌≤◌, ◌^◌, true, false, ◌&&◌, ◌==◌, cond, List, [], ◌∷◌, ◌++◌, length, get_or, take, drop, Option, Some, None, IfSome, IfNone, MatchOption, suc, refl, sym, ap, subst, ◌∙◌, arith, decimal, inl, inr}
 use Rattle.std.specs.Int.{IsInRange}
 use Rattle.std.specs.List.{position_or_len, before_first, after_first}
@@ -56,7 +57,7 @@ same_number b c h = grind (arith, nat_tests)
 none_is_not_some : {A : Type 0} (x : A) → ¬ (None ≡ Some x)
 none_is_not_some x h = cc
 
--- the numbers of a dot fit 64 bits
+-- the numbers of a dot in range are below 2^64
 region_fits : (d : Dot) → IsDot d → d.region < 2 ^ 64
 region_fits d h = omega arith
 
@@ -66,7 +67,7 @@ serial_fits d h = omega arith
 in_range : (r s : ℕ) → IsRegion r → IsSerial s → dot_at (Some r) (Some s) ≡ Some (record { region = r; serial = s })
 in_range r s a b = grind (arith, nat_tests)
 
--- the numbers of a dot that was found, and their ranges
+-- the numbers of a dot that `dot_at` found, and their ranges
 numbers_of : (x y : Option ℕ) (d : Dot) → dot_at x y ≡ Some d → (x ≡ Some d.region) × (y ≡ Some d.serial) × IsDot d
 numbers_of None y d h = absurd (none_is_not_some d h)
 numbers_of (Some r) None d h = absurd (none_is_not_some d h)
@@ -87,14 +88,14 @@ numbers_of (Some r) (Some s) d h =
     ranges : (r s : ℕ) → (is_region r && is_serial s) ≡ true → IsRegion r × IsSerial s
     ranges r s t = let a : IsRegion r = grind (arith, nat_tests) in let b : IsSerial s = grind (arith, nat_tests) in (a, b)
 
--- ---- with any byte that is no digit between the numbers
+-- ---- any byte that is no digit between the numbers
 
 module _ (mark : ℕ) (parts : ¬ (IsInRange 48 57 mark)) where
-  -- a number's decimal has no such byte
+  -- the decimal of a number does not contain the byte `mark`
   no_mark : (n : ℕ) → n < 2 ^ 64 → (i : ℕ) → i < length (decimal n) → get_or (decimal n) i 0 ≢ mark
   no_mark n high = not_in_digits own (decimal n) mark (digits_decimal own n high) parts
 
-  -- so the first is right after the first number
+  -- the first `mark` in the text of a dot is right behind the region's number
   mark_at : (d : Dot) → IsDot d → position_or_len (λ b. b == mark) (parted_text mark d) ≡ length (decimal d.region)
   mark_at d h =
       let dr = decimal d.region in
@@ -104,7 +105,7 @@ module _ (mark : ℕ) (parts : ¬ (IsInRange 48 57 mark)) where
       (λ k lt. ap (λ b. b == mark) (get_or_left dr (mark ∷ ds) k lt) ∙ other_than _ mark (no_mark d.region (region_fits d h) k lt))
       (λ _. ap (λ b. b == mark) (get_or_seam dr ds mark) ∙ itself mark)
 
-  -- and the two numbers are what stands before and after it
+  -- the two numbers of a dot are the texts before and behind the first `mark`
   pub before_mark : (d : Dot) → IsDot d → before_first (λ b. b == mark) (parted_text mark d) ≡ decimal d.region
   before_mark d h = ap (λ n. take n (parted_text mark d)) (mark_at d h) ∙ take_left (decimal d.region) (mark ∷ decimal d.serial)
 
@@ -119,14 +120,14 @@ module _ (mark : ℕ) (parts : ¬ (IsInRange 48 57 mark)) where
       ∙ ap (dot_at (Some d.region)) (decimal_back d.serial (serial_fits d h))
       ∙ in_range d.region d.serial h.0 h.1
 
-  -- two dots of one text are one
+  -- two dots with one text are equal
   pub parted_injective : (a b : Dot) → IsDot a → IsDot b → parted_text mark a ≡ parted_text mark b → a ≡ b
   parted_injective a b one other same = some_injective (sym (parted_back a one) ∙ ap (parted_in mark) same ∙ parted_back b other)
     where
       some_injective : {x y : Dot} → Some x ≡ Some y → x ≡ y
       some_injective h = cc
 
--- no second number stands behind a text without the byte
+-- a text without the byte `mark` has no number behind that byte
 nothing_behind : (mark : ℕ) (text : List ℕ) (n : ℕ) → length text ≤ position_or_len (λ b. b == mark) text → decimal_in (after_first (λ b. b == mark) text) ≢ Some n
 nothing_behind mark text n none e =
     let h = decimal_found (after_first (λ b. b == mark) text) n e in
@@ -165,7 +166,7 @@ colon_parts h = absurd (omega (arith, h.1))
 dash_parts : ¬ (IsInRange 48 57 dash)
 dash_parts h = absurd (omega (arith, h.0))
 
--- a reader that gives what the test finds reads exactly the texts of dots
+-- a reader that agrees with `parted_in` reads exactly the texts of dots
 pub dot_found : (text : List ℕ) (r : Option Dot) → r ≡ parted_in colon text → IfSome r (IsDotText text)
 dot_found text None e = tt
 dot_found text (Some d) e = parted_found colon text d (sym e)

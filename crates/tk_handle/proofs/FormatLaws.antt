@@ -1,4 +1,5 @@
--- The law of each format of this crate: what is read is spelled so, and what is spelled so is read.
+-- The law of each format of this crate: a value that is read is spelled by the bytes taken, and a
+-- spelling is read as its value.
 use Rattle.std.proofs.Common.{◌≡◌, ℕ, true, eqb, cond, [], ◌∷◌, Some, None, refl, sym, arith}
 use Rattle.std.proofs.lemmas.Bool.Decides.{nat_tests}
 use Rattle.tk_format.specs.Exact.{IsExact, some_is}
@@ -14,7 +15,7 @@ use Rattle.tk_handle.specs.Kind.{kind_number, kind_of, kind}
 use Rattle.tk_handle.specs.TokenId.{token}
 use Rattle.tk_handle.specs.Handle.{version, handle}
 
--- dots
+-- the law of the format of dots
 pub dot_field_exact : IsExact dot_field
 dot_field_exact = shaped_exact _ _ _ (both_exact _ _ (only_exact is_region _ u16_exact) (only_exact is_serial _ u64_exact)) (λ _. refl) (λ _. refl)
 
@@ -25,14 +26,14 @@ dot_field_fits d h =
     let serial : is_serial d.serial ≡ true = grind (arith, nat_tests) in
     ((omega arith, region), (omega arith, serial))
 
--- and no other dot has one
+-- a dot that has a spelling is one that a program can hold
 pub dot_field_in_range : (d : Dot) → dot_field.Fits d → IsDot d
 dot_field_in_range d fits =
     let region : IsRegion d.region = grind (arith, nat_tests) in
     let serial : IsSerial d.serial = grind (arith, nat_tests) in
     (region, serial)
 
--- moments
+-- the law of the format of moments
 pub moment_exact : IsExact moment
 moment_exact = only_exact is_moment _ u64_exact
 
@@ -49,14 +50,14 @@ number_forth Code = refl
 number_forth Access = refl
 number_forth Refresh = refl
 
--- kinds
+-- the law of the format of kinds
 pub kind_exact : IsExact kind
 kind_exact = coded_exact kind_number kind_of (record { back = number_back; forth = number_forth })
 
--- names of tokens
+-- the law of the format of token names
 pub token_exact : IsExact token
 token_exact = shaped_exact _ _ _ (both_exact _ _ dot_field_exact kind_exact) (λ _. refl) (λ _. refl)
 
--- handles
+-- the law of the format of handles
 pub handle_exact : IsExact handle
 handle_exact = after_exact (version ∷ []) _ (shaped_exact _ _ _ (both_exact _ _ kind_exact (both_exact _ _ dot_field_exact (repeated_exact 3 _ u64_exact))) (λ _. refl) (λ _. refl))

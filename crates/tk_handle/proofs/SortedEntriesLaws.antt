@@ -1,4 +1,9 @@
--- A list of entries whose keys rise: what a binary search finds in it, and what an edit at that place leaves.
+-- A list of entries whose keys rise: what a binary search finds in it, and what an edit at that
+-- place leaves.
+--   searched             what a binary search by key ends with
+--   get_at_place         the entry at the key's place is the map's
+--   sorted_at_gap        a new entry at its gap keeps the order
+--   sorted_at_place      a new value at its place keeps the order
 use Rattle.std.proofs.Common.{◌≡◌, ℕ, zero, suc, ◌<◌, ◌≤◌, Bool, true, false, cond, ◌&&◌, T, List, [], ◌∷◌, length, get_or, set, Some, None, Result, Ok, Err, refl, sym, ap, subst, ◌∙◌, arith, ◌⊎◌, inl, inr}
 use Rattle.std.proofs.lemmas.Bool.{cases_lt}
 use Rattle.std.specs.List.{insert}
@@ -40,7 +45,7 @@ module _ {K : Type 0} {R : K → K → Ordering} (total : IsTotalOrder R) where
   pub turned_equal : (x y : K) → R x y ≡ Equal → R y x ≡ Equal
   turned_equal x y h = total.antisymm y x ∙ ap ordering_reverse h
 
-  -- below what is not above k
+  -- keys that rise compare with k in rising order
   index_rises : (x y k : K) → R x y ≡ Less → ordering_index (R x k) ≤ ordering_index (R y k)
   index_rises x y k h =
       elim (R y k) as (λ o. R y k ≡ o → ordering_index (R x k) ≤ ordering_index o) [
@@ -67,7 +72,7 @@ module _ {K X : Type 0} (R : K → K → Ordering) where
       ap (λ o. by_order o ((k, v) ∷ e ∷ es) ((e.0, v) ∷ es) (e ∷ put R k v es)) (below 0 e (omega arith))
       ∙ ap (λ rest. e ∷ rest) (put_at_gap k v es i (omega arith) (λ j d lt. below (suc j) d (omega arith)) (λ j d le lt. above (suc j) d (omega arith) (omega arith)))
 
-  -- and is not found
+  -- a key with a gap is not found
   pub find_at_gap : (k : K) (es : List (K × X)) (i : ℕ)
       → ((j : ℕ) (d : K × X) → j < i → R k (get_or es j d).0 ≡ Greater)
       → ((j : ℕ) (d : K × X) → i ≤ j → j < length es → R k (get_or es j d).0 ≡ Less)
@@ -91,7 +96,7 @@ module _ {K X : Type 0} (R : K → K → Ordering) where
       ap (λ o. cond (is_eq o) (Some e.1) (find R k es)) (below 0 e (omega arith))
       ∙ find_at_place k es i (omega arith) (λ j d lt. below (suc j) d (omega arith)) here d
 
-  -- and a value put there replaces the one before
+  -- a value put at the key's place replaces the value before
   pub put_at_place : (k : K) (v : X) (es : List (K × X)) (i : ℕ) → i < length es
       → ((j : ℕ) (d : K × X) → j < i → R k (get_or es j d).0 ≡ Greater)
       → ((d : K × X) → R k (get_or es i d).0 ≡ Equal)
@@ -137,7 +142,7 @@ module _ {K X : Type 0} (R : K → K → Ordering) where
         record { in_range = within; absent = find_at_gap k es i below above; fits = λ v. put_at_gap k v es i within below above; below = below; above = above }
 
 module _ {K X : Type 0} {R : K → K → Ordering} (total : IsTotalOrder R) (es : List (K × X)) (sorted : T (is_sorted R es)) (k : K) where
-  -- to look up in the map is to look at the place
+  -- looking up a key in the map gives the entry at the key's place
   pub get_at_place : (i : ℕ) → IsAt R es k i → (d : K × X) → get (from_sorted {R = R} es) k ≡ Some (get_or es i d).1
   get_at_place i at d = get-from_sorted R es k sorted ∙ at.found d
 
@@ -152,7 +157,7 @@ module _ {K X : Type 0} {R : K → K → Ordering} (total : IsTotalOrder R) (es 
   insert_at_gap i gap v = same_entries_map _ _
       (entries-from_sorted R _ (sorted_at_gap i gap v) ∙ sym (gap.fits v) ∙ ap (put R k v) (sym (entries-from_sorted R es sorted)) ∙ sym (entries-insert total _ k v))
 
-  -- so is a new value at its place
+  -- a new value at the key's place keeps the order, and is an insertion into the map
   pub sorted_at_place : (i : ℕ) → IsAt R es k i → (v : X) (d : K × X) → T (is_sorted R (set es i ((get_or es i d).0, v)))
   sorted_at_place i at v d = subst (λ fs. T (is_sorted R fs)) (at.replaced v d) (is_sorted-put R total k v es sorted)
 
@@ -160,10 +165,10 @@ module _ {K X : Type 0} {R : K → K → Ordering} (total : IsTotalOrder R) (es 
   insert_at_place i at v d = same_entries_map _ _
       (entries-from_sorted R _ (sorted_at_place i at v d) ∙ sym (at.replaced v d) ∙ ap (put R k v) (sym (entries-from_sorted R es sorted)) ∙ sym (entries-insert total _ k v))
 
--- no entries make the empty map
+-- the empty list makes the empty map
 pub from_sorted_nil : {K X : Type 0} (R : K → K → Ordering) → from_sorted {X = X} {R = R} [] ≡ map.empty
 from_sorted_nil R = map.empty_of_len _ (map.len-entries _ ∙ ap length (entries-from_sorted R [] tt))
 
--- the entry at the key's place is that of the key
+-- the entry at the key's place has the key
 pub entry_at_place : {K X : Type 0} {R : K → K → Ordering} → map.IsAntisymmetric R → (es : List (K × X)) (k : K) (i : ℕ) → IsAt R es k i → (d : K × X) → get_or es i d ≡ (k, (get_or es i d).1)
 entry_at_place exact es k i at d = ap (λ key. (key, (get_or es i d).1)) (exact _ k (at.tied d))

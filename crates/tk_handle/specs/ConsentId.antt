@@ -1,16 +1,17 @@
--- The text of a consent's id (own), and what a text says.
---   consent_text     the spelling of a dot: the letter g, and the dot
---   consent_in       the dot whose spelling a text is
---   ReadsConsentId   a reading gives the dot of a spelling, and nothing for any other text
+-- The id of a consent as a text (own).
+--   consent_text     the id of the consent at a dot: the letter g, and the dot
+--   consent_in       the dot whose consent id a text is
+--   ReadsConsentId   a reading gives the dot of a consent id, and nothing for any other text
 use Rattle.std.specs.Prelude.{ℕ, List, Option}
 use Rattle.tk_handle.specs.declared.dot.Dot.{Dot}
 use Rattle.tk_handle.specs.DotText.{id_text, id_in, ReadsId}
 
--- the letter g, for what was granted
+-- the letter g, for granted, which begins a consent id
 abbrev pub consent_letter : ℕ
 consent_letter = 103
 
--- the letter g, the region, a dash, the serial, in decimals without leading zeros
+-- the id of the consent at a dot: g, the region, a dash, the serial, in decimals without leading
+-- zeros
 abbrev pub consent_text : Dot → List ℕ
 consent_text d = id_text consent_letter d
 
@@ -18,6 +19,6 @@ consent_text d = id_text consent_letter d
 abbrev pub consent_in : List ℕ → Option Dot
 consent_in text = id_in consent_letter text
 
--- the reading gives the dot of a spelling, and nothing for another text
+-- a reading gives the dot of a consent id, and nothing for any other text
 abbrev pub ReadsConsentId : List ℕ → Option Dot → Type 0
 ReadsConsentId text result = ReadsId consent_letter text result

@@ -16,6 +16,7 @@ region_field = only is_region (number w16)
 abbrev pub serial_field : Format ℕ
 serial_field = only is_serial (number w64)
 
--- the region's number, and the serial
+-- a dot in bytes: the region's number in two, and the serial in eight
 abbrev pub dot_field : Format Dot
-dot_field = shaped (λ p. record { region = p.0; serial = p.1 }) (λ d. (d.region, d.serial)) (region_field ⊗ serial_field)
+dot_field = shaped (λ p. record { region = p.0; serial = p.1 }) (λ d. (d.region, d.serial))
+    (region_field ⊗ serial_field)

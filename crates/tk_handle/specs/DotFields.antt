@@ -1,7 +1,7 @@
 -- What contracts see of a dot.
 use Rattle.std.specs.Prelude.{ℕ}
 
--- the region that made a fact, and the fact's place among those of that region
+-- a dot as contracts see it: the region that made a fact, and the fact's serial
 pub record DotFields : Type 0 where
   pub region : ℕ
   pub serial : ℕ

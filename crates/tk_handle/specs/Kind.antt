@@ -1,13 +1,13 @@
 -- The kinds of tokens, and their bytes (own).
 --   kind_number   the number of a kind
---   kind_of       the kind of a number
---   kind          how a kind is spelled: its number in a byte
+--   kind_of       the kind with a number
+--   kind          the format of a kind: its number in a byte
 use Rattle.std.specs.Prelude.{ℕ, Option, Some, None, if◌then◌else◌, ◌==◌}
 use Rattle.tk_format.specs.Format.{Format, coded}
 use Rattle.tk_handle.specs.declared.kind.Kind.{Kind}
 use Rattle.tk_handle.specs.declared.kind.Kind.TheVariants.{Code, Access, Refresh}
 
--- Handles and facts that were written keep these numbers, so they never change.
+-- the number of a kind; handles and facts keep these numbers, so they never change
 abbrev pub kind_number : Kind → ℕ
 kind_number Code = 1
 kind_number Access = 2
@@ -15,8 +15,12 @@ kind_number Refresh = 3
 
 -- the kind with that number
 abbrev pub kind_of : ℕ → Option Kind
-kind_of n = if n == 1 then Some Code else if n == 2 then Some Access else if n == 3 then Some Refresh else None
+kind_of n =
+    if n == 1 then Some Code
+    else if n == 2 then Some Access
+    else if n == 3 then Some Refresh
+    else None
 
--- the number in a byte
+-- the format of a kind: its number in a byte
 abbrev pub kind : Format Kind
 kind = coded kind_number kind_of

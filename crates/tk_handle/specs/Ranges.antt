@@ -4,15 +4,15 @@
 --   IsMoment, is_moment, greatest_moment    whole seconds since 1970-01-01T00:00:00Z
 use Rattle.std.specs.Prelude.{ℕ, ◌<◌, ◌≤◌, Bool, ◌&&◌, nat_lt, nat_le}
 
--- the greatest number of two bytes
+-- the greatest number of a region: the greatest number of two bytes
 abbrev pub greatest_region : ℕ
 greatest_region = 65535
 
--- the greatest number of 63 bits
+-- the greatest serial: the greatest number of 63 bits
 abbrev pub greatest_serial : ℕ
 greatest_serial = 9223372036854775807
 
--- the last second of the year 9999
+-- the greatest moment: the last second of the year 9999
 abbrev pub greatest_moment : ℕ
 greatest_moment = 253402300799
 
@@ -28,12 +28,14 @@ IsSerial n = (0 < n) × (n ≤ greatest_serial)
 abbrev pub IsMoment : ℕ → Type 0
 IsMoment n = n ≤ greatest_moment
 
--- the same as tests
+-- `IsRegion` as a test
 abbrev pub is_region : ℕ → Bool
 is_region n = nat_lt 0 n && nat_le n greatest_region
 
+-- `IsSerial` as a test
 abbrev pub is_serial : ℕ → Bool
 is_serial n = nat_lt 0 n && nat_le n greatest_serial
 
+-- `IsMoment` as a test
 abbrev pub is_moment : ℕ → Bool
 is_moment n = nat_le n greatest_moment

@@ -7,15 +7,15 @@ use crate::dot::Dot;
 use crate::id_text;
 use std::alloc::{AllocError, Global};
 
-/// The id of the client that was added at the dot: `c<region>-<serial>`, in decimals without leading zeros
-/// (own; RFC 6749, 2.2 leaves the form of client identifiers to the server).
+/// Returns the id of the client that was added at the dot: `c<region>-<serial>`, in decimals
+/// without leading zeros. RFC 6749, 2.2 leaves the form of client identifiers to the server.
 pub fn client_text(alloc: Global, dot: Dot) -> Result<String, AllocError>
     ensures { IfOk result (λ text. string_bytes text ≡ client_text dot) }
 {
     id_text::text_of(alloc, b'c', dot)
 }
 
-/// The dot of a client's id, None for every other text.
+/// Returns the dot that a client id names, or `None` if the text is no client id.
 pub fn read_client(text: &[u8]) -> Option<Dot>
     ensures value { result ≡ client_in text.now }
     ensures exact { ReadsClientId text.now result }

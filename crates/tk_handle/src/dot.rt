@@ -1,9 +1,10 @@
-//! Dots: where facts stand.
+//! Dots: the names of facts.
 
 use std::marker::Model;
 
-/// Where a fact stands: the region that made it, and its serial there, 1 to 9,223,372,036,854,775,807 (own).
-/// Ordered by region, then by serial.
+/// The name of a fact: the region that made it, and its serial, 1 to 9,223,372,036,854,775,807.
+///
+/// Dots are ordered by region, then by serial.
 #[derive(Clone, Copy, Debug, PartialEq, Eq, PartialOrd, Ord)]
 pub struct Dot {
     region: u16,
@@ -36,7 +37,8 @@ use tk_format::{Reader, Writer};
 impl Dot {
     ghost use Rattle.tk_handle.specs.DotBytes.{dot_field};
 
-    /// None where the serial is 0 or above the greatest.
+    /// Returns the dot of a region and a serial, or `None` if the serial is 0 or above the
+    /// greatest.
     pub fn new(region: RegionNumber, serial: u64) -> Option<Dot>
         ensures { SomeIff result (IsSerial serial) (record { region = region; serial = serial }) }
     {
@@ -49,7 +51,7 @@ impl Dot {
         })
     }
 
-    /// The region that made the fact.
+    /// Returns the region that made the fact.
     pub fn region(self) -> RegionNumber
         ensures value { result ≡ self.region }
         ensures range { IsRegion self.region }
@@ -57,7 +59,7 @@ impl Dot {
         RegionNumber::of(self.region)
     }
 
-    /// The fact's place among those of its region, 1 to the greatest.
+    /// Returns the fact's serial, from 1 to the greatest.
     pub fn serial(self) -> u64
         ensures value { result ≡ self.serial }
         ensures range { IsSerial self.serial }
@@ -65,12 +67,14 @@ impl Dot {
         self.serial
     }
 
-    /// The two numbers are in their ranges, so that the dot can be spelled.
+    /// Gives a caller's proof the fact that both numbers are in their ranges. Does nothing at run
+    /// time.
     pub fn known(self)
         ensures { dot_field.Fits self }
     {}
 
-    /// Takes a dot from the front, None where none stands there. What the reader has left then is not said.
+    /// Takes a dot from the front, or returns `None` if the bytes do not begin with one. After
+    /// `None` the reader's position is unspecified.
     pub fn read(reader: &mut Reader<'_>) -> Option<Dot>
         ensures { Reads (λ d. d) dot_field result reader.old reader.new }
     {
@@ -79,8 +83,8 @@ impl Dot {
         Dot::new(region, serial)
     }
 
-    /// Writes the region's number in two bytes, and the serial in eight. What the writer holds after an error is not
-    /// said.
+    /// Writes the region's number in two bytes, and the serial in eight. After an error the
+    /// writer's contents are unspecified.
     pub fn write(self, writer: &mut Writer) -> Result<(), AllocError>
         ensures { OnOk result (writer.new ≡ writer.old ++ dot_field.spell self) }
     {

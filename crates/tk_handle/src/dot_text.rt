@@ -1,8 +1,15 @@
-//! The text of a dot: `R:S`, as scripts and vectors write it, and `R-S` behind the letter of an id.
+//! The text of a dot: `R:S` in scripts and vectors, and `R-S` behind the letter of an id.
 
 ghost use Rattle.std.specs.Prelude.{◌≡◌, ◌==◌, ◌<◌, IfSome, IfNone, Some, length, position};
 ghost use Rattle.std.specs.List.{before_first, after_first};
-ghost use Rattle.tk_handle.specs.DotText.{colon, dot_at, dot_text, parted_in, IsDotText, IsNoDotText};
+ghost use Rattle.tk_handle.specs.DotText.{
+  colon,
+  dot_at,
+  dot_text,
+  parted_in,
+  IsDotText,
+  IsNoDotText,
+};
 
 use crate::dot::Dot;
 use crate::region::RegionNumber;
@@ -10,8 +17,8 @@ use std::fmt;
 use tk_format::read_decimal;
 
 impl Dot {
-    /// The dot of a text `R:S`: its region and its serial, in decimals without leading zeros. None for every other
-    /// text.
+    /// Returns the dot whose text is `R:S`, region and serial in decimals without leading zeros.
+    /// Returns `None` for any other text.
     pub fn read_text(text: &[u8]) -> Option<Dot>
         ensures found { IfSome result (IsDotText text.now) }
         ensures none { IfNone result (IsNoDotText text.now) }
@@ -20,7 +27,7 @@ impl Dot {
     }
 }
 
-/// `R:S`: the region and the serial, in decimals without leading zeros.
+/// Prints `R:S`, the region and the serial in decimals without leading zeros.
 impl fmt::Display for Dot {
     ghost output = { λ d. Some (dot_text d) };
 
@@ -29,7 +36,7 @@ impl fmt::Display for Dot {
     }
 }
 
-/// The dot whose region and serial stand before and after the first such byte.
+/// Returns the dot whose region is before the first `mark`, and whose serial is behind that byte.
 pub(crate) fn read_parted(mark: u8, text: &[u8]) -> Option<Dot>
     ensures { result ≡ parted_in mark text.now }
 {
@@ -37,7 +44,7 @@ pub(crate) fn read_parted(mark: u8, text: &[u8]) -> Option<Dot>
     dot_of(read_decimal(region), read_decimal(serial))
 }
 
-// What stands before the first such byte, and after it.
+// Returns the text before the first `mark`, and the text behind that byte.
 fn parts(mark: u8, text: &[u8]) -> (&[u8], &[u8])
     ensures front { result.0.now ≡ before_first (λ b. b == mark) text.now }
     ensures back { result.1.now ≡ after_first (λ b. b == mark) text.now }
@@ -48,7 +55,7 @@ fn parts(mark: u8, text: &[u8]) -> (&[u8], &[u8])
     }
 }
 
-// Where the first such byte is.
+// Returns the place of the first `mark`.
 fn first_in(mark: u8, text: &[u8]) -> Option<usize>
     ensures value { result ≡ position (λ b. b == mark) text.now }
     ensures bound { IfSome result (λ at. at < length text.now) }
@@ -56,7 +63,7 @@ fn first_in(mark: u8, text: &[u8]) -> Option<usize>
     text.iter().position(|b| *b == mark)
 }
 
-// The dot of two numbers, where both are there and in range.
+// Returns the dot of two numbers, if both are present and in range.
 fn dot_of(region: Option<u64>, serial: Option<u64>) -> Option<Dot>
     ensures { result ≡ dot_at region serial }
 {

@@ -16,30 +16,32 @@ use base64::engine::general_purpose::URL_SAFE_NO_PAD;
 use sha2::{Digest, Sha256};
 use tk_format::Reader;
 
-// Clients hold handles of this version, so it never changes.
+// This number never changes: clients hold handles of this version.
 const VERSION: u8 = 1;
 
-/// What a client holds of a token: its name, and three words that nobody can guess (own).
+/// The secret that a client holds for a token: the token's name and three random words.
 ///
-/// In bytes, 36 of them, high byte first: the version 1; the kind's number; the region's number, in two bytes; the
-/// serial, in eight; the three words, in eight each. Clients see the text of these bytes, and facts keep their digest.
+/// A handle is 36 bytes, high byte first: the version 1, the kind's number, the region's number in
+/// two bytes, the serial in eight, and the three words in eight each. Clients see the text of these
+/// bytes. Facts keep their digest.
 #[derive(Clone, Copy)]
 pub struct Handle {
     /// The token's name.
     pub id: TokenId,
-    /// What makes the handle hard to guess, any numbers.
+    /// The random words, which make the handle hard to guess. Any numbers are allowed.
     pub words: [u64; 3],
 }
 
 impl Handle {
-    /// The handle of a token that was minted with these words.
+    /// Returns the handle of a token that was minted with these random words.
     pub fn mint(id: TokenId, words: [u64; 3]) -> Handle
         ensures { result ≡ record { id = id; words = words } }
     {
         Handle { id, words }
     }
 
-    /// The name and the words are in their ranges, so that the handle can be spelled.
+    /// Gives a caller's proof the fact that name and words are in their ranges. Does nothing at run
+    /// time.
     pub fn known(&self)
         ensures { handle.Fits self.now }
     {
@@ -47,7 +49,8 @@ impl Handle {
         known_words(&self.words);
     }
 
-    /// What a client is given: letters, digits, `-` and `_`, in base64url without padding (RFC 4648, 5).
+    /// Returns the text that the client receives: letters, digits, `-` and `_`, in base64url
+    /// without padding (RFC 4648, 5).
     pub fn text(&self) -> [u8; 48]
         ensures { result ≡ handle_text self.now }
     {
@@ -56,7 +59,7 @@ impl Handle {
         text
     }
 
-    /// The handle whose text this is, None for every text that `text` doesn't give.
+    /// Returns the handle whose text this is, or `None` for a text that `text` never returns.
     pub fn read(text: &[u8]) -> Option<Handle>
         ensures value { result ≡ handle_in text.now }
         ensures found { IfSome result (λ h. handle.Fits h × (text.now ≡ handle_text h)) }
@@ -65,13 +68,14 @@ impl Handle {
         Handle::of_text(text)
     }
 
-    /// What facts keep of a handle: SHA-256 of its 36 bytes (FIPS 180-4).
+    /// Returns the digest that facts keep of a handle: SHA-256 of its 36 bytes (FIPS 180-4).
     pub fn digest(&self) -> [u8; 32]
         ensures { result ≡ sha256 (handle_bytes self.now) }
     {
         Sha256::digest(self.bytes().as_slice())
     }
 
+    // Returns the 36 bytes of the handle.
     fn bytes(&self) -> [u8; 36]
         ensures { result ≡ handle_bytes self.now }
     {
@@ -105,6 +109,7 @@ impl Handle {
         Handle::of_bytes(&bytes[..count])
     }
 
+    // Returns the handle that all of the bytes together spell.
     fn of_bytes(bytes: &[u8]) -> Option<Handle>
         ensures value { result ≡ whole handle bytes.now }
         ensures found { IfSome result (λ h. handle.Fits h × (bytes.now ≡ handle_bytes h)) }
@@ -118,6 +123,7 @@ impl Handle {
         }
     }
 
+    // Takes a handle from the front.
     fn read_front(reader: &mut Reader<'_>) -> Option<Handle>
         ensures { Reads (λ h. h) handle result reader.old reader.new }
     {
@@ -131,6 +137,7 @@ impl Handle {
         })
     }
 
+    // Takes the three random words.
     #[tactic(auto, unfolding(tk_format::specs::Format::read_many))]
     fn read_words(reader: &mut Reader<'_>) -> Option<[u64; 3]>
         ensures { Reads (λ w. w) (repeated 3 (number w64)) result reader.old reader.new }
@@ -142,7 +149,7 @@ impl Handle {
     }
 }
 
-// Each word has a spelling in eight bytes.
+// Gives a caller's proof the fact that each word is below 2^64.
 fn known_words(words: &[u64])
     ensures { AllByRecursion (number w64).Fits words.now }
 {

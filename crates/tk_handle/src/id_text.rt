@@ -1,4 +1,4 @@
-//! The text of an id that names a dot: a letter that says what the dot is of, and then the dot.
+//! The text of an id that names a dot: a letter for what the dot names, and then the dot.
 
 ghost use Rattle.std.specs.Prelude.{◌≡◌, ◌<◌, IfOk, string_bytes};
 ghost use Rattle.tk_handle.specs.DotText.{id_text, id_in, ReadsId};
@@ -7,7 +7,8 @@ use crate::dot::Dot;
 use crate::dot_text::read_parted;
 use std::alloc::{AllocError, Global};
 
-/// The letter, in ASCII, and the dot: `<letter><region>-<serial>`, in decimals without leading zeros.
+/// Returns the id of a dot: `<letter><region>-<serial>`, in decimals without leading zeros. The
+/// letter is ASCII.
 pub(crate) fn text_of(alloc: Global, letter: u8, dot: Dot) -> Result<String, AllocError>
     requires { letter < 128 }
     ensures { IfOk result (λ text. string_bytes text ≡ id_text letter dot) }
@@ -18,7 +19,7 @@ pub(crate) fn text_of(alloc: Global, letter: u8, dot: Dot) -> Result<String, All
     format!(in alloc; "{first}{region}-{serial}")
 }
 
-/// The dot that stands behind the letter, None for every text that `text_of` doesn't give.
+/// Returns the dot behind the letter, or `None` for a text that `text_of` never returns.
 pub(crate) fn read(letter: u8, text: &[u8]) -> Option<Dot>
     ensures value { result ≡ id_in letter text.now }
     ensures exact { ReadsId letter text.now result }

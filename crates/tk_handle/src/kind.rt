@@ -6,7 +6,7 @@ ghost use Rattle.tk_handle.specs.Kind.{kind, kind_number};
 
 use tk_format::Reader;
 
-/// What a token is for. Ordered as listed.
+/// What a token is for. Kinds are ordered as they are listed.
 #[derive(Clone, Copy, Debug, PartialEq, Eq)]
 pub enum Kind {
     /// An authorization code (RFC 6749, 1.3.1).
@@ -18,7 +18,7 @@ pub enum Kind {
 }
 
 impl Kind {
-    /// The number that stands for it in bytes, 1 to 3 in the order above (own).
+    /// Returns the kind's number in bytes, 1 to 3 in the order of the variants.
     pub fn number(self) -> u8
         ensures { result ≡ kind_number self }
     {
@@ -29,8 +29,8 @@ impl Kind {
         }
     }
 
-    // Takes a kind from the front, None where the byte there is no kind's number. What the reader has left then is not
-    // said.
+    // Takes a kind from the front, or returns `None` if the byte there is no kind's number. After
+    // `None` the reader's position is unspecified.
     pub(crate) fn read(reader: &mut Reader<'_>) -> Option<Kind>
         ensures { Reads (λ k. k) kind result reader.old reader.new }
     {

@@ -1,17 +1,22 @@
-//! Numbers with ranges, and the names that clients hold: ids of clients and consents, and handles of tokens.
+//! Numbers with ranges, and the names that clients hold: ids of clients and consents, and handles.
 //!
-//! A region numbers its facts 1, 2, 3 and so on, so a fact is named by its `Dot`, a `RegionNumber` and a serial, with
-//! the text `R:S`, which `Dot::read_text` reads. A `Moment` counts whole seconds. A client and a consent are named by
-//! the dots of the facts that added them: `client_text` and `consent_text` write their ids, and `read_client` and
-//! `read_consent` read exactly these texts. A token is named by its `TokenId`, the dot of the fact that minted it and
-//! its `Kind`. Its `Handle` has three words beside that name, which nobody can guess. Clients hold the handle's text,
-//! and facts keep its digest.
+//! In reading order:
 //!
-//! No clock and no generator stands here: moments and words are handed in. In reading order: `RegionNumber`, `Serial`,
-//! `Dot`, `Moment`, `client_text`, `consent_text`, `Kind`, `TokenId`, `Handle`. Each of the types that facts are made
-//! of has `read` and `write` for its bytes, and `known`, which says that it has a spelling. The definitions are in
-//! specs/, `Ranges` first and then a file for each type; `SortedEntries` is for the sorted lists of the crates above.
-//! The laws of the formats are in proofs/FormatLaws.antt.
+//! - `RegionNumber` and `Serial`: a region numbers its facts 1, 2, 3 and so on;
+//! - `Dot`, the name of a fact: a region number and a serial, with the text `R:S`;
+//! - `Moment`, in whole seconds;
+//! - `client_text` and `consent_text`, which write the ids of clients and consents from the dots of
+//!   the facts that added them; `read_client` and `read_consent` read exactly these texts;
+//! - `Kind` and `TokenId`: a token is named by the dot of the fact that minted it, and by its kind;
+//! - `Handle`, a token's name and three random words; clients hold its text, facts keep its digest.
+//!
+//! This crate has no clock and no generator: callers pass moments and random words. Each type that
+//! is part of a fact has `read` and `write` for its bytes. Its method `known` does nothing at run
+//! time: it gives a proof the fact that the value has a spelling.
+//!
+//! The definitions are in `specs/`, `Ranges` first and then a file for each type. `SortedEntries`
+//! is for the sorted lists of the crates above. The laws of the formats are in
+//! `proofs/FormatLaws.antt`.
 #![tactic(auto)]
 
 mod client_id;

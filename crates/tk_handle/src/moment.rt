@@ -2,7 +2,8 @@
 
 use std::marker::Model;
 
-/// Whole seconds since 1970-01-01T00:00:00Z, 0 to 253,402,300,799, the last second of the year 9999 (own).
+/// A moment in whole seconds since 1970-01-01T00:00:00Z, from 0 to 253,402,300,799, the last second
+/// of the year 9999.
 #[derive(Clone, Copy, PartialEq, Eq)]
 pub struct Moment {
     seconds: u64,
@@ -31,10 +32,10 @@ use std::alloc::AllocError;
 use tk_format::{Reader, Writer};
 
 impl Moment {
-    /// The seconds of the greatest moment, 9999-12-31T23:59:59Z (own).
+    /// The seconds of the greatest moment, 9999-12-31T23:59:59Z.
     pub const GREATEST: u64 = 253_402_300_799;
 
-    /// The moment of that second, None past the greatest.
+    /// Returns the moment of that second, or `None` if it is above the greatest.
     pub fn new(seconds: u64) -> Option<Moment>
         ensures { SomeIff result (IsMoment seconds) seconds }
     {
@@ -44,7 +45,7 @@ impl Moment {
         Some(Moment { seconds })
     }
 
-    /// The seconds themselves.
+    /// Returns the seconds since 1970-01-01T00:00:00Z.
     pub fn seconds(self) -> u64
         ensures value { result ≡ self }
         ensures range { IsMoment self }
@@ -52,7 +53,7 @@ impl Moment {
         self.seconds
     }
 
-    /// So many seconds later, cut at the greatest moment.
+    /// Returns the moment `seconds` later, or the greatest moment if that is past it.
     pub fn plus(self, seconds: u64) -> Moment
         ensures { result ≡ moment_plus self seconds }
     {
@@ -62,19 +63,20 @@ impl Moment {
         }
     }
 
-    /// The seconds are in their range, so that the moment can be spelled.
+    /// Gives a caller's proof the fact that the seconds are in range. Does nothing at run time.
     pub fn known(self)
         ensures { moment.Fits self }
     {}
 
-    /// Takes a moment from the front, None where none stands there. What the reader has left then is not said.
+    /// Takes a moment from the front, or returns `None` if the bytes do not begin with one. After
+    /// `None` the reader's position is unspecified.
     pub fn read(reader: &mut Reader<'_>) -> Option<Moment>
         ensures { Reads (λ m. m) moment result reader.old reader.new }
     {
         Moment::new(reader.take_u64()?)
     }
 
-    /// Writes the seconds in eight bytes. What the writer holds after an error is not said.
+    /// Writes the seconds in eight bytes. After an error the writer's contents are unspecified.
     pub fn write(self, writer: &mut Writer) -> Result<(), AllocError>
         ensures { OnOk result (writer.new ≡ writer.old ++ moment.spell self) }
     {

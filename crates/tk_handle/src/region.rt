@@ -2,7 +2,7 @@
 
 use std::marker::Model;
 
-/// The number of a region, 1 to 65,535 (own).
+/// The number of a region, 1 to 65,535.
 #[derive(Clone, Copy, Debug, PartialEq, Eq, PartialOrd, Ord)]
 pub struct RegionNumber {
     number: u16,
@@ -26,7 +26,7 @@ ghost use Rattle.std.specs.Option.{SomeIff};
 ghost use Rattle.tk_handle.specs.Ranges.{IsRegion};
 
 impl RegionNumber {
-    /// The region of that number, None for 0.
+    /// Returns the region of that number, or `None` for 0.
     pub fn new(number: u16) -> Option<RegionNumber>
         ensures { SomeIff result (IsRegion number) number }
     {
@@ -36,6 +36,7 @@ impl RegionNumber {
         Some(RegionNumber { number })
     }
 
+    // Returns the region of a number that is known to be in range.
     pub(crate) fn of(number: u16) -> RegionNumber
         requires { IsRegion number }
         ensures { result ≡ number }
@@ -43,7 +44,7 @@ impl RegionNumber {
         RegionNumber { number }
     }
 
-    /// The number itself, 1 to 65,535.
+    /// Returns the number, 1 to 65,535.
     pub fn number(self) -> u16
         ensures value { result ≡ self }
         ensures range { IsRegion self }

@@ -1,8 +1,8 @@
-//! Serials: the places of facts among those of their region.
+//! Serials: the numbers that a region gives its own facts.
 
 use std::marker::Model;
 
-/// The place of a fact among those of its region, 1 to 9,223,372,036,854,775,807 (own).
+/// The number that a region gives one of its own facts, 1 to 9,223,372,036,854,775,807.
 #[derive(Clone, Copy, Debug, PartialEq, Eq, PartialOrd, Ord)]
 pub struct Serial {
     number: u64,
@@ -26,10 +26,10 @@ ghost use Rattle.std.specs.Option.{SomeIff};
 ghost use Rattle.tk_handle.specs.Ranges.{IsSerial};
 
 impl Serial {
-    /// The greatest number of a serial (own).
+    /// The greatest number of a serial.
     pub const GREATEST: u64 = 9_223_372_036_854_775_807;
 
-    /// The serial of that number, None for 0 and above the greatest.
+    /// Returns the serial of that number, or `None` if it is 0 or above the greatest.
     pub fn new(number: u64) -> Option<Serial>
         ensures { SomeIff result (IsSerial number) number }
     {
@@ -39,7 +39,7 @@ impl Serial {
         Some(Serial { number })
     }
 
-    /// The number itself, 1 to the greatest.
+    /// Returns the number, from 1 to the greatest.
     pub fn number(self) -> u64
         ensures value { result ≡ self }
         ensures range { IsSerial self }

@@ -9,23 +9,26 @@ use crate::kind::Kind;
 use std::alloc::AllocError;
 use tk_format::{Reader, Writer};
 
-/// The name of a token: the dot of the fact that minted it, and what it is for (own). Ordered by
-/// dot, then by kind.
+/// The name of a token: the dot of the fact that minted it, and its kind.
+///
+/// Names are ordered by dot, then by kind.
 #[derive(Clone, Copy, Debug, PartialEq, Eq)]
 pub struct TokenId {
-    /// Where the fact stands that minted the token.
+    /// The dot of the fact that minted the token.
     pub dot: Dot,
     /// What the token is for.
     pub kind: Kind,
 }
 
 impl TokenId {
-    /// The dot and the kind are in their ranges, so that the name can be spelled.
+    /// Gives a caller's proof the fact that dot and kind are in their ranges. Does nothing at run
+    /// time.
     pub fn known(self)
         ensures { token.Fits self }
     {}
 
-    /// Takes a name from the front, None where none stands there. What the reader has left then is not said.
+    /// Takes a name from the front, or returns `None` if the bytes do not begin with one. After
+    /// `None` the reader's position is unspecified.
     pub fn read(reader: &mut Reader<'_>) -> Option<TokenId>
         ensures { Reads (λ t. t) token result reader.old reader.new }
     {
@@ -34,7 +37,8 @@ impl TokenId {
         Some(TokenId { dot, kind })
     }
 
-    /// Writes the dot, and the kind's number in a byte. What the writer holds after an error is not said.
+    /// Writes the dot, and the kind's number in a byte. After an error the writer's contents are
+    /// unspecified.
     pub fn write(self, writer: &mut Writer) -> Result<(), AllocError>
         ensures { OnOk result (writer.new ≡ writer.old ++ token.spell self) }
     {

@@ -1,5 +1,5 @@
--- Empty tables are those of no fact. Key result: `empty_indexed`.
-use Rattle.std.proofs.Common.{◌≡◌, inl, inr, Bool, false, List, [], Option, Some, is_some, sym, ap, ◌∙◌}
+-- Empty tables are those of no fact. Key result: empty_indexed.
+use Rattle.std.proofs.Common.{◌≡◌, inl, inr, ℕ, Bool, false, List, [], Option, Some, is_some, sym, ap, ◌∙◌}
 use Rattle.std.proofs.lemmas.Bool.{true≢false, or_cases, false_from_ne_true}
 use Rattle.std.specs.Option.{option_and_then}
 use Rattle.std.specs.List.{list_any}
@@ -19,11 +19,13 @@ use Rattle.tk_store.proofs.EntryLaws.{Passing, any_fact-held}
 use Rattle.tk_ledger.specs.Clients.{added_in, given_in, retires, withdraws}
 use Rattle.tk_ledger.specs.SignOuts.{sign_out_in}
 use Rattle.tk_ledger.specs.Tokens.{link_of, issued_in, revokes, sees_reuse, is_reused, is_stopped, is_marked}
-use Rattle.tk_ledger.specs.Index.{row_added, row_retired, consent_cmp, consent_key, revocation_cmp, revocation_key, is_from, IsIndexed}
+use Rattle.tk_ledger.specs.Index.{row_added, row_retired, consent_cmp, consent_key, revocation_cmp, revocation_key, is_from, code_cmp, code_key, is_to, out_cmp, out_key, is_left_by, IsIndexed}
 use Rattle.tk_ledger.specs.declared.client_rows.ClientRow.{ClientRow}
 use Rattle.tk_ledger.specs.declared.consent_keys.ConsentKey.{ConsentKey}
 use Rattle.tk_ledger.specs.declared.index.Index.{Index}
 use Rattle.tk_ledger.specs.declared.revocations.Revocation.{Revocation}
+use Rattle.tk_ledger.specs.declared.subject_keys.CodeKey.{CodeKey}
+use Rattle.tk_ledger.specs.declared.subject_keys.OutKey.{OutKey}
 use Rattle.tk_ledger.proofs.TokenLaws.{is_stopped-sound}
 
 none_held : (d : Dot) (b : Body) → ¬ (map.get (map.empty {R = dot_cmp}) d ≡ Some b)
@@ -32,7 +34,7 @@ none_held d b h = none_is_not_some b (sym (map.get-empty dot_cmp d) ∙ h)
 any_fact-empty : (p : Dot × Body → Bool) → any_fact p map.empty ≡ false
 any_fact-empty p = false_from_ne_true (any_fact p map.empty) (λ h. (let x : Passing p map.empty = any_fact-held p map.empty h in none_held x.dot x.body x.held))
 
--- nothing stands at any dot
+-- no fact is at any dot
 no_value : {B : Type 0} (f : Body → Option B) (d : Dot) (y : B) → ¬ (option_and_then f (map.get (map.empty {R = dot_cmp}) d) ≡ Some y)
 no_value f d y h = none_is_not_some y (sym (ap (option_and_then f) (map.get-empty dot_cmp d)) ∙ h)
 
@@ -46,7 +48,7 @@ marks-empty k = false_from_ne_true (is_marked map.empty k) (λ h. elim (or_cases
 ])
 
 pub empty_indexed : (x : Index) → x.clients.entries ≡ [] → x.consents.keys ≡ [] → x.withdrawn.keys ≡ [] → x.revocations.keys ≡ [] → x.codes.keys ≡ [] → x.outs.keys ≡ [] → x.forest.links ≡ map.empty → x.forest.marks ≡ set.empty → IsIndexed map.empty x
-empty_indexed x te ce we re _ _ le me = record {
+empty_indexed x te ce we re co ou le me = record {
   clients_are = record {
     added = λ q. ap (λ (es : List (Dot × ClientRow)). row_added (lookup (is_at (dot_cmp q)) es)) te ∙ sym (ap (λ o. is_some (option_and_then added_in o)) (map.get-empty dot_cmp q));
     retired = λ q. ap (λ (es : List (Dot × ClientRow)). row_retired (lookup (is_at (dot_cmp q)) es)) te ∙ sym (any_fact-empty (retires q));
@@ -57,8 +59,15 @@ empty_indexed x te ce we re _ _ le me = record {
   };
   withdrawn_are = λ q. ap (λ (es : List Dot). list_any (is_at (dot_cmp q)) es) we ∙ sym (any_fact-empty (withdraws q));
   revocations_are = λ k g c. ap (λ (es : List Revocation). list_any (is_at (revocation_cmp (revocation_key k g c))) es) re ∙ sym (any_fact-empty (revokes k g c));
-  codes_are = λ d code h. absurd (no_value issued_in d code h);
-  outs_are = λ d f h. absurd (no_value sign_out_in d f h);
+  codes_are = record {
+    listed = λ s q. no_code s q ∙ sym (ap (λ o. is_to s (option_and_then issued_in o)) (map.get-empty dot_cmp q));
+    ranged = λ s q h. absurd (true≢false (sym h ∙ no_code s q));
+  };
+  outs_are = record {
+    listed = λ s l q. no_out s l q ∙ sym (ap (λ o. is_left_by s l (option_and_then sign_out_in o)) (map.get-empty dot_cmp q));
+    ranged = λ s l q h. absurd (true≢false (sym h ∙ no_out s l q));
+    early = λ d f h. absurd (no_value sign_out_in d f h);
+  };
   tied = record {
     links = λ q. ap (λ s. map.get s q) le ∙ map.get-empty dot_cmp q ∙ sym (ap (option_and_then link_of) (map.get-empty dot_cmp q));
     marks = λ k. ap (λ s. set.contains s k) me ∙ set.contains-empty token_cmp k ∙ sym (marks-empty k);
@@ -67,3 +76,9 @@ empty_indexed x te ce we re _ _ le me = record {
   where
     none_listed : (c : Dot) (s : List _) (q : Dot) → list_any (is_at (consent_cmp (consent_key c s q))) x.consents.keys ≡ false
     none_listed c s q = ap (λ (es : List ConsentKey). list_any (is_at (consent_cmp (consent_key c s q))) es) ce
+
+    no_code : (s : List _) (q : Dot) → list_any (is_at (code_cmp (code_key s q))) x.codes.keys ≡ false
+    no_code s q = ap (λ (es : List CodeKey). list_any (is_at (code_cmp (code_key s q))) es) co
+
+    no_out : (s : List _) (l : ℕ) (q : Dot) → list_any (is_at (out_cmp (out_key s l q))) x.outs.keys ≡ false
+    no_out s l q = ap (λ (es : List OutKey). list_any (is_at (out_cmp (out_key s l q))) es) ou

@@ -1,10 +1,10 @@
--- Each kind of change, in the form in which the functions need it: over the set that has the fact already, and that set
--- without it. Key results:
---   put_ties, mark_ties, revoke_ties, out_ties   the forest after a link, a reuse, a revocation and a sign-out
---   code_row, code_dropped, out_row       the tables after a code and a sign-out
---   index_add .. index_out                all tables, for each kind of change
---   stored, stored_change, stored_back    a fact at a free dot
-use Rattle.std.proofs.Common.{◌≡◌, ℕ, ◌≤◌, Bool, true, false, ◌&&◌, ◌||◌, cond, List, Option, Some, None, Result, Ok, Err, OnOk, refl, sym, ap, subst, ◌∙◌}
+-- Each kind of change, as the functions that make it need it: over the set that has the fact
+-- already, and that set without the fact. Key results:
+--   put_ties, mark_ties, revoke_ties, out_ties   the forest after each kind of change
+--   code_row, code_dropped, out_row              the tables after a code and a sign-out
+--   index_add .. index_out                       all tables, for each kind of change
+--   stored, stored_change, stored_back           a fact at a free dot
+use Rattle.std.proofs.Common.{◌≡◌, ℕ, ◌≤◌, Bool, true, false, ◌&&◌, ◌||◌, ◌==◌, cond, List, Option, Some, None, Result, Ok, Err, OnOk, refl, sym, ap, subst, ◌∙◌}
 use Rattle.std.specs.Option.{option_and_then, option_map}
 use Rattle.std.specs.Ordering.{eq_by_cmp}
 use Rattle.std.specs.Str.{bytes_eq}
@@ -33,7 +33,7 @@ use Rattle.tk_store.proofs.OneMoreLaws.{OneMore, more_remove}
 use Rattle.tk_ledger.specs.Bodies.{is_same_dot}
 use Rattle.tk_ledger.specs.Tokens.{link_of, links_in}
 use Rattle.tk_ledger.specs.Changes.{change_in, adds, retires_of, gives_to, withdraws_of, revokes_of, reuses_of}
-use Rattle.tk_ledger.specs.Index.{row_at, row_added, row_retired, is_at, IsClients, consent_cmp, consent_key, is_listed, IsConsents, IsWithdrawals, revocation_cmp, revocation_key, is_listed_revoked, IsRevocations, code_cmp, code_key, codes_of, dots_of, IsCodes, out_cmp, out_key, left_after, IsOuts, IsTied, IsIndexed, woken, any_woken}
+use Rattle.tk_ledger.specs.Index.{row_at, row_added, row_retired, is_at, IsClients, consent_cmp, consent_key, is_listed, IsConsents, IsWithdrawals, revocation_cmp, revocation_key, is_listed_revoked, IsRevocations, code_cmp, code_key, codes_of, dots_of, is_listed_code, IsCodes, out_cmp, out_key, left_after, is_listed_out, IsOuts, IsTied, IsIndexed, woken, any_woken}
 use Rattle.tk_ledger.specs.declared.change.Change.{Change}
 use Rattle.tk_ledger.specs.declared.change.Change.TheVariants as change
 use Rattle.tk_ledger.specs.declared.client_rows.ClientRow.{ClientRow}
@@ -44,7 +44,8 @@ use Rattle.tk_ledger.specs.declared.subject_keys.CodeKey.{CodeKey}
 use Rattle.tk_ledger.specs.declared.subject_keys.OutKey.{OutKey}
 use Rattle.tk_ledger.proofs.KeyLaws.{at_is_same, token_tied, consent_tied, revocation_tied}
 use Rattle.tk_ledger.proofs.TableLaws.{clients_on, consents_on, Ranged, ranged_on, withdrawals_on, revocations_on}
-use Rattle.tk_ledger.proofs.SubjectTableLaws.{issuing, codes_still, codes_on, codes_back, outs_still, outs_on}
+use Rattle.tk_ledger.proofs.SubjectKeyLaws.{code_tied, out_tied}
+use Rattle.tk_ledger.proofs.SubjectTableLaws.{issuing, issues_to, issues_none, signs_out_by, signs_none, unsigned_early, IsEarly, RangedCodes, RangedOuts, codes_on, codes_ranged, codes_alike, codes_back, outs_on, outs_ranged, outs_alike}
 use Rattle.tk_ledger.proofs.TokenLaws.{from_some}
 use Rattle.tk_ledger.proofs.ForestLaws.{puts, link-change, revoking, signs, links_still, links_put, tied_still, tied_put, tied_mark, tied_revoke, tied_out}
 
@@ -116,7 +117,7 @@ pub revoke_ties : (G : FactSet) (d : Dot) (f : revoked.TokenRevoked) (x y : Fore
     → y.links ≡ x.links → ((k : TokenId) → set.contains y.marks k ≡ (woken G k f.token.dot || set.contains x.marks k)) → IsTied G y
 revoke_ties G d f x y h t still new = let c = changed G d (change.Revoke f) h in tied_revoke (map.remove G d) G d c.body f x y c.more c.is t still new
 
--- before the marks, the links are those of the set already, where the change is none
+-- a change without a link leaves the links of the set without the fact
 pub links_before : (G : FactSet) (d : Dot) (y : Change) (x : ForestFacts) → option_map change_in (map.get G d) ≡ Some y → puts y ≡ None → IsTied (map.remove G d) x → (q : Dot) → map.get x.links q ≡ links_in (map.get G) q
 links_before G d y x h none t q = still (changed G d y h)
   where
@@ -163,7 +164,7 @@ revocations_by : (G : FactSet) (d : Dot) (y : Change) (t u : BTreeSet Revocation
     → IsRevocations G u
 revocations_by G d y t u h i r = let x = changed G d y h in revocations_on (map.remove G d) G d x.body t u x.more i (λ k g c. r k g c ∙ ap (λ z. revokes_of k g c z || is_listed_revoked t k g c) (sym x.is))
 
--- a consent's key
+-- the table with the key of a consent
 give_row : (client : Dot) (subject : List ℕ) (d : Dot) (t u : BTreeSet ConsentKey)
     → ((k : ConsentKey) → contains consent_cmp u k ≡ cond (eq_by_cmp consent_cmp (consent_key client subject d) k) true (contains consent_cmp t k))
     → (e : Dot) (h : List ℕ) (q : Dot) → is_listed u e h q ≡ ((gives_to e h (change.Give client subject) && is_same_dot d q) || is_listed t e h q)
@@ -176,7 +177,7 @@ give_row client subject d t u r e h q =
     regroup true b c = refl
     regroup false b c = refl
 
--- a revocation's key
+-- the table with the key of a revocation
 pub revoke_row : (G : FactSet) (d : Dot) (f : revoked.TokenRevoked) (t u : BTreeSet Revocation) → option_map change_in (map.get G d) ≡ Some (change.Revoke f) → IsRevocations (map.remove G d) t
     → ((q : Revocation) → contains revocation_cmp u q ≡ cond (eq_by_cmp revocation_cmp (revocation_key f.token f.digest f.client) q) true (contains revocation_cmp t q))
     → IsRevocations G u
@@ -189,44 +190,77 @@ revoke_row G d f t u h i r = revocations_by G d (change.Revoke f) t u h i (λ k 
 pub same_revocations : (G : FactSet) (d : Dot) (y : Change) (t : BTreeSet Revocation) → option_map change_in (map.get G d) ≡ Some y → ((k : TokenId) (digest : List ℕ) (client : Dot) → revokes_of k digest client y ≡ false) → IsRevocations (map.remove G d) t → IsRevocations G t
 same_revocations G d y t h none i = revocations_by G d y t t h i (λ k g c. sym (ap (λ b. b || is_listed_revoked t k g c) (none k g c)))
 
--- a change that issues no code leaves the codes, one that signs out nobody the sign-outs
+codes_by : (G : FactSet) (d : Dot) (y : Change) (t u : BTreeSet CodeKey) → option_map change_in (map.get G d) ≡ Some y → IsCodes (map.remove G d) t → RangedCodes u
+    → ((subject : List ℕ) (q : Dot) → is_listed_code u subject q ≡ ((issues_to subject y && is_at d q) || is_listed_code t subject q))
+    → IsCodes G u
+codes_by G d y t u h i ranged l =
+    let x = changed G d y h in
+    codes_on (map.remove G d) G d x.body t u x.more i ranged
+    (λ subject q. l subject q ∙ ap (λ z. (issues_to subject z && is_at d q) || is_listed_code t subject q) (sym x.is))
+
+outs_by : (G : FactSet) (d : Dot) (y : Change) (t u : BTreeSet OutKey) → option_map change_in (map.get G d) ≡ Some y → IsOuts (map.remove G d) t → RangedOuts u → IsEarly y
+    → ((subject : List ℕ) (left : ℕ) (q : Dot) → is_listed_out u subject left q ≡ ((signs_out_by subject left y && is_at d q) || is_listed_out t subject left q))
+    → IsOuts G u
+outs_by G d y t u h i ranged early l =
+    let x = changed G d y h in
+    outs_on (map.remove G d) G d x.body t u x.more i ranged (subst IsEarly (sym x.is) early)
+    (λ subject left q. l subject left q ∙ ap (λ z. (signs_out_by subject left z && is_at d q) || is_listed_out t subject left q) (sym x.is))
+
+-- a change that issues no code leaves the codes; a change that signs out nobody, the sign-outs
 pub same_codes : (G : FactSet) (d : Dot) (y : Change) (t : BTreeSet CodeKey) → option_map change_in (map.get G d) ≡ Some y → issuing y ≡ None → IsCodes (map.remove G d) t → IsCodes G t
-same_codes G d y t h none i = let x = changed G d y h in codes_still (map.remove G d) G d x.body t x.more (ap issuing x.is ∙ none) i
+same_codes G d y t h none i = codes_by G d y t t h i i.ranged
+    (λ subject q. sym (ap (λ b. (b && is_at d q) || is_listed_code t subject q) (issues_none subject y none)))
 
 pub same_outs : (G : FactSet) (d : Dot) (y : Change) (t : BTreeSet OutKey) → option_map change_in (map.get G d) ≡ Some y → signs y ≡ false → IsOuts (map.remove G d) t → IsOuts G t
-same_outs G d y t h none i = let x = changed G d y h in outs_still (map.remove G d) G d x.body t x.more (ap signs x.is ∙ none) i
+same_outs G d y t h none i = outs_by G d y t t h i i.ranged (unsigned_early y none)
+    (λ subject left q. sym (ap (λ b. (b && is_at d q) || is_listed_out t subject left q) (signs_none subject left y none)))
 
--- before the change nothing stands at its dot
+-- no fact is at the dot in the set without the fact
 pub change_free : (G : FactSet) (d : Dot) (y : Change) → option_map change_in (map.get G d) ≡ Some y → map.get (map.remove G d) d ≡ None
 change_free G d y h = (changed G d y h).more.free
 
--- a table that has the same keys
+-- a table of codes with the same keys
 pub codes_same : (G : FactSet) (d : Dot) (t u : BTreeSet CodeKey) → IsCodes (map.remove G d) t → ((k : CodeKey) → contains code_cmp u k ≡ contains code_cmp t k) → IsCodes (map.remove G d) u
-codes_same G d t u i same q code h = let old = i q code h in (same (code_key (sha256 code.subject) q) ∙ old.0, old.1)
+codes_same G d t u i same = codes_alike (map.remove G d) t u i same
 
 pub outs_same : (G : FactSet) (d : Dot) (t u : BTreeSet OutKey) → IsOuts (map.remove G d) t → ((k : OutKey) → contains out_cmp u k ≡ contains out_cmp t k) → IsOuts (map.remove G d) u
-outs_same G d t u i same q f h = let old = i q f h in (same (out_key (sha256 f.subject) (left_after f.moment) q) ∙ old.0, old.1, old.2)
+outs_same G d t u i same = outs_alike (map.remove G d) t u i same
 
--- a code's key
+-- the table with the key of a code
 pub code_row : (G : FactSet) (d : Dot) (subject : List ℕ) (t u : BTreeSet CodeKey) → option_map change_in (map.get G d) ≡ Some (change.Issue subject) → IsCodes (map.remove G d) t → IsDot d
     → ((k : CodeKey) → contains code_cmp u k ≡ cond (eq_by_cmp code_cmp (code_key subject d) k) true (contains code_cmp t k))
     → IsCodes G u
-code_row G d subject t u h i here r = let x = changed G d (change.Issue subject) h in codes_on (map.remove G d) G d x.body subject t u x.more x.is i here (λ k. r k ∙ or_cond (eq_by_cmp code_cmp (code_key subject d) k) (contains code_cmp t k))
+code_row G d subject t u h i here r = codes_by G d (change.Issue subject) t u h i (codes_ranged t u d (bytes_eq subject) here i.ranged own)
+    (λ g q. own g q ∙ ap (λ x. (bytes_eq subject g && x) || is_listed_code t g q) (sym (at_is_same d q)))
+  where
+    own : (g : List ℕ) (q : Dot) → is_listed_code u g q ≡ ((bytes_eq subject g && is_same_dot d q) || is_listed_code t g q)
+    own g q = r (code_key g q) ∙ or_cond (eq_by_cmp code_cmp (code_key subject d) (code_key g q)) (is_listed_code t g q)
+        ∙ ap (λ x. x || is_listed_code t g q) (code_tied subject g d q)
 
--- and it goes again
+-- the table after the key of a code was removed again
 pub code_dropped : (G : FactSet) (d : Dot) (subject : List ℕ) (t u v : BTreeSet CodeKey) → IsCodes (map.remove G d) t → map.get (map.remove G d) d ≡ None
     → ((k : CodeKey) → contains code_cmp u k ≡ cond (eq_by_cmp code_cmp (code_key subject d) k) true (contains code_cmp t k))
     → ((k : CodeKey) → contains code_cmp v k ≡ cond (eq_by_cmp code_cmp (code_key subject d) k) false (contains code_cmp u k))
     → IsCodes (map.remove G d) v
 code_dropped G d subject t u v i free r s = codes_back (map.remove G d) d subject t u v free i (λ k. r k ∙ or_cond (eq_by_cmp code_cmp (code_key subject d) k) (contains code_cmp t k)) s
 
--- a sign-out's key
+-- the table with the key of a sign-out
 pub out_row : (G : FactSet) (d : Dot) (subject : List ℕ) (moment : ℕ) (t u : BTreeSet OutKey) → option_map change_in (map.get G d) ≡ Some (change.SignOut subject moment) → IsOuts (map.remove G d) t → IsDot d → moment ≤ greatest_moment
     → ((k : OutKey) → contains out_cmp u k ≡ cond (eq_by_cmp out_cmp (out_key subject (left_after moment) d) k) true (contains out_cmp t k))
     → IsOuts G u
-out_row G d subject moment t u h i here early r = let x = changed G d (change.SignOut subject moment) h in outs_on (map.remove G d) G d x.body subject moment t u x.more x.is i here early (λ k. r k ∙ or_cond (eq_by_cmp out_cmp (out_key subject (left_after moment) d) k) (contains out_cmp t k))
+out_row G d subject moment t u h i here early r =
+    outs_by G d (change.SignOut subject moment) t u h i (outs_ranged t u d (λ g l. bytes_eq subject g && (left_after moment == l)) here i.ranged own) early
+    (λ g l q. own g l q ∙ ap (λ x. ((bytes_eq subject g && (left_after moment == l)) && x) || is_listed_out t g l q) (sym (at_is_same d q)))
+  where
+    regroup : (a b c : Bool) → (a && (b && c)) ≡ ((a && b) && c)
+    regroup true b c = refl
+    regroup false b c = refl
 
--- ---- all of it, for each change
+    own : (g : List ℕ) (l : ℕ) (q : Dot) → is_listed_out u g l q ≡ (((bytes_eq subject g && (left_after moment == l)) && is_same_dot d q) || is_listed_out t g l q)
+    own g l q = r (out_key g l q) ∙ or_cond (eq_by_cmp out_cmp (out_key subject (left_after moment) d) (out_key g l q)) (is_listed_out t g l q)
+        ∙ ap (λ x. x || is_listed_out t g l q) (out_tied subject g (left_after moment) l d q ∙ regroup (bytes_eq subject g) (left_after moment == l) (is_same_dot d q))
+
+-- ---- all tables, for each kind of change
 
 pub index_add : (G : FactSet) (d : Dot) (x : Index) (u : BTreeMap Dot ClientRow)
     → option_map change_in (map.get G d) ≡ Some change.Add → IsIndexed (map.remove G d) x

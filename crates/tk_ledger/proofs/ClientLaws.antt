@@ -1,9 +1,9 @@
--- The tests of clients and consents mean what they say. Key results:
---   is_retired-sound .. is_withdrawn-complete   a client is retired, a consent withdrawn
---   live_sound, live_complete                   a client is live
---   is_consent_of-sound, is_consent_of-complete   a client and subject have a live consent at a dot
---   consent_sound, consent_complete             a code's consent is live
---   retired_stays, withdrawn_stays              who is retired, and what is withdrawn, is never live again
+-- The tests of clients and consents decide their relations. Key results:
+--   is_retired-sound .. is_withdrawn-complete     a client is retired, a consent withdrawn
+--   live_sound, live_complete                     a client is live
+--   is_consent_of-sound, is_consent_of-complete   a subject gave a client a live consent at a dot
+--   consent_sound, consent_complete               the consent of a code is live
+--   retired_stays, withdrawn_stays                a retired client or withdrawn consent stays so
 use Rattle.std.proofs.Common.{◌≡◌, ℕ, ◌&&◌, true, not, List, Option, Some, None, is_some, refl, sym, ap, ◌∙◌}
 use Rattle.std.proofs.lemmas.Bool.{true≢false, and_parts, and_from, not-true, not_from_false, false_from_ne_true}
 use Rattle.std.proofs.lemmas.Slice.Eq.{bytes_eq-Decides}
@@ -40,7 +40,7 @@ added_at (Some body) c h = absurd (nothing h)
     nothing : ¬ (None ≡ Some c)
     nothing h = cc
 
--- a fact that retires the client is its retirement
+-- a fact that retires the client is a retirement of that client
 retirement_in : (d : Dot) (b : Body) (q : Dot) → retires d (q, b) ≡ true → (r : retired.ClientRetired) × (b ≡ ClientRetired r) × (r.client ≡ d)
 retirement_in d (ClientRetired r) q h = (r, refl, same_dot-true r.client d h)
 retirement_in d body q h = absurd (true≢false (sym h))
@@ -70,7 +70,7 @@ live_complete F d live = and_from _ _
     (ap (λ o. is_some (option_and_then added_in o)) live.added)
     (not_from_false (is_retired F d) (false_from_ne_true (is_retired F d) (λ held. live.unretired (is_retired-sound F d held))))
 
--- a retirement that is held, and then in every greater set, keeps the client from being live
+-- a retirement keeps the client from being live in every greater set
 pub retired_stays : (F G : FactSet) → IsSubset F G → (d : Dot) → IsRetired (map.get F) d → ¬ IsLiveClient (map.get G) d
 retired_stays F G within d r live = live.unretired (record {
   place = r.place;
@@ -96,7 +96,7 @@ given_at (Some body) c h = absurd (nothing h)
     nothing : ¬ (None ≡ Some c)
     nothing h = cc
 
--- a fact that withdraws the consent is its withdrawal
+-- a fact that withdraws the consent is a withdrawal of that consent
 withdrawal_in : (d : Dot) (b : Body) (q : Dot) → withdraws d (q, b) ≡ true → (w : withdrawn.ConsentWithdrawn) × (b ≡ ConsentWithdrawn w) × (w.consent ≡ d)
 withdrawal_in d (ConsentWithdrawn w) q h = (w, refl, same_dot-true w.consent d h)
 withdrawal_in d body q h = absurd (true≢false (sym h))
@@ -116,7 +116,7 @@ unwithdrawn_of F d h w = true≢false (sym (is_withdrawn-complete F d w) ∙ not
 pub not_withdrawn : (F : FactSet) (d : Dot) → ¬ IsWithdrawn (map.get F) d → not (is_withdrawn F d) ≡ true
 not_withdrawn F d none = not_from_false (is_withdrawn F d) (false_from_ne_true (is_withdrawn F d) (λ held. none (is_withdrawn-sound F d held)))
 
--- who gave a consent, and to whom
+-- the subject that gave a consent, and the client that has it
 pub gives_parts : (client : Dot) (subject : List ℕ) (c : given.ConsentGiven) → gives client subject (Some c) ≡ true → (c.client ≡ client) × (c.subject ≡ subject)
 gives_parts client subject c h = let p = and_parts _ _ h in (same_dot-true c.client client p.0, (bytes_eq-Decides c.subject subject).0 p.1)
 
@@ -150,7 +150,7 @@ consent_sound F code h = is_consent_of-sound F code.client code.subject code.con
 pub consent_complete : (F : FactSet) (code : issued.CodeIssued) → IsLiveConsent (map.get F) code → is_live_consent F code ≡ true
 consent_complete F code live = is_consent_of-complete F code.client code.subject code.consent live
 
--- a withdrawal that is held, and then in every greater set, keeps the consent from being live
+-- a withdrawal keeps the consent from being live in every greater set
 pub withdrawn_stays : (F G : FactSet) → IsSubset F G → (code : issued.CodeIssued) → IsWithdrawn (map.get F) code.consent → ¬ IsLiveConsent (map.get G) code
 withdrawn_stays F G within code w live = live.unwithdrawn (record {
   place = w.place;

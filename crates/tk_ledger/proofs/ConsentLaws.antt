@@ -1,4 +1,5 @@
--- The consent that is found for a scope is the live one with the least dot. Key result: `least_consent`.
+-- The consent that is found for a scope is the live consent with the lowest dot. Key result:
+--   least_consent   the consent that is found is the lowest, or there is no consent
 use Rattle.std.proofs.Common.{◌≡◌, ◌≢◌, ◌&&◌, Bool, true, false, T, not, ℕ, List, [], ◌∷◌, Option, Some, None, refl, sym, ap, subst, ◌∙◌, inl, inr}
 use Rattle.std.proofs.lemmas.Bool.{true≢false, cases_Bool, cond-true, cond-false, and_parts, and_from}
 use Rattle.std.proofs.lemmas.Cmp.{tied_itself}
@@ -61,7 +62,7 @@ greater_not_less h = cc
 equal_not_less : ¬ (Equal ≡ Less)
 equal_not_less h = cc
 
--- what is found in a list of held facts is held, and passes
+-- a fact that is found in a list of held facts is held, and passes
 found_in : (p : Dot × Body → Bool) (F : FactSet) (es : Facts) (f : Dot × Body) → AllIn F es → list.find p es ≡ Some f → (map.get F f.0 ≡ Some f.1) × (p f ≡ true)
 found_in p F [] f all h = absurd (none_is_not_some f h)
 found_in p F (e ∷ es) f all h = elim (cases_Bool (p e)) [
@@ -71,7 +72,7 @@ found_in p F (e ∷ es) f all h = elim (cases_Bool (p e)) [
   | inr more ↦ found_in p F es f all.1 (sym (cond-false (p e) (Some e) (list.find p es) more) ∙ h)
 ]
 
--- what a key is below, is above it
+-- a dot that is below all of a list is below each dot found there
 above_key : (d : Dot) (es : Facts) (q : Dot) (b : Body) → T (below_all dot_cmp d es) → map.find dot_cmp q es ≡ Some b → dot_cmp d q ≡ Less
 above_key d [] q b low h = absurd (none_is_not_some b h)
 above_key d (e ∷ es) q b low h = elim (cases_Bool (eq_by_cmp dot_cmp q e.0)) [
@@ -82,7 +83,7 @@ above_key d (e ∷ es) q b low h = elim (cases_Bool (eq_by_cmp dot_cmp q e.0)) [
 passes_at : (p : Dot × Body → Bool) (e : Dot × Body) (q : Dot) (b : Body) → q ≡ e.0 → b ≡ e.1 → p (q, b) ≡ true → p e ≡ true
 passes_at p e q b i j h = rw (← i, ← j) h
 
--- nothing that passes stands below the first that passes, in a list that rises
+-- the first fact that passes, in a list that rises, has the lowest dot of those that pass
 first_least : (p : Dot × Body → Bool) (es : Facts) (f : Dot × Body) → T (map.is_sorted dot_cmp es) → list.find p es ≡ Some f → (q : Dot) (b : Body) → map.find dot_cmp q es ≡ Some b → p (q, b) ≡ true → dot_cmp q f.0 ≢ Less
 first_least p [] f sorted h q b at passes = absurd (none_is_not_some f h)
 first_least p (e ∷ es) f sorted h q b at passes = elim (cases_Bool (p e)) [
@@ -98,7 +99,7 @@ first_least p (e ∷ es) f sorted h q b at passes = elim (cases_Bool (p e)) [
   ]
 ]
 
--- where none is found, none passes
+-- if no fact is found, no fact passes
 none_passes : (p : Dot × Body → Bool) (es : Facts) → list.find p es ≡ None → (q : Dot) (b : Body) → map.find dot_cmp q es ≡ Some b → p (q, b) ≡ true → ⊥
 none_passes p [] h q b at passes = none_is_not_some b at
 none_passes p (e ∷ es) h q b at passes = elim (cases_Bool (p e)) [

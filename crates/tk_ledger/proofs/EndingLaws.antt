@@ -1,5 +1,5 @@
--- One more fact stops no token but the one that it revokes, the codes of the subject that it signs out, and those at dots that
--- come under a code by it. Key result:
+-- One more fact stops the token that it revokes, the codes of the subject that it signs out, and
+-- tokens at dots that it brings under a code, but no other. Key result:
 --   marks_by_one   the marks after one more fact
 use Rattle.std.proofs.Common.{◌≡◌, ◌≢◌, ◌⊎◌, inl, inr, true, Option, Some, None, List, [], ◌∷◌, refl, sym, ap, subst, ◌∙◌}
 use Rattle.std.proofs.lemmas.Bool.{or_cases, or_left, or_right}
@@ -32,7 +32,7 @@ pub record Revokes (b : Body) (k : TokenId) : Type 0 where
   pub body : b ≡ TokenRevoked revocation
   pub token : revocation.token ≡ k
 
--- where a dot is under a code, a link stands
+-- a dot that is under a code has a link
 pub link_under : (f : Links) (q c : Dot) → IsUnder f q c → (l : Link) × (f q ≡ Some l)
 link_under f q c u = by_path u.path u.leads
   where
@@ -40,7 +40,7 @@ link_under f q c u = by_path u.path u.leads
     by_path [] m = (Code, ap f m.0 ∙ m.1)
     by_path (p ∷ ps) m = (m.0.0.link, m.0.0.here)
 
--- a set that holds something at a dot says of it what a greater set does
+-- a set with a link at a dot has there what every greater set has
 same_at : {B : Type 0} (g : Body → Option B) (F G : FactSet) → IsSubset F G → (q : Dot) (l : Link) (y : B) → links_in (map.get F) q ≡ Some l → option_and_then g (map.get G q) ≡ Some y → option_and_then g (map.get F q) ≡ Some y
 same_at g F G w q l y at h =
     let x : (b : Body) × (map.get F q ≡ Some b) × (link_of b ≡ Some l) = from_some link_of (map.get F q) l at in
@@ -70,7 +70,8 @@ ended_before F G d b k c m e apart under =
       };
     }
 
--- a token that one more fact ends is the one that it revokes, or stands at a dot that has come under a code
+-- a token that one more fact ends is the one that it revokes, or is at a dot that it brings under a
+-- code
 ended_by_one : (F G : FactSet) (d : Dot) (b : Body) (k : TokenId) → OneMore F G d b → IsEnded (map.get G) k → IsEnded (map.get F) k ⊎ (Revokes b k ⊎ IsRaised (links_in (map.get F)) (links_in (map.get G)) k.dot)
 ended_by_one F G d b k m e = elim (cases_dots e.by_client.place d) [
   | inl same ↦ inr (inl (record {
@@ -103,13 +104,14 @@ under_itself F d f h =
     let x : (b : Body) × (map.get F d ≡ Some b) × (issued_in b ≡ Some f) = from_some issued_in (map.get F d) f h in
     record { path = []; leads = (refl, ap (option_and_then link_of) x.1 ∙ issued_link x.0 f x.2) }
 
--- nothing is under a code where no fact stands
+-- a dot without a fact is under no code
 under_none : (F : FactSet) (d c : Dot) → map.get F d ≡ None → ¬ IsUnder (links_in (map.get F)) d c
 under_none F d c free u =
     let l : (l : Link) × (links_in (map.get F) d ≡ Some l) = link_under (links_in (map.get F)) d c u in
     none_is_not_some l.0 (sym (ap (option_and_then link_of) free) ∙ l.1)
 
--- a code that one more fact stops is one of the subject that it signs out, or stands where it is issued
+-- a code that one more fact stops is one of the subject that it signs out, or the one that it
+-- issues
 out_by_one : (F G : FactSet) (d : Dot) (b : Body) (k : TokenId) → OneMore F G d b → IsOut (map.get G) k.dot → IsOut (map.get F) k.dot ⊎ (SignsOut G b k ⊎ IsRaised (links_in (map.get F)) (links_in (map.get G)) k.dot)
 out_by_one F G d b k m o = elim (cases_dots o.signed_out.place d) [
   | inl same ↦ inr (inl (record {
@@ -154,7 +156,8 @@ stopped_by_one F G d b k m (inr o) = elim (out_by_one F G d b k m o.1) [
   | inr new ↦ inr (inr new)
 ]
 
--- the marks after one more fact: the old ones, one that the fact is or makes, and what waited at dots that have come under a code
+-- the marks after one more fact: the old ones, the one of its reuse, revocation or sign-out, and
+-- those of tokens at dots that it brings under a code
 pub marks_by_one : (F G : FactSet) (d : Dot) (b : Body) (k : TokenId) → OneMore F G d b → is_marked G k ≡ true → (is_marked F k ≡ true) ⊎ ((sees_reuse k (d, b) ≡ true) ⊎ ((is_stopped G k ≡ true) × Stops F G b k))
 marks_by_one F G d b k m h = elim (or_cases (is_reused G k) (is_stopped G k) h) [
   | inl seen ↦ elim (or_cases (sees_reuse k (d, b)) (is_reused F k) (sym (any_fact-more (sees_reuse k) F G d b m) ∙ seen)) [

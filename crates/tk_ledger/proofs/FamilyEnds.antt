@@ -1,7 +1,9 @@
--- Revoked tokens and tokens of families with a bad grant aren't active, at any moment, where those facts are held. Key results:
---   bad_grants                          a minted grant is bad exactly where it is marked or used twice
---   family_ends, revoked_ends           in the set itself
---   family_inactive, revoked_inactive, signed_out_inactive   in every greater one
+-- Revoked tokens and tokens of families with a bad grant are not active, at any moment, once those
+-- facts are held. Key results:
+--   bad_grants                  a minted grant is bad exactly if it is marked or used twice
+--   family_ends, revoked_ends   not active in the set itself
+--   family_inactive, revoked_inactive, signed_out_inactive
+--                               not active in every greater set
 use Rattle.std.proofs.Common.{◌≡◌, ◌≢◌, ◌⊎◌, inl, inr, ℕ, Some, refl, sym, ap, subst, ◌∙◌, option_and_then}
 use Rattle.std.specs.FinMap as map
 use Rattle.tk_handle.specs.declared.dot.Dot.{Dot}
@@ -27,7 +29,7 @@ use Rattle.tk_ledger.proofs.StatusLaws.{no_code_is}
 
 -- ---- bad grants
 
--- a token minted at a dot, that isn't an access token, is the grant of the link there
+-- a token that a body mints, and that is no access token, is the grant of the body's link
 grant_of : (k : Kind) (d : Dot) (b : Body) (m : MintedFields) → k ≢ kind.Access → minted_of b k ≡ Some m → (l : Link) × (link_of b ≡ Some l) × (grant_at d l ≡ record { dot = d; kind = k })
 grant_of kind.Code d (CodeIssued b) m na h = (Code, refl, refl)
 grant_of kind.Refresh d (CodeRedeemed b) m na h = (Redeems b.code, refl, refl)
@@ -51,7 +53,7 @@ grant_of kind.Refresh d (TokenRevoked b) m na h = absurd (cc)
 grant_of kind.Refresh d (ReuseSeen b) m na h = absurd (cc)
 grant_of kind.Refresh d (SubjectOut b) m na h = absurd (cc)
 
--- so it is of what stands at the token's dot
+-- a minted token that is no access token is the grant of the link at its dot
 grant_there : (body_at : Bodies) (k : TokenId) (m : MintedFields) → k.kind ≢ kind.Access → minted_in body_at k ≡ Some m → (l : Link) × (links_in body_at k.dot ≡ Some l) × (grant_at k.dot l ≡ k)
 grant_there body_at k m na mints =
     let x : (b : Body) × (body_at k.dot ≡ Some b) × (minted_of b k.kind ≡ Some m) = from_some (λ b. minted_of b k.kind) (body_at k.dot) m mints in
@@ -96,7 +98,7 @@ family_inactive F G w now h d c bad under member = family_ends (map.get G) now h
 pub revoked_inactive : (F G : FactSet) → IsSubset F G → (now : ℕ) (h : Handle) → IsEnded (map.get F) h.id → ¬ IsActive (map.get G) now h
 revoked_inactive F G w now h e = revoked_ends (map.get G) now h (IsEnded-below F G w h.id e)
 
--- a code whose subject signed out is a bad grant, and under itself
+-- a code whose subject signed out is a bad grant, under itself
 pub signed_out_inactive : (F G : FactSet) → IsSubset F G → (now : ℕ) (h : Handle) (c : Dot) → IsOut (map.get F) c → IsUnder (links_in (map.get G)) h.id.dot c → ¬ IsActive (map.get G) now h
 signed_out_inactive F G w now h c gone member =
     let before = under_itself F c gone.issued gone.issues in

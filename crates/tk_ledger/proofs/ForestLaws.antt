@@ -1,9 +1,10 @@
--- How the forest follows the set, when it has one fact more. Key results:
---   tied_still, tied_put, tied_mark, tied_revoke, tied_out   after each kind of change
---   refresh_mark, code_mark, woken_both            one dot that is woken
---   woken_more, woken_whole                        a loop over dots that wakes them
---   codes_more, codes_whole                        a loop over codes that wakes them
---   top_code                                       the code that a top tells
+-- The forest follows the set when that gets one more fact. Key results:
+--   tied_still, tied_put, tied_mark, tied_revoke, tied_out
+--                                         the forest after each kind of change
+--   refresh_mark, code_mark, woken_both   the marks at one dot
+--   woken_more, woken_whole               the loop over dots
+--   codes_more                            the loop over codes
+--   top_code                              the code of a top
 use Rattle.std.proofs.Common.{◌≡◌, inl, inr, ℕ, ◌+◌, ◌<◌, ◌≤◌, Bool, true, false, ◌&&◌, ◌||◌, cond, List, [], ◌∷◌, ◌++◌, get_or, take, length, Option, Some, None, Result, Ok, OnOk, refl, sym, ap, subst, ◌∙◌}
 use Rattle.std.proofs.lemmas.Bool.{true≢false, or_cases, or_left, or_right, and_parts, and_from, cond-true, cond-false}
 use Rattle.std.proofs.lemmas.List.{take_more, take_all}
@@ -47,11 +48,11 @@ use Rattle.tk_ledger.proofs.TokenLaws.{refresh_is, code_is, is_marked-sound, is_
 use Rattle.tk_ledger.proofs.SameLaws.{same_token-true, same_token-itself}
 use Rattle.tk_ledger.proofs.KeyLaws.{same_tests, at_itself, token_tied}
 use Rattle.tk_ledger.proofs.EndingLaws.{Revokes, SignsOut, link_under, marks_by_one}
-use Rattle.tk_ledger.proofs.SubjectKeyLaws.{in_codes}
+use Rattle.tk_ledger.proofs.SubjectKeyLaws.{code_listed, in_codes}
 
--- ---- what a change says is what its body says
+-- ---- a change and its body have the same link, revocation and sign-out
 
--- the link that a change puts
+-- the link that a change adds
 abbrev pub puts : Change → Option Link
 puts (change.Issue subject) = Some Code
 puts (change.Put l) = Some l
@@ -87,7 +88,7 @@ signs other = false
 signs-change : (G : FactSet) (b : Body) (k : TokenId) → SignsOut G b k → signs (change_in b) ≡ true
 signs-change G b k r = ap (λ (x : Body). signs (change_in x)) r.body
 
--- a link reuses, revokes and signs out nothing
+-- a change with a link is no reuse, revocation or sign-out
 put_reuses : (y : Change) (l : Link) (k : TokenId) → puts y ≡ Some l → reuses_of k y ≡ false
 put_reuses (change.Mark j) l k h = absurd (none_is_not_some l h)
 put_reuses other l k h = refl
@@ -122,7 +123,7 @@ unraised f g q h r = r.before r.code (subst (λ (x : Links). IsUnder x q r.code)
 raised_by : (f g L N : Links) (q : Dot) → ((x : Dot) → L x ≡ f x) → ((x : Dot) → N x ≡ g x) → IsRaised f g q → IsRaised L N q
 raised_by f g L N q h i r = subst (λ (x : Links). IsRaised x N q) (sym (λ j x. h x j)) (subst (λ (x : Links). IsRaised f x q) (sym (λ j x. i x j)) r)
 
--- ---- what waits no more
+-- ---- the marks at dots that a link brings under a code
 
 token_by : (k : TokenId) (d : Dot) (j : Kind) → d ≡ k.dot → j ≡ k.kind → record { dot = d; kind = j } ≡ k
 token_by k d j h i = λ x. record { dot = h x; kind = i x }
@@ -159,11 +160,11 @@ and_true : (a b : Bool) → b ≡ true → a ≡ (a && b)
 and_true true b h = sym h
 and_true false b h = refl
 
--- a mark at a dot whose refresh token is ended wakes it
+-- the marks after that of the refresh token at a dot, which its client revoked
 pub refresh_mark : (F : FactSet) (x y : ForestFacts) (d : Dot) → is_ended F (refresh_at d) ≡ true → y.marks ≡ set.insert x.marks (refresh_at d) → (k : TokenId) → set.contains y.marks k ≡ (wakes_refresh F k d || set.contains x.marks k)
 refresh_mark F x y d e new k = mark_put x.marks y.marks (refresh_at d) new k ∙ ap (λ b. b || set.contains x.marks k) (token_tied (refresh_at d) k ∙ and_true (is_same_token (refresh_at d) k) (is_ended F (refresh_at d)) e)
 
--- and one at a dot whose code is out
+-- the marks after that of the code at a dot, whose subject signed out
 pub code_mark : (F : FactSet) (x y : ForestFacts) (d : Dot) → is_out F d ≡ true → y.marks ≡ set.insert x.marks (code_at d) → (k : TokenId) → set.contains y.marks k ≡ (wakes_code F k d || set.contains x.marks k)
 code_mark F x y d e new k = mark_put x.marks y.marks (code_at d) new k ∙ ap (λ b. b || set.contains x.marks k) (token_tied (code_at d) k ∙ and_true (is_same_token (code_at d) k) (is_out F d) e)
 
@@ -194,21 +195,21 @@ group : (a b c : Bool) → (a || (b || c)) ≡ ((a || b) || c)
 group true b c = refl
 group false b c = refl
 
--- the code of a dot, and then its refresh token
+-- the marks after those of the code and the refresh token of a dot
 pub woken_both : (F : FactSet) (k : TokenId) (d : Dot) (M N S : Bool) → N ≡ (wakes_code F k d || M) → S ≡ (wakes_refresh F k d || N) → S ≡ (woken F k d || M)
 woken_both F k d M N S first second = second ∙ ap (λ t. wakes_refresh F k d || t) first ∙ group (wakes_refresh F k d) (wakes_code F k d) M
 
--- one turn of the loop
+-- the marks after one more dot
 pub woken_more : (F : FactSet) (k : TokenId) (ds : List Dot) (i : ℕ) (e : Dot) (M N S : Bool) → i < length ds → N ≡ (any_woken F k (take i ds) || M) → S ≡ (woken F k (get_or ds i e) || N) → S ≡ (any_woken F k (take (i + 1) ds) || M)
 woken_more F k ds i e M N S lt old new =
     new ∙ ap (λ t. woken F k (get_or ds i e) || t) old ∙ group (woken F k (get_or ds i e)) (any_woken F k (take i ds)) M
     ∙ ap (λ t. t || M) (sym (ap (list_any (woken F k)) (take_more ds i e lt) ∙ any_push (woken F k) (take i ds) (get_or ds i e)))
 
--- the loop's end
+-- the marks after all dots
 pub woken_whole : (F : FactSet) (k : TokenId) (ds : List Dot) (i : ℕ) (M S : Bool) → length ds ≤ i → S ≡ (any_woken F k (take i ds) || M) → S ≡ (any_woken F k ds || M)
 woken_whole F k ds i M S end now = now ∙ ap (λ xs. any_woken F k xs || M) (take_all i ds end)
 
--- a loop over the keys of codes: what is left to wake, and what is marked, stay the same together
+-- over the keys of codes, the codes left to mark and the marks stay the same together
 pub codes_more : (F : FactSet) (k : TokenId) (e : CodeKey) (rest : List CodeKey) (A M S : Bool) → (any_woken F k (dots_of (e ∷ rest)) || M) ≡ A → S ≡ (woken F k e.code || M) → (any_woken F k (dots_of rest) || S) ≡ A
 codes_more F k e rest A M S old new = ap (λ t. any_woken F k (dots_of rest) || t) new ∙ turn (woken F k e.code) (any_woken F k (dots_of rest)) M ∙ old
   where
@@ -222,7 +223,7 @@ codes_more F k e rest A M S old new = ap (λ t. any_woken F k (dots_of rest) || 
 still_marked : (F G : FactSet) (d : Dot) (b : Body) → OneMore F G d b → (k : TokenId) → is_marked F k ≡ true → is_marked G k ≡ true
 still_marked F G d b m k h = is_marked-complete G k (IsMarked-below F G (more_subset F G d b m) k (is_marked-sound F k h))
 
--- the marks after one more fact, where n says which are new
+-- the marks after one more fact, if n shows which are new
 marks_from : (F G : FactSet) (d : Dot) (b : Body) (k : TokenId) (M S n : Bool) → OneMore F G d b → M ≡ is_marked F k → S ≡ (n || M)
     → (n ≡ true → is_marked G k ≡ true)
     → (reuses_of k (change_in b) ≡ true → n ≡ true)
@@ -242,11 +243,11 @@ marks_from F G d b k M S n m old new sound reuse revoke sign raise = new ∙ sam
       ])
     ])
 
--- no sign-out
+-- a change that is no sign-out signs out no code's subject
 unsigned : (G : FactSet) (b : Body) (k : TokenId) {P : Type 0} → signs (change_in b) ≡ false → SignsOut G b k → P
 unsigned G b k none r = absurd (true≢false (sym (signs-change G b k r) ∙ none))
 
--- a change that is none of a forest's
+-- a change without a link, reuse, revocation or sign-out leaves the forest
 pub tied_still : (F G : FactSet) (d : Dot) (b : Body) (x : ForestFacts) → OneMore F G d b → puts (change_in b) ≡ None → revoking (change_in b) ≡ None → signs (change_in b) ≡ false → ((k : TokenId) → reuses_of k (change_in b) ≡ false) → IsTied F x → IsTied G x
 tied_still F G d b x m put revoke sign reuse t = record {
   links = λ q. t.links q ∙ links_still F G d b m put q;
@@ -258,7 +259,7 @@ tied_still F G d b x m put revoke sign reuse t = record {
       (λ _ r. absurd (unraised (links_in (map.get F)) (links_in (map.get G)) k.dot (links_still F G d b m put) r));
 }
 
--- a link, and what waited for it
+-- the forest after a link and the marks at the dots that the link brings under a code
 pub tied_put : (F G : FactSet) (d : Dot) (b : Body) (l : Link) (x y z : ForestFacts) (ds : List Dot) → OneMore F G d b → puts (change_in b) ≡ Some l → IsTied F x
     → ((q : Dot) → map.get y.links q ≡ links_in (map.get G) q) → y.marks ≡ x.marks → ((q : Dot) → IsRaised (links_at x) (links_at y) q → has ds q ≡ true)
     → z.links ≡ y.links → ((k : TokenId) → set.contains z.marks k ≡ (any_woken G k ds || set.contains y.marks k)) → IsTied G z
@@ -272,7 +273,7 @@ tied_put F G d b l x y z ds m is t links same all still woke = record {
       (λ u r. any_woken-complete G k ds (all k.dot (raised_by (links_in (map.get F)) (links_in (map.get G)) (links_at x) (links_at y) k.dot t.links links r)) u);
 }
 
--- a reuse
+-- the forest after a reuse
 pub tied_mark : (F G : FactSet) (d : Dot) (b : Body) (j : TokenId) (x y : ForestFacts) → OneMore F G d b → change_in b ≡ change.Mark j → IsTied F x
     → y.links ≡ x.links → ((k : TokenId) → set.contains y.marks k ≡ (is_same_token j k || set.contains x.marks k)) → IsTied G y
 tied_mark F G d b j x y m is t still new = record {
@@ -285,7 +286,7 @@ tied_mark F G d b j x y m is t still new = record {
       (λ _ r. absurd (unraised (links_in (map.get F)) (links_in (map.get G)) k.dot (links_still F G d b m (ap puts is)) r));
 }
 
--- a revocation
+-- the forest after a revocation
 pub tied_revoke : (F G : FactSet) (d : Dot) (b : Body) (f : revoked.TokenRevoked) (x y : ForestFacts) → OneMore F G d b → change_in b ≡ change.Revoke f → IsTied F x
     → y.links ≡ x.links → ((k : TokenId) → set.contains y.marks k ≡ (woken G k f.token.dot || set.contains x.marks k)) → IsTied G y
 tied_revoke F G d b f x y m is t still new = record {
@@ -299,7 +300,7 @@ tied_revoke F G d b f x y m is t still new = record {
       (λ _ r. absurd (unraised (links_in (map.get F)) (links_in (map.get G)) k.dot (links_still F G d b m (ap puts is)) r));
 }
 
--- a sign-out, and the codes of its subject
+-- the forest after a sign-out and the marks of the subject's codes
 pub tied_out : (F G : FactSet) (d : Dot) (b : Body) (subject : List ℕ) (moment : ℕ) (codes : BTreeSet CodeKey) (x y : ForestFacts) → OneMore F G d b → change_in b ≡ change.SignOut subject moment → IsTied F x → IsCodes G codes
     → y.links ≡ x.links → ((k : TokenId) → set.contains y.marks k ≡ (any_woken G k (dots_of (codes_of codes subject)) || set.contains x.marks k)) → IsTied G y
 tied_out F G d b subject moment codes x y m is t listed still new = record {
@@ -315,7 +316,7 @@ tied_out F G d b subject moment codes x y m is t listed still new = record {
     among_codes : (k : TokenId) → SignsOut G b k → has (dots_of (codes_of codes subject)) k.dot ≡ true
     among_codes k r =
         let same : sha256 r.issued.subject ≡ subject = ap sha256 (sym r.subject_is) ∙ some_injective (sha256 r.sign_out.subject) subject (sym (ap (λ (c : Body). signed (change_in c)) r.body) ∙ ap signed is) in
-        let key = listed k.dot r.issued r.issues in
+        let key = code_listed G codes k.dot r.issued listed r.issues in
         in_codes codes subject k.dot (sym (ap (λ s. contains code_cmp codes (code_key s k.dot)) same) ∙ key.0) key.1
 
 -- ---- look-ups
@@ -324,7 +325,7 @@ unfound : (o : Option Dot) → ((c : Dot) → o ≡ Some c → ⊥) → None ≡
 unfound None h = refl
 unfound (Some c) h = absurd (h c refl)
 
--- the code that a top tells is the one that the dot is under
+-- the code of a top is the one that the dot is under
 pub top_code : (f : Links) (m : Marks) (d : Dot) (x : Top) → IsTop f m d x → code_in_top x ≡ code_of f d
 top_code f m d top.Absent h = unfound (code_of f d) (λ c e. (let l = link_under f d c (code_of-sound f d c e) in none_is_not_some l.0 (sym h ∙ l.1)))
 top_code f m d top.Broken h = unfound (code_of f d) (λ c e. h.1 c (code_of-sound f d c e))

@@ -1,6 +1,6 @@
--- Keys tie exactly where what they are made of is the same. Key results:
---   at_is_same        dots, by their order and by their numbers
---   token_tied        tokens
+-- Keys tie exactly if their parts are equal. Key results:
+--   at_is_same                      dots, by their order and by their numbers
+--   token_tied                      tokens
 --   consent_tied, revocation_tied   the keys of consents and revocations
 use Rattle.std.proofs.Common.{◌≡◌, ℕ, Bool, true, false, ◌&&◌, ◌==◌, List, refl, sym, ap, ◌∙◌, eq-eqb}
 use Rattle.std.proofs.lemmas.Bool.{true≢false, eqb-true}
@@ -23,7 +23,7 @@ use Rattle.tk_ledger.specs.Bodies.{is_same_dot, is_same_token}
 use Rattle.tk_ledger.specs.Index.{consent_cmp, consent_key, revocation_cmp, revocation_key}
 use Rattle.tk_ledger.proofs.SameLaws.{same_dot-true, same_dot-itself, same_token-true, same_token-itself}
 
--- two tests that imply each other are one
+-- two tests that imply each other are equal
 pub same_tests : (a b : Bool) → (a ≡ true → b ≡ true) → (b ≡ true → a ≡ true) → a ≡ b
 same_tests true b h i = sym (h refl)
 same_tests false true h i = i refl
@@ -32,7 +32,7 @@ same_tests false false h i = refl
 pub at_itself : (d : Dot) → eq_by_cmp dot_cmp d d ≡ true
 at_itself d = ap is_eq (tied_itself dot_cmp_total d)
 
--- the test by order is the test by numbers
+-- equality of dots by their order is equality by their numbers
 pub at_is_same : (a b : Dot) → eq_by_cmp dot_cmp a b ≡ is_same_dot a b
 at_is_same a b = same_tests (eq_by_cmp dot_cmp a b) (is_same_dot a b)
     (λ h. ap (is_same_dot a) (sym (tied a b h)) ∙ same_dot-itself a)
@@ -58,7 +58,7 @@ bytes_tied xs ys = same_tests (is_eq (slice_cmp nat_cmp xs ys)) (bytes_eq xs ys)
     (λ h. (bytes_eq-Decides xs ys).1 (exact_bytes xs ys (equal_of (slice_cmp nat_cmp xs ys) h)))
     (λ h. ap is_eq (ap (slice_cmp nat_cmp xs) (sym ((bytes_eq-Decides xs ys).0 h)) ∙ tied_itself nat_list_cmp_total xs))
 
--- tokens tie exactly where they are the same, either way round
+-- tokens tie exactly if they are equal, either way round
 pub token_tied : (j k : TokenId) → eq_by_cmp token_cmp k j ≡ is_same_token j k
 token_tied j k =
     both_tied (dot_cmp k.dot j.dot) _
@@ -68,7 +68,7 @@ token_tied j k =
     (λ h. ap (is_same_token j) (same_token-true k j h) ∙ same_token-itself j)
     (λ h. ap (is_same_token k) (same_token-true j k h) ∙ same_token-itself k)
 
--- the keys of consents tie exactly where client, digest and dot are the same
+-- the keys of consents tie exactly if client, digest and dot are equal
 pub consent_tied : (c e : Dot) (g h : List ℕ) (d q : Dot) → eq_by_cmp consent_cmp (consent_key c g d) (consent_key e h q) ≡ (is_same_dot c e && (bytes_eq g h && is_same_dot d q))
 consent_tied c e g h d q =
     both_tied (dot_cmp c e) _
@@ -81,7 +81,7 @@ regroup : (a b c : Bool) → (a && (b && c)) ≡ ((a && b) && c)
 regroup true b c = refl
 regroup false b c = refl
 
--- those of revocations exactly where token, digest and client are
+-- the keys of revocations tie exactly if token, digest and client are equal
 pub revocation_tied : (j k : TokenId) (g h : List ℕ) (c e : Dot) → eq_by_cmp revocation_cmp (revocation_key j g c) (revocation_key k h e) ≡ (is_same_token j k && (bytes_eq g h && is_same_dot c e))
 revocation_tied j k g h c e =
     both_tied (dot_cmp j.dot k.dot) _

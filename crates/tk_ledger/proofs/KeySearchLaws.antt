@@ -1,7 +1,9 @@
--- The first of a sorted list of keys that passes a test, among those that another test keeps. Key results:
---   among                          a list has the key
---   found_passes, none_passes      what is found passes both tests and is in the list; where nothing is found, nothing does
---   first_least                    no key that passes stands below the first that does
+-- The first key of a sorted list that passes a test, among the keys that another test keeps. Key
+-- results:
+--   among                       a list has the key
+--   found_passes, none_passes   a key that is found is in the list and passes both tests; if no key
+--                               is found, no key of the list passes both
+--   first_least                 no key that passes is below the first that does
 use Rattle.std.proofs.Common.{◌≡◌, ◌≢◌, ◌⊎◌, inl, inr, Bool, true, false, ◌&&◌, ◌||◌, List, [], ◌∷◌, filter, Some, None, refl, sym, ap, subst, ◌∙◌}
 use Rattle.std.proofs.lemmas.Bool.{true≢false, cases_Bool, cond-true, cond-false, or_cases, or_left, and_parts, and_from}
 use Rattle.std.proofs.lemmas.Cmp.{tied_itself}
@@ -21,7 +23,7 @@ equal_not_less : ¬ (Equal ≡ Less)
 equal_not_less h = cc
 
 module _ {K : Type 0} (cmp : K → K → Ordering) where
-  -- a list has the key
+  -- the list has the key
   abbrev pub among : K → List K → Bool
   among k ks = list_any (is_at (cmp k)) ks
 
@@ -72,7 +74,7 @@ module _ {K : Type 0} (cmp : K → K → Ordering) (total : IsTotalOrder cmp) (t
     | inr more ↦ above_key x ys low.1 k more
   ]
 
-  -- no key that passes stands below the first that does
+  -- no key that passes is below the first that does
   pub first_least : (ks : List K) → IsStrictlySortedBy cmp ks → (e : K) → find p (filter c ks) ≡ Some e → (k : K) → among cmp k ks ≡ true → c k ≡ true → p k ≡ true → cmp k e ≢ Less
   unfolding IsStrictlySortedBy
   first_least [] sorted e h k at kept passes = λ _. true≢false (sym at)

@@ -1,4 +1,4 @@
--- Dots and tokens that test as the same are the same.
+-- Dots and tokens that are equal by their tests are equal.
 use Rattle.std.proofs.Common.{◌≡◌, ◌≢◌, ◌==◌, true, false, Option, Some, None, refl, sym, ap, ◌∙◌, arith}
 use Rattle.std.proofs.lemmas.Bool.{true≢false, and_parts, and_from, false_from_ne_true}
 use Rattle.std.proofs.lemmas.Bool.Decides.{nat_tests}

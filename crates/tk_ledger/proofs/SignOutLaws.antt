@@ -1,6 +1,7 @@
--- The last sign-out of a subject is the first key of its span whose sign-out is the subject's. Key results:
---   last_none, last_some, last_missing   what the search finds is the last sign-out, or there is none
---   last_tells                           whether the subject signed out at a moment or later, by the last
+-- The last sign-out of a subject is the first key of its span whose sign-out is one of the subject.
+-- Key results:
+--   last_none, last_some, last_missing   the sign-out that is found is the last, or there is none
+--   last_tells                           a subject signed out at a moment or later, by its last
 use Rattle.std.proofs.Common.{◌≡◌, ◌≢◌, ◌⊎◌, inl, inr, ℕ, ◌<◌, ◌≤◌, true, false, List, Option, Some, None, refl, sym, ap, ◌∙◌, arith, eq-eqb}
 use Rattle.std.proofs.lemmas.Bool.{true≢false, false_from_ne_true, cases_Bool, eqb-true, ltb-true, ltb-false, leb-true, le-leb, and_parts, and_from}
 use Rattle.std.proofs.lemmas.Cmp.{ranked, by_ranked}
@@ -29,7 +30,7 @@ use Rattle.tk_ledger.specs.SignOuts.{IsSignedOut, is_signed_out, reaches, IsLast
 use Rattle.tk_ledger.specs.declared.subject_keys.OutKey.{OutKey}
 use Rattle.tk_ledger.proofs.KeyLaws.{same_tests}
 use Rattle.tk_ledger.proofs.KeySearchLaws.{among, found_passes, none_passes, first_least}
-use Rattle.tk_ledger.proofs.SubjectKeyLaws.{outs_total, out_by, out_same, out_order, in_outs, of_subject}
+use Rattle.tk_ledger.proofs.SubjectKeyLaws.{out_listed, outs_total, out_by, out_same, out_order, in_outs, of_subject}
 use Rattle.tk_ledger.proofs.TokenLaws.{from_some, is_signed_out-sound, is_signed_out-complete}
 
 sign_out_body : (b : Body) (f : out.SubjectOut) → sign_out_in b ≡ Some f → b ≡ SubjectOut f
@@ -40,7 +41,7 @@ sign_out_body body f h = absurd (none_is_not_some f h)
 abbrev pub its_key : List ℕ → out.SubjectOut → Dot → OutKey
 its_key subject f d = out_key (sha256 subject) (left_after f.moment) d
 
--- it is in the table, in the span, and passes
+-- the key of the sign-out is in the table and in the span, and passes
 record Listed (F : FactSet) (t : BTreeSet OutKey) (subject : List ℕ) (f : out.SubjectOut) (d : Dot) : Type 0 where
   pub at : among out_cmp (its_key subject f d) t.keys ≡ true
   pub ranged : f.moment ≤ greatest_moment
@@ -50,7 +51,7 @@ record Listed (F : FactSet) (t : BTreeSet OutKey) (subject : List ℕ) (f : out.
 listed : (F : FactSet) (t : BTreeSet OutKey) (subject : List ℕ) (moment : ℕ) → IsOuts F t → (s : IsSignedOut (map.get F) subject moment) → Listed F t subject s.sign_out s.place
 listed F t subject moment i s =
     let there : sign_out_at (map.get F) s.place ≡ Some s.sign_out = ap (option_and_then sign_out_in) s.held in
-    let key = i s.place s.sign_out there in
+    let key = out_listed F t s.place s.sign_out i there in
     record {
       at = ap (λ x. contains out_cmp t (out_key (sha256 x) (left_after s.sign_out.moment) s.place)) (sym s.subject_is) ∙ key.0;
       ranged = key.2;
@@ -58,7 +59,7 @@ listed F t subject moment i s =
       passes = ap (tells_by subject (left_after s.sign_out.moment)) there ∙ and_from _ _ ((bytes_eq-Decides s.sign_out.subject subject).1 s.subject_is) (eq-eqb (left_after s.sign_out.moment) (left_after s.sign_out.moment) refl);
     }
 
--- nothing is found
+-- if no key is found, the subject has no sign-out
 pub last_none : (F : FactSet) (t : BTreeSet OutKey) (subject : List ℕ) → IsOuts F t → find (tells_of F subject) (outs_of t (sha256 subject)) ≡ None → IsLastSignOut (map.get F) subject None
 last_none F t subject i h = λ moment s.
     let l = listed F t subject moment i s in
@@ -73,7 +74,7 @@ less_is a b lt = by_ranked (a < b) (a ≡ b) (b < a) (nat_cmp a b) (ranked a b (
     turned : ¬ (b < a)
     turned g = omega (arith, lt, g)
 
--- of two moments the later leaves less
+-- of two moments, the later leaves fewer seconds
 later_first : (m n : ℕ) → m < n → n ≤ greatest_moment → nat_cmp (left_after n) (left_after m) ≡ Less
 later_first m n lt le = less_is (left_after n) (left_after m) (omega (arith, lt, le))
 
@@ -104,7 +105,7 @@ last_some F t subject e f i sorted h there =
         ∙ ap (λ o. ordering_then o (dot_cmp s.place e.place)) (later_first f.moment s.sign_out.moment (ltb-true f.moment s.sign_out.moment later) l.ranged)))
     no_later moment s l (inr early) itself first = omega (arith, s.not_before, ltb-false f.moment s.sign_out.moment early)
 
--- and a sign-out stands at its dot
+-- the dot of the key that is found has a sign-out
 pub last_missing : (F : FactSet) (t : BTreeSet OutKey) (subject : List ℕ) (e : OutKey) → find (tells_of F subject) (outs_of t (sha256 subject)) ≡ Some e → sign_out_at (map.get F) e.place ≡ None → ⊥
 last_missing F t subject e h none =
     let found = found_passes out_cmp outs_total out_same (tells_of F subject) _ t.keys e h in

@@ -1,7 +1,8 @@
--- The first consent among the keys of a subject's consents to a client is the one for the scope. Key results:
---   span_forward                the span runs forward
---   in_span                     each consent of the subject to the client has its key there
---   first_found, first_is       the first that serves is the least live consent that includes the scope
+-- The first consent among the keys of a subject's consents to a client is the one for the scope.
+-- Key results:
+--   span_forward            the span runs forward
+--   in_span                 each consent of the subject to the client has its key in the span
+--   first_found, first_is   the first that serves is the lowest live consent that covers the scope
 use Rattle.std.proofs.Common.{◌≡◌, ◌⊎◌, inl, inr, ℕ, ◌≤◌, ◌<◌, Bool, true, ◌&&◌, not, List, Option, Some, None, refl, sym, ap, ◌∙◌, arith}
 use Rattle.std.proofs.lemmas.Bool.{true≢false, and_parts, and_from}
 use Rattle.std.proofs.lemmas.Cmp.{ranked, by_ranked, on_total, then_total, tied_itself, nat_list_cmp_total}
@@ -42,14 +43,14 @@ consents_total = then_total (on_total (λ k. k.client) dot_cmp_total) (then_tota
 key_by : (a b : ConsentKey) → a.client ≡ b.client → a.subject ≡ b.subject → a.consent ≡ b.consent → a ≡ b
 key_by a b h i j = λ x. record { client = h x; subject = i x; consent = j x }
 
--- keys that tie are one
+-- keys that tie are equal
 key_same : (a b : ConsentKey) → eq_by_cmp consent_cmp a b ≡ true → a ≡ b
 key_same a b h =
     let p = and_parts _ _ (sym (consent_tied a.client b.client a.subject b.subject a.consent b.consent) ∙ h) in
     let q = and_parts _ _ p.1 in
     key_by a b (same_dot-true a.client b.client p.0) ((bytes_eq-Decides a.subject b.subject).0 q.0) (same_dot-true a.consent b.consent q.1)
 
--- those of one subject and one client stand by their dots
+-- the keys of one subject and one client are in the order of their dots
 key_order : (client : Dot) (subject : List ℕ) (a b : Dot) → consent_cmp (consent_key client subject a) (consent_key client subject b) ≡ dot_cmp a b
 key_order client subject a b =
     ap (λ o. ordering_then o (ordering_then (slice_cmp nat_cmp subject subject) (dot_cmp a b))) (tied_itself dot_cmp_total client)
@@ -84,14 +85,14 @@ from_first q h = dot_le least_dot q (some h.0.0) (some h.1.0)
 pub to_last : (q : Dot) → IsDot q → is_le (dot_cmp q greatest_dot) ≡ true
 to_last q h = dot_le q greatest_dot h.0.1 h.1.1
 
--- the first key of the span stands before the last
+-- the first key of the span is below the last
 pub span_forward : (client : Dot) (subject : List ℕ) (a b : ConsentKey) → a ≡ consent_key client subject least_dot → b ≡ consent_key client subject greatest_dot → IsLeBy consent_cmp a b
 span_forward client subject a b first last =
     ap (λ (x : ConsentKey). is_gt (consent_cmp x b)) first
     ∙ ap (λ (x : ConsentKey). is_gt (consent_cmp (consent_key client subject least_dot) x)) last
     ∙ ap is_gt (key_order client subject least_dot greatest_dot)
 
--- each dot that a program can hold has its key between them
+-- each dot in range has its key in the span
 in_span : (client : Dot) (subject : List ℕ) (q : Dot) → IsDot q → range_contains consent_cmp (Included (consent_key client subject least_dot)) (Included (consent_key client subject greatest_dot)) (consent_key client subject q) ≡ true
 in_span client subject q h = and_from _ _
     (ap is_le (key_order client subject least_dot q) ∙ from_first q h)
@@ -109,14 +110,14 @@ serves_sound F client subject scope d h = by_body (map.get F d) refl h
 serves_complete : (F : FactSet) (client : Dot) (subject scope : List ℕ) (d : Dot) → IsConsentFor (map.get F) client subject scope d → serves F client subject scope d ≡ true
 serves_complete F client subject scope d x = ap (λ (o : Option Body). grants client subject scope (option_and_then given_in o) && not (is_withdrawn F d)) x.live.given ∙ consents_complete F client subject scope d x
 
--- it is listed under its client and the digest of its subject
+-- a consent is listed under its client and the digest of its subject
 listed_of : (F : FactSet) (t : BTreeSet ConsentKey) (client : Dot) (subject scope : List ℕ) (d : Dot) → IsConsents F t → IsConsentFor (map.get F) client subject scope d → is_listed t client (sha256 subject) d ≡ true
 listed_of F t client subject scope d i x =
     i.listed client (sha256 subject) d
     ∙ ap (λ (o : Option Body). is_from client (sha256 subject) (option_and_then given_in o)) x.live.given
     ∙ and_from _ _ (ap (λ (e : Dot). is_same_dot e client) x.live.client_is ∙ same_dot-itself client) ((bytes_eq-Decides (sha256 x.live.consent.subject) (sha256 subject)).1 (ap sha256 x.live.subject_is))
 
--- and under no other
+-- a key whose consent serves is that of the client and the digest of the subject
 key_of_served : (F : FactSet) (t : BTreeSet ConsentKey) (client : Dot) (subject scope : List ℕ) (e : ConsentKey) → IsConsents F t → among consent_cmp e t.keys ≡ true → IsConsentFor (map.get F) client subject scope e.consent → e ≡ consent_key client (sha256 subject) e.consent
 key_of_served F t client subject scope e i at x =
     let from : is_from e.client e.subject (Some x.live.consent) ≡ true = sym (ap (λ (o : Option Body). is_from e.client e.subject (option_and_then given_in o)) x.live.given) ∙ sym (i.listed e.client e.subject e.consent) ∙ at in
@@ -145,7 +146,7 @@ first_found F t client subject scope (Some e) i sorted h =
           (ap (consent_cmp (consent_key client (sha256 subject) q)) (key_of_served F t client subject scope e i found.2 here) ∙ key_order client (sha256 subject) q e.consent ∙ below)),
     )
 
--- there is one least consent
+-- there is at most one lowest consent
 least_one : (F : FactSet) (client : Dot) (subject scope : List ℕ) (x y : Option Dot) → IsLeastConsent (map.get F) client subject scope x → IsLeastConsent (map.get F) client subject scope y → x ≡ y
 least_one F client subject scope None None h i = refl
 least_one F client subject scope None (Some e) h i = absurd (h e i.0)

@@ -19,7 +19,7 @@ use Rattle.tk_ledger.specs.Standings.{IsSound}
 use Rattle.tk_ledger.proofs.StatusLaws.{chain_live, above}
 use Rattle.tk_ledger.proofs.TokenLaws.{from_some, root-sound}
 
--- what passes its check keeps its limits
+-- a fact that passes its check keeps its limits
 limits_kept : (a b : Bool) → (if a then (if b then None else Some FactError.Range) else Some FactError.Limit) ≡ None → a ≡ true
 limits_kept true b h = refl
 limits_kept false b h = cc

@@ -1,7 +1,7 @@
--- What each case of a status says, and that it is said exactly where that holds. Key results:
---   known_parts, known_status          what is behind a standing, and back
---   says                               a status says what holds
---   unseen_exactly .. known_exactly    and exactly where it holds
+-- Each status is returned for exactly the handles that it describes. Key results:
+--   known_parts, known_status          the parts of a standing, and the standing of these parts
+--   says                               a status describes its handle
+--   unseen_exactly .. known_exactly    a status is that of each handle that it describes
 use Rattle.std.proofs.Common.{◌≡◌, inl, inr, ℕ, Bool, true, false, List, Option, Some, None, refl, sym, ap, subst, ◌∙◌}
 use Rattle.std.proofs.lemmas.Bool.{true≢false, cases_Bool, cond-true, cond-false}
 use Rattle.std.proofs.lemmas.Slice.Eq.{bytes_eq-Decides}
@@ -26,7 +26,7 @@ use Rattle.tk_ledger.specs.Tokens.{link_of, links_in, issued_in, issued_at, Root
 use Rattle.tk_ledger.specs.Status.{standing_in, state_in, digest_of, with_digest, minted_as, status_by, status_in, IsMintedToken, IsKnownToken, Says, IsKnown}
 use Rattle.tk_ledger.proofs.TokenLaws.{from_some, root-sound, root-complete}
 
--- ---- what is minted with the digest
+-- ---- a token that is minted with the digest
 
 with_digest-sound : (digest : List ℕ) (o : Option MintedFields) (m : MintedFields) → with_digest digest o ≡ Some m → (o ≡ Some m) × (m.digest ≡ digest)
 with_digest-sound digest None m h = absurd (none_is_not_some m h)
@@ -40,7 +40,7 @@ with_digest-sound digest (Some x) m h = elim (cases_Bool (bytes_eq x.digest dige
 with_digest-complete : (digest : List ℕ) (o : Option MintedFields) (m : MintedFields) → o ≡ Some m → m.digest ≡ digest → with_digest digest o ≡ Some m
 with_digest-complete digest o m h d = ap (with_digest digest) h ∙ cond-true (bytes_eq m.digest digest) (Some m) None ((bytes_eq-Decides m.digest digest).1 d)
 
--- ---- what is behind a standing
+-- ---- the parts of a standing
 
 pub record Knows (F : FactSet) (now : ℕ) (h : Handle) (s : StandingFields) : Type 0 where
   pub body : Body
@@ -85,7 +85,7 @@ known_by F now h s (Some b) (Some m) (Some o) j n e =
 pub known_parts : (F : FactSet) (now : ℕ) (h : Handle) (s : StandingFields) → status_in F now h ≡ Known s → Knows F now h s
 known_parts F now h s e = known_by F now h s (map.get F h.id.dot) (minted_as (map.get F) h) (root_in (map.get F) h.id.dot) refl refl e
 
--- and back
+-- the standing of these parts
 pub known_status : (F : FactSet) (now : ℕ) (h : Handle) (m : MintedFields) (o : Root) → minted_in (map.get F) h.id ≡ Some m → m.digest ≡ digest_of h → IsUnder (links_in (map.get F)) h.id.dot o.code → issued_at (map.get F) o.code ≡ Some o.issued → (s : StandingFields) × (status_in F now h ≡ Known s) × (s.state ≡ state_in F now h.id m o)
 known_status F now h m o mints d under issues =
     let x : (b : Body) × (map.get F h.id.dot ≡ Some b) × (minted_of b h.id.kind ≡ Some m) = from_some (λ b. minted_of b h.id.kind) (map.get F h.id.dot) m mints in (
@@ -96,9 +96,9 @@ known_status F now h m o mints d under issues =
       refl,
     )
 
--- ---- what a status says
+-- ---- a status describes its handle
 
--- where nothing stands, nothing is minted
+-- if no fact is at the dot, no token is minted there
 unseen_unminted : (body_at : Bodies) (h : Handle) → body_at h.id.dot ≡ None → ¬ IsMintedToken body_at h
 unseen_unminted body_at h none t = none_is_not_some t.minted (sym (ap (option_and_then (λ b. minted_of b h.id.kind)) none) ∙ t.mints)
 
@@ -110,7 +110,7 @@ minted_token F h m j =
 unminted : (F : FactSet) (h : Handle) → minted_as (map.get F) h ≡ None → ¬ IsMintedToken (map.get F) h
 unminted F h j t = none_is_not_some t.minted (sym j ∙ with_digest-complete (digest_of h) (minted_in (map.get F) h.id) t.minted t.mints t.digest)
 
--- a code is there because a fact issued it
+-- a body with the link of a code issues a code
 code_issued : (b : Body) → link_of b ≡ Some Code → (code : issued.CodeIssued) × (issued_in b ≡ Some code)
 code_issued (CodeIssued f) h = (f, refl)
 code_issued (CodeRedeemed f) h = absurd (cc)
@@ -135,7 +135,7 @@ says_by F now h (Some b) (Some m) (Some o) i j n = (minted_token F h m j, in_fam
 pub says : (F : FactSet) (now : ℕ) (h : Handle) → Says (map.get F) h (status_in F now h)
 says F now h = says_by F now h (map.get F h.id.dot) (minted_as (map.get F) h) (root_in (map.get F) h.id.dot) refl refl refl
 
--- ---- and exactly where it holds
+-- ---- a status is that of each handle that it describes
 
 unseen_from : (body_at : Bodies) (h : Handle) (x : Status) → Says body_at h x → Says body_at h Unseen → x ≡ Unseen
 unseen_from body_at h Unseen x none = refl

@@ -1,6 +1,6 @@
--- A status says Live of exactly the active tokens. Key results:
---   chain_live     a token that is live is dead, withdrawn, over, used, past and ended by none of the tests
---   live_exactly   Live and active are the same
+-- The state Live is that of exactly the active tokens. Key results:
+--   chain_live     a token that is live fails each test for another state
+--   live_exactly   a token is live exactly if it is active
 use Rattle.std.proofs.Common.{◌≡◌, ◌≢◌, ◌⊎◌, inl, inr, ℕ, ◌<◌, nat_le, Bool, true, false, ◌&&◌, not, if◌then◌else◌, refl, sym, ap, subst, ◌∙◌, arith}
 use Rattle.std.proofs.lemmas.Bool.{true≢false, false_from_ne_true}
 use Rattle.std.proofs.lemmas.Bool.Decides.{nat_tests}
@@ -143,7 +143,7 @@ live_of F now h Wrong e nc l = absurd l
 live_of F now h (Broken t) e nc l = absurd l
 live_of F now h (Known s) e nc l = live_is_active F now h s nc e l
 
--- the clause of a status
+-- a token is live exactly if it is active: the clause of `status`
 pub live_exactly : (F : FactSet) (now : ℕ) (h : Handle) → h.id.kind ≢ kind.Code → (IsLive (status_in F now h) → IsActive (map.get F) now h) × (IsActive (map.get F) now h → IsLive (status_in F now h))
 live_exactly F now h nc = (
   live_of F now h (status_in F now h) refl nc,

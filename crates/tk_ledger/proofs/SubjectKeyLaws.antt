@@ -1,9 +1,11 @@
 -- The keys of codes and of sign-outs. Key results:
---   code_tied, code_same, out_same, codes_total, outs_total   keys tie exactly where they are one
---   codes_forward, outs_forward, out_order                    the spans run forward
---   in_codes                                                  the dot of each code of the subject is among those of the span
---   in_outs, of_subject                                       the span has the keys of the subject, and no others
-use Rattle.std.proofs.Common.{◌≡◌, inl, inr, ℕ, ◌≤◌, ◌==◌, Bool, true, false, ◌&&◌, ◌||◌, not, List, [], ◌∷◌, filter, refl, sym, ap, ◌∙◌, arith}
+--   code_tied, code_same, out_same, codes_total, outs_total
+--                                            keys tie exactly if they are equal
+--   codes_forward, outs_forward, out_order   the spans run forward
+--   in_codes                                 the span has the dot of each code of the subject
+--   in_outs, of_subject                      the span has the keys of the subject, and no others
+--   code_listed, out_listed                  the keys of a code and of a sign-out that are held
+use Rattle.std.proofs.Common.{◌≡◌, inl, inr, ℕ, ◌≤◌, ◌==◌, Bool, true, false, ◌&&◌, ◌||◌, not, List, [], ◌∷◌, Option, Some, filter, refl, sym, ap, ◌∙◌, arith, eq-eqb}
 use Rattle.std.proofs.lemmas.Bool.{true≢false, eqb-true, cases_Bool, cond-true, cond-false, or_cases, or_left, and_parts, and_from}
 use Rattle.std.proofs.lemmas.Cmp.{on_total, then_total, tied_itself, nat_list_cmp_total}
 use Rattle.std.proofs.lemmas.Map.Lookups.{exact_bytes}
@@ -18,12 +20,19 @@ use Rattle.std.specs.Str.{bytes_eq}
 use Rattle.std.specs.declared.cmp.Ordering.{Ordering}
 use Rattle.std.specs.declared.cmp.Ordering.TheVariants.{Less, Equal, Greater}
 use Rattle.std.specs.declared.ops.Bound.TheVariants.{Included}
+use Rattle.std.specs.FinMap as map
+use Rattle.sha2.specs.Sha256.{sha256}
 use Rattle.tk_handle.specs.declared.dot.Dot.{Dot}
 use Rattle.tk_handle.specs.Dot.{IsDot, dot_cmp, dot_cmp_total}
 use Rattle.tk_handle.specs.Ranges.{greatest_moment}
 use Rattle.tk_family.specs.Dots.{dot_eq, has}
+use Rattle.tk_fact.specs.declared.code_issued.CodeIssued as issued
+use Rattle.tk_fact.specs.declared.subject_out.SubjectOut as out
+use Rattle.tk_store.specs.FactSet.{FactSet}
 use Rattle.tk_ledger.specs.Bodies.{is_same_dot}
-use Rattle.tk_ledger.specs.Index.{least_dot, greatest_dot, code_cmp, code_key, codes_of, dots_of, out_cmp, out_key}
+use Rattle.tk_ledger.specs.Index.{least_dot, greatest_dot, left_after, code_cmp, code_key, codes_of, dots_of, is_to, IsCodes, out_cmp, out_key, is_left_by, IsOuts}
+use Rattle.tk_ledger.specs.SignOuts.{sign_out_at}
+use Rattle.tk_ledger.specs.Tokens.{issued_at}
 use Rattle.tk_ledger.specs.declared.subject_keys.CodeKey.{CodeKey}
 use Rattle.tk_ledger.specs.declared.subject_keys.OutKey.{OutKey}
 use Rattle.tk_ledger.proofs.KeyLaws.{at_itself, at_is_same, both_tied, number_tied, bytes_tied}
@@ -85,7 +94,7 @@ kept_dot c k (x ∷ xs) at kept = elim (or_cases (is_at (code_cmp k) x) (among c
     or_later true b h = refl
     or_later false b h = h
 
--- the dot of each code that is listed under the digest is among those of its span
+-- the span of the digest has the dot of each code that is listed under the digest
 pub in_codes : (t : BTreeSet CodeKey) (subject : List ℕ) (d : Dot) → contains code_cmp t (code_key subject d) ≡ true → IsDot d → has (dots_of (codes_of t subject)) d ≡ true
 in_codes t subject d at ranged = kept_dot (range_contains code_cmp (Included (code_key subject least_dot)) (Included (code_key subject greatest_dot))) (code_key subject d) t.keys at (in_span subject d ranged)
 
@@ -94,7 +103,7 @@ in_codes t subject d at ranged = kept_dot (range_contains code_cmp (Included (co
 pub outs_total : IsTotalOrder out_cmp
 outs_total = then_total (on_total (λ k. k.subject) nat_list_cmp_total) (then_total (on_total (λ k. k.left) nat_cmp_total) (on_total (λ k. k.place) dot_cmp_total))
 
-out_tied : (g h : List ℕ) (l m : ℕ) (d q : Dot) → eq_by_cmp out_cmp (out_key g l d) (out_key h m q) ≡ (bytes_eq g h && ((l == m) && is_same_dot d q))
+pub out_tied : (g h : List ℕ) (l m : ℕ) (d q : Dot) → eq_by_cmp out_cmp (out_key g l d) (out_key h m q) ≡ (bytes_eq g h && ((l == m) && is_same_dot d q))
 out_tied g h l m d q =
     both_tied (slice_cmp nat_cmp g h) _
     ∙ ap (λ x. is_eq (slice_cmp nat_cmp g h) && x) (both_tied (nat_cmp l m) (dot_cmp d q))
@@ -120,7 +129,7 @@ outs_forward subject a b first last =
     ∙ ap (λ (x : OutKey). is_gt (out_cmp (out_key subject 0 least_dot) x)) last
     ∙ ap is_gt (out_order subject 0 greatest_moment least_dot greatest_dot)
 
--- the key of a sign-out of the subject is in its span
+-- the key of a sign-out of the subject is in the span
 pub in_outs : (subject : List ℕ) (l : ℕ) (q : Dot) → l ≤ greatest_moment → IsDot q → range_contains out_cmp (Included (out_key subject 0 least_dot)) (Included (out_key subject greatest_moment greatest_dot)) (out_key subject l q) ≡ true
 in_outs subject l q le h = and_from _ _
     (ap is_le (out_order subject 0 l least_dot q) ∙ elim (number_le 0 l (omega arith)) [
@@ -139,6 +148,25 @@ between Less r t h i = absurd (true≢false (sym i))
 between Equal r t h i = refl
 between Greater r t h i = absurd (true≢false (sym h))
 
--- and a key there is the subject's
+-- a key in the span is one of the subject
 pub of_subject : (subject : List ℕ) (e : OutKey) → range_contains out_cmp (Included (out_key subject 0 least_dot)) (Included (out_key subject greatest_moment greatest_dot)) e ≡ true → e.subject ≡ subject
 of_subject subject e h = let p = and_parts _ _ h in sym (exact_bytes subject e.subject (between (slice_cmp nat_cmp subject e.subject) _ _ p.0 p.1))
+
+-- ---- codes and sign-outs that are held are listed
+
+pub code_listed : (F : FactSet) (t : BTreeSet CodeKey) (d : Dot) (code : issued.CodeIssued) → IsCodes F t
+    → issued_at (map.get F) d ≡ Some code → (contains code_cmp t (code_key (sha256 code.subject) d) ≡ true) × IsDot d
+code_listed F t d code i h = (at, i.ranged (sha256 code.subject) d at)
+  where
+    at : contains code_cmp t (code_key (sha256 code.subject) d) ≡ true
+    at = i.listed (sha256 code.subject) d ∙ ap (is_to (sha256 code.subject)) h
+        ∙ (bytes_eq-Decides (sha256 code.subject) (sha256 code.subject)).1 refl
+
+pub out_listed : (F : FactSet) (t : BTreeSet OutKey) (d : Dot) (f : out.SubjectOut) → IsOuts F t
+    → sign_out_at (map.get F) d ≡ Some f
+    → (contains out_cmp t (out_key (sha256 f.subject) (left_after f.moment) d) ≡ true) × IsDot d × (f.moment ≤ greatest_moment)
+out_listed F t d f i h = (at, i.ranged (sha256 f.subject) (left_after f.moment) d at, i.early d f h)
+  where
+    at : contains out_cmp t (out_key (sha256 f.subject) (left_after f.moment) d) ≡ true
+    at = i.listed (sha256 f.subject) (left_after f.moment) d ∙ ap (is_left_by (sha256 f.subject) (left_after f.moment)) h
+        ∙ and_from _ _ ((bytes_eq-Decides (sha256 f.subject) (sha256 f.subject)).1 refl) (eq-eqb (left_after f.moment) (left_after f.moment) refl)

@@ -1,12 +1,11 @@
--- How the tables of codes and of sign-outs follow the set, when it has one fact more. Key results:
---   codes_still, outs_still      after a fact of another kind
---   codes_on, codes_back         after a code; and after its key was taken out again
---   outs_on                      after a sign-out
-use Rattle.std.proofs.Common.{◌≡◌, inl, inr, ℕ, ◌≤◌, Bool, true, false, cond, ◌&&◌, ◌||◌, List, Option, Some, None, refl, sym, ap, subst, ◌∙◌}
-use Rattle.std.proofs.lemmas.Bool.{true≢false, cond-false, or_left}
-use Rattle.std.proofs.lemmas.Cmp.{tied_itself}
+-- The tables of codes and of sign-outs follow the set when that gets one more fact. Key results:
+--   codes_on, outs_on         the tables after any fact, by what it issues or signs out
+--   codes_alike, outs_alike   a table with the same keys
+--   codes_back                the table after the key of a code was removed again
+use Rattle.std.proofs.Common.{◌≡◌, inl, inr, ℕ, ◌≤◌, Bool, true, false, cond, ◌&&◌, ◌||◌, ◌==◌, List, Option, Some, None, refl, sym, ap, subst, ◌∙◌}
+use Rattle.std.proofs.lemmas.Bool.{true≢false, cases_Bool, or_cases, and_parts}
 use Rattle.std.specs.Option.{option_and_then}
-use Rattle.std.specs.Ordering.{eq_by_cmp, is_eq}
+use Rattle.std.specs.Ordering.{eq_by_cmp}
 use Rattle.std.specs.Str.{bytes_eq}
 use Rattle.std.specs.BTreeSet.{BTreeSet, contains}
 use Rattle.std.specs.FinMap as map
@@ -16,120 +15,183 @@ use Rattle.tk_handle.specs.Dot.{IsDot}
 use Rattle.tk_handle.specs.Ranges.{greatest_moment}
 use Rattle.tk_fact.specs.declared.body.Body.{Body}
 use Rattle.tk_fact.specs.declared.body.Body.TheVariants.{CodeIssued, SubjectOut}
-use Rattle.tk_fact.specs.declared.code_issued.CodeIssued as issued
 use Rattle.tk_fact.specs.declared.subject_out.SubjectOut as out
 use Rattle.tk_store.specs.FactSet.{FactSet}
-use Rattle.tk_store.proofs.PutLaws.{some_injective, none_is_not_some}
+use Rattle.tk_store.proofs.PutLaws.{none_is_not_some, some_injective}
 use Rattle.tk_store.proofs.OneMoreLaws.{OneMore, cases_dots}
 use Rattle.tk_ledger.specs.Bodies.{is_same_dot}
 use Rattle.tk_ledger.specs.Changes.{change_in}
-use Rattle.tk_ledger.specs.Index.{code_cmp, code_key, IsCodes, out_cmp, out_key, left_after, IsOuts}
-use Rattle.tk_ledger.specs.SignOuts.{sign_out_in}
-use Rattle.tk_ledger.specs.Tokens.{issued_in}
+use Rattle.tk_ledger.specs.Index.{is_at, code_cmp, code_key, is_to, is_listed_code, IsCodes, out_cmp, out_key, left_after, is_left_by, is_listed_out, IsOuts}
+use Rattle.tk_ledger.specs.SignOuts.{sign_out_in, sign_out_at}
+use Rattle.tk_ledger.specs.Tokens.{issued_in, issued_at}
 use Rattle.tk_ledger.specs.declared.change.Change.{Change}
 use Rattle.tk_ledger.specs.declared.change.Change.TheVariants as change
 use Rattle.tk_ledger.specs.declared.subject_keys.CodeKey.{CodeKey}
 use Rattle.tk_ledger.specs.declared.subject_keys.OutKey.{OutKey}
 use Rattle.tk_ledger.proofs.ForestLaws.{signs}
-use Rattle.tk_ledger.proofs.SameLaws.{same_dot-apart}
-use Rattle.tk_ledger.proofs.SubjectKeyLaws.{codes_total, outs_total, code_tied}
+use Rattle.tk_ledger.proofs.SameLaws.{same_dot-true}
+use Rattle.tk_ledger.proofs.SubjectKeyLaws.{code_tied}
+use Rattle.tk_ledger.proofs.TableLaws.{own_on}
 
--- ---- what a change says is what its body says
+-- ---- a change and its body have the same code and sign-out
+
+-- the change issues a code to a subject with the digest
+abbrev pub issues_to : List ℕ → Change → Bool
+issues_to subject (change.Issue digest) = bytes_eq digest subject
+issues_to subject other = false
+
+issues-change : (subject : List ℕ) (b : Body) → is_to subject (issued_in b) ≡ issues_to subject (change_in b)
+issues-change subject (CodeIssued x) = refl
+issues-change subject body = refl
 
 -- the digest of the subject of the code that a change issues
 abbrev pub issuing : Change → Option (List ℕ)
 issuing (change.Issue subject) = Some subject
 issuing other = None
 
-issued_change : (b : Body) (code : issued.CodeIssued) → issued_in b ≡ Some code → issuing (change_in b) ≡ Some (sha256 code.subject)
-issued_change (CodeIssued x) code h = ap (λ (c : issued.CodeIssued). Some (sha256 c.subject)) (some_injective x code h)
-issued_change body code h = absurd (none_is_not_some code h)
+pub issues_none : (subject : List ℕ) (y : Change) → issuing y ≡ None → issues_to subject y ≡ false
+issues_none subject (change.Issue digest) h = absurd (none_is_not_some digest (sym h))
+issues_none subject other h = refl
 
-sign_out_change : (b : Body) (f : out.SubjectOut) → sign_out_in b ≡ Some f → change_in b ≡ change.SignOut (sha256 f.subject) f.moment
-sign_out_change (SubjectOut x) f h = ap (λ (c : out.SubjectOut). change.SignOut (sha256 c.subject) c.moment) (some_injective x f h)
-sign_out_change body f h = absurd (none_is_not_some f h)
+-- the change signs out a subject with the digest, with `left` seconds left after the moment
+abbrev pub signs_out_by : List ℕ → ℕ → Change → Bool
+signs_out_by subject left (change.SignOut digest moment) = bytes_eq digest subject && (left_after moment == left)
+signs_out_by subject left other = false
 
--- what stands at a dot, where it isn't the new fact's
-before : {B : Type 0} (g : Body → Option B) (F G : FactSet) (d : Dot) (b : Body) (q : Dot) (y : B) → OneMore F G d b → ¬ (q ≡ d) → option_and_then g (map.get G q) ≡ Some y → option_and_then g (map.get F q) ≡ Some y
-before g F G d b q y m ne h = sym (ap (option_and_then g) (m.there q ne)) ∙ h
+signs_out-change : (subject : List ℕ) (left : ℕ) (b : Body) → is_left_by subject left (sign_out_in b) ≡ signs_out_by subject left (change_in b)
+signs_out-change subject left (SubjectOut x) = refl
+signs_out-change subject left body = refl
 
-here : {B : Type 0} (g : Body → Option B) (F G : FactSet) (d : Dot) (b : Body) (q : Dot) (y : B) → OneMore F G d b → q ≡ d → option_and_then g (map.get G q) ≡ Some y → g b ≡ Some y
-here g F G d b q y m same h = sym (ap (option_and_then g) (ap (map.get G) same ∙ m.here)) ∙ h
+pub signs_none : (subject : List ℕ) (left : ℕ) (y : Change) → signs y ≡ false → signs_out_by subject left y ≡ false
+signs_none subject left (change.SignOut digest moment) h = absurd (true≢false h)
+signs_none subject left other h = refl
+
+-- the moment of the sign-out of a change
+abbrev pub moment_of : Change → Option ℕ
+moment_of (change.SignOut digest moment) = Some moment
+moment_of other = None
+
+moment-change : (b : Body) (f : out.SubjectOut) → sign_out_in b ≡ Some f → moment_of (change_in b) ≡ Some f.moment
+moment-change (SubjectOut x) f h = ap (λ (c : out.SubjectOut). Some c.moment) (some_injective x f h)
+moment-change body f h = absurd (none_is_not_some f h)
 
 -- ---- codes
 
-pub codes_still : (F G : FactSet) (d : Dot) (b : Body) (t : BTreeSet CodeKey) → OneMore F G d b → issuing (change_in b) ≡ None → IsCodes F t → IsCodes G t
-codes_still F G d b t m none i q code h = elim (cases_dots q d) [
-  | inl same ↦ absurd (none_is_not_some (sha256 code.subject) (sym none ∙ issued_change b code (here issued_in F G d b q code m same h)))
-  | inr ne ↦ i q code (before issued_in F G d b q code m ne h)
-]
+-- each code that is listed is at a dot in range
+abbrev pub RangedCodes : BTreeSet CodeKey → Type 0
+RangedCodes t = (subject : List ℕ) (d : Dot) → is_listed_code t subject d ≡ true → IsDot d
 
-or_true : (a b : Bool) → b ≡ true → (a || b) ≡ true
-or_true true b h = refl
-or_true false b h = h
+issued_on : (F G : FactSet) (d : Dot) (b : Body) (subject : List ℕ) (q : Dot) (x : Bool) → OneMore F G d b
+    → x ≡ is_to subject (issued_at (map.get F) q)
+    → ((issues_to subject (change_in b) && is_at d q) || x) ≡ is_to subject (issued_at (map.get G) q)
+issued_on F G d b subject q x m i =
+    own_on d q (issues_to subject (change_in b)) x (is_to subject (issued_at (map.get F) q)) (is_to subject (issued_at (map.get G) q))
+    (λ same. ap (λ e. is_to subject (option_and_then issued_in e)) (ap (map.get F) same ∙ m.free))
+    (λ same. ap (λ e. is_to subject (option_and_then issued_in e)) (ap (map.get G) same ∙ m.here) ∙ issues-change subject b)
+    (λ ne. ap (λ e. is_to subject (option_and_then issued_in e)) (m.there q ne))
+    i
 
-pub codes_on : (F G : FactSet) (d : Dot) (b : Body) (subject : List ℕ) (t u : BTreeSet CodeKey) → OneMore F G d b → change_in b ≡ change.Issue subject → IsCodes F t → IsDot d
-    → ((k : CodeKey) → contains code_cmp u k ≡ (eq_by_cmp code_cmp (code_key subject d) k || contains code_cmp t k))
+pub codes_on : (F G : FactSet) (d : Dot) (b : Body) (t u : BTreeSet CodeKey) → OneMore F G d b → IsCodes F t → RangedCodes u
+    → ((subject : List ℕ) (q : Dot) → is_listed_code u subject q ≡ ((issues_to subject (change_in b) && is_at d q) || is_listed_code t subject q))
     → IsCodes G u
-codes_on F G d b subject t u m is i ranged r q code h = elim (cases_dots q d) [
-  | inl same ↦
-      let digest : sha256 code.subject ≡ subject = some_injective (sha256 code.subject) subject (sym (issued_change b code (here issued_in F G d b q code m same h)) ∙ ap issuing is) in (
-        r (code_key (sha256 code.subject) q)
-            ∙ or_left (eq_by_cmp code_cmp (code_key subject d) (code_key (sha256 code.subject) q)) (contains code_cmp t (code_key (sha256 code.subject) q))
-            (ap (λ (k : CodeKey). eq_by_cmp code_cmp (code_key subject d) k) (λ j. code_key (digest j) (same j)) ∙ ap is_eq (tied_itself codes_total (code_key subject d))),
-        subst (λ (x : Dot). IsDot x) (sym same) ranged,
-      )
-  | inr ne ↦
-      let old = i q code (before issued_in F G d b q code m ne h) in
-      (r (code_key (sha256 code.subject) q) ∙ or_true (eq_by_cmp code_cmp (code_key subject d) (code_key (sha256 code.subject) q)) (contains code_cmp t (code_key (sha256 code.subject) q)) old.0, old.1)
+codes_on F G d b t u m i ranged l = record {
+  listed = λ subject q. l subject q ∙ issued_on F G d b subject q (is_listed_code t subject q) m (i.listed subject q);
+  ranged = ranged;
+}
+
+-- codes that are newly listed are in range if their dot is
+pub codes_ranged : (t u : BTreeSet CodeKey) (d : Dot) (n : List ℕ → Bool) → IsDot d → RangedCodes t
+    → ((subject : List ℕ) (q : Dot) → is_listed_code u subject q ≡ ((n subject && is_same_dot d q) || is_listed_code t subject q))
+    → RangedCodes u
+codes_ranged t u d n here before l subject q h = elim (or_cases (n subject && is_same_dot d q) (is_listed_code t subject q) (sym (l subject q) ∙ h)) [
+  | inl new ↦ subst (λ (x : Dot). IsDot x) (same_dot-true d q (and_parts (n subject) (is_same_dot d q) new).1) here
+  | inr old ↦ before subject q old
 ]
 
-and_false : (a b : Bool) → b ≡ false → (a && b) ≡ false
-and_false true b h = h
-and_false false b h = refl
+pub codes_alike : (F : FactSet) (t u : BTreeSet CodeKey) → IsCodes F t → ((k : CodeKey) → contains code_cmp u k ≡ contains code_cmp t k) → IsCodes F u
+codes_alike F t u i same = record {
+  listed = λ subject q. same (code_key subject q) ∙ i.listed subject q;
+  ranged = λ subject q h. i.ranged subject q (sym (same (code_key subject q)) ∙ h);
+}
+
+-- a key that was put in and removed again leaves the other keys
+without : (a b : Bool) → (a ≡ true → b ≡ false) → cond a false (a || b) ≡ b
+without true b h = sym (h refl)
+without false b h = refl
 
 pub codes_back : (F : FactSet) (d : Dot) (subject : List ℕ) (t u v : BTreeSet CodeKey) → map.get F d ≡ None → IsCodes F t
     → ((k : CodeKey) → contains code_cmp u k ≡ (eq_by_cmp code_cmp (code_key subject d) k || contains code_cmp t k))
     → ((k : CodeKey) → contains code_cmp v k ≡ cond (eq_by_cmp code_cmp (code_key subject d) k) false (contains code_cmp u k))
     → IsCodes F v
-codes_back F d subject t u v free i r s q code h =
-    let old = i q code h in
-    let k : CodeKey = code_key (sha256 code.subject) q in (
-      s k ∙ cond-false (eq_by_cmp code_cmp (code_key subject d) k) false (contains code_cmp u k) (code_tied subject (sha256 code.subject) d q ∙ and_false (bytes_eq subject (sha256 code.subject)) (is_same_dot d q) (same_dot-apart d q apart))
-          ∙ r k ∙ or_true (eq_by_cmp code_cmp (code_key subject d) k) (contains code_cmp t k) old.0,
-      old.1,
-    )
+codes_back F d subject t u v free i r s = record {
+  listed = λ g q. back g q ∙ i.listed g q;
+  ranged = λ g q h. i.ranged g q (sym (back g q) ∙ h);
+}
   where
-    apart : ¬ (d ≡ q)
-    apart same = none_is_not_some code (sym (ap (option_and_then issued_in) (ap (map.get F) (sym same) ∙ free)) ∙ h)
+    unlisted : (g : List ℕ) (q : Dot) → eq_by_cmp code_cmp (code_key subject d) (code_key g q) ≡ true → is_listed_code t g q ≡ false
+    unlisted g q tie =
+        let same : d ≡ q = same_dot-true d q (and_parts (bytes_eq subject g) (is_same_dot d q) (sym (code_tied subject g d q) ∙ tie)).1 in
+        i.listed g q ∙ ap (λ e. is_to g (option_and_then issued_in e)) (ap (map.get F) (sym same) ∙ free)
+
+    back : (g : List ℕ) (q : Dot) → is_listed_code v g q ≡ is_listed_code t g q
+    back g q =
+        let tie : Bool = eq_by_cmp code_cmp (code_key subject d) (code_key g q) in
+        s (code_key g q) ∙ ap (λ x. cond tie false x) (r (code_key g q)) ∙ without tie (is_listed_code t g q) (unlisted g q)
 
 -- ---- sign-outs
 
-pub outs_still : (F G : FactSet) (d : Dot) (b : Body) (t : BTreeSet OutKey) → OneMore F G d b → signs (change_in b) ≡ false → IsOuts F t → IsOuts G t
-outs_still F G d b t m none i q f h = elim (cases_dots q d) [
-  | inl same ↦ absurd (true≢false (sym (ap signs (sign_out_change b f (here sign_out_in F G d b q f m same h))) ∙ none))
-  | inr ne ↦ i q f (before sign_out_in F G d b q f m ne h)
-]
+-- each sign-out that is listed is at a dot in range
+abbrev pub RangedOuts : BTreeSet OutKey → Type 0
+RangedOuts t = (subject : List ℕ) (left : ℕ) (d : Dot) → is_listed_out t subject left d ≡ true → IsDot d
 
--- two sign-outs of one change
-abbrev pub out_of : Change → Option (List ℕ × ℕ)
-out_of (change.SignOut subject moment) = Some (subject, moment)
-out_of other = None
+signed_on : (F G : FactSet) (d : Dot) (b : Body) (subject : List ℕ) (left : ℕ) (q : Dot) (x : Bool) → OneMore F G d b
+    → x ≡ is_left_by subject left (sign_out_at (map.get F) q)
+    → ((signs_out_by subject left (change_in b) && is_at d q) || x) ≡ is_left_by subject left (sign_out_at (map.get G) q)
+signed_on F G d b subject left q x m i =
+    own_on d q (signs_out_by subject left (change_in b)) x (is_left_by subject left (sign_out_at (map.get F) q)) (is_left_by subject left (sign_out_at (map.get G) q))
+    (λ same. ap (λ e. is_left_by subject left (option_and_then sign_out_in e)) (ap (map.get F) same ∙ m.free))
+    (λ same. ap (λ e. is_left_by subject left (option_and_then sign_out_in e)) (ap (map.get G) same ∙ m.here) ∙ signs_out-change subject left b)
+    (λ ne. ap (λ e. is_left_by subject left (option_and_then sign_out_in e)) (m.there q ne))
+    i
 
-pub outs_on : (F G : FactSet) (d : Dot) (b : Body) (subject : List ℕ) (moment : ℕ) (t u : BTreeSet OutKey) → OneMore F G d b → change_in b ≡ change.SignOut subject moment → IsOuts F t → IsDot d → moment ≤ greatest_moment
-    → ((k : OutKey) → contains out_cmp u k ≡ (eq_by_cmp out_cmp (out_key subject (left_after moment) d) k || contains out_cmp t k))
+-- the change signs out nobody after the greatest moment
+abbrev pub IsEarly : Change → Type 0
+IsEarly (change.SignOut digest moment) = moment ≤ greatest_moment
+IsEarly other = Unit {0}
+
+pub unsigned_early : (y : Change) → signs y ≡ false → IsEarly y
+unsigned_early (change.SignOut digest moment) h = absurd (true≢false h)
+unsigned_early other h = tt
+
+early_moment : (y : Change) (moment : ℕ) → moment_of y ≡ Some moment → IsEarly y → moment ≤ greatest_moment
+early_moment (change.SignOut digest n) moment h early = subst (λ (m : ℕ). m ≤ greatest_moment) (some_injective n moment h) early
+early_moment other moment h early = absurd (none_is_not_some moment h)
+
+pub outs_on : (F G : FactSet) (d : Dot) (b : Body) (t u : BTreeSet OutKey) → OneMore F G d b → IsOuts F t → RangedOuts u → IsEarly (change_in b)
+    → ((subject : List ℕ) (left : ℕ) (q : Dot) → is_listed_out u subject left q ≡ ((signs_out_by subject left (change_in b) && is_at d q) || is_listed_out t subject left q))
     → IsOuts G u
-outs_on F G d b subject moment t u m is i ranged early r q f h = elim (cases_dots q d) [
-  | inl same ↦
-      let pair : (sha256 f.subject, f.moment) ≡ (subject, moment) = some_injective (sha256 f.subject, f.moment) (subject, moment) (sym (ap out_of (sign_out_change b f (here sign_out_in F G d b q f m same h))) ∙ ap out_of is) in (
-        r (out_key (sha256 f.subject) (left_after f.moment) q)
-            ∙ or_left (eq_by_cmp out_cmp (out_key subject (left_after moment) d) (out_key (sha256 f.subject) (left_after f.moment) q)) (contains out_cmp t (out_key (sha256 f.subject) (left_after f.moment) q))
-            (ap (λ (k : OutKey). eq_by_cmp out_cmp (out_key subject (left_after moment) d) k) (λ j. out_key (pair j).0 (left_after (pair j).1) (same j)) ∙ ap is_eq (tied_itself outs_total (out_key subject (left_after moment) d))),
-        subst (λ (x : Dot). IsDot x) (sym same) ranged,
-        subst (λ (n : ℕ). n ≤ greatest_moment) (sym (ap (λ (p : List ℕ × ℕ). p.1) pair)) early,
-      )
-  | inr ne ↦
-      let old = i q f (before sign_out_in F G d b q f m ne h) in
-      let k : OutKey = out_key (sha256 f.subject) (left_after f.moment) q in
-      (r k ∙ or_true (eq_by_cmp out_cmp (out_key subject (left_after moment) d) k) (contains out_cmp t k) old.0, old.1, old.2)
+outs_on F G d b t u m i ranged early l = record {
+  listed = λ subject left q. l subject left q ∙ signed_on F G d b subject left q (is_listed_out t subject left q) m (i.listed subject left q);
+  ranged = ranged;
+  early = λ q f h. elim (cases_dots q d) [
+    | inl same ↦ early_moment (change_in b) f.moment
+        (moment-change b f (sym (ap (option_and_then sign_out_in) (ap (map.get G) same ∙ m.here)) ∙ h)) early
+    | inr ne ↦ i.early q f (sym (ap (option_and_then sign_out_in) (m.there q ne)) ∙ h)
+  ];
+}
+
+-- sign-outs that are newly listed are in range if their dot is
+pub outs_ranged : (t u : BTreeSet OutKey) (d : Dot) (n : List ℕ → ℕ → Bool) → IsDot d → RangedOuts t
+    → ((subject : List ℕ) (left : ℕ) (q : Dot) → is_listed_out u subject left q ≡ ((n subject left && is_same_dot d q) || is_listed_out t subject left q))
+    → RangedOuts u
+outs_ranged t u d n here before l subject left q h = elim (or_cases (n subject left && is_same_dot d q) (is_listed_out t subject left q) (sym (l subject left q) ∙ h)) [
+  | inl new ↦ subst (λ (x : Dot). IsDot x) (same_dot-true d q (and_parts (n subject left) (is_same_dot d q) new).1) here
+  | inr old ↦ before subject left q old
 ]
+
+pub outs_alike : (F : FactSet) (t u : BTreeSet OutKey) → IsOuts F t → ((k : OutKey) → contains out_cmp u k ≡ contains out_cmp t k) → IsOuts F u
+outs_alike F t u i same = record {
+  listed = λ subject left q. same (out_key subject left q) ∙ i.listed subject left q;
+  ranged = λ subject left q h. i.ranged subject left q (sym (same (out_key subject left q)) ∙ h);
+  early = i.early;
+}

@@ -1,5 +1,7 @@
--- How each table follows the set, when it has one fact more. Key results:
+-- Each table follows the set when that gets one more fact. Key results:
+--   own_on         a test of the body at a dot
 --   clients_on, consents_on, withdrawals_on, revocations_on
+--                  the tables of clients, consents, withdrawals and revocations
 use Rattle.std.proofs.Common.{◌≡◌, inl, inr, ℕ, Bool, true, false, ◌&&◌, ◌||◌, List, is_some, refl, sym, ap, subst, ◌∙◌}
 use Rattle.std.proofs.lemmas.Bool.{or_cases, and_parts}
 use Rattle.std.specs.Option.{option_and_then}
@@ -24,7 +26,7 @@ use Rattle.tk_ledger.specs.declared.revocations.Revocation.{Revocation}
 use Rattle.tk_ledger.proofs.KeyLaws.{at_itself}
 use Rattle.tk_ledger.proofs.SameLaws.{same_dot-true}
 
--- ---- what a change says is what its body says
+-- ---- a change and its body have the same effect
 
 adds-change : (b : Body) → is_some (added_in b) ≡ adds (change_in b)
 adds-change (ClientAdded f) = refl
@@ -46,7 +48,7 @@ revokes-change : (k : TokenId) (digest : List ℕ) (client : Dot) (b : Body) →
 revokes-change k digest client (TokenRevoked f) = refl
 revokes-change k digest client body = refl
 
--- ---- what a fact says of its own dot
+-- ---- the effect of a fact on its own dot
 
 here_or : (a x : Bool) → x ≡ false → a ≡ ((a && true) || x)
 here_or true x h = refl
@@ -56,9 +58,9 @@ there_or : (a x : Bool) → x ≡ ((a && false) || x)
 there_or true x = refl
 there_or false x = refl
 
--- a test of what stands at a dot, which nothing doesn't pass: it passes at the dot of the new fact if the new fact does, and
--- elsewhere as before
-own_on : (d q : Dot) (a x at_f at_g : Bool)
+-- a test of the body at a dot, which fails without a body: at the dot of the new fact the test
+-- passes if the new fact does, at other dots as before
+pub own_on : (d q : Dot) (a x at_f at_g : Bool)
     → (q ≡ d → at_f ≡ false) → (q ≡ d → at_g ≡ a) → (¬ (q ≡ d) → at_g ≡ at_f) → x ≡ at_f → ((a && is_at d q) || x) ≡ at_g
 own_on d q a x at_f at_g free here there i = elim (cases_dots q d) [
   | inl same ↦
@@ -110,7 +112,7 @@ consents_on F G d b t u m i ranged l = record {
   ranged = ranged;
 }
 
--- what is listed new is in range where its dot is
+-- dots that are newly listed are in range if their dot is
 pub ranged_on : (t u : BTreeSet ConsentKey) (d : Dot) (n : Dot → List ℕ → Bool) → IsDot d → Ranged t
     → ((client : Dot) (subject : List ℕ) (q : Dot) → is_listed u client subject q ≡ ((n client subject && is_same_dot d q) || is_listed t client subject q))
     → Ranged u

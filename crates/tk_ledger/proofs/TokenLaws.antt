@@ -1,8 +1,9 @@
--- The tests of a fact set mean the relations over what stands at each dot, and what is so stays so when facts are added. Key results:
---   uses_agree                            what a fact uses is what its link uses
---   is_used-sound .. is_dead-complete      the tests and the relations, both ways
---   root-sound, root-complete                   the root of a family
---   IsEnded-below, IsBad-below, IsDead-below      a greater set keeps them
+-- The tests of a fact set decide the relations over the body at each dot, and the relations stay
+-- when facts are added. Key results:
+--   uses_agree                                 a fact uses what its link uses
+--   is_used-sound .. is_dead-complete          the tests decide the relations
+--   root-sound, root-complete                  the root of a family
+--   IsEnded-below, IsBad-below, IsDead-below   the relations stay in a greater set
 use Rattle.std.proofs.Common.{◌≡◌, inl, inr, ℕ, ◌≤◌, true, ◌&&◌, List, Option, Some, None, refl, sym, ap, subst, ◌∙◌}
 use borrow.Author.Tests.{le-leb}
 use Rattle.std.proofs.lemmas.Bool.{leb-true, true≢false, or_cases, or_left, or_right, and_parts, and_from, not-true, not_from_false}
@@ -32,7 +33,7 @@ use Rattle.tk_ledger.specs.Tokens.{link_of, links_in, code_in, issued_at, issued
 use Rattle.tk_ledger.specs.SignOuts.{IsSignedOut, signs_out_in, signs_out, is_signed_out}
 use Rattle.tk_ledger.proofs.SameLaws.{same_dot-true, same_dot-false, same_dot-apart, same_dot-itself, same_token-true, same_token-itself, names_token-true, names_token-of, names_dot-true, names_dot-of}
 
--- what an option's function gives comes from a value there
+-- a value of a function on an option is that of a value in the option
 pub from_some : {A B : Type 0} (f : A → Option B) (o : Option A) (y : B) → option_and_then f o ≡ Some y → (x : A) × (o ≡ Some x) × (f x ≡ Some y)
 from_some f None y h = absurd (nothing h)
   where
@@ -101,7 +102,7 @@ is_twice-complete F k t =
 
 -- ---- revocations
 
--- a body that says that the client revoked the token of the digest
+-- a body that is that the client revoked the token with the digest
 record Revoking (k : TokenId) (digest : List ℕ) (client : Dot) (b : Body) : Type 0 where
   pub revocation : revoked.TokenRevoked
   pub body : b ≡ TokenRevoked revocation
@@ -141,7 +142,7 @@ root_at F c o h = parts (issued_at (map.get F) c) refl h
         same : Some (record { code = c; issued = f }) ≡ Some o → record { code = c; issued = f } ≡ o
         same h = cc
 
--- the root that is found is the code that the dot is under, and the fact that issued it
+-- the root that is found has the code that the dot is under, and the fact that issued that code
 pub root-sound : (F : FactSet) (d : Dot) (o : Root) → root_in (map.get F) d ≡ Some o → IsUnder (links_in (map.get F)) d o.code × (issued_at (map.get F) o.code ≡ Some o.issued)
 root-sound F d o h =
     let c : (c : Dot) × (code_in (map.get F) d ≡ Some c) × (root_of (map.get F) c ≡ Some o) = from_some (root_of (map.get F)) (code_in (map.get F) d) o h in
@@ -179,7 +180,7 @@ is_ended-complete F k e =
 
 -- ---- sign-outs
 
--- a body that says that the subject signed out at the moment, or later
+-- a body that is that the subject signed out at the moment, or later
 record SigningOut (subject : List ℕ) (moment : ℕ) (b : Body) : Type 0 where
   pub sign_out : out.SubjectOut
   pub body : b ≡ bodies.SubjectOut sign_out
@@ -301,7 +302,7 @@ links-below F G w d l h = below-and_then link_of F G w d l h
 pub minted-below : (F G : FactSet) → IsSubset F G → (k : TokenId) (m : MintedFields) → minted_in (map.get F) k ≡ Some m → minted_in (map.get G) k ≡ Some m
 minted-below F G w k m h = below-and_then (λ b. minted_of b k.kind) F G w k.dot m h
 
--- an ended token stays ended
+-- a token that its client revoked stays revoked
 pub IsEnded-below : (F G : FactSet) → IsSubset F G → (k : TokenId) → IsEnded (map.get F) k → IsEnded (map.get G) k
 IsEnded-below F G w k e = record {
   minted = e.minted;
@@ -320,7 +321,7 @@ IsEnded-below F G w k e = record {
   };
 }
 
--- a subject that signed out stays so
+-- a subject that signed out stays signed out
 pub IsSignedOut-below : (F G : FactSet) → IsSubset F G → (subject : List ℕ) (moment : ℕ) → IsSignedOut (map.get F) subject moment → IsSignedOut (map.get G) subject moment
 IsSignedOut-below F G w subject moment s = record { place = s.place; sign_out = s.sign_out; held = w s.place (bodies.SubjectOut s.sign_out) s.held; subject_is = s.subject_is; not_before = s.not_before }
 

@@ -1,5 +1,5 @@
--- Where a token stands by the forest's top is where it stands by the set. Key results:
---   top_says, used_says   what the forest's look-ups say of the set
+-- The status of a token by the forest's top is the status by the set. Key results:
+--   top_says, used_says   what the forest's look-ups return, by the set
 --   found_body            the body of the fact that a look-up finds
 --   status_by_top         the status by the top is the status of the handle
 use Rattle.std.proofs.Common.{◌≡◌, ℕ, Bool, true, false, List, Option, Some, None, if◌then◌else◌, refl, sym, ap, subst, ◌∙◌}
@@ -113,7 +113,7 @@ pub found_body : (d : Dot) (o : Option Body) (f : Dot × Body) → Some f ≡ op
 found_body d None f h = absurd (cc)
 found_body d (Some b) f h = ap (λ (p : Dot × Body). Some p.1) (sym (some_first f (d, b) h))
 
--- of a token that the fact at its dot minted
+-- the status of a token that the fact at its dot minted, by the top
 pub status_by_top : (F : FactSet) (now : ℕ) (h : Handle) (b : Body) (m : MintedFields) (r : Top) → map.get F h.id.dot ≡ Some b → with_digest (digest_of h) (minted_of b h.id.kind) ≡ Some m → TopSays F h.id.dot r → by_top F now h.id b m r ≡ status_in F now h
 status_by_top F now h b m r held mints t =
     let minted : minted_in (map.get F) h.id ≡ Some m = ap (option_and_then (λ x. minted_of x h.id.kind)) held ∙ digest_kept (digest_of h) (minted_of b h.id.kind) m mints in

@@ -1,10 +1,23 @@
--- Where a token stands, by what a forest's top and the tables say (own).
---   code_in_top, root_by      the code that a top tells, and its root
---   ended_in                  whether the client of the root revoked a token, by the table
---   TopSays                   what the top of a forest says that has the links and marks of a set
---   state_by, standing_by     the first state that holds, and what is known, where it is known whether the family is dead
+-- The status of a token by the top of its dot in a forest, and by the tables (own).
+--   code_in_top, root_by      the code of a top, and its root
+--   ended_in                  the client of the root revoked a token, by the table
+--   TopSays                   the top of a dot in a forest with the links and marks of a set
+--   state_by, standing_by     the first state that holds, and the standing, if `dead` is known
 --   by_root, by_top           the status of a minted token
-use Rattle.std.specs.Prelude.{◌≡◌, ℕ, Bool, true, false, ◌&&◌, not, nat_le, Option, Some, None, if◌then◌else◌}
+use Rattle.std.specs.Prelude.{
+  ◌≡◌,
+  ℕ,
+  Bool,
+  true,
+  false,
+  ◌&&◌,
+  not,
+  nat_le,
+  Option,
+  Some,
+  None,
+  if◌then◌else◌,
+}
 use Rattle.std.specs.Option.{option_and_then}
 use Rattle.std.specs.BTreeSet.{BTreeSet}
 use Rattle.std.specs.FinMap as map
@@ -28,6 +41,7 @@ use Rattle.tk_ledger.specs.declared.status.State.TheVariants as state
 use Rattle.tk_ledger.specs.declared.status.Status.{Status}
 use Rattle.tk_ledger.specs.declared.status.Status.TheVariants.{Broken, Known}
 
+-- the code of a top, if there is one
 abbrev pub code_in_top : Top → Option Dot
 code_in_top top.Absent = None
 code_in_top top.Broken = None
@@ -38,20 +52,20 @@ code_in_top (top.Dead c) = Some c
 abbrev pub root_by : Bodies → Option Dot → Option Root
 root_by body_at code = option_and_then (root_of body_at) code
 
--- the client of the root revoked the token that was minted so
+-- the client of the root revoked the token that was minted, by the table
 abbrev pub ended_in : BTreeSet Revocation → TokenId → Option MintedFields → Option Root → Bool
 ended_in t k None root = false
 ended_in t k (Some minted) None = false
 ended_in t k (Some minted) (Some root) = is_listed_revoked t k minted.digest root.issued.client
 
--- the code that the dot is under, if any, and whether its family is dead
+-- the top of the dot has the code that the dot is under, and whether that code's family is dead
 abbrev pub TopSays : FactSet → Dot → Top → Type 0
 TopSays F d top.Absent = code_in (map.get F) d ≡ None
 TopSays F d top.Broken = code_in (map.get F) d ≡ None
 TopSays F d (top.Code c) = (code_in (map.get F) d ≡ Some c) × (is_dead F c ≡ false)
 TopSays F d (top.Dead c) = (code_in (map.get F) d ≡ Some c) × (is_dead F c ≡ true)
 
--- the first state that holds of a token under the code, as `state_in` has them
+-- the first state that holds of a token under the code. `dead` is whether the code's family is dead
 abbrev pub state_by : Bool → FactSet → ℕ → TokenId → MintedFields → issued.CodeIssued → State
 state_by dead F now k minted code =
     if dead then state.Dead
@@ -62,7 +76,7 @@ state_by dead F now k minted code =
     else if is_access k.kind && is_revoked F k minted.digest code.client then state.Ended
     else state.Live
 
--- what is known, with that state
+-- the standing of a token under the root. `dead` is whether the root's family is dead
 abbrev pub standing_by : Bool → FactSet → ℕ → TokenId → Body → MintedFields → Root → StandingFields
 standing_by dead F now k body minted root = record {
   client = root.issued.client;
@@ -76,11 +90,12 @@ standing_by dead F now k body minted root = record {
   state = state_by dead F now k minted root.issued;
 }
 
+-- the status of a token that the body minted, by its root
 abbrev pub by_root : Bool → FactSet → ℕ → TokenId → Body → MintedFields → Option Root → Status
 by_root dead F now k body minted None = Broken minted.expiry
 by_root dead F now k body minted (Some root) = Known (standing_by dead F now k body minted root)
 
--- the status of a token that the body minted so, by the top of its dot
+-- the status of a token that the body minted, by the top of its dot
 abbrev pub by_top : FactSet → ℕ → TokenId → Body → MintedFields → Top → Status
 by_top F now k body minted top.Absent = Broken minted.expiry
 by_top F now k body minted top.Broken = Broken minted.expiry

@@ -1,6 +1,7 @@
--- What one fact changes in the tables of a ledger (own).
---   change_in               what the fact of a body changes
---   adds, retires_of, gives_to, withdraws_of, revokes_of, reuses_of   what a change does to the tables
+-- The change that one fact makes in the tables of a ledger (own).
+--   change_in     the change that the fact of a body makes
+--   adds, retires_of, gives_to, withdraws_of, revokes_of, reuses_of
+--                 the change adds a client, retires it, and so on
 use Rattle.std.specs.Prelude.{ℕ, Bool, true, false, ◌&&◌, List}
 use Rattle.std.specs.Str.{bytes_eq}
 use Rattle.sha2.specs.Sha256.{sha256}
@@ -8,12 +9,24 @@ use Rattle.tk_handle.specs.declared.dot.Dot.{Dot}
 use Rattle.tk_handle.specs.declared.token_id.TokenId.{TokenId}
 use Rattle.tk_family.specs.declared.link.Link.TheVariants as link
 use Rattle.tk_fact.specs.declared.body.Body.{Body}
-use Rattle.tk_fact.specs.declared.body.Body.TheVariants.{ClientAdded, ClientRetired, ConsentGiven, ConsentWithdrawn, CodeIssued, CodeRedeemed, RefreshRotated, TokenRevoked, ReuseSeen, SubjectOut}
+use Rattle.tk_fact.specs.declared.body.Body.TheVariants.{
+  ClientAdded,
+  ClientRetired,
+  ConsentGiven,
+  ConsentWithdrawn,
+  CodeIssued,
+  CodeRedeemed,
+  RefreshRotated,
+  TokenRevoked,
+  ReuseSeen,
+  SubjectOut,
+}
 use Rattle.tk_ledger.specs.Bodies.{is_same_dot, is_same_token}
 use Rattle.tk_ledger.specs.declared.change.Change.{Change}
 use Rattle.tk_ledger.specs.declared.change.Change.TheVariants as change
 
--- a consent is found by its client and the digest of its subject, a code and a sign-out by that digest
+-- the change that the fact of a body makes. The key of a consent has its client and the digest of
+-- its subject, the key of a code or sign-out that digest
 abbrev pub change_in : Body → Change
 change_in (ClientAdded f) = change.Add
 change_in (ClientRetired f) = change.Retire f.client
@@ -26,32 +39,33 @@ change_in (TokenRevoked f) = change.Revoke f
 change_in (ReuseSeen f) = change.Mark f.token
 change_in (SubjectOut f) = change.SignOut (sha256 f.subject) f.moment
 
--- a client is added
+-- the change adds a client
 abbrev pub adds : Change → Bool
 adds change.Add = true
 adds other = false
 
--- the client is retired
+-- the change retires the client
 abbrev pub retires_of : Dot → Change → Bool
 retires_of q (change.Retire d) = is_same_dot d q
 retires_of q other = false
 
--- a subject of the digest gives the client a consent
+-- the change gives the client a consent, by a subject with the digest
 abbrev pub gives_to : Dot → List ℕ → Change → Bool
 gives_to client subject (change.Give c s) = is_same_dot c client && bytes_eq s subject
 gives_to client subject other = false
 
--- the consent is withdrawn
+-- the change withdraws the consent
 abbrev pub withdraws_of : Dot → Change → Bool
 withdraws_of q (change.Withdraw d) = is_same_dot d q
 withdraws_of q other = false
 
--- the client revokes the token of the digest
+-- the change is that the client revokes the token with the digest
 abbrev pub revokes_of : TokenId → List ℕ → Dot → Change → Bool
-revokes_of k digest client (change.Revoke f) = is_same_token f.token k && (bytes_eq f.digest digest && is_same_dot f.client client)
+revokes_of k digest client (change.Revoke f) =
+    is_same_token f.token k && (bytes_eq f.digest digest && is_same_dot f.client client)
 revokes_of k digest client other = false
 
--- a reuse of the token was seen
+-- the change is that the token's reuse was seen
 abbrev pub reuses_of : TokenId → Change → Bool
 reuses_of k (change.Mark j) = is_same_token j k
 reuses_of k other = false

@@ -1,16 +1,36 @@
--- The tables of a ledger beside its facts (own): what they answer is what the set of facts says.
---   row_added, row_retired                        what a client's row says
---   consent_cmp, consent_key, revocation_cmp, revocation_key   the keys of consents and revocations, and their orders
---   IsClients, IsConsents, IsWithdrawals, IsRevocations        each table answers as the set does
---   code_cmp, code_key, out_cmp, out_key          the keys of codes and sign-outs, and their orders
---   codes_of, outs_of                             the keys of one subject
---   dots_of                                       the dots of codes
---   IsCodes, IsOuts                               each code and each sign-out has its key
---   tells_of                                      the sign-out of a key is this subject's
---   IsTied                                        a forest's links and marks are those of the set
---   woken, any_woken                              a refresh token whose client revoked it, or a code whose subject signed out
---   IsIndexed                                     all of these
-use Rattle.std.specs.Prelude.{map as map_list, ◌≡◌, ◌≤◌, ◌-◌, ℕ, Bool, true, false, ◌&&◌, ◌||◌, ◌==◌, List, Option, Some, None, is_some}
+-- The tables of a ledger beside its facts (own), which return what the set of facts determines.
+--   row_added, row_retired             a client's row is that of an added, or a retired, client
+--   consent_cmp, consent_key           the keys of consents, and their order
+--   revocation_cmp, revocation_key     the keys of revocations, and their order
+--   IsClients, IsConsents, IsWithdrawals, IsRevocations
+--                                      each table has what the set has
+--   code_cmp, code_key                 the keys of codes, and their order
+--   out_cmp, out_key                   the keys of sign-outs, and their order
+--   codes_of, outs_of                  the keys of one subject
+--   dots_of                            the dots of codes
+--   IsCodes, IsOuts                    the tables of codes and of sign-outs have what the set has
+--   tells_of                           the sign-out of a key is one of the subject
+--   IsTied                             a forest's links and marks are those of the set
+--   woken, any_woken                   a token that a revocation or a sign-out stops
+--   IsIndexed                          all tables, and the forest, are those of the set
+use Rattle.std.specs.Prelude.{
+  map as map_list,
+  ◌≡◌,
+  ◌≤◌,
+  ◌-◌,
+  ℕ,
+  Bool,
+  true,
+  false,
+  ◌&&◌,
+  ◌||◌,
+  ◌==◌,
+  List,
+  Option,
+  Some,
+  None,
+  is_some,
+}
 use Rattle.std.specs.List.{list_any}
 use Rattle.std.specs.Ordering.{nat_cmp, ordering_then, eq_by_cmp}
 use Rattle.std.specs.declared.cmp.Ordering.{Ordering}
@@ -48,12 +68,12 @@ use Rattle.tk_ledger.specs.declared.index.Index.{Index}
 
 -- ---- clients
 
--- the row says that the client was added
+-- the row is that of a client that was added
 abbrev pub row_added : Option ClientRow → Bool
 row_added None = false
 row_added (Some row) = row.added
 
--- the row says that it was retired
+-- the row is that of a client that was retired
 abbrev pub row_retired : Option ClientRow → Bool
 row_retired None = false
 row_retired (Some row) = row.retired
@@ -62,115 +82,168 @@ row_retired (Some row) = row.retired
 abbrev pub row_at : BTreeMap Dot ClientRow → Dot → Option ClientRow
 row_at t q = rows.get dot_cmp t q
 
--- two dots are one, by their order
+-- two dots are equal, by their order
 abbrev pub is_at : Dot → Dot → Bool
 is_at d q = eq_by_cmp dot_cmp d q
 
--- rows say which clients were added, and which retired
+-- the rows show which clients were added, and which were retired
 pub record IsClients (F : FactSet) (t : BTreeMap Dot ClientRow) : Type 0 where
   pub added : (q : Dot) → row_added (row_at t q) ≡ is_some (client_at F q)
   pub retired : (q : Dot) → row_retired (row_at t q) ≡ is_retired F q
 
 -- ---- consents
 
--- by client, then by the digest of the subject, then by dot
+-- the order of consents: by client, then by the digest of the subject, then by dot
 abbrev pub consent_cmp : ConsentKey → ConsentKey → Ordering
-consent_cmp a b = ordering_then (dot_cmp a.client b.client) (ordering_then (slice_cmp nat_cmp a.subject b.subject) (dot_cmp a.consent b.consent))
+consent_cmp a b =
+    ordering_then (dot_cmp a.client b.client) (ordering_then (slice_cmp nat_cmp a.subject b.subject)
+    (dot_cmp a.consent b.consent))
 
+-- the key of a consent
 abbrev pub consent_key : Dot → List ℕ → Dot → ConsentKey
 consent_key client subject d = record { client = client; subject = subject; consent = d }
 
--- the first dot of all, and the last
+-- the least dot
 abbrev pub least_dot : Dot
 least_dot = record { region = 1; serial = 1 }
 
+-- the greatest dot
 abbrev pub greatest_dot : Dot
 greatest_dot = record { region = greatest_region; serial = greatest_serial }
 
--- the consent was given to the client, by a subject of the digest
+-- the consent was given to the client, by a subject with the digest
 abbrev pub is_from : Dot → List ℕ → Option given.ConsentGiven → Bool
 is_from client subject None = false
-is_from client subject (Some consent) = is_same_dot consent.client client && bytes_eq (sha256 consent.subject) subject
+is_from client subject (Some consent) =
+    is_same_dot consent.client client && bytes_eq (sha256 consent.subject) subject
 
--- the table has the consent under client and digest
+-- the table has the consent under the client and the digest
 abbrev pub is_listed : BTreeSet ConsentKey → Dot → List ℕ → Dot → Bool
 is_listed t client subject d = keys.contains consent_cmp t (consent_key client subject d)
 
--- the keys of the consents that a subject of the digest gave the client
+-- the keys of the consents that a subject with the digest gave the client
 abbrev pub span_of : BTreeSet ConsentKey → Dot → List ℕ → List ConsentKey
-span_of t client subject = keys.keys_between consent_cmp (Included (consent_key client subject least_dot)) (Included (consent_key client subject greatest_dot)) t
+span_of t client subject =
+    keys.keys_between consent_cmp (Included (consent_key client subject least_dot))
+    (Included (consent_key client subject greatest_dot)) t
 
--- each consent that was given is listed, and no other
+-- the table has each consent that was given, and no other
 pub record IsConsents (F : FactSet) (t : BTreeSet ConsentKey) : Type 0 where
-  pub listed : (client : Dot) (subject : List ℕ) (d : Dot) → is_listed t client subject d ≡ is_from client subject (consent_at F d)
-  pub ranged : (client : Dot) (subject : List ℕ) (d : Dot) → is_listed t client subject d ≡ true → IsDot d
+  pub listed : (client : Dot) (subject : List ℕ) (d : Dot)
+      → is_listed t client subject d ≡ is_from client subject (consent_at F d)
+  pub ranged : (client : Dot) (subject : List ℕ) (d : Dot) → is_listed t client subject d ≡ true
+      → IsDot d
 
--- each consent that was withdrawn is there, and no other
+-- the table has each consent that was withdrawn, and no other
 abbrev pub IsWithdrawals : FactSet → BTreeSet Dot → Type 0
 IsWithdrawals F t = (q : Dot) → keys.contains dot_cmp t q ≡ is_withdrawn F q
 
 -- ---- revocations
 
--- by token, then by its digest, then by the client
+-- the order of revocations: by token, then by its digest, then by the client
 abbrev pub revocation_cmp : Revocation → Revocation → Ordering
-revocation_cmp a b = ordering_then (dot_cmp a.dot b.dot) (ordering_then (nat_cmp a.kind b.kind) (ordering_then (slice_cmp nat_cmp a.digest b.digest) (dot_cmp a.client b.client)))
+revocation_cmp a b =
+    ordering_then (dot_cmp a.dot b.dot)
+    (ordering_then (nat_cmp a.kind b.kind) (ordering_then (slice_cmp nat_cmp a.digest b.digest)
+    (dot_cmp a.client b.client)))
 
+-- the key of a revocation
 abbrev pub revocation_key : TokenId → List ℕ → Dot → Revocation
-revocation_key k digest client = record { dot = k.dot; kind = kind_number k.kind; digest = digest; client = client }
+revocation_key k digest client =
+    record { dot = k.dot; kind = kind_number k.kind; digest = digest; client = client }
 
--- the table says that the client revoked the token of the digest
+-- the table has that the client revoked the token with the digest
 abbrev pub is_listed_revoked : BTreeSet Revocation → TokenId → List ℕ → Dot → Bool
-is_listed_revoked t k digest client = keys.contains revocation_cmp t (revocation_key k digest client)
+is_listed_revoked t k digest client =
+    keys.contains revocation_cmp t (revocation_key k digest client)
 
--- each revocation is there, and no other
+-- the table has each revocation, and no other
 abbrev pub IsRevocations : FactSet → BTreeSet Revocation → Type 0
-IsRevocations F t = (k : TokenId) (digest : List ℕ) (client : Dot) → is_listed_revoked t k digest client ≡ is_revoked F k digest client
+IsRevocations F t = (k : TokenId) (digest : List ℕ) (client : Dot)
+    → is_listed_revoked t k digest client ≡ is_revoked F k digest client
 
 -- ---- codes and sign-outs
 
--- by the digest of the subject, then by dot
+-- the order of codes: by the digest of the subject, then by dot
 abbrev pub code_cmp : CodeKey → CodeKey → Ordering
 code_cmp a b = ordering_then (slice_cmp nat_cmp a.subject b.subject) (dot_cmp a.code b.code)
 
+-- the key of a code
 abbrev pub code_key : List ℕ → Dot → CodeKey
 code_key subject d = record { subject = subject; code = d }
 
--- the keys of the codes of a subject of the digest
+-- the keys of the codes of a subject with the digest
 abbrev pub codes_of : BTreeSet CodeKey → List ℕ → List CodeKey
-codes_of t subject = keys.keys_between code_cmp (Included (code_key subject least_dot)) (Included (code_key subject greatest_dot)) t
+codes_of t subject =
+    keys.keys_between code_cmp (Included (code_key subject least_dot))
+    (Included (code_key subject greatest_dot)) t
 
--- by the digest of the subject, then by what is left of all time after the moment, so that the last comes first, then by dot
+-- the order of sign-outs: by the digest of the subject, then by the seconds left after the moment,
+-- then by dot. The last sign-out of a subject is first
 abbrev pub out_cmp : OutKey → OutKey → Ordering
-out_cmp a b = ordering_then (slice_cmp nat_cmp a.subject b.subject) (ordering_then (nat_cmp a.left b.left) (dot_cmp a.place b.place))
+out_cmp a b =
+    ordering_then (slice_cmp nat_cmp a.subject b.subject)
+    (ordering_then (nat_cmp a.left b.left) (dot_cmp a.place b.place))
 
--- what is left of all time after a moment, in seconds
+-- the seconds from the moment to the greatest moment
 abbrev pub left_after : ℕ → ℕ
 left_after moment = greatest_moment - moment
 
+-- the key of a sign-out
 abbrev pub out_key : List ℕ → ℕ → Dot → OutKey
 out_key subject left d = record { subject = subject; left = left; place = d }
 
--- the keys of the sign-outs of a subject of the digest
+-- the keys of the sign-outs of a subject with the digest
 abbrev pub outs_of : BTreeSet OutKey → List ℕ → List OutKey
-outs_of t subject = keys.keys_between out_cmp (Included (out_key subject 0 least_dot)) (Included (out_key subject greatest_moment greatest_dot)) t
+outs_of t subject =
+    keys.keys_between out_cmp (Included (out_key subject 0 least_dot))
+    (Included (out_key subject greatest_moment greatest_dot)) t
 
--- the dots of these codes
+-- the dots of the codes
 abbrev pub dots_of : List CodeKey → List Dot
 dots_of ks = map_list (λ k. k.code) ks
 
--- each code that is held has its key, and stands at a dot; a key without its code says nothing
-abbrev pub IsCodes : FactSet → BTreeSet CodeKey → Type 0
-IsCodes F t = (d : Dot) (code : issued.CodeIssued) → issued_at (map.get F) d ≡ Some code → (keys.contains code_cmp t (code_key (sha256 code.subject) d) ≡ true) × IsDot d
+-- the code was issued to a subject with the digest
+abbrev pub is_to : List ℕ → Option issued.CodeIssued → Bool
+is_to subject None = false
+is_to subject (Some code) = bytes_eq (sha256 code.subject) subject
 
--- so has each sign-out
-abbrev pub IsOuts : FactSet → BTreeSet OutKey → Type 0
-IsOuts F t = (d : Dot) (f : out.SubjectOut) → sign_out_at (map.get F) d ≡ Some f → (keys.contains out_cmp t (out_key (sha256 f.subject) (left_after f.moment) d) ≡ true) × IsDot d × (f.moment ≤ greatest_moment)
+-- the table has the code of the dot under the digest
+-- the table has the code of the dot under the digest
+abbrev pub is_listed_code : BTreeSet CodeKey → List ℕ → Dot → Bool
+is_listed_code t subject d = keys.contains code_cmp t (code_key subject d)
 
+-- the table has each code that was issued, under the digest of its subject, and no other
+pub record IsCodes (F : FactSet) (t : BTreeSet CodeKey) : Type 0 where
+  pub listed : (subject : List ℕ) (d : Dot)
+      → is_listed_code t subject d ≡ is_to subject (issued_at (map.get F) d)
+  pub ranged : (subject : List ℕ) (d : Dot) → is_listed_code t subject d ≡ true → IsDot d
+
+-- a subject with the digest signed out, with `left` seconds left after the moment
+abbrev pub is_left_by : List ℕ → ℕ → Option out.SubjectOut → Bool
+is_left_by subject left None = false
+is_left_by subject left (Some f) =
+    bytes_eq (sha256 f.subject) subject && (left_after f.moment == left)
+
+-- the table has the sign-out of the dot under the digest and the seconds left
+abbrev pub is_listed_out : BTreeSet OutKey → List ℕ → ℕ → Dot → Bool
+is_listed_out t subject left d = keys.contains out_cmp t (out_key subject left d)
+
+-- the table has each sign-out, under the digest of its subject and its moment, and no other
+pub record IsOuts (F : FactSet) (t : BTreeSet OutKey) : Type 0 where
+  pub listed : (subject : List ℕ) (left : ℕ) (d : Dot)
+      → is_listed_out t subject left d ≡ is_left_by subject left (sign_out_at (map.get F) d)
+  pub ranged : (subject : List ℕ) (left : ℕ) (d : Dot) → is_listed_out t subject left d ≡ true
+      → IsDot d
+  pub early : (d : Dot) (f : out.SubjectOut) → sign_out_at (map.get F) d ≡ Some f
+      → f.moment ≤ greatest_moment
+
+-- the sign-out, if there is one, is by the subject, with `left` seconds left after its moment
 abbrev pub tells_by : List ℕ → ℕ → Option out.SubjectOut → Bool
 tells_by subject left None = false
 tells_by subject left (Some f) = bytes_eq f.subject subject && left_after f.moment == left
 
--- at the key's dot this subject signed out, at the key's moment
+-- the sign-out at the key's dot is one of the subject, at the key's moment
 abbrev pub tells_of : FactSet → List ℕ → OutKey → Bool
 tells_of F subject k = tells_by subject k.left (sign_out_at (map.get F) k.place)
 
@@ -181,9 +254,11 @@ pub record IsTied (F : FactSet) (x : ForestFacts) : Type 0 where
   pub links : (q : Dot) → map.get x.links q ≡ links_in (map.get F) q
   pub marks : (k : TokenId) → set.contains x.marks k ≡ is_marked F k
 
+-- the refresh token of the dot
 abbrev pub refresh_at : Dot → TokenId
 refresh_at d = record { dot = d; kind = kind.Refresh }
 
+-- the code of the dot
 abbrev pub code_at : Dot → TokenId
 code_at d = record { dot = d; kind = kind.Code }
 
@@ -191,15 +266,15 @@ code_at d = record { dot = d; kind = kind.Code }
 abbrev pub wakes_refresh : FactSet → TokenId → Dot → Bool
 wakes_refresh F k d = is_same_token (refresh_at d) k && is_ended F (refresh_at d)
 
--- it is the code of the dot, and its subject signed out
+-- the token is the code of the dot, and its subject signed out
 abbrev pub wakes_code : FactSet → TokenId → Dot → Bool
 wakes_code F k d = is_same_token (code_at d) k && is_out F d
 
--- either of them
+-- the token is at the dot, and a revocation or a sign-out stops it
 abbrev pub woken : FactSet → TokenId → Dot → Bool
 woken F k d = wakes_refresh F k d || wakes_code F k d
 
--- it is one of the dots
+-- the token is at one of the dots, and a revocation or a sign-out stops it
 abbrev pub any_woken : FactSet → TokenId → List Dot → Bool
 any_woken F k ds = list_any (woken F k) ds
 

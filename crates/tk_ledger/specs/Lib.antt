@@ -1,16 +1,18 @@
--- The words of this crate:
---   Bodies           what stands at each dot, and the tests that dots and tokens are the same
---   Clients          clients and consents of a fact set
---   Views            what the ledger shows of them; ViewFields, what contracts see
---   SignOuts         who signed out everywhere, and when
---   Tokens           what is minted, used, revoked and stopped, and which families are dead
---   Status           the status of a handle at a moment; StandingFields, what contracts see
---   Standings        what holds of every standing
---   Ends             what ends a whole family
---   Laws             what holds of all sets of facts
---   Changes          what one fact changes in the tables
---   Index            the tables beside the facts, which answer as the set does
---   ByTop            where a token stands, by what a forest's top says
+-- The definitions of this crate, by file:
+--   Bodies           Bodies, the body at each dot; equality of dots and tokens
+--   Clients          clients and consents of a fact set; consent_for
+--   Views            client_view, consent_view, the views of clients and consents
+--   ViewFields       ClientFields, ConsentFields, what contracts see of the views
+--   SignOuts         is_signed_out, who signed out everywhere, and when
+--   Tokens           what is minted, used, revoked and stopped; is_dead, the dead families
+--   Status           status_in, the status of a handle at a moment; IsActive
+--   StandingFields   StandingFields, what contracts see of a standing
+--   Standings        IsSound, what holds of every standing
+--   Ends             FamilyEnds, the end of a whole family
+--   Laws             the laws, which hold of all sets of facts
+--   Changes          change_in, the change that one fact makes in the tables
+--   Index            IsIndexed, the tables beside the facts
+--   ByTop            by_top, the status of a token by the top of its dot
 pub mod Bodies
 pub mod ByTop
 pub mod Changes

@@ -1,4 +1,5 @@
--- What contracts see of a standing.
+-- What contracts see of a standing (own).
+--   StandingFields   what is known of a token under a code
 use Rattle.std.specs.Prelude.{ℕ, List}
 use Rattle.tk_handle.specs.declared.dot.Dot.{Dot}
 use Rattle.tk_ledger.specs.declared.status.State.{State}

@@ -1,5 +1,6 @@
 -- What holds of every standing, whatever the facts (own).
---   IsSound   its subject is one; where its token is live, the family goes on
+--   IsSoundStanding   the subject's name is one; the family of a live token has not ended
+--   IsSound           the standing of a status, if it has one, is sound
 use Rattle.std.specs.Prelude.{◌≡◌, ◌<◌, ℕ, true}
 use Rattle.tk_fact.specs.Subject.{is_subject}
 use Rattle.tk_ledger.specs.declared.status.State.TheVariants as state
@@ -7,11 +8,11 @@ use Rattle.tk_ledger.specs.declared.status.Status.{Status}
 use Rattle.tk_ledger.specs.declared.status.Status.TheVariants.{Unseen, Wrong, Broken, Known}
 use Rattle.tk_ledger.specs.StandingFields.{StandingFields}
 
--- the subject keeps the rules of subjects, and the family of a live token ends after the moment
+-- the subject keeps the rules of names, and the family of a live token ends after the moment
 abbrev pub IsSoundStanding : ℕ → StandingFields → Type 0
 IsSoundStanding now s = (is_subject s.subject ≡ true) × (s.state ≡ state.Live → now < s.family_end)
 
--- so it is where the status is known
+-- the standing of the status, if it has one, is sound
 abbrev pub IsSound : ℕ → Status → Type 0
 IsSound now Unseen = Unit {0}
 IsSound now Wrong = Unit {0}

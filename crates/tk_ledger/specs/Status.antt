@@ -1,13 +1,29 @@
 -- The status of a handle at a moment (RFC 7662, 2.2, and own).
 --   state_in          the state of a token under a code: the first that holds
---   standing_in       what is known of such a token
+--   standing_in       the standing of a token under a code
 --   status_in         the status of a handle: a function of the set, the moment and the handle
---   IsMintedToken     the fact at the token's dot minted it, with the handle's digest
---   IsKnownToken      it is minted so, and under some code
---   Says              what each status says of a handle
---   IsActive          the token of an access or refresh handle serves
+--   IsMintedToken     the fact at the token's dot minted the token, with the handle's digest
+--   IsKnownToken      the token is minted with the handle's digest, and is under a code
+--   Says              what each status means for a handle
+--   IsActive          the token of an access or refresh handle is active
 --   IsKnown, IsLive   a status is known, and its state is Live
-use Rattle.std.specs.Prelude.{◌≡◌, ◌≢◌, ◌<◌, ℕ, Bool, true, false, ◌&&◌, not, nat_le, List, Option, Some, None, if◌then◌else◌}
+use Rattle.std.specs.Prelude.{
+  ◌≡◌,
+  ◌≢◌,
+  ◌<◌,
+  ℕ,
+  Bool,
+  true,
+  false,
+  ◌&&◌,
+  not,
+  nat_le,
+  List,
+  Option,
+  Some,
+  None,
+  if◌then◌else◌,
+}
 use Rattle.std.specs.Str.{bytes_eq}
 use Rattle.std.specs.FinMap as map
 use Rattle.sha2.specs.Sha256.{sha256}
@@ -26,35 +42,50 @@ use Rattle.tk_store.specs.FactSet.{FactSet}
 use Rattle.tk_ledger.specs.Bodies.{Bodies}
 use Rattle.tk_ledger.specs.Clients.{IsLiveClient, IsLiveConsent, is_live_client, is_live_consent}
 use Rattle.tk_ledger.specs.StandingFields.{StandingFields}
-use Rattle.tk_ledger.specs.Tokens.{Root, root_in, minted_in, links_in, issued_at, is_dead, is_used, is_ended, IsEnded, IsMarked}
+use Rattle.tk_ledger.specs.Tokens.{
+  Root,
+  root_in,
+  minted_in,
+  links_in,
+  issued_at,
+  is_dead,
+  is_used,
+  is_ended,
+  IsEnded,
+  IsMarked,
+}
 use Rattle.tk_ledger.specs.declared.status.State.{State}
 use Rattle.tk_ledger.specs.declared.status.State.TheVariants as state
 use Rattle.tk_ledger.specs.declared.status.Status.{Status}
 use Rattle.tk_ledger.specs.declared.status.Status.TheVariants.{Unseen, Wrong, Broken, Known}
 
+-- the kind is that of access tokens
 abbrev pub is_access : Kind → Bool
 is_access kind.Code = false
 is_access kind.Access = true
 is_access kind.Refresh = false
 
--- the first that holds (own): the family is dead; its client or consent isn't live; the family is over; a fact uses the code
--- or refresh token; the token is over; its client revoked the access token; or none of these
+-- the first state that holds (own): the family is dead; its client or consent is not live; the
+-- family is over; a fact uses the code or refresh token; the token is past; its client revoked the
+-- access token; or none of these
 abbrev pub state_in : FactSet → ℕ → TokenId → MintedFields → Root → State
 state_in F now k minted root =
     if is_dead F root.code then state.Dead
-    else if not (is_live_client F root.issued.client && is_live_consent F root.issued) then state.Withdrawn
+    else if not (is_live_client F root.issued.client && is_live_consent F root.issued)
+    then state.Withdrawn
     else if nat_le root.issued.family_end now then state.Over
     else if not (is_access k.kind) && is_used F k then state.Used
     else if nat_le minted.expiry now then state.Past
     else if is_access k.kind && is_ended F k then state.Ended
     else state.Live
 
--- how many rotations lie between the code and the tokens of the fact
+-- the generation of the fact's tokens: the number of rotations from the code to them
 abbrev pub generation_of : Body → ℕ
 generation_of (RefreshRotated f) = f.generation
 generation_of body = 0
 
--- client, subject and the family's end are the code's; scope, start, end and generation those of the minting fact
+-- the standing of a token. Client, subject and the family's end are the code's; scope, start,
+-- expiry and generation are those of the fact that minted the token
 abbrev pub standing_in : FactSet → ℕ → TokenId → Body → MintedFields → Root → StandingFields
 standing_in F now k body minted root = record {
   client = root.issued.client;
@@ -68,54 +99,61 @@ standing_in F now k body minted root = record {
   state = state_in F now k minted root;
 }
 
--- what facts keep of a handle
+-- the digest that facts keep of a handle
 abbrev pub digest_of : Handle → List ℕ
 digest_of h = sha256 (handle_bytes h)
 
+-- the minted token, if there is one and it has the digest
 abbrev pub with_digest : List ℕ → Option MintedFields → Option MintedFields
 with_digest digest None = None
 with_digest digest (Some minted) = if bytes_eq minted.digest digest then Some minted else None
 
--- what the fact at the handle's dot says of its token, where it minted one of that kind and digest
+-- what the fact at the handle's dot mints of the handle's kind, if that has the handle's digest
 abbrev pub minted_as : Bodies → Handle → Option MintedFields
 minted_as body_at h = with_digest (digest_of h) (minted_in body_at h.id)
 
--- the first that holds, of the fact at the token's dot, what it minted, and the root of this
-abbrev pub status_by : FactSet → ℕ → TokenId → Option Body → Option MintedFields → Option Root → Status
--- no fact stands there
+-- the status by the fact at the token's dot, what that fact minted, and the root of its family
+abbrev pub status_by : FactSet → ℕ → TokenId → Option Body → Option MintedFields → Option Root
+    → Status
+-- no fact is at the token's dot
 status_by F now k None minted root = Unseen
--- it minted no token of that kind and digest
+-- the fact minted no token of the handle's kind and digest
 status_by F now k (Some body) None root = Wrong
--- no chain of parents leads from it to a code
+-- no chain of parents leads from the token to a code
 status_by F now k (Some body) (Some minted) None = Broken minted.expiry
--- all is there
-status_by F now k (Some body) (Some minted) (Some root) = Known (standing_in F now k body minted root)
+-- the token is minted and under a code
+status_by F now k (Some body) (Some minted) (Some root) =
+    Known (standing_in F now k body minted root)
 
 -- the status of a handle
 abbrev pub status_in : FactSet → ℕ → Handle → Status
-status_in F now h = status_by F now h.id (map.get F h.id.dot) (minted_as (map.get F) h) (root_in (map.get F) h.id.dot)
+status_in F now h =
+    status_by F now h.id (map.get F h.id.dot) (minted_as (map.get F) h)
+    (root_in (map.get F) h.id.dot)
 
--- ---- what a status says
+-- ---- what a status means
 
--- the token of the handle was minted: the fact at its dot mints its kind, with the handle's digest (own)
+-- the token of the handle was minted: the fact at its dot mints its kind, with the handle's digest
+-- (own)
 pub record IsMintedToken (body_at : Bodies) (h : Handle) : Type 0 where
   pub minted : MintedFields
   pub mints : minted_in body_at h.id ≡ Some minted
   pub digest : minted.digest ≡ digest_of h
 
--- it was minted, and is under some code (own)
+-- the token of the handle was minted, and is under a code (own)
 abbrev pub IsKnownToken : Bodies → Handle → Type 0
 IsKnownToken body_at h = IsMintedToken body_at h × IsInFamily (links_in body_at) h.id.dot
 
--- what each of the four says of a handle; no two of the four hold together (own)
+-- what each of the four statuses means for a handle. No two of them hold together (own)
 abbrev pub Says : Bodies → Handle → Status → Type 0
--- no fact stands at the token's dot
+-- no fact is at the token's dot
 Says body_at h Unseen = body_at h.id.dot ≡ None
--- one does, and it didn't mint the token
+-- a fact is at the token's dot, and did not mint the token
 Says body_at h Wrong = (body_at h.id.dot ≢ None) × ¬ IsMintedToken body_at h
--- the token was minted, with this end, and is under no code
-Says body_at h (Broken expiry) = ((t : IsMintedToken body_at h) × (expiry ≡ t.minted.expiry)) × ¬ IsInFamily (links_in body_at) h.id.dot
--- it was minted, and is under a code
+-- the token was minted, with the expiry, and is under no code
+Says body_at h (Broken expiry) = ((t : IsMintedToken body_at h) × (expiry ≡ t.minted.expiry))
+    × ¬ IsInFamily (links_in body_at) h.id.dot
+-- the token was minted, and is under a code
 Says body_at h (Known standing) = IsKnownToken body_at h
 
 -- the status is known
@@ -127,8 +165,9 @@ IsKnown (Known standing) = Unit {0}
 
 -- ---- active tokens
 
--- the token of an access or refresh handle serves at the moment (RFC 7662, 2.2): it was minted with the handle's digest; it isn't over,
--- nor its family; its client and consent are live; the family isn't dead; an access token isn't revoked, a refresh token isn't used
+-- the token of an access or refresh handle is active at the moment (RFC 7662, 2.2): minted with the
+-- handle's digest, not past, of a family that is neither over nor dead, whose client and consent
+-- are live. An access token is not revoked, a refresh token not used
 pub record IsActive (body_at : Bodies) (now : ℕ) (h : Handle) : Type 0 where
   pub minted : MintedFields
   pub code : Dot

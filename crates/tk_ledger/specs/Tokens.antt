@@ -1,19 +1,35 @@
--- Tokens of a fact set: what is minted, used and revoked, and which families are dead.
--- Relations speak of what stands at each dot. Tests are functions of the set, each cited by the function that computes it.
---   link_of, links_in       what a fact does in a family
+-- Tokens of a fact set: what is minted, used and revoked, and which families are dead. Relations
+-- are about the body at each dot. Tests are functions of the set, cited by the functions that
+-- compute them.
+--   link_of, links_in       the link of a fact in a family
 --   code_in, issued_at      the code that a token is under, and the fact that issued it
---   Root, root_in           both of them
---   minted_in               what the fact at a token's dot says of it
+--   Root, root_in           the root of a family: its code, and the fact that issued it
+--   minted_in               what the fact at a token's dot mints of the token's kind
 --   is_used, is_twice       one fact, or two, use a code or refresh token
---   IsRevoked, is_revoked   a client revoked the token of a digest
+--   IsRevoked, is_revoked   a client revoked the token with a digest
 --   IsEnded, is_ended       the client of its code revoked a token
---   IsReused, is_reused     a reuse of a token was seen
+--   IsReused, is_reused     the reuse of a token was seen
 --   IsOut, is_out           the subject of a code signed out
---   IsStopped, is_stopped   the tokens that a revocation or a sign-out stops
---   IsMarked, is_marked     these, and those that a reuse was seen of
---   is_bad, is_dead         bad grants, and the dead families that they make
--- What is used, used twice, bad and dead is said in tk_family, of the links and marks of the set: `links_in`, `IsMarked`.
-use Rattle.std.specs.Prelude.{◌≡◌, ◌⊎◌, ℕ, Bool, true, false, ◌&&◌, ◌||◌, not, List, Option, Some, None}
+--   IsStopped, is_stopped   a revocation or a sign-out stops a token
+--   IsMarked, is_marked     a token is stopped, or its reuse was seen
+--   is_bad, is_dead         bad grants, and dead families
+-- tk_family defines used, used twice, bad and dead by links and marks: here those of the set,
+-- `links_in` and `IsMarked`.
+use Rattle.std.specs.Prelude.{
+  ◌≡◌,
+  ◌⊎◌,
+  ℕ,
+  Bool,
+  true,
+  false,
+  ◌&&◌,
+  ◌||◌,
+  not,
+  List,
+  Option,
+  Some,
+  None,
+}
 use Rattle.std.specs.Option.{option_and_then, option_map}
 use Rattle.std.specs.Str.{bytes_eq}
 use Rattle.std.specs.FinMap as map
@@ -26,7 +42,13 @@ use Rattle.tk_family.specs.declared.link.Link.TheVariants.{Code, Redeems, Rotate
 use Rattle.tk_family.specs.Families.{Links, IsUnder, use_of, grant_at}
 use Rattle.tk_family.specs.Walks.{code_of}
 use Rattle.tk_fact.specs.declared.body.Body.{Body}
-use Rattle.tk_fact.specs.declared.body.Body.TheVariants.{CodeIssued, CodeRedeemed, RefreshRotated, TokenRevoked, ReuseSeen}
+use Rattle.tk_fact.specs.declared.body.Body.TheVariants.{
+  CodeIssued,
+  CodeRedeemed,
+  RefreshRotated,
+  TokenRevoked,
+  ReuseSeen,
+}
 use Rattle.tk_fact.specs.declared.code_issued.CodeIssued as issued
 use Rattle.tk_fact.specs.declared.token_revoked.TokenRevoked as revoked
 use Rattle.tk_fact.specs.declared.reuse_seen.ReuseSeen as seen
@@ -37,7 +59,8 @@ use Rattle.tk_ledger.specs.SignOuts.{IsSignedOut, is_signed_out}
 
 -- ---- links, and the code that a token is under
 
--- what a fact does in a family: it mints a code, redeems one, or rotates a refresh token (RFC 6749, 4.1 and 6)
+-- the link of a fact in a family: it issues a code, redeems one, or rotates a refresh token (RFC
+-- 6749, 4.1 and 6)
 abbrev pub link_of : Body → Option Link
 link_of (CodeIssued f) = Some Code
 link_of (CodeRedeemed f) = Some (Redeems f.code)
@@ -52,6 +75,7 @@ links_in body_at d = option_and_then link_of (body_at d)
 abbrev pub code_in : Bodies → Dot → Option Dot
 code_in body_at d = code_of (links_in body_at) d
 
+-- the code that the body issues, if it issues one
 abbrev pub issued_in : Body → Option issued.CodeIssued
 issued_in (CodeIssued f) = Some f
 issued_in body = None
@@ -66,10 +90,12 @@ pub record IsOut (body_at : Bodies) (d : Dot) : Type 0 where
   pub issues : issued_at body_at d ≡ Some issued
   pub signed_out : IsSignedOut body_at issued.subject issued.start
 
+-- the subject of the code, if there is one, signed out at its start or later
 abbrev pub is_out_by : FactSet → Option issued.CodeIssued → Bool
 is_out_by F None = false
 is_out_by F (Some code) = is_signed_out F code.subject code.start
 
+-- a code was issued at the dot, and its subject signed out at its start or later: the test
 abbrev pub is_out : FactSet → Dot → Bool
 is_out F d = is_out_by F (issued_at (map.get F) d)
 
@@ -78,7 +104,7 @@ pub record Root : Type 0 where
   pub code : Dot
   pub issued : issued.CodeIssued
 
--- the root that is this code
+-- the root with the code
 abbrev pub root_of : Bodies → Dot → Option Root
 root_of body_at c = option_map (λ f. record { code = c; issued = f }) (issued_at body_at c)
 
@@ -88,7 +114,7 @@ root_in body_at d = option_and_then (root_of body_at) (code_in body_at d)
 
 -- ---- what is minted
 
--- what the fact at the token's dot says of it, where it mints the token's kind (RFC 6749, 4.1.2, 4.1.4 and 6)
+-- what the fact at the token's dot mints of the token's kind (RFC 6749, 4.1.2, 4.1.4 and 6)
 abbrev pub minted_in : Bodies → TokenId → Option MintedFields
 minted_in body_at k = option_and_then (λ b. minted_of b k.kind) (body_at k.dot)
 
@@ -98,13 +124,15 @@ minted_in body_at k = option_and_then (λ b. minted_of b k.kind) (body_at k.dot)
 abbrev pub uses : TokenId → Dot × Body → Bool
 uses k f = names_token (use_of (link_of f.1)) k
 
--- some fact uses the token, whatever its generation
+-- a fact of the set uses the token, whatever its generation
 abbrev pub is_used : FactSet → TokenId → Bool
 is_used F k = any_fact (uses k) F
 
+-- the fact uses the token, and is not at the dot
 abbrev pub uses_elsewhere : TokenId → Dot → Dot × Body → Bool
 uses_elsewhere k d f = not (is_same_dot d f.0) && uses k f
 
+-- the fact uses the token, and so does another
 abbrev pub uses_first : FactSet → TokenId → Dot × Body → Bool
 uses_first F k f = uses k f && any_fact (uses_elsewhere k f.0) F
 
@@ -114,26 +142,32 @@ is_twice F k = any_fact (uses_first F k) F
 
 -- ---- revocations
 
--- a fact says that the client revoked the token of this digest (RFC 7009, 2.1)
-pub record IsRevoked (body_at : Bodies) (k : TokenId) (digest : List ℕ) (client : Dot) : Type 0 where
-  pub place : Dot
-  pub revocation : revoked.TokenRevoked
-  pub held : body_at place ≡ Some (TokenRevoked revocation)
-  pub token : revocation.token ≡ k
-  pub digest_is : revocation.digest ≡ digest
-  pub client_is : revocation.client ≡ client
+-- a fact is that the client revoked the token with the digest (RFC 7009, 2.1)
+pub record IsRevoked (body_at : Bodies) (k : TokenId) (digest : List ℕ) (client : Dot) : Type 0
+  where
+    pub place : Dot
+    pub revocation : revoked.TokenRevoked
+    pub held : body_at place ≡ Some (TokenRevoked revocation)
+    pub token : revocation.token ≡ k
+    pub digest_is : revocation.digest ≡ digest
+    pub client_is : revocation.client ≡ client
 
+-- the body is that the client revoked the token with the digest
 abbrev pub revoked_by : TokenId → List ℕ → Dot → Body → Bool
-revoked_by k digest client (TokenRevoked f) = is_same_token f.token k && (bytes_eq f.digest digest && is_same_dot f.client client)
+revoked_by k digest client (TokenRevoked f) =
+    is_same_token f.token k && (bytes_eq f.digest digest && is_same_dot f.client client)
 revoked_by k digest client body = false
 
+-- the fact is that the client revoked the token with the digest
 abbrev pub revokes : TokenId → List ℕ → Dot → Dot × Body → Bool
 revokes k digest client f = revoked_by k digest client f.1
 
+-- a fact of the set is that the client revoked the token with the digest
 abbrev pub is_revoked : FactSet → TokenId → List ℕ → Dot → Bool
 is_revoked F k digest client = any_fact (revokes k digest client) F
 
--- the client of the code that the token is under revoked it, by its minted digest (RFC 7009, 2.1: its own client alone)
+-- the client of the code that the token is under revoked the token, by its minted digest (RFC 7009,
+-- 2.1: its own client alone)
 pub record IsEnded (body_at : Bodies) (k : TokenId) : Type 0 where
   pub minted : MintedFields
   pub code : Dot
@@ -143,65 +177,80 @@ pub record IsEnded (body_at : Bodies) (k : TokenId) : Type 0 where
   pub issues : issued_at body_at code ≡ Some issued
   pub by_client : IsRevoked body_at k minted.digest issued.client
 
+-- the client of the root revoked the token by its minted digest, if both are there
 abbrev pub is_ended_by : FactSet → TokenId → Option MintedFields → Option Root → Bool
 is_ended_by F k None root = false
 is_ended_by F k (Some minted) None = false
 is_ended_by F k (Some minted) (Some root) = is_revoked F k minted.digest root.issued.client
 
+-- the client of the code that the token is under revoked the token: the test
 abbrev pub is_ended : FactSet → TokenId → Bool
 is_ended F k = is_ended_by F k (minted_in (map.get F) k) (root_in (map.get F) k.dot)
 
 -- ---- marks, bad grants and dead families
 
--- a fact says that a reuse of the token was seen (RFC 6749, 4.1.2, 10.4 and 10.5)
+-- a fact is that the token's reuse was seen (RFC 6749, 4.1.2, 10.4 and 10.5)
 pub record IsReused (body_at : Bodies) (k : TokenId) : Type 0 where
   pub place : Dot
   pub reuse : seen.ReuseSeen
   pub held : body_at place ≡ Some (ReuseSeen reuse)
   pub token : reuse.token ≡ k
 
+-- the body is that the token's reuse was seen
 abbrev pub reuse_of : TokenId → Body → Bool
 reuse_of k (ReuseSeen f) = is_same_token f.token k
 reuse_of k body = false
 
+-- the fact is that the token's reuse was seen
 abbrev pub sees_reuse : TokenId → Dot × Body → Bool
 sees_reuse k f = reuse_of k f.1
 
+-- a fact of the set is that the token's reuse was seen
 abbrev pub is_reused : FactSet → TokenId → Bool
 is_reused F k = any_fact (sees_reuse k) F
 
+-- the kind is that of refresh tokens
 abbrev pub is_refresh : Kind → Bool
 is_refresh kind.Code = false
 is_refresh kind.Access = false
 is_refresh kind.Refresh = true
 
+-- the kind is that of codes
 abbrev pub is_code : Kind → Bool
 is_code kind.Code = true
 is_code kind.Access = false
 is_code kind.Refresh = false
 
--- it is a refresh token that its client revoked (RFC 7009, 2.1), or a code whose subject signed out (own)
+-- the token is a refresh token that its client revoked (RFC 7009, 2.1), or a code whose subject
+-- signed out (own)
 abbrev pub IsStopped : Bodies → TokenId → Type 0
-IsStopped body_at k = ((k.kind ≡ kind.Refresh) × IsEnded body_at k) ⊎ ((k.kind ≡ kind.Code) × IsOut body_at k.dot)
+IsStopped body_at k =
+    ((k.kind ≡ kind.Refresh) × IsEnded body_at k) ⊎ ((k.kind ≡ kind.Code) × IsOut body_at k.dot)
 
+-- the token is a refresh token that its client revoked, or a code whose subject signed out: the
+-- test
 abbrev pub is_stopped : FactSet → TokenId → Bool
 is_stopped F k = (is_refresh k.kind && is_ended F k) || (is_code k.kind && is_out F k.dot)
 
--- a reuse of the token was seen (RFC 6749, 10.4 and 10.5), or it was stopped
+-- the token's reuse was seen (RFC 6749, 10.4 and 10.5), or the token is stopped
 abbrev pub IsMarked : Bodies → TokenId → Type 0
 IsMarked body_at k = IsReused body_at k ⊎ IsStopped body_at k
 
+-- the token's reuse was seen, or the token is stopped: the test
 abbrev pub is_marked : FactSet → TokenId → Bool
 is_marked F k = is_reused F k || is_stopped F k
 
+-- the grant of the link, if there is one, is marked or used twice
 abbrev pub is_bad_grant : FactSet → Dot → Option Link → Bool
 is_bad_grant F d None = false
 is_bad_grant F d (Some link) = is_marked F (grant_at d link) || is_twice F (grant_at d link)
 
--- the code or refresh token that the fact mints is marked, or used twice (RFC 6749, 4.1.2, 10.4 and 10.5)
+-- the code or refresh token that the fact mints is marked, or used twice (RFC 6749, 4.1.2, 10.4 and
+-- 10.5)
 abbrev pub is_bad : FactSet → Dot × Body → Bool
 is_bad F f = is_bad_grant F f.0 (link_of f.1)
 
+-- the fact mints a bad grant under the code
 abbrev pub kills : FactSet → Dot → Dot × Body → Bool
 kills F c f = names_dot (code_in (map.get F) f.0) c && is_bad F f
 

@@ -1,4 +1,6 @@
--- What contracts see of the views of clients and consents.
+-- What contracts see of the views of clients and consents (own).
+--   ClientFields    a client as it was added, and whether it is live
+--   ConsentFields   a consent as it was given, and whether it is live
 use Rattle.std.specs.Prelude.{ℕ, Bool, List}
 use Rattle.tk_handle.specs.declared.dot.Dot.{Dot}
 use Rattle.tk_fact.specs.declared.sort.Sort.{Sort}

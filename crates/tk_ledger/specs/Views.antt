@@ -8,7 +8,7 @@ use Rattle.tk_store.specs.FactSet.{FactSet}
 use Rattle.tk_ledger.specs.Clients.{client_at, is_live_client, consent_at, is_withdrawn}
 use Rattle.tk_ledger.specs.ViewFields.{ClientFields, ConsentFields}
 
--- what the fact that added the client says, and whether no retirement names it
+-- the client as the fact that added it has it, and whether no retirement names it
 abbrev pub client_view : FactSet → Dot → Option ClientFields
 client_view F d = option_map (λ c. record {
   sort = c.sort;
@@ -17,7 +17,7 @@ client_view F d = option_map (λ c. record {
   live = is_live_client F d;
 }) (client_at F d)
 
--- what the fact that gave the consent says, and whether no withdrawal names it
+-- the consent as the fact that gave it has it, and whether no withdrawal names it
 abbrev pub consent_view : FactSet → Dot → Option ConsentFields
 consent_view F d = option_map (λ c. record {
   client = c.client;

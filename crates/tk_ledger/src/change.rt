@@ -1,35 +1,35 @@
-//! What one fact changes beside the facts.
+//! The change that one fact makes in the tables of a ledger.
 
 use tk_fact::TokenRevoked;
 use tk_family::Link;
 use tk_handle::{Dot, Moment, TokenId};
 
-// What one fact changes in the tables.
+// The change that one fact makes in the tables.
 #[derive(Clone, Copy)]
 pub(crate) enum Change {
     // A client is added at the fact's dot.
     Add,
-    // The client that was added at this dot is retired.
+    // The client that was added at the dot is retired.
     Retire(Dot),
     // A consent is given at the fact's dot.
     Give {
         client: Dot,
-        // The digest of the subject, SHA-256.
+        // The SHA-256 digest of the subject.
         subject: [u8; 32],
     },
-    // The consent that was given at this dot is withdrawn.
+    // The consent that was given at the dot is withdrawn.
     Withdraw(Dot),
-    // A code is issued, to a subject of this digest.
+    // A code is issued to the subject with the SHA-256 digest.
     Issue([u8; 32]),
-    // The fact does this in a family, and issues no code.
+    // A code is redeemed, or a refresh token rotated: the fact gets the link.
     Put(Link),
     // A client revokes a token.
     Revoke(TokenRevoked),
-    // A reuse of this token was seen.
+    // The reuse of the token was seen.
     Mark(TokenId),
     // A subject signs out everywhere.
     SignOut {
-        // The digest of the subject, SHA-256.
+        // The SHA-256 digest of the subject.
         subject: [u8; 32],
         moment: Moment,
     },
@@ -42,14 +42,15 @@ ghost use Rattle.tk_ledger.specs.Changes.{change_in};
 use sha2::{Digest, Sha256};
 use tk_fact::{Body, Subject};
 
-// The digest by which the consents, the codes and the sign-outs of a subject are found.
+// Returns the SHA-256 digest of a subject, which is in the keys of its consents, codes and
+// sign-outs.
 pub(crate) fn subject_digest(subject: &Subject) -> [u8; 32]
     ensures { result ≡ sha256 subject.now }
 {
     Sha256::digest(subject.as_bytes())
 }
 
-// What the fact of a body changes.
+// Returns the change that the fact of a body makes.
 pub(crate) fn change_of(body: &Body) -> Change
     ensures { result ≡ change_in body.now }
 {

@@ -1,6 +1,7 @@
 //! The table of clients.
 
-// What is known of a client: whether it was added, and whether it was retired, which may come first.
+// The row of a client: whether a fact adds it, and whether a fact retires it. The retirement may
+// arrive first.
 #[derive(Clone, Copy)]
 pub(crate) struct ClientRow {
     pub(crate) added: bool,
@@ -15,6 +16,7 @@ use std::alloc::AllocError;
 use std::collections::BTreeMap;
 use tk_handle::Dot;
 
+// Returns whether the client's row is that of a client that was added.
 fn is_added(clients: &BTreeMap<Dot, ClientRow>, client: Dot) -> bool
     ensures { result ≡ row_added (row_at clients.now client) }
 {
@@ -24,6 +26,7 @@ fn is_added(clients: &BTreeMap<Dot, ClientRow>, client: Dot) -> bool
     }
 }
 
+// Returns whether the client's row is that of a client that was retired.
 fn is_retired(clients: &BTreeMap<Dot, ClientRow>, client: Dot) -> bool
     ensures { result ≡ row_retired (row_at clients.now client) }
 {
@@ -33,9 +36,10 @@ fn is_retired(clients: &BTreeMap<Dot, ClientRow>, client: Dot) -> bool
     }
 }
 
-// Whether the client was added and not retired, by one look-up.
+// Returns whether the client was added and not retired, by one look-up.
 pub(crate) fn is_live(clients: &BTreeMap<Dot, ClientRow>, client: Dot) -> bool
-    ensures { result ≡ (row_added (row_at clients.now client) && not (row_retired (row_at clients.now client))) }
+    ensures { result ≡ (row_added (row_at clients.now client)
+        && not (row_retired (row_at clients.now client))) }
 {
     match clients.get(&client) {
         Some(row) => row.added && !row.retired,
@@ -43,12 +47,14 @@ pub(crate) fn is_live(clients: &BTreeMap<Dot, ClientRow>, client: Dot) -> bool
     }
 }
 
+// Replaces the client's row.
 fn put_row(
     clients: &mut BTreeMap<Dot, ClientRow>,
     client: Dot,
     row: ClientRow,
 ) -> Result<(), AllocError>
-    ensures ok { OnOk result ((q : the_dot) → row_at clients.new q ≡ cond (is_at client q) (Some row) (row_at clients.old q)) }
+    ensures ok { OnOk result ((q : the_dot)
+        → row_at clients.new q ≡ cond (is_at client q) (Some row) (row_at clients.old q)) }
     ensures err { OnErr result ((q : the_dot) → row_at clients.new q ≡ row_at clients.old q) }
 {
     clients.insert(client, row)?;
@@ -60,8 +66,10 @@ pub(crate) fn add_client(
     clients: &mut BTreeMap<Dot, ClientRow>,
     client: Dot,
 ) -> Result<(), AllocError>
-    ensures added { OnOk result ((q : the_dot) → row_added (row_at clients.new q) ≡ (is_at client q || row_added (row_at clients.old q))) }
-    ensures retired { OnOk result ((q : the_dot) → row_retired (row_at clients.new q) ≡ row_retired (row_at clients.old q)) }
+    ensures added { OnOk result ((q : the_dot) → row_added (row_at clients.new q)
+        ≡ (is_at client q || row_added (row_at clients.old q))) }
+    ensures retired { OnOk result ((q : the_dot) → row_retired (row_at clients.new q)
+        ≡ row_retired (row_at clients.old q)) }
     ensures err { OnErr result ((q : the_dot) → row_at clients.new q ≡ row_at clients.old q) }
 {
     let retired = is_retired(clients, client);
@@ -77,8 +85,10 @@ pub(crate) fn retire_client(
     clients: &mut BTreeMap<Dot, ClientRow>,
     client: Dot,
 ) -> Result<(), AllocError>
-    ensures retired { OnOk result ((q : the_dot) → row_retired (row_at clients.new q) ≡ (is_at client q || row_retired (row_at clients.old q))) }
-    ensures added { OnOk result ((q : the_dot) → row_added (row_at clients.new q) ≡ row_added (row_at clients.old q)) }
+    ensures retired { OnOk result ((q : the_dot) → row_retired (row_at clients.new q)
+        ≡ (is_at client q || row_retired (row_at clients.old q))) }
+    ensures added { OnOk result ((q : the_dot) → row_added (row_at clients.new q)
+        ≡ row_added (row_at clients.old q)) }
     ensures err { OnErr result ((q : the_dot) → row_at clients.new q ≡ row_at clients.old q) }
 {
     let added = is_added(clients, client);

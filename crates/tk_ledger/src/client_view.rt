@@ -1,20 +1,20 @@
-//! What the ledger shows of a client.
+//! The view of a client.
 
 use std::marker::Model;
 use tk_fact::Sort;
 use tk_match::Redirects;
 use tk_scope::Scope;
 
-/// A client as it was added (RFC 6749, 2).
+/// A client as it was added, and whether it is live (RFC 6749, 2).
 #[derive(Drop)]
 pub struct ClientView<'a> {
-    /// What the client is, with the digest of its secret where it has one.
+    /// The client's kind, with the digest of its secret if it has one.
     pub sort: &'a Sort,
-    /// What it may ask for at most.
+    /// The scope that the client may ask for at most.
     pub scope: &'a Scope,
-    /// Where its users may be sent back to (RFC 6749, 3.1.2).
+    /// The URIs that the client's users may be sent back to (RFC 6749, 3.1.2).
     pub redirects: &'a Redirects,
-    /// Whether no fact retires it.
+    /// Whether no fact retires the client.
     pub live: bool,
 }
 
@@ -23,5 +23,10 @@ impl<'a> Model for ClientView<'a> {
 
     ghost Value = { ClientFields };
 
-    ghost view = { λ v. record { sort = v.sort.now; scope = v.scope.now; redirects = v.redirects.now; live = v.live } };
+    ghost view = { λ v. record {
+      sort = v.sort.now;
+      scope = v.scope.now;
+      redirects = v.redirects.now;
+      live = v.live;
+    } };
 }

@@ -1,4 +1,4 @@
-//! Clients: what was added at a dot, and whether it was retired.
+//! Clients: the client that was added at a dot, and whether it was retired.
 
 ghost use Rattle.std.specs.Prelude.{◌≡◌};
 ghost use Rattle.std.specs.Option.{option_copied};
@@ -10,6 +10,7 @@ use crate::ledger::Ledger;
 use tk_fact::{Body, ClientAdded};
 use tk_handle::Dot;
 
+// Returns the client that the body adds, if the body adds one.
 fn added_in(body: &Body) -> Option<&ClientAdded>
     ensures { option_copied result ≡ spec.added_in body.now }
 {
@@ -20,7 +21,7 @@ fn added_in(body: &Body) -> Option<&ClientAdded>
 }
 
 impl Ledger {
-    // The client that was added at the dot.
+    // Returns the client that was added at the dot.
     pub(crate) fn added_at(&self, at: Dot) -> Option<&ClientAdded>
         ensures { option_copied result ≡ spec.client_at (facts_of self.now) at }
     {
@@ -30,7 +31,8 @@ impl Ledger {
         }
     }
 
-    // Whether a client was added at the dot and no retirement of it is held, by one look-up.
+    // Returns whether a client was added at the dot and no retirement of it is held, by one
+    // look-up.
     pub(crate) fn has_live_client(&self, client: Dot) -> bool
         ensures { result ≡ spec.is_live_client (facts_of self.now) client }
     {

@@ -1,9 +1,9 @@
-//! The tables of consents: those that were given, and those that were withdrawn.
+//! The tables of consents: the consents that were given, and those that were withdrawn.
 
 use tk_handle::Dot;
 
-// A consent, by the client that it was given to and the digest of the subject that gave it, so that those of one subject
-// to one client stand together, by their dots.
+// The key of a consent: its client, the digest of its subject, its dot. The consents of one subject
+// to one client are neighbours, in the order of their dots.
 #[derive(Clone, Copy, PartialEq, Eq, PartialOrd, Ord)]
 pub(crate) struct ConsentKey {
     pub(crate) client: Dot,
@@ -23,7 +23,7 @@ use std::alloc::AllocError;
 use std::collections::BTreeSet;
 use tk_handle::{RegionNumber, Serial};
 
-// The first dot of all, and the last.
+// Returns the least and the greatest dot.
 pub(crate) fn dot_range() -> (Dot, Dot)
     ensures least { result.0 ≡ least_dot }
     ensures greatest { result.1 ≡ greatest_dot }
@@ -45,8 +45,11 @@ pub(crate) fn give(
     subject: &[u8; 32],
     consent: Dot,
 ) -> Result<(), AllocError>
-    ensures ok { OnOk result ((k : the_key) → contains consent_cmp consents.new k ≡ cond (eq_by_cmp consent_cmp (consent_key client subject.now consent) k) true (contains consent_cmp consents.old k)) }
-    ensures err { OnErr result ((k : the_key) → contains consent_cmp consents.new k ≡ contains consent_cmp consents.old k) }
+    ensures ok { OnOk result ((k : the_key) → contains consent_cmp consents.new k
+        ≡ cond (eq_by_cmp consent_cmp (consent_key client subject.now consent) k) true
+        (contains consent_cmp consents.old k)) }
+    ensures err { OnErr result ((k : the_key) → contains consent_cmp consents.new k
+        ≡ contains consent_cmp consents.old k) }
     ensures ranged { IsDot consent }
 {
     let _ranges = (consent.region(), consent.serial());
@@ -60,14 +63,16 @@ pub(crate) fn give(
 
 // Notes a consent that was withdrawn.
 pub(crate) fn withdraw(withdrawn: &mut BTreeSet<Dot>, consent: Dot) -> Result<(), AllocError>
-    ensures ok { OnOk result ((q : the_dot) → contains dot_cmp withdrawn.new q ≡ cond (is_at consent q) true (contains dot_cmp withdrawn.old q)) }
-    ensures err { OnErr result ((q : the_dot) → contains dot_cmp withdrawn.new q ≡ contains dot_cmp withdrawn.old q) }
+    ensures ok { OnOk result ((q : the_dot) → contains dot_cmp withdrawn.new q
+        ≡ cond (is_at consent q) true (contains dot_cmp withdrawn.old q)) }
+    ensures err { OnErr result ((q : the_dot) → contains dot_cmp withdrawn.new q
+        ≡ contains dot_cmp withdrawn.old q) }
 {
     withdrawn.insert(consent)?;
     Ok(())
 }
 
-// Whether a consent was withdrawn.
+// Returns whether a consent was withdrawn.
 pub(crate) fn is_withdrawn(withdrawn: &BTreeSet<Dot>, consent: Dot) -> bool
     ensures { result ≡ contains dot_cmp withdrawn.now consent }
 {

@@ -1,20 +1,20 @@
-//! What the ledger shows of a consent.
+//! The view of a consent.
 
 use std::marker::Model;
 use tk_fact::Subject;
 use tk_handle::Dot;
 use tk_scope::Scope;
 
-/// A consent as it was given (RFC 6749, 4.1).
+/// A consent as it was given, and whether it is live (RFC 6749, 4.1).
 #[derive(Drop)]
 pub struct ConsentView<'a> {
-    /// The client that it was given to.
+    /// The client that has the consent.
     pub client: Dot,
-    /// Who gave it.
+    /// The subject that gave the consent.
     pub subject: &'a Subject,
-    /// What the client may have.
+    /// The scope that the client may have.
     pub scope: &'a Scope,
-    /// Whether no fact withdraws it.
+    /// Whether no fact withdraws the consent.
     pub live: bool,
 }
 
@@ -23,5 +23,10 @@ impl<'a> Model for ConsentView<'a> {
 
     ghost Value = { ConsentFields };
 
-    ghost view = { λ v. record { client = v.client; subject = v.subject.now; scope = v.scope.now; live = v.live } };
+    ghost view = { λ v. record {
+      client = v.client;
+      subject = v.subject.now;
+      scope = v.scope.now;
+      live = v.live;
+    } };
 }

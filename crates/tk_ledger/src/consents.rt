@@ -1,4 +1,5 @@
-//! Consents: what was given at a dot, whether it was withdrawn, and the first for a scope.
+//! Consents: the consent that was given at a dot, whether it was withdrawn, and the first for a
+//! scope.
 
 ghost use Rattle.std.specs.Prelude.{◌≡◌};
 ghost use Rattle.std.specs.BTreeSet.{IsOrdered};
@@ -20,6 +21,7 @@ use tk_fact::{Body, ConsentGiven, Subject};
 use tk_handle::Dot;
 use tk_scope::Scope;
 
+// Returns the consent that the body gives, if the body gives one.
 pub(crate) fn given_in(body: &Body) -> Option<&ConsentGiven>
     ensures { option_copied result ≡ spec.given_in body.now }
 {
@@ -29,7 +31,7 @@ pub(crate) fn given_in(body: &Body) -> Option<&ConsentGiven>
     }
 }
 
-// Whether the subject gave the consent to the client.
+// Returns whether the subject gave the consent to the client.
 pub(crate) fn gives(consent: Option<&ConsentGiven>, client: Dot, subject: &Subject) -> bool
     ensures { result ≡ spec.gives client subject.now (option_copied consent.entry) }
 {
@@ -42,6 +44,7 @@ pub(crate) fn gives(consent: Option<&ConsentGiven>, client: Dot, subject: &Subje
     }
 }
 
+// Returns whether the subject gave the consent to the client, for the scope or a greater one.
 fn grants(consent: Option<&ConsentGiven>, client: Dot, subject: &Subject, scope: &Scope) -> bool
     ensures { result ≡ spec.grants client subject.now scope.now (option_copied consent.entry) }
 {
@@ -51,7 +54,7 @@ fn grants(consent: Option<&ConsentGiven>, client: Dot, subject: &Subject, scope:
     }
 }
 
-// The least key that a consent of the subject's to the client can have, and the greatest.
+// Returns the least and the greatest key that a consent of the subject to the client can have.
 fn span(client: Dot, subject: &[u8; 32]) -> (ConsentKey, ConsentKey)
     ensures first { result.0 ≡ consent_key client subject.now least_dot }
     ensures last { result.1 ≡ consent_key client subject.now greatest_dot }
@@ -66,7 +69,7 @@ fn span(client: Dot, subject: &[u8; 32]) -> (ConsentKey, ConsentKey)
 }
 
 impl Ledger {
-    // The consent that was given at the dot.
+    // Returns the consent that was given at the dot.
     pub(crate) fn given_at(&self, at: Dot) -> Option<&ConsentGiven>
         ensures { option_copied result ≡ spec.consent_at (facts_of self.now) at }
     {
@@ -76,21 +79,23 @@ impl Ledger {
         }
     }
 
-    // Whether a withdrawal of the consent is held, by one look-up.
+    // Returns whether a withdrawal of the consent is held, by one look-up.
     pub(crate) fn has_withdrawn(&self, consent: Dot) -> bool
         ensures { result ≡ spec.is_withdrawn (facts_of self.now) consent }
     {
         consent_keys::is_withdrawn(&self.index.withdrawn, consent)
     }
 
-    // Whether a live consent of the client and subject for the scope was given at the dot.
+    // Returns whether a live consent of the subject to the client for the scope was given at the
+    // dot.
     fn serves(&self, client: Dot, subject: &Subject, scope: &Scope, consent: Dot) -> bool
         ensures { result ≡ spec.serves (facts_of self.now) client subject.now scope.now consent }
     {
         grants(self.given_at(consent), client, subject, scope) && !self.has_withdrawn(consent)
     }
 
-    // The first key of the subject's consents to the client whose consent serves.
+    // Returns the first key of the subject's consents to the client whose consent is live and
+    // covers the scope.
     fn first_key<'a>(
         &self,
         consents: &'a BTreeSet<ConsentKey>,
@@ -98,7 +103,9 @@ impl Ledger {
         subject: &Subject,
         scope: &Scope,
     ) -> Option<&'a ConsentKey>
-        ensures first { option_copied result ≡ find (λ k. spec.serves (facts_of self.now) client subject.now scope.now k.consent) (span_of consents.now client (sha256 subject.now)) }
+        ensures first { option_copied result ≡ find (λ k.
+            spec.serves (facts_of self.now) client subject.now scope.now k.consent)
+            (span_of consents.now client (sha256 subject.now)) }
         ensures sorted { IsOrdered consent_cmp consents.now }
     {
         let (first, last) = span(client, &subject_digest(subject));
@@ -107,10 +114,12 @@ impl Ledger {
             .find(|key| self.serves(client, subject, scope, key.consent))
     }
 
-    // The least dot of such a one, among those of the subject to the client alone.
+    // Returns the lowest dot of a live consent of this subject to this client that covers the
+    // scope.
     pub(crate) fn first_consent(&self, client: Dot, subject: &Subject, scope: &Scope) -> Option<Dot>
         ensures value { result ≡ spec.consent_for (facts_of self.now) client subject.now scope.now }
-        ensures least { spec.IsLeastConsent (map.get (facts_of self.now)) client subject.now scope.now result }
+        ensures least { spec.IsLeastConsent (map.get (facts_of self.now)) client subject.now
+            scope.now result }
     {
         match self.first_key(&self.index.consents, client, subject, scope) {
             Some(key) => Some(key.consent),

@@ -1,4 +1,4 @@
-//! The tables of a ledger, and what one fact more changes in them.
+//! The tables of a ledger beside its facts, and the change that one more fact makes in them.
 
 use crate::client_rows::ClientRow;
 use crate::consent_keys::ConsentKey;
@@ -8,7 +8,7 @@ use std::collections::{BTreeMap, BTreeSet};
 use tk_family::Forest;
 use tk_handle::Dot;
 
-// What the facts say, kept by what is asked.
+// The tables: clients, consents, revocations, codes and sign-outs by key, and the families.
 #[derive(Drop)]
 pub(crate) struct Index {
     pub(crate) clients: BTreeMap<Dot, ClientRow>,
@@ -42,7 +42,7 @@ use tk_handle::{Moment, TokenId};
 use tk_store::FactStore;
 
 impl Index {
-    // Empty tables, for no fact.
+    // Returns the tables of no fact.
     pub(crate) fn new(alloc: Global) -> Index
         ensures { IsIndexed map.empty result }
     {
@@ -58,7 +58,8 @@ impl Index {
     }
 }
 
-// A link: the forest's one call that may fail, and then marks that take no memory.
+// Adds a link to the forest, and marks what a revocation or a sign-out stops at the dots that the
+// link brings under a code. Only the link allocates memory.
 fn put_link(
     facts: &FactStore,
     revocations: &BTreeSet<Revocation>,
@@ -83,7 +84,7 @@ fn put_link(
     }
 }
 
-// A code: its key, and then its link. The key goes again where there is no room for the link.
+// Adds the key of a code, and its link. If memory runs out at the link, the key is removed again.
 fn issue_code(
     facts: &FactStore,
     revocations: &BTreeSet<Revocation>,
@@ -93,7 +94,8 @@ fn issue_code(
     dot: Dot,
     subject: &[u8; 32],
 ) -> Result<(), AllocError>
-    requires change { option_map change_in (map.get (facts_of facts.now) dot) ≡ Some (change_as.Issue subject.now) }
+    requires change { option_map change_in (map.get (facts_of facts.now) dot)
+        ≡ Some (change_as.Issue subject.now) }
     requires revocations { IsRevocations (facts_of facts.now) revocations.now }
     requires codes { IsCodes (map.remove (facts_of facts.now) dot) codes.old }
     requires outs { IsOuts (facts_of facts.now) outs.now }
@@ -115,14 +117,15 @@ fn issue_code(
     }
 }
 
-// A reuse.
+// Marks a token that was reused.
 fn mark_token(
     facts: &FactStore,
     forest: &mut Forest,
     dot: Dot,
     token: TokenId,
 ) -> Result<(), AllocError>
-    requires change { option_map change_in (map.get (facts_of facts.now) dot) ≡ Some (change_as.Mark token) }
+    requires change { option_map change_in (map.get (facts_of facts.now) dot)
+        ≡ Some (change_as.Mark token) }
     requires tied { IsTied (map.remove (facts_of facts.now) dot) forest.old }
     ensures ok { OnOk result (IsTied (facts_of facts.now) forest.new) }
     ensures err { OnErr result (IsTied (map.remove (facts_of facts.now) dot) forest.new) }
@@ -130,7 +133,7 @@ fn mark_token(
     forest.mark(token)
 }
 
-// A revocation: its key, and then a mark if its token is under a code of its client.
+// Adds the key of a revocation, and marks its token if that is under a code of the client.
 fn revoke_token(
     facts: &FactStore,
     revocations: &mut BTreeSet<Revocation>,
@@ -139,13 +142,15 @@ fn revoke_token(
     dot: Dot,
     fact: &TokenRevoked,
 ) -> Result<(), AllocError>
-    requires change { option_map change_in (map.get (facts_of facts.now) dot) ≡ Some (change_as.Revoke fact.now) }
+    requires change { option_map change_in (map.get (facts_of facts.now) dot)
+        ≡ Some (change_as.Revoke fact.now) }
     requires revocations { IsRevocations (map.remove (facts_of facts.now) dot) revocations.old }
     requires outs { IsOuts (facts_of facts.now) outs.now }
     requires tied { IsTied (map.remove (facts_of facts.now) dot) forest.old }
     ensures revocations { OnOk result (IsRevocations (facts_of facts.now) revocations.new) }
     ensures ok { OnOk result (IsTied (facts_of facts.now) forest.new) }
-    ensures revocations_err { OnErr result (IsRevocations (map.remove (facts_of facts.now) dot) revocations.new) }
+    ensures revocations_err { OnErr result (IsRevocations (map.remove (facts_of facts.now) dot)
+        revocations.new) }
     ensures err { OnErr result (IsTied (map.remove (facts_of facts.now) dot) forest.new) }
 {
     match revoke(revocations, &fact.token, &fact.digest, fact.client) {
@@ -157,7 +162,7 @@ fn revoke_token(
     }
 }
 
-// A sign-out: its key, and then marks of the codes of its subject that it kills.
+// Adds the key of a sign-out, and marks the codes of the subject that the sign-out stops.
 fn sign_out(
     facts: &FactStore,
     revocations: &BTreeSet<Revocation>,
@@ -168,7 +173,8 @@ fn sign_out(
     subject: &[u8; 32],
     moment: Moment,
 ) -> Result<(), AllocError>
-    requires change { option_map change_in (map.get (facts_of facts.now) dot) ≡ Some (change_as.SignOut subject.now moment) }
+    requires change { option_map change_in (map.get (facts_of facts.now) dot)
+        ≡ Some (change_as.SignOut subject.now moment) }
     requires revocations { IsRevocations (facts_of facts.now) revocations.now }
     requires codes { IsCodes (facts_of facts.now) codes.now }
     requires outs { IsOuts (map.remove (facts_of facts.now) dot) outs.old }
@@ -187,7 +193,8 @@ fn sign_out(
     }
 }
 
-// The fact at the dot is in the store already, and in no table. One call may fail, and then nothing changes.
+// Brings the tables up to date with the fact at the dot, which is in the store already. If memory
+// runs out, the tables are those of the facts without this one.
 pub(crate) fn follow(
     facts: &FactStore,
     index: &mut Index,

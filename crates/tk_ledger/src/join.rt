@@ -14,14 +14,14 @@ use tk_store::{AddError, FactStore};
 use tk_vector::{Join, JoinError};
 
 impl Ledger {
-    // Whether the two have one body at each dot that both hold.
+    // Returns whether the two have equal bodies at each dot that both hold.
     fn agrees(&self, other: &Ledger) -> bool
         ensures { IsTrue result ↔ Agree self.now other.now }
     {
         self.store.agrees(&other.store)
     }
 
-    // Adds a copy of a fact that fits.
+    // Adds a copy of a fact that agrees.
     fn take(&mut self, alloc: Global, fact: &Fact) -> Result<(), AllocError>
         requires agree { (b : the_body) → map.get self.old fact.now.0 ≡ Some b → b ≡ fact.now.1 }
         requires passes { refusal_of fact.now.1 ≡ None }
@@ -36,7 +36,8 @@ impl Ledger {
         }
     }
 
-    // Adds copies of all facts of a store that agrees. Where memory is refused, the first of them are in.
+    // Adds copies of all facts of a store that agrees. If memory runs out, the first of them are
+    // in.
     fn take_all(&mut self, alloc: Global, other: &FactStore) -> Result<(), AllocError>
         requires { Agree self.old (facts_of other.now) }
         ensures ok { OnOk result (self.new ≡ joined self.old (facts_of other.now)) }
@@ -53,7 +54,7 @@ impl Ledger {
     }
 }
 
-// Its laws are those of the stores of facts, which `tk_store::stores_join` states.
+// The laws of this join are those of stores, which `tk_store::stores_join` states.
 impl Join for Ledger {
     ghost use Rattle.tk_store.specs.FactSet.{Agree, IsSubset};
 

@@ -1,20 +1,23 @@
-//! The ledger: its facts, and what they are asked.
+//! The ledger: a set of facts, and look-ups of clients, consents and tokens.
 
 use crate::index::Index;
 use std::alloc::Global;
 use std::marker::Model;
 use tk_store::FactStore;
 
-/// A set of facts, and what it says of clients, consents and tokens. Contracts see the set alone.
+/// A set of facts, with look-ups of clients, consents and tokens. Contracts see the set alone.
 ///
-/// With n facts, `add` costs O(log n) for each dot that comes under a code by the fact and for each link that names one
-/// of these. `client`, `consent`, `revoked` and `status` make a fixed number of look-ups, of O(log n) each, and
-/// `consent_for` one for each consent of the subject to the client. None of them takes memory.
+/// With n facts, a look-up costs O(log n). `client`, `consent`, `revoked`, `signed_out` and
+/// `status` make a fixed number of look-ups, and `consent_for` at most two for each consent of the
+/// subject to the client. None of these allocates memory. `add` costs O(log n) for each of these:
+///
+/// - each dot that the fact brings under a code, and each link that names such a dot
+/// - each code of the subject, if the fact is a sign-out
 #[derive(Drop)]
 pub struct Ledger {
     pub(crate) store: FactStore,
     pub(crate) index: Index,
-    // Where copies for a join are made.
+    // The allocator for copies that a join makes.
     pub(crate) alloc: Global,
 }
 
@@ -61,7 +64,7 @@ use tk_scope::Scope;
 use tk_store::{AddError, Added};
 
 impl Ledger {
-    /// No fact.
+    /// Returns a ledger without facts.
     pub fn new(alloc: Global) -> Ledger
         ensures { result ≡ map.empty }
     {
@@ -72,7 +75,8 @@ impl Ledger {
         }
     }
 
-    /// Adds a fact that passes its check. A refused one is dropped, and the set is as before.
+    /// Adds a fact that passes its check. If the fact is refused or memory runs out, the set is
+    /// unchanged and the fact is dropped.
     pub fn add(&mut self, fact: Fact) -> Result<Added, AddError>
         requires { refusal_of fact.1 ≡ None }
         ensures { Adds self.old fact result self.new }
@@ -83,14 +87,14 @@ impl Ledger {
         add_new(&mut self.store, &mut self.index, fact)
     }
 
-    /// The facts themselves.
+    /// Returns the store of the facts.
     pub fn store(&self) -> &FactStore
         ensures { result.now ≡ self.now }
     {
         &self.store
     }
 
-    /// The client that was added at the dot, retired or not (RFC 6749, 2).
+    /// Returns the client that was added at the dot, retired or not (RFC 6749, 2).
     pub fn client(&self, dot: Dot) -> Option<ClientView<'_>>
         ensures { result ≡ client_view (facts_of self.now) dot }
     {
@@ -105,7 +109,7 @@ impl Ledger {
         }
     }
 
-    /// The consent that was given at the dot, withdrawn or not (RFC 6749, 4.1).
+    /// Returns the consent that was given at the dot, withdrawn or not (RFC 6749, 4.1).
     pub fn consent(&self, dot: Dot) -> Option<ConsentView<'_>>
         ensures { result ≡ consent_view (facts_of self.now) dot }
     {
@@ -120,56 +124,71 @@ impl Ledger {
         }
     }
 
-    /// The least dot of a live consent of the client and subject whose scope includes the scope, if any.
+    /// Returns the lowest dot of a live consent of this subject to this client that covers the
+    /// scope.
     pub fn consent_for(&self, client: Dot, subject: &Subject, scope: &Scope) -> Option<Dot>
-        ensures value { result ≡ clients_of.consent_for (facts_of self.now) client subject.now scope.now }
-        ensures least { clients_of.IsLeastConsent (map.get (facts_of self.now)) client subject.now scope.now result }
+        ensures value { result ≡ clients_of.consent_for (facts_of self.now) client subject.now
+            scope.now }
+        ensures least { clients_of.IsLeastConsent (map.get (facts_of self.now)) client subject.now
+            scope.now result }
     {
         self.first_consent(client, subject, scope)
     }
 
-    /// Whether a fact says that the client revoked the token of this digest, SHA-256 of a handle (RFC 7009, 2.1). Whether
-    /// such a token was minted, and for that client, isn't asked.
+    /// Returns whether a fact is that the client revoked the token with the digest (RFC 7009, 2.1).
+    ///
+    /// The digest is SHA-256 of a handle's bytes. Whether the token was minted, and for that
+    /// client, does not count.
     pub fn revoked(&self, token: &TokenId, digest: &[u8; 32], client: Dot) -> bool
         ensures value { result ≡ is_revoked (facts_of self.now) token.now digest.now client }
-        ensures meaning { IsTrue result ↔ IsRevoked (map.get (facts_of self.now)) token.now digest.now client }
+        ensures meaning { IsTrue result ↔ IsRevoked (map.get (facts_of self.now)) token.now
+            digest.now client }
     {
         revocations::is_revoked(&self.index.revocations, token, digest, client)
     }
 
-    /// The greatest moment at which the subject signed out everywhere, or None where no sign-out of it is held (own).
+    /// Returns the greatest moment at which the subject signed out everywhere, or None if no
+    /// sign-out of the subject is held (own).
     pub fn signed_out(&self, subject: &Subject) -> Option<Moment>
-        ensures value { (moment : ℕ) → is_signed_out (facts_of self.now) subject.now moment ≡ reaches result moment }
+        ensures value { (moment : ℕ) → is_signed_out (facts_of self.now) subject.now moment
+            ≡ reaches result moment }
         ensures meaning { IsLastSignOut (map.get (facts_of self.now)) subject.now result }
     {
         last_sign_out(&self.store, &self.index.outs, subject)
     }
 
-    /// Where the token of a handle stands at the moment, by one to eight look-ups, which are counted. From its end on a
-    /// token is past, and a family over.
+    /// Returns the status of a handle's token at the moment. Makes one to eight look-ups, and adds
+    /// their number to `steps`.
+    ///
+    /// At its expiry a token is past, and at its end a family is over.
     pub fn status(&self, now: Moment, handle: &Handle, steps: &mut Steps) -> Status<'_>
         ensures value { result ≡ status_in (facts_of self.now) now handle.now }
 
-        // What each of the four says. Known is said of exactly the tokens that are minted, with the handle's digest, and
-        // under some code.
+        // Each status is true of the handle. `Known` is returned exactly for the tokens that are
+        // minted, with the handle's digest, and under a code.
         ensures says { Says (map.get (facts_of self.now)) handle.now result }
         ensures known { IsKnown result ↔ IsKnownToken (map.get (facts_of self.now)) handle.now }
 
-        // Live is said of exactly the active access and refresh tokens (RFC 7662, 2.2).
-        ensures live { handle.now.id.kind ≢ kind.Code → (IsLive result ↔ IsActive (map.get (facts_of self.now)) now handle.now) }
+        // The state `Live` is that of exactly the active access and refresh tokens (RFC 7662, 2.2).
+        ensures live { handle.now.id.kind ≢ kind.Code
+            → (IsLive result ↔ IsActive (map.get (facts_of self.now)) now handle.now) }
 
         // A code is never active.
-        ensures code { handle.now.id.kind ≡ kind.Code → ¬ IsActive (map.get (facts_of self.now)) now handle.now }
+        ensures code { handle.now.id.kind ≡ kind.Code
+            → ¬ IsActive (map.get (facts_of self.now)) now handle.now }
 
-        // Nor is a token that its client revoked (RFC 7009, 2.1), or one of a family with a bad grant (RFC 6749, 4.1.2,
-        // 10.4 and 10.5).
-        ensures revoked { IsEnded (map.get (facts_of self.now)) handle.now.id → ¬ IsActive (map.get (facts_of self.now)) now handle.now }
+        // A token that its client revoked (RFC 7009, 2.1), or of a family with a bad grant (RFC
+        // 6749, 4.1.2, 10.4 and 10.5), is not active.
+        ensures revoked { IsEnded (map.get (facts_of self.now)) handle.now.id
+            → ¬ IsActive (map.get (facts_of self.now)) now handle.now }
         ensures family { FamilyEnds (map.get (facts_of self.now)) now handle.now }
 
-        // The subject of a standing is one, and the family of a live token ends after the moment.
+        // The subject of a standing keeps the rules of names, and the family of a live token ends
+        // after the moment.
         ensures sound { IsSound now result }
 
-        // At every generation, however many facts are held. Near its greatest number a count may stay.
+        // The number of look-ups is 1 to 8 at every generation, however many facts are held. Near
+        // its greatest value, `steps` may stay.
         ensures at_least { steps.old + 8 < 2 ^ 64 → steps.old + 1 ≤ steps.new }
         ensures at_most { steps.new ≤ steps.old + 8 }
     {
@@ -178,8 +197,8 @@ impl Ledger {
     }
 }
 
-// Adds a fact at a dot that is free: to the facts first, then where they are kept by what is asked. Where memory is refused
-// there, it comes out of the facts again.
+// Adds a fact at a free dot, to the store first, then to the tables. If memory runs out at the
+// tables, the fact is taken out of the store again.
 fn add_new(store: &mut FactStore, index: &mut Index, fact: Fact) -> Result<Added, AddError>
     requires free { map.get (facts_of store.old) fact.0 ≡ None }
     requires passes { refusal_of fact.1 ≡ None }

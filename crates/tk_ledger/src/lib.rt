@@ -1,19 +1,32 @@
-//! What a set of facts says of clients, consents and tokens.
+//! A set of facts, and what follows from it for clients, consents and tokens.
 //!
-//! A `Ledger` holds the facts of one region, in a `FactStore`. `add` joins a fact to the set or refuses it. `client` and
-//! `consent` show what was registered and granted, `consent_for` finds the consent for a scope, `revoked` asks for a
-//! revocation, and `status` says where the token of a handle stands at a moment, by one to eight look-ups. None of these
-//! questions takes memory. Facts may come from anyone, in any order: all of these answer for every set. Two ledgers are
-//! joined by `Join`, as their stores are.
+//! A `Ledger` holds the facts of one region, in a `FactStore`.
 //!
-//! Contracts see a ledger as its set of facts alone. Beside the facts it keeps an `Index`, of which nothing above this crate
-//! knows: rows and keys by what is asked (`client_rows`, `consent_keys`, `revocations`), and a forest of families. `change`
-//! says what a fact changes in it, `index` makes the change, and `wake` marks refresh tokens whose revocation came before
-//! their family. `looks`, `clients`, `consents` and `standing` ask.
+//! - `add` joins a fact to the set or refuses it. `Join` joins two ledgers, as their stores are.
+//! - `client` and `consent` return what was added and given at a dot. `consent_for` finds the
+//!   consent for a scope.
+//! - `revoked` returns whether a client revoked a token, `signed_out` when a subject last signed
+//!   out.
+//! - `status` returns the status of a handle at a moment, by one to eight look-ups.
 //!
-//! In reading order: `Ledger`, `ClientView`, `ConsentView`, `Status`, `Standing`, `State`. The definitions are in specs/:
-//! `Clients`, `Tokens`, `Status`, `Standings`, `Ends`; then `Changes`, `Index` and `ByTop` for the index. The functions of
-//! `laws` have empty bodies: they are laws of these definitions, stated in specs/Laws.antt.
+//! No look-up allocates memory. Facts may be from anyone and arrive in any order: each look-up
+//! returns what the whole set determines.
+//!
+//! Contracts see a ledger as its set of facts alone. Beside the facts, the ledger keeps an `Index`,
+//! which no crate above sees:
+//!
+//! - tables by key: clients (`client_rows`), consents (`consent_keys`), revocations
+//!   (`revocations`), and the codes and sign-outs of subjects (`subject_keys`)
+//! - a forest of families, with marks
+//!
+//! `change` has the change that a fact makes in the index, and `index` makes the change. `wake`
+//! marks refresh tokens that their client revoked and codes whose subject signed out, whichever
+//! fact arrives first. `looks`, `clients`, `consents`, `sign_outs` and `standing` look facts up.
+//!
+//! In reading order: `Ledger`, `ClientView`, `ConsentView`, `Status`, `Standing`, `State`. The
+//! definitions are in `specs/`: `Clients`, `SignOuts`, `Tokens`, `Status`, `Standings`, `Ends`; for
+//! the index `Changes`, `Index`, `ByTop`. The functions of `laws` have empty bodies: they state the
+//! laws in `specs/Laws.antt`.
 #![tactic(auto)]
 
 mod change;

@@ -16,6 +16,7 @@ use tk_family::{Forest, Steps, Top};
 use tk_handle::{Dot, TokenId};
 use tk_store::FactStore;
 
+// Returns the fact that a code was issued, if the body is one.
 pub(crate) fn issued_in(body: &Body) -> Option<&CodeIssued>
     ensures { option_copied result ≡ spec.issued_in body.now }
 {
@@ -25,7 +26,7 @@ pub(crate) fn issued_in(body: &Body) -> Option<&CodeIssued>
     }
 }
 
-// The fact that issued the code.
+// Returns the fact that issued the code at the dot.
 pub(crate) fn issued_at(facts: &FactStore, code: Dot) -> Option<&CodeIssued>
     ensures { option_copied result ≡ spec.issued_at (map.get (facts_of facts.now)) code }
 {
@@ -35,7 +36,7 @@ pub(crate) fn issued_at(facts: &FactStore, code: Dot) -> Option<&CodeIssued>
     }
 }
 
-// The root that is this code.
+// Returns the root with the code at the dot, if a code was issued there.
 pub(crate) fn root_of(facts: &FactStore, code: Dot) -> Option<Root<'_>>
     ensures { result ≡ spec.root_of (map.get (facts_of facts.now)) code }
 {
@@ -45,6 +46,7 @@ pub(crate) fn root_of(facts: &FactStore, code: Dot) -> Option<Root<'_>>
     }
 }
 
+// Returns the code of a top, if there is one.
 fn code_of_top(top: Top) -> Option<Dot>
     ensures { result ≡ code_in_top top }
 {
@@ -56,14 +58,14 @@ fn code_of_top(top: Top) -> Option<Dot>
     }
 }
 
-// The code that the dot is under.
+// Returns the code that the dot is under.
 fn code_above(forest: &Forest, dot: Dot) -> Option<Dot>
     ensures { result ≡ code_of (links_at forest.now) dot }
 {
     code_of_top(forest.top(dot, &mut Steps::new()))
 }
 
-// The root of the family that the dot is in.
+// Returns the root of the family that the dot is in.
 pub(crate) fn root_above<'a>(facts: &'a FactStore, forest: &Forest, dot: Dot) -> Option<Root<'a>>
     ensures { result ≡ root_by (map.get (facts_of facts.now)) (code_of (links_at forest.now) dot) }
 {
@@ -73,9 +75,10 @@ pub(crate) fn root_above<'a>(facts: &'a FactStore, forest: &Forest, dot: Dot) ->
     }
 }
 
-// What the fact at the token's dot says of it.
+// Returns what the fact at the token's dot mints of the token's kind.
 pub(crate) fn minted_at<'a>(facts: &'a FactStore, token: &TokenId) -> Option<Minted<'a>>
-    ensures { option_map shown_minted result ≡ spec.minted_in (map.get (facts_of facts.now)) token.now }
+    ensures { option_map shown_minted result ≡ spec.minted_in (map.get (facts_of facts.now))
+        token.now }
 {
     match facts.get(token.dot) {
         Some(fact) => fact.minted(token.kind),

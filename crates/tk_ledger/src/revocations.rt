@@ -2,7 +2,7 @@
 
 use tk_handle::Dot;
 
-// A token, its digest, and the client that revoked it.
+// The key of a revocation: a token, its digest, and the client that revoked it.
 #[derive(Clone, Copy, PartialEq, Eq, PartialOrd, Ord)]
 pub(crate) struct Revocation {
     pub(crate) dot: Dot,
@@ -22,6 +22,7 @@ use std::alloc::AllocError;
 use std::collections::BTreeSet;
 use tk_handle::TokenId;
 
+// Returns the key of a revocation.
 fn key(token: &TokenId, digest: &[u8; 32], client: Dot) -> Revocation
     ensures { result ≡ revocation_key token.now digest.now client }
 {
@@ -33,21 +34,24 @@ fn key(token: &TokenId, digest: &[u8; 32], client: Dot) -> Revocation
     }
 }
 
-// Notes that the client revoked the token of this digest.
+// Notes that the client revoked the token with the digest.
 pub(crate) fn revoke(
     revocations: &mut BTreeSet<Revocation>,
     token: &TokenId,
     digest: &[u8; 32],
     client: Dot,
 ) -> Result<(), AllocError>
-    ensures ok { OnOk result ((q : the_revocation) → contains revocation_cmp revocations.new q ≡ cond (eq_by_cmp revocation_cmp (revocation_key token.now digest.now client) q) true (contains revocation_cmp revocations.old q)) }
-    ensures err { OnErr result ((q : the_revocation) → contains revocation_cmp revocations.new q ≡ contains revocation_cmp revocations.old q) }
+    ensures ok { OnOk result ((q : the_revocation) → contains revocation_cmp revocations.new q
+        ≡ cond (eq_by_cmp revocation_cmp (revocation_key token.now digest.now client) q) true
+        (contains revocation_cmp revocations.old q)) }
+    ensures err { OnErr result ((q : the_revocation) → contains revocation_cmp revocations.new q
+        ≡ contains revocation_cmp revocations.old q) }
 {
     revocations.insert(key(token, digest, client))?;
     Ok(())
 }
 
-// Whether it did, by one look-up.
+// Returns whether the client revoked the token with the digest, by one look-up.
 pub(crate) fn is_revoked(
     revocations: &BTreeSet<Revocation>,
     token: &TokenId,

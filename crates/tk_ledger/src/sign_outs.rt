@@ -1,4 +1,4 @@
-//! Sign-outs: the last of a subject, and whether a code is out by one.
+//! Sign-outs: the last sign-out of a subject, and whether a sign-out stops a code.
 
 ghost use Rattle.std.specs.Prelude.{◌≡◌, ℕ};
 ghost use Rattle.std.specs.BTreeSet.{IsOrdered};
@@ -22,6 +22,7 @@ use tk_fact::{Body, CodeIssued, Subject, SubjectOut};
 use tk_handle::{Dot, Moment};
 use tk_store::FactStore;
 
+// Returns the sign-out that the body is, if it is one.
 fn sign_out_in(body: &Body) -> Option<&SubjectOut>
     ensures { option_copied result ≡ spec.sign_out_in body.now }
 {
@@ -31,6 +32,7 @@ fn sign_out_in(body: &Body) -> Option<&SubjectOut>
     }
 }
 
+// Returns the sign-out at the dot.
 fn sign_out_at(facts: &FactStore, at: Dot) -> Option<&SubjectOut>
     ensures { option_copied result ≡ spec.sign_out_at (map.get (facts_of facts.now)) at }
 {
@@ -40,6 +42,7 @@ fn sign_out_at(facts: &FactStore, at: Dot) -> Option<&SubjectOut>
     }
 }
 
+// Returns whether the sign-out is one of the subject, with `until` seconds left after its moment.
 fn tells_by(sign_out: Option<&SubjectOut>, subject: &Subject, until: u64) -> bool
     ensures { result ≡ tells_by subject.now until (option_copied sign_out.entry) }
 {
@@ -51,20 +54,21 @@ fn tells_by(sign_out: Option<&SubjectOut>, subject: &Subject, until: u64) -> boo
     }
 }
 
-// Whether the sign-out of the key is this subject's.
+// Returns whether the sign-out of the key is one of the subject, at the key's moment.
 fn tells_of(facts: &FactStore, subject: &Subject, key: &OutKey) -> bool
     ensures { result ≡ tells_of (facts_of facts.now) subject.now key.now }
 {
     tells_by(sign_out_at(facts, key.place), subject, key.left)
 }
 
-// The key of the last sign-out of the subject.
+// Returns the key of the last sign-out of the subject.
 fn last_key<'a>(
     facts: &FactStore,
     outs: &'a BTreeSet<OutKey>,
     subject: &Subject,
 ) -> Option<&'a OutKey>
-    ensures first { option_copied result ≡ find (tells_of (facts_of facts.now) subject.now) (outs_of outs.now (sha256 subject.now)) }
+    ensures first { option_copied result ≡ find (tells_of (facts_of facts.now) subject.now)
+        (outs_of outs.now (sha256 subject.now)) }
     ensures sorted { IsOrdered out_cmp outs.now }
 {
     let (first, last) = out_span(&subject_digest(subject));
@@ -72,7 +76,7 @@ fn last_key<'a>(
         .find(|key| tells_of(facts, subject, key))
 }
 
-// The moment of it.
+// Returns the moment of the last sign-out of the subject.
 pub(crate) fn last_sign_out(
     facts: &FactStore,
     outs: &BTreeSet<OutKey>,
@@ -85,7 +89,7 @@ pub(crate) fn last_sign_out(
     Some(sign_out_at(facts, key.place)?.moment)
 }
 
-// Whether the subject signed out at the moment, or later.
+// Returns whether the subject signed out at the moment, or later.
 fn is_signed_out(
     facts: &FactStore,
     outs: &BTreeSet<OutKey>,
@@ -101,6 +105,7 @@ fn is_signed_out(
     }
 }
 
+// Returns whether the subject of the code signed out at its start, or later.
 fn is_out_by(facts: &FactStore, outs: &BTreeSet<OutKey>, code: Option<&CodeIssued>) -> bool
     requires { IsOuts (facts_of facts.now) outs.now }
     ensures { result ≡ tokens_of.is_out_by (facts_of facts.now) (option_copied code.entry) }
@@ -111,7 +116,7 @@ fn is_out_by(facts: &FactStore, outs: &BTreeSet<OutKey>, code: Option<&CodeIssue
     }
 }
 
-// Whether a code was issued at the dot whose subject signed out at its start, or later.
+// Returns whether a code was issued at the dot whose subject signed out at its start, or later.
 pub(crate) fn is_out(facts: &FactStore, outs: &BTreeSet<OutKey>, at: Dot) -> bool
     requires { IsOuts (facts_of facts.now) outs.now }
     ensures { result ≡ tokens_of.is_out (facts_of facts.now) at }

@@ -1,4 +1,4 @@
-//! Where a token stands, by at most eight look-ups.
+//! The status of a handle, by at most eight look-ups.
 
 ghost use Rattle.std.specs.Prelude.{◌≡◌, ◌+◌, ◌^◌, ◌<◌, ◌≤◌};
 ghost use Rattle.std.specs.Option.{option_copied, option_map};
@@ -21,9 +21,10 @@ use tk_fact::{Body, CodeIssued, ConsentGiven, Fact, Minted};
 use tk_family::{Steps, Top};
 use tk_handle::{Dot, Handle, Kind, Moment, TokenId};
 
-// What the fact says of the token of the handle, where it minted one of that kind and digest.
+// Returns what the fact mints of the handle's kind, if that has the handle's digest.
 fn minted_as<'a>(fact: &'a Fact, handle: &Handle) -> Option<Minted<'a>>
-    ensures { option_map shown_minted result ≡ spec.with_digest (spec.digest_of handle.now) (minted_of fact.now.1 handle.now.id.kind) }
+    ensures { option_map shown_minted result ≡ spec.with_digest (spec.digest_of handle.now)
+        (minted_of fact.now.1 handle.now.id.kind) }
 {
     match fact.minted(handle.id.kind) {
         Some(minted) => {
@@ -37,7 +38,7 @@ fn minted_as<'a>(fact: &'a Fact, handle: &Handle) -> Option<Minted<'a>>
     }
 }
 
-// How many rotations lie between the code and the tokens of the fact.
+// Returns the generation of the fact's tokens: the number of rotations from the code to them.
 fn generation(body: &Body) -> u16
     ensures { result ≡ spec.generation_of body.now }
 {
@@ -47,6 +48,7 @@ fn generation(body: &Body) -> u16
     }
 }
 
+// Returns whether the kind is that of access tokens.
 fn is_access(kind: Kind) -> bool
     ensures { result ≡ spec.is_access kind }
 {
@@ -56,8 +58,10 @@ fn is_access(kind: Kind) -> bool
 // ---- single look-ups, each counted
 
 impl Ledger {
+    // Looks a fact up, and counts one look-up.
     fn look(&self, dot: Dot, steps: &mut Steps) -> Option<&Fact>
-        ensures value { option_copied result ≡ option_map (λ body. (dot, body)) (map.get (facts_of self.now) dot) }
+        ensures value { option_copied result ≡ option_map (λ body.
+            (dot, body)) (map.get (facts_of self.now) dot) }
         ensures first { steps.old + 1 < 2 ^ 64 → steps.new ≡ steps.old + 1 }
         ensures more { steps.old ≤ steps.new }
         ensures at_most { steps.new ≤ steps.old + 1 }
@@ -66,6 +70,7 @@ impl Ledger {
         self.store.get(dot)
     }
 
+    // Looks up the top of a dot in the forest, and counts one look-up.
     fn top(&self, dot: Dot, steps: &mut Steps) -> Top
         ensures value { by.TopSays (facts_of self.now) dot result }
         ensures more { steps.old ≤ steps.new }
@@ -74,6 +79,7 @@ impl Ledger {
         self.index.forest.top(dot, steps)
     }
 
+    // Returns whether the client is live, and counts one look-up.
     fn is_live_client(&self, client: Dot, steps: &mut Steps) -> bool
         ensures value { result ≡ clients_of.is_live_client (facts_of self.now) client }
         ensures more { steps.old ≤ steps.new }
@@ -83,6 +89,7 @@ impl Ledger {
         self.has_live_client(client)
     }
 
+    // Returns whether the consent was withdrawn, and counts one look-up.
     fn is_withdrawn(&self, consent: Dot, steps: &mut Steps) -> bool
         ensures value { result ≡ clients_of.is_withdrawn (facts_of self.now) consent }
         ensures more { steps.old ≤ steps.new }
@@ -92,6 +99,7 @@ impl Ledger {
         self.has_withdrawn(consent)
     }
 
+    // Returns whether a fact uses the token, and counts one look-up.
     fn is_used(&self, token: TokenId, steps: &mut Steps) -> bool
         ensures value { result ≡ tokens_of.is_used (facts_of self.now) token }
         ensures more { steps.old ≤ steps.new }
@@ -100,8 +108,10 @@ impl Ledger {
         self.index.forest.used(token, steps)
     }
 
+    // Returns whether the client revoked the token, and counts one look-up.
     fn is_revoked(&self, token: &TokenId, digest: &[u8; 32], client: Dot, steps: &mut Steps) -> bool
-        ensures value { result ≡ tokens_of.is_revoked (facts_of self.now) token.now digest.now client }
+        ensures value { result ≡ tokens_of.is_revoked (facts_of self.now) token.now digest.now
+            client }
         ensures more { steps.old ≤ steps.new }
         ensures at_most { steps.new ≤ steps.old + 1 }
     {
@@ -110,11 +120,13 @@ impl Ledger {
     }
 }
 
-// ---- what they tell together
+// ---- several look-ups together
 
 impl Ledger {
+    // Returns the fact that issued the code at the dot.
     fn issued_at(&self, code: Dot, steps: &mut Steps) -> Option<&CodeIssued>
-        ensures value { option_copied result ≡ tokens_of.issued_at (map.get (facts_of self.now)) code }
+        ensures value { option_copied result ≡ tokens_of.issued_at (map.get (facts_of self.now))
+            code }
         ensures more { steps.old ≤ steps.new }
         ensures at_most { steps.new ≤ steps.old + 1 }
     {
@@ -124,7 +136,7 @@ impl Ledger {
         }
     }
 
-    // The root that is this code.
+    // Returns the root with the code at the dot, if a code was issued there.
     fn root_of(&self, code: Dot, steps: &mut Steps) -> Option<Root<'_>>
         ensures value { result ≡ tokens_of.root_of (map.get (facts_of self.now)) code }
         ensures more { steps.old ≤ steps.new }
@@ -136,6 +148,7 @@ impl Ledger {
         }
     }
 
+    // Returns the consent that was given at the dot.
     fn consent_at(&self, at: Dot, steps: &mut Steps) -> Option<&ConsentGiven>
         ensures value { option_copied result ≡ clients_of.consent_at (facts_of self.now) at }
         ensures more { steps.old ≤ steps.new }
@@ -147,7 +160,7 @@ impl Ledger {
         }
     }
 
-    // Whether the consent of a code is live.
+    // Returns whether the consent of a code is live.
     fn is_live_consent(&self, code: &CodeIssued, steps: &mut Steps) -> bool
         ensures value { result ≡ clients_of.is_live_consent (facts_of self.now) code.now }
         ensures more { steps.old ≤ steps.new }
@@ -160,7 +173,7 @@ impl Ledger {
         ) && !self.is_withdrawn(code.consent, steps)
     }
 
-    // The first state that holds, by at most four look-ups.
+    // Returns the first state that holds of a token, by at most four look-ups.
     fn state(
         &self,
         now: Moment,
@@ -170,7 +183,8 @@ impl Ledger {
         issued: &CodeIssued,
         steps: &mut Steps,
     ) -> State
-        ensures value { result ≡ by.state_by dead (facts_of self.now) now token.now (shown_minted minted.now) issued.now }
+        ensures value { result ≡ by.state_by dead (facts_of self.now) now token.now
+            (shown_minted minted.now) issued.now }
         ensures more { steps.old ≤ steps.new }
         ensures at_most { steps.new ≤ steps.old + 4 }
     {
@@ -195,7 +209,7 @@ impl Ledger {
         }
     }
 
-    // Of a token under the code, where it is known whether its family is dead.
+    // Returns the status of a token under the code. `dead` is whether the code's family is dead.
     fn under<'a>(
         &'a self,
         now: Moment,
@@ -206,7 +220,8 @@ impl Ledger {
         code: Dot,
         steps: &mut Steps,
     ) -> Status<'a>
-        ensures value { result ≡ by.by_root dead (facts_of self.now) now token.now body.now (shown_minted minted.now) (tokens_of.root_of (map.get (facts_of self.now)) code) }
+        ensures value { result ≡ by.by_root dead (facts_of self.now) now token.now body.now
+            (shown_minted minted.now) (tokens_of.root_of (map.get (facts_of self.now)) code) }
         ensures more { steps.old ≤ steps.new }
         ensures at_most { steps.new ≤ steps.old + 5 }
     {
@@ -226,7 +241,7 @@ impl Ledger {
         }
     }
 
-    // Of a token that the fact minted so, by where its dot stands.
+    // Returns the status of a token that the fact minted, by the top of its dot.
     fn of_top<'a>(
         &'a self,
         now: Moment,
@@ -236,7 +251,8 @@ impl Ledger {
         top: Top,
         steps: &mut Steps,
     ) -> Status<'a>
-        ensures value { result ≡ by.by_top (facts_of self.now) now token.now body.now (shown_minted minted.now) top }
+        ensures value { result ≡ by.by_top (facts_of self.now) now token.now body.now
+            (shown_minted minted.now) top }
         ensures more { steps.old ≤ steps.new }
         ensures at_most { steps.new ≤ steps.old + 5 }
     {
@@ -248,7 +264,7 @@ impl Ledger {
         }
     }
 
-    // Where the token of a handle stands.
+    // Returns the status of a handle.
     pub(crate) fn of_handle(&self, now: Moment, handle: &Handle, steps: &mut Steps) -> Status<'_>
         ensures value { result ≡ spec.status_in (facts_of self.now) now handle.now }
         ensures at_least { steps.old + 8 < 2 ^ 64 → steps.old + 1 ≤ steps.new }

@@ -2,18 +2,19 @@
 
 use tk_handle::Dot;
 
-// A code, by the digest of its subject, SHA-256.
+// The key of a code: the SHA-256 digest of its subject, and its dot.
 #[derive(Clone, Copy, PartialEq, Eq, PartialOrd, Ord)]
 pub(crate) struct CodeKey {
     pub(crate) subject: [u8; 32],
     pub(crate) code: Dot,
 }
 
-// A sign-out, by the digest of its subject, so that the last of a subject comes first.
+// The key of a sign-out: the SHA-256 digest of its subject, the seconds left after its moment, and
+// its dot. The last sign-out of a subject is the first of its keys.
 #[derive(Clone, Copy, PartialEq, Eq, PartialOrd, Ord)]
 pub(crate) struct OutKey {
     pub(crate) subject: [u8; 32],
-    // The seconds from its moment to the last of all.
+    // The seconds from the sign-out's moment to the greatest moment.
     pub(crate) left: u64,
     pub(crate) place: Dot,
 }
@@ -25,7 +26,15 @@ ghost use Rattle.tk_handle.specs.Dot.{IsDot};
 ghost use Rattle.tk_handle.specs.Ranges.{IsMoment, greatest_moment};
 ghost use Rattle.tk_ledger.specs.declared.subject_keys.CodeKey.{CodeKey as the_code};
 ghost use Rattle.tk_ledger.specs.declared.subject_keys.OutKey.{OutKey as the_out};
-ghost use Rattle.tk_ledger.specs.Index.{least_dot, greatest_dot, code_cmp, code_key, out_cmp, out_key, left_after};
+ghost use Rattle.tk_ledger.specs.Index.{
+  least_dot,
+  greatest_dot,
+  code_cmp,
+  code_key,
+  out_cmp,
+  out_key,
+  left_after,
+};
 
 use crate::consent_keys::dot_range;
 use std::alloc::AllocError;
@@ -40,8 +49,11 @@ pub(crate) fn list_code(
     subject: &[u8; 32],
     code: Dot,
 ) -> Result<(), AllocError>
-    ensures ok { OnOk result ((k : the_code) → contains code_cmp codes.new k ≡ cond (eq_by_cmp code_cmp (code_key subject.now code) k) true (contains code_cmp codes.old k)) }
-    ensures err { OnErr result ((k : the_code) → contains code_cmp codes.new k ≡ contains code_cmp codes.old k) }
+    ensures ok { OnOk result ((k : the_code)
+        → contains code_cmp codes.new k ≡ cond (eq_by_cmp code_cmp (code_key subject.now code) k)
+        true (contains code_cmp codes.old k)) }
+    ensures err { OnErr result ((k : the_code)
+        → contains code_cmp codes.new k ≡ contains code_cmp codes.old k) }
     ensures ranged { IsDot code }
 {
     let _ranges = (code.region(), code.serial());
@@ -52,9 +64,11 @@ pub(crate) fn list_code(
     Ok(())
 }
 
-// Forgets a code that wasn't kept after all.
+// Removes the key of a code whose link could not be added.
 pub(crate) fn drop_code(codes: &mut BTreeSet<CodeKey>, subject: &[u8; 32], code: Dot)
-    ensures { (k : the_code) → contains code_cmp codes.new k ≡ cond (eq_by_cmp code_cmp (code_key subject.now code) k) false (contains code_cmp codes.old k) }
+    ensures { (k : the_code) → contains code_cmp codes.new k
+        ≡ cond (eq_by_cmp code_cmp (code_key subject.now code) k) false
+        (contains code_cmp codes.old k) }
 {
     codes.remove(&CodeKey {
         subject: *subject,
@@ -62,7 +76,7 @@ pub(crate) fn drop_code(codes: &mut BTreeSet<CodeKey>, subject: &[u8; 32], code:
     });
 }
 
-// The least key that a code of the subject can have, and the greatest.
+// Returns the least and the greatest key that a code of the subject can have.
 pub(crate) fn code_span(subject: &[u8; 32]) -> (CodeKey, CodeKey)
     ensures first { result.0 ≡ code_key subject.now least_dot }
     ensures last { result.1 ≡ code_key subject.now greatest_dot }
@@ -77,7 +91,7 @@ pub(crate) fn code_span(subject: &[u8; 32]) -> (CodeKey, CodeKey)
 
 // ---- sign-outs
 
-// The seconds from the moment to the last of all.
+// Returns the seconds from the moment to the greatest moment.
 pub(crate) fn left(moment: Moment) -> u64
     ensures value { result ≡ left_after moment }
     ensures ranged { IsMoment moment }
@@ -92,8 +106,12 @@ pub(crate) fn list_out(
     moment: Moment,
     place: Dot,
 ) -> Result<(), AllocError>
-    ensures ok { OnOk result ((k : the_out) → contains out_cmp outs.new k ≡ cond (eq_by_cmp out_cmp (out_key subject.now (left_after moment) place) k) true (contains out_cmp outs.old k)) }
-    ensures err { OnErr result ((k : the_out) → contains out_cmp outs.new k ≡ contains out_cmp outs.old k) }
+    ensures ok { OnOk result ((k : the_out)
+        → contains out_cmp outs.new k ≡ cond
+        (eq_by_cmp out_cmp (out_key subject.now (left_after moment) place) k) true
+        (contains out_cmp outs.old k)) }
+    ensures err { OnErr result ((k : the_out)
+        → contains out_cmp outs.new k ≡ contains out_cmp outs.old k) }
     ensures ranged { IsDot place }
     ensures early { IsMoment moment }
 {
@@ -106,7 +124,7 @@ pub(crate) fn list_out(
     Ok(())
 }
 
-// The least key that a sign-out of the subject can have, and the greatest.
+// Returns the least and the greatest key that a sign-out of the subject can have.
 pub(crate) fn out_span(subject: &[u8; 32]) -> (OutKey, OutKey)
     ensures first { result.0 ≡ out_key subject.now 0 least_dot }
     ensures last { result.1 ≡ out_key subject.now greatest_moment greatest_dot }

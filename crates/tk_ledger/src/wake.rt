@@ -1,4 +1,5 @@
-//! Revocations of refresh tokens and sign-outs of subjects, and the marks that they make once what they stop is there.
+//! Marks of refresh tokens that their client revoked, and of codes whose subject signed out,
+//! whichever fact arrives first.
 
 ghost use Rattle.std.specs.Prelude.{◌≡◌, ◌||◌};
 ghost use Rattle.std.specs.Option.{option_map};
@@ -9,7 +10,16 @@ ghost use Rattle.tk_handle.specs.declared.token_id.TokenId.{TokenId as the_token
 ghost use Rattle.tk_fact.specs.Tokens.{shown_minted};
 ghost use Rattle.tk_store.specs.Store.{facts_of};
 ghost use Rattle.tk_ledger.specs.Tokens.{links_in, is_ended as ended};
-ghost use Rattle.tk_ledger.specs.Index.{IsRevocations, IsOuts, codes_of, dots_of, wakes_refresh, wakes_code, woken, any_woken};
+ghost use Rattle.tk_ledger.specs.Index.{
+  IsRevocations,
+  IsOuts,
+  codes_of,
+  dots_of,
+  wakes_refresh,
+  wakes_code,
+  woken,
+  any_woken,
+};
 ghost use Rattle.tk_ledger.specs.ByTop.{ended_in};
 
 use crate::looks::{minted_at, root_above};
@@ -25,13 +35,15 @@ use tk_family::Forest;
 use tk_handle::{Dot, Kind, TokenId};
 use tk_store::FactStore;
 
+// Returns whether the client of the root revoked the token, by the table.
 fn is_ended_by(
     revocations: &BTreeSet<Revocation>,
     token: &TokenId,
     minted: &Option<Minted<'_>>,
     root: &Option<Root<'_>>,
 ) -> bool
-    ensures { result ≡ ended_in revocations.now token.now (option_map shown_minted minted.now) root.now }
+    ensures { result ≡ ended_in revocations.now token.now (option_map shown_minted minted.now)
+        root.now }
 {
     match (minted, root) {
         (Some(minted), Some(root)) => {
@@ -42,7 +54,7 @@ fn is_ended_by(
     }
 }
 
-// Whether the client of the code that it is under revoked the token.
+// Returns whether the client of the code that the token is under revoked the token.
 fn is_ended(
     facts: &FactStore,
     revocations: &BTreeSet<Revocation>,
@@ -50,7 +62,8 @@ fn is_ended(
     token: &TokenId,
 ) -> bool
     requires revocations { IsRevocations (facts_of facts.now) revocations.now }
-    requires links { (q : the_dot) → map.get forest.now.links q ≡ links_in (map.get (facts_of facts.now)) q }
+    requires links { (q : the_dot)
+        → map.get forest.now.links q ≡ links_in (map.get (facts_of facts.now)) q }
     ensures { result ≡ ended (facts_of facts.now) token.now }
 {
     is_ended_by(
@@ -61,13 +74,16 @@ fn is_ended(
     )
 }
 
-// Marks the refresh token of the dot, if its client revoked it. A token that is ended stands at a dot that has a link, so
-// this takes no memory.
+// Marks the refresh token of the dot, if its client revoked it. The dot of such a token has a link:
+// the mark allocates no memory.
 fn wake_refresh(facts: &FactStore, revocations: &BTreeSet<Revocation>, forest: &mut Forest, at: Dot)
     requires revocations { IsRevocations (facts_of facts.now) revocations.now }
-    requires links { (q : the_dot) → map.get forest.old.links q ≡ links_in (map.get (facts_of facts.now)) q }
+    requires links { (q : the_dot)
+        → map.get forest.old.links q ≡ links_in (map.get (facts_of facts.now)) q }
     ensures links { forest.new.links ≡ forest.old.links }
-    ensures marks { (k : the_token) → set.contains forest.new.marks k ≡ (wakes_refresh (facts_of facts.now) k at || set.contains forest.old.marks k) }
+    ensures marks { (k : the_token)
+        → set.contains forest.new.marks k ≡ (wakes_refresh (facts_of facts.now) k at
+        || set.contains forest.old.marks k) }
 {
     let token = TokenId {
         dot: at,
@@ -79,12 +95,16 @@ fn wake_refresh(facts: &FactStore, revocations: &BTreeSet<Revocation>, forest: &
     }
 }
 
-// Marks the code of the dot, if its subject signed out. It has a link too.
+// Marks the code of the dot, if its subject signed out. The dot of a code has a link: the mark
+// allocates no memory.
 fn wake_code(facts: &FactStore, outs: &BTreeSet<OutKey>, forest: &mut Forest, at: Dot)
     requires outs { IsOuts (facts_of facts.now) outs.now }
-    requires links { (q : the_dot) → map.get forest.old.links q ≡ links_in (map.get (facts_of facts.now)) q }
+    requires links { (q : the_dot)
+        → map.get forest.old.links q ≡ links_in (map.get (facts_of facts.now)) q }
     ensures links { forest.new.links ≡ forest.old.links }
-    ensures marks { (k : the_token) → set.contains forest.new.marks k ≡ (wakes_code (facts_of facts.now) k at || set.contains forest.old.marks k) }
+    ensures marks { (k : the_token)
+        → set.contains forest.new.marks k ≡ (wakes_code (facts_of facts.now) k at
+        || set.contains forest.old.marks k) }
 {
     let token = TokenId {
         dot: at,
@@ -96,7 +116,7 @@ fn wake_code(facts: &FactStore, outs: &BTreeSet<OutKey>, forest: &mut Forest, at
     }
 }
 
-// Marks what stands at the dot and is stopped.
+// Marks the code and the refresh token of the dot, if a sign-out or a revocation stops them.
 pub(crate) fn wake(
     facts: &FactStore,
     revocations: &BTreeSet<Revocation>,
@@ -106,15 +126,18 @@ pub(crate) fn wake(
 )
     requires revocations { IsRevocations (facts_of facts.now) revocations.now }
     requires outs { IsOuts (facts_of facts.now) outs.now }
-    requires links { (q : the_dot) → map.get forest.old.links q ≡ links_in (map.get (facts_of facts.now)) q }
+    requires links { (q : the_dot)
+        → map.get forest.old.links q ≡ links_in (map.get (facts_of facts.now)) q }
     ensures links { forest.new.links ≡ forest.old.links }
-    ensures marks { (k : the_token) → set.contains forest.new.marks k ≡ (woken (facts_of facts.now) k at || set.contains forest.old.marks k) }
+    ensures marks { (k : the_token)
+        → set.contains forest.new.marks k ≡ (woken (facts_of facts.now) k at
+        || set.contains forest.old.marks k) }
 {
     wake_code(facts, outs, forest, at);
     wake_refresh(facts, revocations, forest, at);
 }
 
-// Marks what is stopped at the dots.
+// Marks the tokens of the dots that a sign-out or a revocation stops.
 pub(crate) fn wake_all(
     facts: &FactStore,
     revocations: &BTreeSet<Revocation>,
@@ -124,16 +147,19 @@ pub(crate) fn wake_all(
 )
     requires revocations { IsRevocations (facts_of facts.now) revocations.now }
     requires outs { IsOuts (facts_of facts.now) outs.now }
-    requires links { (q : the_dot) → map.get forest.old.links q ≡ links_in (map.get (facts_of facts.now)) q }
+    requires links { (q : the_dot)
+        → map.get forest.old.links q ≡ links_in (map.get (facts_of facts.now)) q }
     ensures links { forest.new.links ≡ forest.old.links }
-    ensures marks { (k : the_token) → set.contains forest.new.marks k ≡ (any_woken (facts_of facts.now) k dots.now || set.contains forest.old.marks k) }
+    ensures marks { (k : the_token)
+        → set.contains forest.new.marks k ≡ (any_woken (facts_of facts.now) k dots.now
+        || set.contains forest.old.marks k) }
 {
     for at in dots {
         wake(facts, revocations, outs, forest, *at);
     }
 }
 
-// Marks what is stopped among the codes of a subject of the digest.
+// Marks the codes of a subject that a sign-out stops, by the digest of the subject.
 pub(crate) fn wake_codes(
     facts: &FactStore,
     revocations: &BTreeSet<Revocation>,
@@ -144,9 +170,13 @@ pub(crate) fn wake_codes(
 )
     requires revocations { IsRevocations (facts_of facts.now) revocations.now }
     requires outs { IsOuts (facts_of facts.now) outs.now }
-    requires links { (q : the_dot) → map.get forest.old.links q ≡ links_in (map.get (facts_of facts.now)) q }
+    requires links { (q : the_dot)
+        → map.get forest.old.links q ≡ links_in (map.get (facts_of facts.now)) q }
     ensures links { forest.new.links ≡ forest.old.links }
-    ensures marks { (k : the_token) → set.contains forest.new.marks k ≡ (any_woken (facts_of facts.now) k (dots_of (codes_of codes.now subject.now)) || set.contains forest.old.marks k) }
+    ensures marks { (k : the_token)
+        → set.contains forest.new.marks k
+        ≡ (any_woken (facts_of facts.now) k (dots_of (codes_of codes.now subject.now))
+        || set.contains forest.old.marks k) }
 {
     let (first, last) = code_span(subject);
     for key in codes.range((Bound::Included(first), Bound::Included(last))) {

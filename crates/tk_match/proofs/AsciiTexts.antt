@@ -1,4 +1,6 @@
--- The texts that may be kept are ASCII, and so are UTF-8: `uri_utf8` and `verifier_utf8`, cited by the readers.
+-- Texts that may be kept are ASCII, and therefore UTF-8.
+--   uri_utf8         a redirection URI is UTF-8
+--   verifier_utf8    a verifier is UTF-8
 use Rattle.std.proofs.Common.{◌≡◌, ℕ, ◌<◌, Bool, true, false, zero, suc, ◌&&◌, List, [], ◌∷◌, arith, refl}
 use mathlib.Core.Bool.{false≢true}
 use Rattle.std.specs.List.{list_all}
@@ -8,12 +10,12 @@ use Rattle.std.proofs.lemmas.Bool.Decides.{nat_tests}
 use Rattle.tk_match.specs.Redirects.{is_uri, is_uri_byte}
 use Rattle.tk_match.specs.Challenge.{is_verifier, is_unreserved}
 
--- both sides of a conjunction hold
+-- both of two tests that hold together hold
 both_true : (a b : Bool) → (a && b) ≡ true → (a ≡ true) × (b ≡ true)
 both_true true b h = (refl, h)
 both_true false b h = absurd (false≢true h)
 
--- bytes that all pass a test of ASCII are ASCII
+-- a list of bytes is ASCII if each byte passes a test that only ASCII bytes pass
 IsAscii-list_all : (p : ℕ → Bool) → ((b : ℕ) → p b ≡ true → b < 128) → (text : List ℕ) → list_all p text ≡ true → IsAscii text
 IsAscii-list_all p below [] h i = omega arith
 IsAscii-list_all p below (b ∷ text) h zero = let s = below b (both_true _ _ h).0 in omega arith
@@ -31,6 +33,6 @@ unreserved_ascii b h = grind (arith, nat_tests)
 pub uri_utf8 : (text : List ℕ) → is_uri text ≡ true → IsUtf8 text
 uri_utf8 text h = IsUtf8-from_ascii text (IsAscii-list_all is_uri_byte uri_byte_ascii text (both_true _ _ h).1)
 
--- a verifier is UTF-8, and so is a challenge
+-- a verifier is UTF-8; a challenge has the same grammar
 pub verifier_utf8 : (text : List ℕ) → is_verifier text ≡ true → IsUtf8 text
 verifier_utf8 text h = IsUtf8-from_ascii text (IsAscii-list_all is_unreserved unreserved_ascii text (both_true _ _ h).1)

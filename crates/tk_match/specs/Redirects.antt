@@ -1,10 +1,31 @@
--- Which lists of redirection URIs a client may have (RFC 6749, 3.1.2; the limits and `is_absolute` are own).
---   is_uri                 a text that may be kept, of `most_uri_bytes` at most
---   redirects_refusal      the first rule that a list breaks, of `most_uris` at most
---   redirects_of           the list, where it breaks none
---   ReadsAsUrl, Refuses    what the URL Standard says of a text, as the crate `url` defines it
---   registration_refusal   the first rule that a list breaks where its URIs are read too
-use Rattle.std.specs.Prelude.{◌≡◌, ℕ, Bool, ◌&&◌, ◌==◌, not, nat_lt, nat_le, is_none, is_some, is_ok, if◌then◌else◌, List, length, Option, None, Some, Ok, Err}
+-- Which lists of redirection URIs a client may have (RFC 6749, 3.1.2; the limits and `is_absolute`
+-- are own).
+--   is_uri                 a text may be kept: at most `most_uri_bytes`
+--   redirects_refusal      the first rule that a list breaks: at most `most_uris` URIs
+--   redirects_of           the list, if it breaks no rule
+--   ReadsAsUrl, Refuses    the crate `url` reads a text as a URL, or refuses it
+--   registration_refusal   the first rule that a list breaks if its URIs must be URLs too
+use Rattle.std.specs.Prelude.{
+  ◌≡◌,
+  ℕ,
+  Bool,
+  ◌&&◌,
+  ◌==◌,
+  not,
+  nat_lt,
+  nat_le,
+  is_none,
+  is_some,
+  is_ok,
+  if◌then◌else◌,
+  List,
+  length,
+  Option,
+  None,
+  Some,
+  Ok,
+  Err,
+}
 use Rattle.std.specs.List.{list_all}
 use Rattle.url.specs.Parser.{parse_url, IsOutOfRoom}
 use Rattle.url.specs.Parts.{Parts}
@@ -16,19 +37,20 @@ use Rattle.tk_match.specs.declared.redirects.RedirectError.TheVariants.{Empty, T
 abbrev pub is_uri_byte : ℕ → Bool
 is_uri_byte b = nat_le 33 b && nat_le b 126 && not (b == 35)
 
--- the most bytes of a URI (own)
+-- the greatest length of a URI in bytes (own)
 abbrev pub most_uri_bytes : ℕ
 most_uri_bytes = 512
 
--- 1 to that many such bytes (own)
+-- a text that may be kept as a URI: 1 to `most_uri_bytes` visible bytes without `#` (own)
 abbrev pub is_uri : List ℕ → Bool
 is_uri uri = nat_le 1 (length uri) && nat_le (length uri) most_uri_bytes && list_all is_uri_byte uri
 
--- the most URIs of a client, equal ones counted (own)
+-- the greatest number of URIs of a client, counting equal ones (own)
 abbrev pub most_uris : ℕ
 most_uris = 8
 
--- the first rule that a list breaks: 1 to `most_uris` texts, each of which may be kept (own)
+-- the first rule that a list of URIs breaks: 1 to `most_uris` texts, each of which may be kept
+-- (own)
 abbrev pub redirects_refusal : List (List ℕ) → Option RedirectError
 redirects_refusal uris =
     if length uris == 0 then Some Empty
@@ -36,7 +58,7 @@ redirects_refusal uris =
     else if list_all is_uri uris then None
     else Some Bad
 
--- the list itself, where it breaks no rule
+-- the list itself, if it breaks no rule
 abbrev pub redirects_of : List (List ℕ) → Option (List (List ℕ))
 redirects_of uris = if is_none (redirects_refusal uris) then Some uris else None
 
@@ -44,15 +66,16 @@ redirects_of uris = if is_none (redirects_refusal uris) then Some uris else None
 abbrev pub ReadsAsUrl : List ℕ → Type 0
 ReadsAsUrl text = (url : Parts) × (parse_url None text ≡ Ok url)
 
--- it refuses the text, and not for want of room
+-- the URL Standard refuses the text, and not because it is too long
 abbrev pub Refuses : List ℕ → Type 0
 Refuses text = (e : ParseError) × (parse_url None text ≡ Err e) × (IsOutOfRoom e → ⊥)
 
--- `ReadsAsUrl` as a test (own; in place of RFC 3986, 4.3, and mostly laxer: any scheme, `\` for `/`, bytes like `<`)
+-- `ReadsAsUrl` as a test (own). The test is in place of RFC 3986, 4.3, and mostly laxer: any
+-- scheme, `\` for `/`, bytes like `<`
 abbrev pub is_absolute : List ℕ → Bool
 is_absolute uri = is_ok (parse_url None uri)
 
--- the first rule that a list breaks where each URI must be read as a URL too
+-- the first rule that a list of URIs breaks if each must be read as a URL too
 abbrev pub registration_refusal : List (List ℕ) → Option RedirectError
 registration_refusal uris =
     if is_some (redirects_refusal uris) then redirects_refusal uris

@@ -1,8 +1,9 @@
-//! What a client proves to know the verifier of (RFC 7636).
+//! Code challenges of PKCE (RFC 7636), and the verifiers that meet them.
 
 use std::marker::Model;
 
-/// What a client sends ahead, and must later prove to know the verifier of (RFC 7636, 4.2 and 4.3).
+/// A code challenge (RFC 7636, 4.2 and 4.3): a client sends it first, and later proves that it
+/// knows the verifier.
 #[derive(Drop)]
 pub struct Challenge {
     is_s256: bool,
@@ -20,14 +21,17 @@ impl Model for Challenge {
     ghost invariant = { λ c. IsTrue (is_verifier (string_bytes c.text)) };
 }
 
-/// Why a challenge is refused: the first that holds, in this order, but `Memory` may come at any call.
+/// The reason why a challenge was refused.
+///
+/// The tests are made in the order of the variants, and the first that fails is returned. `Memory`
+/// may be returned by any call.
 #[derive(Clone, Copy)]
 pub enum ChallengeError {
     /// The method is neither `plain` nor `S256`.
     Method,
-    /// The text isn't 43 to 128 unreserved bytes.
+    /// The text is not 43 to 128 unreserved bytes.
     Grammar,
-    /// A growth of memory was refused.
+    /// Memory ran out.
     Memory,
 }
 
@@ -44,23 +48,31 @@ impl From<AllocError> for ChallengeError {
 
 ghost use Rattle.std.specs.Prelude.{◌≡◌, ◌↔◌, IfOk, IsErrOf, IsTrue, Some, None, true};
 ghost use Rattle.std.specs.List.{list_all};
-ghost use Rattle.tk_match.specs.Challenge.{is_unreserved, is_verifier, challenge_refusal, challenge_of, challenge_text, Meets, is_met};
+ghost use Rattle.tk_match.specs.Challenge.{
+  is_unreserved,
+  is_verifier,
+  challenge_refusal,
+  challenge_of,
+  challenge_text,
+  Meets,
+  is_met,
+};
 
 use base64::engine::general_purpose::URL_SAFE_NO_PAD;
 use sha2::{Digest, Sha256};
 use std::alloc::{AllocError, Global};
 
-/// The fewest bytes of a verifier, and of a challenge (RFC 7636, 4.1 and 4.2).
+/// The least length in bytes of a verifier and of a challenge (RFC 7636, 4.1 and 4.2).
 const FEWEST_BYTES: usize = 43;
 
-/// And the most.
+/// The greatest length in bytes of a verifier and of a challenge (RFC 7636, 4.1 and 4.2).
 const MOST_BYTES: usize = 128;
 
 impl Challenge {
-    /// The challenge of a method and a text as they were sent, refused for the first cause that holds, in the order of
-    /// [`ChallengeError`].
+    /// Reads a challenge from a method and a text, as they were sent.
     ///
-    /// An empty method is refused too: what a request without one means isn't said here.
+    /// Returns the first error that applies, in the order of [`ChallengeError`]. An empty method is
+    /// refused too: the caller decides what a request without a method means.
     pub fn read(alloc: Global, method: &[u8], text: &[u8]) -> Result<Challenge, ChallengeError>
         ensures ok { IfOk result (λ c. challenge_of method.now text.now ≡ Some c) }
         ensures method { IsErrOf result ChallengeError.Method
@@ -68,9 +80,11 @@ impl Challenge {
         ensures grammar { IsErrOf result ChallengeError.Grammar
             → challenge_refusal method.now text.now ≡ Some ChallengeError.Grammar }
 
-        // The same in the words of `challenge_of`, for a format of challenges.
-        ensures method_none { IsErrOf result ChallengeError.Method → challenge_of method.now text.now ≡ None }
-        ensures grammar_none { IsErrOf result ChallengeError.Grammar → challenge_of method.now text.now ≡ None }
+        // These clauses state the errors by `challenge_of`, for a format of challenges.
+        ensures method_none { IsErrOf result ChallengeError.Method
+            → challenge_of method.now text.now ≡ None }
+        ensures grammar_none { IsErrOf result ChallengeError.Grammar
+            → challenge_of method.now text.now ≡ None }
     {
         let is_s256 = method == b"S256".as_slice();
         if !is_s256 && method != b"plain".as_slice() {
@@ -86,7 +100,7 @@ impl Challenge {
         Ok(Challenge { is_s256, text })
     }
 
-    /// Whether the verifier is one, and is that of the challenge (RFC 7636, 4.6).
+    /// Returns whether the verifier is well-formed and meets the challenge (RFC 7636, 4.6).
     pub fn meets(&self, verifier: &[u8]) -> bool
         ensures value { result ≡ is_met self.now verifier.now }
         ensures meaning { IsTrue result ↔ Meets self.now verifier.now }
@@ -101,14 +115,14 @@ impl Challenge {
         }
     }
 
-    /// Whether the method is `S256`, and else `plain`.
+    /// Returns whether the method is `S256`. Otherwise the method is `plain`.
     pub fn is_s256(&self) -> bool
         ensures { result ≡ self.now.is_s256 }
     {
         self.is_s256
     }
 
-    /// The text as it was sent.
+    /// Returns the text as it was sent.
     pub fn text(&self) -> &str
         ensures value { result.now ≡ self.now.text }
         ensures known { IsTrue (is_verifier self.now.text) }
@@ -116,7 +130,7 @@ impl Challenge {
         self.text.as_str()
     }
 
-    /// The same challenge, in memory of its own; an error where memory is refused.
+    /// Returns a copy of this challenge. Fails if memory runs out.
     pub fn copy(&self, alloc: Global) -> Result<Challenge, AllocError>
         ensures { IfOk result (λ c. c ≡ self.now) }
     {
@@ -127,7 +141,7 @@ impl Challenge {
         })
     }
 
-    /// Whether both have the same method and the same text.
+    /// Returns whether both have the same method and the same text.
     pub fn same(&self, other: &Challenge) -> bool
         ensures { IsTrue result ↔ (self.now ≡ other.now) }
     {
@@ -135,7 +149,7 @@ impl Challenge {
     }
 }
 
-// The S256 challenge of a verifier.
+// Returns the S256 challenge of a verifier.
 fn s256(verifier: &[u8]) -> [u8; 43]
     ensures { result ≡ challenge_text true verifier.now }
 {
@@ -144,6 +158,7 @@ fn s256(verifier: &[u8]) -> [u8; 43]
     text
 }
 
+// Returns whether the text is 43 to 128 unreserved bytes.
 fn is_verifier(text: &[u8]) -> bool
     ensures { result ≡ is_verifier text.now }
 {

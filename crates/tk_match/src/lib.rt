@@ -1,15 +1,18 @@
-//! What a request's redirection URI and its code verifier are matched against (RFC 6749, 3.1.2; RFC 7636).
+//! Matching of redirection URIs and of code verifiers (RFC 6749, 3.1.2; RFC 7636).
 //!
-//! `Redirects` are the redirection URIs of a client: which lists may be registered, and which URI a request means,
-//! told by a `Pick`. `reply_uri` is the URI that a browser is sent back to. `Challenge` is what a client proves
-//! later, by a verifier that meets it.
+//! In reading order:
 //!
-//! What a request is answered stands above, and so does when a challenge is demanded. Two URIs are one where their
-//! bytes are: nothing is normalised, and a port never varies. Which texts are absolute URLs is the definition of
-//! the crate `url`. Nothing is said of the time that a comparison takes.
+//! - `Uri`, a redirection URI, byte for byte;
+//! - `Redirects`, the redirection URIs of a client, and which lists may be registered;
+//! - `Pick`, which registered URI a request means;
+//! - `reply_uri`, the URI that a browser is sent back to;
+//! - `Challenge`, which a client later meets with a verifier.
 //!
-//! In reading order: `Uri`, `Redirects`, `Pick`, `reply_uri`, `Challenge`. The definitions are in specs/:
-//! `Redirects`, `Pick`, `ReplyUri`, `Challenge`.
+//! The crates above decide the reply to a request, and when a challenge is required. Two URIs
+//! are equal if their bytes are: nothing is normalised, and a port never varies. The crate `url`
+//! defines which texts are absolute URLs. No claim is made about the time that a comparison takes.
+//!
+//! The definitions are in `specs/`: `Redirects`, `Pick`, `ReplyUri`, `Challenge`.
 #![tactic(auto)]
 
 mod challenge;

@@ -8,18 +8,18 @@ ghost use Rattle.tk_match.specs.Redirects.{is_uri};
 
 use crate::uri::Uri;
 
-/// Which registered URI a request means (RFC 6749, 3.1.2.3).
+/// The registered URI that a request means, or why it means no URI (RFC 6749, 3.1.2.3).
 #[derive(Clone, Copy)]
 pub enum Pick<'a> {
-    /// The registered URI that was sent, or the only one where none was.
+    /// The registered URI that was sent, or the only registered URI if no URI was sent.
     Uri(&'a [u8]),
-    /// None was sent, and several are registered.
+    /// No URI was sent, and several are registered.
     Missing,
     /// The URI that was sent isn't registered.
     Unknown,
 }
 
-// The registered URI with these bytes.
+// Returns the registered URI with these bytes.
 #[tactic(auto, using(crate::proofs::AsciiTexts::uri_utf8, crate::proofs::Picks::find_sent))]
 pub(crate) fn registered_uri<'a>(uris: &'a [Uri], sent: &[u8]) -> Pick<'a>
     ensures value { shown_pick result ≡ picked uris.now (Some sent.now) }
@@ -38,7 +38,7 @@ fn find_uri<'a>(uris: &'a [Uri], sent: &[u8]) -> Option<&'a Uri>
     uris.iter().find(|uri| sent == uri.as_bytes())
 }
 
-// The only URI, where there are no others.
+// Returns the only URI, if there are no others.
 #[tactic(auto, using(crate::proofs::AsciiTexts::uri_utf8))]
 pub(crate) fn only_uri(uris: &[Uri]) -> Pick<'_>
     ensures value { shown_pick result ≡ picked uris.now None }

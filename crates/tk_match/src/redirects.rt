@@ -3,7 +3,8 @@
 use crate::uri::Uri;
 use std::marker::Model;
 
-/// The redirection URIs of a client, as they were registered: 1 to 8, equal ones counted (RFC 6749, 3.1.2).
+/// The redirection URIs of a client as they were registered: 1 to 8, counting equal ones (RFC 6749,
+/// 3.1.2).
 #[derive(Drop)]
 pub struct Redirects {
     uris: Vec<Uri>,
@@ -21,17 +22,20 @@ impl Model for Redirects {
     ghost invariant = { λ r. redirects_refusal r.uris.items ≡ None };
 }
 
-/// Why a list of redirection URIs is refused: the first that holds, in this order, but `Memory` may come at any
-/// call.
+/// The reason why a list of redirection URIs was refused.
+///
+/// The tests are made in the order of the variants, and the first that fails is returned. `Memory`
+/// may be returned by any call.
 #[derive(Clone, Copy)]
 pub enum RedirectError {
-    /// No URI.
+    /// The list has no URI.
     Empty,
-    /// More than 8 URIs, equal ones counted.
+    /// The list has more than 8 URIs, counting equal ones.
     TooMany,
-    /// A URI that isn't 1 to 512 visible ASCII bytes without `#`, or isn't an absolute URL where it was to be one.
+    /// A URI is not 1 to 512 visible ASCII bytes without `#`, or is no absolute URL though that was
+    /// required.
     Bad,
-    /// A growth of memory was refused, or a URL was too long to be read.
+    /// Memory ran out, or a URL was too long to be read.
     Memory,
 }
 
@@ -46,24 +50,52 @@ impl From<AllocError> for RedirectError {
     }
 }
 
-ghost use Rattle.std.specs.Prelude.{◌≡◌, ◌↔◌, ◌⊎◌, ◌++◌, ◌∷◌, [], All, Any, IfOk, IfErr, OnOk, IsErrOf, IsTrue, None, Some, true, false, map};
+ghost use Rattle.std.specs.Prelude.{
+  ◌≡◌,
+  ◌↔◌,
+  ◌⊎◌,
+  ◌++◌,
+  ◌∷◌,
+  [],
+  All,
+  Any,
+  IfOk,
+  IfErr,
+  OnOk,
+  IsErrOf,
+  IsTrue,
+  None,
+  Some,
+  true,
+  false,
+  map,
+};
 ghost use Rattle.std.specs.List.{list_all};
 ghost use Rattle.std.specs.Option.{option_copied};
 ghost use Rattle.std.specs.Str.{IsUtf8};
 ghost use Rattle.tk_match.specs.Pick.{picked, shown_pick, IfUri};
-ghost use Rattle.tk_match.specs.Redirects.{is_uri, redirects_refusal, redirects_of, registration_refusal, is_absolute, ReadsAsUrl, Refuses};
+ghost use Rattle.tk_match.specs.Redirects.{
+  is_uri,
+  redirects_refusal,
+  redirects_of,
+  registration_refusal,
+  is_absolute,
+  ReadsAsUrl,
+  Refuses,
+};
 
 use crate::pick::{Pick, only_uri, registered_uri};
 use std::alloc::{AllocError, Global};
 
-/// The most URIs of a client, equal ones counted (own).
+/// The greatest number of URIs of a client, counting equal ones. This limit is our own.
 const MOST_URIS: usize = 8;
 
 impl Redirects {
-    /// A list that is registered here: `url` reads each URI without a base too, whatever its scheme. It is refused for
-    /// the first cause that holds, in the order of [`RedirectError`].
+    /// Returns the list of URIs, checked for a registration at this region.
     ///
-    /// `Memory` is also the answer where a URL is too long for `url`, whose contract doesn't say when that is.
+    /// Each URI must be a URL that the crate `url` reads without a base, whatever its scheme.
+    /// Returns the first error that applies, in the order of [`RedirectError`]. `Memory` is also
+    /// returned if a URL is too long for `url`, whose contract gives no bound.
     pub fn new(alloc: Global, uris: &[&[u8]]) -> Result<Redirects, RedirectError>
         ensures ok { IfOk result (λ r. redirects_of (map (λ x. x.now) uris.now) ≡ Some r) }
         ensures absolute { OnOk result (All ReadsAsUrl (map (λ x. x.now) uris.now)) }
@@ -75,7 +107,7 @@ impl Redirects {
         ensures bad { IsErrOf result RedirectError.Bad
             → registration_refusal (map (λ x. x.now) uris.now) ≡ Some RedirectError.Bad }
 
-        // A URL that `url` refuses for want of room is never `Bad`.
+        // A URL that `url` refuses because it is too long is never reported as `Bad`.
         ensures refused { IsErrOf result RedirectError.Bad
             → (redirects_refusal (map (λ x. x.now) uris.now) ≡ Some RedirectError.Bad)
             ⊎ Any Refuses (map (λ x. x.now) uris.now) }
@@ -85,8 +117,10 @@ impl Redirects {
         Ok(redirects)
     }
 
-    /// A list that was registered elsewhere: whether its URIs are absolute URLs isn't asked. It is refused for the first
-    /// cause that holds, in the order of [`RedirectError`].
+    /// Returns the list of URIs, as another region registered it.
+    ///
+    /// The URIs need not be absolute URLs. Returns the first error that applies, in the order of
+    /// [`RedirectError`].
     pub fn kept(alloc: Global, uris: &[&[u8]]) -> Result<Redirects, RedirectError>
         ensures ok { IfOk result (λ r. redirects_of (map (λ x. x.now) uris.now) ≡ Some r) }
         ensures empty { IsErrOf result RedirectError.Empty
@@ -96,10 +130,13 @@ impl Redirects {
         ensures bad { IsErrOf result RedirectError.Bad
             → redirects_refusal (map (λ x. x.now) uris.now) ≡ Some RedirectError.Bad }
 
-        // The same in the words of `redirects_of`, for a format of such lists.
-        ensures empty_none { IsErrOf result RedirectError.Empty → redirects_of (map (λ x. x.now) uris.now) ≡ None }
-        ensures too_many_none { IsErrOf result RedirectError.TooMany → redirects_of (map (λ x. x.now) uris.now) ≡ None }
-        ensures bad_none { IsErrOf result RedirectError.Bad → redirects_of (map (λ x. x.now) uris.now) ≡ None }
+        // These clauses state the errors by `redirects_of`, for a format of such lists.
+        ensures empty_none { IsErrOf result RedirectError.Empty
+            → redirects_of (map (λ x. x.now) uris.now) ≡ None }
+        ensures too_many_none { IsErrOf result RedirectError.TooMany
+            → redirects_of (map (λ x. x.now) uris.now) ≡ None }
+        ensures bad_none { IsErrOf result RedirectError.Bad
+            → redirects_of (map (λ x. x.now) uris.now) ≡ None }
     {
         if uris.is_empty() {
             return Err(RedirectError::Empty);
@@ -111,21 +148,21 @@ impl Redirects {
         Ok(Redirects { uris })
     }
 
-    /// The URIs in the order of their registration.
+    /// Returns the URIs in the order of their registration.
     pub fn uris(&self) -> &[Uri]
         ensures { result.now ≡ self.now }
     {
         self.uris.as_slice()
     }
 
-    /// Tells a caller's proof that the list breaks no rule.
+    /// Gives a caller's proof the fact that the list breaks no rule. Does nothing at run time.
     pub fn known(&self)
         ensures { redirects_refusal self.now ≡ None }
     {
         let _ = &self.uris;
     }
 
-    /// The same URIs in the same order, in memory of their own; an error where memory is refused.
+    /// Returns a copy of the list, in the same order. Fails if memory runs out.
     pub fn copy(&self, alloc: Global) -> Result<Redirects, AllocError>
         ensures { IfOk result (λ r. r ≡ self.now) }
     {
@@ -133,14 +170,15 @@ impl Redirects {
         Ok(Redirects { uris })
     }
 
-    /// Whether both have the same URIs in the same order.
+    /// Returns whether both have the same URIs in the same order.
     pub fn same(&self, other: &Redirects) -> bool
         ensures { IsTrue result ↔ (self.now ≡ other.now) }
     {
         same_uris(&self.uris, &other.uris)
     }
 
-    /// The URI that a request means, by the one that it sent (RFC 6749, 3.1.2.3).
+    /// Returns the registered URI that a request means, given the URI that it sent (RFC 6749,
+    /// 3.1.2.3).
     pub fn pick(&self, sent: Option<&[u8]>) -> Pick<'_>
         ensures value { shown_pick result ≡ picked self.now (option_copied sent.entry) }
         ensures uri { IfUri result (λ uri. IsTrue (is_uri uri)) }
@@ -153,11 +191,13 @@ impl Redirects {
     }
 }
 
+// Reads each of the texts as a URI.
 fn read_each(alloc: Global, texts: &[&[u8]]) -> Result<Vec<Uri>, RedirectError>
     ensures ok { IfOk result (λ uris. uris.items ≡ map (λ x. x.now) texts.now) }
     ensures rule { OnOk result (list_all is_uri (map (λ x. x.now) texts.now) ≡ true) }
     ensures err { IfErr result (λ e. (e ≡ RedirectError.Bad) ⊎ (e ≡ RedirectError.Memory)) }
-    ensures bad { IsErrOf result RedirectError.Bad → list_all is_uri (map (λ x. x.now) texts.now) ≡ false }
+    ensures bad { IsErrOf result RedirectError.Bad
+        → list_all is_uri (map (λ x. x.now) texts.now) ≡ false }
 {
     let mut uris = Vec::with_capacity(alloc, texts.len())?;
     for text in texts {
@@ -166,7 +206,7 @@ fn read_each(alloc: Global, texts: &[&[u8]]) -> Result<Vec<Uri>, RedirectError>
     Ok(uris)
 }
 
-// Reads one more URI behind the others.
+// Reads one URI and adds it behind the others.
 fn put_read(alloc: Global, uris: &mut Vec<Uri>, text: &[u8]) -> Result<(), RedirectError>
     ensures ok { OnOk result (uris.new.items ≡ uris.old.items ++ (text.now ∷ [])) }
     ensures rule { OnOk result (is_uri text.now ≡ true) }
@@ -180,6 +220,7 @@ fn put_read(alloc: Global, uris: &mut Vec<Uri>, text: &[u8]) -> Result<(), Redir
     }
 }
 
+// Fails with `Bad` at the first URI that is no absolute URL.
 fn check_absolute(alloc: Global, uris: &[Uri]) -> Result<(), RedirectError>
     ensures ok { OnOk result (list_all is_absolute uris.now ≡ true) }
     ensures err { IfErr result (λ e. (e ≡ RedirectError.Bad) ⊎ (e ≡ RedirectError.Memory)) }

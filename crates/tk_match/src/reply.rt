@@ -7,8 +7,10 @@ ghost use Rattle.tk_match.specs.ReplyUri.{joint, reply_of};
 use form_urlencoded::Serializer;
 use std::alloc::{AllocError, Global};
 
-/// The URI that a browser is sent back to: the URI, then `?`, or `&` where it holds a `?`, then the pairs in form
-/// encoding (RFC 6749, 4.1.2). So an empty query gives `?&`. An error where memory is refused.
+/// Returns the URI that a browser is sent back to (RFC 6749, 4.1.2).
+///
+/// The result is `uri`, then `&` if `uri` contains a `?` and otherwise `?`, then the pairs in form
+/// encoding. A `uri` that ends in an empty query therefore gives `?&`. Fails if memory runs out.
 pub fn reply_uri(alloc: Global, uri: &str, pairs: &[(&str, &str)]) -> Result<String, AllocError>
     ensures { IfOk result (λ text. string_bytes text ≡ reply_of uri.now (map pair_text pairs.now)) }
 {
@@ -19,6 +21,7 @@ pub fn reply_uri(alloc: Global, uri: &str, pairs: &[(&str, &str)]) -> Result<Str
     Ok(form.finish())
 }
 
+// Returns the URI with `&` or `?` behind it.
 fn with_joint(alloc: Global, uri: &str) -> Result<String, AllocError>
     ensures { IfOk result (λ text. string_bytes text ≡ uri.now ++ joint uri.now ∷ []) }
 {

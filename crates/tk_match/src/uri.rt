@@ -2,7 +2,8 @@
 
 use std::marker::Model;
 
-/// A redirection URI that may be kept: 1 to 512 visible ASCII bytes, none of them `#`. Contracts see its bytes.
+/// A redirection URI that may be kept: 1 to 512 visible ASCII bytes, none of them `#`. Contracts
+/// see its bytes.
 #[derive(Drop)]
 pub struct Uri {
     text: String,
@@ -28,11 +29,11 @@ use crate::redirects::RedirectError;
 use std::alloc::{AllocError, Global};
 use url::{ParseError, Url};
 
-/// The most bytes of a URI (own).
+/// The greatest length of a URI in bytes. This limit is our own.
 const MOST_BYTES: usize = 512;
 
 impl Uri {
-    /// The text itself.
+    /// Returns the URI as a text.
     pub fn as_str(&self) -> &str
         ensures value { result.now ≡ self.now }
         ensures known { IsTrue (is_uri self.now) }
@@ -40,7 +41,7 @@ impl Uri {
         self.text.as_str()
     }
 
-    /// The bytes of the text.
+    /// Returns the bytes of the URI.
     pub fn as_bytes(&self) -> &[u8]
         ensures value { result.now ≡ self.now }
         ensures known { IsTrue (is_uri self.now) }
@@ -48,8 +49,10 @@ impl Uri {
         self.text.as_bytes()
     }
 
-    /// The URI of these bytes: `Bad` where they aren't one that may be kept, and `Memory` where memory is refused. No
-    /// other error comes. Whether it is an absolute URL isn't asked.
+    /// Reads a URI from its bytes. The URI need not be an absolute URL.
+    ///
+    /// Returns `Bad` if the bytes are no URI that may be kept, and `Memory` if memory runs out. No
+    /// other error is returned.
     pub fn read(alloc: Global, text: &[u8]) -> Result<Uri, RedirectError>
         ensures ok { IfOk result (λ uri. (uri ≡ text.now) × IsTrue (is_uri text.now)) }
         ensures err { IfErr result (λ e. (e ≡ RedirectError.Bad) ⊎ (e ≡ RedirectError.Memory)) }
@@ -65,7 +68,7 @@ impl Uri {
         Ok(Uri { text })
     }
 
-    /// The same URI, in memory of its own; an error where memory is refused.
+    /// Returns a copy of this URI. Fails if memory runs out.
     pub fn copy(&self, alloc: Global) -> Result<Uri, AllocError>
         ensures { IfOk result (λ uri. uri ≡ self.now) }
     {
@@ -73,14 +76,14 @@ impl Uri {
         Ok(Uri { text })
     }
 
-    /// Whether both have the same bytes (RFC 6749, 3.1.2.3).
+    /// Returns whether both have the same bytes (RFC 6749, 3.1.2.3).
     pub fn same(&self, other: &Uri) -> bool
         ensures { IsTrue result ↔ (self.now ≡ other.now) }
     {
         self.as_str() == other.as_str()
     }
 
-    // A URL that is too long for `url` is refused for want of memory.
+    // A URL that is too long for `url` is refused with `Memory`.
     pub(crate) fn check_absolute(&self, alloc: Global) -> Result<(), RedirectError>
         ensures ok { OnOk result (is_absolute self.now ≡ true) }
         ensures err { IfErr result (λ e. (e ≡ RedirectError.Bad) ⊎ (e ≡ RedirectError.Memory)) }
@@ -95,6 +98,7 @@ impl Uri {
     }
 }
 
+// Returns whether the text is 1 to 512 visible ASCII bytes without `#`.
 fn is_uri(text: &[u8]) -> bool
     ensures { result ≡ is_uri text.now }
 {

@@ -1,7 +1,7 @@
 -- The client that credentials prove (RFC 6749, 2.3 and 3.2.1).
---   is_digest_of    a digest is that of the secret
---   proves          the secret is that of a client of this sort
---   authenticated   the live client that the credentials prove
+--   is_digest_of    a digest is that of a secret
+--   proves          a secret is that of a client of some kind
+--   authenticated   the live client that credentials prove
 use Rattle.std.specs.Prelude.{ℕ, Bool, true, false, ◌&&◌, List, Option, Some, None, if◌then◌else◌}
 use Rattle.std.specs.Option.{option_and_then}
 use Rattle.std.specs.Str.{bytes_eq}
@@ -22,21 +22,24 @@ abbrev pub is_digest_of : List ℕ → Option (List ℕ) → Bool
 is_digest_of digest None = false
 is_digest_of digest (Some secret) = bytes_eq (sha256 secret) digest
 
--- a public client sends no secret, and any other its own (RFC 6749, 2.3.1)
+-- a public client proves itself without a secret, another client by its own (RFC 6749, 2.3.1)
 abbrev pub proves : Sort → Option (List ℕ) → Bool
 proves Public None = true
 proves Public (Some secret) = false
 proves (Confidential digest) secret = is_digest_of digest secret
 proves (Resource digest) secret = is_digest_of digest secret
 
--- a client that was added, and isn't retired
+-- the client at the dot, if it is live and the secret is its own
 abbrev pub authenticated_as : Dot → Option (List ℕ) → Option ClientFields → Auth
 authenticated_as d secret None = Invalid
-authenticated_as d secret (Some client) = if client.live && proves client.sort secret then Client d else Invalid
+authenticated_as d secret (Some client) =
+    if client.live && proves client.sort secret then Client d else Invalid
 
+-- the client at the dot, if there is one, it is live, and the secret is its own
 abbrev pub authenticated_at : FactSet → Option (List ℕ) → Option Dot → Auth
 authenticated_at F secret None = Invalid
 authenticated_at F secret (Some d) = authenticated_as d secret (client_view F d)
 
+-- the live client that the credentials prove
 abbrev pub authenticated : FactSet → CredentialsFields → Auth
 authenticated F c = authenticated_at F c.secret (option_and_then client_in c.id)

@@ -1,16 +1,26 @@
--- The JSON bodies of replies as values; keys stand in the order of their bytes.
---   error_body     {"error":NAME} (RFC 6749, 5.2)
---   client_body    {"client_id":ID} (own)
---   consent_body   {"consent_id":ID} (own)
---   subject_body   {"subject":SUBJECT} (own)
---   shown_body     {"client_id":ID,"kind":KIND,"live":LIVE,"scope":SCOPE} (own)
---   token_body     an access and a refresh token (RFC 6749, 5.1)
---   access_body    what is said of an active access token; refresh_body, of a refresh token (RFC 7662, 2.2)
---   inactive_body  what is said of any other token (RFC 7662, 2.2)
---   taken_body     {"took":N} (own)
---   IsWritable     a value that has one text: it holds no floating-point number
+-- The JSON bodies of replies, as values. The keys of an object ascend by their bytes.
+--   error_body      {"error":NAME} (RFC 6749, 5.2)
+--   client_body     {"client_id":ID} (own)
+--   consent_body    {"consent_id":ID} (own)
+--   subject_body    {"subject":SUBJECT} (own)
+--   shown_body      {"client_id":ID,"kind":KIND,"live":LIVE,"scope":SCOPE} (own)
+--   token_body      an access token and a refresh token (RFC 6749, 5.1)
+--   access_body     an active access token (RFC 7662, 2.2)
+--   refresh_body    an active refresh token (RFC 7662, 2.2)
+--   inactive_body   a token that is not active (RFC 7662, 2.2)
+--   taken_body      {"took":N} (own)
+--   IsWritable      a value that has one text: it holds no floating-point number
 use Rattle.std.specs.Prelude.{◌≡◌, ℕ, Bool, true, false, List, codes}
-use Rattle.serde_json.specs.Data.{Data, string, boolean, number, unsigned, object, member, no_members}
+use Rattle.serde_json.specs.Data.{
+  Data,
+  string,
+  boolean,
+  number,
+  unsigned,
+  object,
+  member,
+  no_members,
+}
 use Rattle.serde_json.specs.Written.{has_float}
 use Rattle.tk_handle.specs.declared.dot.Dot.{Dot}
 use Rattle.tk_handle.specs.ClientId.{client_text}
@@ -20,27 +30,34 @@ use Rattle.tk_handle.specs.Handle.{handle_text}
 use Rattle.tk_fact.specs.declared.sort.Sort.{Sort}
 use Rattle.tk_fact.specs.declared.sort.Sort.TheVariants.{Public, Confidential, Resource}
 
+-- the value has one text: it holds no floating-point number
 abbrev pub IsWritable : Data → Type 0
 IsWritable body = has_float body ≡ false
 
+-- the body of an error
 abbrev pub error_body : List ℕ → Data
 error_body name = object (member (codes "error") (string name) no_members)
 
+-- the body with a client's id
 abbrev pub client_body : Dot → Data
 client_body client = object (member (codes "client_id") (string (client_text client)) no_members)
 
+-- the body with a consent's id
 abbrev pub consent_body : Dot → Data
-consent_body consent = object (member (codes "consent_id") (string (consent_text consent)) no_members)
+consent_body consent =
+    object (member (codes "consent_id") (string (consent_text consent)) no_members)
 
+-- the body with the name of a subject
 abbrev pub subject_body : List ℕ → Data
 subject_body subject = object (member (codes "subject") (string subject) no_members)
 
--- the name of what a client is
+-- the name of a client's kind
 abbrev pub kind_name : Sort → List ℕ
 kind_name Public = codes "public"
 kind_name (Confidential digest) = codes "confidential"
 kind_name (Resource digest) = codes "resource"
 
+-- the body that shows a client
 abbrev pub shown_body : Dot → Sort → Bool → List ℕ → Data
 shown_body client sort live scope = object
     (member (codes "client_id") (string (client_text client))
@@ -48,7 +65,8 @@ shown_body client sort live scope = object
     (member (codes "live") (boolean live)
     (member (codes "scope") (string scope) no_members))))
 
--- both tokens, how many seconds the access token lasts, and its scope (RFC 6749, 5.1 and 7.1)
+-- an access token, its life in seconds, a refresh token, and the scope of the access token (RFC
+-- 6749, 5.1 and 7.1)
 abbrev pub token_body : Handle → ℕ → Handle → List ℕ → Data
 token_body access lifetime refresh scope = object
     (member (codes "access_token") (string (handle_text access))
@@ -57,7 +75,7 @@ token_body access lifetime refresh scope = object
     (member (codes "scope") (string scope)
     (member (codes "token_type") (string (codes "Bearer")) no_members)))))
 
--- the client, the token's end and start, its scope and its subject (RFC 7662, 2.2)
+-- an active access token: its client, expiry, start, scope and subject (RFC 7662, 2.2)
 abbrev pub access_body : Dot → ℕ → ℕ → List ℕ → List ℕ → Data
 access_body client expiry start scope subject = object
     (member (codes "active") (boolean true)
@@ -68,7 +86,8 @@ access_body client expiry start scope subject = object
     (member (codes "sub") (string subject)
     (member (codes "token_type") (string (codes "Bearer")) no_members)))))))
 
--- the same; a refresh token is of no type of access token (RFC 7662, 2.2; RFC 6749, 7.1)
+-- an active refresh token: its client, expiry, start, scope and subject. A refresh token has no
+-- type of access token (RFC 7662, 2.2; RFC 6749, 7.1)
 abbrev pub refresh_body : Dot → ℕ → ℕ → List ℕ → List ℕ → Data
 refresh_body client expiry start scope subject = object
     (member (codes "active") (boolean true)
@@ -78,9 +97,10 @@ refresh_body client expiry start scope subject = object
     (member (codes "scope") (string scope)
     (member (codes "sub") (string subject) no_members))))))
 
+-- a token that is not active
 abbrev pub inactive_body : Data
 inactive_body = object (member (codes "active") (boolean false) no_members)
 
--- how many of a bundle's facts were new
+-- the number of a bundle's facts that were new
 abbrev pub taken_body : ℕ → Data
 taken_body count = object (member (codes "took") (number (unsigned count)) no_members)

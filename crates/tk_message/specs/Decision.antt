@@ -1,7 +1,7 @@
--- What a request is answered, and the fact that it makes.
---   answered   a reply, and no fact
---   refused    an error, and no fact
---   Passes     the fact made, if any, passes its check
+-- Decisions: the reply to a request, and the fact that the request makes.
+--   answered   a reply without a fact
+--   refused    an error reply without a fact
+--   Passes     the body made, if any, passes the check of facts
 use Rattle.std.specs.Prelude.{◌≡◌, Option, None, IfSome}
 use Rattle.tk_fact.specs.Check.{refusal_of}
 use Rattle.tk_fact.specs.declared.body.Body.{Body}
@@ -10,11 +10,14 @@ use Rattle.tk_message.specs.declared.error_code.ErrorCode.{ErrorCode}
 use Rattle.tk_message.specs.ReplyFields.{ReplyFields}
 use Rattle.tk_message.specs.Reply.{error_reply}
 
+-- a reply without a fact
 abbrev pub answered : ReplyFields → Decision
 answered reply = record { reply = reply; made = None }
 
+-- an error reply without a fact
 abbrev pub refused : ErrorCode → Decision
 refused code = answered (error_reply code)
 
+-- the body made, if any, passes the check of facts
 abbrev pub Passes : Option Body → Type 0
 Passes made = IfSome made (λ body. refusal_of body ≡ None)

@@ -1,13 +1,33 @@
--- The codes of errors (RFC 6749, 4.1.2.1 and 5.2; `not_found` and the last seven, of requests that aren't read and of what regions
--- exchange, are own).
---   error_row      the status and the name of each; error_status, error_name, the one and the other
+-- The codes of errors (RFC 6749, 4.1.2.1 and 5.2). `not_found` is own, as are the last seven: they
+-- are for requests that can't be read and for what regions exchange.
+--   error_row      the status and the name of an error
+--   error_status   the status of an error
+--   error_name     the name of an error
 use Rattle.std.specs.Prelude.{ℕ, List, codes}
 use Rattle.tk_message.specs.declared.status.Status.{Status}
 use Rattle.tk_message.specs.declared.status.Status.TheVariants as status
 use Rattle.tk_message.specs.declared.error_code.ErrorCode.{ErrorCode}
-use Rattle.tk_message.specs.declared.error_code.ErrorCode.TheVariants.{InvalidRequest, InvalidClient, InvalidGrant, InvalidScope, UnsupportedGrantType, UnsupportedResponseType, AccessDenied, NotFound, TemporarilyUnavailable, BadRequest, MethodNotAllowed, LengthRequired, TooLarge, Malformed, OwnNumber, Conflict}
+use Rattle.tk_message.specs.declared.error_code.ErrorCode.TheVariants.{
+  InvalidRequest,
+  InvalidClient,
+  InvalidGrant,
+  InvalidScope,
+  UnsupportedGrantType,
+  UnsupportedResponseType,
+  AccessDenied,
+  NotFound,
+  TemporarilyUnavailable,
+  BadRequest,
+  MethodNotAllowed,
+  LengthRequired,
+  TooLarge,
+  Malformed,
+  OwnNumber,
+  Conflict,
+}
 
--- an unknown client is 401, what RFC 6749 names else is 400 (RFC 6749, 5.2), but for a server that can't answer
+-- the status and the name of an error. For an error that RFC 6749 names, the status is 400, but for
+-- invalid_client, 401 (RFC 6749, 5.2), and temporarily_unavailable, 503
 abbrev pub error_row : ErrorCode → Status × List ℕ
 error_row InvalidRequest = (status.BadRequest, codes "invalid_request")
 error_row InvalidClient = (status.Unauthorized, codes "invalid_client")
@@ -26,8 +46,10 @@ error_row Malformed = (status.BadRequest, codes "malformed")
 error_row OwnNumber = (status.Conflict, codes "own_number")
 error_row Conflict = (status.Conflict, codes "conflict")
 
+-- the status of an error
 abbrev pub error_status : ErrorCode → Status
 error_status code = (error_row code).0
 
+-- the name of an error
 abbrev pub error_name : ErrorCode → List ℕ
 error_name code = (error_row code).1

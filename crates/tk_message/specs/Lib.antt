@@ -1,16 +1,16 @@
--- The words of this crate:
---   RequestFields    what contracts see of a request
+-- The definitions of this crate, by file:
+--   RequestFields    RequestFields, what contracts see of a request
 --   Authentication   authenticated, the client that credentials prove
---   Caller           caller_of, who sends a request where a client has to prove who it is
+--   Caller           caller_of, the client that sends a request
 --   ScopeAsked       scope_asked, the scope that a request asks for
 --   Status           status_number, the number of a status
---   ErrorCode        error_row, the status and the name of an error code
+--   ErrorCode        error_row, the status and the name of an error
 --   Bodies           the JSON bodies of replies, as values
---   ReplyFields      what contracts see of a reply
---   Reply            json_reply and the replies of each kind
---   Told             the reply to each of what a request may be told in JSON
---   Decision         answered, refused; Passes, that the fact made passes its check
---   Place            next_in, where the next fact stands
+--   ReplyFields      ReplyFields, what contracts see of a reply
+--   Reply            json_reply, and the reply of each kind
+--   Told             told, the reply with each content of a JSON reply
+--   Decision         answered, refused, decisions without a fact; Passes
+--   Place            next_in, the dot of the next fact
 pub mod Authentication
 pub mod Bodies
 pub mod Caller

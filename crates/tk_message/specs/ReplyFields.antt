@@ -1,23 +1,26 @@
--- What contracts see of a reply (RFC 9110 for the status and the fields; RFC 6749, 5 for what they carry).
---   ReplyFields   status, location, whether credentials are asked for, content
---   Content       nothing, a JSON text, or other bytes
---   content_of    what a payload carries
+-- What contracts see of a reply (RFC 9110 for status and fields; RFC 6749, 5 for the content).
+--   ReplyFields   status, redirect URI, whether the reply asks for credentials, content
+--   Content       no content, a JSON text, or other bytes
+--   content_of    the content of a payload
 use Rattle.std.specs.Prelude.{ℕ, Bool, List, Option}
 use Rattle.tk_message.specs.declared.status.Status.{Status}
 use Rattle.tk_message.specs.declared.reply.Payload.{Payload}
 use Rattle.tk_message.specs.declared.reply.Payload.TheVariants.{Empty, Json, Bytes}
 
+-- no content, a JSON text, or other bytes
 pub data Content : Type 0 where
   Nothing : Content
   JsonText : (bytes : List ℕ) → Content
   OtherBytes : (bytes : List ℕ) → Content
 
+-- the status, the URI of a redirect, whether the reply asks for credentials, and the content
 pub record ReplyFields : Type 0 where
   pub status : Status
   pub location : Option (List ℕ)
   pub www : Bool
   pub content : Content
 
+-- the content of a payload
 abbrev pub content_of : Payload → Content
 content_of Empty = Nothing
 content_of (Json bytes) = JsonText bytes.items

@@ -3,7 +3,7 @@ use Rattle.std.specs.Prelude.{ℕ, List, Option}
 use Rattle.tk_params.specs.Params.{Pairs}
 use Rattle.tk_message.specs.declared.request.Endpoint.{Endpoint}
 
--- what it is sent to, its parameters, and the bytes of `Authorization` and of `X-Subject`
+-- the endpoint, the parameters, and the bytes of `Authorization` and of `X-Subject`
 pub record RequestFields : Type 0 where
   pub endpoint : Endpoint
   pub params : Pairs

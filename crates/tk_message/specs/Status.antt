@@ -1,8 +1,22 @@
 -- The numbers of statuses (RFC 9110, 15).
+--   status_number   the number of a status
 use Rattle.std.specs.Prelude.{ℕ}
 use Rattle.tk_message.specs.declared.status.Status.{Status}
-use Rattle.tk_message.specs.declared.status.Status.TheVariants.{Ok, Created, Found, BadRequest, Unauthorized, NotFound, MethodNotAllowed, Conflict, LengthRequired, ContentTooLarge, ServiceUnavailable}
+use Rattle.tk_message.specs.declared.status.Status.TheVariants.{
+  Ok,
+  Created,
+  Found,
+  BadRequest,
+  Unauthorized,
+  NotFound,
+  MethodNotAllowed,
+  Conflict,
+  LengthRequired,
+  ContentTooLarge,
+  ServiceUnavailable,
+}
 
+-- the number of a status
 abbrev pub status_number : Status → ℕ
 status_number Ok = 200
 status_number Created = 201

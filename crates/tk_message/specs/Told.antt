@@ -1,10 +1,32 @@
--- What a request is told, by its kind (RFC 6749, 5.1, for tokens; RFC 7662, 2.2, for what is said of them; the others are own).
---   told   the reply that tells it
+-- The contents of JSON replies other than errors (RFC 6749, 5.1, for tokens; RFC 7662, 2.2, for
+-- introspection; the others are own).
+--   told   the reply with a content
 use Rattle.tk_message.specs.declared.told.Told.{Told}
-use Rattle.tk_message.specs.declared.told.Told.TheVariants.{Client, Shown, Consent, Subject, Tokens, Access, Refresh, Inactive, Taken}
-use Rattle.tk_message.specs.Reply.{client_reply, shown_reply, consent_reply, subject_reply, token_reply, access_reply, refresh_reply, inactive_reply, taken_reply}
+use Rattle.tk_message.specs.declared.told.Told.TheVariants.{
+  Client,
+  Shown,
+  Consent,
+  Subject,
+  Tokens,
+  Access,
+  Refresh,
+  Inactive,
+  Taken,
+}
+use Rattle.tk_message.specs.Reply.{
+  client_reply,
+  shown_reply,
+  consent_reply,
+  subject_reply,
+  token_reply,
+  access_reply,
+  refresh_reply,
+  inactive_reply,
+  taken_reply,
+}
 use Rattle.tk_message.specs.ReplyFields.{ReplyFields}
 
+-- the reply with a content
 abbrev pub told : Told → ReplyFields
 told (Client status client) = client_reply status client
 told (Shown client sort live scope) = shown_reply client sort.now live scope.now

@@ -1,13 +1,13 @@
-//! The client that credentials prove (RFC 6749, 2.3).
+//! Authentication: the client that credentials prove (RFC 6749, 2.3).
 
 use tk_handle::Dot;
 
-/// Whom credentials prove.
+/// The outcome of an authentication.
 #[derive(Clone, Copy)]
 pub enum Auth {
-    /// The live client that was added at the dot.
+    /// The credentials prove the live client that was added at the dot.
     Client(Dot),
-    /// Nobody.
+    /// The credentials prove no live client.
     Invalid,
 }
 
@@ -23,7 +23,10 @@ use tk_handle::read_client;
 use tk_ledger::Ledger;
 use tk_params::Credentials;
 
-/// The client whose id was sent, where it is live, and is public and sent no secret, or sent its own. No memory is taken.
+/// Returns the live client that the credentials prove (RFC 6749, 2.3.1).
+///
+/// A public client proves itself by its id, without a secret. Another client proves itself by its
+/// secret, which is compared by SHA-256. No memory is allocated.
 pub fn authenticate(ledger: &Ledger, credentials: &Credentials<'_>) -> Auth
     ensures { result ≡ spec.authenticated (facts_of ledger.now) credentials.now }
 {
@@ -33,6 +36,7 @@ pub fn authenticate(ledger: &Ledger, credentials: &Credentials<'_>) -> Auth
     }
 }
 
+// Returns the dot of the client that an id names, if the id is one.
 fn client_named(id: Option<&str>) -> Option<Dot>
     ensures { result ≡ option_and_then client_in (option_copied id.entry) }
 {
@@ -42,8 +46,10 @@ fn client_named(id: Option<&str>) -> Option<Dot>
     }
 }
 
+// Returns the client that was added at the dot, if it is live and the secret is its own.
 fn authenticate_at(ledger: &Ledger, at: Dot, secret: Option<&str>) -> Auth
-    ensures { result ≡ spec.authenticated_at (facts_of ledger.now) (option_copied secret.entry) (Some at) }
+    ensures { result ≡ spec.authenticated_at (facts_of ledger.now) (option_copied secret.entry)
+        (Some at) }
 {
     match ledger.client(at) {
         Some(client) if client.live && proves(client.sort, secret) => Auth::Client(at),
@@ -52,6 +58,7 @@ fn authenticate_at(ledger: &Ledger, at: Dot, secret: Option<&str>) -> Auth
     }
 }
 
+// Returns whether the secret is that of a client of this kind.
 fn proves(sort: &Sort, secret: Option<&str>) -> bool
     ensures { result ≡ spec.proves sort.now (option_copied secret.entry) }
 {
@@ -62,6 +69,7 @@ fn proves(sort: &Sort, secret: Option<&str>) -> bool
     }
 }
 
+// Returns whether the digest is that of the secret.
 fn is_digest_of(digest: &[u8; 32], secret: Option<&str>) -> bool
     ensures { result ≡ spec.is_digest_of digest.now (option_copied secret.entry) }
 {

@@ -1,7 +1,16 @@
 //! The JSON bodies of replies, as values.
 
 ghost use Rattle.std.specs.Prelude.{◌≡◌, IfOk, codes, true};
-ghost use Rattle.serde_json.specs.Data.{string, boolean, number, unsigned, object, member, no_members, put as with_member};
+ghost use Rattle.serde_json.specs.Data.{
+  string,
+  boolean,
+  number,
+  unsigned,
+  object,
+  member,
+  no_members,
+  put as with_member,
+};
 ghost use Rattle.serde_json.specs.View.{view, members_view};
 ghost use Rattle.tk_message.specs.Bodies as spec;
 
@@ -10,49 +19,59 @@ use std::alloc::{AllocError, Global};
 use tk_fact::Sort;
 use tk_ledger::Standing;
 
+// Returns the body of an error (RFC 6749, 5.2).
 pub(crate) fn error_body(alloc: Global, name: &str) -> Result<Value, AllocError>
     ensures { IfOk result (λ body. view body ≡ spec.error_body name.now) }
 {
     one_text(alloc, "error", name)
 }
 
+// Returns the body with a client's id (own).
 pub(crate) fn client_body(alloc: Global, id: &str) -> Result<Value, AllocError>
-    ensures { IfOk result (λ body. view body ≡ object (member (codes "client_id") (string id.now) no_members)) }
+    ensures { IfOk result (λ body.
+        view body ≡ object (member (codes "client_id") (string id.now) no_members)) }
 {
     one_text(alloc, "client_id", id)
 }
 
+// Returns the body with a consent's id (own).
 pub(crate) fn consent_body(alloc: Global, id: &str) -> Result<Value, AllocError>
-    ensures { IfOk result (λ body. view body ≡ object (member (codes "consent_id") (string id.now) no_members)) }
+    ensures { IfOk result (λ body.
+        view body ≡ object (member (codes "consent_id") (string id.now) no_members)) }
 {
     one_text(alloc, "consent_id", id)
 }
 
+// Returns the body with the name of a subject (own).
 pub(crate) fn subject_body(alloc: Global, subject: &str) -> Result<Value, AllocError>
     ensures { IfOk result (λ body. view body ≡ spec.subject_body subject.now) }
 {
     one_text(alloc, "subject", subject)
 }
 
+// Returns an object of one member, a text.
 fn one_text(alloc: Global, key: &str, text: &str) -> Result<Value, AllocError>
-    ensures { IfOk result (λ body. view body ≡ object (member key.now (string text.now) no_members)) }
+    ensures { IfOk result (λ body.
+        view body ≡ object (member key.now (string text.now) no_members)) }
 {
     object_with(alloc, Map::new(alloc), key, text)
 }
 
-// An object of the members, with the text under the key.
+// Returns an object of the members, with the text under the key.
 fn object_with(
     alloc: Global,
     members: Map<String, Value>,
     key: &str,
     text: &str,
 ) -> Result<Value, AllocError>
-    ensures { IfOk result (λ body. view body ≡ object (with_member key.now (string text.now) (members_view members.entries))) }
+    ensures { IfOk result (λ body.
+        view body ≡ object (with_member key.now (string text.now) (members_view members.entries))) }
 {
     let members = with_text(alloc, members, key, text)?;
     Ok(Value::Object(members))
 }
 
+// Returns an object of one member.
 fn one(alloc: Global, key: &str, value: Value) -> Result<Value, AllocError>
     ensures { IfOk result (λ body. view body ≡ object (member key.now (view value) no_members)) }
 {
@@ -60,32 +79,36 @@ fn one(alloc: Global, key: &str, value: Value) -> Result<Value, AllocError>
     Ok(Value::Object(members))
 }
 
-// The members, with the value under the key.
+// Adds the value under the key to the members.
 fn with(
     alloc: Global,
     members: Map<String, Value>,
     key: &str,
     value: Value,
 ) -> Result<Map<String, Value>, AllocError>
-    ensures { IfOk result (λ all. members_view all.entries ≡ with_member key.now (view value) (members_view members.entries)) }
+    ensures { IfOk result (λ all. members_view all.entries ≡ with_member key.now (view value)
+        (members_view members.entries)) }
 {
     let mut members = members;
     put(&mut members, alloc, key, value)?;
     Ok(members)
 }
 
+// Adds the text under the key to the members.
 fn with_text(
     alloc: Global,
     members: Map<String, Value>,
     key: &str,
     text: &str,
 ) -> Result<Map<String, Value>, AllocError>
-    ensures { IfOk result (λ all. members_view all.entries ≡ with_member key.now (string text.now) (members_view members.entries)) }
+    ensures { IfOk result (λ all. members_view all.entries ≡ with_member key.now (string text.now)
+        (members_view members.entries)) }
 {
     let value = Value::try_from_str(alloc, text)?;
     with(alloc, members, key, value)
 }
 
+// Returns the body that shows a client (own).
 pub(crate) fn shown_body(
     alloc: Global,
     id: &str,
@@ -105,6 +128,7 @@ pub(crate) fn shown_body(
     object_with(alloc, members, "scope", scope)
 }
 
+// Returns the name of a client's kind.
 fn kind_name(sort: &Sort) -> &'static str
     ensures { result.now ≡ spec.kind_name sort.now }
 {
@@ -115,6 +139,7 @@ fn kind_name(sort: &Sort) -> &'static str
     }
 }
 
+// Returns the body with an access token and a refresh token (RFC 6749, 5.1).
 pub(crate) fn token_body(
     alloc: Global,
     access: &str,
@@ -122,7 +147,8 @@ pub(crate) fn token_body(
     refresh: &str,
     scope: &str,
 ) -> Result<Value, AllocError>
-    ensures { IfOk result (λ body. view body ≡ object (member (codes "access_token") (string access.now)
+    ensures { IfOk result (λ body.
+        view body ≡ object (member (codes "access_token") (string access.now)
         (member (codes "expires_in") (number (unsigned lifetime))
         (member (codes "refresh_token") (string refresh.now)
         (member (codes "scope") (string scope.now)
@@ -135,6 +161,7 @@ pub(crate) fn token_body(
     object_with(alloc, members, "token_type", "Bearer")
 }
 
+// Returns the body of an active access token (RFC 7662, 2.2).
 pub(crate) fn access_body(
     alloc: Global,
     client: &str,
@@ -152,6 +179,7 @@ pub(crate) fn access_body(
     object_with(alloc, members, "token_type", "Bearer")
 }
 
+// Returns the body of an active refresh token, which has no `token_type` (RFC 7662, 2.2).
 pub(crate) fn refresh_body(
     alloc: Global,
     client: &str,
@@ -168,7 +196,7 @@ pub(crate) fn refresh_body(
     Ok(Value::Object(members))
 }
 
-// What is said of any active token.
+// Returns the members that the bodies of active access and refresh tokens share.
 fn active_members(
     alloc: Global,
     client: &str,
@@ -194,12 +222,14 @@ fn active_members(
     with_text(alloc, members, "sub", standing.subject.as_str())
 }
 
+// Returns the body of a token that is not active (RFC 7662, 2.2).
 pub(crate) fn inactive_body(alloc: Global) -> Result<Value, AllocError>
     ensures { IfOk result (λ body. view body ≡ spec.inactive_body) }
 {
     one(alloc, "active", Value::from(false))
 }
 
+// Returns the body with the number of facts that were new (own).
 pub(crate) fn taken_body(alloc: Global, count: u16) -> Result<Value, AllocError>
     ensures { IfOk result (λ body. view body ≡ spec.taken_body count) }
 {

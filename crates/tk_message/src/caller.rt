@@ -1,16 +1,16 @@
-//! Who sends a request, where a client has to prove who it is.
+//! The client that sends a request to an endpoint that requires authentication.
 
 use tk_handle::Dot;
 
-/// Who sends a request to the token, introspection or revocation endpoint: the cases that these share, in the order in which
-/// they are asked.
+/// The sender of a request to the token, introspection or revocation endpoint: the first case that
+/// holds, in this order.
 #[derive(Clone, Copy)]
 pub enum Caller {
-    /// A parameter that is known there occurs twice (RFC 6749, 3.2).
+    /// A parameter that the endpoint knows occurs twice (RFC 6749, 3.2).
     DuplicateParameter,
-    /// Credentials come in two places (RFC 6749, 2.3).
+    /// The request has credentials in two places (RFC 6749, 2.3).
     MixedCredentials,
-    /// No client is authenticated (RFC 6749, 3.2.1).
+    /// The credentials prove no live client (RFC 6749, 3.2.1).
     InvalidClient,
     /// The live client that was added at the dot.
     Client(Dot),
@@ -26,15 +26,18 @@ use std::alloc::{AllocError, Global};
 use tk_ledger::Ledger;
 use tk_params::{Credentials, CredentialsError};
 
-/// Who sends the request to an endpoint where the parameters of these names are known; others are ignored (RFC 6749, 3.2).
-/// An error where memory is refused.
+/// Returns the sender of a request to an endpoint that knows the parameters of the given names.
+///
+/// Other parameters are ignored (RFC 6749, 3.2). Returns an error if memory runs out.
 pub fn find_caller(
     alloc: Global,
     ledger: &Ledger,
     names: &[&str],
     request: &Request,
 ) -> Result<Caller, AllocError>
-    ensures { IfOk result (λ caller. caller ≡ spec.caller_of (facts_of ledger.now) (map (λ name. name.now) names.now) request.now) }
+    ensures { IfOk result (λ caller.
+        caller ≡ spec.caller_of (facts_of ledger.now) (map (λ name. name.now) names.now)
+        request.now) }
 {
     if request.params.has_twice(names) {
         return Ok(Caller::DuplicateParameter);
@@ -47,6 +50,7 @@ pub fn find_caller(
     }
 }
 
+// Returns the sender by the outcome of authentication.
 fn caller_by_auth(auth: Auth) -> Caller
     ensures { result ≡ spec.caller_by_auth auth }
 {

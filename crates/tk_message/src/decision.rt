@@ -1,4 +1,4 @@
-//! What a request is answered, and the fact that it makes.
+//! Decisions: the reply to a request, and the fact that the request makes.
 
 ghost use Rattle.std.specs.Prelude.{◌≡◌, IfOk};
 ghost use Rattle.tk_message.specs.Decision as spec;
@@ -8,24 +8,24 @@ use crate::reply::{Reply, error_reply};
 use std::alloc::{AllocError, Global};
 use tk_fact::Body;
 
-/// What a request is answered, and the fact that it makes.
+/// The reply to a request, and the fact that the request makes.
 #[derive(Drop)]
 pub struct Decision {
-    /// The reply, which goes out once the fact is held.
+    /// The reply. The server sends it once the fact is stored.
     pub reply: Reply,
-    /// What the fact says, at the dot of the place; None where the request makes none.
+    /// The body of the fact, which gets the dot of the `Place`; None if the request makes no fact.
     pub made: Option<Body>,
 }
 
 impl Decision {
-    /// A reply, and no fact.
+    /// Returns a reply without a fact.
     pub fn answer(reply: Reply) -> Decision
         ensures { result ≡ spec.answered reply }
     {
         Decision { reply, made: None }
     }
 
-    /// An error, and no fact; an error of its own where memory is refused.
+    /// Returns an error reply without a fact; an error if memory runs out.
     pub fn refuse(alloc: Global, code: ErrorCode) -> Result<Decision, AllocError>
         ensures { IfOk result (λ decision. decision ≡ spec.refused code) }
     {

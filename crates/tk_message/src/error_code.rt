@@ -1,49 +1,50 @@
-//! The codes of errors, with the status of each.
+//! The codes of errors, with their names and statuses.
 
 ghost use Rattle.std.specs.Prelude.{◌≡◌};
 ghost use Rattle.tk_message.specs.ErrorCode.{error_status, error_name};
 
 use crate::status::Status;
 
-/// What an error is called (RFC 6749, 4.1.2.1 and 5.2).
+/// The code of an error, which a reply names (RFC 6749, 4.1.2.1 and 5.2).
 #[derive(Clone, Copy)]
 pub enum ErrorCode {
     /// A parameter is missing, occurs twice or is malformed.
     InvalidRequest,
-    /// The client isn't authenticated.
+    /// No client is authenticated.
     InvalidClient,
-    /// The code or refresh token doesn't serve.
+    /// The code or refresh token can't be redeemed.
     InvalidGrant,
     /// The scope is malformed, or goes beyond what was granted.
     InvalidScope,
-    /// The grant type is none that is served.
+    /// The token endpoint knows no such grant type.
     UnsupportedGrantType,
-    /// The response type is none that is served.
+    /// The authorization endpoint knows no such response type.
     UnsupportedResponseType,
-    /// The resource owner denies the request.
+    /// No subject has signed in, or the subject gave the client no consent to the scope.
     AccessDenied,
-    /// There is no such client or consent (own).
+    /// There is no such client, consent or path (own).
     NotFound,
-    /// No fact may be made (the name is of RFC 6749, 4.1.2.1).
+    /// The region can make no fact, or its log failed (the name is from RFC 6749, 4.1.2.1).
     TemporarilyUnavailable,
-    /// The request isn't one of HTTP, or breaks a rule of its fields (own; RFC 9110, 15.5.1).
+    /// The request is not HTTP, or breaks a rule of its fields (own; RFC 9110, 15.5.1).
     BadRequest,
-    /// The path has another method (own; RFC 9110, 15.5.6).
+    /// The path does not take this method (own; RFC 9110, 15.5.6).
     MethodNotAllowed,
-    /// A body comes without its length (own; RFC 9110, 15.5.12).
+    /// The request has a body without its length (own; RFC 9110, 15.5.12).
     LengthRequired,
-    /// The body is longer than is read (own; RFC 9110, 15.5.14).
+    /// The body is longer than the server reads (own; RFC 9110, 15.5.14).
     TooLarge,
-    /// The bytes that another region sent spell nothing (own).
+    /// The bytes from another region are no vector or bundle (own).
     Malformed,
-    /// A bundle holds a fact of the region's own number that the region hasn't made (own; RFC 9110, 15.5.10).
+    /// A bundle has a fact under the region's own number that the region did not make (own; RFC
+    /// 9110, 15.5.10).
     OwnNumber,
-    /// A bundle holds another body for a fact that is held (own; RFC 9110, 15.5.10).
+    /// A bundle has another body for a fact that is held (own; RFC 9110, 15.5.10).
     Conflict,
 }
 
 impl ErrorCode {
-    /// The name that stands in a reply, in ASCII.
+    /// Returns the name of the error in a reply, in ASCII.
     pub fn name(self) -> &'static str
         ensures { result.now ≡ error_name self }
     {
@@ -67,7 +68,7 @@ impl ErrorCode {
         }
     }
 
-    /// The status of its reply.
+    /// Returns the status of the error's reply.
     pub fn status(self) -> Status
         ensures { result ≡ error_status self }
     {

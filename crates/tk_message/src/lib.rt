@@ -1,15 +1,21 @@
-//! Requests, who sends them, and what they are answered with.
+//! Messages: requests, the clients that send them, and replies.
 //!
-//! A `Request` is sent to an `Endpoint`, with the parameters and credentials of tk_params; `authenticate` says which client
-//! credentials prove, `find_caller` who sends a request where a client has to, and `scope_asked` which scope a request asks for. A `Reply` is a `Status`, perhaps a place to be sent
-//! to, and a `Payload`. An `ErrorCode` says how an error is called and with which status it goes. Each JSON body is a value,
-//! stated once in specs/Bodies.antt and written by one function; no other crate makes JSON. `Told` is what such a body tells, but for errors. A `Decision` is a reply and the
-//! fact that a request makes, if any; a `Place` is where it would stand, and how long what is issued lasts. What is decided,
-//! and in which order, is said above.
+//! - A `Request` goes to an `Endpoint`, with the parameters and credentials of tk_params.
+//! - `authenticate` returns the client that credentials prove. `find_caller` returns the client
+//!   that sends a request. `scope_asked` returns the scope that a request asks for.
+//! - A `Reply` is a `Status`, perhaps a place to redirect to, and a `Payload`.
+//! - An `ErrorCode` has a name and a status.
+//! - `Told` is the content of a JSON reply other than an error. No other crate makes JSON: each
+//!   body is defined in `specs/Bodies.antt` and written by one function.
+//! - A `Decision` is a reply, and the fact that the request makes, if any.
+//! - A `Place` is the dot of that fact, and how long tokens live.
 //!
-//! In reading order: `Endpoint`, `Request`, `Auth`, `Caller`, `scope_asked`, `Status`, `ErrorCode`, `Reply`, `Told`, `Lives`, `Place`,
-//! `Decision`. The definitions are in specs/, beside the file of their name: `RequestFields`, `Authentication`, `Caller`, `ScopeAsked`,
-//! `Status`, `ErrorCode`, `Bodies`, `ReplyFields`, `Reply`, `Told`, `Place`, `Decision`.
+//! The crates above decide what a request gets, and in which order its errors are sought.
+//!
+//! In reading order: `Endpoint`, `Request`, `Auth`, `Caller`, `scope_asked`, `Status`, `ErrorCode`,
+//! `Reply`, `Told`, `Lives`, `Place`, `Decision`. The definitions are in `specs/`, by the name of
+//! the file: `RequestFields`, `Authentication`, `Caller`, `ScopeAsked`, `Status`, `ErrorCode`,
+//! `Bodies`, `ReplyFields`, `Reply`, `Told`, `Place`, `Decision`.
 #![tactic(auto)]
 
 mod authentication;

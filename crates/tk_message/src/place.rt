@@ -1,36 +1,36 @@
-//! Where a request is decided: the region, where its next fact stands, and how long what it issues lasts.
+//! The place of a decision: the region, the dot of its next fact, and the lives of tokens.
 
 ghost use Rattle.std.specs.Prelude.{◌≡◌};
 ghost use Rattle.tk_message.specs.Place.{next_in};
 
 use tk_handle::{Dot, RegionNumber, Serial};
 
-/// How long what is issued lasts, in seconds (own).
+/// How long codes, tokens and families live, in seconds (own).
 #[derive(Clone, Copy)]
 pub struct Lives {
-    /// A code (RFC 6749, 4.1.2 recommends ten minutes at most).
+    /// The life of a code (RFC 6749, 4.1.2 recommends ten minutes at most).
     pub code: u64,
-    /// An access token.
+    /// The life of an access token.
     pub access: u64,
-    /// A refresh token.
+    /// The life of a refresh token.
     pub refresh: u64,
-    /// A family: a code, and all tokens that descend from it.
+    /// The life of a family: a code and all tokens that descend from it.
     pub family: u64,
 }
 
-/// Where a request is decided (own).
+/// The place of a decision (own): a region, the dot of its next fact, and the lives of tokens.
 #[derive(Drop)]
 pub struct Place {
     /// The region's number.
     pub number: RegionNumber,
-    /// The serial of its next fact.
+    /// The serial of the region's next fact.
     pub next: Serial,
-    /// How long what it issues lasts.
+    /// How long the tokens that the region issues live.
     pub lives: Lives,
 }
 
 impl Place {
-    /// The place whose next fact stands at the dot.
+    /// Returns the place of the region whose next fact gets the dot.
     pub fn new(next: Dot, lives: Lives) -> Place
         ensures { result ≡ record { number = next.region; next = next.serial; lives = lives } }
     {
@@ -41,7 +41,7 @@ impl Place {
         }
     }
 
-    /// Where the next fact stands.
+    /// Returns the dot of the next fact.
     pub fn next_dot(&self) -> Dot
         ensures { result ≡ next_in self.now }
     {

@@ -1,29 +1,29 @@
-//! Replies: what they are made of, and the one function that writes their JSON.
+//! Replies: their parts, and the one function that writes their JSON.
 
 use crate::status::Status;
 use std::marker::Model;
 
-/// What a request is answered. Contracts see the bytes that its parts hold.
+/// A reply to a request. Contracts see the bytes of its parts.
 #[derive(Drop)]
 pub struct Reply {
     /// The status code (RFC 9110, 15).
     pub status: Status,
-    /// Where the client is sent, in a redirect.
+    /// The URI that a redirect sends the client to.
     pub location: Option<String>,
-    /// Whether credentials are asked for (RFC 6749, 5.2).
+    /// Whether the reply has a `WWW-Authenticate` field (RFC 6749, 5.2).
     pub www: bool,
-    /// What it carries.
+    /// The content of the reply.
     pub body: Payload,
 }
 
-/// What a reply carries.
+/// The content of a reply.
 #[derive(Drop)]
 pub enum Payload {
-    /// Nothing.
+    /// No content.
     Empty,
     /// A JSON text (RFC 8259).
     Json(Vec<u8>),
-    /// Other bytes, as a bundle's.
+    /// Other bytes, such as a bundle.
     Bytes(Vec<u8>),
 }
 
@@ -34,7 +34,12 @@ impl Model for Reply {
 
     ghost Value = { ReplyFields };
 
-    ghost view = { λ r. record { status = r.status; location = option_map string_bytes r.location; www = r.www; content = content_of r.body } };
+    ghost view = { λ r. record {
+      status = r.status;
+      location = option_map string_bytes r.location;
+      www = r.www;
+      content = content_of r.body;
+    } };
 }
 
 ghost use Rattle.std.specs.Prelude.{◌≡◌, IfOk, string_bytes};
@@ -57,7 +62,7 @@ use tk_ledger::Standing;
 use tk_match::reply_uri;
 use tk_scope::Scope;
 
-/// An error, by its code; an error of its own where memory is refused.
+/// Returns the reply for an error, by its code; an error if memory runs out.
 pub fn error_reply(alloc: Global, code: ErrorCode) -> Result<Reply, AllocError>
     ensures { IfOk result (λ reply. reply ≡ spec.error_reply code) }
 {
@@ -65,7 +70,7 @@ pub fn error_reply(alloc: Global, code: ErrorCode) -> Result<Reply, AllocError>
     told(alloc, code.status(), body)
 }
 
-// The id of the client that was added at the dot (own).
+// Returns the reply with the id of the client that was added at the dot (own).
 pub(crate) fn client_reply(alloc: Global, status: Status, client: Dot) -> Result<Reply, AllocError>
     ensures { IfOk result (λ reply. reply ≡ spec.client_reply status client) }
 {
@@ -74,7 +79,7 @@ pub(crate) fn client_reply(alloc: Global, status: Status, client: Dot) -> Result
     told(alloc, status, body)
 }
 
-// What is known of the client that was added at the dot (own).
+// Returns the reply that shows the client that was added at the dot (own).
 pub(crate) fn shown_reply(
     alloc: Global,
     client: Dot,
@@ -89,7 +94,7 @@ pub(crate) fn shown_reply(
     told(alloc, Status::Ok, body)
 }
 
-// Lets the body go once it is written.
+// Returns the reply with a body, and frees the body.
 fn told(alloc: Global, status: Status, body: Value) -> Result<Reply, AllocError>
     requires { IsWritable (view body) }
     ensures { IfOk result (λ reply. reply ≡ spec.json_reply status (view body)) }
@@ -111,13 +116,14 @@ fn json_reply(alloc: Global, status: Status, body: &Value) -> Result<Reply, Allo
     })
 }
 
+// Returns whether a reply with the status asks for credentials.
 fn asks_credentials(status: Status) -> bool
     ensures { result ≡ spec.asks_credentials status }
 {
     matches!(status, Status::Unauthorized)
 }
 
-// The id of the consent that was given at the dot (own).
+// Returns the reply with the id of the consent that was given at the dot (own).
 pub(crate) fn consent_reply(
     alloc: Global,
     status: Status,
@@ -130,7 +136,7 @@ pub(crate) fn consent_reply(
     told(alloc, status, body)
 }
 
-// The subject that was signed out (own).
+// Returns the reply with the subject that was signed out (own).
 pub(crate) fn subject_reply(alloc: Global, subject: &Subject) -> Result<Reply, AllocError>
     ensures { IfOk result (λ reply. reply ≡ spec.subject_reply subject.now) }
 {
@@ -138,7 +144,8 @@ pub(crate) fn subject_reply(alloc: Global, subject: &Subject) -> Result<Reply, A
     told(alloc, Status::Ok, body)
 }
 
-// An access token that lasts so many seconds, a refresh token, and the scope of the access token (RFC 6749, 5.1).
+// Returns the reply with an access token that lives `lifetime` seconds, a refresh token, and the
+// scope of the access token (RFC 6749, 5.1).
 pub(crate) fn token_reply(
     alloc: Global,
     access: &Handle,
@@ -146,7 +153,8 @@ pub(crate) fn token_reply(
     refresh: &Handle,
     scope: &Scope,
 ) -> Result<Reply, AllocError>
-    ensures { IfOk result (λ reply. reply ≡ spec.token_reply access.now lifetime refresh.now scope.now) }
+    ensures { IfOk result (λ reply. reply ≡ spec.token_reply access.now lifetime refresh.now
+        scope.now) }
 {
     let access = handle_string(alloc, access)?;
     let refresh = handle_string(alloc, refresh)?;
@@ -160,25 +168,31 @@ pub(crate) fn token_reply(
     told(alloc, Status::Ok, body)
 }
 
-// What is said of an active access token: its client, its end and start, its scope and its subject (RFC 7662, 2.2).
+// Returns the reply for an active access token: its client, expiry, start, scope and subject (RFC
+// 7662, 2.2).
 pub(crate) fn access_reply(alloc: Global, standing: &Standing<'_>) -> Result<Reply, AllocError>
-    ensures { IfOk result (λ reply. reply ≡ spec.access_reply standing.now.client standing.now.expiry standing.now.start standing.now.scope standing.now.subject) }
+    ensures { IfOk result (λ reply.
+        reply ≡ spec.access_reply standing.now.client standing.now.expiry standing.now.start
+        standing.now.scope standing.now.subject) }
 {
     let id = client_text(alloc, standing.client)?;
     let body = access_body(alloc, id.as_str(), standing)?;
     told(alloc, Status::Ok, body)
 }
 
-// What is said of an active refresh token: the same, but for the type (RFC 7662, 2.2).
+// Returns the reply for an active refresh token, with the members of an active access token but for
+// the type (RFC 7662, 2.2).
 pub(crate) fn refresh_reply(alloc: Global, standing: &Standing<'_>) -> Result<Reply, AllocError>
-    ensures { IfOk result (λ reply. reply ≡ spec.refresh_reply standing.now.client standing.now.expiry standing.now.start standing.now.scope standing.now.subject) }
+    ensures { IfOk result (λ reply.
+        reply ≡ spec.refresh_reply standing.now.client standing.now.expiry standing.now.start
+        standing.now.scope standing.now.subject) }
 {
     let id = client_text(alloc, standing.client)?;
     let body = refresh_body(alloc, id.as_str(), standing)?;
     told(alloc, Status::Ok, body)
 }
 
-// What is said of a token that isn't active: that alone (RFC 7662, 2.2).
+// Returns the reply for a token that is not active, which has no other member (RFC 7662, 2.2).
 pub(crate) fn inactive_reply(alloc: Global) -> Result<Reply, AllocError>
     ensures { IfOk result (λ reply. reply ≡ spec.inactive_reply) }
 {
@@ -186,7 +200,7 @@ pub(crate) fn inactive_reply(alloc: Global) -> Result<Reply, AllocError>
     told(alloc, Status::Ok, body)
 }
 
-/// A status, and nothing else. No memory is taken.
+/// Returns a reply with a status and no content. No memory is allocated.
 pub fn empty_reply(status: Status) -> Reply
     ensures { result ≡ spec.empty_reply status }
 {
@@ -199,7 +213,8 @@ pub fn empty_reply(status: Status) -> Reply
     }
 }
 
-/// A redirect to the URI with a pair in its query, and behind it the state, if there is one (RFC 6749, 4.1.2 and 4.1.2.1).
+/// Returns a redirect to the URI, with a pair and the state, if any, in its query (RFC 6749, 4.1.2
+/// and 4.1.2.1).
 pub fn redirect_reply(
     alloc: Global,
     uri: &str,
@@ -207,7 +222,8 @@ pub fn redirect_reply(
     value: &str,
     state: Option<&str>,
 ) -> Result<Reply, AllocError>
-    ensures { IfOk result (λ reply. reply ≡ spec.redirect_reply uri.now name.now value.now (option_copied state.entry)) }
+    ensures { IfOk result (λ reply.
+        reply ≡ spec.redirect_reply uri.now name.now value.now (option_copied state.entry)) }
 {
     let location = match state {
         Some(state) => reply_uri(alloc, uri, &[(name, value), ("state", state)])?,
@@ -221,7 +237,7 @@ pub fn redirect_reply(
     })
 }
 
-/// The text of a handle, which a client is given.
+/// Returns the text of a handle, 48 letters, as a client gets it.
 pub fn handle_string(alloc: Global, handle: &Handle) -> Result<String, AllocError>
     ensures { IfOk result (λ text. string_bytes text ≡ handle_text handle.now) }
 {
@@ -232,7 +248,7 @@ pub fn handle_string(alloc: Global, handle: &Handle) -> Result<String, AllocErro
     String::from_str(alloc, text)
 }
 
-// How many facts of a bundle were new (own).
+// Returns the reply with the number of facts of a bundle that were new (own).
 pub(crate) fn taken_reply(alloc: Global, count: u16) -> Result<Reply, AllocError>
     ensures { IfOk result (λ reply. reply ≡ spec.taken_reply count) }
 {
@@ -240,7 +256,7 @@ pub(crate) fn taken_reply(alloc: Global, count: u16) -> Result<Reply, AllocError
     told(alloc, Status::Ok, body)
 }
 
-/// Bytes that are no text, as a bundle's, with 200 OK. No memory is taken.
+/// Returns a reply of 200 OK with bytes that are no text, such as a bundle. No memory is allocated.
 pub fn bytes_reply(bytes: Vec<u8>) -> Reply
     ensures { result ≡ spec.bytes_reply bytes.items }
 {

@@ -1,9 +1,9 @@
-//! Requests: what they are sent to, and all that they bring.
+//! Requests: their endpoint and all that they bring.
 
 use std::marker::Model;
 use tk_params::Params;
 
-/// What a request is sent to. The endpoints of administration are own.
+/// The endpoint of a request. The endpoints under `/admin/` are own.
 #[derive(Clone, Copy)]
 pub enum Endpoint {
     /// GET `/authorize` (RFC 6749, 3.1).
@@ -28,16 +28,16 @@ pub enum Endpoint {
     SignOut,
 }
 
-/// A request, read from its head and body. Contracts see the bytes that its parts hold.
+/// A request, read from its head and body. Contracts see the bytes of its parts.
 #[derive(Drop)]
 pub struct Request {
-    /// What it is sent to.
+    /// The endpoint.
     pub endpoint: Endpoint,
-    /// Its parameters, of the query or of the body.
+    /// The parameters, from the query or from the body.
     pub params: Params,
     /// The value of `Authorization` (RFC 9110, 11.6.2), if there is one: any bytes.
     pub authorization: Option<Vec<u8>>,
-    /// The value of `X-Subject`, if there is one: who has signed in, any bytes (own).
+    /// The value of `X-Subject`, if there is one: the subject that has signed in, any bytes (own).
     pub subject: Option<Vec<u8>>,
 }
 
@@ -59,7 +59,7 @@ ghost use Rattle.std.specs.Prelude.{◌≡◌};
 ghost use Rattle.std.specs.Option.{option_copied};
 
 impl Request {
-    // The bytes of `Authorization`.
+    // Returns the bytes of `Authorization`.
     pub(crate) fn authorization(&self) -> Option<&[u8]>
         ensures { option_copied result ≡ self.now.authorization }
     {
@@ -69,7 +69,7 @@ impl Request {
         }
     }
 
-    /// The bytes of `X-Subject`.
+    /// Returns the bytes of `X-Subject`, the subject that has signed in.
     pub fn subject(&self) -> Option<&[u8]>
         ensures { option_copied result ≡ self.now.subject }
     {

@@ -7,8 +7,11 @@ ghost use Rattle.tk_message.specs.ScopeAsked as spec;
 use std::alloc::{AllocError, Global};
 use tk_scope::{Scope, ScopeError};
 
-/// The scope that was sent, where it is within the whole; the whole where none was sent. None where it isn't a scope, or
-/// goes beyond the whole (RFC 6749, 3.3); an error where memory is refused.
+/// Returns the scope that a request asks for: the scope that it sends, or the whole if it sends no
+/// scope (RFC 6749, 3.3).
+///
+/// Returns None if the text is not a scope or goes beyond the whole, and an error if memory runs
+/// out.
 pub fn scope_asked(
     alloc: Global,
     whole: &Scope,
@@ -25,6 +28,7 @@ pub fn scope_asked(
     }
 }
 
+// Reads a scope that is within the whole.
 fn read_within(alloc: Global, whole: &Scope, text: &[u8]) -> Result<Option<Scope>, AllocError>
     ensures { IfOk result (λ scope. scope ≡ spec.scope_asked whole.now (Some text.now)) }
 {

@@ -31,7 +31,7 @@ pub enum Status {
 }
 
 impl Status {
-    /// The status code, of three digits.
+    /// Returns the status code, a number of three digits.
     pub fn number(self) -> u16
         ensures { result ≡ status_number self }
     {

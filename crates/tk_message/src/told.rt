@@ -1,4 +1,4 @@
-//! What a request is told, in JSON, by its kind.
+//! The contents of JSON replies other than errors.
 
 use crate::status::Status;
 use tk_fact::{Sort, Subject};
@@ -6,26 +6,27 @@ use tk_handle::{Dot, Handle};
 use tk_ledger::Standing;
 use tk_scope::Scope;
 
-/// What a request is told in JSON. An error is an `ErrorCode`, and has `error_reply`.
+/// The content of a JSON reply. An error is an `ErrorCode`, and has `error_reply`.
 #[derive(Drop)]
 pub enum Told<'a> {
     /// The id of the client that was added at the dot (own).
     Client(Status, Dot),
-    /// Of the client that was added at the dot its id, what it is, whether it is live, and its scope (own).
+    /// The client that was added at the dot: its id, kind, whether it is live, and its scope (own).
     Shown(Dot, &'a Sort, bool, &'a Scope),
     /// The id of the consent that was given at the dot (own).
     Consent(Status, Dot),
     /// The subject that was signed out (own).
     Subject(&'a Subject),
-    /// An access token that lasts so many seconds, a refresh token, and the scope of the access token (RFC 6749, 5.1).
+    /// An access token, its life in seconds, a refresh token, and the scope of the access token
+    /// (RFC 6749, 5.1).
     Tokens(&'a Handle, u64, &'a Handle, &'a Scope),
-    /// Of an active access token its client, its end and start, its scope and its subject (RFC 7662, 2.2).
+    /// An active access token: its client, expiry, start, scope and subject (RFC 7662, 2.2).
     Access(Standing<'a>),
-    /// Of an active refresh token the same, but for the type (RFC 7662, 2.2).
+    /// An active refresh token: its client, expiry, start, scope and subject (RFC 7662, 2.2).
     Refresh(Standing<'a>),
-    /// Of a token that isn't active that alone (RFC 7662, 2.2).
+    /// A token that is not active (RFC 7662, 2.2).
     Inactive,
-    /// How many facts of a bundle were new (own).
+    /// The number of facts of a bundle that were new (own).
     Taken(u16),
 }
 
@@ -39,7 +40,7 @@ use crate::reply::{
 use std::alloc::{AllocError, Global};
 
 impl Told<'_> {
-    /// The reply that tells it; an error where memory is refused.
+    /// Returns the reply with this content; an error if memory runs out.
     pub fn reply(self, alloc: Global) -> Result<Reply, AllocError>
         ensures { IfOk result (λ reply. reply ≡ spec.told self.entry) }
     {

@@ -1,8 +1,19 @@
--- What a request presents of a client (RFC 6749, 2.3 and 2.3.1).
+-- The client credentials that a request presents (RFC 6749, 2.3 and 2.3.1).
 --   CredentialsFields   an id and a secret, either of which may be absent
---   Presented           credentials; or some in two places; or a header that isn't readable
+--   Presented           credentials, or credentials in two places, or an unreadable header
 --   presented_in        what a header and parameters present
-use Rattle.std.specs.Prelude.{ℕ, List, length, codes, Option, Some, None, is_some, if◌then◌else◌, ◌==◌}
+use Rattle.std.specs.Prelude.{
+  ℕ,
+  List,
+  length,
+  codes,
+  Option,
+  Some,
+  None,
+  is_some,
+  if◌then◌else◌,
+  ◌==◌,
+}
 use Rattle.std.specs.Str.{bytes_eq}
 use Rattle.tk_params.specs.Basic.{basic_of}
 use Rattle.tk_params.specs.Params.{Pairs, value_of}
@@ -12,36 +23,41 @@ pub record CredentialsFields : Type 0 where
   pub id : Option (List ℕ)
   pub secret : Option (List ℕ)
 
--- some in two places; a header that isn't readable; credentials, with nothing in them where nothing came
+-- credentials in two places; or an unreadable header; or credentials, whose fields are absent if
+-- nothing was sent
 pub data Presented : Type 0 where
   Mixed : Presented
   Unreadable : Presented
   Presents : (credentials : CredentialsFields) → Presented
 
--- an empty secret counts as none (RFC 6749, 2.3.1: it may be left out where it is empty)
+-- a secret, absent if it is empty (RFC 6749, 2.3.1: an empty secret may be left out)
 abbrev pub secret_in : List ℕ → Option (List ℕ)
 secret_in secret = if length secret == 0 then None else Some secret
 
--- an id and a secret, the id even where it is empty
+-- the credentials of a Basic header: its id, even if empty, and its secret
 abbrev pub of_basic : List ℕ × List ℕ → CredentialsFields
 of_basic basic = record { id = Some basic.0; secret = secret_in basic.1 }
 
--- those of a header, where the body names no other client
+-- the credentials of a Basic header, unless the body names another client
 abbrev pub beside_body : List ℕ × List ℕ → Option (List ℕ) → Presented
 beside_body basic None = Presents (of_basic basic)
 beside_body basic (Some id) = if bytes_eq basic.0 id then Presents (of_basic basic) else Mixed
 
--- those of a header, where it is readable
+-- the credentials of a header, if the header is readable
 abbrev pub by_basic : Option (List ℕ × List ℕ) → Option (List ℕ) → Presented
 by_basic None id = Unreadable
 by_basic (Some basic) id = beside_body basic id
 
--- those of the body
+-- the credentials of the body: `client_id` and `client_secret`
 abbrev pub of_body : Pairs → CredentialsFields
 of_body params =
-    record { id = value_of (codes "client_id") params; secret = value_of (codes "client_secret") params }
+    record {
+      id = value_of (codes "client_id") params;
+      secret = value_of (codes "client_secret") params;
+    }
 
--- the body's without a header; with one, no secret in the body, and the header's: one method a request (RFC 6749, 2.3)
+-- the credentials of a request: without a header those of the body; otherwise those of the header,
+-- and the body has no secret, since a request uses one method (RFC 6749, 2.3)
 abbrev pub presented_in : Option (List ℕ) → Pairs → Presented
 presented_in None params = Presents (of_body params)
 presented_in (Some header) params =

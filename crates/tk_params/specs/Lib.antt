@@ -1,5 +1,6 @@
--- The words of this crate:
---   Params        params_of, the parameters that bytes give; value_of, the value of a name; has_twice, a name repeated
+-- The definitions of this crate, by file:
+--   Params        params_of, the parameters that bytes give; value_of, the value of a name;
+--                 has_twice, a name is repeated
 --   One           IsOne, how often a name occurs
 --   Basic         basic_of, the id and the secret of a Basic header
 --   Credentials   presented_in, what a header and parameters present of a client

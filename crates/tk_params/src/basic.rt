@@ -17,7 +17,18 @@ impl Model for Basic {
     ghost view = { λ b. (string_bytes b.id, string_bytes b.secret) };
 }
 
-ghost use Rattle.std.specs.Prelude.{◌≡◌, ◌==◌, ◌<◌, ◌+◌, IfOk, IfSome, length, position, drop, string_bytes};
+ghost use Rattle.std.specs.Prelude.{
+  ◌≡◌,
+  ◌==◌,
+  ◌<◌,
+  ◌+◌,
+  IfOk,
+  IfSome,
+  length,
+  position,
+  drop,
+  string_bytes,
+};
 ghost use Rattle.std.specs.Option.{option_copied, option_map};
 ghost use Rattle.form_urlencoded.specs.Form.{pair_text};
 ghost use Rattle.tk_params.specs.Params.{text_of};
@@ -28,7 +39,7 @@ use base64::engine::general_purpose::STANDARD;
 use form_urlencoded::decode;
 use std::alloc::{AllocError, Global};
 
-// The credentials of a Basic header; None where the header isn't readable.
+// Reads the credentials of a Basic header. Returns `None` if the header is not readable.
 pub(crate) fn read_basic(alloc: Global, header: &[u8]) -> Result<Option<Basic>, AllocError>
     ensures { IfOk result (λ basic. basic ≡ spec.basic_of header.now) }
 {
@@ -41,7 +52,7 @@ pub(crate) fn read_basic(alloc: Global, header: &[u8]) -> Result<Option<Basic>, 
     }
 }
 
-// What stands behind the scheme and the spaces.
+// Returns the bytes behind the scheme and the spaces.
 fn encoded_in(header: &[u8]) -> Option<&[u8]>
     ensures { option_copied result ≡ spec.encoded_in header.now }
 {
@@ -51,6 +62,7 @@ fn encoded_in(header: &[u8]) -> Option<&[u8]>
     }
 }
 
+// Returns the bytes behind the scheme, if the scheme is Basic.
 fn encoded_behind<'a>(scheme: &[u8], rest: &'a [u8]) -> Option<&'a [u8]>
     ensures { option_copied result ≡ spec.encoded_behind scheme.now rest.now }
 {
@@ -68,6 +80,7 @@ fn is_scheme(bytes: &[u8]) -> bool
     bytes.eq_ignore_ascii_case(b"basic")
 }
 
+// Returns the bytes without their leading spaces.
 fn skip_spaces(bytes: &[u8]) -> &[u8]
     ensures { result.now ≡ spec.skip_spaces bytes.now }
 {
@@ -81,7 +94,7 @@ fn skip_spaces(bytes: &[u8]) -> &[u8]
     rest
 }
 
-// The bytes of a padded base64 text.
+// Returns the bytes of a padded base64 text.
 fn decoded(alloc: Global, text: &[u8]) -> Result<Option<Vec<u8>>, AllocError>
     ensures { IfOk result (λ bytes. option_map (λ v. v.items) bytes ≡ spec.decoded text.now) }
 {
@@ -92,7 +105,7 @@ fn decoded(alloc: Global, text: &[u8]) -> Result<Option<Vec<u8>>, AllocError>
     }
 }
 
-// The texts before and behind the first colon.
+// Reads the texts before and behind the first colon.
 fn read_halves(alloc: Global, bytes: &[u8]) -> Result<Option<Basic>, AllocError>
     ensures { IfOk result (λ basic. basic ≡ spec.halves_of bytes.now) }
 {
@@ -105,6 +118,7 @@ fn read_halves(alloc: Global, bytes: &[u8]) -> Result<Option<Basic>, AllocError>
     }
 }
 
+// Decodes the id and the secret, each form-encoded as a whole.
 fn read_texts(alloc: Global, id: &[u8], secret: &[u8]) -> Result<Basic, AllocError>
     ensures { IfOk result (λ basic. basic ≡ (text_of id.now, text_of secret.now)) }
 {
@@ -119,7 +133,7 @@ fn read_text(alloc: Global, bytes: &[u8]) -> Result<String, AllocError>
     decode(alloc, bytes)?.into_owned(alloc)
 }
 
-// What stands before and behind the first such byte.
+// Returns the bytes before and behind the first `mark`.
 fn around_first(bytes: &[u8], mark: u8) -> Option<(&[u8], &[u8])>
     ensures { option_map pair_text result ≡ spec.around_first mark bytes.now }
 {
@@ -129,6 +143,7 @@ fn around_first(bytes: &[u8], mark: u8) -> Option<(&[u8], &[u8])>
     }
 }
 
+// Returns the place of the first `mark`.
 fn first_place(bytes: &[u8], mark: u8) -> Option<usize>
     ensures value { result ≡ position (λ b. b == mark) bytes.now }
     ensures within { IfSome result (λ at. at < length bytes.now) }

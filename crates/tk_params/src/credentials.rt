@@ -1,10 +1,12 @@
-//! What a request presents of a client (RFC 6749, 2.3 and 2.3.1).
+//! The client credentials that a request presents (RFC 6749, 2.3 and 2.3.1).
 
 use std::borrow::CowStr;
 use std::marker::Model;
 
-/// What a request presents of a client (RFC 6749, 2.3.1): an id and a secret, either of which may be absent. What comes from
-/// the parameters is borrowed from them. Contracts see the bytes.
+/// The client credentials that a request presents: an id and a secret, either of which may be
+/// absent (RFC 6749, 2.3.1).
+///
+/// Texts from the parameters are borrowed from them. Contracts see the bytes.
 #[derive(Drop)]
 pub struct Credentials<'a> {
     id: Option<CowStr<'a>>,
@@ -18,19 +20,24 @@ impl<'a> Model for Credentials<'a> {
 
     ghost Value = { CredentialsFields };
 
-    ghost view = { λ c. record { id = option_map cow_str_bytes c.id; secret = option_map cow_str_bytes c.secret } };
+    ghost view = { λ c. record {
+      id = option_map cow_str_bytes c.id;
+      secret = option_map cow_str_bytes c.secret;
+    } };
 }
 
-/// Why a request presents no credentials. Two secrets come first, then an unreadable header, then two ids; `Memory` may come
-/// in place of any answer.
+/// The reason why a request presents no credentials.
+///
+/// A secret in two places is reported first, then an unreadable header, then two ids. `Memory` may
+/// be returned in place of any other error.
 #[derive(Clone, Copy)]
 pub enum CredentialsError {
-    /// A secret in the body beside a header, whatever that holds; or a header and a body that name two clients: more than
-    /// one method in one request (RFC 6749, 2.3).
+    /// The request uses more than one method (RFC 6749, 2.3): the body has a secret although there
+    /// is a header, whatever that header is, or header and body name two clients.
     Both,
-    /// The header isn't the Basic scheme with a readable id and secret (RFC 7617, 2).
+    /// The header is not the Basic scheme with a readable id and secret (RFC 7617, 2).
     Basic,
-    /// A growth of memory was refused.
+    /// Memory ran out.
     Memory,
 }
 
@@ -55,21 +62,25 @@ use crate::params::Params;
 use std::alloc::{AllocError, Global};
 
 impl<'a> Credentials<'a> {
-    /// Those of the value of the `Authorization` header, where there is one, and else those of the parameters `client_id` and
-    /// `client_secret`, where they occur once (RFC 6749, 2.3.1). An empty secret counts as none. Which refusal comes is told
-    /// at [`CredentialsError`]; `Memory` comes only beside a header.
+    /// Reads the credentials of a request (RFC 6749, 2.3.1).
+    ///
+    /// `header` is the value of the `Authorization` header. If there is a header, the credentials
+    /// are read from it. Otherwise they are the parameters `client_id` and `client_secret`, each if
+    /// it occurs once. An empty secret counts as absent. [`CredentialsError`] gives the order of
+    /// the errors. `Memory` is returned only if there is a header.
     pub fn read(
         alloc: Global,
         header: Option<&[u8]>,
         params: &'a Params,
     ) -> Result<Credentials<'a>, CredentialsError>
-        ensures ok { IfOk result (λ c. spec.presented_in (option_copied header.entry) params.now ≡ spec.Presents c) }
+        ensures ok { IfOk result
+            (λ c. spec.presented_in (option_copied header.entry) params.now ≡ spec.Presents c) }
         ensures both { IsErrOf result CredentialsError.Both
             → spec.presented_in (option_copied header.entry) params.now ≡ spec.Mixed }
         ensures basic { IsErrOf result CredentialsError.Basic
             → spec.presented_in (option_copied header.entry) params.now ≡ spec.Unreadable }
 
-        // What the body alone presents takes no memory.
+        // Reading credentials from the body alone allocates no memory.
         ensures body { IfNone header.entry (IsOk result) }
     {
         match header {
@@ -78,14 +89,14 @@ impl<'a> Credentials<'a> {
         }
     }
 
-    /// The client's id, as it was sent: of a header it may be empty.
+    /// Returns the client's id as it was sent. An id from a header may be empty.
     pub fn id(&self) -> Option<&str>
         ensures { option_copied result ≡ self.now.id }
     {
         text_in(&self.id)
     }
 
-    /// The client's secret, which isn't empty.
+    /// Returns the client's secret, which is not empty.
     pub fn secret(&self) -> Option<&str>
         ensures { option_copied result ≡ self.now.secret }
     {
@@ -102,6 +113,8 @@ fn text_in<'b>(text: &'b Option<CowStr<'_>>) -> Option<&'b str>
     }
 }
 
+// Returns the credentials of the body: `client_id` and `client_secret`, borrowed from the
+// parameters.
 fn of_body(params: &Params) -> Credentials<'_>
     ensures { result ≡ spec.of_body params.now }
 {
@@ -120,13 +133,16 @@ fn borrowed<'a>(text: Option<&'a str>) -> Option<CowStr<'a>>
     }
 }
 
+// Reads the credentials of a header, beside a body that may name no secret and no other client.
 fn of_header<'a>(
     alloc: Global,
     header: &[u8],
     params: &Params,
 ) -> Result<Credentials<'a>, CredentialsError>
-    ensures ok { IfOk result (λ c. spec.presented_in (Some header.now) params.now ≡ spec.Presents c) }
-    ensures both { IsErrOf result CredentialsError.Both → spec.presented_in (Some header.now) params.now ≡ spec.Mixed }
+    ensures ok { IfOk result
+        (λ c. spec.presented_in (Some header.now) params.now ≡ spec.Presents c) }
+    ensures both { IsErrOf result CredentialsError.Both
+        → spec.presented_in (Some header.now) params.now ≡ spec.Mixed }
     ensures basic { IsErrOf result CredentialsError.Basic
         → spec.presented_in (Some header.now) params.now ≡ spec.Unreadable }
 {
@@ -139,9 +155,12 @@ fn of_header<'a>(
     }
 }
 
+// Returns the credentials of a header, unless the body names another client.
 fn beside_body<'a>(basic: Basic, id: Option<&str>) -> Result<Credentials<'a>, CredentialsError>
-    ensures ok { IfOk result (λ c. spec.beside_body basic (option_copied id.entry) ≡ spec.Presents c) }
-    ensures both { IsErrOf result CredentialsError.Both → spec.beside_body basic (option_copied id.entry) ≡ spec.Mixed }
+    ensures ok { IfOk result
+        (λ c. spec.beside_body basic (option_copied id.entry) ≡ spec.Presents c) }
+    ensures both { IsErrOf result CredentialsError.Both
+        → spec.beside_body basic (option_copied id.entry) ≡ spec.Mixed }
     ensures basic { IsErrOf result CredentialsError.Basic
         → spec.beside_body basic (option_copied id.entry) ≡ spec.Unreadable }
 {
@@ -151,6 +170,7 @@ fn beside_body<'a>(basic: Basic, id: Option<&str>) -> Result<Credentials<'a>, Cr
     }
 }
 
+// Returns the credentials of a header. An empty secret counts as absent.
 fn of_basic<'a>(basic: Basic) -> Credentials<'a>
     ensures { result ≡ spec.of_basic basic }
 {

@@ -1,13 +1,18 @@
-//! The parameters of a request, and the credentials that it presents (RFC 6749, 2.3, 3.1, 3.2 and appendix B).
+//! The parameters of a request, and the client credentials that it presents (RFC 6749, 2.3, 3.1,
+//! 3.2 and appendix B).
 //!
-//! `Params` are the names and values of a form or a query, decoded once; `One` tells how often a name occurs.
-//! `Credentials` are the client's id and secret, of a Basic header or of the parameters, in one place only.
+//! In reading order:
 //!
-//! Which names an endpoint knows, and what is answered where one occurs twice, stands above; so does whose the credentials
-//! are. Form encoding and base64 are the definitions of the crates `form_urlencoded` and `base64`: here it is said which
-//! bytes they are applied to. Nothing is said of the time that a comparison takes.
+//! - `Params`, the names and values of a form or a query, decoded once;
+//! - `One`, how often a name occurs;
+//! - `Credentials`, a client's id and secret, from a Basic header or from the parameters.
 //!
-//! In reading order: `Params`, `One`, `Credentials`. The definitions are in specs/: `Params`, `One`, `Basic`, `Credentials`.
+//! The crates above decide which names an endpoint knows, its reply if a name occurs twice,
+//! and whose the credentials are. The crates `form_urlencoded` and `base64` define form encoding
+//! and base64; this crate defines which bytes they are applied to. No claim is made about the time
+//! that a comparison takes.
+//!
+//! The definitions are in `specs/`: `Params`, `One`, `Basic`, `Credentials`.
 #![tactic(auto)]
 
 mod basic;

@@ -2,8 +2,10 @@
 
 use std::marker::Model;
 
-/// The parameters of a form or a query, in the order in which they were sent. Names and values are texts; one without a
-/// value counts as omitted (RFC 6749, 3.1 and 3.2). Contracts see the list of their bytes.
+/// The parameters of a form or a query, in the order in which they were sent.
+///
+/// Names and values are texts. A name without a value counts as omitted (RFC 6749, 3.1 and 3.2).
+/// Contracts see the list of their bytes.
 #[derive(Drop)]
 pub struct Params {
     pairs: Vec<(String, String)>,
@@ -18,29 +20,37 @@ impl Model for Params {
     ghost view = { λ p. owned_texts p.pairs.items };
 }
 
-/// What stands under a name.
+/// The value of a name, if the name occurs once; or how often the name occurs.
 #[derive(Clone, Copy)]
 pub enum One<'a> {
-    /// Nothing.
+    /// The name does not occur.
     Absent,
-    /// One value, which isn't empty.
+    /// The name occurs once, with this value, which is not empty.
     Value(&'a str),
-    /// Two values or more.
+    /// The name occurs twice or more.
     Twice,
 }
 
 ghost use Rattle.std.specs.Prelude.{◌≡◌, IfOk, map};
 ghost use Rattle.std.specs.List.{list_any};
 ghost use Rattle.std.specs.Option.{option_copied};
-ghost use Rattle.tk_params.specs.Params.{owned_texts, params_of, values_of, value_of, is_twice, has_twice};
+ghost use Rattle.tk_params.specs.Params.{
+  owned_texts,
+  params_of,
+  values_of,
+  value_of,
+  is_twice,
+  has_twice,
+};
 ghost use Rattle.tk_params.specs.One.{IsOne};
 
 use form_urlencoded::parse;
 use std::alloc::{AllocError, Global};
 
 impl Params {
-    /// The parameters of a form or a query, of any bytes: those that aren't UTF-8 once they are decoded become U+FFFD. An
-    /// error where memory is refused.
+    /// Reads the parameters of a form or a query from any bytes.
+    ///
+    /// Decoded bytes that are not UTF-8 become U+FFFD. Fails if memory runs out.
     pub fn read(alloc: Global, input: &[u8]) -> Result<Params, AllocError>
         ensures { IfOk result (λ params. params ≡ params_of input.now) }
     {
@@ -48,14 +58,15 @@ impl Params {
         Ok(Params { pairs })
     }
 
-    /// What stands under a name, once it is decoded.
+    /// Returns the value of a name, given as it is after decoding.
     pub fn one(&self, name: &str) -> One<'_>
         ensures { IsOne result (values_of name.now self.now) }
     {
         find_one(&self.pairs, name)
     }
 
-    /// The value under a name that occurs once; None where it doesn't occur, or twice.
+    /// Returns the value of a name that occurs once. Returns `None` if the name does not occur, or
+    /// occurs twice or more.
     #[tactic(auto, using(crate::proofs::ParamLaws::only_of_several))]
     pub fn value(&self, name: &str) -> Option<&str>
         ensures { option_copied result ≡ value_of name.now self.now }
@@ -67,7 +78,8 @@ impl Params {
         }
     }
 
-    // Whether a name occurs twice or more, which no request may have (RFC 6749, 3.1 and 3.2).
+    // Returns whether a name occurs twice or more, which no request may have (RFC 6749, 3.1 and
+    // 3.2).
     pub(crate) fn is_twice(&self, name: &str) -> bool
         ensures { result ≡ is_twice name.now self.now }
     {
@@ -78,7 +90,7 @@ impl Params {
         }
     }
 
-    /// Whether one of the names occurs twice or more.
+    /// Returns whether at least one of the names occurs twice or more.
     pub fn has_twice(&self, names: &[&str]) -> bool
         ensures { result ≡ has_twice (map (λ x. x.now) names.now) self.now }
     {
@@ -92,6 +104,7 @@ impl Params {
     }
 }
 
+// Decodes the pairs that have a value, in order.
 fn read_pairs(alloc: Global, input: &[u8]) -> Result<Vec<(String, String)>, AllocError>
     ensures { IfOk result (λ pairs. owned_texts pairs.items ≡ params_of input.now) }
 {
@@ -105,6 +118,7 @@ fn read_pairs(alloc: Global, input: &[u8]) -> Result<Vec<(String, String)>, Allo
     Ok(pairs)
 }
 
+// Returns the value of a name, if it occurs once.
 fn find_one<'a>(pairs: &'a [(String, String)], name: &str) -> One<'a>
     ensures { IsOne result (values_of name.now (owned_texts pairs.now)) }
 {

@@ -1,4 +1,6 @@
--- Introspection tells of exactly the active tokens. Key results: says_active, says_nothing.
+-- Introspection reports exactly the active tokens. Key results:
+--   says_active    the reply for an active token that the sender may see
+--   says_nothing   the reply for a token that is not active
 use Rattle.std.proofs.Common.{◌≡◌, ◌≢◌, ℕ, Bool, true, false, ◌||◌, not, cond, refl, sym, ap, ◌∙◌}
 use Rattle.std.proofs.lemmas.Bool.{false_from_ne_true}
 use Rattle.std.specs.FinMap as map
@@ -28,7 +30,7 @@ use Rattle.tk_query.specs.Introspected.{sees, is_live, active, introspected_by_s
 use Rattle.tk_query.specs.Introspection.{told}
 use Rattle.tk_query.specs.Laws.{told_by_kind, told_to}
 
--- ---- nothing is told of another token
+-- ---- the reply for a token that is not active
 
 live_state : (x : State) → is_live x ≡ true → x ≡ state.Live
 live_state state.Dead h = cc
@@ -43,6 +45,7 @@ second_fails : (b c : Bool) (x y : Introspected) → c ≡ false → cond (not b
 second_fails true c x y h = ap (λ t. cond (not t) x y) h
 second_fails false c x y h = refl
 
+-- the outcome for a token that is not active
 quiet : (F : FactSet) (now : ℕ) (sort : Sort) (asker : Dot) (h : Handle) (k : Kind) (x : Status) → status_in F now h ≡ x → h.id.kind ≢ kind.Code → ¬ IsActive (map.get F) now h → introspected_by_status sort asker k x ≡ Inactive
 quiet F now sort asker h k Unseen e nc n = refl
 quiet F now sort asker h k Wrong e nc n = refl
@@ -65,9 +68,9 @@ quiet_by_kind F now sort asker h kind.Refresh e n = quiet F now sort asker h kin
 pub says_nothing : (F : FactSet) (now : ℕ) (sort : Sort) (asker : Dot) (h : Handle) → ¬ IsActive (map.get F) now h → told_to F now sort asker h ≡ inactive_reply
 says_nothing F now sort asker h n = ap told (quiet_by_kind F now sort asker h h.id.kind refl n)
 
--- ---- an active token is told
+-- ---- the reply for an active token
 
--- the fields of the standing that are told
+-- the fields of a standing that the reply for an active token has
 pub record Tells (F : FactSet) (now : ℕ) (h : Handle) (a : IsActive (map.get F) now h) (s : StandingFields) : Type 0 where
   pub is : status_in F now h ≡ Known s
   pub live : s.state ≡ state.Live
@@ -77,6 +80,7 @@ pub record Tells (F : FactSet) (now : ℕ) (h : Handle) (a : IsActive (map.get F
   pub scope : s.scope ≡ a.minted.scope
   pub subject : s.subject ≡ a.issued.subject
 
+-- an active token has a standing with the fields that the reply has
 tells : (F : FactSet) (now : ℕ) (h : Handle) (a : IsActive (map.get F) now h) → (s : StandingFields) × Tells F now h a s
 tells F now h a =
     let y : (s : StandingFields) × (status_in F now h ≡ Known s) × (s.state ≡ state.Live) = active_is_live F now h a in
@@ -99,12 +103,13 @@ tells F now h a =
 both_hold : (a b : Bool) (x y : Introspected) → a ≡ true → b ≡ true → cond (not a || not b) x y ≡ y
 both_hold a b x y h i = rw (h, i) refl
 
--- what is told of the standing of an active token
+-- the outcome for an active token by its standing
 loud_as : (F : FactSet) (now : ℕ) (sort : Sort) (asker : Dot) (h : Handle) (a : IsActive (map.get F) now h) (s : StandingFields) → Tells F now h a s → sees sort asker a.issued.client ≡ true → (k : Kind) → introspected_by_status sort asker k (status_in F now h) ≡ active k s
 loud_as F now sort asker h a s t seen k =
     ap (introspected_by_status sort asker k) t.is
     ∙ both_hold (sees sort asker s.client) (is_live s.state) Inactive (active k s) (ap (sees sort asker) t.client ∙ seen) (ap is_live t.live)
 
+-- the reply for an active token by the fields of its standing
 told_fields : (k : Kind) (s : StandingFields) → told (active k s) ≡ told_by_kind k s.client s.expiry s.start s.scope s.subject
 told_fields kind.Code s = refl
 told_fields kind.Access s = refl
@@ -113,6 +118,7 @@ told_fields kind.Refresh s = refl
 same_fields : (F : FactSet) (now : ℕ) (h : Handle) (a : IsActive (map.get F) now h) (s : StandingFields) → Tells F now h a s → (k : Kind) → told_by_kind k s.client s.expiry s.start s.scope s.subject ≡ told_by_kind k a.issued.client a.minted.expiry a.minted.start a.minted.scope a.issued.subject
 same_fields F now h a s t k = rw (t.client, t.expiry, t.start, t.scope, t.subject) refl
 
+-- the outcome for an active token by its kind
 loud_by_kind : (F : FactSet) (now : ℕ) (sort : Sort) (asker : Dot) (h : Handle) (a : IsActive (map.get F) now h) (s : StandingFields) → Tells F now h a s → sees sort asker a.issued.client ≡ true → (k : Kind) → h.id.kind ≡ k → introspected_by_kind F now sort asker h k ≡ active k s
 loud_by_kind F now sort asker h a s t seen kind.Code e = absurd (a.no_code e)
 loud_by_kind F now sort asker h a s t seen kind.Access e = loud_as F now sort asker h a s t seen kind.Access

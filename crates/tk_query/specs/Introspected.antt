@@ -1,9 +1,22 @@
--- What is known of a token to who asks: the ordered cases of introspection (RFC 7662, 2.1 and 2.2). They depend on the facts, the
--- moment and the request alone.
---   sees                     the asker may see a client's tokens
---   is_live                  the state is Live
---   introspected_by_caller   what is known
-use Rattle.std.specs.Prelude.{ℕ, Bool, true, false, ◌||◌, not, List, codes, Option, Some, None, if◌then◌else◌}
+-- The outcome of introspection: the first case that holds (RFC 7662, 2.1 and 2.2). The facts, the
+-- moment and the request alone determine the outcome.
+--   sees                     a client may see the tokens of another client
+--   is_live                  a state is Live
+--   introspected_by_caller   the outcome for the sender of a request
+use Rattle.std.specs.Prelude.{
+  ℕ,
+  Bool,
+  true,
+  false,
+  ◌||◌,
+  not,
+  List,
+  codes,
+  Option,
+  Some,
+  None,
+  if◌then◌else◌,
+}
 use Rattle.tk_handle.specs.declared.dot.Dot.{Dot}
 use Rattle.tk_handle.specs.declared.kind.Kind.{Kind}
 use Rattle.tk_handle.specs.declared.kind.Kind.TheVariants as kind
@@ -25,15 +38,22 @@ use Rattle.tk_params.specs.Params.{Pairs, value_of}
 use Rattle.tk_message.specs.declared.caller.Caller.{Caller}
 use Rattle.tk_message.specs.declared.caller.Caller.TheVariants as caller
 use Rattle.tk_query.specs.declared.introspected.Introspected.{Introspected}
-use Rattle.tk_query.specs.declared.introspected.Introspected.TheVariants.{Refused, Inactive, Access, Refresh}
+use Rattle.tk_query.specs.declared.introspected.Introspected.TheVariants.{
+  Refused,
+  Inactive,
+  Access,
+  Refresh,
+}
 use Rattle.tk_query.specs.declared.refusal.Refusal.TheVariants as refusal
 
--- a resource server sees every token, and another client its own (RFC 7662, 2.1; who sees what is own)
+-- a client may see the tokens of the other: a resource server sees every token, another client its
+-- own (RFC 7662, 2.1; who sees what is own)
 abbrev pub sees : Sort → Dot → Dot → Bool
 sees Public asker client = false
 sees (Confidential digest) asker client = is_same_dot client asker
 sees (Resource digest) asker client = true
 
+-- the state is Live
 abbrev pub is_live : State → Bool
 is_live state.Dead = false
 is_live state.Withdrawn = false
@@ -43,41 +63,46 @@ is_live state.Past = false
 is_live state.Ended = false
 is_live state.Live = true
 
--- an access or a refresh token that is live; a code is none
+-- the outcome for a token that is live: a code is never active
 abbrev pub active : Kind → StandingFields → Introspected
 active kind.Code s = Inactive
 active kind.Access s = Access s
 active kind.Refresh s = Refresh s
 
--- what the asker may not see, or isn't live, is told as inactive (RFC 7662, 2.2)
+-- the outcome by the token's standing: a token that the sender may not see, or that is not live, is
+-- inactive (RFC 7662, 2.2)
 abbrev pub introspected_by_standing : Sort → Dot → Kind → StandingFields → Introspected
 introspected_by_standing sort asker k s =
     if not (sees sort asker s.client) || not (is_live s.state) then Inactive else active k s
 
--- so is what isn't known (RFC 7662, 2.2)
+-- the outcome by the token's status: an unknown token is inactive (RFC 7662, 2.2)
 abbrev pub introspected_by_status : Sort → Dot → Kind → Status → Introspected
 introspected_by_status sort asker k Unseen = Inactive
 introspected_by_status sort asker k Wrong = Inactive
 introspected_by_status sort asker k (Broken expiry) = Inactive
 introspected_by_status sort asker k (Known s) = introspected_by_standing sort asker k s
 
--- a code's handle tells nothing
+-- the outcome by the kind of the handle: a code is inactive
 abbrev pub introspected_by_kind : FactSet → ℕ → Sort → Dot → Handle → Kind → Introspected
 introspected_by_kind F now sort asker h kind.Code = Inactive
-introspected_by_kind F now sort asker h kind.Access = introspected_by_status sort asker kind.Access (status_in F now h)
-introspected_by_kind F now sort asker h kind.Refresh = introspected_by_status sort asker kind.Refresh (status_in F now h)
+introspected_by_kind F now sort asker h kind.Access =
+    introspected_by_status sort asker kind.Access (status_in F now h)
+introspected_by_kind F now sort asker h kind.Refresh =
+    introspected_by_status sort asker kind.Refresh (status_in F now h)
 
--- nor does what is no handle (RFC 7662, 2.2)
+-- the outcome by the handle: a text that is no handle is inactive (RFC 7662, 2.2)
 abbrev pub introspected_by_handle : FactSet → ℕ → Sort → Dot → Option Handle → Introspected
 introspected_by_handle F now sort asker None = Inactive
 introspected_by_handle F now sort asker (Some h) = introspected_by_kind F now sort asker h h.id.kind
 
--- no token (RFC 7662, 2.1)
+-- the outcome by the token's text, which is required (RFC 7662, 2.1)
 abbrev pub introspected_by_text : FactSet → ℕ → Sort → Dot → Option (List ℕ) → Introspected
 introspected_by_text F now sort asker None = Refused refusal.MissingToken
-introspected_by_text F now sort asker (Some text) = introspected_by_handle F now sort asker (handle_in text)
+introspected_by_text F now sort asker (Some text) =
+    introspected_by_handle F now sort asker (handle_in text)
 
--- a public client has proved nothing, so it may not ask (RFC 7662, 2.1)
+-- the outcome for a client by its kind: a public client has proved nothing and is refused (RFC
+-- 7662, 2.1)
 abbrev pub introspected_as : FactSet → ℕ → Pairs → Dot → Sort → Introspected
 introspected_as F now params asker Public = Refused refusal.PublicClient
 introspected_as F now params asker (Confidential digest) =
@@ -85,14 +110,17 @@ introspected_as F now params asker (Confidential digest) =
 introspected_as F now params asker (Resource digest) =
     introspected_by_text F now (Resource digest) asker (value_of (codes "token") params)
 
--- a client that is authenticated was added, so `None` never comes
+-- the outcome for an authenticated client. Such a client was added: `None` never happens
 abbrev pub introspected_by_client : FactSet → ℕ → Pairs → Dot → Option ClientFields → Introspected
 introspected_by_client F now params asker None = Refused refusal.InvalidClient
-introspected_by_client F now params asker (Some client) = introspected_as F now params asker client.sort
+introspected_by_client F now params asker (Some client) =
+    introspected_as F now params asker client.sort
 
--- who asks: a known parameter twice, credentials in two places, no authenticated client (RFC 6749, 2.3 and 3.2; RFC 7662, 2.3)
+-- the outcome for the sender: no parameter that the endpoint knows may occur twice, no credentials
+-- in two places, and a client must be authenticated (RFC 6749, 2.3 and 3.2; RFC 7662, 2.3)
 abbrev pub introspected_by_caller : FactSet → ℕ → Pairs → Caller → Introspected
 introspected_by_caller F now params caller.DuplicateParameter = Refused refusal.DuplicateParameter
 introspected_by_caller F now params caller.MixedCredentials = Refused refusal.MixedCredentials
 introspected_by_caller F now params caller.InvalidClient = Refused refusal.InvalidClient
-introspected_by_caller F now params (caller.Client asker) = introspected_by_client F now params asker (client_view F asker)
+introspected_by_caller F now params (caller.Client asker) =
+    introspected_by_client F now params asker (client_view F asker)

@@ -1,7 +1,7 @@
--- What an introspection request is answered (RFC 7662, 2.2). It depends on the facts, the moment and the request alone: no number
--- of a region, no serial, no life and no word is among its arguments.
---   told                 what is told of what is known
---   introspection_of     the reply
+-- The reply to an introspection request (RFC 7662, 2.2). Facts, moment and request determine the
+-- reply: no region number, serial, life or random word is among the arguments.
+--   told               the reply by the outcome of introspection
+--   introspection_of   the reply to a request
 use Rattle.std.specs.Prelude.{ℕ}
 use Rattle.tk_store.specs.FactSet.{FactSet}
 use Rattle.tk_ledger.specs.StandingFields.{StandingFields}
@@ -10,24 +10,33 @@ use Rattle.tk_message.specs.Reply.{error_reply, access_reply, refresh_reply, ina
 use Rattle.tk_message.specs.ReplyFields.{ReplyFields}
 use Rattle.tk_message.specs.RequestFields.{RequestFields}
 use Rattle.tk_query.specs.declared.introspected.Introspected.{Introspected}
-use Rattle.tk_query.specs.declared.introspected.Introspected.TheVariants.{Refused, Inactive, Access, Refresh}
+use Rattle.tk_query.specs.declared.introspected.Introspected.TheVariants.{
+  Refused,
+  Inactive,
+  Access,
+  Refresh,
+}
 use Rattle.tk_query.specs.Caller.{known_names}
 use Rattle.tk_query.specs.Introspected.{introspected_by_caller}
 use Rattle.tk_query.specs.Refusal.{refusal_code}
 
--- client, end, start, scope and subject (RFC 7662, 2.2)
+-- the reply for an active access token: client, expiry, start, scope and subject (RFC 7662, 2.2)
 abbrev pub told_access : StandingFields → ReplyFields
 told_access s = access_reply s.client s.expiry s.start s.scope s.subject
 
+-- the reply for an active refresh token: client, expiry, start, scope and subject (RFC 7662, 2.2)
 abbrev pub told_refresh : StandingFields → ReplyFields
 told_refresh s = refresh_reply s.client s.expiry s.start s.scope s.subject
 
--- an error (RFC 7662, 2.3), or what is said of the token (2.2)
+-- the reply by the outcome of introspection: an error (RFC 7662, 2.3), or what the sender may know
+-- of the token (RFC 7662, 2.2)
 abbrev pub told : Introspected → ReplyFields
 told (Refused why) = error_reply (refusal_code why)
 told Inactive = inactive_reply
 told (Access s) = told_access s
 told (Refresh s) = told_refresh s
 
+-- the reply to an introspection request
 abbrev pub introspection_of : FactSet → ℕ → RequestFields → ReplyFields
-introspection_of F now request = told (introspected_by_caller F now request.params (caller_of F known_names request))
+introspection_of F now request =
+    told (introspected_by_caller F now request.params (caller_of F known_names request))

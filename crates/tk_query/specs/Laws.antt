@@ -1,7 +1,7 @@
--- What introspection tells, in the words of an active token (RFC 7662, 2.2). Each is a clause of the law `says_active`.
---   told_by_kind   what is told of a token of that kind
---   SaysActive     an active token that the asker may see is told
---   SaysNothing    nothing is told of any other
+-- The law of introspection, by the definition of an active token (RFC 7662, 2.2). The clauses of
+-- `says_active` are:
+--   SaysActive     the reply reports an active token that the sender may see
+--   SaysNothing    the reply to any sender reports no other token
 use Rattle.std.specs.Prelude.{◌≡◌, ℕ, List, Some, true}
 use Rattle.std.specs.FinMap as map
 use Rattle.tk_handle.specs.declared.dot.Dot.{Dot}
@@ -16,20 +16,28 @@ use Rattle.tk_message.specs.ReplyFields.{ReplyFields}
 use Rattle.tk_query.specs.Introspected.{introspected_by_handle, sees}
 use Rattle.tk_query.specs.Introspection.{told}
 
--- its client, end, start, scope and subject; a code is never active
+-- the reply for an active token of the kind: a code is never active
 abbrev pub told_by_kind : Kind → Dot → ℕ → ℕ → List ℕ → List ℕ → ReplyFields
 told_by_kind kind.Code client expiry start scope subject = inactive_reply
-told_by_kind kind.Access client expiry start scope subject = access_reply client expiry start scope subject
-told_by_kind kind.Refresh client expiry start scope subject = refresh_reply client expiry start scope subject
+told_by_kind kind.Access client expiry start scope subject =
+    access_reply client expiry start scope subject
+told_by_kind kind.Refresh client expiry start scope subject =
+    refresh_reply client expiry start scope subject
 
--- what is told of a handle to an asker
+-- the reply to a client of the given kind for a handle
 abbrev pub told_to : FactSet → ℕ → Sort → Dot → Handle → ReplyFields
 told_to F now sort asker h = told (introspected_by_handle F now sort asker (Some h))
 
--- client and subject are the code's; end, start and scope are those of the fact that minted the token
+-- the reply for an active token that the sender may see has the client and subject of the code, and
+-- the expiry, start and scope of the fact that minted the token
 abbrev pub SaysActive : Type 0
-SaysActive = (F : FactSet) (now : ℕ) (sort : Sort) (asker : Dot) (h : Handle) (a : IsActive (map.get F) now h) → sees sort asker a.issued.client ≡ true
-    → told_to F now sort asker h ≡ told_by_kind h.id.kind a.issued.client a.minted.expiry a.minted.start a.minted.scope a.issued.subject
+SaysActive =
+    (F : FactSet) (now : ℕ) (sort : Sort) (asker : Dot) (h : Handle)
+    (a : IsActive (map.get F) now h) → sees sort asker a.issued.client ≡ true
+    → told_to F now sort asker h ≡ told_by_kind h.id.kind a.issued.client a.minted.expiry
+    a.minted.start a.minted.scope a.issued.subject
 
+-- the reply for a token that is not active is that it is not, whoever asks
 abbrev pub SaysNothing : Type 0
-SaysNothing = (F : FactSet) (now : ℕ) (sort : Sort) (asker : Dot) (h : Handle) → ¬ IsActive (map.get F) now h → told_to F now sort asker h ≡ inactive_reply
+SaysNothing = (F : FactSet) (now : ℕ) (sort : Sort) (asker : Dot) (h : Handle)
+    → ¬ IsActive (map.get F) now h → told_to F now sort asker h ≡ inactive_reply

@@ -1,12 +1,12 @@
--- The words of this crate:
---   Caller            known_names, the parameters that are known at both endpoints
---   Refusal           refusal_code, what an error is called
---   Introspected      introspected_by_caller, what is known of a token to who asks
---   Introspection     introspection_of, what an introspection request is answered
---   Revoked           revoked_by_caller, what a revocation comes to
---   SoundRevocation   that the fact made passes its check
---   Revocation        revocation_of, what a revocation request is answered, and the fact that it makes
---   Laws              what introspection tells, in the words of an active token
+-- The definitions of this crate, by file:
+--   Caller            known_names, the parameters that both endpoints know
+--   Refusal           refusal_code, the error code of a refusal
+--   Introspected      introspected_by_caller, the outcome of introspection
+--   Introspection     introspection_of, the reply to an introspection request
+--   Revoked           revoked_by_caller, the outcome of revocation
+--   SoundRevocation   IsSoundRevocation, the fact that is made passes its check
+--   Revocation        revocation_of, the decision of a revocation request
+--   Laws              SaysActive, SaysNothing, the law of introspection
 pub mod Caller
 pub mod Introspected
 pub mod Introspection

@@ -1,5 +1,5 @@
--- What a revocation request is answered, and the fact that it makes (RFC 7009, 2.2).
---   revocation_of   the decision
+-- The decision of a revocation request (RFC 7009, 2.2).
+--   revocation_of   the decision of a request
 use Rattle.std.specs.Prelude.{ℕ, Some}
 use Rattle.tk_fact.specs.declared.body.Body.TheVariants.{TokenRevoked}
 use Rattle.tk_store.specs.FactSet.{FactSet}
@@ -16,12 +16,15 @@ use Rattle.tk_query.specs.Caller.{known_names}
 use Rattle.tk_query.specs.Refusal.{refusal_code}
 use Rattle.tk_query.specs.Revoked.{revoked_by_caller}
 
--- an error (RFC 7009, 2.2.1); 200 without a body, whether or not anything was left to revoke (2.2)
+-- the decision by the outcome of revocation: an error (RFC 7009, 2.2.1), or 200 without a body,
+-- whether or not anything was left to revoke (RFC 7009, 2.2)
 abbrev pub revoked_by : Revocation → Decision
 revoked_by (Refused why) = refused (refusal_code why)
 revoked_by (Done why) = answered (empty_reply Ok)
 revoked_by (Revokes fact) = record { reply = empty_reply Ok; made = Some (TokenRevoked fact) }
 
--- of the place the number alone is asked for
+-- the decision of a revocation request. Of the place, only the region's number counts
 abbrev pub revocation_of : FactSet → Place → ℕ → RequestFields → Decision
-revocation_of F place now request = revoked_by (revoked_by_caller F place.number now request.params (caller_of F known_names request))
+revocation_of F place now request =
+    revoked_by (revoked_by_caller F place.number now request.params
+    (caller_of F known_names request))

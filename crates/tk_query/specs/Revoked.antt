@@ -1,7 +1,7 @@
--- What a revocation comes to: the ordered cases, the first that holds (RFC 7009, 2.1 and 2.2).
---   revocation_of       the fact that the client revoked a handle's token
---   is_own              the token would be of this region
---   revoked_by_caller   what the revocation comes to
+-- The outcome of revocation: the first case that holds (RFC 7009, 2.1 and 2.2).
+--   revocation_of       the fact that a client revoked a handle's token
+--   is_own              a token would be of the region with a number
+--   revoked_by_caller   the outcome for the sender of a request
 use Rattle.std.specs.Prelude.{ℕ, Bool, ◌==◌, nat_le, List, codes, Option, Some, None, if◌then◌else◌}
 use Rattle.tk_handle.specs.declared.dot.Dot.{Dot}
 use Rattle.tk_handle.specs.declared.kind.Kind.{Kind}
@@ -25,19 +25,25 @@ use Rattle.tk_query.specs.declared.refusal.Refusal.TheVariants as refusal
 use Rattle.tk_query.specs.declared.revoked.Revocation.{Revocation}
 use Rattle.tk_query.specs.declared.revoked.Revocation.TheVariants.{Refused, Done, Revokes}
 
--- the token of that kind at the handle's dot, by the handle's digest
+-- the fact that the client revoked the token of the kind at the handle's dot, by the handle's
+-- digest
 abbrev pub revocation_of : Handle → Kind → Dot → TokenRevoked
-revocation_of h k client = record { token = record { dot = h.id.dot; kind = k }; digest = digest_of h; client = client }
+revocation_of h k client =
+    record { token = record { dot = h.id.dot; kind = k }; digest = digest_of h; client = client }
 
--- the client revoked it before (RFC 7009, 2.2); else the fact is made, whether or not the token has been seen (own)
+-- the outcome by the facts: a client revokes a token once (RFC 7009, 2.2), whether or not the token
+-- has been seen (own)
 abbrev pub revoked_unless_held : FactSet → TokenRevoked → Revocation
-revoked_unless_held F fact = if is_revoked F fact.token fact.digest fact.client then Done idle.Revoked else Revokes fact
+revoked_unless_held F fact =
+    if is_revoked F fact.token fact.digest fact.client then Done idle.Revoked else Revokes fact
 
--- another client's token (RFC 7009, 2.1)
+-- the outcome by the token's client, which must be the sender (RFC 7009, 2.1)
 abbrev pub revoked_of_client : FactSet → TokenRevoked → Dot → Revocation
-revoked_of_client F fact client = if is_same_dot client fact.client then revoked_unless_held F fact else Refused refusal.ForeignToken
+revoked_of_client F fact client = if is_same_dot client fact.client then revoked_unless_held F fact
+    else Refused refusal.ForeignToken
 
--- its family is dead: no token of it serves, whoever asks (RFC 7009, 2.2)
+-- the outcome by the token's state: no token of a dead family is active, whoever asks (RFC 7009,
+-- 2.2)
 abbrev pub revoked_by_state : FactSet → TokenRevoked → Dot → State → Revocation
 revoked_by_state F fact client state.Dead = Done idle.DeadFamily
 revoked_by_state F fact client state.Withdrawn = revoked_of_client F fact client
@@ -47,39 +53,47 @@ revoked_by_state F fact client state.Past = revoked_of_client F fact client
 revoked_by_state F fact client state.Ended = revoked_of_client F fact client
 revoked_by_state F fact client state.Live = revoked_of_client F fact client
 
--- a handle that was never minted, as another stands at its dot, or as it would be of this region; one that has ended (RFC 7009, 2.2)
+-- the outcome by the token's status. A handle whose dot has another token, or that would be of this
+-- region and has no fact, was never minted; an expired token is past (RFC 7009, 2.2)
 abbrev pub revoked_by_status : FactSet → Bool → ℕ → TokenRevoked → Status → Revocation
 revoked_by_status F is_own now fact Wrong = Done idle.WrongHandle
-revoked_by_status F is_own now fact Unseen = if is_own then Done idle.NeverMinted else revoked_unless_held F fact
-revoked_by_status F is_own now fact (Broken expiry) = if nat_le expiry now then Done idle.Past else revoked_unless_held F fact
+revoked_by_status F is_own now fact Unseen =
+    if is_own then Done idle.NeverMinted else revoked_unless_held F fact
+revoked_by_status F is_own now fact (Broken expiry) =
+    if nat_le expiry now then Done idle.Past else revoked_unless_held F fact
 revoked_by_status F is_own now fact (Known s) =
     if nat_le s.expiry now then Done idle.Past else revoked_by_state F fact s.client s.state
 
--- the token would be of the region of this number
+-- the token would be of the region with the number
 abbrev pub is_own : ℕ → Handle → Bool
 is_own number h = h.id.dot.region == number
 
--- a code isn't revoked (RFC 7009, 2)
+-- the outcome by the kind of the handle: a code can't be revoked (RFC 7009, 2)
 abbrev pub revoked_by_kind : FactSet → ℕ → ℕ → Dot → Handle → Kind → Revocation
 revoked_by_kind F number now client h kind.Code = Done idle.Code
 revoked_by_kind F number now client h kind.Access =
-    revoked_by_status F (is_own number h) now (revocation_of h kind.Access client) (status_in F now h)
+    revoked_by_status F (is_own number h) now (revocation_of h kind.Access client)
+    (status_in F now h)
 revoked_by_kind F number now client h kind.Refresh =
-    revoked_by_status F (is_own number h) now (revocation_of h kind.Refresh client) (status_in F now h)
+    revoked_by_status F (is_own number h) now (revocation_of h kind.Refresh client)
+    (status_in F now h)
 
--- no handle is no token (RFC 7009, 2.2)
+-- the outcome by the handle: a text that is no handle is no token (RFC 7009, 2.2)
 abbrev pub revoked_by_handle : FactSet → ℕ → ℕ → Dot → Option Handle → Revocation
 revoked_by_handle F number now client None = Done idle.NoHandle
 revoked_by_handle F number now client (Some h) = revoked_by_kind F number now client h h.id.kind
 
--- no token (RFC 7009, 2.1)
+-- the outcome by the token's text, which is required (RFC 7009, 2.1)
 abbrev pub revoked_by_text : FactSet → ℕ → ℕ → Dot → Option (List ℕ) → Revocation
 revoked_by_text F number now client None = Refused refusal.MissingToken
-revoked_by_text F number now client (Some text) = revoked_by_handle F number now client (handle_in text)
+revoked_by_text F number now client (Some text) =
+    revoked_by_handle F number now client (handle_in text)
 
--- who asks: a known parameter twice, credentials in two places, no authenticated client (RFC 6749, 2.3 and 3.2; RFC 7009, 2.1)
+-- the outcome for the sender: no parameter that the endpoint knows may occur twice, no credentials
+-- in two places, and a client must be authenticated (RFC 6749, 2.3 and 3.2; RFC 7009, 2.1)
 abbrev pub revoked_by_caller : FactSet → ℕ → ℕ → Pairs → Caller → Revocation
 revoked_by_caller F number now params caller.DuplicateParameter = Refused refusal.DuplicateParameter
 revoked_by_caller F number now params caller.MixedCredentials = Refused refusal.MixedCredentials
 revoked_by_caller F number now params caller.InvalidClient = Refused refusal.InvalidClient
-revoked_by_caller F number now params (caller.Client client) = revoked_by_text F number now client (value_of (codes "token") params)
+revoked_by_caller F number now params (caller.Client client) =
+    revoked_by_text F number now client (value_of (codes "token") params)

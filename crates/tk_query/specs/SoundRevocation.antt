@@ -1,10 +1,11 @@
--- What holds of every revocation (own): it is what makes the fact pass its check.
---   IsSoundRevocation   what is revoked is an access or refresh token
+-- What holds of every revocation (own): the fact that is made passes its check by this.
+--   IsSoundRevocation   a token that is revoked is an access or refresh token
 use Rattle.std.specs.Prelude.{◌≡◌, true}
 use Rattle.tk_fact.specs.Check.{is_revocable}
 use Rattle.tk_query.specs.declared.revoked.Revocation.{Revocation}
 use Rattle.tk_query.specs.declared.revoked.Revocation.TheVariants.{Refused, Done, Revokes}
 
+-- a token that is revoked is an access or refresh token
 abbrev pub IsSoundRevocation : Revocation → Type 0
 IsSoundRevocation (Refused why) = Unit {0}
 IsSoundRevocation (Done why) = Unit {0}

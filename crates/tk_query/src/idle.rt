@@ -1,21 +1,23 @@
-//! Why there is nothing to revoke.
+//! The reasons why a revocation request changes nothing.
 
-/// Why there is nothing to revoke, which is no error: the first that holds, in this order (RFC 7009, 2.2). Between
-/// `DeadFamily` and `Revoked` stands a token of another client's, which is refused.
+/// The reason why there is nothing to revoke, which is no error: the first that holds, in this
+/// order (RFC 7009, 2.2).
+///
+/// The token of another client is refused, between `DeadFamily` and `Revoked`.
 #[derive(Clone, Copy)]
 pub(crate) enum Idle {
-    /// The text is no handle.
+    /// The text is not a handle.
     NoHandle,
-    /// It is a code's: codes aren't revoked (RFC 7009, 2).
+    /// The handle is that of a code: codes can't be revoked (RFC 7009, 2).
     Code,
-    /// A fact stands at the token's dot, and didn't mint it.
+    /// The fact at the token's dot did not mint the token.
     WrongHandle,
-    /// The token is of this region, which never minted it.
+    /// The token would be of this region, which never minted it.
     NeverMinted,
-    /// It has ended.
+    /// The token has expired.
     Past,
-    /// Its family is dead.
+    /// The token's family is dead.
     DeadFamily,
-    /// The client revoked it before.
+    /// The client revoked the token before.
     Revoked,
 }

@@ -1,12 +1,12 @@
-//! What is known of a token to who asks: the ordered cases of introspection.
+//! The outcome of introspection, by its cases in their order.
 
 use tk_ledger::Standing;
 
-// What is known of a token to who asks.
+// What the sender of an introspection request may know of a token.
 #[derive(Drop)]
 pub(crate) enum Introspected<'a> {
     Refused(Refusal),
-    // It isn't active, or isn't the asker's to see.
+    // The token is not active, or the sender may not see it.
     Inactive,
     // An active access token.
     Access(Standing<'a>),
@@ -26,7 +26,7 @@ use tk_handle::{Dot, Handle, Kind, Moment};
 use tk_ledger::{Ledger, State, Status};
 use tk_message::{Caller, Params};
 
-// The ordered cases, for who asks.
+// Judges an introspection request by its sender: the first case that holds.
 pub(crate) fn introspect<'a>(
     ledger: &'a Ledger,
     now: Moment,
@@ -46,6 +46,7 @@ pub(crate) fn introspect<'a>(
     }
 }
 
+// Judges a request of a client of the given kind.
 fn introspect_as<'a>(
     ledger: &'a Ledger,
     now: Moment,
@@ -62,6 +63,7 @@ fn introspect_as<'a>(
     }
 }
 
+// Judges a request by the token's text.
 fn introspect_token<'a>(
     ledger: &'a Ledger,
     now: Moment,
@@ -69,7 +71,8 @@ fn introspect_token<'a>(
     asker: Dot,
     text: Option<&str>,
 ) -> Introspected<'a>
-    ensures { result ≡ spec.introspected_by_text (facts_of ledger.now) now sort.now asker (option_copied text.entry) }
+    ensures { result ≡ spec.introspected_by_text (facts_of ledger.now) now sort.now asker
+        (option_copied text.entry) }
 {
     let Some(text) = text else {
         return Introspected::Refused(Refusal::MissingToken);
@@ -80,6 +83,7 @@ fn introspect_token<'a>(
     }
 }
 
+// Judges a request by the token's handle.
 fn introspect_handle<'a>(
     ledger: &'a Ledger,
     now: Moment,
@@ -87,7 +91,8 @@ fn introspect_handle<'a>(
     asker: Dot,
     handle: &Handle,
 ) -> Introspected<'a>
-    ensures { result ≡ spec.introspected_by_kind (facts_of ledger.now) now sort.now asker handle.now handle.now.id.kind }
+    ensures { result ≡ spec.introspected_by_kind (facts_of ledger.now) now sort.now asker handle.now
+        handle.now.id.kind }
 {
     match handle.id.kind {
         Kind::Code => Introspected::Inactive,
@@ -102,6 +107,7 @@ fn introspect_handle<'a>(
     }
 }
 
+// Judges a request by the token's status.
 fn by_status<'a>(sort: &Sort, asker: Dot, kind: Kind, status: Status<'a>) -> Introspected<'a>
     ensures { result ≡ spec.introspected_by_status sort.now asker kind status.entry }
 {
@@ -113,6 +119,7 @@ fn by_status<'a>(sort: &Sort, asker: Dot, kind: Kind, status: Status<'a>) -> Int
     }
 }
 
+// Judges a request by the token's standing.
 fn by_standing<'a>(sort: &Sort, asker: Dot, kind: Kind, standing: Standing<'a>) -> Introspected<'a>
     ensures { result ≡ spec.introspected_by_standing sort.now asker kind standing.entry }
 {
@@ -126,6 +133,7 @@ fn by_standing<'a>(sort: &Sort, asker: Dot, kind: Kind, standing: Standing<'a>) 
     }
 }
 
+// Returns whether a client of the given kind may see the tokens of another client.
 fn sees(sort: &Sort, asker: Dot, client: Dot) -> bool
     ensures { result ≡ spec.sees sort.now asker client }
 {
@@ -136,6 +144,7 @@ fn sees(sort: &Sort, asker: Dot, client: Dot) -> bool
     }
 }
 
+// Returns whether the state is `Live`.
 fn is_live(state: State) -> bool
     ensures { result ≡ spec.is_live state }
 {

@@ -1,4 +1,4 @@
-//! What an introspection request is answered.
+//! Decisions of introspection requests.
 
 ghost use Rattle.std.specs.Prelude.{◌≡◌, IfOk};
 ghost use Rattle.tk_store.specs.Store.{facts_of};
@@ -12,16 +12,20 @@ use tk_handle::Moment;
 use tk_ledger::Ledger;
 use tk_message::{Decision, Reply, Request, Told, error_reply};
 
-/// What is said of a token (RFC 7662, 2): of an active one its client, end, start, scope and subject, of any other that it
-/// isn't active. It depends on the facts, the moment and the request alone, and makes no fact. An error where memory is
-/// refused.
+/// Decides an introspection request at a moment, and returns the reply (RFC 7662, 2).
+///
+/// For an active token that the sender may see, the reply has the client, expiry, start, scope and
+/// subject. For any other token, the reply is that it is not active. The reply depends on the
+/// facts, the moment and the request alone, and no fact is made. Returns an error if memory runs
+/// out.
 pub fn decide_introspect(
     alloc: Global,
     ledger: &Ledger,
     now: Moment,
     request: &Request,
 ) -> Result<Decision, AllocError>
-    ensures { IfOk result (λ d. d ≡ answered (spec.introspection_of (facts_of ledger.now) now request.now)) }
+    ensures { IfOk result (λ d. d ≡ answered (spec.introspection_of (facts_of ledger.now) now
+        request.now)) }
 {
     let caller = caller_here(alloc, ledger, request)?;
     let known = introspect(ledger, now, &request.params, caller);
@@ -29,6 +33,7 @@ pub fn decide_introspect(
     Ok(Decision::answer(reply))
 }
 
+// Returns the reply by the outcome of introspection.
 fn reply_to(alloc: Global, known: Introspected<'_>) -> Result<Reply, AllocError>
     ensures { IfOk result (λ reply. reply ≡ spec.told known.entry) }
 {

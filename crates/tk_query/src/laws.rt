@@ -2,8 +2,10 @@
 
 ghost use Rattle.tk_query.specs.Laws.{SaysActive, SaysNothing};
 
-/// A law: to an asker that may see it introspection tells of an active token what its code and the fact that minted it say;
-/// of any other token it tells nothing, to any asker (RFC 7662, 2.2).
+/// States a law: introspection reports exactly the active tokens (RFC 7662, 2.2).
+///
+/// If the sender may see an active token, the reply has what the code and the fact that minted the
+/// token contain. For any other token, the reply to any sender is that it is not active.
 pub fn says_active()
     ensures active { SaysActive }
     ensures nothing { SaysNothing }

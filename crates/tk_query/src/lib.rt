@@ -1,15 +1,17 @@
-//! What is said of tokens, and how clients revoke them (RFC 7662; RFC 7009).
+//! Introspection and revocation of tokens (RFC 7662; RFC 7009).
 //!
-//! `decide_introspect` gives a reply, by the facts, the moment and the request alone: it is handed no place, no words and no
-//! lives. What it tells is an `Introspected`. The law `says_active` binds it to active tokens: to an asker that may see the
-//! token it tells of exactly these.
+//! `decide_introspect` decides a request to `/introspect` by the facts, the moment and the request
+//! alone: it takes no place, no random words and no lives. The outcome is an `Introspected`. The
+//! law `says_active` states that the reply reports exactly the active tokens that the sender may
+//! see.
 //!
-//! `decide_revoke` gives a reply, and where there is something to revoke the fact that a client revoked the token, whether or
-//! not its region has seen it. What it comes to is a `Revocation`: a `Refusal`, an `Idle` that says why nothing is left to
-//! revoke, or the fact.
+//! `decide_revoke` decides a request to `/revoke`. The fact that a client revoked a token is made
+//! whether or not its region has seen the token. The outcome is a `Revocation`: a `Refusal`, an
+//! `Idle` if nothing is left to revoke, or the fact.
 //!
-//! In reading order: `Refusal`, `Introspected`, `decide_introspect`, `Idle`, `Revocation`, `decide_revoke`, `says_active`. The
-//! definitions are in specs/, beside the file of their name; `Caller` says which parameters are known here.
+//! In reading order: `Refusal`, `Introspected`, `decide_introspect`, `Idle`, `Revocation`,
+//! `decide_revoke`, `says_active`. The definitions are in `specs/`, by the name of the file.
+//! `Caller` has the names of the parameters that both endpoints know.
 #![tactic(auto)]
 
 mod caller;

@@ -1,4 +1,4 @@
-//! What a revocation request is answered, and the fact that it makes.
+//! Decisions of revocation requests.
 
 ghost use Rattle.std.specs.Prelude.{◌≡◌, IfOk};
 ghost use Rattle.tk_store.specs.Store.{facts_of};
@@ -14,9 +14,12 @@ use tk_handle::Moment;
 use tk_ledger::Ledger;
 use tk_message::{Decision, Place, Request, Status, empty_reply};
 
-/// What a revocation request is answered, and the fact that the client revoked the token (RFC 7009, 2). A token that no fact
-/// has minted yet may be revoked in advance, but for one of the place's own region. Where nothing is left to revoke, the
-/// answer is the same and no fact is made. An error where memory is refused.
+/// Decides a revocation request at a moment (RFC 7009, 2). Returns the reply, and the fact that the
+/// client revoked the token, if there is something to revoke.
+///
+/// A client may revoke a token in advance, before the region has the fact that minted it, unless
+/// the token would be of the place's own region. If nothing is left to revoke, the reply is the one
+/// to a revocation, and no fact is made. Returns an error if memory runs out.
 pub fn decide_revoke(
     alloc: Global,
     ledger: &Ledger,
@@ -24,9 +27,10 @@ pub fn decide_revoke(
     now: Moment,
     request: &Request,
 ) -> Result<Decision, AllocError>
-    ensures value { IfOk result (λ d. d ≡ spec.revocation_of (facts_of ledger.now) place.now now request.now) }
+    ensures value { IfOk result (λ d. d ≡ spec.revocation_of (facts_of ledger.now) place.now now
+        request.now) }
 
-    // The fact made, if any, passes its check.
+    // The fact that the request makes, if any, passes its check.
     ensures passes { IfOk result (λ d. Passes d.made) }
 {
     let caller = caller_here(alloc, ledger, request)?;
@@ -34,6 +38,7 @@ pub fn decide_revoke(
     decide_by(alloc, revocation)
 }
 
+// Decides a request by the outcome of the revocation.
 fn decide_by(alloc: Global, revocation: Revocation) -> Result<Decision, AllocError>
     requires { IsSoundRevocation revocation }
     ensures value { IfOk result (λ d. d ≡ spec.revoked_by revocation) }

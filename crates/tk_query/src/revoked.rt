@@ -1,14 +1,14 @@
-//! What a revocation comes to: the ordered cases.
+//! The outcome of revocation, by its cases in their order.
 
 use tk_fact::TokenRevoked;
 
-// What a revocation comes to.
+// The outcome of a revocation request.
 #[derive(Drop)]
 pub(crate) enum Revocation {
     Refused(Refusal),
     // Nothing is left to revoke.
     Done(Idle),
-    // A fact says that the client revoked the token, whether or not that has been seen.
+    // The fact that the client revoked the token is made, whether or not the token has been seen.
     Revokes(TokenRevoked),
 }
 
@@ -26,7 +26,7 @@ use tk_handle::{Dot, Handle, Kind, Moment, RegionNumber, TokenId};
 use tk_ledger::{Ledger, Standing, State, Status};
 use tk_message::{Caller, Params};
 
-// The ordered cases, for who asks.
+// Judges a revocation request by its sender: the first case that holds.
 pub(crate) fn revoke(
     ledger: &Ledger,
     number: RegionNumber,
@@ -34,7 +34,8 @@ pub(crate) fn revoke(
     params: &Params,
     caller: Caller,
 ) -> Revocation
-    ensures value { result ≡ spec.revoked_by_caller (facts_of ledger.now) number now params.now caller }
+    ensures value { result ≡ spec.revoked_by_caller (facts_of ledger.now) number now params.now
+        caller }
     ensures sound { IsSoundRevocation result }
 {
     match caller {
@@ -45,6 +46,7 @@ pub(crate) fn revoke(
     }
 }
 
+// Judges a request by the token's text.
 fn revoke_text(
     ledger: &Ledger,
     number: RegionNumber,
@@ -52,7 +54,8 @@ fn revoke_text(
     client: Dot,
     text: Option<&str>,
 ) -> Revocation
-    ensures value { result ≡ spec.revoked_by_text (facts_of ledger.now) number now client (option_copied text.entry) }
+    ensures value { result ≡ spec.revoked_by_text (facts_of ledger.now) number now client
+        (option_copied text.entry) }
     ensures sound { IsSoundRevocation result }
 {
     let Some(text) = text else {
@@ -64,6 +67,7 @@ fn revoke_text(
     }
 }
 
+// Judges a request by the token's handle.
 fn revoke_handle(
     ledger: &Ledger,
     number: RegionNumber,
@@ -71,7 +75,8 @@ fn revoke_handle(
     client: Dot,
     handle: &Handle,
 ) -> Revocation
-    ensures value { result ≡ spec.revoked_by_kind (facts_of ledger.now) number now client handle.now handle.now.id.kind }
+    ensures value { result ≡ spec.revoked_by_kind (facts_of ledger.now) number now client handle.now
+        handle.now.id.kind }
     ensures sound { IsSoundRevocation result }
 {
     let is_own = handle.id.dot.region().number() == number.number();
@@ -90,6 +95,7 @@ fn revoke_handle(
     }
 }
 
+// Returns the fact that the client revoked the token of a handle.
 fn revocation_of(handle: &Handle, kind: Kind, client: Dot) -> TokenRevoked
     ensures { result ≡ spec.revocation_of handle.now kind client }
 {
@@ -104,6 +110,7 @@ fn revocation_of(handle: &Handle, kind: Kind, client: Dot) -> TokenRevoked
     }
 }
 
+// Judges a request by the token's status.
 fn revoke_by_status(
     ledger: &Ledger,
     is_own: bool,
@@ -112,7 +119,8 @@ fn revoke_by_status(
     status: Status<'_>,
 ) -> Revocation
     requires { is_revocable fact.token.kind ≡ true }
-    ensures value { result ≡ spec.revoked_by_status (facts_of ledger.now) is_own now fact status.entry }
+    ensures value { result ≡ spec.revoked_by_status (facts_of ledger.now) is_own now fact
+        status.entry }
     ensures sound { IsSoundRevocation result }
 {
     match status {
@@ -141,14 +149,17 @@ fn revoke_by_status(
     }
 }
 
+// Judges a request by the token's standing.
 fn revoke_known(ledger: &Ledger, fact: TokenRevoked, standing: &Standing<'_>) -> Revocation
     requires { is_revocable fact.token.kind ≡ true }
-    ensures value { result ≡ spec.revoked_by_state (facts_of ledger.now) fact standing.now.client standing.now.state }
+    ensures value { result ≡ spec.revoked_by_state (facts_of ledger.now) fact standing.now.client
+        standing.now.state }
     ensures sound { IsSoundRevocation result }
 {
     revoke_by_state(ledger, fact, standing.client, standing.state)
 }
 
+// Judges a request by the token's state.
 fn revoke_by_state(ledger: &Ledger, fact: TokenRevoked, client: Dot, state: State) -> Revocation
     requires { is_revocable fact.token.kind ≡ true }
     ensures value { result ≡ spec.revoked_by_state (facts_of ledger.now) fact client state }
@@ -161,6 +172,7 @@ fn revoke_by_state(ledger: &Ledger, fact: TokenRevoked, client: Dot, state: Stat
     }
 }
 
+// Judges a request by the token's client, which must be the sender.
 fn revoke_of_client(ledger: &Ledger, fact: TokenRevoked, client: Dot) -> Revocation
     requires { is_revocable fact.token.kind ≡ true }
     ensures value { result ≡ spec.revoked_of_client (facts_of ledger.now) fact client }
@@ -172,6 +184,7 @@ fn revoke_of_client(ledger: &Ledger, fact: TokenRevoked, client: Dot) -> Revocat
     revoke_unless_held(ledger, fact)
 }
 
+// Revokes the token, unless the client revoked it before.
 fn revoke_unless_held(ledger: &Ledger, fact: TokenRevoked) -> Revocation
     requires { is_revocable fact.token.kind ≡ true }
     ensures value { result ≡ spec.revoked_unless_held (facts_of ledger.now) fact }

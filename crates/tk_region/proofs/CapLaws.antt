@@ -1,8 +1,9 @@
--- A region's own facts stay at most at its cap. Key results:
---   next_under       so its next serial is one
---   capped_empty     they do where there is no fact
---   capped_added     where its next fact is added, which joins_next joins to the others at a free dot
---   capped_taken     and where a bundle is taken in
+-- The facts of a region under its own number have serials up to its cap. Key results:
+--   next_under     the region's next serial is one
+--   capped_empty   a region without facts
+--   joins_next     the next fact is joined to the others at a free dot
+--   capped_added   a region that adds its next fact
+--   capped_taken   a region that takes in a bundle
 use Rattle.std.proofs.Common.{◌≡◌, ℕ, zero, suc, ◌+◌, ◌<◌, ◌≤◌, ◌==◌, ◌&&◌, ◌||◌, Bool, true, false, if◌then◌else◌, nat_le, max, [], ◌∷◌, length, get_or, take, Contains, Option, Some, None, Result, Ok, Err, refl, sym, ap, subst, ◌∙◌, inl, inr, arith}
 use mathlib.Core.Bool.{false≢true}
 use Rattle.std.specs.FinMap as map
@@ -26,7 +27,7 @@ use Rattle.tk_region.specs.SettingsFields.{SettingsFields, greatest_cap}
 use Rattle.tk_region.specs.Step.{IsNextFact}
 use Rattle.tk_region.specs.Taking.{has_unmade, TakesIn}
 
--- each fact of a list under the number is at most at the cap
+-- each fact of the list under the number has a serial up to the cap
 abbrev UpTo : ℕ → ℕ → Facts → Type 0
 UpTo number cap [] = Unit {0}
 UpTo number cap (f ∷ fs) = (f.0.region ≡ number → f.0.serial ≤ cap) × UpTo number cap fs
@@ -47,7 +48,7 @@ next_under r k = let most = last_under r k in omega (arith, k.low)
 pub capped_empty : (r : RegionFields) → r.facts ≡ map.empty → r.settings.cap ≤ greatest_cap → IsCapped r
 capped_empty r none low = record { own = λ d b h. absurd (none_is_not_some b (sym (map.get-empty dot_cmp d) ∙ ap (λ F. map.get F d) (sym none) ∙ h)); low = low }
 
--- what is joined is at most at the cap
+-- a region that joins facts with serials up to the cap
 pub capped_joins : (n : ℕ) (s : SettingsFields) (F G : FactSet) (fs : Facts) → IsCapped (record { number = n; settings = s; facts = F }) → JoinsFacts F fs G
     → ((f : Dot × Body) → Contains fs f → f.0.region ≡ n → f.0.serial ≤ s.cap) → IsCapped (record { number = n; settings = s; facts = G })
 capped_joins n s F G fs k j all = record {
@@ -55,7 +56,7 @@ capped_joins n s F G fs k j all = record {
   low = k.low;
 }
 
--- a fact of a bundle without unmade ones comes before the next
+-- a fact under the region's number, in a bundle that is not refused, is below the next dot
 made_before : (next : Dot) (fs : Facts) (i : ℕ) (d : Dot × Body) → has_unmade next fs ≡ false → i < length fs → (get_or fs i d).0.region ≡ next.region → (get_or fs i d).0.serial < next.serial
 made_before next [] i d h lt here = absurd (omega arith)
 made_before next (f ∷ fs) zero d h lt here = below f.0.region next.region next.serial f.0.serial _ here h
@@ -68,7 +69,7 @@ made_before next (f ∷ fs) (suc i) d h lt here = made_before next fs i d (rest 
     rest true b h = absurd (false≢true (sym h))
     rest false b h = h
 
--- so do the first of them
+-- the first facts of a bundle that is not refused
 made_take : (next : Dot) (k : ℕ) (fs : Facts) → has_unmade next fs ≡ false → has_unmade next (take k fs) ≡ false
 made_take next zero fs h = refl
 made_take next (suc k) [] h = refl
@@ -78,7 +79,7 @@ made_take next (suc k) (f ∷ fs) h = both _ _ (made_take next k fs) h
     both true b g h = h
     both false b g h = g h
 
--- and they are at most at the cap
+-- a fact under the region's number, in a bundle that is not refused, has a serial up to the cap
 taken_under : (r : RegionFields) → IsCapped r → (fs : Facts) → has_unmade (next_in (place_in r)) fs ≡ false → (f : Dot × Body) → Contains fs f → f.0.region ≡ r.number → f.0.serial ≤ r.settings.cap
 taken_under r k fs h f c here =
     let before = made_before (next_in (place_in r)) fs c.0 f h c.1 (ap (λ g. g.0.region) c.2 ∙ here) in
@@ -113,7 +114,7 @@ module _ (n : ℕ) (s : SettingsFields) (F G : FactSet) (k : IsCapped (record { 
   capped_taken (Some fs) (Err Memory) t = elim t [ inl e ↦ same e | inr u ↦ joined (take u.2.0 fs) (made_take next u.2.0 fs u.0) u.2.1 ]
   capped_taken (Some fs) (Ok m) t = joined fs t.0 t.2.0
 
-  -- nothing stands where the next fact does
+  -- no fact is at the dot of the next fact
   pub next_free : (f : Dot × Body) → IsNextFact r f → map.get F f.0 ≡ None
   next_free f i = ap (map.get F) i.next ∙ next_is_free F n
 

@@ -1,7 +1,7 @@
--- What adding a prepared fact comes to, said of the values that contracts see. Key results:
---   next_given    the prepared fact is the region's next
---   gains_next    the region gains it
---   gains_none    and nothing where none is prepared
+-- Adding a prepared fact, by the values that contracts see. Key results:
+--   next_given   the prepared fact is the region's next
+--   gains_next   the region gains the prepared fact
+--   gains_none   the region gains nothing if no fact is prepared
 use Rattle.std.proofs.Common.{◌≡◌, [], ◌∷◌, Option, Some, None, IfSome, refl, sym, subst}
 use Rattle.tk_handle.specs.declared.dot.Dot.{Dot}
 use Rattle.tk_fact.specs.declared.body.Body.{Body}

@@ -1,6 +1,6 @@
--- Taking one more fact of a bundle. Key results:
+-- Taking in one more fact of a bundle. Key results:
 --   taken_new, taken_held, no_conflict, taken_passes   one more fact
---   taken_all, taken_first, at_end                     all of the facts are joined, or the first of them
+--   taken_all, taken_first, at_end                     all facts are joined, or the first of them
 use Rattle.std.proofs.Common.{◌≡◌, ℕ, zero, suc, ◌+◌, ◌<◌, ◌≤◌, [], ◌∷◌, length, take, get_or, Some, None, refl, sym, ap, subst, ◌∙◌, arith}
 use Rattle.std.specs.FinMap as map
 use Rattle.std.proofs.lemmas.Grind.{take_at_read}
@@ -15,7 +15,7 @@ use Rattle.tk_store.proofs.PutLaws.{insert_held, some_injective}
 use Rattle.tk_store.proofs.SubsetLaws.{subset_with_facts, AllIn-take, AllIn-at}
 
 module _ (F : FactSet) (fs : Facts) (i : ℕ) (f : Dot × Body) (is : f ≡ get_or fs i f) (within : i < length fs) where
-  -- to put the next fact in is to have one more of the list
+  -- the facts joined, with the next one, are the first i + 1 of the list
   one_more : map.insert (with_facts F (take i fs)) f.0 f.1 ≡ with_facts F (take (i + 1) fs)
   one_more = ap (λ g. map.insert (with_facts F (take i fs)) g.0 g.1) is ∙ sym (ap (with_facts F) (take_at_read fs i f within).1 ∙ with_facts-append F (take i fs) (get_or fs i f ∷ []))
 
@@ -26,24 +26,24 @@ module _ (F : FactSet) (fs : Facts) (i : ℕ) (f : Dot × Body) (is : f ≡ get_
     pub taken_held : (new : FactSet) → new ≡ G → map.get G f.0 ≡ Some f.1 → new ≡ with_facts F (take (i + 1) fs)
     taken_held new e held = e ∙ sym (insert_held G f.0 f.1 held) ∙ ap (λ H. map.insert H f.0 f.1) so_far ∙ one_more
 
-    -- no other body can be at its dot
+    -- no other body is at the dot of the next fact
     pub no_conflict : (U : FactSet) → IsSubset F U → AllIn U fs → (b : Body) → map.get G f.0 ≡ Some b → b ≡ f.1
     no_conflict U within_U all b at =
         let there = subset_with_facts F U (take i fs) within_U (AllIn-take U i fs all) f.0 b (ap (λ H. map.get H f.0) (sym so_far) ∙ at) in
         let here : map.get U f.0 ≡ Some f.1 = subst (λ g. map.get U g.0 ≡ Some g.1) (sym is) (AllIn-at U fs i f all within) in
         some_injective b f.1 (sym there ∙ here)
 
-  -- a fact of the bundle passes the check
+  -- a fact of the bundle passes its check
   pub taken_passes : (U : FactSet) → IsFactSet U → AllIn U fs → refusal_of f.1 ≡ None
   taken_passes U sound all =
       let here : map.get U f.0 ≡ Some f.1 = subst (λ g. map.get U g.0 ≡ Some g.1) (sym is) (AllIn-at U fs i f all within) in
       sound f.0 f.1 here
 
--- the facts of a list that are in U are joined, all of them or the first
+-- the facts of a list that is in U are joined, all of them or the first
 pub taken_all : (U F G : FactSet) (fs : Facts) → IsSubset F U → AllIn U fs → G ≡ with_facts F fs → JoinsFacts F fs G
 taken_all U F G fs within all is = subst (JoinsFacts F fs) (sym is) (joins_with_facts U F fs within all)
 
--- once the walk has come to the end
+-- after the last fact, all facts of the list are joined
 pub at_end : (F G : FactSet) (fs : Facts) (i : ℕ) → length fs ≤ i → G ≡ with_facts F (take i fs) → G ≡ with_facts F fs
 at_end F G fs i past so_far = so_far ∙ ap (with_facts F) (whole i fs past)
   where

@@ -1,4 +1,8 @@
--- A set that agrees with a bundle, and the bundle's facts, are parts of one set. Key results: union_holds, union_keeps, union_sound.
+-- A set and the facts of a bundle that agrees with it are parts of one set. Key results:
+--   union_keeps    the set is part of the union
+--   union_holds    the bundle's facts are in the union
+--   union_sound    each fact of the union passes its check
+--   bundle_union   the union of a set and a bundle that agree
 use Rattle.std.proofs.Common.{◌≡◌, ◌≢◌, Bool, true, false, ◌&&◌, [], ◌∷◌, Option, Some, None, is_none, refl, sym, ap, subst, ◌∙◌}
 use mathlib.Core.Bool.{false≢true}
 use Rattle.std.specs.Ordering.{is_lt}
@@ -22,12 +26,12 @@ both_true : (a b : Bool) → (a && b) ≡ true → (a ≡ true) × (b ≡ true)
 both_true true b h = (refl, h)
 both_true false b h = absurd (false≢true h)
 
--- a list whose dots all differ from a dot
+-- the dots of the list differ from the given dot
 abbrev Avoids : Dot → Facts → Type 0
 Avoids d [] = Unit {0}
 Avoids d (f ∷ fs) = (f.0 ≢ d) × Avoids d fs
 
--- and each from the later ones
+-- the dots of the list differ from each other
 abbrev Differs : Facts → Type 0
 Differs [] = Unit {0}
 Differs (f ∷ fs) = Avoids f.0 fs × Differs fs
@@ -55,6 +59,7 @@ union_holds F (f ∷ fs) v a =
     let a' = agrees_after F f.0 f.1 fs v.0 a.1 in
     (union_keeps F' fs v.1 a' f.0 f.1 (get_here F f.0 f.1), union_holds F' fs v.1 a')
 
+-- each fact of the list passes its check
 abbrev AllPass : Facts → Type 0
 AllPass [] = Unit {0}
 AllPass (f ∷ fs) = (refusal_of f.1 ≡ None) × AllPass fs
@@ -63,7 +68,7 @@ pub union_sound : (F : FactSet) (fs : Facts) → AllPass fs → IsFactSet F → 
 union_sound F [] p s = s
 union_sound F (f ∷ fs) p s = union_sound (map.insert F f.0 f.1) fs p.1 (IsFactSet-insert F f.0 f.1 s p.0)
 
--- ---- a bundle's dots all differ, and its facts pass the check
+-- ---- a bundle's dots differ from each other, and its facts pass the check
 
 less : (o : Ordering) → is_lt o ≡ true → o ≡ Less
 less Less h = refl

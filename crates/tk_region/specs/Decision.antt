@@ -1,5 +1,5 @@
--- What a request is answered, over all endpoints, and the serial cap (own).
---   decision_of   by the endpoint
+-- The decision of a request to any endpoint, and the serial cap (own).
+--   decision_of   the decision by the endpoint
 --   capped        a decision, unless it makes a fact above the cap
 use Rattle.std.specs.Prelude.{ℕ, ◌&&◌, nat_lt, List, is_some, if◌then◌else◌}
 use Rattle.tk_store.specs.FactSet.{FactSet}
@@ -7,7 +7,18 @@ use Rattle.tk_message.specs.declared.decision.Decision.{Decision}
 use Rattle.tk_message.specs.declared.error_code.ErrorCode.TheVariants.{TemporarilyUnavailable}
 use Rattle.tk_message.specs.declared.place.Place.{Place}
 use Rattle.tk_message.specs.declared.request.Endpoint.{Endpoint}
-use Rattle.tk_message.specs.declared.request.Endpoint.TheVariants.{Authorize, Token, Introspect, Revoke, AddClient, ShowClient, Retire, Consent, Withdraw, SignOut}
+use Rattle.tk_message.specs.declared.request.Endpoint.TheVariants.{
+  Authorize,
+  Token,
+  Introspect,
+  Revoke,
+  AddClient,
+  ShowClient,
+  Retire,
+  Consent,
+  Withdraw,
+  SignOut,
+}
 use Rattle.tk_message.specs.RequestFields.{RequestFields}
 use Rattle.tk_message.specs.Decision.{answered, refused}
 use Rattle.tk_authorize.specs.Administration.{administration_of}
@@ -16,6 +27,7 @@ use Rattle.tk_grant.specs.Granted.{grant_of}
 use Rattle.tk_query.specs.Introspection.{introspection_of}
 use Rattle.tk_query.specs.Revocation.{revocation_of}
 
+-- the decision by the endpoint
 abbrev pub decision_by : Endpoint → FactSet → Place → ℕ → List ℕ → RequestFields → Decision
 decision_by Authorize F place now words request = authorization_of F place now words request
 decision_by Token F place now words request = grant_of F place now words request
@@ -28,9 +40,11 @@ decision_by Consent F place now words request = administration_of F place now re
 decision_by Withdraw F place now words request = administration_of F place now request
 decision_by SignOut F place now words request = administration_of F place now request
 
+-- the decision of a request, without regard to the cap
 abbrev pub decision_of : FactSet → Place → ℕ → List ℕ → RequestFields → Decision
 decision_of F place now words request = decision_by request.endpoint F place now words request
 
--- above the cap no fact is made, whichever it would have been: temporarily_unavailable
+-- the decision, or `temporarily_unavailable` without a fact if the decision makes one above the cap
 abbrev pub capped : ℕ → Place → Decision → Decision
-capped cap place d = if is_some d.made && nat_lt cap place.next then refused TemporarilyUnavailable else d
+capped cap place d =
+    if is_some d.made && nat_lt cap place.next then refused TemporarilyUnavailable else d

@@ -1,9 +1,9 @@
--- The words of this crate, in reading order:
---   SettingsFields   what contracts see of settings
---   RegionFields     what they see of a region; place_in, IsCapped, Gains
---   Decision         decision_of, over all endpoints; capped, the serial cap
---   Step             prepared_of, what a region prepares for a request; Commits, what adding the fact may end with
---   Taking           TakesIn, what taking a bundle in may end with
+-- The definitions of this crate, by file, in reading order:
+--   SettingsFields   SettingsFields, what contracts see of settings
+--   RegionFields     RegionFields, what contracts see of a region; place_in, IsCapped, Gains
+--   Decision         decision_of, the decision of a request; capped, the serial cap
+--   Step             prepared_of, what a region prepares for a request; Commits, adding the fact
+--   Taking           TakesIn, the outcomes of taking in a bundle
 pub mod Decision
 pub mod RegionFields
 pub mod SettingsFields

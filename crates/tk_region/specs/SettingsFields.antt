@@ -1,13 +1,15 @@
--- What contracts see of settings: the lives of what is issued, in seconds, and the serial cap (own).
---   SettingsFields   the five numbers
---   lives_of         the four lives among them
---   IsSettings       each is in its range
---   greatest_code, greatest_access, greatest_refresh, greatest_family, greatest_cap   the ends of the ranges
+-- What contracts see of settings: four lives, in seconds, and the serial cap (own).
+--   SettingsFields   the lives and the cap
+--   lives_of         the four lives
+--   IsSettings       each number is in its range
+--   greatest_code, greatest_access, greatest_refresh, greatest_family, greatest_cap
+--                    the greatest number of each range
 use Rattle.std.specs.Prelude.{ℕ, ◌-◌, ◌<◌, ◌≤◌, refl}
 use Rattle.std.specs.Coded.{Coded, code_by, coded×, coded_ℕ}
 use Rattle.tk_handle.specs.Ranges.{greatest_serial}
 use Rattle.tk_message.specs.declared.place.Lives.{Lives}
 
+-- the lives of a code, an access token, a refresh token and a family, and the cap
 pub record SettingsFields : Type 0 where
   pub code : ℕ
   pub access : ℕ
@@ -15,30 +17,35 @@ pub record SettingsFields : Type 0 where
   pub family : ℕ
   pub cap : ℕ
 
+-- the four lives
 abbrev pub lives_of : SettingsFields → Lives
 lives_of s = record { code = s.code; access = s.access; refresh = s.refresh; family = s.family }
 
--- 1 up to a greatest number
+-- the number is at least 1 and at most the greatest
 abbrev pub IsUpTo : ℕ → ℕ → Type 0
 IsUpTo greatest n = (0 < n) × (n ≤ greatest)
 
--- ten minutes, a day, a year, ten years (own; RFC 6749, 4.1.2 recommends the first)
+-- the greatest life of a code: ten minutes (RFC 6749, 4.1.2 recommends that)
 abbrev pub greatest_code : ℕ
 greatest_code = 600
 
+-- the greatest life of an access token: a day (own)
 abbrev pub greatest_access : ℕ
 greatest_access = 86400
 
+-- the greatest life of a refresh token: a year (own)
 abbrev pub greatest_refresh : ℕ
 greatest_refresh = 31536000
 
+-- the greatest life of a family: ten years (own)
 abbrev pub greatest_family : ℕ
 greatest_family = 315360000
 
--- so that the serial after the cap is one
+-- the greatest cap, above which one serial is left
 abbrev pub greatest_cap : ℕ
 greatest_cap = greatest_serial - 1
 
+-- each number is in its range
 pub record IsSettings (s : SettingsFields) : Type 0 where
   pub code : IsUpTo greatest_code s.code
   pub access : IsUpTo greatest_access s.access
@@ -46,9 +53,16 @@ pub record IsSettings (s : SettingsFields) : Type 0 where
   pub family : IsUpTo greatest_family s.family
   pub cap : IsUpTo greatest_cap s.cap
 
--- as pairs
+-- the code of settings, from the codes of their numbers
 abbrev pub coded_settings : Coded SettingsFields
 coded_settings =
-    code_by (ℕ × (ℕ × (ℕ × (ℕ × ℕ)))) (coded× coded_ℕ (coded× coded_ℕ (coded× coded_ℕ (coded× coded_ℕ coded_ℕ))))
+    code_by (ℕ × (ℕ × (ℕ × (ℕ × ℕ))))
+    (coded× coded_ℕ (coded× coded_ℕ (coded× coded_ℕ (coded× coded_ℕ coded_ℕ))))
     (λ s. (s.code, (s.access, (s.refresh, (s.family, s.cap)))))
-    (λ p. record { code = p.0; access = p.1.0; refresh = p.1.1.0; family = p.1.1.1.0; cap = p.1.1.1.1 }) (λ _. refl)
+    (λ p. record {
+      code = p.0;
+      access = p.1.0;
+      refresh = p.1.1.0;
+      family = p.1.1.1.0;
+      cap = p.1.1.1.1;
+    }) (λ _. refl)

@@ -1,4 +1,4 @@
-//! What a request is answered, by its endpoint, and the serial cap.
+//! Decisions of requests, by the endpoint, and the serial cap.
 
 ghost use Rattle.std.specs.Prelude.{◌≡◌, ◌≤◌, IfOk, IfSome};
 ghost use Rattle.tk_store.specs.Store.{facts_of};
@@ -13,7 +13,7 @@ use tk_ledger::Ledger;
 use tk_message::{Decision, Endpoint, ErrorCode, Place, Request};
 use tk_query::{decide_introspect, decide_revoke};
 
-// What the request is answered, the cap left out.
+// Decides a request by its endpoint, without regard to the cap.
 pub(crate) fn decide_endpoint(
     alloc: Global,
     ledger: &Ledger,
@@ -22,7 +22,8 @@ pub(crate) fn decide_endpoint(
     words: &[u64; 6],
     request: &Request,
 ) -> Result<Decision, AllocError>
-    ensures value { IfOk result (λ d. d ≡ spec.decision_of (facts_of ledger.now) place.now now words.now request.now) }
+    ensures value { IfOk result (λ d. d ≡ spec.decision_of (facts_of ledger.now) place.now now
+        words.now request.now) }
     ensures passes { IfOk result (λ d. Passes d.made) }
 {
     match request.endpoint {
@@ -39,7 +40,7 @@ pub(crate) fn decide_endpoint(
     }
 }
 
-// The decision, unless it makes a fact above the cap.
+// Returns the decision, or `temporarily_unavailable` if the decision makes a fact above the cap.
 pub(crate) fn capped(
     alloc: Global,
     cap: u64,

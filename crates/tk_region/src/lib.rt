@@ -1,13 +1,17 @@
-//! One region: what it is asked, and the bundles that it takes in.
+//! One region: how it decides requests, and takes in bundles.
 //!
-//! A `Region` is its number, its `Settings` and its ledger. `decide` says what a request is answered and which fact it
-//! makes, with the record of that fact, and changes nothing; `commit` adds the fact, and only then gives the reply;
-//! `handle` does both. `take_in` joins a bundle's facts to the ledger, or refuses all of them before it adds any; `page` is a bundle for another
-//! region, by what that region's `vector` covers.
+//! A `Region` is its number, its `Settings` and its ledger.
 //!
-//! In reading order: `Settings`, `Region`, `Prepared`, `Handled`, `TakeError`. The definitions are in specs/: `Decision`
-//! says what a request is answered, `Step` what `commit` ends with, `Taking` what `take_in` does. The crate reads no
-//! clock and draws no words: they come with each request.
+//! - `decide` returns the reply to a request, the fact that the request makes, and the record of
+//!   that fact. The region does not change.
+//! - `commit` adds the fact, and returns the reply only then. `handle` does both.
+//! - `take_in` joins a bundle's facts to the ledger, or refuses all of them before it adds any.
+//! - `page` makes a bundle for another region, by the `vector` of that region.
+//!
+//! In reading order: `Settings`, `Region`, `Prepared`, `Handled`, `TakeError`. The definitions are
+//! in `specs/`: `Decision` for the decision of a request, `Step` for the outcomes of `commit`,
+//! `Taking` for those of `take_in`. The crate reads no clock and draws no random words: both come
+//! with each request.
 #![tactic(auto)]
 
 mod decision;

@@ -1,4 +1,4 @@
-//! A region: its number, its settings and its ledger, and what is done with them.
+//! A region: its number, its settings and its ledger.
 
 use crate::settings::Settings;
 use std::marker::Model;
@@ -10,7 +10,7 @@ use tk_ledger::Ledger;
 pub struct Region {
     number: RegionNumber,
     settings: Settings,
-    // Facts of the region's own number are at most at its cap.
+    // The facts. Those under the region's own number have serials up to the cap.
     ledger: Ledger,
 }
 
@@ -23,7 +23,11 @@ impl Model for Region {
 
     ghost view = { λ r. record { number = r.number; settings = r.settings; facts = r.ledger } };
 
-    ghost invariant = { λ r. IsCapped (record { number = r.number; settings = r.settings; facts = r.ledger }) };
+    ghost invariant = { λ r. IsCapped (record {
+      number = r.number;
+      settings = r.settings;
+      facts = r.ledger;
+    }) };
 }
 
 ghost use Rattle.std.specs.Prelude.{◌≡◌, ◌≤◌, IfOk, IfSome, None, OnErr, OnOk};
@@ -53,11 +57,11 @@ use tk_store::{AddError, Added};
 use tk_vector::VersionVector;
 
 impl Region {
-    /// A region with no fact.
+    /// Returns a region without facts.
     pub fn new(alloc: Global, number: RegionNumber, settings: Settings) -> Region
         ensures { result ≡ record { number = number; settings = settings; facts = map.empty } }
     {
-        // The proof reads the cap's range from this call.
+        // This call gives the proof that the cap is in its range.
         let _cap = settings.cap();
         Region {
             number,
@@ -66,73 +70,82 @@ impl Region {
         }
     }
 
-    /// Its number, under which its own facts stand.
+    /// Returns the region's number, under which its own facts are stored.
     pub fn number(&self) -> RegionNumber
         ensures { result ≡ self.now.number }
     {
         self.number
     }
 
-    /// Its settings.
+    /// Returns the region's settings.
     pub fn settings(&self) -> Settings
         ensures { result ≡ self.now.settings }
     {
         self.settings
     }
 
-    /// Its facts, and what they say of clients, consents and tokens.
+    /// Returns the region's ledger: its facts, and the clients, consents and tokens that they
+    /// define.
     pub fn ledger(&self) -> &Ledger
         ensures { result.now ≡ self.now.facts }
     {
         &self.ledger
     }
 
-    /// How many facts it holds.
+    /// Returns the number of facts that the region holds.
     pub fn len(&self) -> u64
         ensures { result ≡ map.len (facts_of self.now.facts) }
     {
         self.ledger.store().len()
     }
 
-    /// To each region, up to which serial all of its facts are held: what another region is asked by.
+    /// Returns the region's vector: to each region, the serial up to which no fact is missing here.
+    ///
+    /// Another region that gets this vector makes pages of what is missing.
     pub fn vector(&self, alloc: Global) -> Result<VersionVector, AllocError>
         ensures { IfOk result (IsFront (known_in self.now.facts)) }
     {
         self.ledger.store().vector().copy(alloc)
     }
 
-    /// The first 128 facts that the vector doesn't cover and that stand above the dot, if one is given, as a bundle.
+    /// Makes a page for another region: the first 128 facts above the cursor `after` that the
+    /// vector does not cover, as a bundle.
     pub fn page(
         &self,
         alloc: Global,
         vector: &VersionVector,
         after: Option<Dot>,
     ) -> Result<Page, AllocError>
-        ensures page { IfOk result (λ page. pages.IsPageOf page (pages.page_of (known_in self.now.facts) vector.now after)) }
+        ensures page { IfOk result (λ page.
+            pages.IsPageOf page (pages.page_of (known_in self.now.facts) vector.now after)) }
 
-        // So it can be read.
-        ensures fits { OnOk result (bundle.Fits (pages.page_of (known_in self.now.facts) vector.now after).facts) }
+        // A page can be read.
+        ensures fits { OnOk result (bundle.Fits (pages.page_of (known_in self.now.facts) vector.now
+            after).facts) }
     {
         make(alloc, self.ledger.store(), vector, after)
     }
 
-    // Where its next fact stands.
+    // Returns the dot of the region's next fact.
     fn next_dot(&self) -> Dot
         ensures { result ≡ next_in (place_in self.now) }
     {
         next_in_ledger(&self.ledger, self.number)
     }
 
-    // Where a request is decided.
+    // Returns the place at which the region decides its next request.
     pub(crate) fn place(&self) -> Place
         ensures { result ≡ place_in self.now }
     {
         Place::new(self.next_dot(), self.settings.lives())
     }
 
-    /// What the request is answered at the moment, with the fact that it makes and the record of it; nothing changes.
-    /// Where a fact would be made above the cap, 503 temporarily_unavailable and no fact. The six words are those that
-    /// handles are made of.
+    /// Decides a request at a moment. Returns the reply, the fact that the request makes, and the
+    /// record of that fact.
+    ///
+    /// The region does not change. If the fact would be above the cap, the reply is 503
+    /// `temporarily_unavailable`, and no fact is made. Handles are made of the six random words.
+    /// Returns an error if memory runs out.
     pub fn decide(
         &self,
         alloc: Global,
@@ -142,7 +155,7 @@ impl Region {
     ) -> Result<Prepared, AllocError>
         ensures value { IfOk result (λ p. p ≡ prepared_of self.now now words.now request.now) }
 
-        // So it may be committed.
+        // The prepared fact may be committed.
         ensures next { IfOk result (λ p. IfSome p.fact (IsNextFact self.now)) }
     {
         let place = self.place();
@@ -150,7 +163,8 @@ impl Region {
         prepare(alloc, self.settings.cap(), &place, decision)
     }
 
-    /// Adds the prepared fact, and only then gives the reply. Where memory is refused nothing has changed.
+    /// Adds the prepared fact, and returns the reply only then. If memory runs out, the region is
+    /// unchanged.
     pub fn commit(&mut self, prepared: Prepared) -> Result<Handled, AllocError>
         requires { IfSome prepared.fact (IsNextFact self.old) }
         ensures { Commits self.old prepared result self.new }
@@ -170,7 +184,8 @@ impl Region {
         }
     }
 
-    /// Decides the request, and commits what is prepared.
+    /// Decides a request, and commits what is prepared. If memory runs out, the region is
+    /// unchanged.
     pub fn handle(
         &mut self,
         alloc: Global,
@@ -178,29 +193,34 @@ impl Region {
         words: &[u64; 6],
         request: &Request,
     ) -> Result<Handled, AllocError>
-        ensures commits { Commits self.old (prepared_of self.old now words.now request.now) result self.new }
+        ensures commits { Commits self.old (prepared_of self.old now words.now request.now) result
+            self.new }
 
-        // The fact added, if there is one, is the region's next.
-        ensures next { OnOk result (IfSome (prepared_of self.old now words.now request.now).fact (IsNextFact self.old)) }
+        // The fact that is added, if there is one, is the region's next.
+        ensures next { OnOk result (IfSome (prepared_of self.old now words.now request.now).fact
+            (IsNextFact self.old)) }
     {
         let prepared = self.decide(alloc, now, words, request)?;
         self.commit(prepared)
     }
 
-    /// Takes in the bundle that the bytes spell, and answers how many of its facts were new. What is refused is found
-    /// over the whole bundle before any fact is added: `Malformed` before `OwnNumber`, and that before `Conflict`. Where
-    /// memory is refused, the first of the facts may be in.
+    /// Takes in the bundle that the bytes spell. Returns the number of facts that were new.
+    ///
+    /// The whole bundle is examined before any fact is added: for `Malformed`, then for
+    /// `OwnNumber`, then for `Conflict`. If memory runs out, the first of the bundle's facts may
+    /// have been added.
     pub fn take_in(&mut self, alloc: Global, bytes: &[u8]) -> Result<u16, TakeError>
         ensures number { self.new.number ≡ self.old.number }
         ensures settings { self.new.settings ≡ self.old.settings }
-        ensures takes { TakesIn (facts_of self.old.facts) (next_in (place_in self.old)) (whole bundle bytes.now) result (facts_of self.new.facts) }
+        ensures takes { TakesIn (facts_of self.old.facts) (next_in (place_in self.old))
+            (whole bundle bytes.now) result (facts_of self.new.facts) }
     {
         let next = self.next_dot();
         take_bytes(alloc, next, &mut self.ledger, bytes)
     }
 }
 
-// Where the next fact of the region stands, whose facts leave a serial.
+// Returns the dot of the region's next fact. The facts must leave a serial.
 fn next_in_ledger(ledger: &Ledger, number: RegionNumber) -> Dot
     requires { next_serial (known_in ledger.now) number ≤ greatest_serial }
     ensures { result ≡ next_dot (known_in ledger.now) number }
@@ -212,7 +232,8 @@ fn next_in_ledger(ledger: &Ledger, number: RegionNumber) -> Dot
 fn add_free(ledger: &mut Ledger, fact: Fact) -> Result<(), AllocError>
     requires free { map.get (facts_of ledger.old) fact.0 ≡ None }
     requires passes { refusal_of fact.1 ≡ None }
-    ensures ok { OnOk result (facts_of ledger.new ≡ map.insert (facts_of ledger.old) fact.0 fact.1) }
+    ensures ok { OnOk result (facts_of ledger.new ≡ map.insert (facts_of ledger.old) fact.0
+        fact.1) }
     ensures err { OnErr result (ledger.new ≡ ledger.old) }
 {
     match ledger.add(fact) {

@@ -1,8 +1,9 @@
-//! The settings of a region: lives and the serial cap, each in its range.
+//! The settings of a region: four lives and the serial cap, each in its range.
 
 use std::marker::Model;
 
-/// The lives of what is issued, in seconds, and the serial cap, up to which a region makes facts (own).
+/// The lives of tokens and families, in seconds, and the serial cap, up to which a region makes
+/// facts (own).
 #[derive(Clone, Copy)]
 pub struct Settings {
     code: u64,
@@ -17,11 +18,29 @@ impl Model for Settings {
 
     ghost Value = { SettingsFields };
 
-    ghost view = { λ s. record { code = s.code; access = s.access; refresh = s.refresh; family = s.family; cap = s.cap } };
+    ghost view = { λ s. record {
+      code = s.code;
+      access = s.access;
+      refresh = s.refresh;
+      family = s.family;
+      cap = s.cap;
+    } };
 
-    ghost invariant = { λ s. IsSettings (record { code = s.code; access = s.access; refresh = s.refresh; family = s.family; cap = s.cap }) };
+    ghost invariant = { λ s. IsSettings (record {
+      code = s.code;
+      access = s.access;
+      refresh = s.refresh;
+      family = s.family;
+      cap = s.cap;
+    }) };
 
-    ghost inverse = { λ s. record { code = s.code; access = s.access; refresh = s.refresh; family = s.family; cap = s.cap } };
+    ghost inverse = { λ s. record {
+      code = s.code;
+      access = s.access;
+      refresh = s.refresh;
+      family = s.family;
+      cap = s.cap;
+    } };
 }
 
 ghost use Rattle.std.specs.Prelude.{◌≡◌, ◌↔◌, IsTrue};
@@ -32,26 +51,41 @@ use tk_handle::Serial;
 use tk_message::Lives;
 
 impl Settings {
-    /// The most seconds that a code may live.
+    /// The greatest life of a code, in seconds: ten minutes.
     pub const GREATEST_CODE: u64 = 600;
 
-    /// The most seconds that an access token may live.
+    /// The greatest life of an access token, in seconds: a day.
     pub const GREATEST_ACCESS: u64 = 86_400;
 
-    /// The most seconds that a refresh token may live.
+    /// The greatest life of a refresh token, in seconds: a year.
     pub const GREATEST_REFRESH: u64 = 31_536_000;
 
-    /// The most seconds that a family may live.
+    /// The greatest life of a family, in seconds: ten years.
     pub const GREATEST_FAMILY: u64 = 315_360_000;
 
-    /// The greatest cap: a serial is left above it.
+    /// The greatest cap. The serial above it is left for the dot of the next fact.
     pub const GREATEST_CAP: u64 = Serial::GREATEST - 1;
 
-    /// None exactly where a number is out of its range: a code lives 1 to 600 seconds, an access token to 86,400,
-    /// a refresh token to 31,536,000, a family to 315,360,000; the cap is 1 to the greatest serial less one.
+    /// Returns the settings, or None if one of the numbers is out of its range.
+    ///
+    /// Each number is at least 1. A code lives at most 600 seconds, an access token 86,400, a
+    /// refresh token 31,536,000, a family 315,360,000. The cap is at most the greatest serial less
+    /// one.
     pub fn new(code: u64, access: u64, refresh: u64, family: u64, cap: u64) -> Option<Settings>
-        ensures { SomeIff result (IsSettings (record { code = code; access = access; refresh = refresh; family = family; cap = cap }))
-            (record { code = code; access = access; refresh = refresh; family = family; cap = cap }) }
+        ensures { SomeIff result (IsSettings (record {
+          code = code;
+          access = access;
+          refresh = refresh;
+          family = family;
+          cap = cap;
+        }))
+            (record {
+              code = code;
+              access = access;
+              refresh = refresh;
+              family = family;
+              cap = cap;
+            }) }
     {
         let in_range = is_up_to(Settings::GREATEST_CODE, code)
             && is_up_to(Settings::GREATEST_ACCESS, access)
@@ -70,7 +104,7 @@ impl Settings {
         })
     }
 
-    // How long what is issued lasts.
+    // Returns how long tokens and families live.
     pub(crate) fn lives(&self) -> Lives
         ensures { result ≡ lives_of self.now }
     {
@@ -82,7 +116,7 @@ impl Settings {
         }
     }
 
-    /// The greatest serial at which a region makes a fact.
+    /// Returns the cap: the greatest serial at which a region makes a fact.
     pub fn cap(&self) -> u64
         ensures value { result ≡ self.now.cap }
         ensures range { IsUpTo greatest_cap self.now.cap }
@@ -91,6 +125,7 @@ impl Settings {
     }
 }
 
+// Returns whether a number is at least 1 and at most the greatest.
 fn is_up_to(greatest: u64, n: u64) -> bool
     ensures { IsTrue result ↔ IsUpTo greatest n }
 {

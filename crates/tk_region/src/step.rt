@@ -1,17 +1,18 @@
-//! A reply, the fact that is added before it goes out, and the record of that fact.
+//! The steps of a request: the reply and the fact are prepared, then the fact is added.
 
 use std::marker::Model;
 use tk_fact::Fact;
 use tk_message::Reply;
 
-/// A reply, and the fact that is to be added before it goes out. Contracts see the bytes that its parts hold.
+/// A reply, and the fact that must be added before the reply is sent. Contracts see the bytes of
+/// the parts.
 #[derive(Drop)]
 pub struct Prepared {
     /// The reply.
     pub reply: Reply,
-    /// The fact; None where the request makes none.
+    /// The fact; None if the request makes no fact.
     pub fact: Option<Fact>,
-    /// The record of the fact: the bundle of it alone.
+    /// The record of the fact: the bundle of that fact alone.
     pub logged: Option<Vec<u8>>,
 }
 
@@ -21,15 +22,19 @@ impl Model for Prepared {
 
     ghost Value = { PreparedFields };
 
-    ghost view = { λ p. record { reply = p.reply; fact = p.fact; logged = option_map (λ v. v.items) p.logged } };
+    ghost view = { λ p. record {
+      reply = p.reply;
+      fact = p.fact;
+      logged = option_map (λ v. v.items) p.logged;
+    } };
 }
 
-/// A reply, and the record of the fact that was added. Contracts see the bytes that its parts hold.
+/// A reply, and the record of the fact that was added. Contracts see the bytes of the parts.
 #[derive(Drop)]
 pub struct Handled {
     /// The reply.
     pub reply: Reply,
-    /// The record of the fact, the bundle of it alone; None where the request made none.
+    /// The record of the fact, the bundle of that fact alone; None if the request made no fact.
     pub logged: Option<Vec<u8>>,
 }
 
@@ -53,7 +58,7 @@ use tk_bundle::single;
 use tk_handle::Dot;
 use tk_message::{Decision, Place};
 
-// The decision, unless it makes a fact above the cap, with the record of its fact.
+// Prepares a decision, unless it makes a fact above the cap.
 pub(crate) fn prepare(
     alloc: Global,
     cap: u64,
@@ -68,7 +73,7 @@ pub(crate) fn prepare(
     with_record(alloc, place.next_dot(), decision)
 }
 
-// The decision, its fact at the dot, and the record of that fact.
+// Puts the fact of a decision at the dot, and adds the record of that fact.
 fn with_record(alloc: Global, next: Dot, decision: Decision) -> Result<Prepared, AllocError>
     requires { Passes decision.made }
     ensures { IfOk result (λ p. p ≡ spec.prepared_at next decision) }
@@ -84,10 +89,11 @@ fn with_record(alloc: Global, next: Dot, decision: Decision) -> Result<Prepared,
     }
 }
 
-// The reply and the fact, with the record of the fact.
+// Adds the record of a fact to the fact and the reply.
 fn recorded(alloc: Global, reply: Reply, fact: Fact) -> Result<Prepared, AllocError>
     requires { refusal_of fact.1 ≡ None }
-    ensures { IfOk result (λ p. p ≡ spec.prepared_at fact.0 (record { reply = reply; made = Some fact.1 })) }
+    ensures { IfOk result (λ p. p ≡ spec.prepared_at fact.0
+        (record { reply = reply; made = Some fact.1 })) }
 {
     let Ok(logged) = single(alloc, &fact) else {
         drop(fact);

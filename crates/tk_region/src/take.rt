@@ -1,15 +1,16 @@
-//! Bundles taken in: what is refused, and the facts added one after another.
+//! Taking in bundles: the reasons for a refusal, and adding the facts one after another.
 
-/// Why a bundle isn't taken in: the first that holds, in this order, but `Memory` may come at any point (own).
+/// The reason why a bundle is not taken in (own): the first that holds, in this order. `Memory` may
+/// be returned at any point.
 #[derive(Clone, Copy, Debug, PartialEq, Eq)]
 pub enum TakeError {
     /// The bytes spell no bundle.
     Malformed,
-    /// It holds a fact of the region's own number that the region hasn't made.
+    /// The bundle has a fact under the region's own number that the region did not make.
     OwnNumber,
-    /// It holds another body for a dot that is held.
+    /// The bundle has another body at a dot that is held.
     Conflict,
-    /// Memory was refused; the first of the bundle's facts may have been added.
+    /// Memory ran out. The first of the bundle's facts may have been added.
     Memory,
 }
 
@@ -30,7 +31,7 @@ use tk_handle::Dot;
 use tk_ledger::Ledger;
 use tk_store::{AddError, Added};
 
-// Takes a bundle in, into the ledger of the region whose next dot it is handed.
+// Takes in the bundle that the bytes spell. `next` is the dot of the region's next fact.
 pub(crate) fn take_bytes(
     alloc: Global,
     next: Dot,
@@ -41,11 +42,21 @@ pub(crate) fn take_bytes(
 {
     match Bundle::read(alloc, bytes) {
         Ok(bundle) => take_bundle(alloc, next, ledger, bundle.facts()),
-        Err(ReadError::Malformed) => Err(TakeError::Malformed),
-        Err(ReadError::Memory) => Err(TakeError::Memory),
+        Err(error) => Err(unread(error)),
     }
 }
 
+// Returns the error for bytes that can't be read as a bundle.
+fn unread(error: ReadError) -> TakeError
+    ensures { result ≡ spec.unread error }
+{
+    match error {
+        ReadError::Malformed => TakeError::Malformed,
+        ReadError::Memory => TakeError::Memory,
+    }
+}
+
+// Takes in the facts of a bundle.
 fn take_bundle(
     alloc: Global,
     next: Dot,
@@ -65,19 +76,21 @@ fn take_bundle(
     take_facts(alloc, ledger, facts)
 }
 
+// Returns whether a fact is under the region's own number and not made by the region.
 fn has_unmade(next: Dot, facts: &[Fact]) -> bool
     ensures { result ≡ spec.has_unmade next facts.now }
 {
     facts.iter().any(|fact| is_unmade(next, fact))
 }
 
+// Returns whether the fact is under the region's own number, at the next dot or above.
 fn is_unmade(next: Dot, fact: &Fact) -> bool
     ensures { result ≡ spec.is_unmade next fact.now }
 {
     fact.dot.region().number() == next.region().number() && next.serial() <= fact.dot.serial()
 }
 
-// Whether no fact stands at a dot with another body. At most 128 facts.
+// Returns whether no fact has another body at a dot that is held. Recurses over at most 128 facts.
 fn agree(ledger: &Ledger, facts: &[Fact]) -> bool
     ensures { IsTrue result ↔ spec.AgreesWith ledger.now facts.now }
 {
@@ -87,6 +100,7 @@ fn agree(ledger: &Ledger, facts: &[Fact]) -> bool
     }
 }
 
+// Returns whether no other body is held at the fact's dot.
 fn agrees(ledger: &Ledger, fact: &Fact) -> bool
     ensures { IsTrue result ↔ spec.AgreesAt ledger.now fact.now }
 {
@@ -96,7 +110,7 @@ fn agrees(ledger: &Ledger, fact: &Fact) -> bool
     }
 }
 
-// Adds copies of the facts, one after another, and counts those that are new.
+// Adds copies of the facts, one after another, and returns the number of new ones.
 fn take_facts(alloc: Global, ledger: &mut Ledger, facts: &[Fact]) -> Result<u16, TakeError>
     requires agree { (U : FactSet) × IsFactSet U × IsSubset ledger.old U × AllIn U facts.now }
     requires few { length facts.now ≤ 128 }
@@ -112,11 +126,12 @@ fn take_facts(alloc: Global, ledger: &mut Ledger, facts: &[Fact]) -> Result<u16,
     Ok(taken)
 }
 
-// Adds a copy of the fact, and answers 1 where it is new.
+// Adds a copy of the fact, and returns 1 if it was new, otherwise 0.
 fn take_fact(alloc: Global, ledger: &mut Ledger, fact: &Fact) -> Result<u16, AllocError>
     requires agree { (b : Body) → sets.get ledger.old fact.now.0 ≡ Some b → b ≡ fact.now.1 }
     requires passes { refusal_of fact.now.1 ≡ None }
-    ensures ok { IfOk result (λ new. (ledger.new ≡ sets.insert ledger.old fact.now.0 fact.now.1) × (sets.len ledger.old + new ≡ sets.len ledger.new) × (new ≤ 1)) }
+    ensures ok { IfOk result (λ new. (ledger.new ≡ sets.insert ledger.old fact.now.0 fact.now.1)
+        × (sets.len ledger.old + new ≡ sets.len ledger.new) × (new ≤ 1)) }
     ensures err { OnErr result (ledger.new ≡ ledger.old) }
 {
     let copy = fact.copy(alloc)?;

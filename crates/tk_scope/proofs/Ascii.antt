@@ -1,4 +1,6 @@
--- A text of scope-tokens is ASCII (`tokens_utf8`), and a token has no space (`All-no_space`).
+-- Texts of scope-tokens.
+--   tokens_utf8     a text of scope-tokens is UTF-8
+--   All-no_space    a token has no space
 use Rattle.std.proofs.Common.{◌≡◌, ℕ, ◌<◌, Bool, true, false, ◌&&◌, ◌==◌, List, [], ◌∷◌, All, refl, arith}
 use Rattle.std.specs.List.{join_with_byte, list_all}
 use Rattle.std.specs.Str.{IsUtf8}
@@ -9,7 +11,7 @@ use Rattle.std.proofs.lemmas.Str.{IsUtf8-from_ascii}
 use Rattle.std.proofs.lemmas.Str.Ascii.{IsAscii-from_all}
 use Rattle.tk_scope.specs.Scope.{is_scope_byte, is_token, tokens_of}
 
--- the two sides of a test that joins two
+-- both of two tests that hold together hold
 pub both_sides : (a b : Bool) → (a && b) ≡ true → (a ≡ true) × (b ≡ true)
 both_sides true b h = (refl, h)
 both_sides false b h = absurd cc
@@ -22,7 +24,7 @@ scope_byte_low b h = grind (arith, nat_tests)
 scope_byte_no_space : (b : ℕ) → is_scope_byte b ≡ true → (b == 0x20) ≡ false
 scope_byte_no_space b h = grind (arith, nat_tests)
 
--- what holds of each byte that passes holds of each byte of a list that passes
+-- P holds of each byte of a list that passes, if P holds of each byte that passes
 all_bytes : (P : ℕ → Type 0) → ((b : ℕ) → is_scope_byte b ≡ true → P b) → (bs : List ℕ) → list_all is_scope_byte bs ≡ true → All P bs
 all_bytes P each [] h = All-nil P
 all_bytes P each (b ∷ bs) h = let sides = both_sides _ _ h in All-cons P b bs (each b sides.0) (all_bytes P each bs sides.1)
@@ -39,7 +41,7 @@ low_joined (t ∷ u ∷ ts) h =
     let sides = both_sides (is_token t) (list_all is_token (u ∷ ts)) h in
     All-append (λ b. b < 128) t _ (all_bytes (λ b. b < 128) scope_byte_low t (both_sides _ _ sides.0).1) (All-cons (λ b. b < 128) 0x20 _ (omega arith) (low_joined (u ∷ ts) sides.1))
 
--- a text of tokens is ASCII, and so UTF-8
+-- a text of tokens is ASCII, and therefore UTF-8
 pub tokens_utf8 : (text : List ℕ) → list_all is_token (tokens_of text) ≡ true → IsUtf8 text
 tokens_utf8 text h =
     let low = low_joined (tokens_of text) h in

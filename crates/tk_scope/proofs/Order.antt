@@ -1,4 +1,7 @@
--- Tokens in byte order, without doubles: `in_order` is so (`in_order_rises`), has the same tokens (`All-in_order`, `All-from_in_order`), and is the one list that is (`set_is`).
+-- Tokens in byte order, without duplicates.
+--   in_order_rises                      `in_order` is in byte order
+--   All-in_order, All-from_in_order     `in_order` has the tokens of the list
+--   set_is                              no other list has both properties
 use Rattle.std.proofs.Common.{◌≡◌, ℕ, zero, suc, ◌<◌, true, false, List, [], ◌∷◌, length, All, Contains, ◌⊎◌, inl, inr, refl, sym, ap, ◌∙◌, subst, arith, bytes_eq, slice_index_or}
 use Rattle.std.specs.declared.cmp.Ordering.{Ordering}
 use Rattle.std.specs.declared.cmp.Ordering.TheVariants.{Less, Equal, Greater}
@@ -12,7 +15,7 @@ use Rattle.std.proofs.lemmas.List.Elements.{All-contains, All-contains_itself, A
 use Rattle.std.proofs.lemmas.Slice.Eq.{bytes_eq-Decides}
 use Rattle.tk_scope.specs.Scope.{in_order, with_token}
 
--- how two tokens stand in byte order
+-- how two tokens compare in byte order
 abbrev pub byte_cmp : List ℕ → List ℕ → Ordering
 byte_cmp = slice_cmp nat_cmp
 
@@ -20,7 +23,7 @@ byte_cmp = slice_cmp nat_cmp
 abbrev pub Rises : List (List ℕ) → Type 0
 Rises = IsStrictlySortedBy byte_cmp
 
--- tokens that are neither equal nor in this order are in the other
+-- of two tokens that are not equal and not in this order, the second is below the first
 after_by_order : (a b : List ℕ) → bytes_eq a b ≡ false → is_lt (byte_cmp a b) ≡ false → byte_cmp b a ≡ Less
 after_by_order a b other not_below =
     nat_list_cmp_total.antisymm b a
@@ -30,7 +33,7 @@ after_by_order a b other not_below =
       | Greater ↦ λ _ _. refl
     ] (sym (texts_ties a b) ∙ other) not_below)
 
--- the other way round for `is_lt`
+-- a token for which `is_lt` holds is below the other
 below_by_test : (a b : List ℕ) → is_lt (byte_cmp a b) ≡ true → byte_cmp a b ≡ Less
 below_by_test a b h =
     elim (byte_cmp a b) as (λ o. is_lt o ≡ true → o ≡ Less) [
@@ -39,7 +42,7 @@ below_by_test a b h =
       | Greater ↦ λ e. absurd cc
     ] h
 
--- what holds of a token and of others holds of all of them together
+-- P holds of each token of `with_token t us`, if P holds of t and of each of us
 all_with_token : (P : List ℕ → Type 0) (t : List ℕ) (us : List (List ℕ)) → P t → AllByRecursion P us → AllByRecursion P (with_token t us)
 all_with_token P t [] first others = (first, tt)
 all_with_token P t (u ∷ us) first others =
@@ -47,7 +50,7 @@ all_with_token P t (u ∷ us) first others =
     (λ _. others)
     (λ _. cond_both (is_lt (byte_cmp t u)) (t ∷ u ∷ us) (u ∷ with_token t us) (AllByRecursion P) (λ _. (first, others)) (λ _. (others.0, all_with_token P t us first others.1)))
 
--- and the other way round
+-- P holds of t and of each of us, if P holds of each token of `with_token t us`
 all_from_with_token : (P : List ℕ → Type 0) (t : List ℕ) (us : List (List ℕ)) → AllByRecursion P (with_token t us) → P t × AllByRecursion P us
 all_from_with_token P t [] all = (all.0, tt)
 all_from_with_token P t (u ∷ us) all =
@@ -58,22 +61,22 @@ all_from_with_token P t (u ∷ us) all =
     (λ _ h. let rest = all_from_with_token P t us h.1 in (rest.0, (h.0, rest.1))))
     all
 
--- what holds of each token holds of each in order
+-- P holds of each token in order, if P holds of each token
 pub All-in_order : (P : List ℕ → Type 0) (ts : List (List ℕ)) → AllByRecursion P ts → AllByRecursion P (in_order ts)
 All-in_order P [] all = tt
 All-in_order P (t ∷ ts) all = all_with_token P t (in_order ts) all.0 (All-in_order P ts all.1)
 
--- and the other way round
+-- P holds of each token, if P holds of each token in order
 pub All-from_in_order : (P : List ℕ → Type 0) (ts : List (List ℕ)) → AllByRecursion P (in_order ts) → AllByRecursion P ts
 All-from_in_order P [] all = tt
 All-from_in_order P (t ∷ ts) all = let parts = all_from_with_token P t (in_order ts) all in (parts.0, All-from_in_order P ts parts.1)
 
--- a token below the first is below all
+-- a token below the first of a list that rises is below all of the list
 below_all : (t u : List ℕ) (us : List (List ℕ)) → byte_cmp t u ≡ Less → AllByRecursion (λ x. byte_cmp u x ≡ Less) us → AllByRecursion (λ x. byte_cmp t x ≡ Less) us
 below_all t u [] lt all = tt
 below_all t u (x ∷ us) lt all = (nat_list_cmp_total.trans t u x lt all.0, below_all t u us lt all.1)
 
--- one more token among those that rise
+-- a list that rises still rises with one more token in its place
 rises_with_token : (t : List ℕ) (us : List (List ℕ)) → Rises us → Rises (with_token t us)
 unfolding IsStrictlySortedBy
 rises_with_token t [] up = (tt, tt)
@@ -90,7 +93,7 @@ unfolding IsStrictlySortedBy
 in_order_rises [] = tt
 in_order_rises (t ∷ ts) = rises_with_token t (in_order ts) (in_order_rises ts)
 
--- an element is the first or one of the others
+-- an element of a list is the first or one of the others
 in_head : (y : List ℕ) (ys : List (List ℕ)) (z : List ℕ) → Contains (y ∷ ys) z → (y ≡ z) ⊎ Contains ys z
 in_head y ys z h =
     elim h.0 as (λ k. (k < length (y ∷ ys)) × (slice_index_or (y ∷ ys) k z ≡ z) → (y ≡ z) ⊎ Contains ys z) [
@@ -98,7 +101,7 @@ in_head y ys z h =
       | suc k ↦ λ p. inr (k, omega arith, p.1)
     ] (h.1, h.2)
 
--- of two first elements, each in the other list, neither is below the other
+-- the first elements of two lists that rise, each in the other list, are equal
 first_is_first : (x y : List ℕ) (xs ys : List (List ℕ)) → AllByRecursion (λ z. byte_cmp x z ≡ Less) xs → AllByRecursion (λ z. byte_cmp y z ≡ Less) ys → Contains (y ∷ ys) x → Contains (x ∷ xs) y → x ≡ y
 first_is_first x y xs ys above_x above_y x_in y_in =
     elim (in_head y ys x x_in) [
@@ -123,7 +126,7 @@ in_rest y ys z above h =
       | inr later ↦ later
     ]
 
--- two lists that rise and have the same tokens are one
+-- two lists that rise and have the same tokens are equal
 one_list : (xs ys : List (List ℕ)) → Rises xs → Rises ys → All (Contains ys) xs → All (Contains xs) ys → xs ≡ ys
 unfolding IsStrictlySortedBy
 one_list [] [] up_x up_y x_in y_in = refl
@@ -138,26 +141,26 @@ one_list (x ∷ xs) (y ∷ ys) up_x up_y x_in y_in =
     let rest : xs ≡ ys = one_list xs ys up_x.1 up_y.1 x_rest y_rest in
     cc
 
--- the tokens in order have each token
+-- `in_order` has each token of the list
 pub All-in_order_contains : (ts : List (List ℕ)) → All (Contains (in_order ts)) ts
 All-in_order_contains ts = All-from_recursion _ ts (All-from_in_order (Contains (in_order ts)) ts (recursion_from_All _ _ (All-contains_itself (in_order ts))))
 
--- and no other
+-- `in_order` has no token but those of the list
 pub All-contains_in_order : (ts : List (List ℕ)) → All (Contains ts) (in_order ts)
 All-contains_in_order ts = All-from_recursion _ (in_order ts) (All-in_order (Contains ts) ts (recursion_from_All _ _ (All-contains_itself ts)))
 
--- what rises and has the same tokens is `in_order` of them
+-- a list that rises and has the same tokens is `in_order` of them
 pub set_is : (ts us : List (List ℕ)) → Rises us → All (Contains us) ts → All (Contains ts) us → us ≡ in_order ts
 set_is ts us up held only =
     one_list us (in_order ts) up (in_order_rises ts)
     (All-weaker (Contains ts) (Contains (in_order ts)) (λ t h. All-contains (Contains (in_order ts)) ts t (All-in_order_contains ts) h) us only)
     (All-from_recursion _ (in_order ts) (All-in_order (Contains us) ts (recursion_from_All _ ts held)))
 
--- tokens in order are in order
+-- `in_order` leaves a list in order unchanged
 pub in_order-in_order : (ts : List (List ℕ)) → in_order (in_order ts) ≡ in_order ts
 in_order-in_order ts = sym (set_is (in_order ts) (in_order ts) (in_order_rises ts) (All-contains_itself (in_order ts)) (All-contains_itself (in_order ts)))
 
--- lists with the same tokens are the same in order
+-- two lists with the same tokens have one `in_order`
 pub in_order_same : (ts us : List (List ℕ)) → All (Contains us) ts → All (Contains ts) us → in_order ts ≡ in_order us
 in_order_same ts us t_in u_in =
     set_is us (in_order ts) (in_order_rises ts)

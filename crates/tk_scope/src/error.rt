@@ -1,4 +1,4 @@
-//! Why a text is no scope.
+//! The errors of reading a scope.
 
 ghost use Rattle.std.specs.Prelude.{◌≡◌};
 ghost use Rattle.tk_scope.specs.declared.error.ScopeError.TheVariants.{Memory};
@@ -6,16 +6,19 @@ ghost use Rattle.tk_scope.specs.declared.error.ScopeError.TheVariants.{Memory};
 use std::alloc::AllocError;
 use thiserror::Error;
 
-/// Why a text is not read as a scope: the first that holds, in this order. `Memory` may come in place of any answer.
+/// The reason why a text was not read as a scope.
+///
+/// The tests are made in the order of the variants, and the first that fails is returned. `Memory`
+/// may be returned in place of any other error.
 #[derive(Clone, Copy, Debug, PartialEq, Eq, Error)]
 pub enum ScopeError {
     /// The text has more than 1,024 bytes.
     #[error("the scope is too long")]
     TooLong,
-    /// The text is not tokens with one space between each two.
+    /// The text is not scope-tokens with one space between each two.
     #[error("the scope is malformed")]
     Grammar,
-    /// The text has more than 32 tokens, each counted as often as it is written.
+    /// The text has more than 32 tokens, counting repeated ones.
     #[error("the scope has too many tokens")]
     TooMany,
     /// Memory ran out.

@@ -4,14 +4,14 @@ ghost use Rattle.std.specs.Prelude.{◌≡◌};
 ghost use Rattle.std.specs.List.{list_all};
 ghost use Rattle.tk_scope.specs.Scope.{is_scope_byte, is_token, tokens_of};
 
-/// Whether the text is one or more tokens, with one space between each two.
+/// Returns whether the text is one or more tokens, with one space between each two.
 pub(crate) fn is_list_of_tokens(text: &str) -> bool
     ensures { result ≡ list_all is_token (tokens_of text.now) }
 {
     text.split(' ').all(is_token)
 }
 
-/// Whether the text is one token.
+/// Returns whether the text is one token.
 fn is_token(token: &str) -> bool
     ensures { result ≡ is_token token.now }
 {

@@ -1,16 +1,17 @@
 //! Scopes of access (RFC 6749, section 3.3).
 //!
-//! A scope is a set of scope-tokens, written as a text with a space between each two. This crate decides which
-//! texts are a scope, why another is refused, which scope lies within which, and how a scope is printed. It knows
-//! nothing of clients, requests or tokens that carry a scope.
+//! A scope is a set of scope-tokens, written as a text with a space between each two. This crate
+//! decides which texts are scopes, why another text is refused, which scope is within which, and
+//! how a scope is printed. The crate knows nothing of clients, requests or tokens.
 //!
 //! In reading order:
 //!
 //! - [`ScopeError`], why a text is refused, in the order of the tests;
-//! - [`Scope`], with `read`, `within`, `text`, `copy` and `same`, within [`MAX_BYTES`] and [`MAX_TOKENS`].
+//! - [`Scope`], with `read`, `within`, `text`, `copy` and `same`, limited to [`MAX_BYTES`] and
+//!   [`MAX_TOKENS`].
 //!
-//! Contracts see a `Scope` as the bytes of its printed form, so equal sets are equal values. What they cite is
-//! defined in `specs/Scope.antt`.
+//! Contracts see a `Scope` as the bytes of its printed form. Therefore equal sets are equal values.
+//! `specs/Scope.antt` defines what the contracts cite.
 #![tactic(auto)]
 
 mod error;

@@ -5,7 +5,8 @@ ghost use Rattle.tk_scope.specs.Scope.{scope_text, tokens_of};
 
 use std::alloc::{AllocError, Global};
 
-/// The tokens of the text in byte order, without doubles, with one space between each two.
+/// Returns the tokens of the text in byte order, without duplicates, with one space between each
+/// two.
 pub(crate) fn printed(alloc: Global, text: &str) -> Result<String, AllocError>
     ensures { IfOk result (λ s. string_bytes s ≡ scope_text (tokens_of text.now)) }
 {

@@ -5,7 +5,8 @@ use std::marker::Model;
 /// A set of scope-tokens: at least one, and no more than the limits on its text allow.
 #[derive(Drop)]
 pub struct Scope {
-    /// The printed form: the tokens in byte order, without doubles, with one space between each two.
+    /// The printed form: the tokens in byte order, without duplicates, with one space between each
+    /// two.
     text: String,
 }
 
@@ -20,11 +21,31 @@ impl Model for Scope {
     ghost invariant = { λ s. scope_of (string_bytes s.text) ≡ Some (string_bytes s.text) };
 }
 
-ghost use Rattle.std.specs.Prelude.{◌≡◌, ◌≤◌, ◌↔◌, ◌⊎◌, length, IfOk, IfErr, IsErrOf, IsTrue, None, Some};
+ghost use Rattle.std.specs.Prelude.{
+  ◌≡◌,
+  ◌≤◌,
+  ◌↔◌,
+  ◌⊎◌,
+  length,
+  IfOk,
+  IfErr,
+  IsErrOf,
+  IsTrue,
+  None,
+  Some,
+};
 ghost use Rattle.std.specs.Cmp.Lexicographic.{slice_cmp};
 ghost use Rattle.std.specs.List.Sorted.{IsStrictlySortedBy};
 ghost use Rattle.std.specs.Ordering.{nat_cmp};
-ghost use Rattle.tk_scope.specs.Scope.{greatest_length, scope_of, scope_refusal, HasSameTokens, IsWithin, is_within, tokens_of};
+ghost use Rattle.tk_scope.specs.Scope.{
+  greatest_length,
+  scope_of,
+  scope_refusal,
+  HasSameTokens,
+  IsWithin,
+  is_within,
+  tokens_of,
+};
 
 use crate::ScopeError;
 use crate::grammar::is_list_of_tokens;
@@ -32,22 +53,25 @@ use crate::printed::printed;
 use crate::tokens::{are_tokens_within, token_count};
 use std::alloc::{AllocError, Global};
 
-/// The most bytes of a scope as it is written (own limit).
+/// The greatest length in bytes of a scope as it is written. This limit is our own.
 pub const MAX_BYTES: usize = 1024;
 
-/// The most tokens of a scope as it is written, doubles counted (own limit).
+/// The greatest number of tokens of a scope as it is written, counting repeated ones. This limit is
+/// our own.
 pub const MAX_TOKENS: usize = 32;
 
 impl Scope {
-    /// Reads a scope from a text, which is refused for the first cause that holds, in the order of [`ScopeError`].
+    /// Reads a scope from a text.
     ///
-    /// The limits are on the text as it is written: 33 doubles of one token are too many.
+    /// Returns the first error that applies, in the order of [`ScopeError`]. The limits apply to
+    /// the text as it is written: a token that is repeated 33 times is too many.
     pub fn read(alloc: Global, text: &[u8]) -> Result<Scope, ScopeError>
         ensures ok { IfOk result (λ scope. scope_of text.now ≡ Some scope) }
         ensures members { IfOk result (λ scope. HasSameTokens text.now scope) }
-        ensures refused { IfErr result (λ e. (e ≡ ScopeError.Memory) ⊎ (scope_refusal text.now ≡ Some e)) }
+        ensures refused { IfErr result
+            (λ e. (e ≡ ScopeError.Memory) ⊎ (scope_refusal text.now ≡ Some e)) }
 
-        // A text that is refused for another cause than memory is no scope.
+        // Every error but `Memory` means that the text is no scope.
         ensures too_long { IsErrOf result ScopeError.TooLong → scope_of text.now ≡ None }
         ensures grammar { IsErrOf result ScopeError.Grammar → scope_of text.now ≡ None }
         ensures too_many { IsErrOf result ScopeError.TooMany → scope_of text.now ≡ None }
@@ -68,7 +92,7 @@ impl Scope {
         Ok(Scope { text })
     }
 
-    /// Whether each token of this scope is one of the other.
+    /// Returns whether each token of this scope is a token of the other.
     pub fn within(&self, other: &Scope) -> bool
         ensures value { result ≡ is_within self.now other.now }
         ensures meaning { IsTrue result ↔ IsWithin self.now other.now }
@@ -76,19 +100,20 @@ impl Scope {
         are_tokens_within(self.text(), other.text())
     }
 
-    /// The printed form: the tokens in byte order, without doubles, with one space between each two.
+    /// Returns the printed form: the tokens in byte order, without duplicates, with one space
+    /// between each two.
     pub fn text(&self) -> &str
         ensures value { result.now ≡ self.now }
         ensures in_order { IsStrictlySortedBy (slice_cmp nat_cmp) (tokens_of self.now) }
         ensures short { length self.now ≤ greatest_length }
 
-        // Read again, it is the same scope.
+        // Reading the printed form gives this scope again.
         ensures again { scope_of self.now ≡ Some self.now }
     {
         self.text.as_str()
     }
 
-    /// The same scope, in memory of its own; an error where memory is refused.
+    /// Returns a copy of this scope. Fails if memory runs out.
     pub fn copy(&self, alloc: Global) -> Result<Scope, AllocError>
         ensures { IfOk result (λ scope. scope ≡ self.now) }
     {
@@ -96,7 +121,7 @@ impl Scope {
         Ok(Scope { text })
     }
 
-    /// Whether the other scope has the same tokens.
+    /// Returns whether the two scopes have the same tokens.
     pub fn same(&self, other: &Scope) -> bool
         ensures equal { IsTrue result ↔ (self.now ≡ other.now) }
         ensures members { IsTrue result ↔ HasSameTokens self.now other.now }

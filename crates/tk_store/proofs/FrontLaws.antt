@@ -1,10 +1,11 @@
--- There is one front, and it follows what is put and taken. Key results:
+-- A set has one front, which follows what is put and taken. Key results:
 --   one_front                         one number is a region's front
---   front_from_next, next_of_front    it is where the next serial isn't held
---   front_put                         a fact that isn't the next one of its region leaves the front
---   front_advanced                    and one that is moves it to the end of the serials held without a gap
---   front_taken                       a fact taken out lowers its region's front to below it
---   front_empty
+--   front_from_next, next_of_front    the front is where the next serial is not held
+--   front_put                         a fact that is not the next of its region leaves the front
+--   front_advanced                    the next fact of a region moves the front to the end of the
+--                                     run
+--   front_taken                       a fact taken out lowers its region's front to below the fact
+--   front_empty                       the front of the empty set
 use Rattle.std.proofs.Common.{◌≡◌, ◌≢◌, ℕ, ◌+◌, ◌-◌, ◌<◌, ◌≤◌, ◌==◌, cond, if◌then◌else◌, max, min, Option, Some, None, IsSome, is_some, refl, sym, ap, subst, ◌∙◌, arith, ◌⊎◌, inl, inr}
 use mathlib.Core.Bool.{false≢true}
 use Rattle.std.specs.Ordering.{eq_by_cmp, is_eq}
@@ -81,7 +82,7 @@ module _ {X : Type 0} where
     | inr apart ↦ map.get-remove dot_cmp_total G d q ∙ cond-false (eq_by_cmp dot_cmp q d) None (map.get G q) apart ∙ none
   ]
 
-  -- ---- a fact more
+  -- ---- one fact more
 
   module _ (G : map.FinMap dot_cmp X) (d : Dot) where
     stays : (r n : ℕ) → IsFrontAt (map.remove G d) r n → dot_at r (n + 1) ≢ d → IsFrontAt G r n
@@ -96,12 +97,12 @@ module _ {X : Type 0} where
       | inr ge ↦ run k ge le
     ]) next
 
-    -- a fact that isn't the next one of its region
+    -- a fact that is not the next of its region leaves the front
     pub front_put : (v : Vector) → IsFront (map.remove G d) v → d.serial ≢ entry v d.region + 1 → IsFront G v
     front_put v front other r = stays r (entry v r) (front r) (λ same.
         other (sym (ap (λ (x : Dot). x.serial) same) ∙ ap (λ (k : ℕ). entry v k + 1) (ap (λ (x : Dot). x.region) same)))
 
-    -- the next one
+    -- the next fact of a region moves the front to the end of the run of serials held without a gap
     pub front_advanced : (v : Vector) (end : ℕ) → IsFront (map.remove G d) v → d.serial ≡ entry v d.region + 1 → d.serial ≤ end
         → ((k : ℕ) → d.serial ≤ k → k ≤ end → IsSome (map.get G (dot_at d.region k))) → map.get G (dot_at d.region (end + 1)) ≡ None
         → IsFront G (raised v d.region end)
@@ -120,7 +121,7 @@ module _ {X : Type 0} where
         raised_there : (q r n m : ℕ) → q ≢ r → (if q == r then max end n else m) ≡ m
         raised_there q r n m apart = grind (arith, nat_tests)
 
-    -- ---- a fact less
+    -- ---- one fact less
 
     falls : (r n m : ℕ) → IsFrontAt G r n → m ≤ n → ((k : ℕ) → 0 < k → k ≤ m → dot_at r k ≢ d) → (dot_at r (m + 1) ≡ d) ⊎ (m ≡ n) → IsFrontAt (map.remove G d) r m
     falls r n m f le others edge = front_from_next (map.remove G d) r m
@@ -158,7 +159,7 @@ module _ {X : Type 0} where
   front_empty v none r = subst (λ (n : ℕ). IsFrontAt {X = X} map.empty r n) (sym (ap (λ (w : Vector). entry w r) none ∙ entry_empty r))
       (front_from_next map.empty r 0 (λ k low le. absurd (omega arith)) (map.get-empty dot_cmp (dot_at r 1)))
 
--- ---- a store's facts and its front
+-- ---- the facts of a store and its front
 
 pub kept_nothing : (F : FactSet) (v : Vector) → F ≡ map.empty → v ≡ map.empty → IsKept F v
 kept_nothing F v none zero_front = record {
@@ -169,7 +170,7 @@ kept_nothing F v none zero_front = record {
 pub kept_taken : (F : FactSet) (v : Vector) (d : Dot) → IsKept F v → 0 < d.serial → IsKept (map.remove F d) (lowered v d.region (d.serial - 1))
 kept_taken F v d kept some = record { sound = IsFactSet-remove F d kept.sound; front_is = front_taken F d v kept.front_is some }
 
--- before the front has followed a new fact, it is that of the set without it
+-- a front that has not yet followed a new fact is the front of the set without that fact
 pub before_new : (F G : FactSet) (v : Vector) (d : Dot) (b : Body) → map.get F d ≡ None → G ≡ map.insert F d b → IsFront F v → IsFront (map.remove G d) v
 before_new F G v d b free is front = subst (λ (H : FactSet). IsFront H v) (sym (ap (λ (H : FactSet). map.remove H d) is ∙ taken_back F d b free)) front
 

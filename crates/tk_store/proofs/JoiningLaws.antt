@@ -1,9 +1,9 @@
 -- Joining facts to a set. Key results:
 --   joins_with_facts      facts of U are joined to a set within U
---   joins_nothing         no facts, and the set as it was
---   joins_more            facts, and then further ones
---   joins_same            one set comes of the same facts in any order, however often each is joined
---   joins_is_with_facts   it is the set with these facts too
+--   joins_nothing         joining no facts leaves the set
+--   joins_more            joining facts, and then more
+--   joins_same            joining the same facts in any order, however often each, gives one set
+--   joins_is_with_facts   the joined set is the set with the facts added
 use Rattle.std.proofs.Common.{◌≡◌, ◌⊎◌, [], ◌∷◌, ◌++◌, Option, Some, None, refl, sym, ap, subst, ◌∙◌, inl, inr, Contains, arith}
 use Rattle.std.proofs.lemmas.List.Elements.{Contains-append_right}
 use Rattle.std.specs.FinMap as map
@@ -16,7 +16,7 @@ use Rattle.tk_store.proofs.FactSetLaws.{same_set, with_facts-append, with_facts_
 use Rattle.tk_store.proofs.PutLaws.{of_dot, get_here, some_injective, none_is_not_some}
 use Rattle.tk_store.proofs.SubsetLaws.{subset_itself, subset_trans, subset_insert, subset_with_facts, keeps_with_facts, AllIn-at, AllIn-subset}
 
--- sets within each other are one
+-- sets within each other are equal
 pub subset_antisym : (F G : FactSet) → IsSubset F G → IsSubset G F → F ≡ G
 subset_antisym F G f g = same_set F G (λ q. alike q (map.get F q) (map.get G q) refl refl)
   where
@@ -29,21 +29,21 @@ pub AllIn-append : (U : FactSet) (fs gs : Facts) → AllIn U fs → AllIn U gs �
 AllIn-append U [] gs a b = b
 AllIn-append U (f ∷ fs) gs a b = (a.0, AllIn-append U fs gs a.1 b)
 
--- a fact of a list that is in the set is in the set
+-- a fact of a list whose facts are in U is in U
 pub AllIn-contains : (U : FactSet) (fs : Facts) (f : Dot × Body) → AllIn U fs → Contains fs f → map.get U f.0 ≡ Some f.1
 AllIn-contains U fs f all c = subst (λ (g : Dot × Body). map.get U g.0 ≡ Some g.1) c.2 (AllIn-at U fs c.0 f all c.1)
 
 empty_subset : (U : FactSet) → IsSubset map.empty U
 empty_subset U d b h = absurd (none_is_not_some b (sym (map.get-empty dot_cmp d) ∙ h))
 
--- facts of U are held once they are put into a set within U
+-- facts of U are held once they are added to a set within U
 held_with_facts : (F U : FactSet) (fs : Facts) → IsSubset F U → AllIn U fs → AllIn (with_facts F fs) fs
 held_with_facts F U [] f a = tt
 held_with_facts F U (x ∷ fs) f a =
     let more = subset_insert F U x.0 x.1 f a.0 in
     (keeps_with_facts (map.insert F x.0 x.1) U fs more a.1 x.0 x.1 (get_here F x.0 x.1), held_with_facts (map.insert F x.0 x.1) U fs more a.1)
 
--- what a set with more facts holds was in it, or is one of them
+-- a fact of a set with facts added was in the set, or is one of those added
 only_with_facts : (F : FactSet) (fs : Facts) (d : Dot) (b : Body) → map.get (with_facts F fs) d ≡ Some b → (map.get F d ≡ Some b) ⊎ Contains fs (d, b)
 only_with_facts F [] d b h = inl h
 only_with_facts F (x ∷ fs) d b h = elim (only_with_facts (map.insert F x.0 x.1) fs d b h) [
@@ -77,7 +77,7 @@ joins_more {F} {G} {H} {fs} {gs} k h =
     both : H ≡ with_facts F (fs ++ gs)
     both = joins_is_with_facts h ∙ ap (λ K. with_facts K gs) (joins_is_with_facts k) ∙ sym (with_facts-append F fs gs)
 
--- what is joined once is within what the same facts make of the set
+-- the result of joining facts is within the result of joining a list that has them all
 same_subset : (F G H : FactSet) (fs gs : Facts) → JoinsFacts F fs G → JoinsFacts F gs H → ((f : Dot × Body) → Contains fs f → Contains gs f) → IsSubset G H
 same_subset F G H fs gs k h into d b at = elim (k.only d b at) [
   | inl before ↦ h.kept d b before

@@ -1,7 +1,7 @@
 -- Joining a set by its entries, one after another. Key results, each a step of a loop:
---   compared_start, compared_more, compared_all, compared_not   whether two sets agree
+--   compared_start, compared_more, compared_all, compared_not      whether two sets agree
 --   joins_start, joins_fits, joins_passes, joins_next, joins_end   adding each entry
---   sought_start, sought_more, sought_all, sought_not           whether each entry is held
+--   sought_start, sought_more, sought_all, sought_not              whether each entry is held
 use Rattle.std.proofs.Common.{◌≡◌, inl, inr, [], ◌∷◌, Option, Some, None, Ok, refl, sym, ap, subst, ◌∙◌}
 use Rattle.std.proofs.lemmas.Bool.{cases_Bool, cond-true, cond-false}
 use Rattle.std.specs.Ordering.{eq_by_cmp}
@@ -20,7 +20,7 @@ use Rattle.tk_store.proofs.EntryLaws.{AllIn-entries}
 use Rattle.tk_store.proofs.SubsetLaws.{subset_itself, subset_trans, keeps_with_facts, subset_with_facts}
 use Rattle.tk_store.specs.JoiningSteps.{FitsIn, AllFit, Compared, Joins, Sought}
 
--- each entry that is found fits
+-- an entry that is found among entries that fit fits
 fit_found : (F : FactSet) (es : Facts) (q : Dot) (b : Body) → AllFit F es → map.find dot_cmp q es ≡ Some b → FitsIn F (q, b)
 fit_found F [] q b a h = absurd (none_is_not_some b h)
 fit_found F (e ∷ es) q b a h = elim (cases_Bool (eq_by_cmp dot_cmp q e.0)) [
@@ -31,7 +31,7 @@ fit_found F (e ∷ es) q b a h = elim (cases_Bool (eq_by_cmp dot_cmp q e.0)) [
     moved : q ≡ e.0 → e.1 ≡ b → FitsIn F e → FitsIn F (q, b)
     moved i j k c at = k c (ap (map.get F) (sym i) ∙ at) ∙ j
 
--- each entry that is found is in
+-- an entry that is found among entries that are in S is in S
 in_found : (S : FactSet) (es : Facts) (q : Dot) (b : Body) → AllIn S es → map.find dot_cmp q es ≡ Some b → map.get S q ≡ Some b
 in_found S [] q b a h = absurd (none_is_not_some b h)
 in_found S (e ∷ es) q b a h = elim (cases_Bool (eq_by_cmp dot_cmp q e.0)) [
@@ -39,7 +39,7 @@ in_found S (e ∷ es) q b a h = elim (cases_Bool (eq_by_cmp dot_cmp q e.0)) [
   | inr more ↦ in_found S es q b a.1 (sym (cond-false (eq_by_cmp dot_cmp q e.0) (Some e.1) (map.find dot_cmp q es) more) ∙ h)
 ]
 
--- ---- comparing
+-- ---- comparing entries
 
 pub compared_start : (F G : FactSet) (rest : Facts) → rest ≡ map.entries G → Compared F G rest
 compared_start F G rest e = record { left = subst (AllIn G) (sym e) (AllIn-entries G); fit = λ a. subst (AllFit F) e a }
@@ -55,7 +55,7 @@ compared_all F G rest e c d x y at there = fit_found F (map.entries G) d y (c.fi
 pub compared_not : (F G : FactSet) (rest : Facts) (f : Dot × Body) (more : Facts) → rest ≡ f ∷ more → Compared F G rest → Agree F G → FitsIn F f
 compared_not F G rest f more e c agree b at = (let left : AllIn G (f ∷ more) = subst (AllIn G) e c.left in agree f.0 b f.1 at left.0)
 
--- ---- joining
+-- ---- adding entries
 
 pub joins_start : (F G : FactSet) (rest : Facts) → rest ≡ map.entries G → Agree F G → Joins F G F rest
 joins_start F G rest e agree = record {
@@ -69,7 +69,7 @@ joins_start F G rest e agree = record {
     first None y b h same = h
     first (Some q) y b h same = ap (λ (z : Body). Some z) (sym (same b q h refl))
 
--- what is left is in the join
+-- an entry that is left to add is in the join
 left_in : (F G N : FactSet) (rest : Facts) (f : Dot × Body) (more : Facts) → rest ≡ f ∷ more → Joins F G N rest → map.get (joined F G) f.0 ≡ Some f.1
 left_in F G N rest f more e j = (let left : AllIn G (f ∷ more) = subst (AllIn G) e j.left in get-joined F G f.0 ∙ ap (λ x. either x (map.get F f.0)) left.0)
 
@@ -115,7 +115,7 @@ taken_by F G f Held adds = adds.1 ∙ sym (insert_held F f.0 f.1 adds.0)
 pub taken : (F G : FactSet) (f p : Dot × Body) (a : Added) → p ≡ f → Adds F p (Ok a) G → G ≡ map.insert F f.0 f.1
 taken F G f p a same adds = taken_by F G f a (subst (λ (x : Dot × Body). Adds F x (Ok a) G) same adds)
 
--- ---- looking for each
+-- ---- looking for entries
 
 pub sought_start : (F G : FactSet) (rest : Facts) → rest ≡ map.entries G → Sought F G rest
 sought_start F G rest e = record { left = subst (AllIn G) (sym e) (AllIn-entries G); all = λ a. subst (AllIn F) e a }

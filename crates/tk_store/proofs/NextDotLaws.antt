@@ -1,8 +1,10 @@
--- The next dot of a region is free, and the last fact of a region has its greatest serial. Key results:
+-- The next dot of a region is free, and the last fact of a region has its greatest serial. Key
+-- results:
 --   at_most_last_serial          no fact of a region has a greater serial than its greatest
---   next_is_free                 nothing stands at a region's next dot
---   next_dot_there               which dot it is, where a serial is left
---   greatest_is, greatest_none   the last fact of a region has the region's greatest serial, or the region has none
+--   next_is_free                 no fact is at a region's next dot
+--   next_dot_there               the next dot, if a serial is left
+--   greatest_is, greatest_none   the last fact of a region has its greatest serial, or the region
+--                                has no fact
 use Rattle.std.proofs.Common.{◌≡◌, ℕ, ◌+◌, ◌<◌, ◌≤◌, ◌==◌, true, false, cond, if◌then◌else◌, max, [], ◌∷◌, Option, Some, None, IsSome, is_some, refl, sym, ap, ◌∙◌, arith, inl, inr}
 use mathlib.Core.Bool.{false≢true}
 use Rattle.std.specs.Ordering.{eq_by_cmp, is_lt}
@@ -40,7 +42,7 @@ next_is_free F r =
       | Some b ↦ λ h. let m = at_most_last_serial r (map.entries F) (next_dot F r) b refl (sym (map.get-entries F (next_dot F r)) ∙ h) in absurd (omega arith)
     ] refl
 
--- it is the dot of the serial after the greatest, where that is one
+-- the next dot has the serial after the greatest, if that is a serial
 pub next_dot_there : (F : FactSet) (r n : ℕ) (result : Option Dot) → n ≡ last_serial r (map.entries F) → SomeIff result (IsSerial (n + 1)) (record { region = r; serial = n + 1 }) → SomeIff result (next_serial F r ≤ greatest_serial) (next_dot F r)
 next_dot_there F r n None same h = λ left. h (omega arith, omega arith)
 next_dot_there F r n (Some d) same h = (omega (arith, h.0.1, same), h.1 ∙ ap (λ (m : ℕ). record { region = r; serial = m + 1 }) same)
@@ -55,7 +57,7 @@ at_most F r m (f ∷ fs) a all = first f.0.region f.0.serial (last_serial r fs) 
     first : (region serial rest : ℕ) → (region ≡ r → serial ≤ m) → rest ≤ m → max (if region == r then serial else 0) rest ≤ m
     first region serial rest h k = grind (arith, nat_tests)
 
--- a dot of the region, unless its serial is 0, is between the first and the last one of the region
+-- a dot of the region whose serial is in range is between the first and the last dot of the region
 pub in_region : (r : ℕ) (q : Dot) → q.region ≡ r → 0 < q.serial → q.serial ≤ greatest_serial → IsLeBy dot_cmp (dot_at r 1) q × IsLeBy dot_cmp q (dot_at r greatest_serial)
 in_region r q here low high = (grind (arith, nat_tests), grind (arith, nat_tests))
 
@@ -66,7 +68,7 @@ serial_at_most : (e q : Dot) → e.region ≡ q.region → is_lt (dot_cmp e q) �
 serial_at_most e q same h = grind (arith, nat_tests)
 
 module _ (F : FactSet) (r : ℕ) (high : (d : Dot) → IsSome (map.get F d) → d.serial ≤ greatest_serial) where
-  -- the greatest dot of the region has its greatest serial
+  -- the greatest dot of the region that is held has its greatest serial
   pub greatest_is : (e : Dot) → IsSome (map.get F e) → IsLeBy dot_cmp (dot_at r 1) e × IsLeBy dot_cmp e (dot_at r greatest_serial)
       → ((q : Dot) → IsLeBy dot_cmp (dot_at r 1) q × IsLeBy dot_cmp q (dot_at r greatest_serial) → IsSome (map.get F q) → is_lt (dot_cmp e q) ≡ false)
       → e.serial ≡ last_serial r (map.entries F)
@@ -85,7 +87,7 @@ module _ (F : FactSet) (r : ℕ) (high : (d : Dot) → IsSome (map.get F d) → 
       held_counts None at held here = absurd (false≢true (sym (ap is_some at) ∙ held))
       held_counts (Some b) at held here = at_most_last_serial r (map.entries F) e b here (sym (map.get-entries F e) ∙ at)
 
-  -- and where none is there, it is 0
+  -- a region of which no dot is held has the greatest serial 0
   pub greatest_none : ((q : Dot) → IsLeBy dot_cmp (dot_at r 1) q × IsLeBy dot_cmp q (dot_at r greatest_serial) → map.get F q ≡ None) → 0 ≡ last_serial r (map.entries F)
   greatest_none none =
       let at_zero : last_serial r (map.entries F) ≤ 0 = at_most F r 0 (map.entries F) (AllIn-entries F) (λ q b at same. elim (cases_lt 0 q.serial) [

@@ -1,9 +1,10 @@
 -- A set with one fact more. Key results:
---   OneMore                    the one set is the other with a body at a dot, where nothing stood
---   more_insert, more_remove   what makes one
---   more_subset                the smaller is within the larger
---   by_more                    what stands at a dot of the larger
---   any_fact-more              one more fact is one more test
+--   OneMore                    one set is the other with a body at a free dot
+--   more_insert, more_remove   inserting and removing give such sets
+--   more_subset                the smaller set is within the larger
+--   by_more                    the body at a dot of the larger set
+--   any_fact-more              a test of the larger set is a test of the new fact and of the
+--                              smaller set
 use Rattle.std.proofs.Common.{◌≡◌, ◌≢◌, ◌⊎◌, inl, inr, Bool, true, false, ◌||◌, Option, Some, None, refl, sym, ap, subst, ◌∙◌}
 use Rattle.std.proofs.lemmas.Bool.{true≢false, cases_Bool, cond-true, cond-false, or_cases, or_left, or_right}
 use Rattle.std.proofs.lemmas.Cmp.{tied_itself}
@@ -26,14 +27,14 @@ cases_dots a b = elim (cases_Bool (eq_by_cmp dot_cmp a b)) [
   | inr apart ↦ inr (λ is. true≢false (sym (at_itself b) ∙ ap (λ (x : Dot). eq_by_cmp dot_cmp x b) (sym is) ∙ apart))
 ]
 
--- dots that differ don't tie
+-- dots that differ do not compare as equal
 pub apart_at : (a b : Dot) → a ≢ b → eq_by_cmp dot_cmp a b ≡ false
 apart_at a b ne = elim (cases_Bool (eq_by_cmp dot_cmp a b)) [
   | inl same ↦ absurd (ne (tied a b same))
   | inr apart ↦ apart
 ]
 
--- G is F with b at d, where nothing stood
+-- G is F with the body b at the dot d, which was free
 pub record OneMore (F G : FactSet) (d : Dot) (b : Body) : Type 0 where
   pub free : map.get F d ≡ None
   pub here : map.get G d ≡ Some b
@@ -59,20 +60,20 @@ more_subset F G d b m q x h = elim (cases_dots q d) [
   | inr ne ↦ m.there q ne ∙ h
 ]
 
--- what stands at a dot, in a goal
+-- P holds of what is at a dot of G, if P holds of the new body and of what is there in F
 pub by_more : (P : Dot → Option Body → Type 0) (F G : FactSet) (d : Dot) (b : Body) → OneMore F G d b → (q : Dot) → (q ≡ d → P d (Some b)) → (q ≢ d → P q (map.get F q)) → P q (map.get G q)
 by_more P F G d b m q at_it elsewhere = elim (cases_dots q d) [
   | inl same ↦ subst (λ (x : Dot). P x (map.get G x)) (sym same) (subst (P d) (sym m.here) (at_it same))
   | inr ne ↦ subst (P q) (sym (m.there q ne)) (elsewhere ne)
 ]
 
--- two tests that imply each other are one
+-- two tests that imply each other are equal
 same_tests : (a b : Bool) → (a ≡ true → b ≡ true) → (b ≡ true → a ≡ true) → a ≡ b
 same_tests true b f g = sym (f refl)
 same_tests false true f g = g refl
 same_tests false false f g = refl
 
--- one more fact is one more test
+-- some fact of G passes a test exactly if the new fact does, or some fact of F
 pub any_fact-more : (p : Dot × Body → Bool) (F G : FactSet) (d : Dot) (b : Body) → OneMore F G d b → any_fact p G ≡ (p (d, b) || any_fact p F)
 any_fact-more p F G d b m = same_tests (any_fact p G) (p (d, b) || any_fact p F)
     (λ h. (let x : Passing p G = any_fact-held p G h in elim (cases_dots x.dot d) [

@@ -1,4 +1,4 @@
--- Paging by cursor misses nothing. Key result: complete.
+-- Paging by cursor loses nothing. Key result: `complete`.
 use Rattle.std.proofs.Common.{◌≡◌, ℕ, zero, suc, ◌-◌, ◌<◌, ◌≤◌, Bool, true, false, ◌&&◌, cond, T, List, [], ◌∷◌, map, filter, take, length, slice_get, Option, Some, None, refl, sym, ap, subst, ◌∙◌, arith, ◌⊎◌, inl, inr}
 use Rattle.std.proofs.lemmas.Bool.{cases_Bool, cond-true, cond-false}
 use Rattle.std.proofs.lemmas.Bool.Decides.{nat_tests}
@@ -16,7 +16,7 @@ use Rattle.tk_store.specs.Paging.{page, last_dot, TookPages, PagingCompletes}
 use Rattle.tk_store.proofs.FactSetLaws.{tied}
 use Rattle.tk_store.proofs.PutLaws.{some_injective, none_is_not_some}
 
--- a fact is one of a list
+-- a fact is an element of a list
 abbrev IsIn : Dot → Body → Facts → Type 0
 IsIn d b [] = ⊥
 IsIn d b (f ∷ fs) = ((f.0 ≡ d) × (f.1 ≡ b)) ⊎ IsIn d b fs
@@ -43,7 +43,7 @@ in_all R [] d b h a = absurd h
 in_all R (f ∷ fs) d b (inl here) a = ap (sets.get R) (sym here.0) ∙ a.0 ∙ ap (λ (x : Body). Some x) here.1
 in_all R (f ∷ fs) d b (inr more) a = in_all R fs d b more a.1
 
--- ---- what is kept of a list that rises, rises
+-- ---- a part of a list that rises, rises
 
 both : (a b : Bool) → T (a && b) → T a × T b
 both true b h = (tt, h)
@@ -74,7 +74,7 @@ below_in x d b (f ∷ fs) low (inl here) = ap (λ (y : Dot). is_lt (dot_cmp x y)
     is_true false h = absurd h
 below_in x d b (f ∷ fs) low (inr more) = below_in x d b fs (both _ _ low).1 more
 
--- ---- a fact of a list that rises is among the first, or above the last of these
+-- ---- a fact of a list that rises is among the first ones, or above the last of these
 
 last_after : (f g : Dot × Body) (fs : Facts) → last_dot (f ∷ g ∷ fs) ≡ last_dot (g ∷ fs)
 last_after f g fs = ap (slice_get (f.0 ∷ g.0 ∷ map dot_of fs)) (step (length fs))

@@ -1,8 +1,9 @@
--- What a set holds once a fact is put into it. Key results, by which everything above reasons about sets:
---   by_dot, of_dot   what stands at a dot after an insertion, in a goal and in a premise
+-- The facts of a set once a fact is put into it. Key results, by which the files above reason about
+-- sets:
+--   by_dot, of_dot   the body at a dot after an insertion, in a goal and in a premise
 --   insert_held      a fact that is held changes nothing
---   taken_back       what was put where nothing stood, and taken back, leaves the set
---   IsFactSet-insert, IsFactSet-empty, IsFactSet-remove
+--   taken_back       putting a fact at a free dot and taking it back leaves the set
+--   IsFactSet-insert, IsFactSet-empty, IsFactSet-remove   the facts still pass their checks
 use Rattle.std.proofs.Common.{◌≡◌, ◌+◌, true, false, cond, Option, Some, None, is_some, refl, sym, ap, subst, ◌∙◌}
 use Rattle.std.specs.Ordering.{eq_by_cmp, is_eq}
 use Rattle.std.proofs.lemmas.Cmp.{tied_itself}
@@ -20,13 +21,13 @@ some_injective x y h = cc
 pub none_is_not_some : {A : Type 0} (x : A) → ¬ (None ≡ Some x)
 none_is_not_some x h = cc
 
--- what stands at a dot once a fact is in, in a goal
+-- P holds of what is at a dot after an insertion, if P holds of the new body and of what was there
 pub by_dot : (P : Option Body → Type 0) (F : FactSet) (d : Dot) (b : Body) (q : Dot) → (q ≡ d → P (Some b)) → P (map.get F q) → P (map.get (map.insert F d b) q)
 by_dot P F d b q here there =
     subst P (sym (map.get-insert dot_cmp_total F d b q))
     (elim (eq_by_cmp dot_cmp q d) as (λ t. eq_by_cmp dot_cmp q d ≡ t → P (cond t (Some b) (map.get F q))) [ true ↦ λ e. here (tied q d e) | false ↦ λ _. there ] refl)
 
--- and in a premise
+-- a body at a dot after an insertion is the new body, or was there
 pub of_dot : (F : FactSet) (d : Dot) (b : Body) (q : Dot) (c : Body) (P : Type 0) → (q ≡ d → b ≡ c → P) → (map.get F q ≡ Some c → P) → map.get (map.insert F d b) q ≡ Some c → P
 of_dot F d b q c P here there h =
     elim (eq_by_cmp dot_cmp q d) as (λ t. eq_by_cmp dot_cmp q d ≡ t → cond t (Some b) (map.get F q) ≡ Some c → P) [
@@ -37,22 +38,22 @@ of_dot F d b q c P here there h =
 pub get_here : (F : FactSet) (d : Dot) (b : Body) → map.get (map.insert F d b) d ≡ Some b
 get_here F d b = map.get-insert dot_cmp_total F d b d ∙ ap (λ o. cond (is_eq o) (Some b) (map.get F d)) (tied_itself dot_cmp_total d)
 
--- a fact that is held already changes nothing
+-- inserting a fact that is held changes nothing
 pub insert_held : (F : FactSet) (d : Dot) (b : Body) → map.get F d ≡ Some b → map.insert F d b ≡ F
 insert_held F d b h = same_set _ _ (λ q. by_dot (λ o. o ≡ map.get F q) F d b q (λ same. sym h ∙ ap (map.get F) (sym same)) refl)
 
--- a new fact makes the set larger by one
+-- inserting a new fact makes the set larger by one
 pub len_new : (F : FactSet) (d : Dot) (b : Body) → map.get F d ≡ None → map.len (map.insert F d b) ≡ map.len F + 1
 len_new F d b none = map.len-insert dot_cmp_total F d b ∙ ap (λ o. cond (is_some o) (map.len F) (map.len F + 1)) none
 
--- a set of facts that pass the check stays one
+-- the facts of the empty set pass their checks
 pub IsFactSet-empty : IsFactSet map.empty
 IsFactSet-empty d b h = absurd (none_is_not_some b (sym (map.get-empty dot_cmp d) ∙ h))
 
 pub IsFactSet-insert : (F : FactSet) (d : Dot) (b : Body) → IsFactSet F → refusal_of b ≡ None → IsFactSet (map.insert F d b)
 IsFactSet-insert F d b sound passes q c h = of_dot F d b q c (refusal_of c ≡ None) (λ _ same. ap refusal_of (sym same) ∙ passes) (sound q c) h
 
--- what was put where nothing stood, and taken back, leaves the set
+-- putting a fact at a free dot and taking it back leaves the set
 pub taken_back : (F : FactSet) (d : Dot) (b : Body) → map.get F d ≡ None → map.remove (map.insert F d b) d ≡ F
 taken_back F d b free = same_set _ _ (λ q.
     map.get-remove dot_cmp_total (map.insert F d b) d q

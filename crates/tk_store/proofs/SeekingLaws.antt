@@ -1,6 +1,6 @@
--- What a search for what a vector doesn't cover may pass over. Key results:
---   seeks_one, seeks_past, seeks_none   one step of it
---   enough, all_of_them                 when it may stop
+-- What a search for facts that a vector does not cover may pass over. Key results:
+--   seeks_one, seeks_past, seeks_none   one step of the search
+--   enough, all_of_them                 when the search may stop
 use Rattle.std.proofs.Common.{◌≡◌, ℕ, zero, suc, ◌<◌, ◌≤◌, Bool, true, false, ◌&&◌, not, cond, nat_le, List, [], ◌∷◌, ◌++◌, map, filter, take, length, slice_get, Option, Some, None, refl, sym, ap, subst, ◌∙◌, arith}
 use Rattle.std.proofs.Math.Seq.{take-append_seam}
 use Rattle.std.proofs.lemmas.List.{append_assoc, length-append}
@@ -18,7 +18,7 @@ use Rattle.tk_store.specs.Walk.{is_above, above}
 use Rattle.tk_store.specs.Seeking.{SeeksAt, GoesOn, noted}
 use Rattle.tk_store.proofs.WalkLaws.{goes_on, at_end}
 
--- two tests that agree on what a third one keeps
+-- two tests that agree on the elements that a third test keeps, keep the same of them
 same_kept : {X : Type 0} (p q r : X → Bool) (es : List X) → ((x : X) → (q x && p x) ≡ (r x && p x)) → filter p (filter q es) ≡ filter p (filter r es)
 same_kept p q r [] h = refl
 same_kept p q r (e ∷ es) h = by_tests (same_kept p q r es h) (p e) (q e) (r e) refl (h e)
@@ -33,7 +33,7 @@ same_kept p q r (e ∷ es) h = by_tests (same_kept p q r es h) (p e) (q e) (r e)
     by_tests rest false false true is k = rest ∙ sym (ap (λ t. cond t (e ∷ filter p (filter r es)) (filter p (filter r es))) is)
     by_tests rest false false false is k = rest
 
--- a stricter test keeps no more
+-- a stricter test keeps no more elements
 no_more : {X : Type 0} (p q : X → Bool) (es : List X) → ((x : X) → p x ≡ true → q x ≡ true) → length (filter p es) ≤ length (filter q es)
 no_more p q [] h = omega arith
 no_more p q (e ∷ es) h = by_tests (no_more p q es h) (p e) (q e) (h e)
@@ -44,7 +44,7 @@ no_more p q (e ∷ es) h = by_tests (no_more p q es h) (p e) (q e) (h e)
     by_tests rest false true k = omega arith
     by_tests rest false false k = rest
 
--- between a dot and a later one of its region up to which all is covered, nothing is beyond
+-- a vector that covers a region up to a dot j covers all between a dot of the region and j
 covered_between : (d j x : Dot) (n : ℕ) → j.region ≡ d.region → d.serial ≤ j.serial → (x.region ≡ d.region → n ≡ j.serial)
     → (is_lt (dot_cmp d x) && not (nat_le x.serial n)) ≡ (is_lt (dot_cmp j x) && not (nat_le x.serial n))
 covered_between d j x n same le here = grind (arith, nat_tests)
@@ -98,9 +98,9 @@ module _ (F : FactSet) (v : Vector) (after : Option Dot) (f : Dot × Body) (firs
 pub seeks_none : (F : FactSet) (v : Vector) (after : Option Dot) → slice_get (above F after) 0 ≡ None → map dot_of (beyond F v after) ≡ []
 seeks_none F v after h = ap (λ l. map dot_of (filter (is_beyond v) l)) (at_end F after h)
 
--- ---- taking a step
+-- ---- one step of the search
 
--- what was found, and what is still to be found, are all; and no more was found than is wanted
+-- the dots found and those still to be found are all, and no more are found than the limit
 pub record Found (F : FactSet) (v : Vector) (limit : ℕ) (found : List Dot) (place : Option Dot) (all : List Dot) : Type 0 where
   pub whole : found ++ map dot_of (beyond F v place) ≡ all
   pub low : length found ≤ limit
@@ -119,7 +119,7 @@ found_more F v limit found more place all at false f low seeks is = record {
   low = omega (arith, ap length is);
 }
 
--- ---- when it may stop
+-- ---- the end of the search
 
 pub enough : {X : Type 0} (found rest all : List X) (limit : ℕ) → found ++ rest ≡ all → length found ≤ limit → limit ≤ length found → found ≡ take limit all
 enough found rest all limit is low high =

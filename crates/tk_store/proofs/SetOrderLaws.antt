@@ -1,7 +1,8 @@
--- Sets of facts are ordered by inclusion, and two that agree have a least set above both. Key results:
---   set_laws      what the law function says
---   is_join       the union of two sets that agree is the least above both
---   below_least   what is within it is within all that is above both
+-- Sets of facts are ordered by inclusion, and two that agree have a least set above both. Key
+-- results:
+--   set_laws      the contract of `stores_join`
+--   is_join       the union of two sets that agree is the least set above both
+--   below_least   a set within the union is within every set above both
 use Rattle.std.proofs.Common.{◌≡◌, Option, Some, None, refl, sym, ap, subst, ◌∙◌}
 use Rattle.std.specs.FinMap as map
 use Rattle.tk_handle.specs.declared.dot.Dot.{Dot}
@@ -41,6 +42,6 @@ set_laws = record {
 pub is_join : (F G N : FactSet) → Agree F G → N ≡ joined F G → IsJoin IsSubset F G N
 is_join F G N agree is = subst (IsJoin IsSubset F G) (sym is) (join_of F G agree)
 
--- what is within the union is within all that both are within
+-- a set within the union is within every set that both are within
 pub below_least : (F G N : FactSet) → Agree F G → IsSubset N (joined F G) → (S : FactSet) → IsSubset F S → IsSubset G S → IsSubset N S
 below_least F G N agree low S f g = subset_trans N (joined F G) S low ((join_of F G agree).least S f g)

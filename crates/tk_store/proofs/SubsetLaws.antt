@@ -1,7 +1,9 @@
 -- Sets within sets, and lists of facts that are in a set. Key results:
---   subset_with_facts, keeps_with_facts   adding facts of U to a set within U stays within U, and takes nothing away
---   AllIn-take, AllIn-filter, AllIn-subset, AllIn-at
---   IsFactSet-subset                      what is within a set of facts that pass the check is one too
+--   subset_with_facts, keeps_with_facts   adding facts of U to a set within U stays within U, and
+--                                         removes nothing
+--   AllIn-take, AllIn-filter, AllIn-subset, AllIn-at   parts of a list that is in a set
+--   IsFactSet-subset                      a set within a set of facts that pass their checks is one
+--                                         too
 use Rattle.std.proofs.Common.{◌≡◌, ℕ, zero, suc, ◌<◌, Bool, true, false, cond, [], ◌∷◌, length, get_or, filter, take, Some, sym, ap, ◌∙◌, arith}
 use Rattle.std.specs.FinMap as map
 use Rattle.tk_handle.specs.declared.dot.Dot.{Dot}
@@ -15,11 +17,11 @@ subset_itself F d b h = h
 pub subset_trans : (F G H : FactSet) → IsSubset F G → IsSubset G H → IsSubset F H
 subset_trans F G H f g d b h = g d b (f d b h)
 
--- what is in U may be put into a set within U
+-- inserting a fact of U into a set within U stays within U
 pub subset_insert : (F U : FactSet) (d : Dot) (b : Body) → IsSubset F U → map.get U d ≡ Some b → IsSubset (map.insert F d b) U
 subset_insert F U d b f u q c h = of_dot F d b q c (map.get U q ≡ Some c) (λ same bc. ap (map.get U) same ∙ u ∙ ap Some bc) (f q c) h
 
--- and takes nothing away
+-- inserting a fact of U into a set within U removes nothing
 keeps_insert : (F U : FactSet) (d : Dot) (b : Body) → IsSubset F U → map.get U d ≡ Some b → IsSubset F (map.insert F d b)
 keeps_insert F U d b f u q c h = by_dot (λ o. o ≡ Some c) F d b q (λ same. sym u ∙ ap (map.get U) (sym same) ∙ f q c h) h
 
@@ -45,12 +47,12 @@ pub AllIn-subset : (F U : FactSet) (fs : Facts) → IsSubset F U → AllIn F fs 
 AllIn-subset F U [] f a = tt
 AllIn-subset F U (x ∷ fs) f a = (f x.0 x.1 a.0, AllIn-subset F U fs f a.1)
 
--- the fact at a place is in
+-- the fact at a place of a list that is in a set is in the set
 pub AllIn-at : (U : FactSet) (fs : Facts) (i : ℕ) (d : Dot × Body) → AllIn U fs → i < length fs → map.get U (get_or fs i d).0 ≡ Some (get_or fs i d).1
 AllIn-at U [] i d a lt = absurd (omega arith)
 AllIn-at U (f ∷ fs) zero d a lt = a.0
 AllIn-at U (f ∷ fs) (suc i) d a lt = AllIn-at U fs i d a.1 (omega arith)
 
--- what is within a set of facts that pass the check passes it
+-- the facts of a set within a set of facts that pass their checks pass theirs
 pub IsFactSet-subset : (F U : FactSet) → IsSubset F U → IsFactSet U → IsFactSet F
 IsFactSet-subset F U within sound d b h = sound d b (within d b h)

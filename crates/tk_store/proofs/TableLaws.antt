@@ -223,7 +223,7 @@ last_serial_is m F seen r n last =
     counts some None h = absurd (false≢true (sym (ap is_some (sym (at m F seen (record { region = r; serial = n })) ∙ h)) ∙ of_some _ (sets.get m (record { region = r; serial = n })) (last.there some)))
     counts some (Some b) h = at_most_last_serial r (sets.entries F) (record { region = r; serial = n }) b refl (sym (sets.get-entries F (record { region = r; serial = n })) ∙ h)
 
--- ---- what a look-up that gives a fact says
+-- ---- the result of a look-up that finds a fact
 
 pub body_at : (o : Option Body) (d : Dot) (f : Dot × Body) → Some f ≡ option_map (λ b. (d, b)) o → o ≡ Some f.1
 body_at None d f h = absurd (none_is_not_some f (sym h))

@@ -1,4 +1,6 @@
--- What is above the first fact above a dot is the rest of what is above that dot.
+-- A walk by dots: what is above the first fact above a dot is the rest of what is above that dot.
+--   above_next   a walk that goes on from its last fact sees each fact once, and ends
+--   steps_on     one call of the walk
 use Rattle.std.proofs.Common.{◌≡◌, Bool, true, false, ◌&&◌, cond, T, [], ◌∷◌, filter, slice_get, Option, Some, None, refl, sym, ap, subst, ◌∙◌}
 use Rattle.std.specs.Ordering.{is_lt, ordering_reverse}
 use Rattle.std.specs.declared.cmp.Ordering.{Ordering}
@@ -25,7 +27,7 @@ less Less p = refl
 less Equal p = absurd p
 less Greater p = absurd p
 
--- all of a list that is above e is kept by a test that e passes
+-- a test that keeps e keeps all of a list above e
 keeps_all : (a : Option Dot) (e : Dot × Body) (es : Facts) → is_above a e ≡ true → T (below_all dot_cmp e.0 es) → filter (is_above a) es ≡ es
 keeps_all a e [] h low = refl
 keeps_all a e (x ∷ es) h low =
@@ -36,7 +38,7 @@ keeps_all a e (x ∷ es) h low =
     past None h = refl
     past (Some d) h = ap is_lt (dot_cmp_total.trans d e.0 x.0 (less _ (subst T (sym h) tt)) (less _ (both _ _ low).0))
 
--- an entry below a list isn't above anything in it
+-- an entry below all of a list is not above the first fact that a walk of the list finds
 first_is_above : (a : Option Dot) (e : Dot × Body) (es : Facts) (f : Dot × Body) (rest : Facts) → T (below_all dot_cmp e.0 es) → filter (is_above a) es ≡ f ∷ rest → is_above (Some f.0) e ≡ false
 first_is_above a e [] f rest low h = absurd (nothing h)
   where
@@ -80,7 +82,7 @@ walk a (e ∷ es) f rest sorted h =
     keeps_low (x ∷ xs) low =
         ap (λ t. cond t (x ∷ filter (is_above (Some e.0)) xs) (filter (is_above (Some e.0)) xs)) (is_true _ (both _ _ low).0) ∙ ap (λ l. x ∷ l) (keeps_low xs (both _ _ low).1)
 
--- so a walk that goes on from the fact it was given sees each fact once, and ends
+-- a walk that goes on from the fact that it returned sees each fact once, and ends
 pub above_next : (F : FactSet) (a : Option Dot) (f : Dot × Body) (rest : Facts) → above F a ≡ f ∷ rest → above F (Some f.0) ≡ rest
 above_next F a f rest h = walk a (map.entries F) f rest (map.entries_sorted F) h
 
@@ -114,7 +116,7 @@ none_left (e ∷ es) h = absurd (nothing h)
 pub at_end : (F : FactSet) (a : Option Dot) → slice_get (above F a) 0 ≡ None → above F a ≡ []
 at_end F a h = none_left (above F a) h
 
--- one call of the walk
+-- one call of the walk returns the next fact and leaves the rest
 pub steps_on : (F : FactSet) (a : Option Dot) (now new : Facts) (d : Dot) (f : Dot × Body) → above F a ≡ now → slice_get (above F a) 0 ≡ Some f → d ≡ f.0 → new ≡ above F (Some d) → now ≡ f ∷ new
 steps_on F a now new d f old here same after = sym old ∙ goes_on F a f here ∙ ap (λ (e : Dot). f ∷ above F (Some e)) (sym same) ∙ ap (λ l. f ∷ l) (sym after)
 

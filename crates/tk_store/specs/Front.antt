@@ -1,7 +1,7 @@
--- Up to which serial the facts of each region are all held (own).
+-- The front of a set (own): up to which serial the facts of each region are all held.
 --   HeldUpTo    the region's serials 1 to n are all in the set
 --   IsFrontAt   n is the greatest such number
---   IsFront     the vector has it as each region's entry
+--   IsFront     the vector has that number as each region's entry
 use Rattle.std.specs.Prelude.{ℕ, ◌<◌, ◌≤◌, IsSome}
 use Rattle.std.specs.FinMap as map
 use Rattle.tk_handle.specs.declared.dot.Dot.{Dot}
@@ -16,11 +16,11 @@ dot_at region serial = record { region = region; serial = serial }
 abbrev pub HeldUpTo : {X : Type 0} → map.FinMap dot_cmp X → ℕ → ℕ → Type 0
 HeldUpTo F r n = (k : ℕ) → 0 < k → k ≤ n → IsSome (map.get F (dot_at r k))
 
--- and n is the greatest such number
+-- n is the greatest number such that the region's serials 1 to n are all in the set
 pub record IsFrontAt {X : Type 0} (F : map.FinMap dot_cmp X) (r n : ℕ) : Type 0 where
   pub held : HeldUpTo F r n
   pub greatest : (m : ℕ) → HeldUpTo F r m → m ≤ n
 
--- the vector's entry at each region is that number
+-- v is the front of F: its entry at each region is the number of `IsFrontAt`
 abbrev pub IsFront : {X : Type 0} → map.FinMap dot_cmp X → Vector → Type 0
 IsFront F v = (r : ℕ) → IsFrontAt F r (entry v r)

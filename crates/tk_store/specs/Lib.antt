@@ -1,16 +1,16 @@
--- The words of this crate:
---   FactSet        sets of facts; Agree, with_facts, joined, IsFactSet, IsSubset
---   Joining        JoinsFacts, what a set becomes once facts are joined to it; SameFacts
---   JoiningSteps   Compared, Joins, Sought, how far a set has gone through another one's entries
---   Store          what contracts see of a store; facts_of, known_in
---   Adding         Adds, what adding a fact may end with
+-- The definitions of this crate, by file:
+--   FactSet        FactSet, a set of facts; Agree, with_facts, joined, IsFactSet, IsSubset
+--   Joining        JoinsFacts, the set that results from joining facts to a set; SameFacts
+--   JoiningSteps   Compared, Joins, Sought, the loops over the entries of another set
+--   Store          Store, what contracts see of a store; facts_of, known_in
+--   Adding         Adds, the outcomes of adding a fact
 --   Walk           above, the facts above a dot, ascending
---   Beyond         beyond, the facts above a dot that a vector doesn't cover, ascending
+--   Beyond         beyond, the facts above a dot that a vector does not cover, ascending
 --   Front          IsFront, up to which serial the facts of each region are all held
---   NextDot        next_dot, where a region's next fact stands
+--   NextDot        next_dot, the dot of a region's next fact
 --   Paging         PagingCompletes, what a receiver of all pages holds; page, last_dot
---   Seeking        Seeks, one step of a search for what a vector doesn't cover
---   Table          IsTable, how facts are kept in a map by dot
+--   Seeking        Seeks, one step of the search for what a vector does not cover
+--   Table          IsTable, facts kept in a map by dot
 pub mod Adding
 pub mod Beyond
 pub mod FactSet

@@ -1,4 +1,4 @@
-//! How the front follows a new fact.
+//! Moving the front once a fact was put into the set.
 
 ghost use Rattle.std.specs.Prelude.{◌≡◌, ℕ, ◌≤◌, ◌+◌, OnOk, OnErr, IsSome, None};
 ghost use Rattle.std.specs.FinMap as sets;
@@ -10,12 +10,13 @@ use std::alloc::AllocError;
 use tk_handle::{Dot, Serial};
 use tk_vector::VersionVector;
 
-// The last of the serials that are held without a gap from the dot's on.
+// Returns the end of the run of serials, without a gap, that are held from the dot's on.
 fn run_end(table: &Table, dot: Dot) -> u64
     requires { IsSome (sets.get table.now dot) }
     ensures from { dot.serial ≤ result }
     ensures high { result ≤ greatest_serial }
-    ensures held { (k : ℕ) → dot.serial ≤ k → k ≤ result → IsSome (sets.get table.now (dot_at dot.region k)) }
+    ensures held { (k : ℕ) → dot.serial ≤ k → k ≤ result
+        → IsSome (sets.get table.now (dot_at dot.region k)) }
     ensures next { sets.get table.now (dot_at dot.region (result + 1)) ≡ None }
 {
     table.known();
@@ -32,7 +33,7 @@ fn run_end(table: &Table, dot: Dot) -> u64
     Serial::GREATEST
 }
 
-// The front of the set without the fact at the dot becomes that of the whole set.
+// Makes the front of the set without the fact at the dot the front of the whole set.
 pub(crate) fn advance(table: &Table, front: &mut VersionVector, dot: Dot) -> Result<(), AllocError>
     requires held { IsSome (sets.get table.now dot) }
     requires front { IsFront (sets.remove table.now dot) front.old }

@@ -13,9 +13,10 @@ use tk_fact::Fact;
 use tk_vector::{Join, JoinError};
 
 impl FactStore {
-    // Whether no other body stands at the fact's dot.
+    // Returns whether no other body is held at the fact's dot.
     fn fits(&self, fact: &Fact) -> bool
-        ensures { IsTrue result ↔ ((b : the_body) → map.get self.now fact.now.0 ≡ Some b → b ≡ fact.now.1) }
+        ensures { IsTrue result ↔
+            ((b : the_body) → map.get self.now fact.now.0 ≡ Some b → b ≡ fact.now.1) }
     {
         match self.get(fact.dot) {
             Some(held) => held.body.same(&fact.body),
@@ -23,7 +24,8 @@ impl FactStore {
         }
     }
 
-    /// Whether the two have one body at each dot that both hold (own). It walks over the facts of the other.
+    /// Returns whether the two have equal bodies at each dot that both hold. Walks over the facts
+    /// of the other.
     pub fn agrees(&self, other: &FactStore) -> bool
         ensures { IsTrue result ↔ Agree self.now other.now }
     {
@@ -35,7 +37,7 @@ impl FactStore {
         true
     }
 
-    // Whether this very fact is held.
+    // Returns whether the fact is held: an equal body at its dot.
     fn has(&self, fact: &Fact) -> bool
         ensures { IsTrue result ↔ (map.get self.now fact.now.0 ≡ Some fact.now.1) }
     {
@@ -45,7 +47,7 @@ impl FactStore {
         }
     }
 
-    // Whether all facts of another store are held.
+    // Returns whether all facts of another store are held.
     fn is_above(&self, other: &FactStore) -> bool
         ensures { IsTrue result ↔ IsSubset other.now self.now }
     {
@@ -72,7 +74,8 @@ impl FactStore {
         }
     }
 
-    // Adds copies of all facts of a store that agrees. Where memory is refused, the first of them are in.
+    // Adds copies of all facts of a store that agrees. If memory runs out, only the first of them
+    // are in.
     fn take_all(&mut self, alloc: Global, other: &FactStore) -> Result<(), AllocError>
         requires { Agree self.old other.now }
         ensures ok { OnOk result (self.new ≡ joined self.old other.now) }
@@ -112,7 +115,8 @@ impl Join for FactStore {
     }
 }
 
-/// A law: sets of facts are ordered by inclusion, and two have a least set above both exactly where they agree (own).
+/// States a law: sets of facts are ordered by inclusion, and two have a least set above both
+/// exactly if they agree.
 pub fn stores_join()
     ensures { JoinLaws IsSubset Agree }
 {}

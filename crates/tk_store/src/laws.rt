@@ -1,10 +1,12 @@
-//! What holds of pages that are taken one after another.
+//! The law of paging.
 
 ghost use Rattle.tk_store.specs.Paging.{PagingCompletes};
 
-/// A law: a receiver that holds all that a vector covers, and all pages that were made for the vector one after another
-/// until no more followed, holds all that the sender held when the first was made, also where the sender's set grew
-/// between (own).
+/// States a law: paging loses nothing.
+///
+/// A receiver that holds all facts that its vector covers, and takes in every page made for that
+/// vector, holds what the sender held at the first page. The pages end when no more facts follow.
+/// Between the pages the sender may have taken in more facts.
 pub fn paging_completes()
     ensures { PagingCompletes }
 {}

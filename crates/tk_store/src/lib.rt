@@ -1,14 +1,20 @@
 //! A finite set of facts, no two at one dot.
 //!
-//! `FactStore` holds the facts of one region. `add` joins one fact to the set or refuses it, and `take_back` takes one
-//! out again; `get` looks one up; `next_after` and `facts` walk the set in the order of the dots, and no call hands out
-//! a list of it; `vector` is the set's front; `since` gives the dots that a version vector doesn't cover, from a place
-//! on; `next_dot` says where a region's next fact stands. Two stores are joined by `Join`. No call walks over all facts
-//! but `facts` and those of `Join`.
+//! A `FactStore` holds the facts of one region.
 //!
-//! Contracts see a store as a finite map from dots to bodies. It is kept in a map by dot (`table`), with its front
-//! beside it (`advance`), of which nothing above this crate knows. The definitions are in specs/: `FactSet` first, then
-//! `Joining`, `Adding`, `Walk`, `Beyond`, `Front`, `Paging`.
+//! - `add` joins one fact to the set or refuses it, and `take_back` undoes an addition.
+//! - `get` looks a fact up. `next_after` and `facts` walk the set in the order of the dots, without
+//!   making a list of it.
+//! - `vector` returns the front of the set.
+//! - `since` returns the first dots, above a cursor, that a version vector does not cover.
+//! - `next_dot` returns the dot of a region's next fact.
+//! - `Join` joins two stores.
+//!
+//! Only `facts`, `agrees` and the methods of `Join` walk over all facts.
+//!
+//! Contracts see a store as a finite map from dots to bodies. The store keeps a map by dot
+//! (`table`) and the front (`advance`); the crates above see neither. The definitions are in
+//! `specs/`: `FactSet` first, then `Joining`, `Adding`, `Walk`, `Beyond`, `Front`, `Paging`.
 #![tactic(auto)]
 
 mod advance;

@@ -1,4 +1,4 @@
-//! What a vector doesn't cover, found without a look at what it covers.
+//! The facts that a vector does not cover, found without looking at those that it covers.
 
 ghost use Rattle.std.specs.Prelude.{◌≡◌, [], IfOk, OnOk, take, map};
 ghost use Rattle.tk_store.specs.FactSet.{dot_of};
@@ -11,14 +11,16 @@ use tk_fact::Fact;
 use tk_handle::Dot;
 use tk_vector::VersionVector;
 
-// The place to go on from, and whether the fact there is one that the vector doesn't cover.
+// A step of the search: the cursor from which the search goes on, and whether the fact there is one
+// that the vector does not cover.
 #[derive(Clone, Copy)]
 pub(crate) struct Step {
     at: Dot,
     is_beyond: bool,
 }
 
-// Where to go on from a fact: from the fact itself, or from the last dot of its region that the vector covers.
+// Returns the step at a fact: to the fact itself, or to the last dot of its region that the vector
+// covers.
 fn step_at(vector: &VersionVector, fact: &Fact) -> Step
     ensures { GoesOn vector.now fact.now.0 result.at result.is_beyond }
 {
@@ -38,7 +40,7 @@ fn step_at(vector: &VersionVector, fact: &Fact) -> Step
     }
 }
 
-// The next step from a place.
+// Returns the next step above a cursor, if there is one.
 fn next_step(table: &Table, vector: &VersionVector, after: Option<Dot>) -> Option<Step>
     ensures { Seeks table.now vector.now after result }
 {
@@ -48,7 +50,7 @@ fn next_step(table: &Table, vector: &VersionVector, after: Option<Dot>) -> Optio
     }
 }
 
-// Notes the dot of a step where it isn't covered.
+// Notes the dot of a step, if the vector does not cover it.
 fn note(dots: &mut Vec<Dot>, at: Dot, is_beyond: bool) -> Result<(), AllocError>
     ensures ok { OnOk result (dots.new.items ≡ noted dots.old.items at is_beyond) }
 {
@@ -58,7 +60,7 @@ fn note(dots: &mut Vec<Dot>, at: Dot, is_beyond: bool) -> Result<(), AllocError>
     Ok(())
 }
 
-// Gathers the first dots above a place that the vector doesn't cover.
+// Gathers the first dots above a cursor that the vector does not cover.
 fn gather(
     table: &Table,
     vector: &VersionVector,
@@ -67,7 +69,8 @@ fn gather(
     dots: &mut Vec<Dot>,
 ) -> Result<(), AllocError>
     requires { dots.old.items ≡ [] }
-    ensures { OnOk result (dots.new.items ≡ take limit (map dot_of (beyond table.now vector.now after))) }
+    ensures { OnOk result
+        (dots.new.items ≡ take limit (map dot_of (beyond table.now vector.now after))) }
 {
     let mut place = after;
     'pages: while dots.len() < limit {
@@ -80,7 +83,7 @@ fn gather(
     Ok(())
 }
 
-// The first dots above a place that the vector doesn't cover, at most as many as the limit.
+// Returns the first dots above a cursor that the vector does not cover, at most `limit`.
 pub(crate) fn dots_beyond(
     alloc: Global,
     table: &Table,
@@ -88,7 +91,8 @@ pub(crate) fn dots_beyond(
     after: Option<Dot>,
     limit: usize,
 ) -> Result<Vec<Dot>, AllocError>
-    ensures { IfOk result (λ dots. dots.items ≡ take limit (map dot_of (beyond table.now vector.now after))) }
+    ensures { IfOk result
+        (λ dots. dots.items ≡ take limit (map dot_of (beyond table.now vector.now after))) }
 {
     let mut dots = Vec::new(alloc);
     gather(table, vector, after, limit, &mut dots)?;

@@ -6,13 +6,13 @@ use std::marker::Model;
 use tk_fact::Fact;
 use tk_vector::VersionVector;
 
-/// A set of facts, each of which passes its check, no two at one dot.
+/// A set of facts that each pass their check, no two at one dot.
 #[derive(Drop)]
 pub struct FactStore {
     facts: Table,
-    // Up to which serial the facts of each region are all held.
+    // The front: to each region, the serial up to which no fact is missing.
     front: VersionVector,
-    // Where copies for a join are made.
+    // The allocator for copies that a join makes.
     alloc: Global,
 }
 
@@ -29,21 +29,21 @@ impl Model for FactStore {
     ghost invariant = { λ s. IsKept s.facts s.front };
 }
 
-/// How an addition ended.
+/// The outcome of an addition.
 #[derive(Clone, Copy, PartialEq, Eq)]
 pub enum Added {
     /// The dot was free.
     New,
-    /// This very fact was held already.
+    /// The fact was held already.
     Held,
 }
 
-/// Why a fact was not added.
+/// The reason why a fact was not added.
 #[derive(Clone, Copy, Debug, PartialEq, Eq)]
 pub enum AddError {
-    /// Another body stands at the dot.
+    /// Another body is held at the dot: a conflict.
     Conflict,
-    /// The dot was free, but memory was refused.
+    /// The dot was free, but memory ran out.
     Memory,
 }
 
@@ -66,7 +66,7 @@ use crate::walk::Facts;
 use tk_handle::{Dot, RegionNumber};
 
 impl FactStore {
-    /// No fact.
+    /// Returns a store without facts.
     pub fn new(alloc: Global) -> FactStore
         ensures { result ≡ sets.empty }
     {
@@ -81,14 +81,17 @@ impl FactStore {
         self.alloc
     }
 
-    /// Each fact held passes its check: told to callers, nothing is done.
+    /// Gives a caller's proof the fact that each fact held passes its check. Does nothing at run
+    /// time.
     pub fn known(&self)
         ensures { IsFactSet (facts_of self.now) }
     {
         let _facts = &self.facts;
     }
 
-    /// Adds a fact that passes its check. A refused one is dropped, and the set is as before.
+    /// Adds a fact that passes its check.
+    ///
+    /// If the fact is refused, it is dropped, and the set is unchanged.
     pub fn add(&mut self, fact: Fact) -> Result<Added, AddError>
         requires { refusal_of fact.1 ≡ None }
         ensures { Adds self.old fact result self.new }
@@ -109,45 +112,51 @@ impl FactStore {
         }
     }
 
-    /// Takes the fact at the dot out and hands it back, which takes no memory. None where there is none, and then
-    /// nothing changes. It undoes an addition.
+    /// Takes the fact at the dot out and returns it, which undoes an addition.
+    ///
+    /// Takes no memory. If there is no fact at the dot, the method returns `None` and changes
+    /// nothing.
     pub fn take_back(&mut self, dot: Dot) -> Option<Fact>
-        ensures fact { result ≡ option_map (λ body. (dot, body)) (sets.get (facts_of self.old) dot) }
+        ensures fact { result
+            ≡ option_map (λ body. (dot, body)) (sets.get (facts_of self.old) dot) }
         ensures rest { self.new ≡ sets.remove self.old dot }
     {
         self.front.lower(dot.region(), dot.serial() - 1);
         self.facts.take(dot)
     }
 
-    /// The fact at the dot.
+    /// Returns the fact at the dot.
     pub fn get(&self, dot: Dot) -> Option<&Fact>
-        ensures { option_copied result ≡ option_map (λ body. (dot, body)) (sets.get (facts_of self.now) dot) }
+        ensures { option_copied result
+            ≡ option_map (λ body. (dot, body)) (sets.get (facts_of self.now) dot) }
     {
         self.facts.get(dot)
     }
 
-    /// How many facts there are.
+    /// Returns the number of facts.
     pub fn len(&self) -> u64
         ensures { result ≡ sets.len (facts_of self.now) }
     {
         self.facts.len()
     }
 
-    /// The front: to each region the greatest number such that its serials from 1 up to it are all held.
+    /// Returns the front: to each region the greatest serial such that all from 1 to it are held.
     pub fn vector(&self) -> &VersionVector
         ensures { IsFront (known_in self.now) result.now }
     {
         &self.front
     }
 
-    /// The held fact with the least dot above, or of all.
+    /// Returns the held fact with the least dot above `after`, or with the least dot if `after` is
+    /// `None`.
     pub fn next_after(&self, after: Option<Dot>) -> Option<&Fact>
         ensures { option_copied result ≡ slice_get (above (facts_of self.now) after) 0 }
     {
         self.facts.next_after(after)
     }
 
-    /// The facts, ascending by dot, each looked up when it is asked for.
+    /// Returns an iterator over the facts, ascending by dot. Each fact is looked up when it is
+    /// reached.
     pub fn facts(&self) -> Facts<'_>
         ensures { result ≡ sets.entries (facts_of self.now) }
     {
@@ -157,8 +166,10 @@ impl FactStore {
         }
     }
 
-    /// The first dots that the vector doesn't cover above a place, or of all, ascending, at most as many as the limit.
-    /// Each of them, and each region with facts, costs a look-up or two.
+    /// Returns the first dots that the vector does not cover, above a cursor, ascending, at most
+    /// `limit`.
+    ///
+    /// Costs one or two look-ups for each of them, and for each region with facts.
     pub fn since(
         &self,
         alloc: Global,
@@ -166,20 +177,24 @@ impl FactStore {
         after: Option<Dot>,
         limit: usize,
     ) -> Result<Vec<Dot>, AllocError>
-        ensures { IfOk result (λ dots. dots.items ≡ take limit (map dot_of (beyond (known_in self.now) vector.now after))) }
+        ensures { IfOk result
+            (λ dots. dots.items ≡ take limit
+            (map dot_of (beyond (known_in self.now) vector.now after))) }
     {
         dots_beyond(alloc, &self.facts, vector, after, limit)
     }
 
-    /// Where the region's next fact stands: 1 past its greatest serial. None where that is the greatest of all.
+    /// Returns the dot of the region's next fact: one past its greatest serial. Returns `None` if
+    /// that serial is the greatest there is.
     pub fn next_dot(&self, region: RegionNumber) -> Option<Dot>
-        ensures { SomeIff result (next_serial (known_in self.now) region ≤ greatest_serial) (next_dot (known_in self.now) region) }
+        ensures { SomeIff result (next_serial (known_in self.now) region ≤ greatest_serial)
+            (next_dot (known_in self.now) region) }
     {
         Dot::new(region, self.facts.last_serial(region) + 1)
     }
 }
 
-// Adds a fact at a dot that is free. Where memory is refused, the fact comes out again.
+// Adds a fact at a dot that is free. If memory runs out, the fact is taken out again.
 fn add_new(facts: &mut Table, front: &mut VersionVector, fact: Fact) -> Result<(), AllocError>
     requires free { sets.get facts.old fact.0 ≡ None }
     requires passes { refusal_of fact.1 ≡ None }

@@ -1,4 +1,4 @@
-//! Facts by their dots.
+//! Facts in a map by dot.
 
 use std::alloc::{AllocError, Global};
 use std::marker::Model;
@@ -6,7 +6,7 @@ use tk_dots::DotMap;
 use tk_fact::Fact;
 use tk_handle::Dot;
 
-// Each fact at its own dot.
+// A map from dots to facts, each fact at its own dot.
 #[derive(Drop)]
 pub(crate) struct Table {
     held: DotMap<Box<Fact>>,
@@ -46,7 +46,7 @@ impl Table {
         }
     }
 
-    // Each dot's serial is in range: told to callers, nothing is done.
+    // Gives a caller's proof the fact that each dot's serial is in range. Does nothing at run time.
     pub(crate) fn known(&self)
         ensures { (d : the_dot) → IsSome (sets.get self.now d) → d.serial ≤ greatest_serial }
     {
@@ -84,7 +84,7 @@ impl Table {
         self.held.put(dot, held)
     }
 
-    // Takes the fact at the dot out, which takes no memory.
+    // Takes the fact at the dot out. Takes no memory.
     pub(crate) fn take(&mut self, dot: Dot) -> Option<Fact>
         ensures fact { result ≡ option_map (λ body. (dot, body)) (sets.get self.old dot) }
         ensures rest { self.new ≡ sets.remove self.old dot }
@@ -95,7 +95,7 @@ impl Table {
         }
     }
 
-    // The first fact above the dot, or of all.
+    // Returns the first fact above `after`, or the first of all if `after` is `None`.
     pub(crate) fn next_after(&self, after: Option<Dot>) -> Option<&Fact>
         ensures { option_copied result ≡ slice_get (above self.now after) 0 }
     {

@@ -1,9 +1,9 @@
 -- The entries of a vector as a list. Key results:
---   few            there are no more of them than regions
---   is_rising      a test of neighbours tells whether their regions rise
---   rising_entries a vector is that of its entries
---   more_written   one entry more is written
---   more_fits      and has a spelling
+--   few            there are no more entries than regions
+--   is_rising      a test of neighbours finds out whether the regions rise
+--   rising_entries a vector is the vector of its entries
+--   more_written   writing one entry more
+--   more_fits      the entries written so far, and one more, have a spelling
 use Rattle.std.proofs.Common.{◌≡◌, ℕ, suc, ◌+◌, ◌-◌, ◌<◌, ◌≤◌, Bool, true, false, ◌&&◌, T, nat_lt, List, [], ◌∷◌, ◌++◌, get_or, slice_get, length, take, Some, refl, sym, ap, subst, ◌∙◌, add-one, append_assoc, arith}
 use Rattle.std.specs.List.{AllByRecursion, IsAllAdjacentAnswer, flat_map}
 use Rattle.std.specs.Ordering.{nat_cmp, is_lt}
@@ -52,7 +52,7 @@ true_of : (b : Bool) → T b → b ≡ true
 true_of true h = refl
 true_of false h = absurd h
 
--- the entry behind those that were passed
+-- the first i + 1 entries are the first i, and the next
 one_more : (es : Entries) (i : ℕ) (e : ℕ × ℕ) → i < length es → e ≡ get_or es i e → take (i + 1) es ≡ take i es ++ (e ∷ [])
 one_more es i e within is = (take_at_read es i e within).1 ∙ ap (λ x. take i es ++ (x ∷ [])) (sym is)
 
@@ -60,9 +60,9 @@ all_append : (es fs : Entries) → AllByRecursion entry_field.Fits es → AllByR
 all_append [] fs a b = b
 all_append (e ∷ es) fs a b = (a.0, all_append es fs a.1 b)
 
--- ---- how many there are
+-- ---- how many entries there are
 
--- regions that rise are as far apart as they stand
+-- regions that rise differ at least as much as their places
 spread : (e : ℕ × ℕ) (es : Entries) (last : ℕ × ℕ) → T (is_sorted nat_cmp (e ∷ es)) → slice_get (e ∷ es) (length es) ≡ Some last → e.0 + length es ≤ last.0
 spread e [] last h at = let same : e ≡ last = some_is e last at in subst (λ (x : ℕ × ℕ). e.0 + 0 ≤ x.0) same (omega arith)
 spread e (f ∷ es) last h at =
@@ -71,7 +71,7 @@ spread e (f ∷ es) last h at =
     let rest = spread f es last (right (below_all nat_cmp e.0 (f ∷ es)) (is_sorted nat_cmp (f ∷ es)) h) at in
     omega arith
 
--- so there are no more entries than regions
+-- there are no more entries than regions
 pub few : (es : Entries) (first last : ℕ × ℕ) → T (is_sorted nat_cmp es) → slice_get es 0 ≡ Some first → slice_get es (length es - 1) ≡ Some last → IsRegion first.0 → last.0 ≤ greatest_region → length es < 65536
 few [] first last h one other low high = omega arith
 few (e ∷ es) first last h one other low high =
@@ -83,7 +83,7 @@ few (e ∷ es) first last h one other low high =
 
 -- ---- whether the regions rise
 
--- what is below a number is below all that the number is below
+-- a number below b is below each element that b is below
 below_all_from : (a b : ℕ) (es : Entries) → a < b → T (below_all nat_cmp b es) → T (below_all nat_cmp a es)
 below_all_from a b [] lt h = tt
 below_all_from a b (e ∷ es) lt h =
@@ -98,7 +98,7 @@ neighbours (e ∷ f ∷ es) h =
     let lt : e.0 < f.0 = h 0 e (omega arith) in
     both _ _ (both _ _ (is_below e.0 f.0 lt) (below_all_from e.0 f.0 es lt (left _ _ rest))) rest
 
--- the answer of a test of neighbours
+-- what a test of neighbours returns: whether the regions rise
 abbrev pub Answers : Entries → Bool → Type 0
 Answers es answer = IsAllAdjacentAnswer (λ one next b. b ≡ nat_lt one.0 next.0) es answer
 
@@ -112,14 +112,14 @@ is_rising es false (k, lt, h) = by_test (is_sorted nat_cmp es) refl
         absurd (not_less _ _ (rises nat_cmp es (subst T (sym e) tt) k (k + 1) d (omega arith) lt) (h d))
     by_test false e = refl
 
--- the vector of a vector's entries is the vector
+-- the vector of a vector's entries is that vector
 pub rising_entries : (v : Vector) → rising (map.entries v) ≡ Some v
 rising_entries v =
     rw (true_of _ (map.entries_sorted v)) (ap (λ w. Some w) (map.same_entries_map _ v (map.entries-from_sorted nat_cmp (map.entries v) (map.entries_sorted v))))
 
 -- ---- the entries in bytes
 
--- one entry more is written
+-- the bytes written after one more entry
 pub more_written : (es : Entries) (i : ℕ) (e : ℕ × ℕ) (old before after : List ℕ) → i < length es → e ≡ get_or es i e
     → before ≡ old ++ flat_map entry_field.spell (take i es) → after ≡ before ++ entry_field.spell e
     → after ≡ old ++ flat_map entry_field.spell (take (i + 1) es)
@@ -129,7 +129,7 @@ more_written es i e old before after within is so_far one =
     ∙ ap (λ bytes. old ++ bytes) (ap (λ bytes. flat_map entry_field.spell (take i es) ++ bytes) (sym (append-nil (entry_field.spell e)))
     ∙ sym (flat_map-append entry_field.spell (take i es) (e ∷ [])) ∙ ap (flat_map entry_field.spell) (sym (one_more es i e within is)))
 
--- and has a spelling
+-- the entries written so far, and one more, have a spelling
 pub more_fits : (es : Entries) (i : ℕ) (e : ℕ × ℕ) → i < length es → e ≡ get_or es i e → AllByRecursion entry_field.Fits (take i es) → entry_field.Fits e
     → AllByRecursion entry_field.Fits (take (i + 1) es)
 more_fits es i e within is so_far fits = subst (AllByRecursion entry_field.Fits) (sym (one_more es i e within is)) (all_append (take i es) (e ∷ []) so_far (fits, tt))

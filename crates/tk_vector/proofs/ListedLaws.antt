@@ -9,7 +9,7 @@ use Rattle.tk_format.specs.declared.error.ReadError.{ReadError}
 use Rattle.tk_format.specs.declared.error.ReadError.TheVariants.{Malformed, Memory}
 use Rattle.tk_vector.specs.VectorBytes.{magic, entry_field, listed}
 
--- what is read behind the magic
+-- once the magic was read, the rest of the bytes decides what is read
 behind : {A : Type 0} (f : List ℕ → Option A) (o : Option (List ℕ × List ℕ)) (rest : List ℕ) → Some rest ≡ (o >>= λ m. cond (bytes_eq m.0 magic) (Some m.1) None) → (o >>= λ m. cond (bytes_eq m.0 magic) (f m.1) None) ≡ f rest
 behind {A} f None rest h = absurd (nothing h)
   where

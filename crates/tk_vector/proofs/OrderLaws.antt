@@ -1,8 +1,9 @@
--- The order of version vectors, and what raising entries in turn leaves. Key results:
---   below_itself, below_trans, below_antisymmetric
---   join_of                two vectors have a least one above both
---   raised_none, raised_more, kept_join   the loop that raises each entry
---   vector_laws            what the law function says
+-- The order of version vectors, and what raising entries one after the other leaves. Key results:
+--   below_itself, below_trans, below_antisymmetric   `Below` is an order
+--   join_of                                          two vectors that agree have a least one above
+--                                                    both
+--   raised_none, raised_more, kept_join              the loop that raises each entry
+--   vector_laws                                      what the law function states
 use Rattle.std.proofs.Common.{◌≡◌, ℕ, zero, suc, ◌+◌, ◌<◌, ◌≤◌, true, false, cond, max, T, List, [], ◌∷◌, length, get_or, Option, Some, None, unwrap_or, refl, sym, ap, subst, ◌∙◌, arith, inl, inr}
 use Rattle.std.proofs.lemmas.Bool.{cases_lt, cases_Bool, cond-true, cond-false}
 use Rattle.std.specs.Ordering.{nat_cmp, eq_by_cmp, is_eq, ordering_reverse}
@@ -52,7 +53,7 @@ equal_of Greater e = absurd (true≢false (sym e))
 tied : (q r : ℕ) → eq_by_cmp nat_cmp q r ≡ true → q ≡ r
 tied q r h = map.nat_cmp-IsAntisymmetric q r (equal_of (nat_cmp q r) h)
 
--- what stands at a region once an entry is in, in a goal
+-- P holds of what is at region q after an insertion at r, by whether q is r
 by_region : (P : Option ℕ → Type 0) (v : Vector) (r n q : ℕ) → (q ≡ r → P (Some n)) → P (map.get v q) → P (map.get (map.insert v r n) q)
 by_region P v r n q here there =
     subst P (sym (map.get-insert nat_cmp_total v r n q))
@@ -107,7 +108,7 @@ raised_more V es N M i r n so within here some is = record {
   ]);
 }
 
--- entries that are each at most a vector's are below it
+-- what is found in a list whose entries are each at most c's is at most c's entry
 found_below : (es : List (ℕ × ℕ)) (c : Vector) (q : ℕ) → ((k : ℕ) (d : ℕ × ℕ) → k < length es → AtMost (Some (get_or es k d).1) (map.get c (get_or es k d).0)) → AtMost (map.find nat_cmp q es) (map.get c q)
 found_below [] c q all = tt
 found_below (e ∷ es) c q all = elim (cases_Bool (eq_by_cmp nat_cmp q e.0)) [
@@ -133,7 +134,7 @@ module _ (es : List (ℕ × ℕ)) (W : Vector) (seen : (q : ℕ) → map.get W q
   pub is_below : (V : Vector) → (AllAtMost es (length es) V → Below W V) × (Below W V → AllAtMost es (length es) V)
   is_below V = (all_below V, each_below V)
 
--- an entry is at most a vector's where its number is at most the entry there
+-- an entry is at most a vector's if its number is at most the entry there
 pub at_most_entry : (w : Vector) (r n : ℕ) → 0 < n → n ≤ entry w r → AtMost (Some n) (map.get w r)
 at_most_entry w r n some le = entry_high (map.get w r) n some le
 
@@ -198,13 +199,13 @@ with_below : (v w : Vector) (es : List (ℕ × ℕ)) → Below v w → AllAtMost
 with_below v w [] low all = low
 with_below v w (e ∷ es) low all = topped_below (with_entries v es) w e.0 e.1 (with_below v w es low (λ k d lt. all (suc k) d (omega arith))) (all 0 e (omega arith))
 
--- the entry at a place in range is the same whatever stands for the others
+-- the element at a place in range does not depend on the default
 pub get_or-any : (es : List (ℕ × ℕ)) (k : ℕ) (x y : ℕ × ℕ) → k < length es → get_or es k x ≡ get_or es k y
 get_or-any [] k x y h = absurd (omega arith)
 get_or-any (e ∷ es) zero x y h = refl
 get_or-any (e ∷ es) (suc k) x y h = get_or-any es k x y (omega arith)
 
--- each entry of a list that rises is found
+-- each entry of a list that rises is found by its key
 found_there : (es : List (ℕ × ℕ)) → T (map.is_sorted nat_cmp es) → (k : ℕ) (d : ℕ × ℕ) → k < length es → map.find nat_cmp (get_or es k d).0 es ≡ Some (get_or es k d).1
 found_there es sorted k d lt = find_at_place nat_cmp (get_or es k d).0 es k lt
     (λ j x less. nat_cmp_total.antisymm (get_or es k d).0 (get_or es j x).0 ∙ ap ordering_reverse (ap (nat_cmp (get_or es j x).0) (ap (λ (e : ℕ × ℕ). e.0) (get_or-any es k d x lt)) ∙ rises nat_cmp es sorted j k x less lt))

@@ -1,7 +1,7 @@
--- The texts of many dots, and texts that are no dots'. Key results:
+-- Texts of several dots, and texts that are not such texts. Key results:
 --   rising        dots that pass the test of neighbours rise
---   entry_there   a text with an entry that is no dot's is no dots'
---   none_rising   nor is one of dots whose regions don't rise
+--   entry_there   a text with an entry that is no dot's is not a text of dots
+--   none_rising   dots whose regions do not rise have no text
 use Rattle.std.proofs.Common.{◌≡◌, ℕ, ◌<◌, Bool, true, false, nat_lt, List, [], ◌∷◌, length, get_or, map, sym, ap, ◌∙◌, subst, arith, refl}
 use Rattle.std.specs.List.{All, IsAllAdjacentAnswer, slice_split}
 use Rattle.std.proofs.lemmas.Bool.Decides.{nat_tests}
@@ -19,7 +19,7 @@ lt_from_test a b h = grind (arith, nat_tests)
 test_from_lt : (a b : ℕ) → a < b → ¬ (false ≡ nat_lt a b)
 test_from_lt a b lt h = grind (arith, nat_tests)
 
--- dots of the same texts are the same
+-- dots with the same texts are equal
 same_dots : (xs ys : List Dot) → All IsDot xs → All IsDot ys → map dot_text xs ≡ map dot_text ys → xs ≡ ys
 same_dots [] [] p q e = refl
 same_dots [] (y ∷ ys) p q e = absurd (cc)
@@ -30,7 +30,7 @@ same_dots (x ∷ xs) (y ∷ ys) p q e =
     ap (λ z. z ∷ xs) (parted_injective colon colon_parts x y (All-head IsDot x xs p) (All-head IsDot y ys q) first)
     ∙ ap (λ zs. y ∷ zs) (same_dots xs ys (All-tail IsDot x xs p) (All-tail IsDot y ys q) rest)
 
--- the answer of a test of neighbours
+-- what a test of neighbours returns: whether the regions of the dots rise
 abbrev pub Answers : List Dot → Bool → Type 0
 Answers dots answer = IsAllAdjacentAnswer (λ one next b. b ≡ nat_lt one.region next.region) dots answer
 

@@ -1,4 +1,4 @@
--- What raising and lowering an entry does, by whether the entry is below the number. Key results:
+-- Raising and lowering an entry, by whether the entry is below the number. Key results:
 --   raised_above, raised_within                   raising, by cases
 --   lowered_none, lowered_below, lowered_within   lowering, by cases
 --   entry_raised, entry_lowered, entry_empty      the entries afterwards
@@ -10,7 +10,7 @@ use Rattle.std.proofs.lemmas.Bool.{cases_lt}
 use Rattle.std.proofs.lemmas.Bool.Decides.{nat_tests}
 use Rattle.tk_vector.specs.VersionVector.{Vector, entry, raised, lowered}
 
--- two numbers tie exactly where they are equal
+-- two numbers compare as equal exactly if they are equal
 number_tied : (a b : ℕ) → is_eq (nat_cmp a b) ≡ (a == b)
 number_tied a b = grind (arith, nat_tests)
 
@@ -26,14 +26,14 @@ lt_from_cmp x y b e h = grind (arith, nat_tests)
 pub ge_from_cmp : (x y : ℕ) (b : Bool) → b ≡ is_lt (nat_cmp x y) → b ≡ false → y ≤ x
 ge_from_cmp x y b e h = grind (arith, nat_tests)
 
--- an entry that is there, and one that isn't
+-- the entry at a region that has one
 pub entry_at : (v : Vector) (r n : ℕ) → map.get v r ≡ Some n → entry v r ≡ n
 entry_at v r n h = ap (λ o. unwrap_or o 0) h
 
 pub entry_absent : (v : Vector) (r : ℕ) → map.get v r ≡ None → entry v r ≡ 0
 entry_absent v r h = ap (λ o. unwrap_or o 0) h
 
--- lowering, by whether the number is below the entry
+-- lowering to 0 removes the entry
 pub lowered_none : (v : Vector) (r n : ℕ) → n ≡ 0 → lowered v r n ≡ map.remove v r
 lowered_none v r n z = ap (λ k. lowered v r k) z
 
@@ -43,7 +43,7 @@ lowered_below v r n p h = grind (arith, nat_tests)
 pub lowered_within : (v : Vector) (r n : ℕ) → 0 < n → entry v r ≤ n → lowered v r n ≡ v
 lowered_within v r n p h = grind (arith, nat_tests)
 
--- the entries afterwards
+-- the entries after an insertion
 entry_insert : (v : Vector) (r n q : ℕ) → entry (map.insert v r n) q ≡ (if q == r then n else entry v q)
 entry_insert v r n q = ap (λ o. unwrap_or o 0) (map.get-insert nat_cmp_total v r n q) ∙ inside (eq_by_cmp nat_cmp q r) (q == r) (number_tied q r) (map.get v q)
   where

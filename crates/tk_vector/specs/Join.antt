@@ -1,15 +1,16 @@
--- Joining two values to the least one above both (own; the least upper bound of an order).
+-- Joining two values to the least one above both (own): the least upper bound of an order.
 --   IsJoin     the least value above two
---   JoinLaws   the order of the values, and which of them have a value above both
+--   JoinLaws   the laws of an order, and which of its values have a value above both
 use Rattle.std.specs.Prelude.{◌≡◌}
 
--- c is above a and b, and below every value that is
+-- c is above a and b, and below every value that is above both
 pub record IsJoin {V : Type 0} (Below : V → V → Type 0) (a b c : V) : Type 0 where
   pub left : Below a c
   pub right : Below b c
   pub least : (d : V) → Below a d → Below b d → Below c d
 
--- the values are ordered, and two agree exactly where some value is above both, and then there is a least one
+-- `Below` is an order; two values agree exactly if some value is above both, and then there is a
+-- least one
 pub record JoinLaws {V : Type 0} (Below Agree : V → V → Type 0) : Type 0 where
   pub reflexive : (a : V) → Below a a
   pub transitive : (a b c : V) → Below a b → Below b c → Below a c

@@ -1,6 +1,7 @@
--- The words of this crate:
---   Join            IsJoin, the least value above two; JoinLaws, what holds of an order with such values
---   VectorBytes     vector, how a vector is spelled in bytes; vector_bytes
+-- The definitions of this crate, by file:
+--   Join            IsJoin, the least value above two; JoinLaws, the laws of an order with such
+--                   values
+--   VectorBytes     vector, the format of a vector; vector_bytes, its bytes
 --   VectorOrder     Below, the order of vectors
 --   VectorText      IsVectorText, the text of a vector
 --   VersionVector   Vector, a finite map from regions to serials; entry, raised, lowered, Covers

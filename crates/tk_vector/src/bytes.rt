@@ -13,16 +13,19 @@ use std::alloc::{AllocError, Global};
 use tk_format::{ReadError, Reader, Spelled, Writer, read_all};
 use tk_handle::{RegionNumber, Serial};
 
-// What a vector begins with (own).
+// The bytes that begin a vector.
 const MAGIC: &[u8] = b"OTV1";
 
 impl VersionVector {
-    /// The vector's bytes: `OTV1`, the number of its entries in two bytes, and for each entry, ascending by region, the
-    /// region's number in two bytes and the serial in eight, high byte first (own). It fails only where memory is refused.
+    /// Returns the vector's bytes, or fails if memory runs out.
+    ///
+    /// The bytes are `OTV1`, the number of entries in two bytes, and the entries in ascending order
+    /// of region. An entry is the region's number in two bytes and the serial in eight, high byte
+    /// first.
     pub fn write(&self, alloc: Global) -> Result<Vec<u8>, AllocError>
         ensures spelled { IfOk result (λ bytes. bytes.items ≡ vector_bytes self.now) }
 
-        // So they can be read.
+        // This clause shows that the bytes can be read.
         ensures fits { OnOk result (vector.Fits self.now) }
     {
         let entries = self.entries();
@@ -33,19 +36,21 @@ impl VersionVector {
         Ok(writer.into_bytes())
     }
 
-    /// The vector that the bytes spell, all of the bytes.
+    /// Returns the vector that all of the bytes together spell.
     pub fn read(alloc: Global, bytes: &[u8]) -> Result<VersionVector, ReadError>
         ensures found { IfOk result (λ v. vector.Fits v × (bytes.now ≡ vector_bytes v)) }
-        ensures malformed { IsErrOf result ReadError.Malformed → (v : Vector) → vector.Fits v → bytes.now ≢ vector_bytes v }
+        ensures malformed { IsErrOf result ReadError.Malformed → (v : Vector) → vector.Fits v
+            → bytes.now ≢ vector_bytes v }
 
-        // The same, as what the format reads.
+        // This clause states the result by what the format reads.
         ensures exact { GetsAll (λ v. v) vector result bytes.now }
     {
         read_all(alloc, bytes)
     }
 }
 
-// How many entries there are: no more than regions, 65,535 at most, since no two entries share one.
+// Returns the number of entries: at most the number of regions, 65,535, since no two entries have
+// one region.
 fn count_of(entries: &[(RegionNumber, Serial)]) -> u16
     requires { T (map.is_sorted nat_cmp entries.now) }
     ensures { result ≡ length entries.now }
@@ -60,7 +65,8 @@ fn count_of(entries: &[(RegionNumber, Serial)]) -> u16
 }
 
 fn write_entries(entries: &[(RegionNumber, Serial)], writer: &mut Writer) -> Result<(), AllocError>
-    ensures written { OnOk result (writer.new ≡ writer.old ++ flat_map entry_field.spell entries.now) }
+    ensures written { OnOk result
+        (writer.new ≡ writer.old ++ flat_map entry_field.spell entries.now) }
     ensures fits { OnOk result (AllByRecursion entry_field.Fits entries.now) }
 {
     for entry in entries {
@@ -69,7 +75,7 @@ fn write_entries(entries: &[(RegionNumber, Serial)], writer: &mut Writer) -> Res
     Ok(())
 }
 
-// The region's number in two bytes, and the serial in eight.
+// Writes the region's number in two bytes, and the serial in eight.
 fn write_entry(region: RegionNumber, serial: Serial, writer: &mut Writer) -> Result<(), AllocError>
     ensures written { OnOk result (writer.new ≡ writer.old ++ entry_field.spell (region, serial)) }
     ensures fits { entry_field.Fits (region, serial) }
@@ -86,7 +92,8 @@ fn read_entry(reader: &mut Reader<'_>) -> Option<(RegionNumber, Serial)>
     Some((region, serial))
 }
 
-// As many entries as the count says, one by one: no memory is taken for those that it only claims.
+// Reads `count` entries one by one. Memory is taken only for entries that are read, and not for
+// those that a count merely claims.
 fn read_entries(
     alloc: Global,
     count: u16,
@@ -102,6 +109,7 @@ fn read_entries(
     Ok(entries)
 }
 
+// Reads the magic, the count, and as many entries.
 fn read_listed(
     alloc: Global,
     reader: &mut Reader<'_>,
@@ -113,7 +121,7 @@ fn read_listed(
     read_entries(alloc, count, reader)
 }
 
-// Whether the regions strictly rise.
+// Returns whether the regions strictly rise.
 fn is_rising(entries: &[(RegionNumber, Serial)]) -> bool
     ensures { result ≡ map.is_sorted nat_cmp entries.now }
 {

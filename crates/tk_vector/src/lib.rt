@@ -1,14 +1,19 @@
-//! Version vectors: to each region, up to which serial everything is known.
+//! Version vectors: to each region, the serial up to which every fact is known.
 //!
-//! A region asks another for what it lacks by its vector: it already knows the facts that the vector covers, those
-//! whose serial is at most their region's entry. A region without an entry counts as 0.
+//! A region sends its vector to request the facts that it lacks. It has the facts that the vector
+//! covers: those whose serial is at most the entry of their region. A region without an entry
+//! counts as 0.
 //!
-//! `VersionVector` is seen by contracts as a finite map from region numbers to serials. What `entry`, `raised`,
-//! `lowered` and `Covers` mean stands in specs/VersionVector, which texts `read_text` reads in specs/VectorText, and which
-//! bytes `write` writes and `read` reads in specs/VectorBytes.
+//! Contracts see a `VersionVector` as a finite map from region numbers to serials. The definitions
+//! are in `specs/`:
 //!
-//! The trait `Join` is that of values which grow, and are joined to the least value above both: vectors here, and
-//! further up the sets of facts. What it promises stands in specs/Join, and the order of vectors in specs/VectorOrder.
+//! - `VersionVector` defines `entry`, `raised`, `lowered` and `Covers`;
+//! - `VectorText` defines which texts `read_text` reads;
+//! - `VectorBytes` defines which bytes `write` writes and `read` reads;
+//! - `VectorOrder` defines the order of vectors.
+//!
+//! The trait `Join` is for values that grow and are joined to the least value above both: vectors
+//! here, and sets of facts in a crate above. `specs/Join` defines what the trait promises.
 #![tactic(auto)]
 
 mod bytes;

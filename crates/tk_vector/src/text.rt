@@ -1,7 +1,13 @@
 //! The text of a version vector.
 
 ghost use Rattle.std.specs.Prelude.{◌≡◌, IfOk, IsErrOf, OnOk};
-ghost use Rattle.tk_vector.specs.VectorText.{AreNoDots, IsDotsText, IsNoVectorText, IsVectorText, vector_of};
+ghost use Rattle.tk_vector.specs.VectorText.{
+  AreNoDots,
+  IsDotsText,
+  IsNoVectorText,
+  IsVectorText,
+  vector_of,
+};
 
 use crate::VersionVector;
 use std::alloc::{AllocError, Global};
@@ -9,8 +15,10 @@ use tk_format::ReadError;
 use tk_handle::Dot;
 
 impl VersionVector {
-    /// The vector of a text: `-` for the empty one, or entries `R:S` of rising regions that are joined by commas, in
-    /// decimals without leading zeros and with serials from 1.
+    /// Returns the vector of a text.
+    ///
+    /// The text is `-` for the empty vector, or entries `R:S` joined by commas. Regions rise, and
+    /// numbers are decimals without leading zeros, serials from 1.
     pub fn read_text(alloc: Global, text: &[u8]) -> Result<VersionVector, ReadError>
         ensures found { IfOk result (IsVectorText text.now) }
         ensures malformed { IsErrOf result ReadError.Malformed → IsNoVectorText text.now }
@@ -23,7 +31,7 @@ impl VersionVector {
     }
 }
 
-// The dots of rising regions that the text joins by commas.
+// Returns the dots that the text joins by commas. Their regions must rise.
 fn dots(alloc: Global, text: &[u8]) -> Result<Vec<Dot>, ReadError>
     ensures found { IfOk result (λ dots. IsDotsText text.now dots.items) }
     ensures malformed { IsErrOf result ReadError.Malformed → AreNoDots text.now }
@@ -39,7 +47,7 @@ fn dots(alloc: Global, text: &[u8]) -> Result<Vec<Dot>, ReadError>
     }
 }
 
-// Each dot's serial at its region.
+// Returns the vector that has each dot's serial at its region.
 fn raised_by(alloc: Global, dots: &[Dot]) -> Result<VersionVector, AllocError>
     ensures { IfOk result (λ vector. vector ≡ vector_of dots.now) }
 {

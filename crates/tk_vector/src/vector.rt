@@ -3,10 +3,10 @@
 use std::marker::Model;
 use tk_handle::{Dot, RegionNumber, Serial};
 
-/// One entry for each region of which something is known (own; version vectors as in replicated data types).
+/// A version vector: at most one entry for each region, the serial up to which its facts are known.
 #[derive(Drop)]
 pub struct VersionVector {
-    // Ascending by region.
+    // The entries, ascending by region.
     entries: Vec<(RegionNumber, Serial)>,
 }
 
@@ -25,7 +25,20 @@ impl Model for VersionVector {
     ghost invariant = { λ v. T (map.is_sorted nat_cmp v.entries.items) };
 }
 
-ghost use Rattle.std.specs.Prelude.{◌≡◌, ℕ, ◌≤◌, ◌↔◌, T, IsTrue, length, ⊤, IfOk, OnOk, OnErr, MatchResult};
+ghost use Rattle.std.specs.Prelude.{
+  ◌≡◌,
+  ℕ,
+  ◌≤◌,
+  ◌↔◌,
+  T,
+  IsTrue,
+  length,
+  ⊤,
+  IfOk,
+  OnOk,
+  OnErr,
+  MatchResult,
+};
 ghost use Rattle.std.specs.Ordering.{nat_cmp};
 ghost use Rattle.std.specs.FinMap as map;
 ghost use Rattle.tk_handle.specs.Ranges.{greatest_serial};
@@ -38,7 +51,7 @@ use crate::join::{Join, JoinError};
 use std::alloc::{AllocError, Global};
 
 impl VersionVector {
-    /// No entry: nothing is known.
+    /// Returns the empty vector, of a region that knows nothing.
     pub fn new(alloc: Global) -> VersionVector
         ensures { result ≡ map.empty }
     {
@@ -47,7 +60,7 @@ impl VersionVector {
         }
     }
 
-    // The vector of entries whose regions rise.
+    // Returns the vector of entries whose regions rise.
     pub(crate) fn of_sorted(entries: Vec<(RegionNumber, Serial)>) -> VersionVector
         requires { T (map.is_sorted nat_cmp entries.items) }
         ensures { result ≡ map.from_sorted entries.items }
@@ -55,14 +68,14 @@ impl VersionVector {
         VersionVector { entries }
     }
 
-    // The entries, ascending by region.
+    // Returns the entries, ascending by region.
     pub(crate) fn entries(&self) -> &[(RegionNumber, Serial)]
         ensures { result.now ≡ map.entries self.now }
     {
         self.entries.as_slice()
     }
 
-    /// The same entries once more.
+    /// Returns a copy of this vector. Fails if memory runs out.
     pub fn copy(&self, alloc: Global) -> Result<VersionVector, AllocError>
         ensures { IfOk result (λ copy. copy ≡ self.now) }
     {
@@ -70,7 +83,7 @@ impl VersionVector {
         Ok(VersionVector { entries })
     }
 
-    /// The region's entry, a serial, or 0 where there is none.
+    /// Returns the region's entry, or 0 if there is none.
     pub fn get(&self, region: RegionNumber) -> u64
         ensures value { result ≡ entry self.now region }
         ensures high { result ≤ greatest_serial }
@@ -81,8 +94,10 @@ impl VersionVector {
         }
     }
 
-    /// The region's entry becomes the greater of itself and this number, a serial, 1 to 9,223,372,036,854,775,807. A 0,
-    /// which says that nothing is known, changes nothing. Where memory is refused, the vector stays as it was.
+    /// Raises the region's entry to `serial`, if the entry is less.
+    ///
+    /// `serial` is at most 9,223,372,036,854,775,807. A 0 means that nothing is known, and changes
+    /// nothing. If memory runs out, the vector stays as it was.
     pub fn raise(&mut self, region: RegionNumber, serial: u64) -> Result<(), AllocError>
         requires { serial ≤ greatest_serial }
         ensures ok { OnOk result (self.new ≡ raised self.old region serial) }
@@ -102,7 +117,8 @@ impl VersionVector {
         Ok(())
     }
 
-    /// The region's entry becomes the lesser of itself and this number, and there is none for 0. It takes no memory.
+    /// Lowers the region's entry to `serial`, if the entry is greater. A 0 removes the entry. Takes
+    /// no memory.
     pub fn lower(&mut self, region: RegionNumber, serial: u64)
         requires { serial ≤ greatest_serial }
         ensures { self.new ≡ lowered self.old region serial }
@@ -121,7 +137,7 @@ impl VersionVector {
         }
     }
 
-    /// Whether the dot's serial is at most its region's entry.
+    /// Returns whether the vector covers the dot: the serial is at most its region's entry.
     pub fn covers(&self, dot: Dot) -> bool
         ensures { IsTrue result ↔ Covers self.now dot }
     {
@@ -129,15 +145,16 @@ impl VersionVector {
     }
 }
 
-// Where the region's entry stands, or where it would go.
+// Returns the place of the region's entry, or the place where it would go.
 fn place(entries: &[(RegionNumber, Serial)], region: RegionNumber) -> Result<usize, usize>
     requires { T (map.is_sorted nat_cmp entries.now) }
-    ensures { MatchResult result (IsAt nat_cmp entries.now region) (IsGap nat_cmp entries.now region) }
+    ensures { MatchResult result (IsAt nat_cmp entries.now region)
+        (IsGap nat_cmp entries.now region) }
 {
     entries.binary_search_by_key(&region, |&(region, _)| region)
 }
 
-// Whether each of the entries is at most the vector's.
+// Returns whether each of the entries is at most the vector's.
 fn each_below(entries: &[(RegionNumber, Serial)], vector: &VersionVector) -> bool
     ensures { IsTrue result ↔ AllAtMost entries.now (length entries.now) vector.now }
 {
@@ -149,7 +166,7 @@ fn each_below(entries: &[(RegionNumber, Serial)], vector: &VersionVector) -> boo
     true
 }
 
-// Raises each of the entries. Where memory is refused, the first of them are raised.
+// Raises each of the entries. If memory runs out, only the first of them are raised.
 fn raise_each(
     vector: &mut VersionVector,
     entries: &[(RegionNumber, Serial)],
@@ -183,7 +200,8 @@ impl Join for VersionVector {
     }
 }
 
-/// A law: version vectors are ordered by their entries, and any two have a least one above both (own).
+/// States a law: version vectors are ordered by their entries, and any two have a least one above
+/// both.
 pub fn vectors_join()
     ensures { JoinLaws Below (λ a b. ⊤) }
 {}

@@ -1,4 +1,6 @@
--- A bundle in bytes is read as its facts, and its facts spell it.
+-- A bundle in bytes is read as its facts, and its facts spell it. Key results:
+--   spelled_facts    bytes that spell facts are read as these facts
+--   readable_bytes   readable bytes are the spelling of their facts
 use Rattle.std.proofs.Common.{◌≡◌, ℕ, List, [], Some, unwrap_or, sym, ap, ◌∙◌}
 use Rattle.tk_format.specs.Format.{whole}
 use Rattle.tk_format.specs.Exact.{IsBytes, whole_takes, whole_again}
@@ -7,7 +9,7 @@ use Rattle.tk_bundle.specs.Bundle.{bundle, bundle_bytes}
 use Rattle.tk_bundle.specs.BundleLaws.{bundle_exact}
 use Rattle.tk_world.specs.Bundles.{facts_in_bytes, IsReadable}
 
--- bytes that spell facts are read as these
+-- bytes that spell facts are read as these facts
 pub spelled_facts : (bytes : List ℕ) (fs : Facts) → bundle.Fits fs → bytes ≡ bundle_bytes fs → whole bundle bytes ≡ Some fs
 spelled_facts bytes fs fits e = ap (whole bundle) e ∙ whole_again bundle bundle_exact fs fits
 

@@ -1,6 +1,7 @@
--- A step keeps a world consistent: there stays one set of all facts made. Key results:
---   step_keeps          what a step leaves is consistent; answer_keeps, of an answer
---   new_is_consistent   so is a world with nothing
+-- A step keeps a world consistent: all facts made stay in one set. Key results:
+--   step_keeps          a step leaves a consistent world
+--   answer_keeps        a request leaves a consistent world
+--   new_is_consistent   a world without regions and bundles is consistent
 use Rattle.std.proofs.Common.{◌≡◌, ℕ, zero, suc, ◌≤◌, true, false, cond, List, [], ◌∷◌, ◌++◌, length, take, slice_get, Option, Some, None, IfSome, refl, sym, ap, subst, ◌∙◌, arith}
 use Rattle.std.specs.Ordering.{nat_cmp, eq_by_cmp, is_eq}
 use Rattle.std.specs.Cmp.{nat_cmp_total}
@@ -49,7 +50,7 @@ region_of_get s n G r P here there =
     same_number : (a b : ℕ) → eq_by_cmp nat_cmp a b ≡ true → a ≡ b
     same_number a b h = grind (arith, nat_tests)
 
--- the other way
+-- the region that a look-up after an insertion finds, by its two cases
 of_region : (s : State) (n : ℕ) (G : FactSet) (r : ℕ) (F : FactSet) (P : Type 0) → (r ≡ n → G ≡ F → P) → (map.get s.regions r ≡ Some F → P) → map.get (map.insert s.regions n G) r ≡ Some F → P
 of_region s n G r F P here there h = region_of_get s n G r (λ o. o ≡ Some F → P) (λ e k. here e (some_injective G F k)) there h
 
@@ -71,7 +72,7 @@ consists_set s U n F G k at within grows = record {
   low = k.low;
 }
 
--- a new region with nothing in it
+-- a region without facts opens
 pub consists_opened : (s : State) (U : FactSet) (n : ℕ) → Consists s U → map.get s.regions n ≡ None → Consists (with_region s n map.empty) U
 consists_opened s U n k none = record {
   sound = k.sound;
@@ -86,7 +87,7 @@ consists_opened s U n k none = record {
   low = k.low;
 }
 
--- a new fact at a free dot of its own region
+-- a fact is made at a free dot of its own region
 pub consists_made : (s : State) (U : FactSet) (n : ℕ) (F : FactSet) (d : Dot) (b : Body) → Consists s U → map.get s.regions n ≡ Some F → d.region ≡ n → map.get F d ≡ None → d.serial ≤ s.settings.cap → refusal_of b ≡ None → Consists (with_region s n (map.insert F d b)) (map.insert U d b)
 consists_made s U n F d b k at own free under passes =
     let new : map.get U d ≡ None =
@@ -146,11 +147,11 @@ made_keeps s n F at (Some f) x k =
     let free : map.get F f.0 ≡ None = ap (map.get F) x.next ∙ next_is_free F n in
     (map.insert k.0 f.0 f.1, consists_made s k.0 n F f.0 f.1 k.1 at (ap (λ d. d.region) x.next) free x.under x.passes)
 
--- a region that grows is set to its set with these facts
+-- a region that grows holds its set with these facts
 grown_to : (old new : State) (n : ℕ) (F : FactSet) (seen fs : Facts) (g : Grows old n F seen new) → seen ≡ fs → new ≡ with_region old n (with_facts F fs)
 grown_to old new n F seen fs g same = g.changes ∙ ap (with_region old n) (joins_is_with_facts g.joins ∙ ap (with_facts F) same)
 
--- facts of U may be joined
+-- facts of U may be joined to a region's set
 joined_keeps : (old new : State) (n : ℕ) (F : FactSet) (seen : Facts) (g : Grows old n F seen new) → (k : IsConsistent old) → AllIn k.0 seen → IsConsistent new
 joined_keeps old new n F seen g k all =
     let within = k.1.held n F g.is_open in
@@ -200,7 +201,7 @@ step_keeps old (Deliver i n) NoRegion seen new step next k = subst IsConsistent 
 step_keeps old (Deliver i n) NoBundle seen new step next k = subst IsConsistent (sym step.2.1) k
 step_keeps old e o seen new step next k = absurd step
 
--- a world with nothing
+-- a world without regions and bundles is consistent
 pub new_is_consistent : (settings : SettingsFields) → settings.cap ≤ greatest_cap → IsConsistent (new_state settings)
 new_is_consistent settings low = (
   map.empty,

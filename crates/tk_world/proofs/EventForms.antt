@@ -1,4 +1,9 @@
--- The forms of events' fields: what fields that are given by their number and their texts are, and which have no event.
+-- The forms of events' fields: which event some fields have, given by their number and texts, and
+-- which fields have no event. Key results:
+--   text_at        the text at an index
+--   request_made   the event of a request's fields
+--   no_form        fewer than three fields are those of `open` or of no event
+--   line_bad       a line with an empty field has no event
 use Rattle.std.proofs.Common.{◌≡◌, ◌≢◌, ℕ, ◌<◌, ◌≤◌, ◌^◌, ◌-◌, List, [], ◌∷◌, length, get_or, slice_index_or, take, drop, codes, decimal, Option, Some, None, Bor, refl, sym, ap, ◌∙◌, subst, arith}
 use Rattle.std.specs.List.{All, AllWithin, HoldsAt, slice_split}
 use Rattle.std.proofs.lemmas.List.{take_rest, get_or-map, length-map}
@@ -22,7 +27,7 @@ use Rattle.tk_world.proofs.NumberTexts.{region_found, moment_found, no_region}
 abbrev pub text_at : List (Bor (List ℕ)) → ℕ → List ℕ
 text_at fields i = (slice_index_or fields i (record { ref_ptr = (0, 0); now = [] })).now
 
--- ---- between the two ways to give fields
+-- ---- the two ways to give fields
 
 pub one : (fs : List (Bor (List ℕ))) → length fs ≡ 1 → texts fs ≡ text_at fs 0 ∷ []
 one [] e = absurd (omega (arith, e))
@@ -58,14 +63,14 @@ count (x ∷ fs) (a ∷ l) e = let rest : texts fs ≡ l = cc in let n = count f
 first_letter : {a b : ℕ} {s t : List ℕ} → a ∷ s ≡ b ∷ t → a ≡ b
 first_letter e = cc
 
--- no request's first field is that of another event
+-- the first field of a request is not that of another event
 no_request_named : (name other : List ℕ) (form : List (List ℕ)) (request : List ℕ) → asked_of name form ≡ Some request → asked_of other form ≡ None → name ≢ other
 no_request_named name other form request h none same = some_is_not_none request (sym h ∙ ap (λ n. asked_of n form) same ∙ none)
   where
     some_is_not_none : (q : List ℕ) → ¬ (Some q ≡ None)
     some_is_not_none q h = cc
 
--- ---- fields of an event
+-- ---- the fields of an event
 
 module _ (fs : List (Bor (List ℕ))) where
   pub open_there : (region : ℕ) → length fs ≡ 2 → text_at fs 0 ≡ codes "open" → region_in (text_at fs 1) ≡ Some region → IsEventForm (texts fs) (Open region)
@@ -85,7 +90,7 @@ module _ (fs : List (Bor (List ℕ))) where
       let at_region = region_found (text_at fs 1) region at in
       (text_at fs 2, text_at fs 3, rw (four fs long, name, at_region.1) refl, at_region.0, is, place)
 
--- a request by its fields
+-- the event of a request's fields
 pub request_made : (name at then : List ℕ) (form : List (List ℕ)) (region now : ℕ) (words : List ℕ) (request : Vec ℕ Global)
     → region_in at ≡ Some region → moment_in then ≡ Some now → asked_of name form ≡ Some request.items → IsEventForm (name ∷ at ∷ then ∷ form) (Request region now words request)
 request_made name at then form region now words request at_is then_is is =
@@ -93,10 +98,10 @@ request_made name at then form region now words request at_is then_is is =
     let at_moment = moment_found then now then_is in
     (name, form, rw (at_region.1, at_moment.1) refl, at_region.0, at_moment.0, is)
 
--- ---- fields of no event
+-- ---- the fields of no event
 
 module _ (fs : List (Bor (List ℕ))) where
-  -- `open` alone has two fields
+  -- two fields are those of `open` or of no event
   pub open_bad : length fs ≡ 2 → region_in (text_at fs 1) ≡ None → IsNoEventForm (texts fs)
   open_bad long none (Open region) h =
       let parts = sym (two fs long) ∙ h.0 in
@@ -106,7 +111,7 @@ module _ (fs : List (Bor (List ℕ))) where
   open_bad long none (Pull region vector after) h = absurd (omega (arith, count fs _ h.2))
   open_bad long none (Deliver bundle region) h = absurd (omega (arith, count fs _ h.0))
 
-  -- three fields that begin with `deliver` are no other event's
+  -- three fields that begin with `deliver` are those of a delivery or of no event
   deliver_only : length fs ≡ 3 → text_at fs 0 ≡ codes "deliver" → ((bundle region : ℕ) → text_at fs 1 ≡ decimal bundle → bundle < 2 ^ 64 → text_at fs 2 ≡ decimal region → IsRegion region → ⊥) → IsNoEventForm (texts fs)
   deliver_only long name none (Open region) h = absurd (omega (arith, count fs _ h.0))
   deliver_only long name none (Request region now words request) h =
@@ -124,7 +129,7 @@ module _ (fs : List (Bor (List ℕ))) where
   pub deliver_bad_region : length fs ≡ 3 → text_at fs 0 ≡ codes "deliver" → region_in (text_at fs 2) ≡ None → IsNoEventForm (texts fs)
   deliver_bad_region long name none = deliver_only long name (λ bundle region same high at is. no_region (text_at fs 2) region none is at)
 
-  -- nor are four that begin with `pull`
+  -- four fields that begin with `pull` are those of a pull or of no event
   pull_only : length fs ≡ 4 → text_at fs 0 ≡ codes "pull" → ((region : ℕ) (vector : Vector) (after : Option Dot) → text_at fs 1 ≡ decimal region → IsRegion region → IsVectorText (text_at fs 2) vector → IsCursorText (text_at fs 3) after → ⊥) → IsNoEventForm (texts fs)
   pull_only long name none (Open region) h = absurd (omega (arith, count fs _ h.0))
   pull_only long name none (Request region now words request) h =
@@ -147,7 +152,7 @@ module _ (fs : List (Bor (List ℕ))) where
   pub pull_bad_cursor : length fs ≡ 4 → text_at fs 0 ≡ codes "pull" → IsNoCursorText (text_at fs 3) → IsNoEventForm (texts fs)
   pull_bad_cursor long name none = pull_only long name (λ region vector after at is entries place. none after place)
 
-  -- other fields, of which there are three or more, are a request's if they are an event's
+  -- three or more fields with another name are those of a request or of no event
   pub record IsOther : Type 0 where
     pub long : 3 ≤ length fs
     pub deliver : length fs ≡ 3 → text_at fs 0 ≢ codes "deliver"
@@ -169,7 +174,7 @@ module _ (fs : List (Bor (List ℕ))) where
       let parts = sym (three fs long) ∙ h.0 in
       other.deliver long (cc)
 
-  -- what follows the first three fields
+  -- the fields after the first three
   abbrev pub rest : List (Bor (List ℕ))
   rest = take (length fs - 3) (drop 3 fs)
 
@@ -179,7 +184,7 @@ module _ (fs : List (Bor (List ℕ))) where
   pub with_rest : 3 ≤ length fs → text_at fs 0 ∷ text_at fs 1 ∷ text_at fs 2 ∷ texts rest ≡ texts fs
   with_rest long = ap (λ l. text_at fs 0 ∷ text_at fs 1 ∷ text_at fs 2 ∷ texts l) (take_rest fs 3) ∙ sym (three_up fs long)
 
-  -- fewer are `open`'s
+  -- fewer than three fields are those of `open` or of no event
   pub no_form : length fs < 3 → (length fs ≡ 2 → text_at fs 0 ≢ codes "open") → IsNoEventForm (texts fs)
   no_form short other (Open region) h =
       let long = count fs _ h.0 in
@@ -199,7 +204,7 @@ module _ (line : List ℕ) (fs : List (Bor (List ℕ))) (parts : texts fs ≡ sl
     form = subst (λ fields. IsEventForm fields event) parts form;
   }
 
-  -- a line with an empty field
+  -- a line with an empty field has no event
   pub line_bad : (k : ℕ) × (k < length fs) × HoldsAt (λ f. length f.now ≡ 0) fs k → IsNoEventLine line
   line_bad (k, there, empty) event h =
       let d : Bor (List ℕ) = record { ref_ptr = (0, 0); now = [] } in

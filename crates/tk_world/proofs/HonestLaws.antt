@@ -1,5 +1,7 @@
--- A bundle that regions of one world made is refused by none of them. Key results: agrees_within, all_made. Key result
--- of taking it in: taken_prefix, what want of memory leaves.
+-- No region of a world refuses a bundle that a region of that world made. Key results:
+--   agrees_within   facts within one set agree
+--   all_made        a region has made each fact under its own number
+--   taken_prefix    running out of memory leaves the first facts of the bundle
 use Rattle.std.proofs.Common.{◌≡◌, ◌⊎◌, inl, inr, take, Err, ℕ, ◌<◌, ◌==◌, ◌&&◌, ◌||◌, Bool, false, nat_le, [], ◌∷◌, Some, refl, sym, ap, subst, ◌∙◌, arith}
 use Rattle.std.specs.FinMap as map
 use Rattle.std.proofs.lemmas.Bool.Decides.{nat_tests}
@@ -17,7 +19,7 @@ use Rattle.tk_region.specs.Taking.{AgreesWith, is_unmade, has_unmade, TakesFit}
 use Rattle.tk_region.specs.declared.take.TakeError.TheVariants.{Memory}
 use Rattle.tk_world.specs.State.{State, Consists}
 
--- what is part of one set agrees
+-- facts within one set agree
 pub agrees_within : (F U : FactSet) (fs : Facts) → IsSubset F U → AllIn U fs → AgreesWith F fs
 agrees_within F U [] within all = tt
 agrees_within F U (f ∷ fs) within all = (λ b h. some_injective b f.1 (sym (within f.0 b h) ∙ all.0), agrees_within F U fs within all.1)
@@ -29,7 +31,7 @@ before : (region r serial next : ℕ) → (region ≡ r → serial < next) → (
 before region r serial next h = grind (arith, nat_tests)
 
 module _ (s : State) (U : FactSet) (k : Consists s U) (r : ℕ) (F : FactSet) (at : map.get s.regions r ≡ Some F) where
-  -- a region holds all of its own facts
+  -- a region holds all facts under its own number
   own_held : (d : Dot) (b : Body) → map.get U d ≡ Some b → d.region ≡ r → map.get F d ≡ Some b
   own_held d b h own =
       let home = k.home d b h in
@@ -40,14 +42,14 @@ module _ (s : State) (U : FactSet) (k : Consists s U) (r : ℕ) (F : FactSet) (a
       let most = at_most_last_serial r (map.entries F) d b own (sym (map.get-entries F d) ∙ own_held d b h own) in
       omega arith
 
-  -- so it has made each fact under its number
+  -- a region has made each fact under its own number
   pub all_made : (fs : Facts) → AllIn U fs → has_unmade (next_dot F r) fs ≡ false
   all_made [] all = refl
   all_made (f ∷ fs) all = none_of (is_unmade (next_dot F r) f) (has_unmade (next_dot F r) fs)
       (before f.0.region r f.0.serial (next_serial F r) (own_before f.0 f.1 all.0))
       (all_made fs all.1)
 
--- for want of memory the first of its facts are in
+-- running out of memory leaves the first facts of the bundle
 pub taken_prefix : (p q : RegionFields) (next : Dot) (fs : Facts) → q.number ≡ p.number → q.settings ≡ p.settings → (facts_of q.facts ≡ facts_of p.facts) ⊎ TakesFit (facts_of p.facts) next fs (Err Memory) (facts_of q.facts) → (k : ℕ) × Gains p (take k fs) q
 taken_prefix p q next fs number settings (inl same) =
     (0, record { number = number; settings = settings; joins = subst (JoinsFacts (facts_of p.facts) []) (sym same) (joins_nothing (facts_of p.facts)) })

@@ -1,6 +1,8 @@
--- What a text says that is read as a number in a range. Key results:
---   region_found, moment_found   its number, and that number's range
---   no_region, no_moment         it is the decimal of none in the range
+-- A text that is read as a number in a range. Key results:
+--   region_found   a region's text is the decimal of a number in the range of regions
+--   moment_found   a moment's text is the decimal of a number in the range of moments
+--   no_region      a text that isn't read is the decimal of no region's number
+--   no_moment      a text that isn't read is the decimal of no moment
 use Rattle.std.proofs.Common.{◌≡◌, ◌≢◌, ℕ, ◌<◌, ◌^◌, Bool, true, false, cond, List, Option, Some, None, refl, sym, ap, ◌∙◌, arith, decimal}
 use Rattle.std.proofs.lemmas.Bool.Decides.{nat_tests}
 use Rattle.tk_format.specs.Decimals.{decimal_in}
@@ -11,7 +13,7 @@ use Rattle.tk_world.specs.Fields.{passing, region_in, moment_in}
 none_is_not_some : {A : Type 0} (x : A) → ¬ (None ≡ Some x)
 none_is_not_some x h = cc
 
--- what passes was there, and passes
+-- a number that passes is there and passes the test
 passed : (test : ℕ → Bool) (o : Option ℕ) (n : ℕ) → passing test o ≡ Some n → (o ≡ Some n) × (test n ≡ true)
 passed test None n e = absurd (none_is_not_some n e)
 passed test (Some m) n e = go (test m) refl e
@@ -20,7 +22,7 @@ passed test (Some m) n e = go (test m) refl e
     go true t e = let same : m ≡ n = cc in (e, ap test (sym same) ∙ t)
     go false t e = absurd (none_is_not_some n e)
 
--- and what is there and passes is given
+-- a number that is there and passes the test is the result
 given : (test : ℕ → Bool) (n : ℕ) → n < 2 ^ 64 → test n ≡ true → passing test (decimal_in (decimal n)) ≡ Some n
 given test n fits t = ap (passing test) (decimal_back n fits) ∙ ap (λ b. cond b (Some n) None) t
 

@@ -1,7 +1,13 @@
--- How a change of one part of a world's fields is a step of the world. Key results:
---   open_step, request_step, pull_step, deliver_step   what each part ends with is a step
---   held_at, region_at, sorted_after, settings_after, state_after   what stands at a place, and what a write there does to the fields
---   ended, ended_keeps                                 the end of each method of the world; answered, answered_keeps, of an answer
+-- A change of one part of a world's fields is a step of the world. Key results:
+--   open_step, request_step, pull_step, deliver_step   the result of each part is a step
+--   held_at, region_at, sorted_after                   the region at an index, and the order after
+--                                                      a write there
+--   settings_after, state_after                        the settings and the state after a write at
+--                                                      an index
+--   ended, ended_keeps                                 the end of each method is a step, and keeps
+--                                                      the invariant
+--   answered, answered_keeps                           the end of a request is a step, and keeps
+--                                                      the invariant
 use Rattle.std.proofs.Common.{◌≡◌, ℕ, T, List, [], take, slice_get, get_or, set, Option, Some, None, Ok, IsSome, IfSome, is_some, cond, Bool, true, false, inl, inr, refl, sym, ap, subst, ◌∙◌}
 use Rattle.std.specs.List.{insert}
 use Rattle.std.specs.Ordering.{nat_cmp, eq_by_cmp, is_eq}
@@ -43,14 +49,15 @@ use Rattle.tk_edge.proofs.StreamLaws.{all_heard, has_one_meaning}
 use Rattle.tk_world.proofs.ConsistencyLaws.{IsNextMade, IsNextOf, answer_keeps, step_keeps}
 use Rattle.tk_world.proofs.RegionLaws.{entry_at, entries_set, entries_insert, settings_at, settings_set, settings_insert}
 
--- an edge has the settings of another, is sealed where that is, and exchanges facts where that does
+-- an edge has the settings of another, is sealed if that one is, and exchanges facts if that one
+-- does
 abbrev IsAsOpen : EdgeFields → EdgeFields → Type 0
 IsAsOpen p q = (q.region.settings ≡ p.region.settings) × (q.sealed ≡ p.sealed) × (q.sync ≡ p.sync)
 
 abbrev pub state : SettingsFields → List (ℕ × FactSet) → List Facts → State
 state settings rs bs = record { settings = settings; regions = map.from_sorted rs; bundles = bs }
 
--- to put a value where it is changes nothing
+-- inserting the value that is already held changes nothing
 put_back : (m : map.FinMap nat_cmp FactSet) (r : ℕ) (F : FactSet) → map.get m r ≡ Some F → map.insert m r F ≡ m
 put_back m r F h = map.same_map nat_cmp_total map.nat_cmp-IsAntisymmetric _ _ (λ q.
     map.get-insert nat_cmp_total m r F q
@@ -72,11 +79,12 @@ some_is o x h = ap is_some h
 
 -- ---- steps of one region
 
--- the region with this set grows
+-- the region of this number grows by facts that its set is joined with
 abbrev grows_to : (s : State) (r : ℕ) (F : FactSet) (q : RegionFields) (fs : Facts) → map.get s.regions r ≡ Some F → JoinsFacts F fs q.facts → Grows s r F fs (with_region s r q.facts)
 grows_to s r F q fs at joins = record { is_open = at; grown = q.facts; joins = joins; changes = refl }
 
--- what is answered, by a region that is known by its number, its settings and its set
+-- the answer of a region that is known by its number, settings and set is an answer of the world's
+-- region
 answered_as : (s : State) (r : ℕ) (p q : RegionFields) (asked : AskedFields) (heard : Heard) (status : Status) (bytes : List ℕ) → p ≡ region_with s r p.facts
     → IsReplied (answer_by p asked.now asked.words heard) status bytes → JoinsFacts p.facts (listed (made_by p asked.now asked.words heard)) q.facts
     → IsReplied (answer_by (region_with s r p.facts) asked.now asked.words heard) status bytes
@@ -122,7 +130,7 @@ module _ (settings : SettingsFields) (rs : List EdgeFields) (bs : List Facts) (s
   absent_at gap = get_at_gap nat_cmp_total (entries_of rs) sorted r i gap
 
   module _ (gap : IsGap nat_cmp (entries_of rs) r i) (p : EdgeFields) (is : p ≡ record { region = record { number = r; settings = settings; facts = map.empty }; sync = false; sealed = false }) where
-    -- the entries with one of a new region
+    -- the entries after a region without facts is inserted
     opened_entries : (new : List EdgeFields) → new ≡ insert rs i p → entries_of new ≡ insert (entries_of rs) i (r, map.empty)
     opened_entries new h = ap entries_of h ∙ entries_insert rs i p ∙ ap (λ x. insert (entries_of rs) i (entry_of x)) is
 
@@ -158,13 +166,13 @@ module _ (settings : SettingsFields) (rs : List EdgeFields) (bs : List Facts) (s
     number_at : p.region.number ≡ r
     number_at = ap (λ (e : ℕ × FactSet). e.0) entry_is ∙ map.nat_cmp-IsAntisymmetric _ _ (at.tied (entry_of p))
 
-    -- it is the region of that number, with the world's settings
+    -- the edge at the index has the region of that number, with the world's settings
     pub region_at : p.region ≡ region_with (world settings rs bs) r p.region.facts
     region_at =
         ap (λ (n : ℕ). record { number = n; settings = p.region.settings; facts = p.region.facts }) number_at
         ∙ ap (λ (x : SettingsFields). record { number = r; settings = x; facts = p.region.facts }) (settings_at settings rs i p at.in_range is all).0
 
-    -- it isn't sealed, and regions exchange nothing over it
+    -- the edge at the index isn't sealed
     pub open_at : p.sealed ≡ false
     open_at = (settings_at settings rs i p at.in_range is all).1
 
@@ -186,13 +194,13 @@ module _ (settings : SettingsFields) (rs : List EdgeFields) (bs : List Facts) (s
           ap (λ es. state settings es bs) after
           ∙ ap (λ m. record { settings = settings; regions = m; bundles = bs }) (insert_at_place nat_cmp_total (entries_of rs) sorted r i at q.region.facts (entry_of p))
 
--- what a part leaves of its region's number and settings
+-- replying leaves the region's number, its settings, and whether the edge is open
 pub answered_number : (p q : EdgeFields) (asked : AskedFields) (o : Outcome) → Answers p asked o q → (q.region.number ≡ p.region.number) × IsAsOpen p q
 answered_number p q asked (Reply status bytes) a = (a.3.number, (a.3.settings, a.5, a.6))
 answered_number p q asked Memory a = (ap (λ (x : EdgeFields). x.region.number) a, (ap (λ (x : EdgeFields). x.region.settings) a, ap (λ (x : EdgeFields). x.sealed) a, ap (λ (x : EdgeFields). x.sync) a))
 answered_number p q asked o a = absurd a
 
--- where regions exchange nothing, what arrives is heard as anyone's
+-- if regions don't exchange facts, an arrival is heard
 heard_answer : (sync : Bool) (r new : RegionFields) (asked : AskedFields) (seen : AnswerFields) → sync ≡ false
     → ((came : Arrival) × IsArrival sync asked.bytes came × AnswersArrival r asked.now asked.words came (Ok seen) new)
     → (heard : Heard) × IsHeard asked.bytes heard × Told.Answers r asked.now asked.words heard (Ok seen) new
@@ -201,7 +209,7 @@ heard_answer sync r new asked seen off (came, is, told) =
     let found = all_heard asked.bytes came there in
     (found.0, subst (IsArrival false asked.bytes) found.1 there, subst (λ c. AnswersArrival r asked.now asked.words c (Ok seen) new) found.1 told)
 
--- and want of memory leaves all as it was
+-- if regions don't exchange facts, running out of memory leaves the region unchanged
 pub untouched : (p q : EdgeFields) (bytes : List ℕ) → p.sync ≡ false → q.sealed ≡ p.sealed → q.sync ≡ p.sync → IsShort p.sync (Some bytes) p.region q.region → q ≡ p
 untouched p q bytes off sealed sync (inl same) =
     ap (λ (r : RegionFields). record { region = r; sync = q.sync; sealed = q.sealed }) same
@@ -212,7 +220,7 @@ untouched p q bytes off sealed sync (inr (sent, arrives, taken, took)) = absurd 
     clash : false ≡ true → ⊥
     clash e = cc
 
--- what an edge answers, by what contracts see of what it is asked and of what it gives
+-- the answer of an edge, by what contracts see of the request and of the answer
 pub answered_part : (p q : EdgeFields) (given asked : AskedFields) (told seen : AnswerFields) → given ≡ asked → told ≡ seen → p.sync ≡ false → q.sealed ≡ p.sealed → q.sync ≡ p.sync
     → ((came : Arrival) × IsArrival p.sync given.bytes came × AnswersArrival p.region given.now given.words came (Ok seen) q.region)
     → (heard : Heard) × IsHeard asked.bytes heard × IsReplied (answer_by p.region asked.now asked.words heard) told.status told.bytes
@@ -232,12 +240,12 @@ taken_number p q fs o t sealed sync = absurd t
 
 -- ---- the end of a call
 
--- a step from what the fields were to what they are is one of the world
+-- a step from the fields before to the fields after is a step of the world
 pub ended : (s : State) (e : Event) (o : Outcome) (new' : State) → ((seen : Facts) × Step s e o seen new') → (new : State) → new ≡ new' → (old : State) → s ≡ old → (seen : Facts) × Step old e o seen new
 ended s e o new' step new same old seen_as =
     (step.0, subst (λ w. Step w e o step.0 new) seen_as (subst (λ w. Step s e o step.0 w) (sym same) step.1))
 
--- and so is an answer
+-- an answer from the fields before to the fields after is an answer of the world
 pub answered : (s : State) (r : ℕ) (asked : AskedFields) (o : Outcome) (new' : State) → ((seen : Facts) × IsAnswer s r asked o seen new') → (new : State) → new ≡ new' → (old : State) → s ≡ old → (seen : Facts) × IsAnswer old r asked o seen new
 answered s r asked o new' step new same old seen_as =
     (step.0, subst (λ w. IsAnswer w r asked o step.0 new) seen_as (subst (λ w. IsAnswer s r asked o step.0 w) (sym same) step.1))
@@ -245,6 +253,6 @@ answered s r asked o new' step new same old seen_as =
 pub answered_keeps : (s : State) (r : ℕ) (asked : AskedFields) (o : Outcome) (new' : State) → ((seen : Facts) × IsAnswer s r asked o seen new') → IsNextMade s r asked o → (new : State) → new ≡ new' → IsConsistent s → IsConsistent new
 answered_keeps s r asked o new' step next new same k = subst IsConsistent (sym same) (answer_keeps s r asked o step.0 new' step.1 next k)
 
--- and keeps the invariant
+-- a step keeps the invariant
 pub ended_keeps : (s : State) (e : Event) (o : Outcome) (new' : State) → ((seen : Facts) × Step s e o seen new') → IsNextOf s e o → (new : State) → new ≡ new' → IsConsistent s → IsConsistent new
 ended_keeps s e o new' step next new same k = subst IsConsistent (sym same) (step_keeps s e o step.0 new' step.1 next k)

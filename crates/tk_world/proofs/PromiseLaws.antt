@@ -1,7 +1,9 @@
--- What is promised of introspection, from what a run is. Key results:
---   tells_of_sets       each introspection reply of a run is told by the set that its region holds then
---   introspect_alike    equal sets introspect alike
---   revoked_inactive, families_inactive   what is never told again
+-- The promises about introspection, from what a run is. Key results:
+--   tells_of_sets       the reply to an introspection request depends only on the set that its
+--                       region holds then
+--   introspect_alike    regions with equal sets introspect alike
+--   revoked_inactive    a token that its client revoked is inactive
+--   families_inactive   each token of a family with a bad grant is inactive
 use Rattle.std.proofs.Common.{◌≡◌, ℕ, zero, suc, List, [], ◌∷◌, take, slice_get, Some, None, unwrap_or, refl, sym, ap, subst, ◌∙◌}
 use Rattle.std.specs.FinMap as map
 use Rattle.tk_handle.specs.declared.handle.Handle.{Handle}
@@ -54,9 +56,9 @@ run_at old (x ∷ es) (y ∷ os) (s ∷ ss) new run (suc i) e o he ho =
     record { mid = at.mid; next = at.next; seen = at.seen; run = (run.0, run.1, at.run); step = at.step }
 run_at old es os ss new run i e o he ho = absurd run
 
--- ---- equal facts introspect alike
+-- ---- regions with equal facts introspect alike
 
--- the cap is no matter, since no fact is made
+-- the reply to an introspection request doesn't depend on the cap, since no fact is made
 introspects : (r : RegionFields) (now : ℕ) (words : List ℕ) (request : RequestFields) → request.endpoint ≡ Introspect
     → answer_by r now words (Asked request) ≡ rendered (introspection_of (facts_of r.facts) now request) None None
 introspects r now words request h =
@@ -79,7 +81,7 @@ introspect_alike old es os ss new run i j q r now request s t one two a b same =
     let there = subst (λ G. IsReplied (rendered (introspection_of G now request) None None) t two) (sym same) (tells_of_sets old es os ss new run j r now request t two b) in
     (here.0 ∙ sym there.0, here.1 ∙ sym there.1)
 
--- ---- what is never told again
+-- ---- inactive tokens
 
 inactive : (F : FactSet) (h : Handle) → ((now : ℕ) → ¬ IsActive (map.get F) now h) → IsInactive F h
 inactive F h never now = (never now, λ sort asker. says_nothing F now sort asker h (never now))

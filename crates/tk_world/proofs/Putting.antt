@@ -1,8 +1,12 @@
--- What several writes leave, one after another. Key results:
---   front_all, front_more   the beginning of a text; after more of it
---   put_step, put_more      a write of bytes, and of pieces, goes on
---   put_failed, lines_failed   and ends early
---   lines_more, lines_end   so do the lines of events
+-- Several writes, one after another, and what they leave. Key results:
+--   front_all     all of a text is a beginning of it
+--   front_more    a text, then a beginning of the next
+--   put_step      a write of bytes goes on
+--   put_more      a write of pieces goes on
+--   put_failed    a write of pieces that fails leaves a beginning
+--   lines_more    a write of lines goes on
+--   lines_failed  a write of lines that fails leaves a beginning
+--   lines_end     the lines of all events or outcomes are all lines
 use Rattle.std.proofs.Common.{◌≡◌, ℕ, min, zero, suc, ◌+◌, ◌<◌, ◌≤◌, List, [], ◌∷◌, ◌++◌, length, take, drop, get_or, Option, Bor, refl, sym, ap, subst, ◌∙◌, append_assoc, append-nil, add-one, arith}
 use Rattle.std.proofs.KnownBytes.{Appends-trans}
 use Rattle.std.specs.Io.KnownBytes.{Appends}
@@ -16,7 +20,7 @@ use Rattle.tk_world.specs.Printed.{line_text, lines_text}
 pub front_all : {old new : Option (List ℕ)} {text : List ℕ} → Appends old new text → AppendsFront old new text
 front_all {old} {new} {text} all = record { front = text; rest = []; parts = sym (append-nil text); appended = all }
 
--- what was written before, and then a beginning of what comes next
+-- a text was written, then a beginning of the next
 pub front_more : (old mid new : Option (List ℕ)) (before text rest all : List ℕ) → Appends old mid before → AppendsFront mid new text → all ≡ before ++ (text ++ rest) → AppendsFront old new all
 front_more old mid new before text rest all done begun same = record {
   front = before ++ begun.front;
@@ -43,7 +47,7 @@ pub put_step : (old mid new : Option (List ℕ)) (bytes rest : List ℕ) (m n : 
 put_step old mid new bytes rest m n is before here =
     subst (Appends old new) (ap (λ (t : List ℕ). take m bytes ++ take n t) is ∙ take_further bytes m n) (Appends-trans old mid new (take m bytes) (take n rest) before here)
 
--- the first of the bytes were written
+-- the first bytes were written
 pub front_taken : (old new : Option (List ℕ)) (bytes : List ℕ) (m : ℕ) → Appends old new (take m bytes) → AppendsFront old new bytes
 front_taken old new bytes m done = record { front = take m bytes; rest = drop m bytes; parts = sym (take-append-drop m bytes); appended = done }
 
@@ -97,7 +101,7 @@ pub lines_failed : (old mid new : Option (List ℕ)) (es : List Event) (os : Lis
     → Appends old mid (lines_text (take i es) (take i os)) → AppendsFront mid new (line_text (e, o)) → AppendsFront old new (lines_text es os)
 lines_failed old mid new es os i e o l m p q before here = front_more old mid new _ (line_text (e, o)) _ _ before here (lines_at es os i e o l m p q)
 
--- as many as there are events, or outcomes, are all
+-- the lines of all events, or of all outcomes, are all lines
 pub lines_end : (es : List Event) (os : List Outcome) (n : ℕ) → min (length es) (length os) ≤ n → lines_text (take n es) (take n os) ≡ lines_text es os
 lines_end [] os n le = nothing n
   where

@@ -1,7 +1,11 @@
 -- The list of regions and the entries that it stands for. Key results:
---   searched_entries                          what a binary search for a number ends with
---   entry_at, entries_set, entries_insert     the entries of a list that is read, set at a place, inserted into
---   settings_at, settings_set, settings_insert   what the regions' settings are
+--   searched_entries   the result of a binary search for a number
+--   entry_at           the entry of the region at an index
+--   entries_set        the entries after a region is set at an index
+--   entries_insert     the entries after a region is inserted
+--   settings_at        the settings of the region at an index
+--   settings_set       the settings after a region is set at an index
+--   settings_insert    the settings after a region is inserted
 use Rattle.std.proofs.Common.{◌≡◌, ℕ, zero, suc, ◌<◌, T, false, List, [], ◌∷◌, length, get_or, set, Result, Ok, Err, MatchResult, refl, sym, ap, subst, ◌∙◌, arith}
 use Rattle.std.specs.List.{insert}
 use Rattle.std.specs.List.Sorted.{IsBinarySearchResult, IsSearchInRange, IsNonDecreasingBy}
@@ -20,7 +24,7 @@ use Rattle.tk_world.specs.Regions.{entry_of, entries_of, IsOpen, HaveSettings}
 many : (rs : List EdgeFields) → length (entries_of rs) ≡ length rs
 many rs = length-map rs entry_of
 
--- the entry of what stands at a place
+-- the entry of the region at an index
 pub entry_at : (rs : List EdgeFields) (i : ℕ) (p : EdgeFields) → i < length (entries_of rs) → p ≡ get_or rs i p → entry_of p ≡ get_or (entries_of rs) i (entry_of p)
 entry_at rs i p within is = ap entry_of is ∙ sym (get_or-map entry_of rs i p (entry_of p) (subst (λ n. i < n) (many rs) within))
 
@@ -35,7 +39,7 @@ entries_insert (r ∷ rs) (suc i) q = ap (λ es. entry_of r ∷ es) (entries_ins
 
 -- ---- a search by number
 
--- a region with that entry
+-- a region with this entry
 abbrev region_of : ℕ × FactSet → EdgeFields
 region_of e = record { region = record { number = e.0; settings = record { code = 0; access = 0; refresh = 0; family = 0; cap = 0 }; facts = e.1 }; sync = false; sealed = false }
 
@@ -49,7 +53,7 @@ at_entry [] i (n, F) = refl
 at_entry (r ∷ rs) zero (n, F) = refl
 at_entry (r ∷ rs) (suc i) (n, F) = at_entry rs i (n, F)
 
--- a search among regions is one among their entries
+-- a search among regions is a search among their entries
 by_entries : (rs : List EdgeFields) (k : ℕ) (r : Result ℕ ℕ) → IsBinarySearchResult (λ (edge : EdgeFields). nat_cmp edge.region.number k) rs r → IsBinarySearchResult (λ (e : ℕ × FactSet). nat_cmp e.0 k) (entries_of rs) r
 by_entries rs k (Ok i) here = λ d. subst (λ e. nat_cmp e.0 k ≡ Equal) (sym (at_entry rs i d)) (here (region_of d))
 by_entries rs k (Err i) parted = λ rises.

@@ -1,7 +1,7 @@
 -- What a step and a run do to each region's set. Key results:
 --   run_more    a run goes on by one step
 --   run_joins   after a run each region's set is its old one joined with what it has seen
---   run_alike   regions that began alike and have seen the same are alike
+--   run_alike   regions that began alike and have seen the same facts are alike
 --   run_counts  a run has one outcome for each event
 use Rattle.std.proofs.Common.{◌≡◌, ℕ, suc, ◌==◌, true, false, cond, if◌then◌else◌, List, [], ◌∷◌, ◌++◌, length, Some, None, unwrap_or, refl, sym, ap, subst, ◌∙◌, arith}
 use Rattle.std.specs.Ordering.{nat_cmp, eq_by_cmp}
@@ -18,21 +18,21 @@ use Rattle.tk_world.specs.declared.event.Outcome.TheVariants.{Opened, NumberTake
 use Rattle.tk_world.specs.State.{State, with_region, facts_in}
 use Rattle.tk_world.specs.World.{Grows, Step, Run, region_of, seen_by}
 
--- a region's own facts, where the event is its
+-- the facts that an event shows a region: no facts if the event is another region's
 abbrev pub shown : Event → Facts → ℕ → Facts
 shown e seen r = if region_of e == r then seen else []
 
 tied_is_equal : (a b : ℕ) → eq_by_cmp nat_cmp a b ≡ (b == a)
 tied_is_equal a b = grind (arith, nat_tests)
 
--- after one region is set, the others are as before
+-- after one region is set, the other regions are unchanged
 pub facts_in-with_region : (s : State) (n : ℕ) (F : FactSet) (r : ℕ) → facts_in (with_region s n F) r ≡ (if n == r then F else facts_in s r)
 facts_in-with_region s n F r =
     ap (λ o. unwrap_or o map.empty) (map.get-insert nat_cmp_total s.regions n F r)
     ∙ ap (λ t. unwrap_or (cond t (Some F) (map.get s.regions r)) map.empty) (tied_is_equal r n)
     ∙ elim (n == r) as (λ t. unwrap_or (cond t (Some F) (map.get s.regions r)) map.empty ≡ cond t F (facts_in s r)) [ true ↦ refl | false ↦ refl ]
 
--- where a step leaves the world as it was
+-- a step that leaves the world unchanged joins nothing
 same_after : (s new : State) (e : Event) (seen : Facts) (r : ℕ) → seen ≡ [] → new ≡ s → JoinsFacts (facts_in s r) (shown e seen r) (facts_in new r)
 same_after s new e seen r none same =
     subst (λ w. JoinsFacts (facts_in s r) (shown e seen r) (facts_in w r)) (sym same)
@@ -42,7 +42,7 @@ same_after s new e seen r none same =
 equal_from : (a b : ℕ) → a == b ≡ true → a ≡ b
 equal_from a b h = grind (arith, nat_tests)
 
--- where it adds facts to one region
+-- a step that adds facts to one region joins them to that region's set
 grown : (s new : State) (n : ℕ) (F : FactSet) (seen : Facts) → Grows s n F seen new → (r : ℕ) → JoinsFacts (facts_in s r) (if n == r then seen else []) (facts_in new r)
 grown s new n F seen g r =
     subst (λ G. JoinsFacts (facts_in s r) (if n == r then seen else []) G) (sym (ap (λ w. facts_in w r) g.changes ∙ facts_in-with_region s n g.grown r))
@@ -51,7 +51,7 @@ grown s new n F seen g r =
       | false ↦ λ _. joins_nothing (facts_in s r)
     ] refl)
 
--- a region that opens has nothing, as it had
+-- a region that opens holds no facts, and held no facts before
 opened : (s new : State) (n : ℕ) (seen : Facts) → map.get s.regions n ≡ None → seen ≡ [] → new ≡ with_region s n map.empty → (r : ℕ) → JoinsFacts (facts_in s r) (if n == r then seen else []) (facts_in new r)
 opened s new n seen none nothing is r =
     subst (λ G. JoinsFacts (facts_in s r) (if n == r then seen else []) G) (sym (ap (λ w. facts_in w r) is ∙ facts_in-with_region s n map.empty r))
@@ -61,7 +61,7 @@ opened s new n seen none nothing is r =
       | false ↦ λ _. joins_nothing (facts_in s r)
     ] refl))
 
--- a step shows its region what joins its set, and no other region anything
+-- a step joins the facts that it shows to its region's set, and leaves the other regions unchanged
 pub step_shows : (old : State) (e : Event) (o : Outcome) (seen : Facts) (new : State) → Step old e o seen new → (r : ℕ) → JoinsFacts (facts_in old r) (shown e seen r) (facts_in new r)
 step_shows old (Open n) Opened seen new step r = opened old new n seen step.0 step.1 step.2 r
 step_shows old (Open n) NumberTaken seen new step r = same_after old new (Open n) seen r step.1.0 step.1.1

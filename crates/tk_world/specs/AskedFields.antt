@@ -1,4 +1,4 @@
--- What contracts see of what a region is asked.
+-- What contracts see of what reaches a region: AskedFields.
 use Rattle.std.specs.Prelude.{ℕ, List}
 
 -- the moment, the six random words, and the bytes of the stream

@@ -1,4 +1,6 @@
 -- A bundle in bytes, seen as its facts (own).
+--   facts_in_bytes   the facts of the bundle that the bytes spell
+--   IsReadable       the bytes spell a bundle
 use Rattle.std.specs.Prelude.{◌≡◌, ℕ, List, [], Some, unwrap_or}
 use Rattle.tk_format.specs.Format.{whole}
 use Rattle.tk_store.specs.FactSet.{Facts}

@@ -1,16 +1,17 @@
--- The words of this crate, in reading order:
---   AskedFields   what contracts see of what a region is asked
---   Bundles       facts_in_bytes, the facts of a bundle; IsReadable
+-- The definitions of this crate, in reading order:
+--   AskedFields   AskedFields, what contracts see of what reaches a region
+--   Bundles       facts_in_bytes, the facts of a bundle; IsReadable, bytes that spell a bundle
 --   Regions       entries_of, the numbers and facts of regions
---   State         State, a world's regions and bundles; Consists, what holds of all of it
---   World         Step, Run, seen_by
---   Promises      what is promised of introspection: TellsOfSets, IntrospectAlike, RevokedInactive, FamiliesInactive
---   Parts         what the parts of a step may end with
---   Fields        the numbers and texts that a line's fields stand for
---   RequestLine   the requests of lines, whole and short
---   Line          the lines that are events, and the words that these draw
---   Put           what writing leaves of an output
---   Printed       what is printed of an event
+--   State         State, a world's regions and bundles; Consists, the set of all its facts
+--   World         Step, one event; Run, a list of them; seen_by, what a region has seen
+--   Promises      TellsOfSets, IntrospectAlike, RevokedInactive, FamiliesInactive: the promises
+--                 about introspection
+--   Parts         Opens, Answers, Pages, TakesFacts: how the parts of a step may end
+--   Fields        region_in, moment_in, IsCursorText: the numbers and texts of a line's fields
+--   RequestLine   asked_of, the requests of lines, whole and short
+--   Line          IsEventLine, the event of a line; HasWords, the random words of a request
+--   Put           Prints, what writing leaves of an output
+--   Printed       lines_text, the lines of outcomes
 pub mod AskedFields
 pub mod Bundles
 pub mod Fields

@@ -1,8 +1,25 @@
--- The lines that are events, and the words that these draw.
+-- The lines that are events, and the random words of requests.
 --   IsEventForm     the event of a line's fields
 --   IsEventLine     the event of a line
---   HasWords        the words of a request
-use Rattle.std.specs.Prelude.{◌≡◌, ◌≤◌, ◌<◌, ◌^◌, ⊤, ℕ, List, [], ◌∷◌, map, length, codes, decimal, Vec, Option, Some}
+--   HasWords        the random words of a request
+use Rattle.std.specs.Prelude.{
+  ◌≡◌,
+  ◌≤◌,
+  ◌<◌,
+  ◌^◌,
+  ⊤,
+  ℕ,
+  List,
+  [],
+  ◌∷◌,
+  map,
+  length,
+  codes,
+  decimal,
+  Vec,
+  Option,
+  Some,
+}
 use Rattle.std.specs.declared.alloc.Global.{Global}
 use Rattle.std.specs.Option.{option_map}
 use Rattle.std.specs.Borrow.{Bor}
@@ -18,41 +35,44 @@ use Rattle.tk_world.specs.RequestLine.{asked_of}
 abbrev pub IsPrintable : List ℕ → Type 0
 IsPrintable line = All (λ b. (32 ≤ b) × (b ≤ 126)) line
 
--- a `&[&str]` as texts
+-- the texts of a `&[&str]`
 abbrev pub texts : List (Bor (List ℕ)) → List (List ℕ)
 texts fields = map (λ field. field.now) fields
 
--- the bytes of what may be there
+-- the bytes of an optional vector
 abbrev pub bytes_in : Option (Vec ℕ Global) → Option (List ℕ)
 bytes_in bytes = option_map (λ v. v.items) bytes
 
--- `open R`, NAME R NOW and a request's form, `pull R VECTOR AFTER`, and `deliver B R`
+-- the event of a line's fields: `open R`, NAME R NOW and a request's form, `pull R VECTOR AFTER`,
+-- or `deliver B R`
 abbrev pub IsEventForm : List (List ℕ) → Event → Type 0
 IsEventForm fields (Open region) = (fields ≡ codes "open" ∷ decimal region ∷ []) × IsRegion region
 IsEventForm fields (Request region now words bytes) =
     (name : List ℕ) × (form : List (List ℕ)) × (fields ≡ name ∷ decimal region ∷ decimal now ∷ form)
     × IsRegion region × IsMoment now × (asked_of name form ≡ Some bytes.items)
 IsEventForm fields (Pull region vector after) =
-    (entries : List ℕ) × (place : List ℕ) × (fields ≡ codes "pull" ∷ decimal region ∷ entries ∷ place ∷ [])
+    (entries : List ℕ) × (place : List ℕ)
+    × (fields ≡ codes "pull" ∷ decimal region ∷ entries ∷ place ∷ [])
     × IsRegion region × IsVectorText entries vector × IsCursorText place after
 IsEventForm fields (Deliver bundle region) =
-    (fields ≡ codes "deliver" ∷ decimal bundle ∷ decimal region ∷ []) × (bundle < 2 ^ 64) × IsRegion region
+    (fields ≡ codes "deliver" ∷ decimal bundle ∷ decimal region ∷ []) × (bundle < 2 ^ 64)
+    × IsRegion region
 
--- they are no event's
+-- the fields have no event's form
 abbrev pub IsNoEventForm : List (List ℕ) → Type 0
 IsNoEventForm fields = (event : Event) → ¬ (IsEventForm fields event)
 
--- the line's fields are parted by single spaces, and have the event's form
+-- the line's fields, with single spaces between them, have the event's form
 pub record IsEventLine (line : List ℕ) (event : Event) : Type 0 where
   pub printable : IsPrintable line
   pub parted : All (λ field. 0 < length field) (slice_split is_space line)
   pub form : IsEventForm (slice_split is_space line) event
 
--- the line has another form, or a number out of its range
+-- the line has no event's form, or a number out of its range
 abbrev pub IsNoEventLine : List ℕ → Type 0
 IsNoEventLine line = (event : Event) → ¬ (IsEventLine line event)
 
--- a request has these words, and other events have none
+-- a request has these random words; other events have no words
 abbrev pub HasWords : List ℕ → Event → Type 0
 HasWords words (Open region) = ⊤
 HasWords words (Request region now drawn bytes) = drawn ≡ words

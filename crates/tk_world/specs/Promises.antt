@@ -1,12 +1,14 @@
--- What is promised of introspection in a world, over its runs and its states (RFC 7662, 2.2; RFC 7009, 2.1; RFC 6749, 4.1.2 and
--- 10.4). The promises are clauses of `World::run`.
---   held_before        what a region holds before an event of a run: its old set, joined with what it has seen until then
---   IsIntrospected     an event of a run is an introspection request to a region, at a moment, and this is its reply
---   TellsOfSets        each reply to an introspection request is told by the set that its region holds then, and nothing else
---   IntrospectAlike    where the sets are equal, so are the replies
---   IsInactive         a token is active at no moment, and told to nobody
+-- The promises about introspection in a world, over its runs and its states (RFC 7662, 2.2; RFC
+-- 7009, 2.1; RFC 6749, 4.1.2 and 10.4). The promises are clauses of `World::run`.
+--   held_before        what a region holds before an event of a run
+--   IsIntrospected     an event of a run is an introspection request with this reply
+--   TellsOfSets        the reply to an introspection request depends only on the set that its
+--                      region holds, the moment and the request
+--   IntrospectAlike    regions that hold equal sets give equal replies
+--   IsInactive         a token is active at no moment, and introspection reports it as inactive to
+--                      everyone
 --   RevokedInactive    a token that its client revoked is inactive
---   FamiliesInactive   so is each token of a family with a bad grant
+--   FamiliesInactive   each token of a family with a bad grant is inactive
 use Rattle.std.specs.Prelude.{◌≡◌, ℕ, List, Vec, take, slice_get, Some, None}
 use Rattle.std.specs.declared.alloc.Global.{Global}
 use Rattle.std.specs.FinMap as map
@@ -33,14 +35,16 @@ use Rattle.tk_edge.specs.Heard.{IsHeard}
 use Rattle.tk_edge.specs.declared.hear.Heard.TheVariants.{Asked}
 use Rattle.tk_world.specs.World.{seen_by, IsReplied}
 
--- ---- equal facts introspect alike
+-- ---- regions with equal facts introspect alike
 
--- what the region holds before the event of this place
+-- what the region holds before the event at this index: its old set joined with what it has seen
 abbrev pub held_before : State → List Event → List Facts → ℕ → ℕ → FactSet
 held_before old es ss i r = joined (facts_in old r) (set_of (seen_by r (take i es) (take i ss)))
 
--- the bytes of the event of this place ask the region to introspect, at the moment and with some words, and this is the reply
-pub record IsIntrospected (es : List Event) (os : List Outcome) (i r now : ℕ) (request : RequestFields) (status : Status) (reply : List ℕ) : Type 0 where
+-- the event at this index is an introspection request to the region, at the moment and with some
+-- random words, and this is its reply
+pub record IsIntrospected (es : List Event) (os : List Outcome) (i r now : ℕ)
+    (request : RequestFields) (status : Status) (reply : List ℕ) : Type 0 where
   pub words : List ℕ
   pub bytes : Vec ℕ Global
   pub written : Vec ℕ Global
@@ -50,31 +54,44 @@ pub record IsIntrospected (es : List Event) (os : List Outcome) (i r now : ℕ) 
   pub introspects : request.endpoint ≡ Introspect
   pub replied : written.items ≡ reply
 
--- the set, the moment and the request are all that a reply depends on
+-- the reply to an introspection request depends only on the set that its region holds, the moment
+-- and the request
 abbrev pub TellsOfSets : State → List Event → List Outcome → List Facts → Type 0
-TellsOfSets old es os ss = (i r now : ℕ) (request : RequestFields) (status : Status) (reply : List ℕ)
+TellsOfSets old es os ss =
+    (i r now : ℕ) (request : RequestFields) (status : Status) (reply : List ℕ)
     → IsIntrospected es os i r now request status reply
-    → IsReplied (rendered (introspection_of (held_before old es ss i r) now request) None None) status reply
+    → IsReplied (rendered (introspection_of (held_before old es ss i r) now request) None None)
+    status reply
 
--- two regions that hold equal sets, each when it is asked, give the same reply to the same request at the same moment: to the
--- same bytes, whatever the regions' numbers, lives and words
+-- Two regions that hold equal sets, each when its request arrives, give equal replies to equal
+-- requests at equal moments. The replies are equal byte for byte, whatever the regions' numbers,
+-- lives and random words.
 abbrev pub IntrospectAlike : State → List Event → List Outcome → List Facts → Type 0
-IntrospectAlike old es os ss = (i j q r now : ℕ) (request : RequestFields) (a b : Status) (one two : List ℕ)
+IntrospectAlike old es os ss =
+    (i j q r now : ℕ) (request : RequestFields) (a b : Status) (one two : List ℕ)
     → IsIntrospected es os i q now request a one → IsIntrospected es os j r now request b two
     → held_before old es ss i q ≡ held_before old es ss j r → (a ≡ b) × (one ≡ two)
 
--- ---- revoked and reused families are inactive
+-- ---- tokens of revoked and reused families are inactive
 
--- active at no moment, and introspection tells nothing of it, whoever asks
+-- the token is active at no moment, and introspection reports it as inactive to everyone
 abbrev pub IsInactive : FactSet → Handle → Type 0
-IsInactive F h = (now : ℕ) → (¬ IsActive (map.get F) now h) × ((sort : Sort) (asker : Dot) → told_to F now sort asker h ≡ inactive_reply)
+IsInactive F h =
+    (now : ℕ)
+    → (¬ IsActive (map.get F) now h)
+    × ((sort : Sort) (asker : Dot) → told_to F now sort asker h ≡ inactive_reply)
 
--- where a region holds facts by which the token's client revoked it
+-- a token is inactive in each region that holds facts by which its client revoked it
 abbrev pub RevokedInactive : State → Type 0
-RevokedInactive s = (r : ℕ) (F : FactSet) → IsSubset F (facts_in s r) → (h : Handle) → IsEnded (map.get F) h.id → IsInactive (facts_in s r) h
+RevokedInactive s =
+    (r : ℕ) (F : FactSet) → IsSubset F (facts_in s r) → (h : Handle) → IsEnded (map.get F) h.id
+    → IsInactive (facts_in s r) h
 
--- where a region holds facts by which a code or refresh token is bad (used twice, seen to be reused, revoked, or a code whose
--- subject signed out), each token under the same code
+-- A token is inactive in each region that holds facts by which a grant of its family is bad: used
+-- twice, seen to be reused, revoked, or a code whose subject signed out.
 abbrev pub FamiliesInactive : State → Type 0
-FamiliesInactive s = (r : ℕ) (F : FactSet) → IsSubset F (facts_in s r) → (h : Handle) (d c : Dot) → IsBad (links_in (map.get F)) (IsMarked (map.get F)) d
-    → IsUnder (links_in (map.get (facts_in s r))) d c → IsUnder (links_in (map.get (facts_in s r))) h.id.dot c → IsInactive (facts_in s r) h
+FamiliesInactive s =
+    (r : ℕ) (F : FactSet) → IsSubset F (facts_in s r) → (h : Handle) (d c : Dot)
+    → IsBad (links_in (map.get F)) (IsMarked (map.get F)) d
+    → IsUnder (links_in (map.get (facts_in s r))) d c
+    → IsUnder (links_in (map.get (facts_in s r))) h.id.dot c → IsInactive (facts_in s r) h

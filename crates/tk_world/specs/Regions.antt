@@ -1,6 +1,6 @@
 -- The regions of a world behind their edges, as a list whose numbers rise (own).
 --   entries_of    each number with its region's facts
---   HaveSettings  the regions have these settings, none is sealed, and they exchange nothing over their edges
+--   HaveSettings  the regions have these settings, none is sealed, and none serves `/sync/`
 use Rattle.std.specs.Prelude.{◌≡◌, ℕ, false, List, map}
 use Rattle.std.specs.List.{AllByRecursion}
 use Rattle.tk_store.specs.FactSet.{FactSet}
@@ -12,11 +12,15 @@ use Rattle.tk_edge.specs.EdgeFields.{EdgeFields}
 abbrev pub entry_of : EdgeFields → ℕ × FactSet
 entry_of edge = (edge.region.number, facts_of edge.region.facts)
 
+-- each number with its region's facts
 abbrev pub entries_of : List EdgeFields → List (ℕ × FactSet)
 entries_of edges = map entry_of edges
 
+-- the region has these settings, isn't sealed, and doesn't serve `/sync/`
 abbrev pub IsOpen : SettingsFields → EdgeFields → Type 0
-IsOpen settings edge = (edge.region.settings ≡ settings) × (edge.sealed ≡ false) × (edge.sync ≡ false)
+IsOpen settings edge =
+    (edge.region.settings ≡ settings) × (edge.sealed ≡ false) × (edge.sync ≡ false)
 
+-- all regions have these settings, none is sealed, and none serves `/sync/`
 abbrev pub HaveSettings : SettingsFields → List EdgeFields → Type 0
 HaveSettings settings edges = AllByRecursion (IsOpen settings) edges

@@ -1,94 +1,130 @@
--- The requests of a script's lines, as bytes: a whole one, and short ones that stand for a whole one (own; RFC 9112, 3 and 5;
--- RFC 7617, 2, for AUTH).
---   request_bytes   the bytes of a whole line, by its fields
---   request_of      those, where METHOD is one
---   asked_of        the request of any line, by its first field and by those behind the moment
-use Rattle.std.specs.Prelude.{ℕ, Bool, nat_le, ◌&&◌, List, [], ◌∷◌, ◌++◌, length, codes, decimal, Option, Some, None, if◌then◌else◌}
+-- The requests of a script's lines, as bytes: a whole one, and short forms for common ones (own;
+-- RFC 9112, 3 and 5; RFC 7617, 2, for AUTH).
+--   request_bytes   the bytes of a request, by the fields of its line
+--   request_of      the bytes of a request whose METHOD is capital letters
+--   asked_of        the request of any line, by its first field and the fields after the moment
+use Rattle.std.specs.Prelude.{
+  ℕ,
+  Bool,
+  nat_le,
+  ◌&&◌,
+  List,
+  [],
+  ◌∷◌,
+  ◌++◌,
+  length,
+  codes,
+  decimal,
+  Option,
+  Some,
+  None,
+  if◌then◌else◌,
+}
 use Rattle.std.specs.List.{concat, list_all}
 use Rattle.std.specs.Str.{bytes_eq}
 
--- ---- what a field gives, where `-` means none
+-- ---- the value of a field, which `-` leaves out
 
+-- the text of a field that is left out
 abbrev pub none_text : List ℕ
 none_text = codes "-"
 
+-- the body that a field stands for
 abbrev pub body_in : List ℕ → List ℕ
 body_in text = if bytes_eq text none_text then [] else text
 
 -- ---- whole lines
 
+-- the end of a line of the head
 abbrev pub line_end : List ℕ
 line_end = codes "\r\n"
 
--- a field of the head, where it is given
+-- the line of a field, unless its value is left out
 abbrev pub field_line : List ℕ → List ℕ → List ℕ
 field_line name value = if bytes_eq value none_text then [] else name ++ (value ++ line_end)
 
--- what a POST says of its body
+-- the lines of a POST that describe its body
 abbrev pub post_lines : List ℕ → List ℕ → List ℕ
 post_lines method body =
-    if bytes_eq method (codes "POST") then codes "Content-Type: application/x-www-form-urlencoded\r\nContent-Length: " ++ (decimal (length body) ++ line_end)
+    if bytes_eq method (codes "POST")
+    then codes "Content-Type: application/x-www-form-urlencoded\r\nContent-Length: "
+    ++ (decimal (length body) ++ line_end)
     else []
 
 -- the head, an empty line, and the body
 abbrev pub assembly : List ℕ → List ℕ → List ℕ → List ℕ → List ℕ → List ℕ
 assembly first auth subject post body = first ++ (auth ++ (subject ++ (post ++ (line_end ++ body))))
 
+-- the target, the version and the line of `Host`
 abbrev pub with_host : List ℕ → List ℕ
 with_host target = target ++ codes " HTTP/1.1\r\nHost: tokend\r\n"
 
+-- the request line and the line of `Host`
 abbrev pub first_lines : List ℕ → List ℕ → List ℕ
 first_lines method target = method ++ (codes " " ++ with_host target)
 
+-- the bytes of a request, by the fields of its line
 abbrev pub request_bytes : List ℕ → List ℕ → List ℕ → List ℕ → List ℕ → List ℕ
 request_bytes method target auth subject body =
-    assembly (first_lines method target) (field_line (codes "Authorization: Basic ") auth) (field_line (codes "X-Subject: ") subject) (post_lines method body) body
+    assembly (first_lines method target) (field_line (codes "Authorization: Basic ") auth)
+    (field_line (codes "X-Subject: ") subject) (post_lines method body) body
 
--- a method is capital letters
+-- the byte is a capital letter
 abbrev pub is_capital : ℕ → Bool
 is_capital b = nat_le 65 b && nat_le b 90
 
--- METHOD TARGET AUTH SUBJECT BODY
+-- the request of METHOD TARGET AUTH SUBJECT BODY, if METHOD is one or more capital letters
 abbrev pub request_of : List ℕ → List ℕ → List ℕ → List ℕ → List ℕ → Option (List ℕ)
 request_of method target auth subject body =
-    if list_all is_capital method then Some (request_bytes method target auth subject (body_in body)) else None
+    if list_all is_capital method
+    then Some (request_bytes method target auth subject (body_in body)) else None
 
+-- the request of the fields of a `req` line
 abbrev pub whole_of : List (List ℕ) → Option (List ℕ)
 whole_of (method ∷ target ∷ auth ∷ subject ∷ body ∷ []) = request_of method target auth subject body
 whole_of form = None
 
 -- ---- short lines
 
--- the text, where the value is given
+-- the text, unless the value is left out
 abbrev pub given : List ℕ → List ℕ → List ℕ
 given value text = if bytes_eq value none_text then [] else text
 
+-- the form that a `client` line posts
 abbrev pub client_form : List ℕ → List ℕ → List ℕ → List ℕ → List ℕ
 client_form kind secret scope uris = concat (
     codes "kind=" ∷ kind ∷ given secret (codes "&secret=") ∷ given secret secret
     ∷ codes "&scope=" ∷ scope ∷ codes "&redirects=" ∷ uris ∷ [])
 
--- KIND SECRET SCOPE URIS
+-- the request of a `client` line: KIND SECRET SCOPE URIS
 abbrev pub client_of : List (List ℕ) → Option (List ℕ)
-client_of (kind ∷ secret ∷ scope ∷ uris ∷ []) = request_of (codes "POST") (codes "/admin/client") none_text none_text (client_form kind secret scope uris)
+client_of (kind ∷ secret ∷ scope ∷ uris ∷ []) =
+    request_of (codes "POST") (codes "/admin/client") none_text none_text
+    (client_form kind secret scope uris)
 client_of form = None
 
--- ID
+-- the request of a `retire` line: ID
 abbrev pub retire_of : List (List ℕ) → Option (List ℕ)
-retire_of (id ∷ []) = request_of (codes "POST") (codes "/admin/retire") none_text none_text (concat (codes "client_id=" ∷ id ∷ []))
+retire_of (id ∷ []) =
+    request_of (codes "POST") (codes "/admin/retire") none_text none_text
+    (concat (codes "client_id=" ∷ id ∷ []))
 retire_of form = None
 
--- SUBJECT
+-- the request of a `signout` line: SUBJECT
 abbrev pub sign_out_of : List (List ℕ) → Option (List ℕ)
-sign_out_of (subject ∷ []) = request_of (codes "POST") (codes "/admin/signout") none_text none_text (concat (codes "subject=" ∷ subject ∷ []))
+sign_out_of (subject ∷ []) =
+    request_of (codes "POST") (codes "/admin/signout") none_text none_text
+    (concat (codes "subject=" ∷ subject ∷ []))
 sign_out_of form = None
 
--- ID
+-- the request of a `look` line: ID
 abbrev pub look_of : List (List ℕ) → Option (List ℕ)
-look_of (id ∷ []) = request_of (codes "GET") (concat (codes "/admin/client?client_id=" ∷ id ∷ [])) none_text none_text none_text
+look_of (id ∷ []) =
+    request_of (codes "GET") (concat (codes "/admin/client?client_id=" ∷ id ∷ [])) none_text
+    none_text none_text
 look_of form = None
 
--- by the first field
+-- the request of any line, by its first field and the fields after the moment
 abbrev pub asked_of : List ℕ → List (List ℕ) → Option (List ℕ)
 asked_of name form =
     if bytes_eq name (codes "req") then whole_of form

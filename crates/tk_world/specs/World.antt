@@ -1,12 +1,32 @@
 -- What an event may do to a world, and what a run of events is (own).
---   IsUnchanged   nothing was shown and nothing changed
+--   IsUnchanged   no fact was shown and nothing changed
 --   Grows         a region's set is joined with the facts that it was shown
 --   IsReplied     a reply has the status and the bytes of an answer
---   IsOpening, IsAnswer, IsPull, IsDelivery   what each event may do
---   Step          one event: its outcome, what it showed its region, and the new state
+--   IsOpening     how opening a region may end
+--   IsAnswer      how a request may end
+--   IsPull        how making a bundle may end
+--   IsDelivery    how a delivery may end
+--   Step          one event: its outcome, the facts that it showed its region, and the new state
 --   Run           one step after another
 --   seen_by       what a region has seen: the facts that it made and took in
-use Rattle.std.specs.Prelude.{◌≡◌, ℕ, ◌+◌, ◌==◌, if◌then◌else◌, List, [], ◌∷◌, ◌++◌, length, take, slice_get, Option, Some, None, IsSome}
+use Rattle.std.specs.Prelude.{
+  ◌≡◌,
+  ℕ,
+  ◌+◌,
+  ◌==◌,
+  if◌then◌else◌,
+  List,
+  [],
+  ◌∷◌,
+  ◌++◌,
+  length,
+  take,
+  slice_get,
+  Option,
+  Some,
+  None,
+  IsSome,
+}
 use Rattle.std.specs.FinMap as map
 use Rattle.tk_handle.specs.declared.dot.Dot.{Dot}
 use Rattle.tk_vector.specs.VersionVector.{Vector}
@@ -23,33 +43,47 @@ use Rattle.tk_edge.specs.declared.hear.Heard.{Heard}
 use Rattle.tk_world.specs.declared.event.Event.{Event}
 use Rattle.tk_world.specs.declared.event.Event.TheVariants.{Open, Request, Pull, Deliver}
 use Rattle.tk_world.specs.declared.event.Outcome.{Outcome}
-use Rattle.tk_world.specs.declared.event.Outcome.TheVariants.{Opened, NumberTaken, NoRegion, NoBundle, Reply, Bundle, Took, Memory}
+use Rattle.tk_world.specs.declared.event.Outcome.TheVariants.{
+  Opened,
+  NumberTaken,
+  NoRegion,
+  NoBundle,
+  Reply,
+  Bundle,
+  Took,
+  Memory,
+}
 use Rattle.tk_world.specs.AskedFields.{AskedFields}
 use Rattle.tk_world.specs.State.{State, with_region, with_bundle, region_with}
 
--- nothing was shown to a region, and nothing changed
+-- no fact was shown to a region, and nothing changed
 abbrev pub IsUnchanged : State → Facts → State → Type 0
 IsUnchanged old seen new = (seen ≡ []) × (new ≡ old)
 
--- the region's set F becomes its join with the facts, which agree with it; all else is as it was
+-- the region's set F becomes its join with the facts, which agree with F; the rest of the world is
+-- unchanged
 pub record Grows (old : State) (r : ℕ) (F : FactSet) (seen : Facts) (new : State) : Type 0 where
   pub is_open : map.get old.regions r ≡ Some F
   pub grown : FactSet
   pub joins : JoinsFacts F seen grown
   pub changes : new ≡ with_region old r grown
 
--- ---- what each event may do; no outcome but those that are named comes
+-- ---- what each event may do, and with which outcomes
 
+-- a reply has the status and the bytes of an answer
 abbrev pub IsReplied : AnswerFields → Status → List ℕ → Type 0
 IsReplied answer status bytes = (status ≡ answer.status) × (bytes ≡ answer.bytes)
 
+-- opening a region may end with a region without facts, a number that is taken, or no memory
 abbrev pub IsOpening : State → ℕ → Outcome → Facts → State → Type 0
-IsOpening old n Opened seen new = (map.get old.regions n ≡ None) × (seen ≡ []) × (new ≡ with_region old n map.empty)
+IsOpening old n Opened seen new =
+    (map.get old.regions n ≡ None) × (seen ≡ []) × (new ≡ with_region old n map.empty)
 IsOpening old n NumberTaken seen new = IsSome (map.get old.regions n) × IsUnchanged old seen new
 IsOpening old n Memory seen new = (map.get old.regions n ≡ None) × IsUnchanged old seen new
 IsOpening old n outcome seen new = ⊥
 
--- the reply is what the region answers to what the bytes mean, and the fact made for it, if there is one, joins the set
+-- the reply is the region's answer to the meaning of the bytes, and the fact made for it, if any,
+-- joins the set
 abbrev pub IsAnswer : State → ℕ → AskedFields → Outcome → Facts → State → Type 0
 IsAnswer old r asked (Reply status bytes) seen new =
     (F : FactSet) × Grows old r F seen new × (heard : Heard) × IsHeard asked.bytes heard
@@ -59,32 +93,38 @@ IsAnswer old r asked NoRegion seen new = (map.get old.regions r ≡ None) × IsU
 IsAnswer old r asked Memory seen new = IsSome (map.get old.regions r) × IsUnchanged old seen new
 IsAnswer old r asked outcome seen new = ⊥
 
--- the page of what the vector doesn't cover above the dot, if one is given, joins the list of bundles
+-- the page above the cursor of what the vector doesn't cover joins the list of bundles
 abbrev pub IsPull : State → ℕ → Vector → Option Dot → Outcome → Facts → State → Type 0
 IsPull old r v after (Bundle index count last more) seen new =
     (F : FactSet) × (map.get old.regions r ≡ Some F) × (seen ≡ [])
     × (let page = page_of F v after in
-    (index ≡ length old.bundles) × (count ≡ length page.facts) × (last ≡ page.last) × (more ≡ page.more) × (new ≡ with_bundle old page.facts))
+    (index ≡ length old.bundles) × (count ≡ length page.facts) × (last ≡ page.last)
+    × (more ≡ page.more) × (new ≡ with_bundle old page.facts))
 IsPull old r v after NoRegion seen new = (map.get old.regions r ≡ None) × IsUnchanged old seen new
 IsPull old r v after Memory seen new = IsSome (map.get old.regions r) × IsUnchanged old seen new
 IsPull old r v after outcome seen new = ⊥
 
--- the set joins all facts of the bundle, and grows by the number of those that it lacked; for want of memory, the first of them
+-- The set joins all facts of the bundle, and grows by the number that it lacked. If memory runs
+-- out, the set joins the first of the facts.
 abbrev pub IsDelivery : State → ℕ → ℕ → Outcome → Facts → State → Type 0
 IsDelivery old i r (Took n) seen new =
-    (F : FactSet) × (grows : Grows old r F seen new) × (slice_get old.bundles i ≡ Some seen) × (map.len F + n ≡ map.len grows.grown)
+    (F : FactSet) × (grows : Grows old r F seen new) × (slice_get old.bundles i ≡ Some seen)
+    × (map.len F + n ≡ map.len grows.grown)
 IsDelivery old i r Memory seen new =
-    (F : FactSet) × Grows old r F seen new × (fs : Facts) × (slice_get old.bundles i ≡ Some fs) × (k : ℕ) × (seen ≡ take k fs)
+    (F : FactSet) × Grows old r F seen new × (fs : Facts) × (slice_get old.bundles i ≡ Some fs)
+    × (k : ℕ) × (seen ≡ take k fs)
 IsDelivery old i r NoRegion seen new = (map.get old.regions r ≡ None) × IsUnchanged old seen new
-IsDelivery old i r NoBundle seen new = IsSome (map.get old.regions r) × (slice_get old.bundles i ≡ None) × IsUnchanged old seen new
+IsDelivery old i r NoBundle seen new =
+    IsSome (map.get old.regions r) × (slice_get old.bundles i ≡ None) × IsUnchanged old seen new
 IsDelivery old i r outcome seen new = ⊥
 
 -- ---- steps and runs
 
--- From old, the event may have this outcome, show its region these facts, and go on to new.
+-- From old, the event may have this outcome, show its region these facts, and lead to new.
 abbrev pub Step : State → Event → Outcome → Facts → State → Type 0
 Step old (Open n) outcome seen new = IsOpening old n outcome seen new
-Step old (Request r now words bytes) outcome seen new = IsAnswer old r (record { now = now; words = words; bytes = bytes.items }) outcome seen new
+Step old (Request r now words bytes) outcome seen new =
+    IsAnswer old r (record { now = now; words = words; bytes = bytes.items }) outcome seen new
 Step old (Pull r v after) outcome seen new = IsPull old r v after outcome seen new
 Step old (Deliver i r) outcome seen new = IsDelivery old i r outcome seen new
 
@@ -94,6 +134,7 @@ Run old [] [] [] new = new ≡ old
 Run old (e ∷ es) (o ∷ os) (s ∷ ss) new = (mid : State) × Step old e o s mid × Run mid es os ss new
 Run old es os ss new = ⊥
 
+-- the number of the region that an event is for
 abbrev pub region_of : Event → ℕ
 region_of (Open n) = n
 region_of (Request r now words bytes) = r

@@ -1,9 +1,10 @@
-//! What a region is asked: all that an answer depends on beside the facts and the place.
+//! What reaches a region: `Asked`, all that a reply depends on besides the facts and the region's
+//! number.
 
 use std::marker::Model;
 use tk_handle::Moment;
 
-/// The bytes of a stream, and what comes with them: the moment, and six random words.
+/// The bytes of a stream, with the moment and the six random words that come with them.
 #[derive(Drop)]
 pub(crate) struct Asked<'a> {
     pub(crate) now: Moment,

@@ -1,4 +1,4 @@
-//! A bundle that was made, kept as bytes and seen as its facts.
+//! A bundle that a region made: `MadeBundle`, kept as bytes and seen as its facts.
 
 use std::marker::Model;
 
@@ -28,7 +28,7 @@ ghost use Rattle.tk_bundle.specs.Bundle.{bundle, bundle_bytes};
 ghost use Rattle.tk_world.specs.Bundles.{facts_in_bytes, IsReadable};
 
 impl MadeBundle {
-    // The bundle of bytes that spell one.
+    // Wraps bytes that spell a bundle.
     pub(crate) fn new(bytes: Vec<u8>) -> MadeBundle
         requires { (fs : Facts) × bundle.Fits fs × (bytes.items ≡ bundle_bytes fs) }
         ensures { (fs : Facts) → bundle.Fits fs → bytes.items ≡ bundle_bytes fs → result ≡ fs }
@@ -36,7 +36,7 @@ impl MadeBundle {
         MadeBundle { bytes }
     }
 
-    // The bytes, which spell its facts.
+    // Returns the bundle's bytes.
     pub(crate) fn bytes(&self) -> &[u8]
         ensures spelled { result.now ≡ bundle_bytes self.now }
         ensures read { whole bundle result.now ≡ Some self.now }
@@ -45,7 +45,7 @@ impl MadeBundle {
     }
 }
 
-// Bytes that spell a bundle are the spelling of its facts.
+// Returns the bytes unchanged; its contract states that they spell the bundle's facts.
 fn spelling(bytes: &[u8]) -> &[u8]
     requires { IsReadable bytes.now }
     ensures spelled { result.now ≡ bundle_bytes (facts_in_bytes bytes.now) }

@@ -1,13 +1,13 @@
-//! What may happen to a world, and how it ends.
+//! The events that may happen to a world (`Event`), and how each ends (`Outcome`).
 
 use tk_handle::{Dot, Moment, RegionNumber};
 use tk_message::Status;
 use tk_vector::VersionVector;
 
-/// What may happen to a world.
+/// An event that may happen to a world.
 #[derive(Drop)]
 pub enum Event {
-    /// A region opens under this number, with no fact.
+    /// A region without facts opens under this number.
     Open(RegionNumber),
     /// The bytes of a stream that then ends reach a region at a moment, with six random words.
     Request {
@@ -16,13 +16,14 @@ pub enum Event {
         words: [u64; 6],
         bytes: Vec<u8>,
     },
-    /// A region makes a bundle of what the vector doesn't cover, above the dot, if one is given.
+    /// A region makes a bundle: the page above the cursor of the facts that the vector doesn't
+    /// cover.
     Pull {
         region: RegionNumber,
         vector: VersionVector,
         after: Option<Dot>,
     },
-    /// The bundle of this number, from 0 in the order of making, reaches a region.
+    /// A bundle reaches a region. Bundles are numbered from 0 in the order of making.
     Deliver {
         bundle: u64,
         region: RegionNumber,
@@ -40,13 +41,14 @@ pub enum Outcome {
     NoRegion,
     /// No bundle of the number has been made.
     NoBundle,
-    /// What the region answers, as the bytes of a reply of this status, with the fact that it made for it, if any, held. No
-    /// byte is answered with none.
+    /// The region's reply: its status and bytes. The fact made for the reply, if any, is already
+    /// stored. An empty request gets an empty reply.
     Reply {
         status: Status,
         bytes: Vec<u8>,
     },
-    /// The bundle's number, how many facts it has, the dot of its last one, and whether more follow it.
+    /// The bundle made: its number, how many facts it has, the dot of the last one, and whether
+    /// more facts follow.
     Bundle {
         index: u64,
         count: u16,
@@ -55,6 +57,7 @@ pub enum Outcome {
     },
     /// How many of the bundle's facts were new.
     Took(u16),
-    /// Memory was refused. Nothing changed, but a delivery may have added the first facts of its bundle.
+    /// Memory ran out. Nothing changed, except that a delivery may have added the first facts of
+    /// its bundle.
     Memory,
 }

@@ -1,16 +1,25 @@
-//! A world: regions, what they are asked, and the bundles between them.
+//! A world: regions, the requests that reach them, and the bundles between them.
 //!
-//! `World::run` takes a list of events and gives one outcome for each. Its contract is what the project is about:
-//! the outcomes and the new state are a run of the world, and each region's set of facts is its old one joined with
-//! what it has seen. Bundles may be lost, repeated, late or out of order.
+//! `World::run` takes a list of events and returns one outcome for each. Its contract has the
+//! promises of the project. The outcomes and the new state are a run of the world. Each region's
+//! set of facts is its old set joined with what it has seen. Bundles may be lost, repeated, late or
+//! out of order.
 //!
-//! Events and outcomes have a text each: a line that `Event::read_line` reads, and a line that `print_outcomes` writes.
+//! An event is a line that `Event::read_line` reads, and an outcome a line that `print_outcomes`
+//! writes.
 //!
-//! In reading order: `Event`, `Outcome`, `World`; inside, `region` is what a region is asked in a world. Of the lines: `line`,
-//! `request_line` (its request), `fields` (its numbers and texts); `print` over `put` (what a failed output leaves) and
-//! `reply_parts` (what a line tells of a reply). What the bytes of a
-//! request are answered is tk_edge's, and what taking in a bundle does tk_region's. The definitions are in specs/: `State` and `World` say what
-//! a step and a run are. The crate reads no clock and draws no words: they come with each event.
+//! In reading order:
+//!
+//! - `Event`, `Outcome`, `World`: what happens to a world. Inside, `region` handles what reaches
+//!   one region.
+//! - `line`: the lines of events. `request_line` makes their requests, `fields` reads their numbers
+//!   and texts.
+//! - `print`: the lines of outcomes. `put` writes them, `reply_parts` finds what they show of a
+//!   reply.
+//!
+//! tk_edge replies to the bytes of a request, and tk_region takes a bundle in. The definitions are
+//! in `specs/`: `State` and `World` define steps and runs. The crate reads no clock and draws no
+//! random words: each event brings them.
 #![tactic(auto)]
 
 mod asked;

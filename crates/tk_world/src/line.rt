@@ -1,8 +1,28 @@
-//! Events as lines of text.
+//! Events as lines of text: `Event::read_line` reads one.
 
-ghost use Rattle.std.specs.Prelude.{◌≡◌, ◌↔◌, ℕ, List, ◌∷◌, decimal, Some, IfOk, IfSome, IsErrOf, IsSome};
+ghost use Rattle.std.specs.Prelude.{
+  ◌≡◌,
+  ◌↔◌,
+  ℕ,
+  List,
+  ◌∷◌,
+  decimal,
+  Some,
+  IfOk,
+  IfSome,
+  IsErrOf,
+  IsSome,
+};
 ghost use Rattle.tk_handle.specs.Ranges.{IsMoment, IsRegion};
-ghost use Rattle.tk_world.specs.Line.{IsPrintable, texts, IsEventForm, IsNoEventForm, IsEventLine, IsNoEventLine, HasWords};
+ghost use Rattle.tk_world.specs.Line.{
+  IsPrintable,
+  texts,
+  IsEventForm,
+  IsNoEventForm,
+  IsEventLine,
+  IsNoEventLine,
+  HasWords,
+};
 ghost use Rattle.tk_world.specs.RequestLine.{asked_of};
 
 use crate::event::Event;
@@ -13,22 +33,34 @@ use tk_format::{ReadError, read_decimal};
 use tk_vector::VersionVector;
 
 impl Event {
-    /// The event of a line without its end, and with the words that a request draws. A line has one of these forms:
+    /// Reads the event of a line, given without its end. `words` are the random words of a request.
+    ///
+    /// A line has one of these forms:
     ///
     /// - `open R`
-    /// - `req R NOW METHOD TARGET AUTH SUBJECT BODY`, where `-` means none for the last three; AUTH is what follows `Basic `
-    /// - `client R NOW KIND SECRET SCOPE URIS`, where the secret `-` means none
+    /// - `req R NOW METHOD TARGET AUTH SUBJECT BODY`, where `-` leaves out each of the last three;
+    ///   AUTH follows `Basic ` in the header
+    /// - `client R NOW KIND SECRET SCOPE URIS`, where the secret `-` leaves it out
     /// - `retire R NOW ID`
     /// - `signout R NOW SUBJECT`
     /// - `look R NOW ID`
     /// - `pull R VECTOR AFTER`
     /// - `deliver B R`
     ///
-    /// Fields have one byte or more of `%x21-7E` and are parted by one space. R is the number of a region, NOW a moment,
-    /// B a bundle's number from 0; VECTOR is `-`, or entries `R:S` of rising regions that are joined by commas; AFTER is `-`, or
-    /// a dot `R:S`, above which the page begins. `req` gives the bytes of a head of HTTP/1.1, an empty line and the body, with
-    /// METHOD capital letters, and the four forms behind it stand for such a one. Malformed says that the line has none of
-    /// these forms, or a number out of its range.
+    /// Fields are one or more bytes of `%x21-7E`, with one space between two fields. Their values:
+    ///
+    /// - R is the number of a region, NOW a moment, B a bundle's number from 0.
+    /// - VECTOR is `-`, or entries `R:S` of rising regions, joined by commas.
+    /// - AFTER is `-`, or the dot `R:S` above which the page begins.
+    /// - METHOD is capital letters.
+    ///
+    /// A `req` line makes the head of an HTTP/1.1 request, an empty line and the body. The four
+    /// forms after `req` are short for a `req` line.
+    ///
+    /// # Errors
+    ///
+    /// `Malformed` if the line has none of these forms, or a number is out of its range. `Memory`
+    /// if memory runs out.
     pub fn read_line(alloc: Global, line: &[u8], words: [u64; 6]) -> Result<Event, ReadError>
         ensures found { IfOk result (IsEventLine line.now) }
         ensures words { IfOk result (HasWords words) }
@@ -42,7 +74,7 @@ impl Event {
     }
 }
 
-// The event of a line's fields.
+// Reads the event of a line's fields.
 fn event_of(alloc: Global, fields: &[&str], words: [u64; 6]) -> Result<Event, ReadError>
     ensures found { IfOk result (IsEventForm (texts fields.now)) }
     ensures words { IfOk result (HasWords words) }
@@ -81,7 +113,7 @@ fn event_of(alloc: Global, fields: &[&str], words: [u64; 6]) -> Result<Event, Re
     }
 }
 
-// The event of the fields of a request.
+// Reads the event of the fields of a request.
 fn request_event(
     alloc: Global,
     name: &str,
@@ -92,8 +124,10 @@ fn request_event(
 ) -> Result<Event, ReadError>
     ensures found { IfOk result (IsEventForm (name.now ∷ at.now ∷ now.now ∷ texts form.now)) }
     ensures words { IfOk result (HasWords words) }
-    ensures malformed { IsErrOf result ReadError.Malformed → (number time : ℕ) (request : List ℕ) → at.now ≡ decimal number → IsRegion number
-        → now.now ≡ decimal time → IsMoment time → ¬ (asked_of name.now (texts form.now) ≡ Some request) }
+    ensures malformed { IsErrOf result ReadError.Malformed → (number time : ℕ) (request : List ℕ)
+        → at.now ≡ decimal number → IsRegion number
+        → now.now ≡ decimal time → IsMoment time
+        → ¬ (asked_of name.now (texts form.now) ≡ Some request) }
 {
     let Some(region) = region(at) else {
         return Err(ReadError::Malformed);
@@ -112,7 +146,7 @@ fn request_event(
     }
 }
 
-// The text of a line that has no bytes but spaces and visible ASCII.
+// Returns the line as text if all its bytes are spaces and visible ASCII.
 fn printable(line: &[u8]) -> Option<&str>
     ensures text { IfSome result (λ text. text.now ≡ line.now) }
     ensures printable { IsSome result ↔ IsPrintable line.now }

@@ -1,4 +1,6 @@
-//! Outcomes as lines. Printing takes no memory, and where the output fails, what was written is the beginning of the lines.
+//! Prints outcomes as lines: `print_outcomes`.
+//!
+//! Printing takes no memory. An output that fails has the beginning of the lines.
 
 ghost use Rattle.std.specs.Prelude.{◌≡◌, ℕ, decimal};
 ghost use Rattle.std.specs.Option.{option_copied, option_map};
@@ -15,14 +17,20 @@ use std::io::{self, Write};
 use tk_handle::{Dot, RegionNumber};
 use tk_message::Status;
 
-/// Writes one line for each event, in order, as far as there are outcomes, without memory and without a flush. What it answers
-/// where the output fails is that failure, and the beginning of the lines was written.
+/// Writes one line for each event, in order, as far as there are outcomes.
+///
+/// The call takes no memory and doesn't flush.
+///
+/// # Errors
+///
+/// The output's own failure. The output then has the beginning of the lines.
 pub fn print_outcomes<O: Write>(
     output: &mut O,
     events: &[Event],
     outcomes: &[Outcome],
 ) -> io::Result<()>
-    ensures { Prints result (O.contents output.old) (O.contents output.new) (spec.lines_text events.now outcomes.now) }
+    ensures { Prints result (O.contents output.old) (O.contents output.new)
+        (spec.lines_text events.now outcomes.now) }
 {
     for at in 0..events.len().min(outcomes.len()) {
         match print_line(output, &events[at], &outcomes[at]) {
@@ -33,13 +41,15 @@ pub fn print_outcomes<O: Write>(
     Ok(())
 }
 
+// Writes the line of an event and its outcome.
 fn print_line<O: Write>(output: &mut O, event: &Event, outcome: &Outcome) -> io::Result<()>
-    ensures { Prints result (O.contents output.old) (O.contents output.new) (spec.line_text (event.now, outcome.now)) }
+    ensures { Prints result (O.contents output.old) (O.contents output.new)
+        (spec.line_text (event.now, outcome.now)) }
 {
     print_outcome(output, region_of(event), outcome)
 }
 
-// The region that an event is for.
+// Returns the number of the region that an event is for.
 fn region_of(event: &Event) -> RegionNumber
     ensures { result ≡ event_region event.now }
 {
@@ -51,12 +61,14 @@ fn region_of(event: &Event) -> RegionNumber
     }
 }
 
+// Writes the line of an outcome.
 fn print_outcome<O: Write>(
     output: &mut O,
     region: RegionNumber,
     outcome: &Outcome,
 ) -> io::Result<()>
-    ensures { Prints result (O.contents output.old) (O.contents output.new) (spec.outcome_line region outcome.now) }
+    ensures { Prints result (O.contents output.old) (O.contents output.new)
+        (spec.outcome_line region outcome.now) }
 {
     match outcome {
         Outcome::Opened => print_number(output, b"opened ", u64::from(region.number())),
@@ -75,15 +87,17 @@ fn print_outcome<O: Write>(
     }
 }
 
-// A line of a word and a number.
+// Writes a line of a word and a number.
 fn print_number<O: Write>(output: &mut O, word: &[u8], number: u64) -> io::Result<()>
-    ensures { Prints result (O.contents output.old) (O.contents output.new) (spec.numbered_line word.now number) }
+    ensures { Prints result (O.contents output.old) (O.contents output.new)
+        (spec.numbered_line word.now number) }
 {
     let mut digits = Buffer::new();
     put_all(output, &[word, digits.format(number).as_bytes(), b"\n"])
 }
 
-// A bundle's number, how many facts it has, the greatest dot of these, and whether more follow.
+// Writes a bundle's line: its number, how many facts it has, the greatest dot, and whether more
+// follow.
 fn print_bundle<O: Write>(
     output: &mut O,
     index: u64,
@@ -91,7 +105,8 @@ fn print_bundle<O: Write>(
     last: Option<Dot>,
     more: bool,
 ) -> io::Result<()>
-    ensures { Prints result (O.contents output.old) (O.contents output.new) (spec.bundle_line index count last more) }
+    ensures { Prints result (O.contents output.old) (O.contents output.new)
+        (spec.bundle_line index count last more) }
 {
     let (mut index_digits, mut count_digits) = (Buffer::new(), Buffer::new());
     let index = index_digits.format(index).as_bytes();
@@ -113,20 +128,24 @@ fn print_bundle<O: Write>(
     }
 }
 
+// Writes the line of a reply.
 fn print_reply<O: Write>(output: &mut O, status: Status, bytes: &[u8]) -> io::Result<()>
     ensures { Prints result (O.contents output.old) (O.contents output.new)
-        (spec.reply_line (status_number status) (spec.location_in bytes.now) (spec.body_in bytes.now)) }
+        (spec.reply_line (status_number status) (spec.location_in bytes.now)
+        (spec.body_in bytes.now)) }
 {
     print_parts(output, status.number(), location_in(bytes), body_in(bytes))
 }
 
+// Writes the parts of a reply's line.
 fn print_parts<O: Write>(
     output: &mut O,
     status: u16,
     location: Option<&[u8]>,
     body: &[u8],
 ) -> io::Result<()>
-    ensures { Prints result (O.contents output.old) (O.contents output.new) (spec.reply_line status (option_copied location.entry) body.now) }
+    ensures { Prints result (O.contents output.old) (O.contents output.new)
+        (spec.reply_line status (option_copied location.entry) body.now) }
 {
     let mut digits = Buffer::new();
     let status = digits.format(status).as_bytes();

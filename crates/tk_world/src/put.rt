@@ -1,17 +1,24 @@
-//! Writing that tells what a failure leaves: the beginning of what was to be written.
+//! Writes pieces to an output: `put_all`. A failed output has the beginning of the pieces.
 
 ghost use Rattle.std.specs.Prelude.{◌≡◌, ◌≤◌, drop, length};
 ghost use Rattle.tk_world.specs.Put.{Prints, joined_text};
 
 use std::io::{self, ErrorKind, Write};
 
-/// Writes the pieces one behind the other, in as many calls as the output wants, without memory and without a flush. A call that is
-/// interrupted is made again; one that takes nothing is `WriteZero`. Where the output fails, the beginning of the pieces was written.
+/// Writes the pieces in order, in as many calls as the output needs.
+///
+/// The call takes no memory and doesn't flush. An interrupted call is repeated.
+///
+/// # Errors
+///
+/// The output's own failure, or `WriteZero` if a call takes no byte. The output then has the
+/// beginning of the pieces.
 pub fn put_all<O: Write>(output: &mut O, pieces: &[&[u8]]) -> io::Result<()>
-    ensures { Prints result (O.contents output.old) (O.contents output.new) (joined_text pieces.now) }
+    ensures { Prints result (O.contents output.old) (O.contents output.new)
+        (joined_text pieces.now) }
 {
     for piece in pieces {
-        // Without a `?`, whose goals have no names of their own.
+        // A match instead of `?`, because the goals of `?` have no names.
         match put(output, piece) {
             Ok(()) => {}
             Err(error) => return Err(error),
@@ -20,7 +27,7 @@ pub fn put_all<O: Write>(output: &mut O, pieces: &[&[u8]]) -> io::Result<()>
     Ok(())
 }
 
-// Writes the bytes, in as many calls as the output wants. An interrupted call is made again.
+// Writes the bytes, in as many calls as the output needs. An interrupted call is repeated.
 fn put<O: Write>(output: &mut O, bytes: &[u8]) -> io::Result<()>
     ensures { Prints result (O.contents output.old) (O.contents output.new) bytes.now }
 {
@@ -43,7 +50,7 @@ fn put<O: Write>(output: &mut O, bytes: &[u8]) -> io::Result<()>
     Err(io::Error::from(ErrorKind::Other))
 }
 
-// The bytes behind the first so many.
+// Returns the bytes after the first `written` ones.
 #[tactic(auto, using(std::proofs::lemmas::List::take_rest))]
 pub(crate) fn rest_of(bytes: &[u8], written: usize) -> &[u8]
     requires { written ≤ length bytes.now }

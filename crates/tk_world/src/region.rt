@@ -1,4 +1,4 @@
-//! One region in a world: what a request and a delivery do to its edge.
+//! One region in a world: `answer` and `deliver` are what a request and a delivery do to its edge.
 
 ghost use Rattle.std.specs.Prelude.{◌≡◌, false};
 ghost use Rattle.tk_message.specs.Place.{next_in};
@@ -14,7 +14,7 @@ use std::alloc::Global;
 use tk_edge::Edge;
 use tk_region::TakeError;
 
-// Answers the bytes over the region's facts, and adds the fact made.
+// Replies to the bytes of a request, and adds the fact made for the reply.
 pub(crate) fn answer(alloc: Global, edge: &mut Edge, asked: &Asked<'_>) -> Outcome
     requires sealed { edge.old.sealed ≡ false }
     requires sync { edge.old.sync ≡ false }
@@ -29,7 +29,7 @@ pub(crate) fn answer(alloc: Global, edge: &mut Edge, asked: &Asked<'_>) -> Outco
     }
 }
 
-// Takes the bundle in, which holds nothing that the region may refuse.
+// Takes a bundle in. The region has no reason to refuse a bundle of its world.
 pub(crate) fn deliver(alloc: Global, edge: &mut Edge, bundle: &MadeBundle) -> Outcome
     requires agree { AgreesWith (facts_of edge.old.region.facts) bundle.now }
     requires made { has_unmade (next_in (place_in edge.old.region)) bundle.now ≡ false }

@@ -1,4 +1,4 @@
-//! The parts of a reply's bytes that are printed: where the client is sent, and the body.
+//! The parts of a reply that are printed: `location_in` and `body_in` find them in its bytes.
 
 ghost use Rattle.std.specs.Prelude.{◌≡◌, ◌≤◌, drop, length};
 ghost use Rattle.std.specs.Option.{option_copied};
@@ -6,7 +6,7 @@ ghost use Rattle.tk_world.specs.Printed as spec;
 
 use crate::put::rest_of;
 
-/// The value of the reply's `Location`.
+/// Returns the value of the reply's `Location`.
 pub(crate) fn location_in(bytes: &[u8]) -> Option<&[u8]>
     ensures { option_copied result ≡ spec.location_in bytes.now }
 {
@@ -16,7 +16,7 @@ pub(crate) fn location_in(bytes: &[u8]) -> Option<&[u8]>
     }
 }
 
-/// What stands behind the reply's empty line.
+/// Returns the bytes after the reply's empty line.
 pub(crate) fn body_in(bytes: &[u8]) -> &[u8]
     ensures { result.now ≡ spec.body_in bytes.now }
 {
@@ -26,14 +26,14 @@ pub(crate) fn body_in(bytes: &[u8]) -> &[u8]
     }
 }
 
-// What stands before the first of a mark.
+// Returns the bytes before the first occurrence of a mark, or all bytes without one.
 fn before<'a>(bytes: &'a [u8], mark: &[u8]) -> &'a [u8]
     ensures { result.now ≡ spec.before mark.now bytes.entry.now }
 {
     &bytes[..place_of(bytes, mark)]
 }
 
-// What stands behind it, if it is there.
+// Returns the bytes after the first occurrence of a mark, if there is one.
 fn behind<'a>(bytes: &'a [u8], mark: &[u8]) -> Option<&'a [u8]>
     ensures { option_copied result ≡ spec.behind mark.now bytes.entry.now }
 {
@@ -45,7 +45,7 @@ fn behind<'a>(bytes: &'a [u8], mark: &[u8]) -> Option<&'a [u8]>
     }
 }
 
-// The bytes from a place on.
+// Returns the bytes from an index on.
 #[tactic(auto, using(std::proofs::lemmas::List::drop_all))]
 fn rest_from(bytes: &[u8], at: usize) -> &[u8]
     ensures { result.now ≡ drop at bytes.now }
@@ -56,7 +56,7 @@ fn rest_from(bytes: &[u8], at: usize) -> &[u8]
     &[]
 }
 
-// Where a mark first stands, or the length.
+// Returns the index of the first occurrence of a mark, or the length.
 fn place_of(bytes: &[u8], mark: &[u8]) -> usize
     ensures place { result ≡ spec.place_of mark.now bytes.now }
     ensures within { result ≤ length bytes.now }

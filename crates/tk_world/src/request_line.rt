@@ -1,4 +1,5 @@
-//! The requests of lines: a whole one, and short ones that stand for a whole one.
+//! The requests of lines, as bytes: a whole one, and short forms for common ones. `asked` makes
+//! both.
 
 ghost use Rattle.std.specs.Prelude.{◌≡◌, IfOk, string_bytes};
 ghost use Rattle.std.specs.List.{list_all};
@@ -9,9 +10,15 @@ ghost use Rattle.tk_world.specs.RequestLine as spec;
 use itoa::Buffer;
 use std::alloc::{AllocError, Global};
 
-/// The request of a line by its first field, and by those behind the moment: of one of the forms of
-/// [`Event::read_line`](crate::Event::read_line) that are requests; None where there is none. A POST says how long its body is. What is put into the body or the
-/// query of a whole line is put as it stands. An error where memory is refused.
+/// Returns the request of a line, given its first field and the fields after the moment.
+///
+/// The forms are those of [`Event::read_line`](crate::Event::read_line) that are requests. `None`
+/// means that the fields have none of these forms. A POST states the length of its body. Fields are
+/// copied into the body or the query as they are, without encoding.
+///
+/// # Errors
+///
+/// `AllocError` if memory runs out.
 pub(crate) fn asked(alloc: Global, name: &str, form: &[&str]) -> Result<Option<Vec<u8>>, AllocError>
     ensures { IfOk result (λ request. bytes_in request ≡ spec.asked_of name.now (texts form.now)) }
 {
@@ -33,15 +40,16 @@ pub(crate) fn asked(alloc: Global, name: &str, form: &[&str]) -> Result<Option<V
     Ok(None)
 }
 
-// Whether a text is this one.
+// Returns whether two texts are equal.
 fn is(text: &str, name: &str) -> bool
     ensures { result ≡ bytes_eq text.now name.now }
 {
     text == name
 }
 
-// ---- the forms
+// ---- the forms of requests
 
+// Makes the request of a `req` line.
 fn whole(alloc: Global, form: &[&str]) -> Result<Option<Vec<u8>>, AllocError>
     ensures { IfOk result (λ request. bytes_in request ≡ spec.whole_of (texts form.now)) }
 {
@@ -53,6 +61,7 @@ fn whole(alloc: Global, form: &[&str]) -> Result<Option<Vec<u8>>, AllocError>
     }
 }
 
+// Makes the request of a `client` line.
 fn client(alloc: Global, form: &[&str]) -> Result<Option<Vec<u8>>, AllocError>
     ensures { IfOk result (λ request. bytes_in request ≡ spec.client_of (texts form.now)) }
 {
@@ -65,6 +74,7 @@ fn client(alloc: Global, form: &[&str]) -> Result<Option<Vec<u8>>, AllocError>
     }
 }
 
+// Returns the form that a `client` line posts.
 fn client_form(
     alloc: Global,
     kind: &str,
@@ -72,7 +82,8 @@ fn client_form(
     scope: &str,
     uris: &str,
 ) -> Result<String, AllocError>
-    ensures { IfOk result (λ text. string_bytes text ≡ spec.client_form kind.now secret.now scope.now uris.now) }
+    ensures { IfOk result (λ text. string_bytes text
+        ≡ spec.client_form kind.now secret.now scope.now uris.now) }
 {
     [
         "kind=",
@@ -87,7 +98,7 @@ fn client_form(
     .concat(alloc)
 }
 
-// The text, where the value is given.
+// Returns the text unless the value is `-`.
 fn given<'a>(value: &str, text: &'a str) -> &'a str
     ensures { result.now ≡ spec.given value.now text.now }
 {
@@ -97,6 +108,7 @@ fn given<'a>(value: &str, text: &'a str) -> &'a str
     text
 }
 
+// Makes the request of a `retire` line.
 fn retire(alloc: Global, form: &[&str]) -> Result<Option<Vec<u8>>, AllocError>
     ensures { IfOk result (λ request. bytes_in request ≡ spec.retire_of (texts form.now)) }
 {
@@ -109,6 +121,7 @@ fn retire(alloc: Global, form: &[&str]) -> Result<Option<Vec<u8>>, AllocError>
     }
 }
 
+// Makes the request of a `signout` line.
 fn sign_out(alloc: Global, form: &[&str]) -> Result<Option<Vec<u8>>, AllocError>
     ensures { IfOk result (λ request. bytes_in request ≡ spec.sign_out_of (texts form.now)) }
 {
@@ -121,6 +134,7 @@ fn sign_out(alloc: Global, form: &[&str]) -> Result<Option<Vec<u8>>, AllocError>
     }
 }
 
+// Makes the request of a `look` line.
 fn look(alloc: Global, form: &[&str]) -> Result<Option<Vec<u8>>, AllocError>
     ensures { IfOk result (λ request. bytes_in request ≡ spec.look_of (texts form.now)) }
 {
@@ -133,8 +147,9 @@ fn look(alloc: Global, form: &[&str]) -> Result<Option<Vec<u8>>, AllocError>
     }
 }
 
-// ---- a whole request
+// ---- the bytes of a request
 
+// Returns the bytes of a request if its method is one or more capital letters.
 fn request_of(
     alloc: Global,
     method: &str,
@@ -143,7 +158,8 @@ fn request_of(
     subject: &str,
     body: &str,
 ) -> Result<Option<Vec<u8>>, AllocError>
-    ensures { IfOk result (λ request. bytes_in request ≡ spec.request_of method.now target.now auth.now subject.now body.now) }
+    ensures { IfOk result (λ request. bytes_in request
+        ≡ spec.request_of method.now target.now auth.now subject.now body.now) }
 {
     if !is_method(method.as_bytes()) {
         return Ok(None);
@@ -153,12 +169,14 @@ fn request_of(
     Ok(Some(bytes))
 }
 
+// Returns whether a name is one or more capital letters.
 fn is_method(name: &[u8]) -> bool
     ensures { result ≡ list_all spec.is_capital name.now }
 {
     name.iter().all(|b| b'A' <= *b && *b <= b'Z')
 }
 
+// Returns the body that a field stands for: no bytes for `-`.
 fn body_in(text: &str) -> &[u8]
     ensures { result.now ≡ spec.body_in text.now }
 {
@@ -168,6 +186,7 @@ fn body_in(text: &str) -> &[u8]
     text.as_bytes()
 }
 
+// Returns the bytes of a request, by the fields of its line.
 fn request_bytes(
     alloc: Global,
     method: &str,
@@ -176,7 +195,8 @@ fn request_bytes(
     subject: &str,
     body: &[u8],
 ) -> Result<Vec<u8>, AllocError>
-    ensures { IfOk result (λ bytes. bytes.items ≡ spec.request_bytes method.now target.now auth.now subject.now body.now) }
+    ensures { IfOk result (λ bytes. bytes.items
+        ≡ spec.request_bytes method.now target.now auth.now subject.now body.now) }
 {
     let first = first_lines(alloc, method.as_bytes(), target.as_bytes())?;
     let auth = field_line(alloc, "Authorization: Basic ", auth)?;
@@ -185,6 +205,7 @@ fn request_bytes(
     assembled(first, &auth, &subject, &post, body)
 }
 
+// Returns the request line and the line of `Host`.
 fn first_lines(alloc: Global, method: &[u8], target: &[u8]) -> Result<Vec<u8>, AllocError>
     ensures { IfOk result (λ bytes. bytes.items ≡ spec.first_lines method.now target.now) }
 {
@@ -195,6 +216,7 @@ fn first_lines(alloc: Global, method: &[u8], target: &[u8]) -> Result<Vec<u8>, A
     Ok(bytes)
 }
 
+// Returns the target, the version and the line of `Host`.
 fn with_host(alloc: Global, target: &[u8]) -> Result<Vec<u8>, AllocError>
     ensures { IfOk result (λ bytes. bytes.items ≡ spec.with_host target.now) }
 {
@@ -203,7 +225,7 @@ fn with_host(alloc: Global, target: &[u8]) -> Result<Vec<u8>, AllocError>
     Ok(bytes)
 }
 
-// What stands behind the first lines.
+// Joins the first lines of a request with the rest of the head and the body.
 fn assembled(
     first: Vec<u8>,
     auth: &[u8],
@@ -211,7 +233,8 @@ fn assembled(
     post: &[u8],
     body: &[u8],
 ) -> Result<Vec<u8>, AllocError>
-    ensures { IfOk result (λ bytes. bytes.items ≡ spec.assembly first.items auth.now subject.now post.now body.now) }
+    ensures { IfOk result (λ bytes. bytes.items
+        ≡ spec.assembly first.items auth.now subject.now post.now body.now) }
 {
     let mut bytes = first;
     bytes.extend_from_slice(auth)?;
@@ -222,7 +245,7 @@ fn assembled(
     Ok(bytes)
 }
 
-// A field of the head, where it is given.
+// Returns the line of a field, or no bytes for the value `-`.
 fn field_line(alloc: Global, name: &str, value: &str) -> Result<Vec<u8>, AllocError>
     ensures { IfOk result (λ line. line.items ≡ spec.field_line name.now value.now) }
 {
@@ -235,7 +258,7 @@ fn field_line(alloc: Global, name: &str, value: &str) -> Result<Vec<u8>, AllocEr
     Ok(line)
 }
 
-// What a POST says of its body.
+// Returns the lines of a POST that describe its body.
 fn post_lines(alloc: Global, method: &str, body: &[u8]) -> Result<Vec<u8>, AllocError>
     ensures { IfOk result (λ lines. lines.items ≡ spec.post_lines method.now body.now) }
 {

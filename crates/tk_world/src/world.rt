@@ -1,4 +1,4 @@
-//! Regions and the bundles between them, and the run of a list of events.
+//! A world: `World` has regions and the bundles between them, and runs lists of events.
 
 use crate::bundle::MadeBundle;
 use std::alloc::Global;
@@ -6,14 +6,16 @@ use std::marker::Model;
 use tk_edge::Edge;
 use tk_region::{Region, Settings};
 
-/// Regions under their numbers, and the bundles that they made, which any of them may be handed in any order.
+/// Regions under their numbers, with the bundles that they made. A bundle may reach any region, in
+/// any order and any number of times.
 #[derive(Drop)]
 pub struct World {
     alloc: Global,
     settings: Settings,
-    // Ascending by number, each with these settings, none of them sealed, and exchanging nothing over their edges.
+    // The edges, ascending by number. Each has these settings, none is sealed, and none serves
+    // `/sync/`.
     regions: Vec<Edge>,
-    // In the order of making. All facts that regions hold or bundles carry are one set.
+    // The bundles in the order of making. All facts that regions hold or bundles carry are one set.
     bundles: Vec<MadeBundle>,
 }
 
@@ -28,13 +30,42 @@ impl Model for World {
 
     ghost coded = { coded_state };
 
-    ghost view = { λ w. record { settings = w.settings; regions = map.from_sorted (entries_of w.regions.items); bundles = w.bundles.items } };
+    ghost view = { λ w. record {
+      settings = w.settings;
+      regions = map.from_sorted (entries_of w.regions.items);
+      bundles = w.bundles.items;
+    } };
 
-    ghost invariant = { λ w. T (map.is_sorted nat_cmp (entries_of w.regions.items)) × HaveSettings w.settings w.regions.items
-        × IsConsistent (record { settings = w.settings; regions = map.from_sorted (entries_of w.regions.items); bundles = w.bundles.items }) };
+    ghost invariant = { λ w. T (map.is_sorted nat_cmp (entries_of w.regions.items))
+        × HaveSettings w.settings w.regions.items
+        × IsConsistent (record {
+          settings = w.settings;
+          regions = map.from_sorted (entries_of w.regions.items);
+          bundles = w.bundles.items;
+        }) };
 }
 
-ghost use Rattle.std.specs.Prelude.{◌≡◌, ◌≤◌, ◌<◌, ◌+◌, T, ℕ, List, IfOk, OnOk, OnErr, MatchResult, length, insert, [], slice_get, vec_len, vec_capacity, ◌++◌, ◌∷◌};
+ghost use Rattle.std.specs.Prelude.{
+  ◌≡◌,
+  ◌≤◌,
+  ◌<◌,
+  ◌+◌,
+  T,
+  ℕ,
+  List,
+  IfOk,
+  OnOk,
+  OnErr,
+  MatchResult,
+  length,
+  insert,
+  [],
+  slice_get,
+  vec_len,
+  vec_capacity,
+  ◌++◌,
+  ◌∷◌,
+};
 ghost use Rattle.std.specs.Option.{option_copied, option_map};
 ghost use Rattle.std.specs.Ordering.{nat_cmp};
 ghost use Rattle.std.specs.FinMap as map;
@@ -44,10 +75,15 @@ ghost use Rattle.tk_store.specs.Joining.{JoinsFacts, SameFacts};
 ghost use Rattle.tk_store.specs.Store.{known_in};
 ghost use Rattle.tk_bundle.specs.Bundle.{bundle, bundle_bytes};
 ghost use Rattle.tk_bundle.specs.Page as pages;
-ghost use Rattle.tk_world.specs.State.{facts_in, new_state, IsConsistent};
+ghost use Rattle.tk_world.specs.State.{facts_in, new_state, region_with, IsConsistent};
 ghost use Rattle.tk_world.specs.World.{Step, Run, IsAnswer, seen_by};
 ghost use Rattle.tk_world.specs.Parts.{Opens, Pages};
-ghost use Rattle.tk_world.specs.Promises.{TellsOfSets, IntrospectAlike, RevokedInactive, FamiliesInactive};
+ghost use Rattle.tk_world.specs.Promises.{
+  TellsOfSets,
+  IntrospectAlike,
+  RevokedInactive,
+  FamiliesInactive,
+};
 ghost use Rattle.tk_world.specs.Regions.{entries_of};
 
 use crate::asked::Asked;
@@ -59,7 +95,7 @@ use tk_handle::{Dot, RegionNumber};
 use tk_vector::VersionVector;
 
 impl World {
-    /// No region and no bundle.
+    /// Returns a world without regions and bundles.
     pub fn new(alloc: Global, settings: Settings) -> World
         ensures { result ≡ new_state settings }
     {
@@ -73,30 +109,59 @@ impl World {
         }
     }
 
-    /// All facts that regions hold and bundles carry are one set: told to callers, nothing is done.
+    /// States what holds of any world. The call does nothing at run time.
     pub fn known(&self)
-        ensures { IsConsistent self.now }
+        // All facts that regions hold and bundles carry are one set.
+        ensures consistent { IsConsistent self.now }
+
+        // A token that its client revoked is inactive in every region that holds the facts. Each
+        // token of a family with a bad grant is inactive there, too.
+        ensures revoked { RevokedInactive self.now }
+        ensures families { FamiliesInactive self.now }
     {
         let _regions = &self.regions;
     }
 
-    /// Runs the events in order. Room for the outcomes is taken first: where it is refused, no event is run.
+    /// Returns the region that is open under this number, if any.
+    pub fn region(&self, number: RegionNumber) -> Option<&Region>
+        ensures { option_copied result
+            ≡ option_map (region_with self.now number) (map.get self.now.regions number) }
+    {
+        match find_region(&self.regions, number) {
+            Ok(at) => Some(self.regions[at].region()),
+            Err(_) => None,
+        }
+    }
+
+    /// Runs the events in order, and returns one outcome for each.
+    ///
+    /// # Errors
+    ///
+    /// `AllocError` if there is no memory for the outcomes. No event has run then.
     pub fn run(&mut self, events: &[Event]) -> Result<Vec<Outcome>, AllocError>
-        // One outcome for each event.
+        // The run has one outcome for each event.
         ensures count { IfOk result (λ outcomes. length outcomes.items ≡ length events.now) }
 
-        // The old world, the events, the outcomes and the new world are a run. Each region's set of facts is its old one
-        // joined with what it has seen, which agrees with it. Two regions that began alike, and that have seen the same
-        // facts, in whatever order and however often, are alike. Each reply to an introspection request is told by the set
-        // that the region held then, the moment and the request; so where regions hold equal sets, they introspect alike.
-        ensures run { IfOk result (λ outcomes. (shown : List Facts) × Run self.old events.now outcomes.items shown self.new
-            × ((r : ℕ) → JoinsFacts (facts_in self.old r) (seen_by r events.now shown) (facts_in self.new r))
-            × ((q r : ℕ) → facts_in self.old q ≡ facts_in self.old r → SameFacts (seen_by q events.now shown) (seen_by r events.now shown)
+        // The old world, the events, the outcomes and the new world are a run.
+        // Each region's set of facts is its old set joined with what it has seen, which agrees with
+        // it.
+        // Two regions that began alike and have seen the same facts, in any order and any number of
+        // times, are alike.
+        // The reply to an introspection request depends only on the set that the region held then,
+        // the moment and the request. Regions that hold equal sets give equal replies.
+        ensures run { IfOk result (λ outcomes. (shown : List Facts)
+            × Run self.old events.now outcomes.items shown self.new
+            × ((r : ℕ)
+            → JoinsFacts (facts_in self.old r) (seen_by r events.now shown) (facts_in self.new r))
+            × ((q r : ℕ) → facts_in self.old q ≡ facts_in self.old r
+            → SameFacts (seen_by q events.now shown) (seen_by r events.now shown)
             → facts_in self.new q ≡ facts_in self.new r)
-            × TellsOfSets self.old events.now outcomes.items shown × IntrospectAlike self.old events.now outcomes.items shown) }
+            × TellsOfSets self.old events.now outcomes.items shown
+            × IntrospectAlike self.old events.now outcomes.items shown) }
 
-        // Wherever such facts are held, a token that its client revoked is active at no moment, and told to nobody; nor is
-        // any token of a family with a bad grant.
+        // Once a region holds the facts, a token that its client revoked is never active there
+        // again, and introspection reports it as inactive to everyone. This holds for each token of
+        // a family with a bad grant, too.
         ensures revoked { RevokedInactive self.new }
         ensures families { FamiliesInactive self.new }
 
@@ -110,9 +175,10 @@ impl World {
         Ok(outcomes)
     }
 
-    /// The bytes of the bundle of this number, from 0 in the order of making.
+    /// Returns the bytes of a bundle. Bundles are numbered from 0 in the order of making.
     pub fn bundle(&self, index: u64) -> Option<&[u8]>
-        ensures { option_copied result ≡ option_map bundle_bytes (slice_get self.now.bundles index) }
+        ensures { option_copied result
+            ≡ option_map bundle_bytes (slice_get self.now.bundles index) }
     {
         match bundle_at(&self.bundles, index) {
             Some(bundle) => Some(bundle.bytes()),
@@ -120,6 +186,7 @@ impl World {
         }
     }
 
+    // Runs one event.
     fn step(&mut self, event: &Event) -> Outcome
         ensures { (seen : Facts) × Step self.old event.now result seen self.new }
     {
@@ -144,6 +211,7 @@ impl World {
         }
     }
 
+    // Opens a region.
     fn open(&mut self, number: RegionNumber) -> Outcome
         ensures { (seen : Facts) × Step self.old (Event.Open number) result seen self.new }
     {
@@ -156,6 +224,7 @@ impl World {
         }
     }
 
+    // Hands the bytes of a request to a region.
     fn request(&mut self, region: RegionNumber, asked: &Asked<'_>) -> Outcome
         ensures { (seen : Facts) × IsAnswer self.old region asked.entry.now result seen self.new }
     {
@@ -165,8 +234,10 @@ impl World {
         }
     }
 
+    // Makes a bundle of a region's page.
     fn pull(&mut self, region: RegionNumber, vector: &VersionVector, after: Option<Dot>) -> Outcome
-        ensures { (seen : Facts) × Step self.old (Event.Pull region vector.now after) result seen self.new }
+        ensures { (seen : Facts)
+            × Step self.old (Event.Pull region vector.now after) result seen self.new }
     {
         match find_region(&self.regions, region) {
             Ok(at) => pull_page(
@@ -180,8 +251,10 @@ impl World {
         }
     }
 
+    // Hands a bundle to a region.
     fn deliver(&mut self, bundle: u64, region: RegionNumber) -> Outcome
-        ensures { (seen : Facts) × Step self.old (Event.Deliver bundle region) result seen self.new }
+        ensures { (seen : Facts)
+            × Step self.old (Event.Deliver bundle region) result seen self.new }
     {
         match find_region(&self.regions, region) {
             Ok(at) => match bundle_at(&self.bundles, bundle) {
@@ -193,7 +266,7 @@ impl World {
     }
 }
 
-// Pushes where there is room.
+// Pushes an outcome if there is room.
 fn push_within(outcomes: &mut Vec<Outcome>, outcome: Outcome)
     requires { vec_len outcomes.old < vec_capacity outcomes.old }
     ensures items { outcomes.new.items ≡ outcomes.old.items ++ outcome ∷ [] }
@@ -212,10 +285,11 @@ fn bundle_at(bundles: &[MadeBundle], index: u64) -> Option<&MadeBundle>
     bundles.get(index as usize)
 }
 
-// Where the region of the number stands, or where it would go.
+// Finds the index of the region with this number, or the index at which to insert it.
 fn find_region(regions: &[Edge], number: RegionNumber) -> Result<usize, usize>
     requires { T (map.is_sorted nat_cmp (entries_of regions.now)) }
-    ensures { MatchResult result (IsAt nat_cmp (entries_of regions.now) number) (IsGap nat_cmp (entries_of regions.now) number) }
+    ensures { MatchResult result (IsAt nat_cmp (entries_of regions.now) number)
+        (IsGap nat_cmp (entries_of regions.now) number) }
 {
     regions.binary_search_by_key(&number, |edge| edge.region().number())
 }
@@ -239,7 +313,7 @@ fn insert_region(regions: &mut Vec<Edge>, at: usize, edge: Edge) -> Result<(), A
     Ok(())
 }
 
-// Puts the bundle of the region's page behind the others.
+// Adds the bundle of the region's page to the others.
 fn pull_page(
     alloc: Global,
     region: &Region,
@@ -247,7 +321,8 @@ fn pull_page(
     vector: &VersionVector,
     after: Option<Dot>,
 ) -> Outcome
-    ensures { Pages (pages.page_of (known_in region.now.facts) vector.now after) bundles.old.items result bundles.new.items }
+    ensures { Pages (pages.page_of (known_in region.now.facts) vector.now after) bundles.old.items
+        result bundles.new.items }
 {
     match region.page(alloc, vector, after) {
         Ok(page) => keep_page(bundles, page),
@@ -255,6 +330,7 @@ fn pull_page(
     }
 }
 
+// Adds the bundle of a page, and returns its outcome.
 fn keep_page(bundles: &mut Vec<MadeBundle>, page: Page) -> Outcome
     requires { (fields : pages.PageFields) × pages.IsPageOf page fields × bundle.Fits fields.facts }
     ensures { (fields : pages.PageFields) → pages.IsPageOf page fields → bundle.Fits fields.facts

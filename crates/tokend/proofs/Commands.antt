@@ -1,4 +1,7 @@
--- Commands, option by option.
+-- Commands, made option by option. Key results:
+--   choice_more   one more option
+--   if_ok         a property of what was made
+--   added         a subcommand is added to a command
 use Rattle.std.proofs.Common.{◌≡◌, ℕ, ◌+◌, ◌<◌, ◌∷◌, [], List, get_or, length, map, take, append_assoc, ap, false, subst, sym, Result, Ok, Err, ◌∙◌}
 use Rattle.std.proofs.lemmas.Grind.{take_at_read}
 use Rattle.std.proofs.lemmas.List.{map-append}
@@ -9,7 +12,7 @@ use Rattle.tokend.specs.CommandLine.{with_rules}
 use Rattle.clap.specs.declared.builder.command.Command.{Command}
 use Rattle.clap.specs.declared.builder.command.Command.TheViews.{out-Command}
 
--- the rule of one choice more, behind those of the choices before it
+-- the rule of one more option, behind those of the options before
 pub choice_more : {C : Type 0} (f : C → Rule) (start mid new : App) (xs : List C) (i : ℕ) (d : C) (made : Rule) → i < length xs
     → mid ≡ with_rules start (map f (take i xs)) → new ≡ with_rule mid made → made ≡ f (get_or xs i d) → new ≡ with_rules start (map f (take (i + 1) xs))
 choice_more f start mid new xs i d made lt is-mid is-new is =
@@ -17,12 +20,12 @@ choice_more f start mid new xs i d made lt is-mid is-new is =
     ∙ ap (λ rs. on_top (λ s. record s { rules = rs }) start) (append_assoc start.top.rules (map f (take i xs)) (f (get_or xs i d) ∷ []))
     ∙ ap (with_rules start) (sym (map-append f (take i xs) (get_or xs i d ∷ [])) ∙ ap (map f) (sym (take_at_read xs i d lt).1))
 
--- what is made is so, where it is made
+-- a property of what was made follows from another property of it
 pub if_ok : {T E : Type 0} {P Q : T → Type 0} (r : Result T E) → ((x : T) → P x → Q x) → IfOk r P → IfOk r Q
 if_ok (Ok x) f h = f x h
 if_ok (Err e) f h = tt
 
--- a subcommand of no global argument is there, where it was made
+-- a subcommand without global arguments is added, if it was made
 abbrev pub Adds : {E : Type 0} → Command → Result Command E → Command → Type 0
 Adds old made new = IsOkAnd made (λ s. (out-Command s).has_globals ≡ false → app_of new ≡ with_subcommand (app_of old) (app_of s).top)
 
@@ -31,7 +34,7 @@ pub made_added : {E : Type 0} (old sub : Command) (made r : Result Command E) �
 made_added old sub made (Ok c) is adds = subst (λ m. Adds old m c) (sym is) adds.shape
 made_added old sub made (Err e) is adds = tt
 
--- and so it is the subcommand that it is known to be
+-- a subcommand that was made, and that is known, is added
 pub added : {E : Type 0} (old new : Command) (made : Result Command E) (base sub : App) → Adds old made new → IfOk made (λ s. app_of s ≡ sub)
     → IfOk made (λ s. (out-Command s).has_globals ≡ false) → app_of old ≡ base → app_of new ≡ with_subcommand base sub.top
 added old new (Ok s) base sub adds is local same =

@@ -1,4 +1,8 @@
--- What connections leave of a region.
+-- What connections leave of a region. Key results:
+--   served_gains   a connection joins facts to the region
+--   unread         a connection that wasn't read changes nothing
+--   behind         the generator after the words of connections
+--   HasServed      a number of connections were served, one after the other
 use Rattle.std.proofs.Common.{◌≡◌, ℕ, Bool, true, false, List, [], ◌∷◌, ◌++◌, take, Option, Some, None, Result, Ok, Err, inl, inr, refl, sym, ap, subst, ◌∙◌, ◌+◌, length}
 use Rattle.std.proofs.KnownBytes.{Keeps-refl}
 use Rattle.std.proofs.lemmas.List.{length-append}
@@ -17,8 +21,9 @@ use Rattle.tk_region.specs.declared.take.TakeError.TheVariants as Take
 use Rattle.tk_edge.specs.Arrivals.{AnswersArrival, IsShort}
 use Rattle.tk_edge.specs.EdgeFields.{EdgeFields}
 use Rattle.tk_edge.specs.Exchanges.{TakesBundle}
-use Rattle.tk_edge.specs.Served.{Asked, IsServed}
-use Rattle.tk_edge.specs.Told.{AnswerFields, Change}
+use Rattle.tk_edge.specs.Served.{Asked, IsServed, Step}
+use Rattle.tk_edge.specs.Told.{AnswerFields, Change, UsesLog}
+use Rattle.tk_message.specs.declared.status.Status.{Status}
 use Rattle.tk_edge.specs.declared.exchange.Exchange.TheVariants.{Vector, Pull, Push}
 use Rattle.tk_edge.specs.declared.hear.Arrival.{Arrival}
 use Rattle.tk_edge.specs.declared.hear.Arrival.TheVariants.{Heard, Exchange}
@@ -33,7 +38,7 @@ use Rattle.tokend.proofs.Loads.{gains_more, gains_nothing}
 same_gains : (old new : RegionFields) → new ≡ old → (fs : Facts) × Gains old fs new
 same_gains old new e = ([], subst (λ r. Gains old [] r) (sym e) (gains_nothing old))
 
--- a bundle that is taken in, or refused, or cut short joins facts to the region
+-- a bundle that is taken in, refused or cut short joins facts to the region
 taken_gains : (old new : RegionFields) (bytes : List ℕ) (taken : Result ℕ TakeError) → TakesBundle old bytes taken new → (fs : Facts) × Gains old fs new
 taken_gains old new bytes taken h = by_bundle (whole bundle bytes) taken h.takes
   where
@@ -56,7 +61,7 @@ taken_gains old new bytes taken h = by_bundle (whole bundle bytes) taken h.takes
     by_bundle (Some fs) (Err Take.Memory) (inr k) = joined (take k.2.0 fs) k.2.1
     by_bundle (Some fs) (Ok n) k = joined fs k.2.0
 
--- and so does what is answered
+-- replying to an arrival joins facts to the region
 answered_gains : (now : ℕ) (words : List ℕ) (came : Arrival) (answer : AnswerFields) (old new : RegionFields) → AnswersArrival old now words came (Ok answer) new → (fs : Facts) × Gains old fs new
 answered_gains now words (Heard heard) answer old new h = (_, h.1)
 answered_gains now words (Exchange Vector) answer old new h = same_gains old new h.1
@@ -67,35 +72,52 @@ short_gains : (sync : Bool) (known : Option (List ℕ)) (old new : RegionFields)
 short_gains sync known old new (inl same) = same_gains old new same
 short_gains sync known old new (inr h) = taken_gains old new h.0 h.2 h.3
 
--- a connection joins facts to the region, or none
-served_gains : (asked : Asked) (old new : RegionFields) (log writer : Change) (sealed : Bool)
-    (result : Result Served Fault) → IsServed asked (record { before = old; after = new }) log writer sealed result
+-- a connection joins facts to the region, perhaps no facts
+served_gains : (asked : Asked) (old new : RegionFields) (log : Change) (still : Type 0) (writer : Change) (sealed : Bool)
+    (result : Result Served Fault) → IsServed asked (record { before = old; after = new }) log still writer sealed result
     → (fs : Facts) × Gains old fs new
-served_gains asked old new log writer sealed (Ok (Done status)) h = answered_gains asked.now asked.words h.0 h.3.0 old new h.3.1
-served_gains asked old new log writer sealed (Ok Nothing) h = same_gains old new h.1.0
-served_gains asked old new log writer sealed (Err Log) h = answered_gains asked.now asked.words h.0 h.3.0 old new h.3.1
-served_gains asked old new log writer sealed (Err Write) h = answered_gains asked.now asked.words h.0 h.3.0 old new h.3.1
-served_gains asked old new log writer sealed (Err Read) h = same_gains old new h.0
-served_gains asked old new log writer sealed (Err Memory) h = short_gains asked.sync asked.known old new h.0
+served_gains asked old new log still writer sealed (Ok (Done status)) h = answered_gains asked.now asked.words h.0 h.3.0 old new h.3.1
+served_gains asked old new log still writer sealed (Ok Nothing) h = same_gains old new h.1.0
+served_gains asked old new log still writer sealed (Err Log) h = answered_gains asked.now asked.words h.0 h.3.0 old new h.3.1
+served_gains asked old new log still writer sealed (Err Write) h = answered_gains asked.now asked.words h.0 h.3.0 old new h.3.1
+served_gains asked old new log still writer sealed (Err Read) h = same_gains old new h.0
+served_gains asked old new log still writer sealed (Err Memory) h = short_gains asked.sync asked.known old new h.0
 
--- so does one by a socket
+-- a connection by a socket joins facts to the region
 connected_gains : (now : ℕ) (words : List ℕ) (old new : EdgeFields) (log : Change) (result : Result Served Fault)
     → IsConnection now words old new log result → (fs : Facts) × Gains old.region fs new.region
 connected_gains now words old new log result h =
     elim old.sealed as (λ b. old.sealed ≡ b → (fs : Facts) × Gains old.region fs new.region) [
       | true ↦ λ e. subst (λ n. (fs : Facts) × Gains old.region fs n.region) (sym (h.shut e).0) (same_gains old.region old.region refl)
-      | false ↦ λ e. served_gains (record { sync = old.sync; known = None; now = now; words = words }) old.region new.region log unknown new.sealed result (h.served e)
+      | false ↦ λ e. served_gains (record { sync = old.sync; known = None; now = now; words = words }) old.region new.region log (log.after ≡ log.before) unknown new.sealed result (h.served e)
     ] refl
 
--- one that wasn't read changes nothing
+-- a connection that wasn't read changes nothing
 pub unread : (now : ℕ) (words : List ℕ) (edge : EdgeFields) (log : Option (List ℕ)) → IsConnection now words edge edge (record { before = log; after = log }) (Err Read)
 unread now words edge log = record {
-  served = λ unsealed. (refl, (Keeps-refl log, tt, unsealed));
+  served = λ unsealed. (refl, (Keeps-refl log, tt, unsealed, refl));
   shut = λ _. (refl, refl, inr refl);
   sync = refl;
 }
 
--- and one after the other
+-- ---- a log that is unchanged, by less than the whole of it
+
+uses_less : (P Q : Type 0) (answer : AnswerFields) (result : Result Status Fault) → (P → Q) → UsesLog answer P result → UsesLog answer Q result
+uses_less P Q answer result f h = record { unused = λ none. f (h.unused none); fault = h.fault }
+
+pub served_less : (P Q : Type 0) (asked : Asked) (region : Step) (log writer : Change) (sealed : Bool) (result : Result Served Fault) → (P → Q)
+    → IsServed asked region log P writer sealed result → IsServed asked region log Q writer sealed result
+served_less P Q asked region log writer sealed (Ok (Done status)) f h =
+    (h.0, h.1, h.2, (h.3.0, h.3.1, h.3.2, uses_less P Q h.3.0 (Ok status) f h.3.3))
+served_less P Q asked region log writer sealed (Ok Nothing) f h = (h.0, (h.1.0, (h.1.1.0, h.1.1.1, h.1.1.2, f h.1.1.3)))
+served_less P Q asked region log writer sealed (Err Log) f h =
+    (h.0, h.1, h.2, (h.3.0, h.3.1, h.3.2, uses_less P Q h.3.0 (Err Log) f h.3.3))
+served_less P Q asked region log writer sealed (Err Write) f h =
+    (h.0, h.1, h.2, (h.3.0, h.3.1, h.3.2, uses_less P Q h.3.0 (Err Write) f h.3.3))
+served_less P Q asked region log writer sealed (Err Read) f h = (h.0, (h.1.0, h.1.1, h.1.2, f h.1.3))
+served_less P Q asked region log writer sealed (Err Memory) f h = (h.0, (h.1.0, h.1.1, h.1.2, f h.1.3))
+
+-- two connections, one after the other, join facts to the region
 gains_twice : (old mid new : RegionFields) → ((fs : Facts) × Gains old fs mid) → ((fs : Facts) × Gains mid fs new) → (fs : Facts) × Gains old fs new
 gains_twice old mid new h k = (h.0 ++ k.0, gains_more old mid new h.0 k.0 h.1 k.1)
 
@@ -107,7 +129,7 @@ connections_gain words old (end ∷ ends) new h =
     (connected_gains h.1.0.0 (six words) old.edge h.0.edge (record { before = old.log; after = h.0.log }) end h.1.0.1)
     (connections_gain (past_six words) h.0 ends new h.2)
 
--- the generator behind the words of so many
+-- the generator after the words of these connections
 abbrev pub behind : ChaCha → List (Result Served Fault) → ChaCha
 behind words [] = words
 behind words (end ∷ ends) = behind (past_six words) ends
@@ -121,7 +143,7 @@ behind_more : (words : ChaCha) (ends : List (Result Served Fault)) (end : Result
 behind_more words [] end = refl
 behind_more words (first ∷ ends) end = behind_more (past_six words) ends end
 
--- so many, and where the generator stands then
+-- the given number of connections were served, and the generator after their words
 abbrev pub HasServed : ChaCha → Running → ℕ → Running → ChaCha → Type 0
 HasServed start old count mid words =
     (ends : List (Result Served Fault)) × (length ends ≡ count) × AreConnections start old ends mid × (words ≡ behind start ends)

@@ -1,4 +1,5 @@
--- The words of a script's events, and their lengths, as the list of events grows.
+-- The random words of a script's events, and the lengths of its requests, as the list of events
+-- grows.
 use Rattle.std.proofs.Common.{ℕ, zero, suc, List, [], ◌∷◌, ◌++◌, length, slice_get, Option, IfSome}
 use Rattle.tk_world.specs.declared.event.Event.{Event}
 use Rattle.tk_world.specs.Line.{HasWords}

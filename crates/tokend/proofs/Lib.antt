@@ -5,6 +5,7 @@ pub mod Loads
 pub mod Loopbacks
 pub mod OneSet
 pub mod Runs
+pub mod Services
 pub mod ScriptEvents
 pub mod Shows
 pub mod SiteLaws

@@ -1,8 +1,11 @@
--- A log, taken in bundle by bundle. Key results:
---   front_none    nothing yet
---   front_more    and one bundle more
---   malformed_front, take_one   what one bundle comes to
---   parts_taken, front_kept, load_fault   and what the log comes to
+-- Loading a log, bundle by bundle. Key results:
+--   front_none     no bundle is taken in yet
+--   front_more     one more bundle is taken in
+--   unread_front   the outcome for a front that can't be read
+--   take_one       the outcome of taking one bundle in
+--   parts_taken    the bytes of a bundle, and the rest of the log
+--   front_kept     the region is unchanged since
+--   load_fault     the fault that ends loading
 use Rattle.std.proofs.Common.{◌≡◌, ◌<◌, ◌≤◌, ℕ, true, List, [], ◌∷◌, ◌++◌, length, take, drop, Option, Some, None, Result, Ok, Err, inl, inr, refl, sym, ap, subst, arith, ◌∙◌}
 use Rattle.std.specs.Prelude.{◌⊎◌, zero, suc, IfSome}
 use Rattle.std.specs.List.{flat_map}
@@ -14,7 +17,7 @@ use Rattle.tk_store.proofs.JoiningLaws.{joins_nothing, joins_more}
 use Rattle.tk_store.specs.Store.{facts_of}
 use Rattle.tk_format.specs.Format.{whole}
 use Rattle.tk_bundle.specs.Bundle.{bundle, bundle_bytes}
-use Rattle.tk_bundle.specs.Front.{IsFrontOf, walk}
+use Rattle.tk_bundle.specs.Front.{IsCut, IsFrontOf, walk}
 use Rattle.tk_bundle.specs.declared.error.FrontError.{FrontError}
 use Rattle.tk_bundle.specs.declared.error.FrontError.TheVariants as front
 use Rattle.tk_message.specs.Place.{next_in}
@@ -23,7 +26,7 @@ use Rattle.tk_region.specs.Taking.{AgreesWith, TakesIn, has_unmade}
 use Rattle.tk_region.specs.declared.take.TakeError.{TakeError}
 use Rattle.tk_region.specs.declared.take.TakeError.TheVariants as refusal
 use Rattle.tk_world.proofs.BundleLaws.{spelled_facts}
-use Rattle.tokend.specs.Loading.{AreBundles, IsRefused, Loads, TakesFront, TakesOne, log_bytes}
+use Rattle.tokend.specs.Loading.{AreBundles, IsRefused, Loads, TakesAs, TakesEach, TakesFront, TakesOne, front_end, log_bytes, take_fault}
 use Rattle.tokend.specs.declared.load.LoadFault.{LoadFault}
 use Rattle.tokend.specs.declared.load.LoadFault.TheVariants.{Bad, Memory, Read}
 
@@ -38,27 +41,35 @@ gains_more old mid new fs gs h k = record {
 }
 
 pub front_none : (region : RegionFields) (log : List ℕ) → TakesFront region log log region
-front_none region log = record { bundles = []; fit = tt; parts = refl; gains = gains_nothing region }
+front_none region log = record { bundles = []; fit = tt; parts = refl; each = refl }
 
 bundles_more : (bundles : List Facts) (fs : Facts) → AreBundles bundles → bundle.Fits fs → AreBundles (bundles ++ fs ∷ [])
 bundles_more [] fs all fits = (fits, tt)
 bundles_more (gs ∷ more) fs all fits = (all.0, bundles_more more fs all.1 fits)
 
+each_more : (old mid new : RegionFields) (bundles : List Facts) (fs : Facts) → TakesEach old bundles mid → ((n : ℕ) × TakesAs mid fs (Ok n) new)
+    → TakesEach old (bundles ++ fs ∷ []) new
+each_more old mid new [] fs same takes = (new, subst (λ (r : RegionFields). (n : ℕ) × TakesAs r fs (Ok n) new) same takes, refl)
+each_more old mid new (gs ∷ more) fs h takes = (h.0, h.1, each_more h.0 mid new more fs h.2 takes)
+
 pub front_more : (old mid new : RegionFields) (log rest more : List ℕ) (fs : Facts) → TakesFront old log rest mid → bundle.Fits fs
-    → rest ≡ bundle_bytes fs ++ more → Gains mid fs new → TakesFront old log more new
-front_more old mid new log rest more fs front fits parts gains = record {
+    → rest ≡ bundle_bytes fs ++ more → ((n : ℕ) × TakesAs mid fs (Ok n) new) → TakesFront old log more new
+front_more old mid new log rest more fs front fits parts takes = record {
   bundles = front.bundles ++ fs ∷ [];
   fit = bundles_more front.bundles fs front.fit fits;
   parts = front.parts ∙ ap (λ l. log_bytes front.bundles ++ l) parts
       ∙ sym (append_assoc (log_bytes front.bundles) (bundle_bytes fs) more)
       ∙ ap (λ l. l ++ more) (sym (flat_map-append bundle_bytes front.bundles (fs ∷ [])
       ∙ ap (λ l. log_bytes front.bundles ++ l) (append-nil (bundle_bytes fs))));
-  gains = subst (λ facts. Gains old facts new) (sym (flat_map-append (λ gs. gs) front.bundles (fs ∷ []) ∙ ap (λ l. flat_map (λ gs. gs) front.bundles ++ l) (append-nil fs)))
-      (gains_more old mid new (flat_map (λ gs. gs) front.bundles) fs front.gains gains);
+  each = each_more old mid new front.bundles fs front.each takes;
 }
 
--- nothing that is read stands at the front
-pub malformed_front : (region : RegionFields) (rest : List ℕ) (result : Result (Facts × ℕ) FrontError) → result ≡ Err front.Malformed
+-- the bundles taken in, if the region is unchanged since
+pub front_kept : (old mid new : RegionFields) (log rest : List ℕ) → TakesFront old log rest mid → new ≡ mid → TakesFront old log rest new
+front_kept old mid new log rest front same = subst (λ (r : RegionFields). TakesFront old log rest r) (sym same) front
+
+-- a front that is malformed is refused
+malformed_front : (region : RegionFields) (rest : List ℕ) (result : Result (Facts × ℕ) FrontError) → result ≡ Err front.Malformed
     → ((e : FrontError) → walk rest ≡ Err e → result ≡ Err e)
     → ((fs : Facts) (more : List ℕ) → bundle.Fits fs → rest ≡ bundle_bytes fs ++ more → IsFrontOf result fs) → IsRefused region rest
 malformed_front region rest result is walked only =
@@ -71,7 +82,7 @@ malformed_front region rest result is walked only =
     other : front.Malformed ≡ front.Cut → ⊥
     other e = absurd (cc)
 
--- a bundle stands there that is refused
+-- a bundle at the front that is refused
 refused_bundle : (region : RegionFields) (rest : List ℕ) (x : Facts × ℕ) → ((e : FrontError) → walk rest ≡ Err e → Ok x ≡ Err e)
     → ((fs : Facts) (more : List ℕ) → bundle.Fits fs → rest ≡ bundle_bytes fs ++ more → IsFrontOf (Ok x) fs)
     → ((has_unmade (next_in (place_in region)) x.0 ≡ true) ⊎ ¬ (AgreesWith (facts_of region.facts) x.0)) → IsRefused region rest
@@ -83,7 +94,7 @@ refused_bundle region rest x walked only why = (
     other : Ok x ≡ Err front.Cut → ⊥
     other e = absurd (cc)
 
--- a bundle has bytes
+-- the bytes of a bundle aren't empty
 some_bytes : (rest : List ℕ) (n : ℕ) (fs : Facts) → take n rest ≡ bundle_bytes fs → 0 < n
 some_bytes rest zero fs e = absurd (no_bytes e)
   where
@@ -91,13 +102,20 @@ some_bytes rest zero fs e = absurd (no_bytes e)
     no_bytes e = absurd (cc)
 some_bytes rest (suc n) fs e = omega (arith)
 
--- what taking the bundle in comes to, for the log
+-- the outcome of taking in a bundle of a log
 abbrev pub loaded : ℕ → Result ℕ TakeError → Result (Option ℕ) LoadFault
 loaded n (Ok m) = Ok (Some n)
-loaded n (Err refusal.Memory) = Err Memory
-loaded n (Err refusal.Malformed) = Err Bad
-loaded n (Err refusal.OwnNumber) = Err Bad
-loaded n (Err refusal.Conflict) = Err Bad
+loaded n (Err error) = Err (take_fault error)
+
+-- the bytes of the first bundle, and the rest
+pub parts_taken : (rest : List ℕ) (n : ℕ) (more : List ℕ) (fs : Facts) → take n rest ≡ bundle_bytes fs → more ≡ drop n rest
+    → rest ≡ bundle_bytes fs ++ more
+parts_taken rest n more fs spells is =
+    sym (take-append-drop n rest) ∙ ap (λ l. l ++ drop n rest) spells ∙ ap (λ l. bundle_bytes fs ++ l) (sym is)
+
+-- a region with equal number, settings and facts is equal
+same_region : (old new : RegionFields) → new.number ≡ old.number → new.settings ≡ old.settings → new.facts ≡ old.facts → new ≡ old
+same_region old new number settings facts = λ i. record { number = number i; settings = settings i; facts = facts i }
 
 pub take_one : (old new : RegionFields) (rest : List ℕ) (x : Facts × ℕ) (bytes : List ℕ) (result : Result ℕ TakeError)
     → new.number ≡ old.number → new.settings ≡ old.settings → ((e : FrontError) → walk rest ≡ Err e → Ok x ≡ Err e)
@@ -108,42 +126,45 @@ pub take_one : (old new : RegionFields) (rest : List ℕ) (x : Facts × ℕ) (by
 take_one old new rest x bytes result number settings walked only within fits spells is takes =
     of result (subst (λ o. TakesIn (facts_of old.facts) (next_in (place_in old)) o result (facts_of new.facts)) (spelled_facts bytes x.0 fits (is ∙ spells)) takes)
   where
-    same : facts_of new.facts ≡ facts_of old.facts → Gains old [] new
-    same e = record { number = number; settings = settings; joins = subst (λ G. JoinsFacts (facts_of old.facts) [] G) (sym e) (joins_nothing _) }
+    same : facts_of new.facts ≡ facts_of old.facts → new ≡ old
+    same e = same_region old new number settings e
 
     of : (result : Result ℕ TakeError) → TakesIn (facts_of old.facts) (next_in (place_in old)) (Some x.0) result (facts_of new.facts)
         → TakesOne old rest (loaded x.1 result) new
-    of (Ok m) t = (some_bytes rest x.1 x.0 spells, (x.0, fits, within, spells, record { number = number; settings = settings; joins = t.2.0 }))
-    of (Err refusal.Memory) (inl e) = ([], same e)
-    of (Err refusal.Memory) (inr t) = (_, record { number = number; settings = settings; joins = t.2.1 })
+    of (Ok m) t = (some_bytes rest x.1 x.0 spells, (x.0, fits, within, spells, (m, record { number = number; settings = settings; takes = t })))
+    of (Err refusal.Memory) (inl e) = inl (same e)
+    of (Err refusal.Memory) (inr t) = inr (
+      x.0,
+      drop x.1 rest,
+      fits,
+      parts_taken rest x.1 (drop x.1 rest) x.0 spells refl,
+      record { number = number; settings = settings; takes = t },
+    )
     of (Err refusal.Malformed) t = absurd t
     of (Err refusal.OwnNumber) t = (refused_bundle old rest x walked only (inl t.0), same t.1)
     of (Err refusal.Conflict) t = (refused_bundle old rest x walked only (inr t.1), same t.2)
 
--- the bytes that a bundle is taken from, and the rest
-pub parts_taken : (rest : List ℕ) (n : ℕ) (more : List ℕ) (fs : Facts) → take n rest ≡ bundle_bytes fs → more ≡ drop n rest
-    → rest ≡ bundle_bytes fs ++ more
-parts_taken rest n more fs spells is =
-    sym (take-append-drop n rest) ∙ ap (λ l. l ++ drop n rest) spells ∙ ap (λ l. bundle_bytes fs ++ l) (sym is)
+-- reading a front ends with this error
+abbrev pub fails : FrontError → Result (Facts × ℕ) FrontError
+fails e = Err e
 
--- where nothing more is taken in
-pub front_kept : (old mid new : RegionFields) (log rest : List ℕ) → TakesFront old log rest mid → Gains mid [] new → TakesFront old log rest new
-front_kept old mid new log rest front gains = record {
-  bundles = front.bundles;
-  fit = front.fit;
-  parts = front.parts;
-  gains = subst (λ facts. Gains old facts new) (append-nil (flat_map (λ gs. gs) front.bundles))
-      (gains_more old mid new (flat_map (λ gs. gs) front.bundles) [] front.gains gains);
-}
+-- the outcome for a front that can't be read
+pub unread_front : (region : RegionFields) (rest : List ℕ) (e : FrontError) → ((f : FrontError) → walk rest ≡ Err f → fails e ≡ fails f)
+    → ((fs : Facts) (more : List ℕ) → bundle.Fits fs → rest ≡ bundle_bytes fs ++ more → IsFrontOf (fails e) fs)
+    → (fails e ≡ fails front.Cut → IsCut rest) → TakesOne region rest (front_end e) region
+unread_front region rest front.Cut walked only cut = (cut refl, refl)
+unread_front region rest front.Malformed walked only cut = (malformed_front region rest (Err front.Malformed) refl walked only, refl)
+unread_front region rest front.Memory walked only cut = inl refl
 
--- what ends the loading of the rest ends that of the log
+-- a fault that ends the loading of the rest ends that of the log
 pub load_fault : (old mid new : RegionFields) (log rest : List ℕ) (fault : LoadFault) → TakesFront old log rest mid
     → TakesOne mid rest (Err fault) new → Loads old log (Err fault) new
-load_fault old mid new log rest Bad front h = (rest, mid, front, h.0, h.1)
+load_fault old mid new log rest Bad front h =
+    (rest, front_kept old mid new log rest front h.1, subst (λ (r : RegionFields). IsRefused r rest) (sym h.1) h.0)
 load_fault old mid new log rest Memory front h = (rest, mid, front, h)
 load_fault old mid new log rest Read front h = absurd h
 
--- a log that can't be read, or for which there is no memory, brings nothing
+-- a log that can't be read, or for which there is no memory, brings no facts
 pub unread_log : (region : RegionFields) (known : Option (List ℕ)) (fault : LoadFault) → ((fault ≡ Read) ⊎ (fault ≡ Memory))
     → (log : List ℕ) × IfSome known (λ bytes. log ≡ bytes) × Loads region log (Err fault) region
 unread_log region known fault why = (log_in known, same known, brings fault why)
@@ -157,7 +178,7 @@ unread_log region known fault why = (log_in known, same known, brings fault why)
     same (Some bytes) = refl
 
     brings : (fault : LoadFault) → ((fault ≡ Read) ⊎ (fault ≡ Memory)) → Loads region (log_in known) (Err fault) region
-    brings Read why = gains_nothing region
-    brings Memory why = (log_in known, region, front_none region (log_in known), ([], gains_nothing region))
+    brings Read why = refl
+    brings Memory why = (log_in known, region, front_none region (log_in known), inl refl)
     brings Bad (inl e) = absurd (cc)
     brings Bad (inr e) = absurd (cc)

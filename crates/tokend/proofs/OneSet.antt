@@ -1,4 +1,4 @@
--- Regions whose facts are part of one set agree. Key result: all_agree.
+-- Regions whose facts are within one set agree. Key result: all_agree.
 use Rattle.std.proofs.Common.{◌≡◌, ℕ, Option, Some, None, unwrap_or, refl, sym, ◌∙◌}
 use Rattle.std.specs.FinMap as map
 use Rattle.tk_handle.specs.Dot.{dot_cmp}
@@ -6,7 +6,7 @@ use Rattle.tk_store.specs.FactSet.{FactSet, Agree, IsSubset}
 use Rattle.tk_store.proofs.PutLaws.{some_injective, none_is_not_some}
 use Rattle.tk_world.specs.State.{State, facts_in, Consists, IsConsistent}
 
--- what a region holds is part of the set
+-- the facts that a region holds are within the set
 facts_below : (s : State) (U : FactSet) → Consists s U → (r : ℕ) → IsSubset (facts_in s r) U
 facts_below s U k r = below (map.get s.regions r) refl
   where

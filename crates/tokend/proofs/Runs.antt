@@ -1,18 +1,28 @@
--- What a run of the program comes to, by what its pieces do.
+-- Runs of the program, from what the parts of a run do. Key results:
+--   script_printed    the lines of a script were written
+--   script_begun      a beginning of the lines was written
+--   script_is_input   the script is the input's bytes
+--   script_fault      a script's fault is the program's
+--   script_done       the program has done what the script's run did
+--   service_done      the program has done what the service did
+--   tells_behind      a fault is written behind what was kept
 use Rattle.std.proofs.Common.{◌≡◌, ℕ, List, Option, Some, None, Result, Ok, Err, subst, sym, ap, refl, inl, inr, arith, ◌<◌, ◌∙◌, ◌++◌}
 use Rattle.std.specs.Prelude.{IfSome, IfErr, OnOk, OnErr, MatchResult}
 use Rattle.std.specs.Io.KnownBytes.{Appends, Keeps}
 use Rattle.clap.specs.Words.{Text}
 use Rattle.tk_region.specs.SettingsFields.{SettingsFields}
 use Rattle.tk_world.specs.Put.{AppendsFront}
-use Rattle.tokend.specs.Serving.{Announces, IsFileFault, IsServiceFault, LeavesService}
+use Rattle.tk_edge.specs.Told.{Change}
+use Rattle.tokend.specs.ServiceRun.{IsServiceRun}
+use Rattle.tokend.specs.Serving.{IsServiceFault, LeavesService}
 use Rattle.tokend.specs.Task.{script_task, Asks, AsksToServe}
 use Rattle.tokend.specs.ScriptRun.{IsScriptRun, PrintsScript, IsScriptFault, LeavesScript}
 use Rattle.tokend.specs.ProgramRun.{IsDone, IsFaultFor, IsQuiet, Leaves, Tells}
 use Rattle.tokend.specs.Status.{fault_text, status_of}
 use Rattle.tokend.specs.CommandLine.{settings_of}
 use Rattle.tokend.specs.declared.options.Numbers.{Numbers}
-use Rattle.tokend.specs.declared.options.Task.TheVariants.{Script}
+use Rattle.tokend.specs.declared.options.Service.{Service}
+use Rattle.tokend.specs.declared.options.Task.TheVariants.{Script, Serve}
 use Rattle.tokend.specs.declared.fault.Fault.{Fault}
 use Rattle.tokend.specs.declared.fault.Fault.TheVariants.{BadLine, BadLogFile, BadSeedFile, CannotListen, CannotOpen, CannotRead, CannotReadFile, Memory, Output, ScriptTooLong, Words}
 
@@ -22,7 +32,7 @@ pub script_printed : {T : Type 0} (settings : SettingsFields) (script lines : Li
 script_printed settings script lines old new (Ok x) run appended = (lines, run, appended)
 script_printed settings script lines old new (Err fault) run appended = tt
 
--- and a beginning of them, where the output failed
+-- a beginning of the lines of a script was written, if the output failed
 pub script_begun : {T : Type 0} (settings : SettingsFields) (script lines : List ℕ) (old new : Option (List ℕ)) (r : Result T Fault)
     → IsScriptRun settings script lines → IfErr r (λ fault. (fault ≡ Output) × AppendsFront old new lines)
     → IfErr r (λ fault. LeavesScript settings (Some script) fault old new)
@@ -30,7 +40,7 @@ script_begun settings script lines old new (Ok x) run begun = tt
 script_begun settings script lines old new (Err fault) run begun =
     subst (λ f. LeavesScript settings (Some script) f old new) (sym begun.0) (lines, run, begun.1)
 
--- where the input's bytes are known, they are the script
+-- the script is the input's bytes, if these are known
 pub script_is_input : {T : Type 0} (settings : SettingsFields) (input : Option (List ℕ)) (script : List ℕ) (old new : Option (List ℕ)) (r : Result T Fault)
     → IfSome input (λ bytes. script ≡ bytes) → OnOk r (PrintsScript settings (Some script) old new) → OnOk r (PrintsScript settings input old new)
 script_is_input settings None script old new (Ok x) whole h = (h.0, tt, h.2)
@@ -78,7 +88,7 @@ pub left_by_input : {T : Type 0} (settings : SettingsFields) (input : Option (Li
 left_by_input settings input script (Ok x) old new whole h = tt
 left_by_input settings input script (Err fault) old new whole h = input_leaves settings input script fault old new whole h
 
--- a script's fault is the program's, where the words ask for a script
+-- a script's fault is the program's, if the arguments request a script
 pub script_fault : (words : List Text) (input : Option (List ℕ)) (settings : SettingsFields) → Asks words (script_task settings)
     → (fault : Fault) → IsScriptFault input fault → IsFaultFor words input fault
 script_fault words input settings asks (Words error) h = absurd h
@@ -98,7 +108,7 @@ pub faults_of_script : {T : Type 0} (words : List Text) (input : Option (List �
 faults_of_script words input n (Ok x) asks h = tt
 faults_of_script words input n (Err fault) asks h = script_fault words input (settings_of n) asks fault h
 
--- and what it printed, and left, is the program's
+-- the lines that a script's run printed, and what its fault left, are the program's
 pub script_done : {T : Type 0} (words : List Text) (input old new : Option (List ℕ)) (n : Numbers) (settings : SettingsFields) (r : Result T Fault)
     → Asks words (Script n) → settings ≡ settings_of n → OnOk r (PrintsScript settings input old new) → OnOk r (IsDone words input old new)
 script_done words input old new n settings (Ok x) asks e h = inl (inl (settings, subst (λ s. Asks words (script_task s)) (sym e) asks, h))
@@ -125,24 +135,25 @@ left_by_script words input old new n settings (Ok x) asks e h = tt
 left_by_script words input old new n settings (Err fault) asks e h =
     script_leaves words input old new settings fault (subst (λ s. Asks words (script_task s)) (sym e) asks) h
 
--- a service that was announced is the program's end, whatever its connections made it tell
-pub service_done : {T : Type 0} (words : List Text) (input old new : Option (List ℕ)) (r : Result T Fault) → AsksToServe words
-    → OnOk r (Announces old new) → OnOk r (IsDone words input old new)
-service_done words input old new (Ok x) asks h = inr (inl (asks, h))
-service_done words input old new (Err fault) asks h = tt
+-- a service that has run is the program's end, whatever faults its connections had
+pub service_done : {T : Type 0} (words : List Text) (input old new : Option (List ℕ)) (faults : Change) (service : Service) (r : Result T Fault)
+    → Asks words (Serve service) → OnOk r (IsServiceRun service (record { before = old; after = new }) faults)
+    → OnOk r (IsDone words input old new)
+service_done words input old new faults service (Ok x) asks h = inr (inl (service, asks, (faults, h)))
+service_done words input old new faults service (Err fault) asks h = tt
 
 pub service_quiet : {T : Type 0} (words : List Text) (old new : Option (List ℕ)) (r : Result T Fault) → AsksToServe words
     → OnOk r (IsQuiet words old new)
 service_quiet words old new (Ok x) asks = inr asks
 service_quiet words old new (Err fault) asks = tt
 
--- a run that tells nothing
+-- a run that writes no fault is quiet
 pub untold : {T : Type 0} (words : List Text) (r : Result T Fault) (faults : Option (List ℕ)) → OnOk r (IsQuiet words faults faults)
 untold words (Ok x) None = inl tt
 untold words (Ok x) (Some bytes) = inl refl
 untold words (Err fault) faults = tt
 
--- what is written behind what was kept
+-- bytes that are written after a call that kept everything
 appends_behind : (a b c : Option (List ℕ)) (text : List ℕ) → Keeps a b → Appends b c text → Appends a c text
 appends_behind None b c text kept h = tt
 appends_behind (Some xs) None c text kept h = absurd kept
@@ -155,7 +166,7 @@ keeps_twice (Some xs) None c kept h = absurd kept
 keeps_twice (Some xs) (Some ys) None kept h = absurd h
 keeps_twice (Some xs) (Some ys) (Some zs) kept h = h ∙ kept
 
--- a fault is told behind what was kept
+-- a fault that is written after a call that kept everything
 pub tells_behind : (fault : Fault) (a b c : Option (List ℕ)) → Keeps a b → Tells fault b c → Tells fault a c
 tells_behind fault a b c kept = of (fault_text fault)
   where
@@ -163,80 +174,46 @@ tells_behind fault a b c kept = of (fault_text fault)
     of None h = tt
     of (Some text) h = record { front = h.front; rest = h.rest; parts = h.parts; appended = appends_behind a b c h.front kept h.appended }
 
--- what is wrong with files is wrong with the service, and leaves the output
-pub file_fault : (fault : Fault) → IsFileFault fault → IsServiceFault fault
-file_fault (Words error) h = absurd h
-file_fault CannotRead h = absurd h
-file_fault (CannotReadFile name) h = tt
-file_fault (CannotOpen name) h = tt
-file_fault CannotListen h = absurd h
-file_fault BadSeedFile h = tt
-file_fault BadLogFile h = tt
-file_fault ScriptTooLong h = absurd h
-file_fault (BadLine number) h = absurd h
-file_fault Memory h = tt
-file_fault Output h = absurd h
+-- a service's fault is the program's, if the arguments request that service
+service_fault : (words : List Text) (input : Option (List ℕ)) (service : Service) → Asks words (Serve service) → (fault : Fault)
+    → IsServiceFault service fault → IsFaultFor words input fault
+service_fault words input service asks (Words error) h = absurd h
+service_fault words input service asks CannotRead h = absurd h
+service_fault words input service asks (CannotReadFile name) h = (service, asks, h)
+service_fault words input service asks (CannotOpen name) h = (service, asks, h)
+service_fault words input service asks CannotListen h = inr (service, asks, h)
+service_fault words input service asks BadSeedFile h = (service, asks, h)
+service_fault words input service asks BadLogFile h = (service, asks, h)
+service_fault words input service asks ScriptTooLong h = absurd h
+service_fault words input service asks (BadLine number) h = absurd h
+service_fault words input service asks Memory h = tt
+service_fault words input service asks Output h = tt
 
-pub file_fault_leaves : (fault : Fault) (output : Option (List ℕ)) → IsFileFault fault → LeavesService fault output output
-file_fault_leaves fault output = of fault output
-  where
-    kept : (output : Option (List ℕ)) → Keeps output output
-    kept None = tt
-    kept (Some bytes) = refl
+pub faults_of_service : {T : Type 0} (words : List Text) (input : Option (List ℕ)) (service : Service) (r : Result T Fault) → Asks words (Serve service)
+    → IfErr r (IsServiceFault service) → IfErr r (IsFaultFor words input)
+faults_of_service words input service (Ok x) asks h = tt
+faults_of_service words input service (Err fault) asks h = service_fault words input service asks fault h
 
-    of : (fault : Fault) (output : Option (List ℕ)) → IsFileFault fault → LeavesService fault output output
-    of (Words error) output h = absurd h
-    of CannotRead output h = absurd h
-    of (CannotReadFile name) output h = kept output
-    of (CannotOpen name) output h = kept output
-    of CannotListen output h = absurd h
-    of BadSeedFile output h = kept output
-    of BadLogFile output h = kept output
-    of ScriptTooLong output h = absurd h
-    of (BadLine number) output h = absurd h
-    of Memory output h = kept output
-    of Output output h = absurd h
+service_leaves : (words : List Text) (input : Option (List ℕ)) (service : Service) → Asks words (Serve service) → (fault : Fault) (old new : Option (List ℕ))
+    → LeavesService service fault old new → Leaves words input fault old new
+service_leaves words input service asks (Words error) old new h = h
+service_leaves words input service asks CannotRead old new h = h
+service_leaves words input service asks (CannotReadFile name) old new h = h
+service_leaves words input service asks (CannotOpen name) old new h = h
+service_leaves words input service asks CannotListen old new h = h
+service_leaves words input service asks BadSeedFile old new h = h
+service_leaves words input service asks BadLogFile old new h = h
+service_leaves words input service asks ScriptTooLong old new h = h
+service_leaves words input service asks (BadLine number) old new h = h
+service_leaves words input service asks Memory old new h = h
+service_leaves words input service asks Output old new h = inr (inl (service, asks, h))
 
--- a service's fault is the program's, where the words ask for a service
-pub service_fault : (words : List Text) (input : Option (List ℕ)) → AsksToServe words → (fault : Fault) → IsServiceFault fault
-    → IsFaultFor words input fault
-service_fault words input asks (Words error) h = absurd h
-service_fault words input asks CannotRead h = absurd h
-service_fault words input asks (CannotReadFile name) h = asks
-service_fault words input asks (CannotOpen name) h = asks
-service_fault words input asks CannotListen h = inr asks
-service_fault words input asks BadSeedFile h = asks
-service_fault words input asks BadLogFile h = asks
-service_fault words input asks ScriptTooLong h = absurd h
-service_fault words input asks (BadLine number) h = absurd h
-service_fault words input asks Memory h = tt
-service_fault words input asks Output h = tt
+pub left_by_service : {T : Type 0} (words : List Text) (input : Option (List ℕ)) (service : Service) (r : Result T Fault) (old new : Option (List ℕ))
+    → Asks words (Serve service) → IfErr r (λ fault. LeavesService service fault old new) → IfErr r (λ fault. Leaves words input fault old new)
+left_by_service words input service (Ok x) old new asks h = tt
+left_by_service words input service (Err fault) old new asks h = service_leaves words input service asks fault old new h
 
-pub faults_of_service : {T : Type 0} (words : List Text) (input : Option (List ℕ)) (r : Result T Fault) → AsksToServe words
-    → IfErr r IsServiceFault → IfErr r (IsFaultFor words input)
-faults_of_service words input (Ok x) asks h = tt
-faults_of_service words input (Err fault) asks h = service_fault words input asks fault h
-
-service_leaves : (words : List Text) (input : Option (List ℕ)) → AsksToServe words → (fault : Fault) (old new : Option (List ℕ))
-    → LeavesService fault old new → Leaves words input fault old new
-service_leaves words input asks (Words error) old new h = h
-service_leaves words input asks CannotRead old new h = h
-service_leaves words input asks (CannotReadFile name) old new h = h
-service_leaves words input asks (CannotOpen name) old new h = h
-service_leaves words input asks CannotListen old new h = h
-service_leaves words input asks BadSeedFile old new h = h
-service_leaves words input asks BadLogFile old new h = h
-service_leaves words input asks ScriptTooLong old new h = h
-service_leaves words input asks (BadLine number) old new h = h
-service_leaves words input asks Memory old new h = h
-service_leaves words input asks Output old new h = inr (inl (asks, h))
-
-pub left_by_service : {T : Type 0} (words : List Text) (input : Option (List ℕ)) (r : Result T Fault) (old new : Option (List ℕ)) → AsksToServe words
-    → IfErr r (λ fault. LeavesService fault old new) → IfErr r (λ fault. Leaves words input fault old new)
-left_by_service words input (Ok x) old new asks h = tt
-left_by_service words input (Err fault) old new asks h = service_leaves words input asks fault old new h
-
--- a fault's status is not 0
+-- the status of a fault isn't 0
 no_status : (fault : Fault) → status_of fault ≡ 0 → ⊥
 no_status (Words error) e = absurd (cc)
 no_status CannotRead e = absurd (cc)
@@ -250,7 +227,7 @@ no_status (BadLine number) e = absurd (cc)
 no_status Memory e = absurd (cc)
 no_status Output e = absurd (cc)
 
--- a refusal writes nothing
+-- a fault of status 2 leaves the output unchanged
 keeps_by : (words : List Text) (input : Option (List ℕ)) (fault : Fault) (old new : Option (List ℕ)) → status_of fault ≡ 2
     → Leaves words input fault old new → Keeps old new
 keeps_by words input (Words error) old new e h = h
@@ -265,7 +242,7 @@ keeps_by words input (BadLine number) old new e h = h
 keeps_by words input Memory old new e h = h
 keeps_by words input Output old new e h = absurd (cc)
 
--- how a run ends: with its status, and what is told of it
+-- how a run ends: with its status, and with the line of its fault
 abbrev pub Ends : {T : Type 0} → Result T Fault → ℕ → Option (List ℕ) → Option (List ℕ) → Type 0
 Ends ran status old new = MatchResult ran (λ _. (status ≡ 0) × Keeps old new) (λ fault. (status ≡ status_of fault) × Tells fault old new)
 

@@ -32,7 +32,7 @@ untold_pushed lines events line all untold =
     let grown : filter is_told (lines ++ line ∷ []) ≡ filter is_told lines = filter-append is_told lines (line ∷ []) ∙ ap (λ b. filter is_told lines ++ cond b (line ∷ []) []) untold ∙ append_nil (filter is_told lines) in
     subst (λ ls. AllZip IsEventLine ls events) (sym grown) all
 
--- ---- which lines are told
+-- ---- which lines should be events
 
 pub told_line : (line : List ℕ) → 0 < length line → get_or line 0 0 ≢ 35 → is_told line ≡ true
 told_line [] long other = absurd (omega (arith, long))
@@ -48,7 +48,7 @@ comment_line (b ∷ rest) first = grind (arith, nat_tests)
 
 -- ---- the lines of an enumeration
 
--- a line with its place from 0
+-- a line with its index from 0
 abbrev pub Item : Type 0
 Item = ℕ × Bor (List ℕ)
 
@@ -76,7 +76,7 @@ first_lines ls items n some =
 cut_at : (ls : List (List ℕ)) (i : ℕ) (d : List ℕ) → i < length ls → take i ls ++ get_or ls i d ∷ drop (i + 1) ls ≡ ls
 cut_at ls i d lt = grind (arith, common_steps)
 
--- the line behind those that have their events is the first bad one, if it is bad
+-- the line after those that have their events is the first bad one, if it is bad
 pub first_bad : (longest : Option ℕ) (script : List ℕ) (items : List Item) (item : Item) (events : List Event)
     → map numbered items ≡ take (length items) (enumerate_from 0 (lines_of script))
     → (length items < length (enumerate_from 0 (lines_of script))) × (numbered item ≡ get_or (enumerate_from 0 (lines_of script)) (length items) (numbered item))

@@ -1,4 +1,4 @@
--- What clap's refusal of the words comes to, by its kind.
+-- What the program does if clap refuses the arguments, by the kind of clap's error.
 use Rattle.std.proofs.Common.{◌≡◌, ℕ, List, Option, Result, Ok, Err, subst, sym, ◌∙◌, inl, inr}
 use Rattle.std.specs.Prelude.{◌⊎◌, ◌≢◌, IfErr, OnOk}
 use Rattle.std.specs.Io.KnownBytes.{Keeps}
@@ -12,15 +12,15 @@ use Rattle.tokend.specs.Task.{AsksToShow, IsNoShow, IsRefusalOf}
 use Rattle.tokend.specs.declared.fault.Fault.{Fault}
 use Rattle.tokend.specs.declared.fault.Fault.TheVariants.{Memory, Output, Words}
 
--- why clap gave up
+-- why clap refused the arguments
 abbrev Ends : List Text → ErrorKind → Type 0
 Ends words kind = (kind ≡ OutOfMemory) ⊎ IsRefusalOf words kind
 
--- it has a text to show
+-- clap has a text to show
 abbrev Shows : ErrorKind → Type 0
 Shows kind = (kind ≡ DisplayHelp) ⊎ (kind ≡ DisplayVersion)
 
--- its fault: the text could not be shown, or there was none
+-- the program's fault: the text could not be shown, or there was no text to show
 abbrev Refuses : Error → Option (List ℕ) → Option (List ℕ) → Fault → Type 0
 Refuses error old new fault = ((fault ≡ Output) × Shows (kind_of error))
     ⊎ (((fault ≡ Memory) ⊎ ((fault ≡ Words error) × (kind_of error ≢ OutOfMemory) × IsNoShow (kind_of error))) × Keeps old new)

@@ -1,4 +1,8 @@
--- What an event leaves where requests go through sockets.
+-- What an event leaves if requests go through sockets. Key results:
+--   pulled     a page is behind the other bundles
+--   was_made   a bundle that was found is one of those made
+--   taken_at   an edge's region takes a bundle in
+--   one_more   one more event
 use Rattle.std.proofs.Common.{◌≡◌, ℕ, ◌==◌, ◌<◌, ◌+◌, Bool, List, [], ◌∷◌, ◌++◌, length, take, map, option_map, Vec, Global, slice_index_or, slice_set, slice_get, Option, Some, IsSome, Result, Ok, Err, IfOk, refl, sym, ap, subst, ◌∙◌, inr}
 use Rattle.std.proofs.lemmas.Option.{slice_get_read, slice_get-map}
 use Rattle.std.proofs.lemmas.List.{take_more}
@@ -23,7 +27,7 @@ use Rattle.tk_world.specs.declared.event.Outcome.TheVariants.{Opened, NumberTake
 use Rattle.tokend.specs.declared.fault.Fault.{Fault}
 use Rattle.tokend.specs.Sites.{Sites, place_of, told_of, with_bundle, IsAsking, IsDelivery, IsHanded, IsKept, IsPull, IsReplied, Reaches, SiteRun, SiteStep, Takes}
 
--- the edge at a place that was found
+-- the edge at an index that was found
 found : (settings : SettingsFields) (edges : List EdgeFields) (bundles : List (List ℕ)) (old : Sites)
     → record { settings = settings; edges = edges; bundles = bundles } ≡ old → (r place : ℕ) → Some place ≡ place_of r old
     → (edge : EdgeFields) → edge ≡ slice_index_or edges place edge → slice_get old.edges place ≡ Some edge
@@ -84,7 +88,7 @@ pulled settings edges bundles old same r place is_open edge value region is v af
 pulled settings edges bundles old same r place is_open edge value region is v after page p (Reply status bytes) new k = absurd k
 pulled settings edges bundles old same r place is_open edge value region is v after page p (Took n) new k = absurd k
 
--- a bundle that was found is one of those
+-- a bundle that was found is one of those made
 pub was_made : (settings : SettingsFields) (edges : List EdgeFields) (bundles : List (Vec ℕ Global)) (old : Sites)
     → record { settings = settings; edges = edges; bundles = map (λ b. b.items) bundles } ≡ old → (shown : List (Vec ℕ Global)) → shown ≡ bundles
     → (i : ℕ) (bytes : Vec ℕ Global) → i < length shown → bytes ≡ slice_index_or shown i bytes → slice_get old.bundles i ≡ Some bytes.items
@@ -93,7 +97,7 @@ was_made settings edges bundles old same shown alike i bytes lt value =
     (slice_get-map (λ b. b.items) bundles i ∙ ap (option_map (λ b. b.items))
     (subst (λ xs. slice_get xs i ≡ Some bytes) alike (slice_get_read shown (length shown) i bytes refl lt value)))
 
--- a bundle is taken in by the region of an edge
+-- the region of an edge takes a bundle in
 pub taken_at : (region lent : RegionFields) → lent ≡ region → (bytes read : List ℕ) → read ≡ bytes → (taken : Result ℕ TakeError) (new : RegionFields)
     → TakesIn (facts_of lent.facts) (next_in (place_in lent)) (whole bundle read) taken (facts_of new.facts)
     → new.number ≡ lent.number → new.settings ≡ lent.settings → (sync sealed : Bool)
@@ -107,7 +111,7 @@ taken_at region lent same bytes read alike taken new h number settings sync seal
   sealed = refl;
 }
 
--- one event more
+-- one more event
 pub one_more : (old : Sites) (events : List Event) (outcomes : List Outcome) (mid : Sites) (event : Event) (outcome : Outcome) (new : Sites)
     → SiteRun old events outcomes mid → SiteStep mid event outcome new → SiteRun old (events ++ event ∷ []) (outcomes ++ outcome ∷ []) new
 one_more old [] [] mid event outcome new same h = (new, subst (λ o. SiteStep o event outcome new) same h, refl)

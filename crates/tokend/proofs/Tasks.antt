@@ -1,4 +1,9 @@
--- What the words of the command line ask for, by what clap says of them.
+-- The task that the arguments request, by what clap reports of them. Key results:
+--   is_service      a service is the task
+--   found_by        clap finds the subcommand of the arguments
+--   fails_by        clap names its fault in the arguments
+--   refused_by      the reason why clap refused the arguments
+--   asked_by        the matches' task is that of the arguments
 use Rattle.std.proofs.Common.{◌≡◌, ℕ, true, List, [], Option, Some, None, option_map, Result, Ok, Err, inl, inr, refl, sym, ap, subst, ◌∙◌, codes}
 use Rattle.std.specs.Prelude.{string_bytes}
 use Rattle.std.specs.Prelude.{◌⊎◌, IfErr, IfNone, IfOk, IfSome}
@@ -15,14 +20,14 @@ use Rattle.tokend.specs.declared.options.Service.{Service}
 use Rattle.tokend.specs.declared.options.Task.{Task}
 use Rattle.tokend.specs.declared.options.Task.TheVariants.{Script, Loopback, Serve}
 
--- the rows of a subcommand are one
+-- two names for the rows of a subcommand are equal
 one_rows : (found : Option (Text × List Row)) (rows others : List Row) (name : Text) → option_map (λ p. p.1) found ≡ Some rows
     → found ≡ Some (name, others) → rows ≡ others
 one_rows found rows others name at is =
     let both : Some rows ≡ Some others = sym at ∙ ap (option_map (λ p. p.1)) is in
     cc
 
--- and its name is
+-- two names of a subcommand are equal
 other_name : (found : Option (Text × List Row)) (rows : List Row) (name other : Text) → option_map (λ p. p.0) found ≡ Some name
     → found ≡ Some (other, rows) → name ≡ other
 other_name found rows name other at is =
@@ -43,7 +48,7 @@ no_script found rows named at none (Serve service) h = not_serve (other_name fou
     not_serve : codes "script" ≡ codes "serve" → ⊥
     not_serve e = absurd (cc)
 
--- nor is one by sockets
+-- a script by sockets without its numbers is no task
 pub no_loopback : (found : Option (Text × List Row)) (rows : List Row) → option_map (λ p. p.0) found ≡ Some (codes "loopback")
     → option_map (λ p. p.1) found ≡ Some rows → ((n : Numbers) → ¬ (HasNumbers rows n)) → IsNoTask found
 no_loopback found rows named at none (Script numbers) h = not_script (other_name found h.0 _ _ named h.1)
@@ -57,7 +62,7 @@ no_loopback found rows named at none (Serve service) h = not_serve (other_name f
     not_serve : codes "loopback" ≡ codes "serve" → ⊥
     not_serve e = absurd (cc)
 
--- nor is a service without its own
+-- a service without its values is no task
 no_service : (found : Option (Text × List Row)) (rows : List Row) → option_map (λ p. p.0) found ≡ Some (codes "serve")
     → option_map (λ p. p.1) found ≡ Some rows → IsNoService rows → IsNoTask found
 no_service found rows named at none (Script numbers) h = not_script (other_name found h.0 _ _ named h.1)
@@ -71,7 +76,7 @@ no_service found rows named at none (Loopback numbers) h = not_loopback (other_n
 no_service found rows named at none (Serve service) h =
     none service (subst (λ r. HasService r service) (sym (one_rows found rows h.0 _ at h.1)) h.2)
 
--- a subcommand and its rows
+-- the subcommand with this name and these rows
 found_is : (found : Option (Text × List Row)) (name : Text) (rows : List Row) → option_map (λ p. p.0) found ≡ Some name
     → option_map (λ p. p.1) found ≡ Some rows → found ≡ Some (name, rows)
 found_is None name rows named at = absurd (cc)
@@ -86,7 +91,7 @@ is_service found rows (Ok (Some task)) named at h =
 is_service found rows (Ok None) named at h = tt
 is_service found rows (Err e) named at h = tt
 
--- and where there is none, there is no task
+-- without a service there is no task
 pub is_no_service : {E : Type 0} (found : Option (Text × List Row)) (rows : List Row) (r : Result (Option Task) E)
     → option_map (λ p. p.0) found ≡ Some (codes "serve") → option_map (λ p. p.1) found ≡ Some rows
     → IfOk r (λ read. IfNone read (IsNoService rows)) → IfOk r (λ read. IfNone read (IsNoTask found))
@@ -94,7 +99,7 @@ is_no_service found rows (Ok (Some task)) named at h = tt
 is_no_service found rows (Ok None) named at h = no_service found rows named at h
 is_no_service found rows (Err e) named at h = tt
 
--- where one of the numbers is none, the rows have no settings
+-- if one of the numbers is missing, the rows have no settings
 module _ {T : Type 0} (rows : List Row) (r : Option T) where
   unless : ((n : Numbers) → ¬ (HasNumbers rows n)) → IfNone r ((n : Numbers) → ¬ (HasNumbers rows n))
   unless none = of r none
@@ -118,7 +123,7 @@ module _ {T : Type 0} (rows : List Row) (r : Option T) where
   pub without_cap : ((n : ℕ) → ¬ (HasNumber rows (codes "cap") 1 greatest_cap n)) → IfNone r ((n : Numbers) → ¬ (HasNumbers rows n))
   without_cap none = unless (λ n h. none n.cap h.cap)
 
--- and no service
+-- if the rows have no settings, they have no service
 pub without_settings : (rows : List Row) → ((n : Numbers) → ¬ (HasNumbers rows n)) → IsNoService rows
 without_settings rows none service h = none service.numbers h.numbers
 
@@ -133,18 +138,18 @@ without_seed rows none service h =
     let both : None ≡ Some (string_bytes service.seed) = sym none ∙ h.seed in
     absurd (cc)
 
--- clap finds the subcommand of the program's words
+-- clap finds the subcommand of the program's arguments
 pub found_by : (app : App) (words : List Text) (m : ArgMatches) → app ≡ tokend_app → HasMatchesOf app words m
     → subcommand_rows_of m ≡ subcommand_of tokend_app words
 found_by app words m is h = (subst (λ a. HasMatchesOf a words m) is h refl).1
 
--- clap names its fault in the program's words, where there is one
+-- clap names its fault in the program's arguments, if there is one
 pub fails_by : {T : Type 0} (app : App) (words : List Text) (r : Result T Error) → app ≡ tokend_app
     → (is_simple_and_free app ≡ true → FailsBy (fault_of app words) r) → FailsBy (fault_of tokend_app words) r
 fails_by app words r is h =
     subst (λ a. (is_simple_and_free a ≡ true → FailsBy (fault_of a words) r)) is h refl
 
--- and where it gives up, that is why
+-- the reason why clap refused the arguments
 pub refused_by : {T : Type 0} (words : List Text) (r : Result T Error) (e : Error) → r ≡ Err e → FailsBy (fault_of tokend_app words) r
     → (kind_of e ≡ kind.OutOfMemory) ⊎ IsRefusalOf words (kind_of e)
 refused_by {T} words r e is fails =
@@ -153,13 +158,13 @@ refused_by {T} words r e is fails =
       | inr among ↦ inr (inl among)
     ]
 
--- where it finds none, the matches' task is the words'
+-- if clap finds no fault, the matches' task is that of the arguments
 pub asked_by : (words : List Text) (m : ArgMatches) (r : Result Task Error) → fault_of tokend_app words ≡ []
     → subcommand_rows_of m ≡ subcommand_of tokend_app words → IfOk r (IsTask (subcommand_rows_of m)) → IfOk r (Asks words)
 asked_by words m (Ok task) none same h = (none, subst (λ found. IsTask found task) same h)
 asked_by words m (Err e) none same h = tt
 
--- and where they have none, the words have none
+-- if the matches have no task, the arguments have no task
 pub unasked_by : (words : List Text) (m : ArgMatches) (r : Result Task Error) → fault_of tokend_app words ≡ []
     → subcommand_rows_of m ≡ subcommand_of tokend_app words
     → IfErr r (λ e. (kind_of e ≡ kind.OutOfMemory) ⊎ ((kind_of e ≡ kind.MissingSubcommand) × IsNoTask (subcommand_rows_of m)))

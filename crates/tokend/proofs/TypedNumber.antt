@@ -1,4 +1,4 @@
--- A number that a typed getter read, or did not.
+-- A number that a typed getter read, or didn't read. Key result: none_between.
 use Rattle.std.proofs.Common.{◌≡◌, ◌<◌, ◌^◌, ℕ, List, Option, Some, None, Result, Ok, Err, refl, sym, ◌∙◌, arith}
 use Rattle.std.specs.Prelude.{IfSome, IfNone}
 use Rattle.clap.specs.Words.{Row, one_text, rows_of}
@@ -34,7 +34,7 @@ number_unread gives f id None digits value = λ n lt h.
     let failed = value h.0 (one_text-rows f id ∙ h.1) in
     digits h.0 failed.0 n failed.1 lt h.2
 
--- so none between the ends is under that id
+-- no number between the ends is under the id, if no number is
 pub none_between : (rows : List Row) (id : List ℕ) (least greatest : ℕ) (r : Option ℕ) → greatest < 2 ^ 64
     → ((n : ℕ) → n < 2 ^ 64 → ¬ (ReadsNumber rows id n)) → IfNone r ((n : ℕ) → ¬ (HasNumber rows id least greatest n))
 none_between rows id least greatest (Some x) fits none = tt

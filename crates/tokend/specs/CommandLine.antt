@@ -1,9 +1,54 @@
 -- The command line, as clap's contracts see it.
-use Rattle.std.specs.Prelude.{◌≡◌, ℕ, ◌≤◌, List, [], ◌∷◌, ◌++◌, Option, Some, IfSome, IfNone, String, codes, option_map, string_bytes, Bool, true, false}
+--   number_rule     an option with a number and a default
+--   range_rule      an option with a number in a range
+--   file_rule       an option with the name of a file
+--   setting_rules   the five settings of a region
+--   service_rules   the options of a service alone
+--   tokend_app      the whole program for clap
+--   IsDecimal       a text that stands for a number
+--   HasNumbers      clap's matches have these five settings
+--   HasService      clap's matches have this service
+use Rattle.std.specs.Prelude.{
+  ◌≡◌,
+  ℕ,
+  ◌≤◌,
+  List,
+  [],
+  ◌∷◌,
+  ◌++◌,
+  Option,
+  Some,
+  IfSome,
+  IfNone,
+  String,
+  codes,
+  option_map,
+  string_bytes,
+  Bool,
+  true,
+  false,
+}
 use Rattle.std.specs.Str.Parse.{IsNumeral, digits_value, without_leading_plus}
-use Rattle.clap.specs.Words.{App, Row, Rule, Text, first_of, new_app, new_rule, one_of, with_subcommand}
+use Rattle.clap.specs.Words.{
+  App,
+  Row,
+  Rule,
+  Text,
+  first_of,
+  new_app,
+  new_rule,
+  one_of,
+  with_subcommand,
+}
 use Rattle.clap.specs.Simple.{on_top}
-use Rattle.tk_region.specs.SettingsFields.{SettingsFields, greatest_code, greatest_access, greatest_refresh, greatest_family, greatest_cap}
+use Rattle.tk_region.specs.SettingsFields.{
+  SettingsFields,
+  greatest_code,
+  greatest_access,
+  greatest_refresh,
+  greatest_family,
+  greatest_cap,
+}
 use Rattle.tk_handle.specs.Ranges.{greatest_region}
 use Rattle.clap.specs.declared.builder.value_parser.ValueParser.TheVariants as parser
 use Rattle.tokend.specs.declared.command_line.Takes.{Takes}
@@ -11,28 +56,41 @@ use Rattle.tokend.specs.declared.command_line.Takes.TheVariants as takes
 use Rattle.tokend.specs.declared.options.Numbers.{Numbers}
 use Rattle.tokend.specs.declared.options.Service.{Service}
 
--- the greatest port, and the most connections that can be asked for
+-- the greatest port
 abbrev pub greatest_port : ℕ
 greatest_port = 65535
 
+-- the greatest number of connections to serve
 abbrev pub greatest_requests : ℕ
 greatest_requests = 4294967295
 
--- `--id N`, from 1 to the greatest, with a default
+-- the option `--id N`, with a number from 1 to the greatest and a default
 abbrev pub number_rule : Text → Text → ℕ → Rule
 number_rule id default greatest =
-    record (new_rule id) { long = Some id; value_names = 1; defaults = default ∷ []; parser = Some (parser.Unsigned 1 greatest) }
+    record (new_rule id) {
+      long = Some id;
+      value_names = 1;
+      defaults = default ∷ [];
+      parser = Some (parser.Unsigned 1 greatest);
+    }
 
--- `--id N`, from the least to the greatest, that must be given or not
+-- the option `--id N`, with a number from the least to the greatest; the flag is whether it is
+-- required
 abbrev pub range_rule : Text → ℕ → ℕ → Bool → Rule
 range_rule id least greatest is_wanted =
-    record (new_rule id) { long = Some id; value_names = 1; required = is_wanted; parser = Some (parser.Unsigned least greatest) }
+    record (new_rule id) {
+      long = Some id;
+      value_names = 1;
+      required = is_wanted;
+      parser = Some (parser.Unsigned least greatest);
+    }
 
--- `--id FILE`, that must be given or not
+-- the option `--id FILE`; the flag is whether it is required
 abbrev pub file_rule : Text → Bool → Rule
-file_rule id is_wanted = record (new_rule id) { long = Some id; value_names = 1; required = is_wanted }
+file_rule id is_wanted =
+    record (new_rule id) { long = Some id; value_names = 1; required = is_wanted }
 
--- an option of this name that takes this
+-- the option of this name with this value
 abbrev pub choice_rule : Text → Takes → Rule
 choice_rule id (takes.File is_wanted) = file_rule id is_wanted
 choice_rule id (takes.Range least greatest is_wanted) = range_rule id least greatest is_wanted
@@ -42,7 +100,8 @@ choice_rule id (takes.Number greatest default) = number_rule id default.now grea
 abbrev pub with_rules : App → List Rule → App
 with_rules app rules = on_top (λ s. record s { rules = s.rules ++ rules }) app
 
--- a life of each sort in seconds, and the serial cap: a minute, an hour, a day, thirty days, the greatest
+-- the settings: the lives of a code (a minute), an access token (an hour), a refresh token (a day)
+-- and a family (thirty days), all in seconds, and the cap (the greatest)
 abbrev pub setting_rules : List Rule
 setting_rules =
     number_rule (codes "code") (codes "60") greatest_code
@@ -52,14 +111,16 @@ setting_rules =
     ∷ number_rule (codes "cap") (codes "9223372036854775806") greatest_cap
     ∷ []
 
+-- the subcommand `script`
 abbrev pub script_app : App
 script_app = with_rules (new_app (codes "script")) setting_rules
 
+-- the subcommand `loopback`
 abbrev pub loopback_app : App
 loopback_app = with_rules (new_app (codes "loopback")) setting_rules
 
--- of a service: the region's number and the port, which must be given; the seed, which must be too; the log, and an old log; and how
--- many connections
+-- the options of a service: the region's number, the port and the seed, which are required; the
+-- log, the old log and the number of connections, which aren't
 abbrev pub service_rules : List Rule
 service_rules =
     range_rule (codes "region") 1 greatest_region true
@@ -70,34 +131,41 @@ service_rules =
     ∷ range_rule (codes "requests") 0 greatest_requests false
     ∷ []
 
+-- the subcommand `serve`
 abbrev pub serve_app : App
 serve_app = with_rules (with_rules (new_app (codes "serve")) service_rules) setting_rules
 
--- the program has a version, and wants a subcommand; of events there are these two
+-- the program with a version, a required subcommand, and the two subcommands that run events
 abbrev pub events_app : App
-events_app = with_subcommand (with_subcommand (on_top (λ s. record s { has_version = true; subcommand_required = true }) (new_app (codes "tokend")))
+events_app =
+    with_subcommand
+    (with_subcommand
+    (on_top (λ s. record s { has_version = true; subcommand_required = true })
+    (new_app (codes "tokend")))
     script_app.top) loopback_app.top
 
+-- the program with its three subcommands
 abbrev pub tokend_app : App
 tokend_app = with_subcommand events_app serve_app.top
 
--- the text is decimal digits, `+` before them or not, that stand for this number
+-- the text is decimal digits, perhaps after a `+`, that stand for this number
 abbrev pub IsDecimal : Text → ℕ → Type 0
-IsDecimal text n = IsNumeral 10 (without_leading_plus text) × (digits_value 10 (without_leading_plus text) ≡ n)
+IsDecimal text n =
+    IsNumeral 10 (without_leading_plus text) × (digits_value 10 (without_leading_plus text) ≡ n)
 
 -- the text under the id stands for this number
 abbrev pub ReadsNumber : List Row → Text → ℕ → Type 0
 ReadsNumber rows id n = (text : Text) × (one_of id rows ≡ Some text) × IsDecimal text n
 
--- the rows have this number under the id, and it is from the least to the greatest
+-- the rows have this number under the id, and the number is from the least to the greatest
 abbrev pub HasNumber : List Row → Text → ℕ → ℕ → ℕ → Type 0
 HasNumber rows id least greatest n = ReadsNumber rows id n × (least ≤ n) × (n ≤ greatest)
 
--- the text under the id, or none where it wasn't given
+-- the text under the id, or no text if the option wasn't given
 abbrev pub HasText : {A : Type 0} → List Row → Text → Option (String A) → Type 0
 HasText rows id text = first_of id rows ≡ option_map string_bytes text
 
--- and so each of the settings
+-- the rows have these five settings, each in its range
 pub record HasNumbers (rows : List Row) (n : Numbers) : Type 0 where
   pub code : HasNumber rows (codes "code") 1 greatest_code n.code
   pub access : HasNumber rows (codes "access") 1 greatest_access n.access
@@ -105,17 +173,19 @@ pub record HasNumbers (rows : List Row) (n : Numbers) : Type 0 where
   pub family : HasNumber rows (codes "family") 1 greatest_family n.family
   pub cap : HasNumber rows (codes "cap") 1 greatest_cap n.cap
 
--- and of a service
+-- the rows have this service: the settings, each number in its range, and the names of files
 pub record HasService (rows : List Row) (s : Service) : Type 0 where
   pub numbers : HasNumbers rows s.numbers
   pub region : HasNumber rows (codes "region") 1 greatest_region s.region
   pub port : HasNumber rows (codes "port") 0 greatest_port s.port
   pub requests : IfSome s.requests (HasNumber rows (codes "requests") 0 greatest_requests)
-  pub endless : IfNone s.requests ((n : ℕ) → ¬ (HasNumber rows (codes "requests") 0 greatest_requests n))
+  pub endless : IfNone s.requests ((n : ℕ)
+      → ¬ (HasNumber rows (codes "requests") 0 greatest_requests n))
   pub seed : HasText rows (codes "seed") (Some s.seed)
   pub log : HasText rows (codes "log") s.log
   pub load : HasText rows (codes "load") s.load
 
 -- the settings of these numbers
 abbrev pub settings_of : Numbers → SettingsFields
-settings_of n = record { code = n.code; access = n.access; refresh = n.refresh; family = n.family; cap = n.cap }
+settings_of n =
+    record { code = n.code; access = n.access; refresh = n.refresh; family = n.family; cap = n.cap }

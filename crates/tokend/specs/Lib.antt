@@ -1,23 +1,30 @@
--- The words of this crate:
---   CommandLine   the command line, as clap's contracts see it
---   Task          what the words ask for
---   Draw          the random words of a connection
---   Script        the events of a script, their words, and its first bad line
---   Loading       what an old log brings to a region
---   Serving       what a service prints before its first connection, and what may keep it from that
---   Connection    what connections do to an edge, its log and what is told of faults
---   Status        the exit status of a fault
---   ScriptRun     what a script comes to when it is run
---   Sites         what events do where requests go through sockets
---   LoopbackRun   and when its requests go through sockets
---   ProgramRun    what a run of the program comes to
+-- The definitions of this crate:
+--   CommandLine   tokend_app, the command line as clap's contracts see it
+--   Task          Asks, the task that the arguments request
+--   Draw          six, the random words of a connection
+--   Script        AreEvents, the events of a script; words_at, their random words; IsFirstBad, its
+--                 first bad line
+--   Loading       Loads, what an old log brings to a region
+--   Starting      IsStart, the start of a service
+--   Serving       Announces, the lines before a service's first connection; IsServiceFault, what
+--                 may prevent it
+--   Connection    IsConnection, what a connection does to an edge, its log and the lines about
+--                 faults
+--   ServiceRun    IsServiceRun, what a service that ended well has done
+--   Status        status_of, the exit status of a fault
+--   ScriptRun     IsScriptRun, the lines of a script that is run in a world
+--   Sites         SiteRun, what events do if requests go through sockets
+--   LoopbackRun   IsLoopbackRun, the lines of a script whose requests go through sockets
+--   ProgramRun    IsDone, IsFaultFor: what a run of the program does
 pub mod CommandLine
 pub mod Task
 pub mod Draw
 pub mod Script
 pub mod Loading
+pub mod Starting
 pub mod Serving
 pub mod Connection
+pub mod ServiceRun
 pub mod Status
 pub mod ScriptRun
 pub mod Sites

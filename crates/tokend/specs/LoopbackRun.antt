@@ -1,9 +1,11 @@
--- What a script comes to when its requests go through sockets, of whose bytes nothing is known (own).
---   longest               how long a request may be
---   IsLoopbackRun         its lines
---   PrintsLoopback        these are what was written; BeginsLoopback, a beginning of them
---   IsLoopbackFault       why it is not run; IsSocketFault, by its sockets and memory alone
---   LeavesLoopback        what a fault leaves of the output
+-- The lines of a script whose requests go through sockets, whose bytes are unknown (own).
+--   longest           the greatest length of a request
+--   IsLoopbackRun     the lines of a script
+--   PrintsLoopback    the lines of the input's script were written
+--   BeginsLoopback    a beginning of the lines was written
+--   IsSocketFault     the faults of sockets and memory
+--   IsLoopbackFault   the faults of such a run
+--   LeavesLoopback    what a fault leaves of the output
 use Rattle.std.specs.Prelude.{◌≡◌, ◌≤◌, ⊤, ℕ, List, Option, Some, IfSome, length}
 use Rattle.std.specs.Io.KnownBytes.{Appends, Keeps}
 use Rattle.tk_world.specs.declared.event.Event.{Event}
@@ -17,44 +19,54 @@ use Rattle.tk_world.specs.Put.{AppendsFront}
 use Rattle.tokend.specs.declared.fault.Fault.{Fault}
 use Rattle.tokend.specs.declared.fault.Fault.TheVariants.{BadLine, CannotListen, Memory, Output}
 
--- the greatest length of a request in bytes, which a socket takes before it is read (own)
+-- the greatest length of a request in bytes, which a socket takes before the request is read (own)
 abbrev pub longest : ℕ
 longest = 16384
 
--- the script is short enough, and so are its requests; its events are run, and the lines are their outcomes'
-pub record IsLoopbackRun (script : List ℕ) (lines : List ℕ) : Type 0 where
+-- the script and its requests are short enough; the events are run with the settings, and the lines
+-- are those of their outcomes
+pub record IsLoopbackRun (settings : SettingsFields) (script : List ℕ)
+    (lines : List ℕ) : Type 0 where
   pub short : length script ≤ greatest_length
   pub events : List Event
   pub outcomes : List Outcome
   pub found : AreEvents (lines_of script) events
   pub within : AreShort (Some longest) events
-  pub settings : SettingsFields
   pub after : Sites
   pub run : SiteRun (no_sites settings) events outcomes after
   pub printed : lines ≡ lines_text events outcomes
 
--- the lines that the input's script comes to were written behind what the output had
-abbrev pub PrintsLoopback : Option (List ℕ) → Option (List ℕ) → Option (List ℕ) → Type 0
-PrintsLoopback input old new = (lines : List ℕ) × IfSome input (λ script. IsLoopbackRun script lines) × Appends old new lines
+-- the lines of the input's script were written behind what the output had
+abbrev pub PrintsLoopback : SettingsFields → Option (List ℕ) → Option (List ℕ) → Option (List ℕ)
+    → Type 0
+PrintsLoopback settings input old new =
+    (lines : List ℕ) × IfSome input (λ script. IsLoopbackRun settings script lines)
+    × Appends old new lines
 
--- a beginning of them was
-abbrev pub BeginsLoopback : Option (List ℕ) → Option (List ℕ) → Option (List ℕ) → Type 0
-BeginsLoopback input old new = (lines : List ℕ) × IfSome input (λ script. IsLoopbackRun script lines) × AppendsFront old new lines
+-- a beginning of the lines of the input's script was written behind what the output had
+abbrev pub BeginsLoopback : SettingsFields → Option (List ℕ) → Option (List ℕ) → Option (List ℕ)
+    → Type 0
+BeginsLoopback settings input old new =
+    (lines : List ℕ) × IfSome input (λ script. IsLoopbackRun settings script lines)
+    × AppendsFront old new lines
 
--- memory ran out, or a socket failed; nothing else
+-- the faults of sockets and memory: memory ran out, or a socket failed
 abbrev pub IsSocketFault : Fault → Type 0
 IsSocketFault Memory = ⊤
 IsSocketFault CannotListen = ⊤
 IsSocketFault fault = ⊥
 
--- a socket fails, a line is bad, or what a script has
+-- the faults of a script whose requests go through sockets: a socket fails, a line is bad or its
+-- request too long, or any fault of a script
 abbrev pub IsLoopbackFault : Option (List ℕ) → Fault → Type 0
 IsLoopbackFault input CannotListen = ⊤
 IsLoopbackFault input (BadLine number) =
-    IfSome input (λ script. (length script ≤ greatest_length) × IsFirstBad (Some longest) script number)
+    IfSome input (λ script. (length script ≤ greatest_length)
+    × IsFirstBad (Some longest) script number)
 IsLoopbackFault input fault = IsScriptFault input fault
 
--- where the output failed, the beginning of the lines; else all as it was
-abbrev pub LeavesLoopback : Option (List ℕ) → Fault → Option (List ℕ) → Option (List ℕ) → Type 0
-LeavesLoopback input Output old new = BeginsLoopback input old new
-LeavesLoopback input fault old new = Keeps old new
+-- the output that failed has a beginning of the lines; other faults leave the output unchanged
+abbrev pub LeavesLoopback : SettingsFields → Option (List ℕ) → Fault → Option (List ℕ)
+    → Option (List ℕ) → Type 0
+LeavesLoopback settings input Output old new = BeginsLoopback settings input old new
+LeavesLoopback settings input fault old new = Keeps old new

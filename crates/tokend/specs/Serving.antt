@@ -1,58 +1,147 @@
--- What a service prints before its first connection (own).
---   announced            how many bytes of an old log were dropped, where any were, and the port that is listened on
---   Announces            it was written; AnnouncesDrop, with so many bytes; BeginsAnnouncement, a beginning of it
---   connection_fault     what is told of a fault that befell a connection
---   IsFileFault          what may be wrong with its files; IsServiceFault, with all of it
+-- What a service prints before its first connection, and what may prevent it (own).
+--   announced            the lines of the dropped bytes, if there are any, and of the port
+--   Announces            the announcement was written
+--   BeginsAnnouncement   a beginning of a service's announcement was written
+--   connection_fault     the line about a connection that ended in a fault
+--   IsFileFault          the faults of a service's files
+--   IsServiceFault       the faults of a service before its first connection
 --   LeavesService        what such a fault leaves of the output
-use Rattle.std.specs.Prelude.{⊤, ℕ, ◌==◌, List, [], ◌∷◌, ◌++◌, Option, codes, decimal, if◌then◌else◌}
+use Rattle.std.specs.Prelude.{
+  ◌≡◌,
+  ◌≢◌,
+  ◌⊎◌,
+  ⊤,
+  ℕ,
+  ◌==◌,
+  List,
+  [],
+  ◌∷◌,
+  ◌++◌,
+  Option,
+  Some,
+  None,
+  IsSome,
+  IfNone,
+  String,
+  string_bytes,
+  codes,
+  decimal,
+  if◌then◌else◌,
+}
 use Rattle.std.specs.Io.KnownBytes.{Appends, Keeps}
 use Rattle.tk_world.specs.Put.{AppendsFront}
 use Rattle.tk_edge.specs.declared.tell.Fault.{Fault as EdgeFault}
 use Rattle.tk_edge.specs.declared.tell.Fault.TheVariants as edge
 use Rattle.tokend.specs.declared.fault.Fault.{Fault}
-use Rattle.tokend.specs.declared.fault.Fault.TheVariants.{BadLogFile, BadSeedFile, CannotListen, CannotOpen, CannotReadFile, Memory, Output}
+use Rattle.tokend.specs.declared.fault.Fault.TheVariants.{
+  BadLogFile,
+  BadSeedFile,
+  CannotListen,
+  CannotOpen,
+  CannotReadFile,
+  Memory,
+  Output,
+}
+use Rattle.tokend.specs.declared.options.Service.{Service}
 
+-- the line of the port
 abbrev pub listening_line : ℕ → List ℕ
 listening_line port = codes "listening 127.0.0.1:" ++ (decimal port ++ 10 ∷ [])
 
+-- the line of the dropped bytes, and the line of the port
 abbrev pub both_lines : ℕ → ℕ → List ℕ
-both_lines dropped port = codes "dropped " ++ (decimal dropped ++ (codes " bytes" ++ 10 ∷ listening_line port))
+both_lines dropped port =
+    codes "dropped " ++ (decimal dropped ++ (codes " bytes" ++ 10 ∷ listening_line port))
 
+-- the announcement: the line of the dropped bytes, if there are any, and the line of the port
 abbrev pub announced : ℕ → ℕ → List ℕ
 announced dropped port = if dropped == 0 then listening_line port else both_lines dropped port
 
-abbrev pub AnnouncesDrop : ℕ → Option (List ℕ) → Option (List ℕ) → Type 0
-AnnouncesDrop dropped old new = (port : ℕ) × Appends old new (announced dropped port)
+-- the port is the requested one, or any free one if that is 0
+abbrev pub IsListenedOn : ℕ → ℕ → Type 0
+IsListenedOn asked port = asked ≢ 0 → port ≡ asked
 
-abbrev pub Announces : Option (List ℕ) → Option (List ℕ) → Type 0
-Announces old new = (dropped : ℕ) × AnnouncesDrop dropped old new
+-- the announcement of the dropped bytes and of a port was written
+abbrev pub Announces : ℕ → ℕ → Option (List ℕ) → Option (List ℕ) → Type 0
+Announces dropped asked old new =
+    (port : ℕ) × IsListenedOn asked port × Appends old new (announced dropped port)
 
-abbrev pub BeginsAnnouncement : Option (List ℕ) → Option (List ℕ) → Type 0
-BeginsAnnouncement old new = (dropped : ℕ) × (port : ℕ) × AppendsFront old new (announced dropped port)
+-- a beginning of the announcement of the dropped bytes and of a port was written
+abbrev pub BeginsToAnnounce : ℕ → ℕ → Option (List ℕ) → Option (List ℕ) → Type 0
+BeginsToAnnounce dropped asked old new =
+    (port : ℕ) × IsListenedOn asked port × AppendsFront old new (announced dropped port)
 
--- a line of its own
+-- a beginning of a service's announcement was written; no byte is dropped without an old log
+abbrev pub BeginsAnnouncement : Service → Option (List ℕ) → Option (List ℕ) → Type 0
+BeginsAnnouncement service old new =
+    (dropped : ℕ) × IfNone service.load (dropped ≡ 0)
+    × BeginsToAnnounce dropped service.port old new
+
+-- the line about a connection that ended in a fault
 abbrev pub connection_fault : EdgeFault → List ℕ
 connection_fault edge.Read = codes "fault read" ++ 10 ∷ []
 connection_fault edge.Write = codes "fault write" ++ 10 ∷ []
 connection_fault edge.Log = codes "fault log" ++ 10 ∷ []
 connection_fault edge.Memory = codes "fault memory" ++ 10 ∷ []
 
--- of the seed, the old log and the new one
-abbrev pub IsFileFault : Fault → Type 0
-IsFileFault Memory = ⊤
-IsFileFault (CannotReadFile name) = ⊤
-IsFileFault (CannotOpen name) = ⊤
-IsFileFault BadSeedFile = ⊤
-IsFileFault BadLogFile = ⊤
-IsFileFault fault = ⊥
+-- the name is that of the file, if there is one
+abbrev pub IsNameOf : {A : Type 0} → Option (String A) → List ℕ → Type 0
+IsNameOf None name = ⊥
+IsNameOf (Some file) name = string_bytes file ≡ name
 
--- of these, the port or the output
-abbrev pub IsServiceFault : Fault → Type 0
-IsServiceFault CannotListen = ⊤
-IsServiceFault Output = ⊤
-IsServiceFault fault = IsFileFault fault
+-- the faults of the seed file of this name
+abbrev pub IsSeedFault : List ℕ → Fault → Type 0
+IsSeedFault name Memory = ⊤
+IsSeedFault name (CannotReadFile file) = string_bytes file ≡ name
+IsSeedFault name BadSeedFile = ⊤
+IsSeedFault name fault = ⊥
 
--- nothing was written; or the output failed, and a beginning of the announcement was
-abbrev pub LeavesService : Fault → Option (List ℕ) → Option (List ℕ) → Type 0
-LeavesService Output old new = BeginsAnnouncement old new
-LeavesService fault old new = Keeps old new
+-- the faults of the new log of this name
+abbrev pub IsLogFault : List ℕ → Fault → Type 0
+IsLogFault name Memory = ⊤
+IsLogFault name (CannotOpen file) = string_bytes file ≡ name
+IsLogFault name BadLogFile = ⊤
+IsLogFault name fault = ⊥
+
+-- the faults of a service's files, which name the file
+abbrev pub IsFileFault : Service → Fault → Type 0
+IsFileFault service Memory = ⊤
+IsFileFault service (CannotReadFile file) =
+    (string_bytes file ≡ string_bytes service.seed) ⊎ IsNameOf service.load (string_bytes file)
+IsFileFault service (CannotOpen file) = IsNameOf service.log (string_bytes file)
+IsFileFault service BadSeedFile = ⊤
+IsFileFault service BadLogFile = IsSome service.load ⊎ IsSome service.log
+IsFileFault service fault = ⊥
+
+-- the faults of the port and the output
+abbrev pub IsListenFault : Fault → Type 0
+IsListenFault CannotListen = ⊤
+IsListenFault Output = ⊤
+IsListenFault fault = ⊥
+
+-- the faults of the new log, the port and the output
+abbrev pub IsStartFault : Service → Fault → Type 0
+IsStartFault service CannotListen = ⊤
+IsStartFault service Output = ⊤
+IsStartFault service Memory = ⊤
+IsStartFault service (CannotOpen file) = IsNameOf service.log (string_bytes file)
+IsStartFault service BadLogFile = IsSome service.log
+IsStartFault service fault = ⊥
+
+-- the faults of a service before its first connection: of its port, the output or a file
+abbrev pub IsServiceFault : Service → Fault → Type 0
+IsServiceFault service CannotListen = ⊤
+IsServiceFault service Output = ⊤
+IsServiceFault service fault = IsFileFault service fault
+
+-- the output that failed has a beginning of the announcement; other faults leave the output
+-- unchanged
+abbrev pub LeavesAnnouncement : ℕ → ℕ → Fault → Option (List ℕ) → Option (List ℕ) → Type 0
+LeavesAnnouncement dropped asked Output old new = BeginsToAnnounce dropped asked old new
+LeavesAnnouncement dropped asked fault old new = Keeps old new
+
+-- the output that failed has a beginning of the service's announcement; other faults leave the
+-- output unchanged
+abbrev pub LeavesService : Service → Fault → Option (List ℕ) → Option (List ℕ) → Type 0
+LeavesService service Output old new = BeginsAnnouncement service old new
+LeavesService service fault old new = Keeps old new

@@ -1,15 +1,42 @@
--- Faults.
---   status_of     the exit status of each
---   fault_text    what is told of it
---   input_fault   the one of an input that fails
---   IsUnread      that of a file that can't be read, by its name; IsUnopened, that can't be opened
-use Rattle.std.specs.Prelude.{◌≡◌, ⊤, ℕ, string_bytes, List, [], ◌∷◌, ◌++◌, codes, decimal, Option, Some, None}
+-- The faults of the program.
+--   status_of     the exit status of a fault
+--   fault_text    the line of a fault
+--   input_fault   the fault of an input that fails
+--   IsUnread      the fault of a file that can't be read, by its name
+--   IsUnopened    the fault of a log that can't be opened, by its name
+use Rattle.std.specs.Prelude.{
+  ◌≡◌,
+  ⊤,
+  ℕ,
+  string_bytes,
+  List,
+  [],
+  ◌∷◌,
+  ◌++◌,
+  codes,
+  decimal,
+  Option,
+  Some,
+  None,
+}
 use Rattle.std.specs.declared.io.ErrorKind.{ErrorKind}
 use Rattle.std.specs.declared.io.ErrorKind.TheVariants.{OutOfMemory}
 use Rattle.tokend.specs.declared.fault.Fault.{Fault}
-use Rattle.tokend.specs.declared.fault.Fault.TheVariants.{Words, CannotRead, CannotReadFile, CannotOpen, CannotListen, ScriptTooLong, BadLine, BadSeedFile, BadLogFile, Memory, Output}
+use Rattle.tokend.specs.declared.fault.Fault.TheVariants.{
+  Words,
+  CannotRead,
+  CannotReadFile,
+  CannotOpen,
+  CannotListen,
+  ScriptTooLong,
+  BadLine,
+  BadSeedFile,
+  BadLogFile,
+  Memory,
+  Output,
+}
 
--- 1 for memory and devices, 2 for words, scripts, seeds and logs
+-- the exit status: 1 for memory and devices, 2 for arguments, scripts, seeds and logs
 abbrev pub status_of : Fault → ℕ
 status_of (Words error) = 2
 status_of ScriptTooLong = 2
@@ -23,16 +50,17 @@ status_of CannotListen = 1
 status_of Memory = 1
 status_of Output = 1
 
--- an input may want memory too
+-- the fault of an input that fails, which may be out of memory, too
 abbrev pub input_fault : ErrorKind → Fault
 input_fault OutOfMemory = Memory
 input_fault kind = CannotRead
 
--- a line of its own; the words' fault is told as clap does, and an output that failed by its status alone
+-- the line of a fault; clap writes the faults of arguments, and an output that failed has no line
 abbrev pub fault_text : Fault → Option (List ℕ)
 fault_text (Words error) = None
 fault_text CannotRead = Some (codes "tokend: cannot read -" ++ 10 ∷ [])
-fault_text (CannotReadFile name) = Some (codes "tokend: cannot read " ++ (string_bytes name ++ 10 ∷ []))
+fault_text (CannotReadFile name) =
+    Some (codes "tokend: cannot read " ++ (string_bytes name ++ 10 ∷ []))
 fault_text (CannotOpen name) = Some (codes "tokend: cannot open " ++ (string_bytes name ++ 10 ∷ []))
 fault_text CannotListen = Some (codes "tokend: cannot listen" ++ 10 ∷ [])
 fault_text BadSeedFile = Some (codes "tokend: bad seed file" ++ 10 ∷ [])
@@ -42,12 +70,13 @@ fault_text (BadLine number) = Some (codes "tokend: bad line " ++ (decimal number
 fault_text Memory = Some (codes "tokend: memory" ++ 10 ∷ [])
 fault_text Output = Some []
 
--- the fault names the file, or there is no memory for that
+-- the fault of a file that can't be read: it names the file, unless there is no memory for the name
 abbrev pub IsUnread : List ℕ → Fault → Type 0
 IsUnread name (CannotReadFile text) = string_bytes text ≡ name
 IsUnread name Memory = ⊤
 IsUnread name fault = ⊥
 
+-- the fault of a log that can't be opened: it names the log, unless there is no memory for the name
 abbrev pub IsUnopened : List ℕ → Fault → Type 0
 IsUnopened name (CannotOpen text) = string_bytes text ≡ name
 IsUnopened name Memory = ⊤

@@ -1,9 +1,20 @@
-//! The command line, as clap is told of it: three subcommands and their options.
+//! The command line, as clap knows it: three subcommands and their options.
+//!
+//! `tokend_command` is the whole program for clap.
 
 ghost use Rattle.std.specs.Prelude.{◌≡◌, IfOk, IsOkAnd, false, map};
 ghost use Rattle.clap.specs.Words.{app_of, rule_of, with_subcommand};
 ghost use Rattle.clap.specs.declared.builder.command.Command.TheViews.{out-Command};
-ghost use Rattle.tokend.specs.CommandLine.{choice_rule, events_app, loopback_app, script_app, serve_app, setting_rules, tokend_app, with_rules};
+ghost use Rattle.tokend.specs.CommandLine.{
+  choice_rule,
+  events_app,
+  loopback_app,
+  script_app,
+  serve_app,
+  setting_rules,
+  tokend_app,
+  with_rules,
+};
 
 use crate::options::Service;
 use clap::builder::ValueParser;
@@ -11,7 +22,7 @@ use clap::{Arg, Command};
 use std::alloc::{AllocError, Global};
 use tk_world::Settings;
 
-/// The program: it has a version, and wants one of its three subcommands.
+/// The program for clap: with a version, and with three subcommands of which one is required.
 pub(crate) fn tokend_command<'a>(alloc: Global) -> Result<Command<'a>, AllocError>
     ensures { IfOk result (λ c. app_of c ≡ tokend_app) }
 {
@@ -35,12 +46,14 @@ fn events_command<'a>(alloc: Global) -> Result<Command<'a>, AllocError>
     }
 }
 
-// The command with a subcommand, where that was made.
+// Adds a subcommand to a command, unless making the subcommand failed.
 fn with_made<'a>(
     command: Command<'a>,
     made: Result<Command<'a>, AllocError>,
 ) -> Result<Command<'a>, AllocError>
-    ensures { IfOk result (λ c. IsOkAnd made.entry (λ subcommand. (out-Command subcommand).has_globals ≡ false → app_of c ≡ with_subcommand (app_of command.entry) (app_of subcommand).top)) }
+    ensures { IfOk result
+        (λ c. IsOkAnd made.entry (λ subcommand. (out-Command subcommand).has_globals ≡ false
+        → app_of c ≡ with_subcommand (app_of command.entry) (app_of subcommand).top)) }
 {
     match made {
         Ok(subcommand) => command.subcommand(subcommand),
@@ -51,6 +64,7 @@ fn with_made<'a>(
     }
 }
 
+// The subcommand `script`.
 fn script_command<'a>(alloc: Global) -> Result<Command<'a>, AllocError>
     ensures shape { IfOk result (λ c. app_of c ≡ script_app) }
     ensures local { IfOk result (λ c. (out-Command c).has_globals ≡ false) }
@@ -61,6 +75,7 @@ fn script_command<'a>(alloc: Global) -> Result<Command<'a>, AllocError>
     with_settings(alloc, script)
 }
 
+// The subcommand `loopback`.
 fn loopback_command<'a>(alloc: Global) -> Result<Command<'a>, AllocError>
     ensures shape { IfOk result (λ c. app_of c ≡ loopback_app) }
     ensures local { IfOk result (λ c. (out-Command c).has_globals ≡ false) }
@@ -71,6 +86,7 @@ fn loopback_command<'a>(alloc: Global) -> Result<Command<'a>, AllocError>
     with_settings(alloc, loopback)
 }
 
+// The subcommand `serve`.
 #[rattlefmt::skip]
 fn serve_command<'a>(alloc: Global) -> Result<Command<'a>, AllocError>
     ensures shape { IfOk result (λ c. app_of c ≡ serve_app) }
@@ -99,7 +115,7 @@ fn serve_command<'a>(alloc: Global) -> Result<Command<'a>, AllocError>
     }
 }
 
-// The command with the five settings of a region, each with its default.
+// Adds the five settings of a region to a command, each with its default.
 #[rattlefmt::skip]
 fn with_settings<'a>(alloc: Global, command: Command<'a>) -> Result<Command<'a>, AllocError>
     requires { (out-Command command).has_globals ≡ false }
@@ -121,28 +137,29 @@ fn with_settings<'a>(alloc: Global, command: Command<'a>) -> Result<Command<'a>,
     with_choices(alloc, command, &choices)
 }
 
-// What an option takes.
+// The value of an option.
 #[derive(Clone, Copy)]
 enum Takes<'a> {
-    // The name of a file, which must be given or not.
+    // The name of a file. The flag is whether the option is required.
     File(bool),
-    // A number from the least to the greatest, which must be given or not.
+    // A number from the first bound to the second. The flag is whether the option is required.
     Range(u64, u64, bool),
-    // A number from 1 to the greatest, with a default.
+    // A number from 1 to the bound, with a default.
     Number(u64, &'a str),
 }
 
-// An option: its name, what it takes, and what help says of it.
+// An option: its name, its value, and its help text.
 type Choice<'a> = (&'a str, Takes<'a>, &'a str);
 
-// The command with these options.
+// Adds these options to a command.
 fn with_choices<'a>(
     alloc: Global,
     command: Command<'a>,
     choices: &[Choice<'a>],
 ) -> Result<Command<'a>, AllocError>
     requires { (out-Command command).has_globals ≡ false }
-    ensures rules { IfOk result (λ c. app_of c ≡ with_rules (app_of command.entry) (map (λ c. choice_rule c.0.now c.1) choices.now)) }
+    ensures rules { IfOk result (λ c. app_of c
+        ≡ with_rules (app_of command.entry) (map (λ c. choice_rule c.0.now c.1) choices.now)) }
     ensures local { IfOk result (λ c. (out-Command c).has_globals ≡ false) }
 {
     let mut command = command;
@@ -152,6 +169,7 @@ fn with_choices<'a>(
     Ok(command)
 }
 
+// Makes the argument of an option for clap.
 fn arg_of<'a>(alloc: Global, choice: Choice<'a>) -> Arg<'a>
     ensures rule { rule_of result ≡ choice_rule choice.entry.0.now choice.entry.1 }
     ensures local { result.global ≡ false }

@@ -1,4 +1,4 @@
-//! The random words that handles are made of.
+//! The random words of which handles are made: `generator` is their source, and `draw` takes six.
 
 ghost use Rattle.std.specs.Prelude.{◌≡◌};
 ghost use Rattle.rand_chacha.specs.ChaCha.{key_of};
@@ -9,7 +9,7 @@ use rand_core::SeedableRng;
 use rand_core::utils::NextWord;
 use tk_handle::RegionNumber;
 
-/// The generator of a region: its key is the seed, and its stream the region's number.
+/// Returns a region's generator: the seed is its key, and the region's number its stream.
 pub(crate) fn generator(seed: [u8; 32], region: RegionNumber) -> ChaCha20Rng
     ensures { result ≡ record { key = key_of seed; stream = region; word_pos = 0 } }
 {
@@ -18,7 +18,7 @@ pub(crate) fn generator(seed: [u8; 32], region: RegionNumber) -> ChaCha20Rng
     generator
 }
 
-/// The next six words of 64 bits, for the handles of one connection.
+/// Draws six words of 64 bits, for the handles of one connection.
 pub fn draw(generator: &mut ChaCha20Rng) -> [u64; 6]
     ensures value { result ≡ six generator.old }
     ensures after { generator.new ≡ past_six generator.old }
@@ -32,7 +32,7 @@ pub fn draw(generator: &mut ChaCha20Rng) -> [u64; 6]
     [a, b, c, d, e, f]
 }
 
-// The next word of 64 bits: of two words of 32, the first is the high half.
+// Draws one word of 64 bits, made of two words of 32. The first is the high half.
 fn draw_one(generator: &mut ChaCha20Rng) -> u64
     ensures value { result ≡ wide generator.old }
     ensures after { generator.new ≡ past_wide generator.old }

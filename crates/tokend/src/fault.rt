@@ -1,44 +1,46 @@
+//! Faults of the program (`Fault`), each with its line and its exit status.
+
 ghost use Rattle.std.specs.Prelude.{◌≡◌, ◌++◌, ◌∷◌, [], codes, decimal, string_bytes, IfSome};
 ghost use Rattle.std.specs.IoError.{error_kind};
 ghost use Rattle.tokend.specs.declared.fault.Fault.TheVariants as fault;
 ghost use Rattle.tk_world.specs.Put.{Prints};
 ghost use Rattle.tokend.specs.Status.{fault_text, input_fault, status_of, IsUnopened, IsUnread};
-ghost use Rattle.tokend.specs.Serving.{IsFileFault};
 
 use itoa::Buffer;
 use std::alloc::{AllocError, AllocFailed, Global};
 use std::io::{self, Write};
 use tk_world::put_all;
 
-/// What ends the program before its end.
+/// Why the program ended early.
 #[derive(Drop)]
 pub enum Fault {
-    /// The words of the command line, told as `clap` does.
+    /// The arguments are wrong. clap has the text of the fault.
     Words(clap::Error),
-    /// Reading the standard input failed, or was interrupted.
+    /// Reading the standard input failed or was interrupted.
     CannotRead,
     /// The file of this name can't be read.
     CannotReadFile(String),
     /// The log of this name can't be opened.
     CannotOpen(String),
-    /// The port is in use, or can't be listened on.
+    /// The port is in use, or can't be listened on. In `loopback`, any socket failed.
     CannotListen,
     /// The seed file hasn't exactly 32 bytes.
     BadSeedFile,
-    /// The old log holds something that is no bundle or is refused, or the new one isn't empty.
+    /// The old log has bytes that are no bundle or a bundle that is refused, or the new log isn't
+    /// empty.
     BadLogFile,
     /// The script is longer than `script::LIMIT`.
     ScriptTooLong,
-    /// The line with this number, counted from 1, is no event.
+    /// The line with this number, counted from 1, is no event, or its request is too long.
     BadLine(u64),
-    /// Memory ran out before the events were run.
+    /// Memory ran out. Nothing was written to the output.
     Memory,
     /// The standard output failed.
     Output,
 }
 
 impl Fault {
-    /// The exit status: 1 for memory and devices, 2 for words and scripts.
+    /// Returns the exit status: 1 for memory and devices, 2 for arguments, scripts, seeds and logs.
     pub(crate) fn status(&self) -> u8
         ensures { result ≡ status_of self.now }
     {
@@ -51,10 +53,13 @@ impl Fault {
     }
 }
 
-/// Tells a fault on `faults`, in a line of its own: a fault of the words as clap does, and an output that failed by the
-/// status alone. Where the writer fails, it has the beginning of the line.
+/// Writes a fault's line to `faults`.
+///
+/// clap writes the faults of the arguments. An output that failed has no line, only its status. If
+/// `faults` fails, it has the beginning of the line.
 pub(crate) fn tell<E: Write>(faults: &mut E, fault: &Fault) -> io::Result<()>
-    ensures { IfSome (fault_text fault.now) (Prints result (E.contents faults.old) (E.contents faults.new)) }
+    ensures { IfSome (fault_text fault.now)
+        (Prints result (E.contents faults.old) (E.contents faults.new)) }
 {
     match fault {
         Fault::Words(error) => write!(faults, "{error}"),
@@ -71,24 +76,27 @@ pub(crate) fn tell<E: Write>(faults: &mut E, fault: &Fault) -> io::Result<()>
     }
 }
 
+// Writes the line of a bad line of the script.
 fn tell_bad_line<E: Write>(faults: &mut E, number: u64) -> io::Result<()>
-    ensures { Prints result (E.contents faults.old) (E.contents faults.new) (codes "tokend: bad line " ++ (decimal number ++ 10 ∷ [])) }
+    ensures { Prints result (E.contents faults.old) (E.contents faults.new)
+        (codes "tokend: bad line " ++ (decimal number ++ 10 ∷ [])) }
 {
     let mut digits = Buffer::new();
     let number = digits.format(number).as_bytes();
     put_all(faults, &[b"tokend: bad line ", number, b"\n"])
 }
 
+// Writes the line of a fault that names a file.
 fn tell_name<E: Write>(faults: &mut E, fault: &[u8], name: &String) -> io::Result<()>
-    ensures { Prints result (E.contents faults.old) (E.contents faults.new) (fault.now ++ (string_bytes name.now ++ 10 ∷ [])) }
+    ensures { Prints result (E.contents faults.old) (E.contents faults.new) (fault.now
+        ++ (string_bytes name.now ++ 10 ∷ [])) }
 {
     put_all(faults, &[fault, name.as_bytes(), b"\n"])
 }
 
-/// The fault of a file that can't be read, or that there is no memory to tell of.
+/// Returns the fault of a file that can't be read, or `Memory` if there is no memory for its name.
 pub(crate) fn cannot_read(alloc: Global, name: &str) -> Fault
-    ensures told { IsUnread name.now result }
-    ensures file { IsFileFault result }
+    ensures { IsUnread name.now result }
 {
     match String::from_str(alloc, name) {
         Ok(name) => Fault::CannotReadFile(name),
@@ -96,10 +104,9 @@ pub(crate) fn cannot_read(alloc: Global, name: &str) -> Fault
     }
 }
 
-/// The fault of a log that can't be opened, or that there is no memory to tell of.
+/// Returns the fault of a log that can't be opened, or `Memory` if there is no memory for its name.
 pub(crate) fn cannot_open(alloc: Global, name: &str) -> Fault
-    ensures told { IsUnopened name.now result }
-    ensures file { IsFileFault result }
+    ensures { IsUnopened name.now result }
 {
     match String::from_str(alloc, name) {
         Ok(name) => Fault::CannotOpen(name),

@@ -1,6 +1,7 @@
-//! An old log, taken in record by record.
+//! Loads an old log: `load` takes its bundles into a region, record by record.
 
 ghost use Rattle.std.specs.Prelude.{◌≡◌, ◌≢◌, ◌⊎◌, ℕ, List, IfOk, IfErr, IfSome};
+ghost use Rattle.tokend.specs.Loading as spec;
 ghost use Rattle.tokend.specs.Loading.{Loads, TakesOne};
 ghost use Rattle.tokend.specs.declared.load.LoadFault.TheVariants as fault;
 
@@ -9,26 +10,29 @@ use std::io::Read;
 use tk_bundle::{FrontError, read_front};
 use tk_region::{Region, TakeError};
 
-/// Why a log isn't loaded to its end. The facts of the bundles before stay.
+/// Why a log isn't loaded to its end. The facts of the bundles before the fault stay.
 #[derive(Clone, Copy)]
 pub enum LoadFault {
-    /// Something stands in it that is no bundle, or a bundle that the region refuses.
+    /// Bytes of the log are no bundle, or the region refuses a bundle.
     Bad,
-    /// It can't be read. Nothing was taken in.
+    /// The log can't be read. No fact was taken in.
     Read,
-    /// Memory was refused. The first facts of the next bundle may have been taken in.
+    /// Memory ran out. The first facts of the next bundle may have been taken in.
     Memory,
 }
 
-/// Takes in the bundles of a log in order, and answers how many bytes at its end were dropped: the beginning of a record
-/// that was cut. The log is read whole first.
+/// Takes in the bundles of a log in order, and returns how many bytes at its end were dropped.
+///
+/// Each bundle is taken in as [`Region::take_in`] does. The dropped bytes are the beginning of a
+/// record that was cut. The log is read whole before its first bundle is taken in.
 pub(crate) fn load<I: Read>(
     alloc: Global,
     region: &mut Region,
     reader: &mut I,
 ) -> Result<u64, LoadFault>
-    // Where the reader doesn't tell its bytes, this holds of some log.
-    ensures { (log : List ℕ) × IfSome (I.remaining reader.old) (λ bytes. log ≡ bytes) × Loads region.old log result region.new }
+    // If the reader's bytes are unknown, the clause holds for some log.
+    ensures { (log : List ℕ) × IfSome (I.remaining reader.old) (λ bytes. log ≡ bytes)
+        × Loads region.old log result region.new }
 {
     match read_log(alloc, reader) {
         Ok(log) => load_bytes(alloc, region, &log),
@@ -36,9 +40,10 @@ pub(crate) fn load<I: Read>(
     }
 }
 
-// The bytes of a log.
+// Reads the bytes of a log.
 fn read_log<I: Read>(alloc: Global, reader: &mut I) -> Result<Vec<u8>, LoadFault>
-    ensures whole { IfOk result (λ log. IfSome (I.remaining reader.old) (λ bytes. log.items ≡ bytes)) }
+    ensures whole { IfOk result
+        (λ log. IfSome (I.remaining reader.old) (λ bytes. log.items ≡ bytes)) }
     ensures fault { IfErr result (λ f. (f ≡ fault.Read) ⊎ (f ≡ fault.Memory)) }
 {
     let mut log = Vec::new(alloc);
@@ -55,6 +60,7 @@ fn read_log<I: Read>(alloc: Global, reader: &mut I) -> Result<Vec<u8>, LoadFault
     Err(LoadFault::Memory)
 }
 
+// Takes in the bundles that these bytes spell.
 fn load_bytes(alloc: Global, region: &mut Region, log: &[u8]) -> Result<u64, LoadFault>
     ensures { Loads region.old log.now result region.new }
 {
@@ -69,23 +75,39 @@ fn load_bytes(alloc: Global, region: &mut Region, log: &[u8]) -> Result<u64, Loa
     Ok(0)
 }
 
-// Takes in the bundle at the front, and answers how many bytes it has; None where it was cut.
+// Takes in the bundle at the front, and returns its length in bytes, or `None` if it is cut.
 fn take_front(alloc: Global, region: &mut Region, rest: &[u8]) -> Result<Option<usize>, LoadFault>
     ensures { TakesOne region.old rest.now result region.new }
 {
     let count = match read_front(alloc, rest) {
         Ok((_, count)) => count,
-        Err(FrontError::Cut) => return Ok(None),
-        Err(FrontError::Malformed) => return Err(LoadFault::Bad),
-        Err(FrontError::Memory) => return Err(LoadFault::Memory),
+        Err(error) => return front_end(error),
     };
     let (front, _) = rest.split_at(count);
     match region.take_in(alloc, front) {
         Ok(_) => Ok(Some(count)),
-        Err(TakeError::Memory) => Err(LoadFault::Memory),
-        Err(TakeError::Malformed) => Err(LoadFault::Bad),
-        Err(TakeError::OwnNumber) => Err(LoadFault::Bad),
-        Err(TakeError::Conflict) => Err(LoadFault::Bad),
+        Err(error) => Err(take_fault(error)),
+    }
+}
+
+// Returns the outcome for a front that can't be read: `None` if the log is cut there.
+fn front_end(error: FrontError) -> Result<Option<usize>, LoadFault>
+    ensures { result ≡ spec.front_end error }
+{
+    match error {
+        FrontError::Cut => Ok(None),
+        FrontError::Malformed => Err(LoadFault::Bad),
+        FrontError::Memory => Err(LoadFault::Memory),
+    }
+}
+
+// Returns the fault of a bundle that the region doesn't take in.
+fn take_fault(error: TakeError) -> LoadFault
+    ensures { result ≡ spec.take_fault error }
+{
+    match error {
+        TakeError::Memory => LoadFault::Memory,
+        TakeError::Malformed | TakeError::OwnNumber | TakeError::Conflict => LoadFault::Bad,
     }
 }
 

@@ -1,7 +1,7 @@
-//! The file that a region's records are written to.
+//! The file to which a region's records are written: `open_log` opens it.
 
 ghost use Rattle.std.specs.Prelude.{IfErr};
-ghost use Rattle.tokend.specs.Serving.{IsFileFault};
+ghost use Rattle.tokend.specs.Serving.{IsLogFault};
 
 use crate::fault::{Fault, cannot_open};
 use std::fs::{OpenFile, OpenOptions};
@@ -25,12 +25,12 @@ impl<F: Write + OpenFile> Write for Synced<F> {
     }
 }
 
-/// The log of this name, which must be empty, or is made.
+/// Opens the log of this name, and makes it if it doesn't exist. A log that isn't empty is refused.
 pub(crate) fn open_log<R: Files + AllocGlobal>(
     rt: &R,
     path: &str,
 ) -> Result<Counted<Synced<R::File>>, Fault>
-    ensures { IfErr result IsFileFault }
+    ensures { IfErr result (IsLogFault path.now) }
 {
     let Ok(file) = OpenOptions::new().append(true).create(true).open(rt, path) else {
         return Err(cannot_open(rt.alloc(), path));

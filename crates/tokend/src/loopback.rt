@@ -1,9 +1,25 @@
-//! A script's events, with each request through a socket of this machine. In a world they are run without one.
+//! Runs a script's events with each request through a socket of this machine: `run_by_sockets`.
+//!
+//! A world runs the same events without sockets.
 
 ghost use Rattle.std.specs.Prelude.{◌≡◌, IfOk, IfErr};
 ghost use Rattle.tokend.specs.LoopbackRun.{IsSocketFault};
 ghost use Rattle.tokend.specs.Connection.{unknown, IsConnection};
-ghost use Rattle.tokend.specs.Sites.{no_sites, place_of, IsAsking, IsDelivery, IsKept, IsOpening, IsPull, IsReplied, IsReplyOf, SiteRun, SiteStep, Sites, told_of};
+ghost use Rattle.tokend.specs.Sites.{
+  no_sites,
+  place_of,
+  IsAsking,
+  IsDelivery,
+  IsKept,
+  IsOpening,
+  IsPull,
+  IsReplied,
+  IsReplyOf,
+  SiteRun,
+  SiteStep,
+  Sites,
+  told_of,
+};
 
 use crate::fault::Fault;
 use crate::serve::serve_at;
@@ -20,10 +36,11 @@ use tk_region::{Region, Settings, TakeError};
 use tk_vector::VersionVector;
 use tk_world::{Event, Outcome};
 
-/// The greatest length of a request in bytes: a socket takes them before the other side reads any.
+/// The greatest length of a request, in bytes. A socket takes that many before the other side
+/// reads.
 pub(crate) const LONGEST: u64 = 16_384;
 
-/// Runs the events in order, one outcome for each. A socket that fails ends the run.
+/// Runs the events in order, and returns one outcome for each. A socket that fails ends the run.
 pub(crate) fn run_by_sockets<R>(
     rt: &R,
     settings: Settings,
@@ -31,7 +48,8 @@ pub(crate) fn run_by_sockets<R>(
 ) -> Result<Vec<Outcome>, Fault>
 where
     R: AllocGlobal + Clock + Net<Listener = TcpListener, Stream = TcpStream>,
-    ensures run { IfOk result (λ outcomes. (end : Sites) × SiteRun (no_sites settings) events.now outcomes.items end) }
+    ensures run { IfOk result (λ outcomes. (end : Sites)
+        × SiteRun (no_sites settings) events.now outcomes.items end) }
     ensures fault { IfErr result IsSocketFault }
 {
     let Ok(listener) = TcpListener::bind(rt, (Ipv4Addr::new(127, 0, 0, 1), 0)) else {
@@ -40,7 +58,7 @@ where
     run_on(rt, &listener, settings, events)
 }
 
-// Runs them with the requests through this listener.
+// Runs the events, with the requests through this listener.
 fn run_on<R>(
     rt: &R,
     listener: &TcpListener,
@@ -49,7 +67,8 @@ fn run_on<R>(
 ) -> Result<Vec<Outcome>, Fault>
 where
     R: AllocGlobal + Clock + Net<Listener = TcpListener, Stream = TcpStream>,
-    ensures run { IfOk result (λ outcomes. (end : Sites) × SiteRun (no_sites settings) events.now outcomes.items end) }
+    ensures run { IfOk result (λ outcomes. (end : Sites)
+        × SiteRun (no_sites settings) events.now outcomes.items end) }
     ensures fault { IfErr result IsSocketFault }
 {
     let mut regions = Regions::new(rt.alloc(), settings);
@@ -61,7 +80,7 @@ where
     Ok(outcomes)
 }
 
-// Regions in the order of their opening, and bundles in that of their making.
+// The regions in the order of their opening, and the bundles in the order of their making.
 #[derive(Drop)]
 struct Regions {
     alloc: Global,
@@ -78,10 +97,15 @@ impl Model for Regions {
 
     ghost coded = { coded_sites };
 
-    ghost view = { λ w. record { settings = w.settings; edges = w.edges.items; bundles = map (λ b. b.items) w.bundles.items } };
+    ghost view = { λ w. record {
+      settings = w.settings;
+      edges = w.edges.items;
+      bundles = map (λ b. b.items) w.bundles.items;
+    } };
 }
 
 impl Regions {
+    // Returns the state without regions and bundles.
     fn new(alloc: Global, settings: Settings) -> Regions
         ensures { result ≡ no_sites settings }
     {
@@ -93,6 +117,7 @@ impl Regions {
         }
     }
 
+    // Runs one event.
     fn step<R>(&mut self, rt: &R, listener: &TcpListener, event: &Event) -> Result<Outcome, Fault>
     where
         R: AllocGlobal + Clock + Net<Listener = TcpListener, Stream = TcpStream>,
@@ -116,6 +141,7 @@ impl Regions {
         }
     }
 
+    // Hands the bytes of a request to a region, through a socket.
     fn ask<R>(
         &mut self,
         rt: &R,
@@ -127,7 +153,8 @@ impl Regions {
     ) -> Result<Outcome, Fault>
     where
         R: AllocGlobal + Clock + Net<Listener = TcpListener, Stream = TcpStream>,
-        ensures done { IfOk result (λ outcome. IsAsking number now words.now self.old outcome self.new) }
+        ensures done { IfOk result
+            (λ outcome. IsAsking number now words.now self.old outcome self.new) }
         ensures fault { IfErr result IsSocketFault }
     {
         match self.find(number) {
@@ -136,7 +163,7 @@ impl Regions {
         }
     }
 
-    // Where the region of the number stands.
+    // Finds the index of the region with this number.
     fn find(&self, number: RegionNumber) -> Option<usize>
         ensures { result ≡ place_of number self.now }
     {
@@ -145,6 +172,7 @@ impl Regions {
             .position(|edge| edge.region().number() == number)
     }
 
+    // Opens a region.
     fn open(&mut self, number: RegionNumber) -> Outcome
         ensures { IsOpening number self.old result self.new }
     {
@@ -161,6 +189,7 @@ impl Regions {
         }
     }
 
+    // Makes a bundle of a region's page.
     fn pull(&mut self, number: RegionNumber, vector: &VersionVector, after: Option<Dot>) -> Outcome
         ensures { IsPull number vector.now after self.old result self.new }
     {
@@ -175,7 +204,7 @@ impl Regions {
         }
     }
 
-    // Puts a page behind the other bundles.
+    // Adds a page's bundle to the others, and returns its outcome.
     fn keep(&mut self, page: Page) -> Outcome
         ensures { IsKept page self.old result self.new }
     {
@@ -191,6 +220,7 @@ impl Regions {
         }
     }
 
+    // Hands a bundle to a region.
     fn deliver(&mut self, bundle: u64, number: RegionNumber) -> Outcome
         ensures { IsDelivery bundle number self.old result self.new }
     {
@@ -205,7 +235,8 @@ impl Regions {
     }
 }
 
-// What a delivery is told to have come to. None of these regions refuses what another made; a world's contract says so.
+// Returns the outcome of a delivery. No region here refuses a bundle of another, as the contract of
+// a world states.
 fn told(taken: Result<u16, TakeError>) -> Outcome
     ensures { result ≡ told_of taken }
 {
@@ -216,7 +247,9 @@ fn told(taken: Result<u16, TakeError>) -> Outcome
     }
 }
 
-// The client's end sends all of its request before the region's end is accepted, and reads the reply after that has closed.
+// Sends a request through a socket, serves it, and reads the reply.
+// The client's end sends the whole request before the region's end is accepted, and reads the reply
+// after the region's end is closed.
 fn request<R>(
     rt: &R,
     listener: &TcpListener,
@@ -241,7 +274,7 @@ where
     }
 }
 
-// Connects, writes the request and shuts the writing side.
+// Connects, writes the request and shuts down the writing side.
 fn send<R>(rt: &R, listener: &TcpListener, bytes: &[u8]) -> io::Result<TcpStream>
 where
     R: Net<Listener = TcpListener, Stream = TcpStream>,
@@ -269,7 +302,7 @@ fn serve_client<R: AllocGlobal + Clock>(
     }
 }
 
-// What the client's end reads until the region's end is closed.
+// Reads the reply at the client's end, after the region's end is closed.
 fn read_reply(alloc: Global, mut client: TcpStream, status: Status) -> Result<Outcome, Fault>
     ensures done { IfOk result (IsReplyOf status) }
     ensures fault { IfErr result IsSocketFault }

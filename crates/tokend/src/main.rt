@@ -1,13 +1,34 @@
-//! The program `tokend`: an authorisation server whose regions merge, run from a command line.
+//! The program `tokend`: an authorization server that runs in several regions, whose sets of facts
+//! merge.
 //!
-//! `tokend script` reads events as lines from the standard input, runs all of them in a world of regions, and prints one
-//! line for each; `tokend loopback` does the same with each request through a socket. `tokend serve` answers HTTP requests of one region on 127.0.0.1, the log before each reply. What an event
-//! or a request does is decided below, and what its line says and prints; here stand the words, the script, sockets, files and clocks, and the exit statuses:
-//! 0 done, 1 memory or a device, 2 bad words, or a bad script, seed or log.
+//! The program has three subcommands:
 //!
-//! In reading order: `command_line` (what clap is told), `options` (what the words ask for), `script` (the input as events); `draw` (random words), `timed` (a connection's time),
-//! `log_file`, `load` (logs new and old), `start` (a service before its first connection), `serve` (connections), `loopback` (a script's requests as connections); `fault` (what may go wrong, and how it is told), `program`
-//! (all of it in order); `promises` says what all of this is for. The definitions are in specs/, listed in `Lib`.
+//! - `tokend script` reads events as lines from the standard input, runs them in a world of
+//!   regions, and prints one line for each.
+//! - `tokend loopback` runs the same events with each request through a socket.
+//! - `tokend serve` replies to the HTTP requests of one region on 127.0.0.1, and writes the log
+//!   before each reply.
+//!
+//! The crates below decide what an event or a request does, and what its line contains. This crate
+//! has the arguments, the script, sockets, files, clocks, and the exit statuses:
+//!
+//! - 0: done
+//! - 1: memory or a device failed
+//! - 2: bad arguments, or a bad script, seed or log
+//!
+//! In reading order:
+//!
+//! - `command_line`: what clap knows. `options`: the task that the arguments request.
+//! - `script`: the input as events.
+//! - `draw`: random words. `timed`: a connection's time limit.
+//! - `log_file`, `load`: logs, new and old.
+//! - `start`: a service before its first connection. `serve`: its connections.
+//! - `loopback`: a script's requests as connections.
+//! - `fault`: what may go wrong, with its line and status.
+//! - `program`: the whole program, in order.
+//! - `promises`: the promises about regions.
+//!
+//! The definitions are in `specs/`, listed in `Lib`.
 #![tactic(auto)]
 
 mod command_line;
@@ -35,7 +56,8 @@ fn main(rt: HostRuntime) -> ExitCode {
     let status = match (words(&rt), BufWriter::new(rt.alloc(), rt.stdout())) {
         (Ok(words), Ok(mut output)) => {
             let status = run_program(&rt, words.as_slice(), &mut input, &mut output, &mut faults);
-            // A buffer that is dropped is written once more, so what a failed output left is taken from it.
+            // Dropping a buffer writes it once more, so the bytes that a failed output left are
+            // taken out first.
             let _ = output.into_parts();
             status
         }

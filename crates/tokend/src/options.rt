@@ -1,4 +1,4 @@
-//! What the words of the command line ask for.
+//! The task that the arguments request: `options` reads a `Task` from them.
 
 ghost use Rattle.std.specs.Prelude.{◌≡◌, ◌⊎◌, ◌<◌, ◌^◌, ℕ, IfOk, IfErr, IfSome, IfNone, map, false};
 ghost use Rattle.clap.specs.Words.{kind_of, rows_of, found_of, subcommand_rows_of};
@@ -6,7 +6,14 @@ ghost use Rattle.clap.specs.declared.error.kind.ErrorKind.TheVariants as kind;
 ghost use Rattle.tokend.specs.declared.options.Service.{Service as ServiceValue};
 ghost use Rattle.tokend.specs.declared.options.Task.TheVariants as task;
 ghost use Rattle.tk_region.specs.SettingsFields.{IsSettings};
-ghost use Rattle.tokend.specs.CommandLine.{settings_of, ReadsNumber, HasNumber, HasNumbers, HasService, HasText};
+ghost use Rattle.tokend.specs.CommandLine.{
+  settings_of,
+  ReadsNumber,
+  HasNumber,
+  HasNumbers,
+  HasService,
+  HasText,
+};
 ghost use Rattle.tokend.specs.Task.{Asks, IsTask, IsNoService, IsNoTask, IsNoText, IsRefusalOf};
 ghost use Rattle.tokend.specs.declared.options.Numbers.{Numbers as NumbersValue};
 
@@ -20,12 +27,13 @@ use std::rt::Env;
 use std::{env, io};
 use tk_world::Settings;
 
-/// What the program is asked to do.
+/// A task of the program.
 #[derive(Drop)]
 pub enum Task {
     /// Runs the lines of the standard input, in regions with these settings.
     Script(Numbers),
-    /// Runs them likewise, each request through a socket.
+    /// Runs the lines of the standard input, in regions with these settings, each request through a
+    /// socket.
     Loopback(Numbers),
     /// Serves requests over HTTP.
     Serve(Service),
@@ -42,34 +50,36 @@ pub struct Numbers {
     pub refresh: u64,
     /// How many seconds a family lives.
     pub family: u64,
-    /// The greatest serial of a fact that the region makes.
+    /// The cap: the greatest serial at which the region makes a fact.
     pub cap: u64,
 }
 
-/// A region that is served, and how.
+/// A region to serve, with its port and files.
 #[derive(Drop)]
 pub struct Service {
-    /// Its settings.
+    /// The region's settings.
     pub numbers: Numbers,
-    /// Its number, 1 to 65,535.
+    /// The region's number, 1 to 65,535.
     pub region: u16,
-    /// The port that is listened on, 0 for a free one.
+    /// The port to listen on, 0 for any free one.
     pub port: u16,
-    /// How many connections are served, without end where it is None.
+    /// How many connections to serve; `None` for no end.
     pub requests: Option<u64>,
     /// The file of the generator's key.
     pub seed: String,
-    /// The file that records are appended to.
+    /// The file to which records are written, if any.
     pub log: Option<String>,
-    /// The old log that is taken in first.
+    /// The old log to load before the first connection, if any.
     pub load: Option<String>,
 }
 
-/// What the words ask for, the first of them being the program's name. An error is a mistake in the words, a
-/// request for help or the version, or want of memory, as its kind says.
+/// Reads the task of the arguments. The first argument is the program's name.
+/// The error's kind is a mistake in the arguments, a request for help or the version, or out of
+/// memory.
 pub(crate) fn options<'a, S: AsStr>(alloc: Global, words: &'a [S]) -> Result<Task, Error>
     ensures task { IfOk result (Asks (map S.text words.entry.now)) }
-    ensures refused { IfErr result (λ e. (kind_of e ≡ kind.OutOfMemory) ⊎ IsRefusalOf (map S.text words.entry.now) (kind_of e)) }
+    ensures refused { IfErr result (λ e. (kind_of e ≡ kind.OutOfMemory)
+        ⊎ IsRefusalOf (map S.text words.entry.now) (kind_of e)) }
 {
     let Ok(mut command) = tokend_command(alloc) else {
         return Err(Error::from(AllocError));
@@ -88,14 +98,15 @@ pub(crate) fn options<'a, S: AsStr>(alloc: Global, words: &'a [S]) -> Result<Tas
     }
 }
 
-// What the matches of this command ask for.
+// Reads the task of a command's matches.
 fn read_task(
     alloc: Global,
     command: &mut Command<'_>,
     matches: &ArgMatches<'_>,
 ) -> Result<Task, Error>
     ensures task { IfOk result (IsTask (subcommand_rows_of matches.now)) }
-    ensures refused { IfErr result (λ e. (kind_of e ≡ kind.OutOfMemory) ⊎ ((kind_of e ≡ kind.MissingSubcommand) × IsNoTask (subcommand_rows_of matches.now))) }
+    ensures refused { IfErr result (λ e. (kind_of e ≡ kind.OutOfMemory)
+        ⊎ ((kind_of e ≡ kind.MissingSubcommand) × IsNoTask (subcommand_rows_of matches.now))) }
 {
     match read_matches(alloc, matches) {
         Ok(Some(task)) => Ok(task),
@@ -104,7 +115,7 @@ fn read_task(
     }
 }
 
-// The fault of words without a subcommand, or that there is no memory to tell of it.
+// Returns the error of arguments without a subcommand, or out of memory.
 fn no_subcommand(command: &mut Command<'_>) -> Error
     ensures { (kind_of result ≡ kind.OutOfMemory) ⊎ (kind_of result ≡ kind.MissingSubcommand) }
 {
@@ -114,7 +125,8 @@ fn no_subcommand(command: &mut Command<'_>) -> Error
     }
 }
 
-/// The words that the process was started with. Those that are no UTF-8 are a mistake in the words.
+/// Returns the arguments of the process. Arguments that aren't UTF-8 are a mistake in the
+/// arguments.
 pub(crate) fn words<R: Env + AllocGlobal>(rt: &R) -> Result<Vec<String>, Fault>
     ensures { IfErr result IsNoText }
 {
@@ -127,7 +139,7 @@ pub(crate) fn words<R: Env + AllocGlobal>(rt: &R) -> Result<Vec<String>, Fault>
     }
 }
 
-// The fault of words that couldn't be read.
+// Returns the fault of arguments that couldn't be read.
 fn unread_words(alloc: Global, kind: io::ErrorKind) -> Fault
     ensures { IsNoText result }
 {
@@ -140,7 +152,7 @@ fn unread_words(alloc: Global, kind: io::ErrorKind) -> Fault
     }
 }
 
-// The fault of words that are no UTF-8, or that there is no memory to tell of it.
+// Returns the fault of arguments that aren't UTF-8, or out of memory.
 fn no_text(command: &mut Command<'_>) -> Fault
     ensures { IsNoText result }
 {
@@ -152,7 +164,7 @@ fn no_text(command: &mut Command<'_>) -> Fault
 }
 
 impl Numbers {
-    /// The settings of these numbers.
+    /// Returns the settings of these numbers.
     pub(crate) fn settings(&self) -> Settings
         requires { IsSettings (settings_of self.now) }
         ensures { result ≡ settings_of self.now }
@@ -175,11 +187,11 @@ impl Service {
     /// The greatest port.
     pub const GREATEST_PORT: u64 = 65_535;
 
-    /// The most connections that can be asked for.
+    /// The greatest number of connections to serve.
     pub const GREATEST_REQUESTS: u64 = 4_294_967_295;
 }
 
-// What the matches say. A subcommand is always there, and so are its numbers: clap has seen to it.
+// Reads the task of clap's matches. clap ensures that there are a subcommand and its numbers.
 fn read_matches(alloc: Global, matches: &ArgMatches<'_>) -> Result<Option<Task>, AllocError>
     ensures task { IfOk result (λ task. IfSome task (IsTask (subcommand_rows_of matches.now))) }
     ensures none { IfOk result (λ task. IfNone task (IsNoTask (subcommand_rows_of matches.now))) }
@@ -205,9 +217,13 @@ fn read_matches(alloc: Global, matches: &ArgMatches<'_>) -> Result<Option<Task>,
     Ok(None)
 }
 
+// Reads the task `serve`.
 fn read_serve(alloc: Global, matches: &ArgMatches<'_>) -> Result<Option<Task>, AllocError>
-    ensures task { IfOk result (λ read. IfSome read (λ t. (s : ServiceValue) × (t ≡ task.Serve s) × HasService (rows_of (found_of matches.now)) s)) }
-    ensures none { IfOk result (λ read. IfNone read (IsNoService (rows_of (found_of matches.now)))) }
+    ensures task { IfOk result
+        (λ read. IfSome read (λ t. (s : ServiceValue) × (t ≡ task.Serve s)
+        × HasService (rows_of (found_of matches.now)) s)) }
+    ensures none { IfOk result
+        (λ read. IfNone read (IsNoService (rows_of (found_of matches.now)))) }
 {
     match read_service(alloc, matches) {
         Ok(Some(service)) => Ok(Some(Task::Serve(service))),
@@ -216,9 +232,12 @@ fn read_serve(alloc: Global, matches: &ArgMatches<'_>) -> Result<Option<Task>, A
     }
 }
 
+// Reads the region to serve, with its port and files.
 fn read_service(alloc: Global, matches: &ArgMatches<'_>) -> Result<Option<Service>, AllocError>
-    ensures service { IfOk result (λ service. IfSome service (HasService (rows_of (found_of matches.now)))) }
-    ensures none { IfOk result (λ service. IfNone service (IsNoService (rows_of (found_of matches.now)))) }
+    ensures service { IfOk result
+        (λ service. IfSome service (HasService (rows_of (found_of matches.now)))) }
+    ensures none { IfOk result
+        (λ service. IfNone service (IsNoService (rows_of (found_of matches.now)))) }
 {
     let Some(numbers) = read_numbers(matches) else {
         return Ok(None);
@@ -246,9 +265,11 @@ fn read_service(alloc: Global, matches: &ArgMatches<'_>) -> Result<Option<Servic
     }))
 }
 
+// Reads the five settings.
 fn read_numbers(matches: &ArgMatches<'_>) -> Option<Numbers>
     ensures numbers { IfSome result (HasNumbers (rows_of (found_of matches.now))) }
-    ensures none { IfNone result ((n : NumbersValue) → ¬ (HasNumbers (rows_of (found_of matches.now)) n)) }
+    ensures none { IfNone result ((n : NumbersValue)
+        → ¬ (HasNumbers (rows_of (found_of matches.now)) n)) }
 {
     Some(Numbers {
         code: number(matches, "code", 1, Settings::GREATEST_CODE)?,
@@ -259,10 +280,13 @@ fn read_numbers(matches: &ArgMatches<'_>) -> Option<Numbers>
     })
 }
 
-// A number within its range. Clap has tested the range, and its contract says so of the top level alone.
+// Reads a number within its range. clap has tested the range, but its contract states so only for
+// the top level.
 fn number(matches: &ArgMatches<'_>, id: &str, least: u64, greatest: u64) -> Option<u64>
-    ensures value { IfSome result (HasNumber (rows_of (found_of matches.now)) id.now least greatest) }
-    ensures none { IfNone result ((n : ℕ) → ¬ (HasNumber (rows_of (found_of matches.now)) id.now least greatest n)) }
+    ensures value { IfSome result
+        (HasNumber (rows_of (found_of matches.now)) id.now least greatest) }
+    ensures none { IfNone result ((n : ℕ)
+        → ¬ (HasNumber (rows_of (found_of matches.now)) id.now least greatest n)) }
 {
     let n = given(matches, id)?;
     if least <= n && n <= greatest {
@@ -272,15 +296,16 @@ fn number(matches: &ArgMatches<'_>, id: &str, least: u64, greatest: u64) -> Opti
     }
 }
 
-// The number of an option.
+// Reads the number of an option.
 fn given(matches: &ArgMatches<'_>, id: &str) -> Option<u64>
     ensures value { IfSome result (ReadsNumber (rows_of (found_of matches.now)) id.now) }
-    ensures none { IfNone result ((n : ℕ) → n < 2 ^ 64 → ¬ (ReadsNumber (rows_of (found_of matches.now)) id.now n)) }
+    ensures none { IfNone result ((n : ℕ) → n < 2 ^ 64
+        → ¬ (ReadsNumber (rows_of (found_of matches.now)) id.now n)) }
 {
     matches.get_one::<u64>(id)
 }
 
-// The text of an option, as it was given.
+// Reads the text of an option, as it was given.
 fn read_text(
     alloc: Global,
     matches: &ArgMatches<'_>,

@@ -1,6 +1,19 @@
-//! All of the program in order, over any reader and writers.
+//! The whole program in order, over any reader and writers: `run_program`.
 
-ghost use Rattle.std.specs.Prelude.{◌≡◌, ◌≢◌, ◌⊎◌, ◌≤◌, List, Some, OnOk, OnErr, IfErr, MatchResult, length, map};
+ghost use Rattle.std.specs.Prelude.{
+  ◌≡◌,
+  ◌≢◌,
+  ◌⊎◌,
+  ◌≤◌,
+  List,
+  Some,
+  OnOk,
+  OnErr,
+  IfErr,
+  MatchResult,
+  length,
+  map,
+};
 ghost use Rattle.std.specs.Io.KnownBytes.{Appends, Keeps};
 ghost use Rattle.tk_world.specs.Printed.{lines_text};
 ghost use Rattle.clap.specs.Words.{Text, kind_of};
@@ -30,9 +43,12 @@ use std::rt::Files;
 use std::time::Clock;
 use tk_world::{Event, Outcome, Settings, World, print_outcomes};
 
-/// Does what the words ask for, the first of them being the program's name, and gives the exit status: 0 done,
-/// 1 memory or a device, 2 bad words or a bad script. A fault is told on `faults`, whose own failures are ignored.
-/// The output is written in small pieces and flushed at the end.
+/// Does the task that the arguments request, and returns the exit status.
+///
+/// The first argument is the program's name. The status is 0 when done, 1 if memory or a device
+/// failed, and 2 for bad arguments or a bad script, seed or log. A fault's line is written to
+/// `faults`, whose own failures are ignored. The output is written in small pieces and flushed at
+/// the end.
 pub(crate) fn run_program<R, S: AsStr, I: Read, O: Write, E: Write>(
     rt: &R,
     words: &[S],
@@ -43,26 +59,36 @@ pub(crate) fn run_program<R, S: AsStr, I: Read, O: Write, E: Write>(
 where
     R: AllocGlobal + Files + Clock + Net<Listener = TcpListener, Stream = TcpStream>,
     ensures status { result ≤ 2 }
-    ensures done { result ≡ 0 → IsDone (map S.text words.now) (I.remaining input.old) (O.contents output.old) (O.contents output.new) }
-    ensures quiet { result ≡ 0 → IsQuiet (map S.text words.now) (E.contents faults.old) (E.contents faults.new) }
+    ensures done { result ≡ 0
+        → IsDone (map S.text words.now) (I.remaining input.old) (O.contents output.old)
+        (O.contents output.new) }
+    ensures quiet { result ≡ 0
+        → IsQuiet (map S.text words.now) (E.contents faults.old) (E.contents faults.new) }
 
-    // Memory or a device may cause the fault, and what was written is the beginning of what would have been.
-    ensures broken { result ≡ 1 → (fault : FaultValue) × (status_of fault ≡ 1) × IsFaultFor (map S.text words.now) (I.remaining input.old) fault
-        × Leaves (map S.text words.now) (I.remaining input.old) fault (O.contents output.old) (O.contents output.new)
+    // Status 1: memory or a device may cause the fault, and the output has a beginning of what
+    // would have been written.
+    ensures broken { result ≡ 1
+        → (fault : FaultValue) × (status_of fault ≡ 1)
+        × IsFaultFor (map S.text words.now) (I.remaining input.old) fault
+        × Leaves (map S.text words.now) (I.remaining input.old) fault (O.contents output.old)
+        (O.contents output.new)
         × Tells fault (E.contents faults.old) (E.contents faults.new) }
 
-    // A refusal writes nothing.
+    // Status 2: the output has no new byte.
     ensures refused { result ≡ 2 → (fault : FaultValue) × (status_of fault ≡ 2)
-        × IsFaultFor (map S.text words.now) (I.remaining input.old) fault × Keeps (O.contents output.old) (O.contents output.new)
+        × IsFaultFor (map S.text words.now) (I.remaining input.old) fault
+        × Keeps (O.contents output.old) (O.contents output.new)
         × Tells fault (E.contents faults.old) (E.contents faults.new) }
 {
     finish(run(rt, words, input, output, faults), faults)
 }
 
-/// The exit status of a run, whose fault is told on `faults`.
+/// Returns the exit status of a run, and writes its fault, if any, to `faults`.
 pub(crate) fn finish<E: Write>(ran: Result<(), Fault>, faults: &mut E) -> u8
-    ensures { MatchResult ran (λ _. (result ≡ 0) × Keeps (E.contents faults.old) (E.contents faults.new))
-        (λ fault. (result ≡ status_of fault) × Tells fault (E.contents faults.old) (E.contents faults.new)) }
+    ensures { MatchResult ran (λ _. (result ≡ 0)
+        × Keeps (E.contents faults.old) (E.contents faults.new))
+        (λ fault. (result ≡ status_of fault)
+        × Tells fault (E.contents faults.old) (E.contents faults.new)) }
 {
     match ran {
         Ok(()) => 0,
@@ -73,6 +99,7 @@ pub(crate) fn finish<E: Write>(ran: Result<(), Fault>, faults: &mut E) -> u8
     }
 }
 
+// Does the task that the arguments request.
 fn run<R, S: AsStr, I: Read, O: Write, E: Write>(
     rt: &R,
     words: &[S],
@@ -82,10 +109,15 @@ fn run<R, S: AsStr, I: Read, O: Write, E: Write>(
 ) -> Result<(), Fault>
 where
     R: AllocGlobal + Files + Clock + Net<Listener = TcpListener, Stream = TcpStream>,
-    ensures done { OnOk result (IsDone (map S.text words.now) (I.remaining input.old) (O.contents output.old) (O.contents output.new)) }
+    ensures done { OnOk result
+        (IsDone (map S.text words.now) (I.remaining input.old) (O.contents output.old)
+        (O.contents output.new)) }
     ensures fault { IfErr result (IsFaultFor (map S.text words.now) (I.remaining input.old)) }
-    ensures left { IfErr result (λ fault. Leaves (map S.text words.now) (I.remaining input.old) fault (O.contents output.old) (O.contents output.new)) }
-    ensures quiet { OnOk result (IsQuiet (map S.text words.now) (E.contents faults.old) (E.contents faults.new)) }
+    ensures left { IfErr result
+        (λ fault. Leaves (map S.text words.now) (I.remaining input.old) fault
+        (O.contents output.old) (O.contents output.new)) }
+    ensures quiet { OnOk result
+        (IsQuiet (map S.text words.now) (E.contents faults.old) (E.contents faults.new)) }
     ensures silent { OnErr result (Keeps (E.contents faults.old) (E.contents faults.new)) }
 {
     match options(rt.alloc(), words) {
@@ -98,7 +130,7 @@ where
     }
 }
 
-// Does a task that some words ask for.
+// Does a task. The clauses name the arguments that request it.
 fn run_task<R, I: Read, O: Write, E: Write>(
     rt: &R,
     task: &Task,
@@ -109,10 +141,17 @@ fn run_task<R, I: Read, O: Write, E: Write>(
 where
     R: AllocGlobal + Files + Clock + Net<Listener = TcpListener, Stream = TcpStream>,
     requires { (words : List Text) × Asks words task.now }
-    ensures done { (words : List Text) → Asks words task.now → OnOk result (IsDone words (I.remaining input.old) (O.contents output.old) (O.contents output.new)) }
-    ensures fault { (words : List Text) → Asks words task.now → IfErr result (IsFaultFor words (I.remaining input.old)) }
-    ensures left { (words : List Text) → Asks words task.now → IfErr result (λ fault. Leaves words (I.remaining input.old) fault (O.contents output.old) (O.contents output.new)) }
-    ensures quiet { (words : List Text) → Asks words task.now → OnOk result (IsQuiet words (E.contents faults.old) (E.contents faults.new)) }
+    ensures done { (words : List Text) → Asks words task.now
+        → OnOk result
+        (IsDone words (I.remaining input.old) (O.contents output.old) (O.contents output.new)) }
+    ensures fault { (words : List Text) → Asks words task.now
+        → IfErr result (IsFaultFor words (I.remaining input.old)) }
+    ensures left { (words : List Text) → Asks words task.now
+        → IfErr result
+        (λ fault. Leaves words (I.remaining input.old) fault (O.contents output.old)
+        (O.contents output.new)) }
+    ensures quiet { (words : List Text) → Asks words task.now
+        → OnOk result (IsQuiet words (E.contents faults.old) (E.contents faults.new)) }
     ensures silent { OnErr result (Keeps (E.contents faults.old) (E.contents faults.new)) }
 {
     match task {
@@ -122,11 +161,15 @@ where
     }
 }
 
-// Help and the version are shown; what else clap ends with is a fault.
+// Prints help and the version. Any other error of clap is a fault.
 fn show_or_refuse<O: Write>(output: &mut O, error: Error) -> Result<(), Fault>
-    ensures shown { OnOk result ((kind_of error ≡ kind.DisplayHelp) ⊎ (kind_of error ≡ kind.DisplayVersion)) }
-    ensures fault { IfErr result (λ f. ((f ≡ fault.Output) × ((kind_of error ≡ kind.DisplayHelp) ⊎ (kind_of error ≡ kind.DisplayVersion)))
-        ⊎ (((f ≡ fault.Memory) ⊎ ((f ≡ fault.Words error) × (kind_of error ≢ kind.OutOfMemory) × IsNoShow (kind_of error)))
+    ensures shown { OnOk result ((kind_of error ≡ kind.DisplayHelp)
+        ⊎ (kind_of error ≡ kind.DisplayVersion)) }
+    ensures fault { IfErr result
+        (λ f. ((f ≡ fault.Output)
+        × ((kind_of error ≡ kind.DisplayHelp) ⊎ (kind_of error ≡ kind.DisplayVersion)))
+        ⊎ (((f ≡ fault.Memory)
+        ⊎ ((f ≡ fault.Words error) × (kind_of error ≢ kind.OutOfMemory) × IsNoShow (kind_of error)))
         × Keeps (O.contents output.old) (O.contents output.new))) }
 {
     match error.kind() {
@@ -139,22 +182,26 @@ fn show_or_refuse<O: Write>(output: &mut O, error: Error) -> Result<(), Fault>
     }
 }
 
-// The text that clap has for help and for the version.
+// Prints clap's text for help or the version.
 fn show<O: Write>(output: &mut O, text: &Error) -> io::Result<()> {
     write!(output, "{text}")?;
     output.flush()
 }
 
-// All that may fail for memory or input comes before the first event.
+// Runs a script. All that may fail for memory or input happens before the first event.
 fn run_script<I: Read, O: Write>(
     alloc: Global,
     settings: Settings,
     input: &mut I,
     output: &mut O,
 ) -> Result<(), Fault>
-    ensures done { OnOk result (PrintsScript settings (I.remaining input.old) (O.contents output.old) (O.contents output.new)) }
+    ensures done { OnOk result
+        (PrintsScript settings (I.remaining input.old) (O.contents output.old)
+        (O.contents output.new)) }
     ensures fault { IfErr result (IsScriptFault (I.remaining input.old)) }
-    ensures left { IfErr result (λ fault. LeavesScript settings (I.remaining input.old) fault (O.contents output.old) (O.contents output.new)) }
+    ensures left { IfErr result
+        (λ fault. LeavesScript settings (I.remaining input.old) fault (O.contents output.old)
+        (O.contents output.new)) }
 {
     match read_script(alloc, input) {
         Ok(script) => run_text(alloc, settings, script.as_slice(), output),
@@ -170,9 +217,12 @@ fn run_text<O: Write>(
     output: &mut O,
 ) -> Result<(), Fault>
     requires { length script.now ≤ greatest_length }
-    ensures done { OnOk result (PrintsScript settings (Some script.now) (O.contents output.old) (O.contents output.new)) }
+    ensures done { OnOk result
+        (PrintsScript settings (Some script.now) (O.contents output.old) (O.contents output.new)) }
     ensures fault { IfErr result (IsScriptFault (Some script.now)) }
-    ensures left { IfErr result (λ fault. LeavesScript settings (Some script.now) fault (O.contents output.old) (O.contents output.new)) }
+    ensures left { IfErr result
+        (λ fault. LeavesScript settings (Some script.now) fault (O.contents output.old)
+        (O.contents output.new)) }
 {
     let events = match read_events(alloc, script, None) {
         Ok(events) => events,
@@ -185,7 +235,8 @@ fn run_text<O: Write>(
     }
 }
 
-// As `run_script`, with each request through a socket. Of sockets nothing is known, so its outcomes aren't either.
+// Runs a script with each request through a socket. The bytes of sockets are unknown, so the
+// clauses can't determine its outcomes.
 fn run_loopback<R, I: Read, O: Write>(
     rt: &R,
     settings: Settings,
@@ -194,9 +245,13 @@ fn run_loopback<R, I: Read, O: Write>(
 ) -> Result<(), Fault>
 where
     R: AllocGlobal + Clock + Net<Listener = TcpListener, Stream = TcpStream>,
-    ensures done { OnOk result (PrintsLoopback (I.remaining input.old) (O.contents output.old) (O.contents output.new)) }
+    ensures done { OnOk result
+        (PrintsLoopback settings (I.remaining input.old) (O.contents output.old)
+        (O.contents output.new)) }
     ensures fault { IfErr result (IsLoopbackFault (I.remaining input.old)) }
-    ensures left { IfErr result (λ fault. LeavesLoopback (I.remaining input.old) fault (O.contents output.old) (O.contents output.new)) }
+    ensures left { IfErr result
+        (λ fault. LeavesLoopback settings (I.remaining input.old) fault (O.contents output.old)
+        (O.contents output.new)) }
 {
     match read_script(rt.alloc(), input) {
         Ok(script) => loop_text(rt, settings, script.as_slice(), output),
@@ -214,9 +269,13 @@ fn loop_text<R, O: Write>(
 where
     R: AllocGlobal + Clock + Net<Listener = TcpListener, Stream = TcpStream>,
     requires { length script.now ≤ greatest_length }
-    ensures done { OnOk result (PrintsLoopback (Some script.now) (O.contents output.old) (O.contents output.new)) }
+    ensures done { OnOk result
+        (PrintsLoopback settings (Some script.now) (O.contents output.old)
+        (O.contents output.new)) }
     ensures fault { IfErr result (IsLoopbackFault (Some script.now)) }
-    ensures left { IfErr result (λ fault. LeavesLoopback (Some script.now) fault (O.contents output.old) (O.contents output.new)) }
+    ensures left { IfErr result
+        (λ fault. LeavesLoopback settings (Some script.now) fault (O.contents output.old)
+        (O.contents output.new)) }
 {
     let events = match read_events(rt.alloc(), script, Some(LONGEST)) {
         Ok(events) => events,
@@ -228,14 +287,18 @@ where
     }
 }
 
-// Prints the lines; where the output fails, it has the beginning of them.
+// Prints the lines. A failed output has the beginning of them.
 fn print_lines<O: Write>(
     output: &mut O,
     events: &[Event],
     outcomes: &[Outcome],
 ) -> Result<(), Fault>
-    ensures done { OnOk result (Appends (O.contents output.old) (O.contents output.new) (lines_text events.now outcomes.now)) }
-    ensures fault { IfErr result (λ f. (f ≡ fault.Output) × AppendsFront (O.contents output.old) (O.contents output.new) (lines_text events.now outcomes.now)) }
+    ensures done { OnOk result
+        (Appends (O.contents output.old) (O.contents output.new)
+        (lines_text events.now outcomes.now)) }
+    ensures fault { IfErr result (λ f. (f ≡ fault.Output)
+        × AppendsFront (O.contents output.old) (O.contents output.new)
+        (lines_text events.now outcomes.now)) }
 {
     match print_all(output, events, outcomes) {
         Ok(()) => Ok(()),
@@ -243,9 +306,10 @@ fn print_lines<O: Write>(
     }
 }
 
-// A line for each event, and none is left in a buffer.
+// Prints a line for each event, and flushes.
 fn print_all<O: Write>(output: &mut O, events: &[Event], outcomes: &[Outcome]) -> io::Result<()>
-    ensures { Prints result (O.contents output.old) (O.contents output.new) (lines_text events.now outcomes.now) }
+    ensures { Prints result (O.contents output.old) (O.contents output.new)
+        (lines_text events.now outcomes.now) }
 {
     match print_outcomes(output, events, outcomes) {
         Ok(()) => output.flush(),

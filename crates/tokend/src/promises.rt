@@ -1,7 +1,14 @@
-//! What is promised of regions, a function for each promise: its body is one call of `tk_world`, and its contract is the
-//! promise, proved from the public contract of that call alone. The program calls none of them.
+//! The promises about regions, a function for each.
+//!
+//! The contract of a function is the promise. Its body is one call of `tk_world`, and the promise
+//! is proved from the public contract of that call alone. The program calls none of these
+//! functions.
+//!
+//! Five promises are about a run of events. Each of these names its run, so that a function that
+//! runs no events can't meet the promise. Three promises hold of any world, whatever brought it
+//! about: that regions agree, and the two about inactive tokens.
 
-ghost use Rattle.std.specs.Prelude.{◌≡◌, ℕ, List, IfOk, OnErr};
+ghost use Rattle.std.specs.Prelude.{◌≡◌, ℕ, List, IfOk, MatchResult};
 ghost use Rattle.tk_store.specs.FactSet.{Agree, AllIn, Facts, IsSubset};
 ghost use Rattle.tk_store.specs.Joining.{SameFacts};
 ghost use Rattle.tk_world.specs.Promises.{IntrospectAlike, RevokedInactive, FamiliesInactive};
@@ -11,11 +18,14 @@ ghost use Rattle.tk_world.specs.World.{Run, seen_by};
 use std::alloc::AllocError;
 use tk_world::{Event, Outcome, World};
 
-/// Facts stay: what a region held before a run, it holds after it.
+/// Facts stay: what a region held before a run, it holds after the run.
 pub fn facts_stay(world: &mut World, events: &[Event]) -> Result<Vec<Outcome>, AllocError>
-    ensures { IfOk result (λ _. (r : ℕ) → IsSubset (facts_in world.old r) (facts_in world.new r)) }
+    ensures { IfOk result (λ outcomes. (shown : List Facts)
+        × Run world.old events.now outcomes.items shown world.new
+        × ((r : ℕ) → IsSubset (facts_in world.old r) (facts_in world.new r))) }
 {
-    world.run(events)
+    let outcomes = world.run(events)?;
+    Ok(outcomes)
 }
 
 /// A region holds what it made and took in.
@@ -23,74 +33,89 @@ pub fn regions_hold_what_they_have_seen(
     world: &mut World,
     events: &[Event],
 ) -> Result<Vec<Outcome>, AllocError>
-    ensures { IfOk result (λ outcomes. (shown : List Facts) × Run world.old events.now outcomes.items shown world.new
+    ensures { IfOk result (λ outcomes. (shown : List Facts)
+        × Run world.old events.now outcomes.items shown world.new
         × ((r : ℕ) → AllIn (facts_in world.new r) (seen_by r events.now shown))) }
 {
     world.run(events)
 }
 
-/// Regions that have seen the same are the same: two that held equal sets before a run, both none say, and that have made and
-/// taken in the same facts in it, in whatever order and however often, hold equal sets after it.
+/// Regions that have seen the same facts are the same.
+///
+/// The regions held equal sets before the run, for example both empty. During the run they made and
+/// took in the same facts, in any order and any number of times. They hold equal sets after the
+/// run.
 pub fn regions_that_have_seen_the_same_are_the_same(
     world: &mut World,
     events: &[Event],
 ) -> Result<Vec<Outcome>, AllocError>
-    ensures { IfOk result (λ outcomes. (shown : List Facts) × Run world.old events.now outcomes.items shown world.new
-        × ((q r : ℕ) → facts_in world.old q ≡ facts_in world.old r → SameFacts (seen_by q events.now shown) (seen_by r events.now shown)
+    ensures { IfOk result (λ outcomes. (shown : List Facts)
+        × Run world.old events.now outcomes.items shown world.new
+        × ((q r : ℕ) → facts_in world.old q ≡ facts_in world.old r
+        → SameFacts (seen_by q events.now shown) (seen_by r events.now shown)
         → facts_in world.new q ≡ facts_in world.new r)) }
 {
     world.run(events)
 }
 
-/// Regions agree: no two of them hold two facts at one dot.
+/// Regions agree in any world: no two of them hold different facts at one dot.
 pub fn regions_agree(world: &World)
     ensures { (q r : ℕ) → Agree (facts_in world.now q) (facts_in world.now r) }
 {
     world.known()
 }
 
-/// Equal facts introspect alike: where two regions hold equal sets when they are asked, bytes that mean the same introspection
-/// request get the same status and the same bytes at the same moment, whatever their numbers and the words (RFC 7662, 2.2).
+/// Regions with equal facts introspect alike (RFC 7662, 2.2).
+///
+/// The regions hold equal sets when the request arrives. Bytes that mean the same introspection
+/// request at the same moment get the same status and the same bytes. The regions' numbers and the
+/// random words don't matter.
 pub fn equal_facts_introspect_alike(
     world: &mut World,
     events: &[Event],
 ) -> Result<Vec<Outcome>, AllocError>
-    ensures { IfOk result (λ outcomes. (shown : List Facts) × Run world.old events.now outcomes.items shown world.new
+    ensures { IfOk result (λ outcomes. (shown : List Facts)
+        × Run world.old events.now outcomes.items shown world.new
         × IntrospectAlike world.old events.now outcomes.items shown) }
 {
     world.run(events)
 }
 
-/// Revoked tokens are inactive: where a region holds facts by which a token's client revoked it, the token is active at no
-/// moment, and introspection tells nobody of it (RFC 7009, 2.1; RFC 7662, 2.2).
-pub fn revoked_tokens_are_inactive(
-    world: &mut World,
-    events: &[Event],
-) -> Result<Vec<Outcome>, AllocError>
-    ensures { RevokedInactive world.new }
+/// Revoked tokens are inactive in any world (RFC 7009, 2.1; RFC 7662, 2.2).
+///
+/// The region holds facts by which the token's client revoked it. The token is active at no moment,
+/// and introspection reports it as inactive to everyone.
+pub fn revoked_tokens_are_inactive(world: &World)
+    ensures { RevokedInactive world.now }
 {
-    world.run(events)
+    world.known()
 }
 
-/// Families with a bad grant are inactive: where a region holds facts by which a code or refresh token was used twice, was
-/// seen to be reused, is a refresh token that its client revoked, or a code whose subject signed out at its start or later,
-/// each token under the same code is active at no moment, and introspection tells nobody of it (RFC 6749, 4.1.2, 10.4 and
-/// 10.5).
-pub fn families_with_a_bad_grant_are_inactive(
-    world: &mut World,
-    events: &[Event],
-) -> Result<Vec<Outcome>, AllocError>
-    ensures { FamiliesInactive world.new }
+/// Families with a bad grant are inactive in any world (RFC 6749, 4.1.2, 10.4 and 10.5).
+///
+/// The region holds facts by which a grant is bad. Such a grant is one of:
+///
+/// - a code or refresh token that was used twice, or seen to be reused
+/// - a refresh token that its client revoked
+/// - a code whose subject signed out at the code's start or later
+///
+/// Each token under the same code is active at no moment, and introspection reports it as inactive
+/// to everyone.
+pub fn families_with_a_bad_grant_are_inactive(world: &World)
+    ensures { FamiliesInactive world.now }
 {
-    world.run(events)
+    world.known()
 }
 
-/// An error changes nothing: where memory is refused for a whole run, no event of it was run.
+/// An error changes nothing: a call ends with a run of all its events, or with an error and no
+/// event run.
 pub fn an_error_changes_nothing(
     world: &mut World,
     events: &[Event],
 ) -> Result<Vec<Outcome>, AllocError>
-    ensures { OnErr result (world.new ≡ world.old) }
+    ensures { MatchResult result
+        (λ outcomes. (shown : List Facts) × Run world.old events.now outcomes.items shown world.new)
+        (λ _. world.new ≡ world.old) }
 {
     world.run(events)
 }

@@ -1,6 +1,31 @@
-ghost use Rattle.std.specs.Prelude.{◌≡◌, ◌≤◌, ◌<◌, ◌^◌, ◌↔◌, ℕ, IfOk, IfErr, IfSome, length, slice_get, vec_len, IsTrue};
+//! The script: `read_script` reads the input, and `read_events` makes its lines events.
+
+ghost use Rattle.std.specs.Prelude.{
+  ◌≡◌,
+  ◌≤◌,
+  ◌<◌,
+  ◌^◌,
+  ◌↔◌,
+  ℕ,
+  IfOk,
+  IfErr,
+  IfSome,
+  length,
+  slice_get,
+  vec_len,
+  IsTrue,
+};
 ghost use Rattle.tk_world.specs.Line.{HasWords};
-ghost use Rattle.tokend.specs.Script.{greatest_length, lines_of, AreEvents, AreShort, IsFaultOf, IsInputFault, IsTooLong, words_at};
+ghost use Rattle.tokend.specs.Script.{
+  greatest_length,
+  lines_of,
+  AreEvents,
+  AreShort,
+  IsFaultOf,
+  IsInputFault,
+  IsTooLong,
+  words_at,
+};
 
 use crate::fault::Fault;
 use std::alloc::Global;
@@ -11,11 +36,16 @@ use tk_world::Event;
 /// The greatest length of a script, in bytes.
 pub const LIMIT: usize = 1_048_576;
 
-/// All that the input has, up to the limit. An input that fails or is interrupted can't be read, whatever it gave
-/// before; a longer one is too long.
+/// Reads all of the input, up to the limit.
+///
+/// # Errors
+///
+/// `CannotRead` if the input fails or is interrupted, whatever it gave before. `ScriptTooLong` if
+/// the input is longer than the limit. `Memory` if memory runs out.
 pub(crate) fn read_script<I: Read>(alloc: Global, input: &mut I) -> Result<Vec<u8>, Fault>
     ensures short { IfOk result (λ script. vec_len script ≤ greatest_length) }
-    ensures whole { IfOk result (λ script. IfSome (I.remaining input.old) (λ bytes. script.items ≡ bytes)) }
+    ensures whole { IfOk result
+        (λ script. IfSome (I.remaining input.old) (λ bytes. script.items ≡ bytes)) }
     ensures fault { IfErr result (IsInputFault (I.remaining input.old)) }
 {
     let mut script = Vec::new(alloc);
@@ -30,8 +60,15 @@ pub(crate) fn read_script<I: Read>(alloc: Global, input: &mut I) -> Result<Vec<u
     Err(Fault::ScriptTooLong)
 }
 
-/// The events of a script's lines, in order; the fault is the first line that is none, or whose request has more bytes than
-/// `longest`. Lines end with LF, the last may lack it. Empty lines, and lines that begin with `#`, are no events.
+/// Reads the events of a script's lines, in order.
+///
+/// Lines end with LF, which the last line may lack. Empty lines, and lines that begin with `#`, are
+/// no events.
+///
+/// # Errors
+///
+/// `BadLine` with the first line that is no event, or whose request has more than `longest` bytes.
+/// `Memory` if memory runs out.
 pub(crate) fn read_events(
     alloc: Global,
     script: &[u8],
@@ -40,7 +77,8 @@ pub(crate) fn read_events(
     requires { length script.now ≤ greatest_length }
     ensures found { IfOk result (λ events. AreEvents (lines_of script.now) events.items) }
     ensures short { IfOk result (λ events. AreShort longest events.items) }
-    ensures words { IfOk result (λ events. (k : ℕ) → IfSome (slice_get events.items k) (HasWords (words_at k))) }
+    ensures words { IfOk result (λ events. (k : ℕ)
+        → IfSome (slice_get events.items k) (HasWords (words_at k))) }
     ensures fault { IfErr result (IsFaultOf longest script.now) }
 {
     let mut events = Vec::new(alloc);
@@ -58,7 +96,7 @@ pub(crate) fn read_events(
     Ok(events)
 }
 
-// Whether a request has more bytes than it may have.
+// Returns whether a request has more bytes than the limit, if there is one.
 fn is_too_long(event: &Event, longest: Option<u64>) -> bool
     ensures { IsTrue result ↔ IsTooLong longest event.now }
 {
@@ -68,7 +106,7 @@ fn is_too_long(event: &Event, longest: Option<u64>) -> bool
     }
 }
 
-// The words that an event draws, by its place among the events.
+// Returns the random words of an event, by its index among the events.
 fn words_of(event: u64) -> [u64; 6]
     requires { event < 2 ^ 60 }
     ensures { result ≡ words_at event }

@@ -1,18 +1,32 @@
-//! The server: connections one after the other, the log before each reply.
+//! The server: `serve` handles connections one after the other, and writes the log before each
+//! reply.
 
-ghost use Rattle.std.specs.Prelude.{◌≡◌, ℕ, List, length, IfErr, OnOk, OnErr, Result, Err};
+ghost use Rattle.std.specs.Prelude.{◌≡◌, ℕ, IfErr, OnOk, OnErr, Err};
 ghost use Rattle.std.specs.Io.KnownBytes.{Keeps};
 ghost use Rattle.tk_edge.specs.Failures.{Rose};
-ghost use Rattle.tk_edge.specs.declared.edge.Served.{Served as AnyEnd};
-ghost use Rattle.tk_edge.specs.declared.tell.Fault.{Fault as AnyFault};
 ghost use Rattle.tk_handle.specs.Ranges.{IsRegion};
 ghost use Rattle.tk_region.specs.RegionFields.{Gains};
 ghost use Rattle.tk_region.specs.SettingsFields.{IsSettings};
 ghost use Rattle.tk_store.specs.FactSet.{Facts};
 ghost use Rattle.tokend.specs.CommandLine.{settings_of};
-ghost use Rattle.tokend.specs.Connection.{AreConnections, IsConnection, Told, so_many};
+ghost use Rattle.tokend.specs.Connection.{IsConnection, ServesAll, ServesWithLog, Told};
 ghost use Rattle.tk_world.specs.Put.{Prints, joined_text};
-ghost use Rattle.tokend.specs.Serving.{announced, both_lines, connection_fault, listening_line, Announces, AnnouncesDrop, IsServiceFault, LeavesService};
+ghost use Rattle.tokend.specs.ServiceRun.{HasRun, IsServiceRun};
+ghost use Rattle.tokend.specs.Serving.{
+  announced,
+  both_lines,
+  connection_fault,
+  listening_line,
+  Announces,
+  IsListenedOn,
+};
+ghost use Rattle.tokend.specs.Serving.{
+  IsListenFault,
+  IsServiceFault,
+  IsStartFault,
+  LeavesAnnouncement,
+  LeavesService,
+};
 
 use crate::draw::draw;
 use crate::fault::Fault;
@@ -31,11 +45,13 @@ use tk_edge::{Discard, Edge, Fault as EdgeFault, Served, Sink, Source};
 use tk_handle::Moment;
 use tk_world::put_all;
 
-/// How many bytes of a client are dropped behind its request.
+/// How many bytes after its request a client may send, which the server reads and drops.
 const DROPPED: usize = 65_536;
 
-/// Serves what the words ask for, until so many connections have come, or without end. All that may end it comes before
-/// its first line is written; what befalls a connection is told on `faults` and ends that connection alone.
+/// Serves a region, for the given number of connections or without end.
+///
+/// Faults that end the service happen before its first line is written. A fault of a connection is
+/// a line on `faults`, and ends that connection alone.
 pub(crate) fn serve<R, O: Write, E: Write>(
     rt: &R,
     service: &Service,
@@ -46,9 +62,13 @@ where
     R: AllocGlobal + Files + Clock + Net<Listener = TcpListener, Stream = TcpStream>,
     requires settings { IsSettings (settings_of service.now.numbers) }
     requires region { IsRegion service.now.region }
-    ensures done { OnOk result (Announces (O.contents output.old) (O.contents output.new)) }
-    ensures fault { IfErr result IsServiceFault }
-    ensures left { IfErr result (λ fault. LeavesService fault (O.contents output.old) (O.contents output.new)) }
+    ensures done { OnOk result
+        (IsServiceRun service.now
+        (record { before = O.contents output.old; after = O.contents output.new })
+        (record { before = E.contents faults.old; after = E.contents faults.new })) }
+    ensures fault { IfErr result (IsServiceFault service.now) }
+    ensures left { IfErr result
+        (λ fault. LeavesService service.now fault (O.contents output.old) (O.contents output.new)) }
     ensures silent { OnErr result (Keeps (E.contents faults.old) (E.contents faults.new)) }
 {
     match begin(rt, service) {
@@ -61,7 +81,7 @@ where
     }
 }
 
-// Takes in the facts of the old log, where there is one, and serves.
+// Loads the old log, if there is one, and serves.
 fn load_and_serve<R, O: Write, E: Write>(
     rt: &R,
     service: &Service,
@@ -71,9 +91,12 @@ fn load_and_serve<R, O: Write, E: Write>(
 ) -> Result<(), Fault>
 where
     R: AllocGlobal + Files + Clock + Net<Listener = TcpListener, Stream = TcpStream>,
-    ensures done { OnOk result (Announces (O.contents output.old) (O.contents output.new)) }
-    ensures fault { IfErr result IsServiceFault }
-    ensures left { IfErr result (λ fault. LeavesService fault (O.contents output.old) (O.contents output.new)) }
+    ensures done { OnOk result (HasRun service.now start.old.edge start.old.words
+        (record { before = O.contents output.old; after = O.contents output.new })
+        (record { before = E.contents faults.old; after = E.contents faults.new })) }
+    ensures fault { IfErr result (IsServiceFault service.now) }
+    ensures left { IfErr result
+        (λ fault. LeavesService service.now fault (O.contents output.old) (O.contents output.new)) }
     ensures silent { OnErr result (Keeps (E.contents faults.old) (E.contents faults.new)) }
 {
     match load_old(rt, start.edge.region_mut(), &service.load) {
@@ -82,7 +105,8 @@ where
     }
 }
 
-// Opens the new log, where there is one, and serves. So many bytes of the old one were dropped.
+// Opens the new log, if there is one, and serves. `dropped` is how many bytes of the old log were
+// dropped.
 fn log_and_serve<R, O: Write, E: Write>(
     rt: &R,
     service: &Service,
@@ -93,9 +117,15 @@ fn log_and_serve<R, O: Write, E: Write>(
 ) -> Result<(), Fault>
 where
     R: AllocGlobal + Files + Clock + Net<Listener = TcpListener, Stream = TcpStream>,
-    ensures done { OnOk result (AnnouncesDrop dropped (O.contents output.old) (O.contents output.new)) }
-    ensures fault { IfErr result IsServiceFault }
-    ensures left { IfErr result (λ fault. LeavesService fault (O.contents output.old) (O.contents output.new)) }
+    ensures done { OnOk result
+        (Announces dropped service.now.port (O.contents output.old) (O.contents output.new)) }
+    ensures served { OnOk result
+        (ServesWithLog start.old.words service.now.requests start.old.edge (E.contents faults.old)
+        start.new.edge (E.contents faults.new)) }
+    ensures fault { IfErr result (IsStartFault service.now) }
+    ensures left { IfErr result
+        (λ fault. LeavesAnnouncement dropped service.now.port fault (O.contents output.old)
+        (O.contents output.new)) }
     ensures silent { OnErr result (Keeps (E.contents faults.old) (E.contents faults.new)) }
 {
     let Some(path) = &service.log else {
@@ -107,7 +137,7 @@ where
     }
 }
 
-// Listens, says so, and serves.
+// Listens, prints the announcement, and serves.
 fn announce_and_serve<R, L: Sink, O: Write, E: Write>(
     rt: &R,
     service: &Service,
@@ -119,9 +149,15 @@ fn announce_and_serve<R, L: Sink, O: Write, E: Write>(
 ) -> Result<(), Fault>
 where
     R: AllocGlobal + Clock + Net<Listener = TcpListener, Stream = TcpStream>,
-    ensures done { OnOk result (AnnouncesDrop dropped (O.contents output.old) (O.contents output.new)) }
-    ensures fault { IfErr result IsServiceFault }
-    ensures left { IfErr result (λ fault. LeavesService fault (O.contents output.old) (O.contents output.new)) }
+    ensures done { OnOk result
+        (Announces dropped service.now.port (O.contents output.old) (O.contents output.new)) }
+    ensures served { OnOk result (ServesAll start.old.words service.now.requests
+        (record { edge = start.old.edge; log = L.holds log.old; faults = E.contents faults.old })
+        (record { edge = start.new.edge; log = L.holds log.new; faults = E.contents faults.new })) }
+    ensures fault { IfErr result IsListenFault }
+    ensures left { IfErr result
+        (λ fault. LeavesAnnouncement dropped service.now.port fault (O.contents output.old)
+        (O.contents output.new)) }
     ensures silent { OnErr result (Keeps (E.contents faults.old) (E.contents faults.new)) }
 {
     match listen(rt, service.port, dropped, output) {
@@ -134,16 +170,19 @@ where
     }
 }
 
-// Listens on the port of this machine, or on a free one for 0, and says so.
+// Listens on the port, or on any free one for 0, and prints the announcement.
 fn listen<R: Net<Listener = TcpListener, Stream = TcpStream>, O: Write>(
     rt: &R,
     port: u16,
     dropped: u64,
     output: &mut O,
 ) -> Result<TcpListener, Fault>
-    ensures done { OnOk result (AnnouncesDrop dropped (O.contents output.old) (O.contents output.new)) }
-    ensures fault { IfErr result IsServiceFault }
-    ensures left { IfErr result (λ fault. LeavesService fault (O.contents output.old) (O.contents output.new)) }
+    ensures done { OnOk result
+        (Announces dropped port (O.contents output.old) (O.contents output.new)) }
+    ensures fault { IfErr result IsListenFault }
+    ensures left { IfErr result
+        (λ fault. LeavesAnnouncement dropped port fault (O.contents output.old)
+        (O.contents output.new)) }
 {
     let Ok(listener) = TcpListener::bind(rt, (Ipv4Addr::new(127, 0, 0, 1), port)) else {
         return Err(Fault::CannotListen);
@@ -151,15 +190,24 @@ fn listen<R: Net<Listener = TcpListener, Stream = TcpStream>, O: Write>(
     let Ok(address) = listener.local_addr() else {
         return Err(Fault::CannotListen);
     };
-    match announce(output, dropped, address.port()) {
+    match announce(output, dropped, listened_on(port, address.port())) {
         Ok(()) => Ok(listener),
         Err(_) => Err(Fault::Output),
     }
 }
 
-// The lines before the first connection.
+// Returns the port of the listener: the requested one, or the one found if any free port was
+// requested.
+fn listened_on(asked: u16, found: u16) -> u16
+    ensures { IsListenedOn asked result }
+{
+    if asked == 0 { found } else { asked }
+}
+
+// Prints the lines before the first connection.
 fn announce<O: Write>(output: &mut O, dropped: u64, port: u16) -> io::Result<()>
-    ensures { Prints result (O.contents output.old) (O.contents output.new) (announced dropped port) }
+    ensures { Prints result (O.contents output.old) (O.contents output.new)
+        (announced dropped port) }
 {
     if dropped == 0 {
         return put_port(output, port);
@@ -167,6 +215,7 @@ fn announce<O: Write>(output: &mut O, dropped: u64, port: u16) -> io::Result<()>
     put_both(output, dropped, port)
 }
 
+// Prints the line of the port.
 fn put_port<O: Write>(output: &mut O, port: u16) -> io::Result<()>
     ensures { Prints result (O.contents output.old) (O.contents output.new) (listening_line port) }
 {
@@ -175,8 +224,10 @@ fn put_port<O: Write>(output: &mut O, port: u16) -> io::Result<()>
     put_and_flush(output, &[b"listening 127.0.0.1:", port, b"\n"])
 }
 
+// Prints the line of the dropped bytes and the line of the port.
 fn put_both<O: Write>(output: &mut O, dropped: u64, port: u16) -> io::Result<()>
-    ensures { Prints result (O.contents output.old) (O.contents output.new) (both_lines dropped port) }
+    ensures { Prints result (O.contents output.old) (O.contents output.new)
+        (both_lines dropped port) }
 {
     let (mut digits, mut others) = (Buffer::new(), Buffer::new());
     let dropped = digits.format(dropped).as_bytes();
@@ -193,16 +244,21 @@ fn put_both<O: Write>(output: &mut O, dropped: u64, port: u16) -> io::Result<()>
     )
 }
 
+// Writes the pieces and flushes.
 fn put_and_flush<O: Write>(output: &mut O, pieces: &[&[u8]]) -> io::Result<()>
-    ensures { Prints result (O.contents output.old) (O.contents output.new) (joined_text pieces.now) }
+    ensures { Prints result (O.contents output.old) (O.contents output.new)
+        (joined_text pieces.now) }
 {
     put_all(output, pieces)?;
     output.flush()
 }
 
-/// Serves the connections of a listener, one after the other: so many of them, or without end. Six words are drawn for
-/// each before it is read. A fault is told in a line on `faults`, whose own failures are ignored; an accept or a clock
-/// that fails counts as a connection that wasn't read.
+/// Serves the connections of a listener, one after the other, up to the given number or without
+/// end.
+///
+/// Six random words are drawn for each connection before it is read. A fault is a line on `faults`,
+/// whose own failures are ignored. If accepting or the clock fails, that counts as a connection
+/// with a read fault.
 pub(crate) fn serve_on<R: AllocGlobal + Clock, L: Sink, E: Write>(
     rt: &R,
     listener: &TcpListener,
@@ -212,11 +268,12 @@ pub(crate) fn serve_on<R: AllocGlobal + Clock, L: Sink, E: Write>(
     words: &mut ChaCha20Rng,
     faults: &mut E,
 )
-    // The region's number and settings are the same, and facts were joined to its own.
+    // The region's number and settings are unchanged, and facts were joined to its set.
     ensures gains { (fs : Facts) × Gains edge.old.region fs edge.new.region }
-    // Each connection begins where the one before it ended, with words that none had before it.
-    ensures connections { (ends : List (Result AnyEnd AnyFault)) × (length ends ≡ so_many requests) × AreConnections words.old
-        (record { edge = edge.old; log = L.holds log.old; faults = E.contents faults.old }) ends
+    // Each connection begins with the state in which the one before ended, and with fresh random
+    // words.
+    ensures connections { ServesAll words.old requests
+        (record { edge = edge.old; log = L.holds log.old; faults = E.contents faults.old })
         (record { edge = edge.new; log = L.holds log.new; faults = E.contents faults.new }) }
 {
     let mut buf = [0u8; 8192];
@@ -227,7 +284,8 @@ pub(crate) fn serve_on<R: AllocGlobal + Clock, L: Sink, E: Write>(
     }
 }
 
-// A writer that fails is ignored, and each line begins anew.
+// Writes the fault of a connection, if any. A writer that fails is ignored, and the next fault is
+// written nevertheless.
 fn tell_end<E: Write>(faults: &mut E, end: Result<Served, EdgeFault>)
     ensures { Told end (E.contents faults.old) (E.contents faults.new) }
 {
@@ -236,6 +294,7 @@ fn tell_end<E: Write>(faults: &mut E, end: Result<Served, EdgeFault>)
     }
 }
 
+// Accepts the next connection and serves it.
 fn serve_next<R: AllocGlobal + Clock, L: Sink>(
     rt: &R,
     listener: &TcpListener,
@@ -244,7 +303,9 @@ fn serve_next<R: AllocGlobal + Clock, L: Sink>(
     buf: &mut [u8; 8192],
     words: &[u64; 6],
 ) -> Result<Served, EdgeFault>
-    ensures connection { (now : ℕ) × IsConnection now words.now edge.old edge.new (record { before = L.holds log.old; after = L.holds log.new }) result }
+    ensures connection { (now : ℕ)
+        × IsConnection now words.now edge.old edge.new
+        (record { before = L.holds log.old; after = L.holds log.new }) result }
     ensures log_fault { result ≡ Err EdgeFault.Log → Rose (L.failed log.old) (L.failed log.new) }
 {
     match listener.accept() {
@@ -253,7 +314,7 @@ fn serve_next<R: AllocGlobal + Clock, L: Sink>(
     }
 }
 
-// Serves one connection by the clock.
+// Serves one connection, at the clock's moment.
 fn serve_stream<R: AllocGlobal + Clock, L: Sink>(
     rt: &R,
     stream: &TcpStream,
@@ -262,7 +323,9 @@ fn serve_stream<R: AllocGlobal + Clock, L: Sink>(
     buf: &mut [u8; 8192],
     words: &[u64; 6],
 ) -> Result<Served, EdgeFault>
-    ensures connection { (now : ℕ) × IsConnection now words.now edge.old edge.new (record { before = L.holds log.old; after = L.holds log.new }) result }
+    ensures connection { (now : ℕ)
+        × IsConnection now words.now edge.old edge.new
+        (record { before = L.holds log.old; after = L.holds log.new }) result }
     ensures log_fault { result ≡ Err EdgeFault.Log → Rose (L.failed log.old) (L.failed log.new) }
 {
     match moment(rt) {
@@ -281,7 +344,8 @@ pub(crate) fn serve_at<R: AllocGlobal + Clock, L: Sink>(
     now: Moment,
     words: &[u64; 6],
 ) -> Result<Served, EdgeFault>
-    ensures connection { IsConnection now words.now edge.old edge.new (record { before = L.holds log.old; after = L.holds log.new }) result }
+    ensures connection { IsConnection now words.now edge.old edge.new
+        (record { before = L.holds log.old; after = L.holds log.new }) result }
     ensures log_fault { result ≡ Err EdgeFault.Log → Rose (L.failed log.old) (L.failed log.new) }
 {
     let Ok(mut source) = TimedSource::new(stream, rt) else {
@@ -295,7 +359,7 @@ pub(crate) fn serve_at<R: AllocGlobal + Clock, L: Sink>(
     served
 }
 
-// The clock in whole seconds, brought into range.
+// Returns the clock's moment in whole seconds, brought into the range of moments.
 fn moment<C: Clock>(clock: &C) -> io::Result<Moment> {
     let seconds = clock.since_1970()?.as_secs().min(Moment::GREATEST);
     match Moment::new(seconds) {
@@ -304,7 +368,7 @@ fn moment<C: Clock>(clock: &C) -> io::Result<Moment> {
     }
 }
 
-// Drops what comes until the client closes, up to the limit.
+// Drops the bytes that still come until the client closes, up to the limit.
 fn drain<S: Source>(source: &mut S, piece: &mut [u8]) {
     let mut left = DROPPED;
     for _ in 0..DROPPED {
@@ -319,9 +383,10 @@ fn drain<S: Source>(source: &mut S, piece: &mut [u8]) {
     }
 }
 
-// Tells what befell a connection, in a line of its own. Where the writer fails, it has the beginning of the line.
+// Writes the line of a connection's fault. If the writer fails, it has the beginning of the line.
 fn tell_fault<E: Write>(faults: &mut E, fault: EdgeFault) -> io::Result<()>
-    ensures { Prints result (E.contents faults.old) (E.contents faults.new) (connection_fault fault) }
+    ensures { Prints result (E.contents faults.old) (E.contents faults.new)
+        (connection_fault fault) }
 {
     match fault {
         EdgeFault::Read => put_all(faults, &[b"fault read\n"]),

@@ -1,16 +1,18 @@
-//! The start of a service: its seed, and its old log.
+//! The start of a service: `begin` reads its seed, and `load_old` loads its old log.
 
-ghost use Rattle.std.specs.Prelude.{IfErr};
+ghost use Rattle.std.specs.Prelude.{IfOk, IfErr, string_bytes};
 ghost use Rattle.tk_handle.specs.Ranges.{IsRegion};
 ghost use Rattle.tk_region.specs.SettingsFields.{IsSettings};
 ghost use Rattle.tokend.specs.CommandLine.{settings_of};
-ghost use Rattle.tokend.specs.Serving.{IsFileFault};
+ghost use Rattle.tokend.specs.Serving.{IsSeedFault};
+ghost use Rattle.tokend.specs.Starting.{IsStart, IsToldAs, LoadsFile, LoadsOld};
 
 use crate::draw::generator;
 use crate::fault::{Fault, cannot_read};
 use crate::load::{LoadFault, load};
 use crate::options::Service;
 use rand_chacha::ChaCha20Rng;
+use std::alloc::Global;
 use std::fs::OpenOptions;
 use std::io::{self, Read};
 use std::rt::Files;
@@ -18,18 +20,19 @@ use tk_edge::Edge;
 use tk_handle::RegionNumber;
 use tk_region::Region;
 
-/// A region at the start of its service, and its random words.
+/// A region at the start of its service, with its random words.
 #[derive(Drop)]
 pub(crate) struct Start {
     pub edge: Edge,
     pub words: ChaCha20Rng,
 }
 
-/// The region without a fact, and its random words by the seed.
+/// Returns the region without facts, with its random words made of the seed.
 pub(crate) fn begin<R: AllocGlobal + Files>(rt: &R, service: &Service) -> Result<Start, Fault>
     requires settings { IsSettings (settings_of service.now.numbers) }
     requires region { IsRegion service.now.region }
-    ensures { IfErr result IsFileFault }
+    ensures start { IfOk result (λ start. IsStart service.now start.edge start.words) }
+    ensures fault { IfErr result (IsSeedFault (string_bytes service.now.seed)) }
 {
     match read_seed(rt, &service.seed) {
         Ok(seed) => {
@@ -42,13 +45,13 @@ pub(crate) fn begin<R: AllocGlobal + Files>(rt: &R, service: &Service) -> Result
     }
 }
 
-/// Takes the old log of this name in, where there is one, and answers how many bytes at its end were dropped.
+/// Loads the old log of this name, if any, and returns how many bytes at its end were dropped.
 pub(crate) fn load_old<R: AllocGlobal + Files>(
     rt: &R,
     region: &mut Region,
     load: &Option<String>,
 ) -> Result<u64, Fault>
-    ensures { IfErr result IsFileFault }
+    ensures { LoadsOld load.now region.old result region.new }
 {
     match load {
         Some(path) => load_file(rt, region, path),
@@ -56,24 +59,32 @@ pub(crate) fn load_old<R: AllocGlobal + Files>(
     }
 }
 
-// Takes an old log in, and answers how many bytes at its end were dropped.
+// Loads the log of this name, and returns how many bytes at its end were dropped.
 fn load_file<R: AllocGlobal + Files>(rt: &R, region: &mut Region, path: &str) -> Result<u64, Fault>
-    ensures { IfErr result IsFileFault }
+    ensures { LoadsFile path.now region.old result region.new }
 {
     let Ok(mut file) = OpenOptions::new().read(true).open(rt, path) else {
-        return Err(cannot_read(rt.alloc(), path));
+        return told(rt.alloc(), path, Err(LoadFault::Read));
     };
-    match load(rt.alloc(), region, &mut file) {
+    let loaded = load(rt.alloc(), region, &mut file);
+    told(rt.alloc(), path, loaded)
+}
+
+// Returns the program's result of loading the log of this name.
+fn told(alloc: Global, path: &str, loaded: Result<u64, LoadFault>) -> Result<u64, Fault>
+    ensures { IsToldAs path.now loaded result }
+{
+    match loaded {
         Ok(dropped) => Ok(dropped),
         Err(LoadFault::Bad) => Err(Fault::BadLogFile),
-        Err(LoadFault::Read) => Err(cannot_read(rt.alloc(), path)),
+        Err(LoadFault::Read) => Err(cannot_read(alloc, path)),
         Err(LoadFault::Memory) => Err(Fault::Memory),
     }
 }
 
-// The 32 bytes of a seed file.
+// Reads the 32 bytes of a seed file.
 fn read_seed<R: AllocGlobal + Files>(rt: &R, path: &str) -> Result<[u8; 32], Fault>
-    ensures { IfErr result IsFileFault }
+    ensures { IfErr result (IsSeedFault path.now) }
 {
     let Ok(mut file) = OpenOptions::new().read(true).open(rt, path) else {
         return Err(cannot_read(rt.alloc(), path));

@@ -1,6 +1,6 @@
-//! A connection's two sides, under one limit of time.
+//! The two sides of a connection under one time limit: `TimedSource` and `TimedSink`.
 
-ghost use Rattle.std.specs.Prelude.{◌≡◌, IfOk, None};
+ghost use Rattle.std.specs.Prelude.{◌≡◌, IfOk, None, false};
 ghost use Rattle.std.specs.Io.{ReadsAtMost, WritesAtMost};
 
 use std::io::{self, Read, Write};
@@ -11,13 +11,15 @@ use tk_edge::{Failed, Sink, Source};
 /// How many seconds a connection may take, from its acceptance until its client has closed.
 const LIMIT_SECONDS: u64 = 5;
 
-/// How many milliseconds longer it may take, so that a wait is set anew only where that matters.
+/// How many milliseconds longer a connection may take, which saves setting the wait before each
+/// read.
 const SLACK_MILLIS: u64 = 500;
 
-/// A reply of at most this many bytes never waits: the socket of a new connection has room for it.
+/// A first reply of at most this many bytes never waits: the socket of a new connection has room
+/// for it.
 const NEVER_WAITS: usize = 8192;
 
-/// What a connection's client sends, until the time is over: past that, a read fails.
+/// The bytes of a connection's client. A read after the time limit fails.
 #[derive(Drop)]
 pub(crate) struct TimedSource<'a, C> {
     stream: &'a TcpStream,
@@ -25,13 +27,16 @@ pub(crate) struct TimedSource<'a, C> {
     start: Instant,
     wait: Duration,
     is_fresh: bool,
-    /// How many reads have failed. At the greatest `u64` it stays.
+    /// How many reads have failed. The count saturates at `u64::MAX`.
     pub failures: u64,
 }
 
 impl<'a, C: Clock> TimedSource<'a, C> {
-    /// A connection that was just accepted, of which no read has failed. It fails where the clock does, or the limit can't
-    /// be set.
+    /// Returns the source of a connection that was just accepted.
+    ///
+    /// # Errors
+    ///
+    /// The failure of the clock, or of setting the time limit.
     pub(crate) fn new(stream: &'a TcpStream, clock: &'a C) -> io::Result<TimedSource<'a, C>>
         ensures { IfOk result (λ source. source.failures ≡ 0) }
     {
@@ -49,10 +54,14 @@ impl<'a, C: Clock> TimedSource<'a, C> {
         })
     }
 
-    // The first read waits as long as was set; each later one to the end of the time.
+    // Reads bytes. The first read waits up to the whole limit, each later one up to the end of the
+    // time.
     fn read_in_time(&mut self, piece: &mut [u8]) -> io::Result<usize>
         ensures within { ReadsAtMost result piece.new }
         ensures failures { self.new.failures ≡ self.old.failures }
+        // The time began when the connection was accepted. No later read waits for the whole limit.
+        ensures start { self.new.start ≡ self.old.start }
+        ensures stale { self.new.is_fresh ≡ false }
     {
         if self.is_fresh {
             self.is_fresh = false;
@@ -63,9 +72,11 @@ impl<'a, C: Clock> TimedSource<'a, C> {
         stream.read(piece)
     }
 
-    // Sets the wait to what is left, where it would go past the end by more than the slack.
+    // Shortens the wait to the time that is left, if it is too long by more than the slack.
     fn shorten_wait(&mut self) -> io::Result<()>
-        ensures { self.new.failures ≡ self.old.failures }
+        ensures failures { self.new.failures ≡ self.old.failures }
+        ensures start { self.new.start ≡ self.old.start }
+        ensures fresh { self.new.is_fresh ≡ self.old.is_fresh }
     {
         let taken = self.start.elapsed(self.clock)?;
         let left = Duration::from_secs(LIMIT_SECONDS).saturating_sub(taken);
@@ -80,7 +91,7 @@ impl<'a, C: Clock> TimedSource<'a, C> {
     }
 }
 
-/// Its bytes aren't told beforehand.
+/// A source whose bytes are unknown.
 impl<'a, C: Clock> Source for TimedSource<'a, C> {
     ghost coming = { λ _. None };
 
@@ -101,19 +112,19 @@ impl<'a, C: Clock> Source for TimedSource<'a, C> {
     }
 }
 
-/// What is sent to a connection's client, until the same time is over: past that, a write fails.
+/// The bytes for a connection's client. A write after the source's time limit fails.
 #[derive(Drop)]
 pub(crate) struct TimedSink<'a, C> {
     stream: &'a TcpStream,
     clock: &'a C,
     start: Instant,
     is_fresh: bool,
-    /// How many writes have failed. At the greatest `u64` it stays.
+    /// How many writes have failed. The count saturates at `u64::MAX`.
     pub failures: u64,
 }
 
 impl<'a, C: Clock> TimedSink<'a, C> {
-    /// The other side of the connection that `source` reads, of which no write has failed.
+    /// Returns the other side of the connection that `source` reads.
     pub(crate) fn new(source: &TimedSource<'a, C>) -> TimedSink<'a, C>
         ensures { result.failures ≡ 0 }
     {
@@ -126,10 +137,12 @@ impl<'a, C: Clock> TimedSink<'a, C> {
         }
     }
 
-    // A first short piece is written without a look at the clock. A wait of nothing is refused when it is set.
+    // Writes bytes. A first short piece is written without a look at the clock. If no time is left,
+    // setting a wait of zero fails.
     fn write_in_time(&mut self, piece: &[u8]) -> io::Result<usize>
         ensures within { WritesAtMost result piece.now }
         ensures failures { self.new.failures ≡ self.old.failures }
+        ensures start { self.new.start ≡ self.old.start }
     {
         if !self.is_fresh || piece.len() > NEVER_WAITS {
             let taken = self.start.elapsed(self.clock)?;
@@ -142,7 +155,7 @@ impl<'a, C: Clock> TimedSink<'a, C> {
     }
 }
 
-/// What it has taken isn't told.
+/// A sink whose bytes are unknown.
 impl<'a, C: Clock> Sink for TimedSink<'a, C> {
     ghost holds = { λ _. None };
 

@@ -1,4 +1,4 @@
-//! A source and a sink in memory that fail when they are told to.
+//! A source and a sink in memory (`FrailSource`, `FrailSink`), whose calls fail as a test chooses.
 
 ghost use Rattle.std.specs.Prelude.{◌≡◌, ◌<◌, ◌≤◌, []};
 ghost use Rattle.tk_edge.specs.Failures.{one_more};
@@ -6,14 +6,14 @@ ghost use Rattle.tk_edge.specs.Failures.{one_more};
 use crate::{Failed, Sink, Source};
 use std::alloc::Global;
 
-/// Which calls of a device fail, by their numbers from 0.
+/// Which calls of a device fail. Calls are numbered from 0.
 #[derive(Clone, Copy)]
 pub enum Fails {
-    /// None.
+    /// No call fails.
     Never,
-    /// One.
+    /// The call of this number fails.
     At(u64),
-    /// One, and all behind it.
+    /// The call of this number and all later calls fail.
     From(u64),
 }
 
@@ -27,24 +27,24 @@ impl Fails {
     }
 }
 
-/// Memory as a source: a call gives at most `step` bytes, or fails.
+/// A source in memory. A call gives at most `step` bytes, or fails.
 #[derive(Drop)]
 pub struct FrailSource<'a> {
-    /// What is still to come.
+    /// The bytes that the source still has.
     pub rest: &'a [u8],
-    /// The most that a call gives, at least 1.
+    /// The most bytes that a call gives, at least 1.
     pub step: usize,
     /// How many calls there were.
     pub calls: u64,
-    /// Which of them fail.
+    /// Which calls fail.
     pub fails: Fails,
-    /// How many of them failed.
+    /// How many calls failed.
     pub failures: u64,
     ghost steps: { 0 < step },
 }
 
 impl<'a> FrailSource<'a> {
-    /// One that hasn't been called.
+    /// Returns a source that hasn't been called.
     pub fn new(rest: &'a [u8], step: usize, fails: Fails) -> FrailSource<'a>
         requires { 0 < step }
         ensures bytes { result.rest.now ≡ rest.now }
@@ -87,24 +87,24 @@ impl<'a> Source for FrailSource<'a> {
     }
 }
 
-/// Memory as a sink: a call takes at most `step` bytes, or fails.
+/// A sink in memory. A call takes at most `step` bytes, or fails.
 #[derive(Drop)]
 pub struct FrailSink {
-    /// What was put.
+    /// The bytes that the sink has taken.
     pub bytes: Vec<u8>,
-    /// The most that a call takes, at least 1.
+    /// The most bytes that a call takes, at least 1.
     pub step: usize,
     /// How many calls there were.
     pub calls: u64,
-    /// Which of them fail.
+    /// Which calls fail.
     pub fails: Fails,
-    /// How many of them failed, for want of memory among them.
+    /// How many calls failed, including those that ran out of memory.
     pub failures: u64,
     ghost steps: { 0 < step },
 }
 
 impl FrailSink {
-    /// One that holds nothing and hasn't been called.
+    /// Returns a sink without bytes that hasn't been called.
     pub fn new(alloc: Global, step: usize, fails: Fails) -> FrailSink
         requires { 0 < step }
         ensures empty { result.bytes.items ≡ [] }
@@ -128,7 +128,7 @@ impl FrailSink {
         Failed
     }
 
-    // Counts a call, and answers whether it is to fail.
+    // Counts a call, and returns whether the call is to fail.
     fn turn(&mut self) -> bool
         ensures { self.new ≡ record self.old { calls = self.new.calls } }
     {

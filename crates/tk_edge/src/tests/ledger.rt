@@ -1,10 +1,15 @@
-//! What is said of the tokens of a family, whatever the order in which its facts come: the tests of tk_ledger and, in `forests`, of
-//! tk_family, which stand here since a crate with tests is proved once more. `plain` is a ledger that walks its facts, to compare with.
+//! The standing of a family's tokens, whatever the order in which its facts arrive.
+//!
+//! These are the tests of tk_ledger and, in `forests`, of tk_family. They are in this crate because
+//! a crate with tests is proved once more. `plain` is a ledger that walks its facts, for
+//! comparison.
 
+mod checked;
 mod ends;
 mod facts;
 mod forests;
 mod generated;
+mod joined;
 mod long;
 mod orders;
 mod plain;
@@ -48,7 +53,7 @@ const GIVEN: Told = (CONSENT, Says::ConsentGiven(CLIENT, READ_WRITE));
 
 const ISSUED: Told = ((1, 3), Says::CodeIssued(24, CLIENT, CONSENT));
 
-// Being cut off: both of two regions redeem the code.
+// Cut off from each other, both regions redeem the code.
 const REDEEMED: Told = ((1, 4), Says::CodeRedeemed((1, 3), (42, 45)));
 
 const REDEEMED_AGAIN: Told = ((2, 1), Says::CodeRedeemed((1, 3), (48, 51)));
@@ -86,7 +91,7 @@ fn a_code_redeemed_once_is_used(rt: HostRuntime) {
     tells(&rt, rt.alloc(), NOT_CUT_OFF);
 }
 
-// Two refreshes at once: both of two regions rotate the refresh token.
+// Two refreshes at once: both regions rotate the refresh token.
 const MINTED: Told = ((1, 4), Says::CodeRedeemed((1, 3), (36, 39)));
 
 const ROTATED: Told = ((1, 5), Says::RefreshRotated((1, 4), 1, (54, 57)));
@@ -128,7 +133,7 @@ fn a_token_refreshed_once_is_used(rt: HostRuntime) {
     tells(&rt, rt.alloc(), ALONE);
 }
 
-// What is said of an access token and of a refresh token that no code leads to.
+// The standing of an access token and a refresh token to which no code leads.
 const BROKEN_ACCESS: Said = Said::Broken(4_610);
 
 const BROKEN_REFRESH: Said = Said::Broken(87_410);
@@ -145,7 +150,8 @@ const WAITING: &[Row] = &[
 
 const NO_PARENT: &[Case] = &[("rotations alone", &[ROTATED, ROTATED_AGAIN], 2, WAITING)];
 
-// Rotated before it was minted: what is minted so is held, and under no code yet.
+// A rotation arrives before the fact that mints its token. What the rotation mints is held, but
+// under no code yet.
 #[test]
 fn rotations_wait_for_their_parent(rt: HostRuntime) {
     tells(&rt, rt.alloc(), NO_PARENT);
@@ -162,8 +168,9 @@ const OTHER_ADDED: Told = (ANOTHER_CLIENT, Says::ClientAdded);
 
 const GRANTED: Told = ((1, 5), Says::CodeRedeemed((1, 3), (48, 51)));
 
-// Two clients, the first one's tokens, and a revocation of one of them that is made where no token is known yet: of the
-// access token by another client, by its own, of the refresh token, and by a guess.
+// Two clients, the first one's tokens, and a revocation of one of these that is made where no token
+// is known yet. The revocations: of the access token by another client, of the access token by its
+// own client, of the refresh token, and by a guessed digest.
 #[rattlefmt::skip]
 const ACCESS_BY_ANOTHER: &[Told] =
     &[ADDED, GIVEN, ISSUED, OTHER_ADDED, GRANTED, ((2, 1), Says::TokenRevoked(ACCESS, ANOTHER_CLIENT))];
@@ -172,9 +179,9 @@ const ACCESS_BY_ANOTHER: &[Told] =
 const ACCESS_BY_CLIENT: &[Told] =
     &[ADDED, GIVEN, ISSUED, OTHER_ADDED, GRANTED, ((2, 1), Says::TokenRevoked(ACCESS, CLIENT))];
 
-#[rattlefmt::skip]
-const REFRESH_BY_CLIENT: &[Told] =
-    &[ADDED, GIVEN, ISSUED, OTHER_ADDED, GRANTED, ((2, 1), Says::TokenRevoked(REFRESH, CLIENT))];
+const TOKEN_REVOKED: Told = ((2, 1), Says::TokenRevoked(REFRESH, CLIENT));
+
+const REFRESH_BY_CLIENT: &[Told] = &[ADDED, GIVEN, ISSUED, OTHER_ADDED, GRANTED, TOKEN_REVOKED];
 
 #[rattlefmt::skip]
 const GUESSED: &[Told] =
@@ -192,7 +199,7 @@ const ACCESS_REVOKED: &[Row] = &[
     ("the refresh token", REFRESH, LIVE),
 ];
 
-// Advance revocation: another client's is held, and does nothing.
+// Advance revocation: that of another client is held, and does nothing.
 const REVOKED_BY: &[Case] = &[
     ("by another client", ACCESS_BY_ANOTHER, 720, NOT_REVOKED),
     ("by its own client", ACCESS_BY_CLIENT, 720, ACCESS_REVOKED),
@@ -217,7 +224,7 @@ const GUESS_REVOKED: &[Row] = &[
 
 const REFRESH_REVOCATIONS: &[Case] = &[
     ("revoked", REFRESH_BY_CLIENT, 720, REFRESH_REVOKED),
-    // Its own client revokes it by a guessed digest: nothing is revoked.
+    // A token's own client revokes it by a guessed digest: nothing is revoked.
     ("guessed", GUESSED, 720, GUESS_REVOKED),
 ];
 
@@ -242,7 +249,7 @@ fn a_reuse_that_was_seen_kills_its_family(rt: HostRuntime) {
     tells(&rt, rt.alloc(), REUSES);
 }
 
-// A family with one rotation, and one fact more, that changes nothing in it.
+// A family with one rotation, and one more fact that changes nothing in the family.
 #[rattlefmt::skip]
 const FAMILY: &[Told] =
     &[ADDED, GIVEN, ISSUED, REDEEMED, ROTATED, ((2, 1), Says::ClientAdded)];
@@ -255,7 +262,7 @@ const CLIENT_GONE: &[Told] =
 const CONSENT_GONE: &[Told] =
     &[ADDED, GIVEN, ISSUED, REDEEMED, ROTATED, ((2, 1), Says::ConsentWithdrawn(CONSENT))];
 
-// A client that nobody knows is retired: it isn't this one.
+// The retirement of an unknown client doesn't retire this one.
 #[rattlefmt::skip]
 const OTHER_GONE: &[Told] =
     &[ADDED, GIVEN, ISSUED, REDEEMED, ROTATED, ((2, 1), Says::ClientRetired((7, 7)))];
@@ -290,7 +297,7 @@ fn ends_begin_at_their_moment(rt: HostRuntime) {
 const HANDLES: &[Row] = &[
     ("as minted", ((1, 4), Kind::Access, 42), LIVE),
     ("of other words", ((1, 4), Kind::Access, 43), Said::Wrong),
-    // The words of another token of the same fact, or of a kind that it doesn't mint.
+    // The random words of another token of the fact, or of a kind that the fact doesn't mint.
     ("a refresh token", ((1, 4), Kind::Refresh, 42), Said::Wrong),
     ("a code", ((1, 4), Kind::Code, 42), Said::Wrong),
     ("access by a code", ((1, 3), Kind::Access, 24), Said::Wrong),
@@ -303,7 +310,8 @@ fn a_handle_is_wrong_by_its_kind_or_its_digest(rt: HostRuntime) {
     tells(&rt, rt.alloc(), &[("a family", FAMILY, 1, HANDLES)]);
 }
 
-// Rotations in a ring, one of a generation that doesn't fit, a redemption of a client, and uses that differ in generation.
+// Rotations in a ring, one of a generation that doesn't fit, a redemption of a client, and uses
+// that differ in generation.
 const HOSTILE: &[Told] = &[
     ADDED,
     GIVEN,
@@ -325,7 +333,7 @@ fn hostile_facts_are_broken(rt: HostRuntime) {
     tells(&rt, rt.alloc(), &[("hostile", HOSTILE, 720, BROKEN)]);
 }
 
-// It doesn't fit, as its generation isn't 1; it uses the refresh token all the same.
+// The rotation doesn't fit, because its generation isn't 1. The refresh token is used all the same.
 const STRAY: Told = ((8, 1), Says::RefreshRotated((1, 4), 7, (1, 2)));
 
 const USED_ONCE: &[Row] = &[
@@ -342,7 +350,7 @@ const STRAY_ALONE: &[Told] = &[ADDED, GIVEN, ISSUED, REDEEMED, STRAY];
 
 const STRAY_BESIDE: &[Told] = &[ADDED, GIVEN, ISSUED, REDEEMED, ROTATED, STRAY];
 
-// Its generation is one too many for the rotation that it names.
+// The generation is one more than fits the rotation that is named.
 const SKIPPING: Told = ((8, 1), Says::RefreshRotated((1, 5), 3, (1, 2)));
 
 const SKIPPED: &[Row] = &[
@@ -354,7 +362,7 @@ const ONE_SKIPPING: &[Told] = &[ADDED, GIVEN, ISSUED, REDEEMED, ROTATED, SKIPPIN
 
 const STRAYS: &[Case] = &[
     ("alone", STRAY_ALONE, 120, USED_ONCE),
-    // So one that fits is the second use.
+    // A rotation that fits is the second use.
     ("beside one that fits", STRAY_BESIDE, 720, USED_TWICE),
     ("a generation left out", ONE_SKIPPING, 720, SKIPPED),
 ];

@@ -1,5 +1,6 @@
-//! A region to which memory may be refused, and a request that it handles at once: programs decide and commit apart, and what they
-//! answer is in the rows of `rows/`.
+//! A region that may run out of memory, and a request that it handles in one call.
+//!
+//! Programs decide and commit separately, and the rows of `rows/` show those replies.
 
 use std::alloc::{AllocError, Global};
 use std::test::Fail;
@@ -9,7 +10,7 @@ use tk_message::{Endpoint, Params, Payload, Reply, Request};
 use tk_region::{Handled, Region, Settings, TakeError};
 use tk_vector::VersionVector;
 
-// A fact that a client was retired: where it stands, and where the client was added.
+// A fact that a client was retired: its dot, and the dot at which the client was added.
 type Retired = ((u16, u64), (u16, u64));
 
 fn put_dot(writer: &mut Writer, dot: (u16, u64)) -> Result<(), AllocError> {
@@ -17,7 +18,7 @@ fn put_dot(writer: &mut Writer, dot: (u16, u64)) -> Result<(), AllocError> {
     writer.put_u64(dot.1)
 }
 
-// Its 21 bytes behind their length: the dot, the kind 2, the client.
+// The fact's 21 bytes after their length: the dot, the kind 2, the client.
 fn put_retired(writer: &mut Writer, fact: &Retired) -> Result<(), AllocError> {
     writer.put_u16(21)?;
     put_dot(writer, fact.0)?;
@@ -25,7 +26,7 @@ fn put_retired(writer: &mut Writer, fact: &Retired) -> Result<(), AllocError> {
     put_dot(writer, fact.1)
 }
 
-// The facts in this order, behind the magic and their number.
+// The facts in this order, after the magic and their number.
 fn put_bundle(writer: &mut Writer, facts: &[Retired]) -> Result<(), AllocError> {
     writer.put_bytes(b"OTB1")?;
     writer.put_u16(u16::try_from(facts.len()).unwrap_or(u16::MAX))?;
@@ -50,7 +51,7 @@ fn is_bundle(alloc: Global, bytes: &[u8], facts: &[Retired]) -> bool {
     }
 }
 
-// Whether the region holds these facts alone: by their number, and as one bundle.
+// Returns whether the region holds these facts alone: by their number, and as one bundle.
 fn holds(alloc: Global, region: &Region, facts: &[Retired]) -> bool {
     match &region.page(alloc, &VersionVector::new(alloc), None) {
         Ok(page) => {
@@ -66,7 +67,8 @@ fn new_region(alloc: Global, cap: u64) -> Option<Region> {
     Some(Region::new(alloc, number, settings))
 }
 
-// What taking the bundle of these facts in answers, None where there is no memory for it.
+// Returns the result of taking in the bundle of these facts; `None` if there is no memory for the
+// bundle.
 fn take(alloc: Global, region: &mut Region, facts: &[Retired]) -> Option<Result<u16, TakeError>> {
     let bytes = bundle_of(alloc, facts)?;
     Some(region.take_in(alloc, bytes.as_slice()))
@@ -81,10 +83,10 @@ fn is_json(reply: &Reply, status: u16, body: &str) -> bool {
     }
 }
 
-// What is held before a bundle of three.
+// The facts held before a bundle of three.
 const FIRST: [Retired; 1] = [((1, 1), (1, 9))];
 
-// What that may leave: none of its facts, the first, the first two, or all.
+// What running out of memory may leave: no fact of the bundle, the first, the first two, or all.
 #[rattlefmt::skip]
 static LEFT: [&[Retired]; 4] = [
     &FIRST,
@@ -93,7 +95,8 @@ static LEFT: [&[Retired]; 4] = [
     &[((1, 1), (1, 9)), ((1, 2), (1, 9)), ((1, 3), (1, 9)), ((3, 1), (1, 9))],
 ];
 
-// Where a bundle of three is taken in: what that answers, how many of its facts are then held, and whether they are the first.
+// Takes a bundle of three in. Returns the result, how many of its facts are held then, and whether
+// they are the first.
 fn left_in(alloc: Global, region: &mut Region) -> Option<(Result<u16, TakeError>, usize, bool)> {
     if take(alloc, region, &FIRST) != Some(Ok(1)) {
         return None;
@@ -120,7 +123,7 @@ fn left(alloc: Global) -> Option<(Result<u16, TakeError>, usize, bool)> {
     }
 }
 
-// All of them, or the first where memory is refused.
+// All facts are in, or the first ones if memory ran out.
 fn is_left(left: (Result<u16, TakeError>, usize, bool)) -> bool {
     match left {
         (Ok(count), new, are_first) => (count, new, are_first) == (3, 3, true),
@@ -139,7 +142,7 @@ fn memory_leaves_the_first_facts(rt: HostRuntime) -> Result<(), Fail> {
 
 const FORM: &[u8] = b"kind=public&scope=read&redirects=a:b";
 
-// To add a client.
+// The request to add a client.
 fn registration(alloc: Global) -> Option<Request> {
     match Params::read(alloc, FORM) {
         Ok(params) => Some(Request {
@@ -152,7 +155,7 @@ fn registration(alloc: Global) -> Option<Request> {
     }
 }
 
-// Whether the client's id is told, with a record of its fact.
+// Returns whether the reply has the client's id, with a record of its fact.
 fn is_added(handled: &Handled) -> bool {
     handled.logged.is_some() && is_json(&handled.reply, 201, "{\"client_id\":\"c2-1\"}")
 }
@@ -173,7 +176,7 @@ fn is_answered(alloc: Global, region: &mut Region, request: &Request) -> Option<
     Some(is_handled(alloc, region, now, request))
 }
 
-// Whether the client is added, and its fact held.
+// Returns whether the client is added, and its fact held.
 fn adds_client(alloc: Global, region: &mut Region) -> bool {
     match registration(alloc) {
         Some(request) => is_answered(alloc, region, &request) == Some(true) && region.len() == 1,

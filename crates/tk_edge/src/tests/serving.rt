@@ -1,34 +1,21 @@
-//! Connections over memory that fails: what each device holds then, and what the edge.
+//! Connections over devices that fail: what each device holds then, and what the edge holds.
 
 use super::frail::{Fails, FrailSink, FrailSource};
 use super::new_edge;
+use super::talks::{EXCHANGE, REGISTRATION, Talk};
 use crate::{Discard, Edge, Fault, Served, Sink, Source};
 use std::alloc::Global;
 use tk_handle::Moment;
 use tk_message::Status;
 
-// A registration, which makes a fact.
-const REQUEST: &[u8] =
-    b"POST /admin/client HTTP/1.1\r\nContent-Length: 55\r\n\r\nkind=public&scope=read&redirects=https://app.example/cb";
-
-// The record of its fact.
-const RECORD: &[u8] =
-    b"OTB1\x00\x01\x00\x2b\x00\x01\x00\x00\x00\x00\x00\x00\x00\x01\x01\x00\x00\x04read\x01\x00\x16https://app.example/cb";
-
-const CREATED: &[u8] =
-    b"HTTP/1.1 201 Created\r\nContent-Type: application/json\r\nContent-Length: 20\r\nCache-Control: no-store\r\nPragma: no-cache\r\nConnection: close\r\n\r\n{\"client_id\":\"c1-1\"}";
-
-// What a client sends, and is to get.
-const ASKED: (&[u8], &[u8]) = (REQUEST, CREATED);
-
 // The reply of a sealed edge.
 const AWAY: &[u8] =
     b"HTTP/1.1 503 Service Unavailable\r\nContent-Type: application/json\r\nContent-Length: 35\r\nCache-Control: no-store\r\nPragma: no-cache\r\nConnection: close\r\n\r\n{\"error\":\"temporarily_unavailable\"}";
 
-// The most that a call of the source gives, and one of a sink takes.
+// The most bytes that a call of the source gives, and that a call of a sink takes.
 type Steps = (usize, usize);
 
-// So few that each device is called several times.
+// The steps are so short that each device is called several times.
 const STEP: usize = 20;
 
 const STEPS: Steps = (STEP, STEP);
@@ -40,8 +27,9 @@ const NEVER: Fails = Fails::Never;
 
 const SOUND: Failing = [NEVER, NEVER, NEVER];
 
-// How a connection ended: its result, the facts held, whether the edge is sealed; how many bytes the log and the client were given,
-// None where they don't begin the record and the reply; whether source or log were called, and how many of the client's calls failed.
+// How a connection ended: its result, the facts held, and whether the edge is sealed. Also how many
+// bytes the log and the client were given, `None` if they don't begin the record and the reply;
+// whether source or log were called; and how many of the client's calls failed.
 #[derive(Clone, Copy, PartialEq, Eq)]
 struct End {
     result: Result<Served, Fault>,
@@ -53,10 +41,20 @@ struct End {
     failed: u64,
 }
 
-#[rattlefmt::skip]
-const DONE: End = End { result: Ok(Served::Done(Status::Created)), facts: 1, sealed: false, logged: Some(51), written: Some(158), called: true, failed: 0 };
+// Returns how a connection ends over devices that don't fail.
+fn done(talk: &Talk) -> End {
+    End {
+        result: Ok(Served::Done(talk.status)),
+        facts: (talk.before.len() as u64).saturating_add(1),
+        sealed: false,
+        logged: Some(talk.record.len()),
+        written: Some(talk.reply.len()),
+        called: true,
+        failed: 0,
+    }
+}
 
-// How many bytes the part has, which begins the whole.
+// Returns the length of the part if it begins the whole.
 fn begins(whole: &[u8], part: &[u8]) -> Option<usize> {
     if whole.starts_with(part) {
         Some(part.len())
@@ -65,11 +63,11 @@ fn begins(whole: &[u8], part: &[u8]) -> Option<usize> {
     }
 }
 
-// Whether a connection ends so, over such devices, whose client sends the bytes and is to get this reply.
+// Returns whether a connection of the client ends as expected, over these devices.
 fn ends_at(
     alloc: Global,
     edge: &mut Edge,
-    (bytes, reply): (&[u8], &[u8]),
+    talk: &Talk,
     (given, taken): Steps,
     [read, write, log]: Failing,
     want: &End,
@@ -78,7 +76,7 @@ fn ends_at(
         return false;
     };
     let mut buf = [0u8; 8_192];
-    let mut reader = FrailSource::new(bytes, given.max(1), read);
+    let mut reader = FrailSource::new(talk.request, given.max(1), read);
     let mut writer = FrailSink::new(alloc, taken.max(1), write);
     let mut log = FrailSink::new(alloc, taken.max(1), log);
     let result = edge.serve_one(
@@ -94,19 +92,44 @@ fn ends_at(
         result,
         facts: edge.region().len(),
         sealed: edge.sealed(),
-        logged: begins(RECORD, log.bytes.as_slice()),
-        written: begins(reply, writer.bytes.as_slice()),
+        logged: begins(talk.record, log.bytes.as_slice()),
+        written: begins(talk.reply, writer.bytes.as_slice()),
         called: reader.calls.saturating_add(log.calls) > 0,
         failed: writer.failures,
     };
     end == *want
 }
 
-// Whether the request does, at a new edge.
-fn ends(alloc: Global, steps: Steps, failing: Failing, want: &End) -> bool {
+// Returns whether the request gets a reply, and makes a fact.
+fn makes_fact(alloc: Global, edge: &mut Edge, request: &[u8]) -> bool {
+    let Some(now) = Moment::new(1_000) else {
+        return false;
+    };
+    match edge.answer(alloc, now, &[0; 6], request) {
+        Ok(answer) => {
+            let is_made = answer.logged.is_some();
+            drop(answer);
+            is_made
+        }
+        Err(_) => false,
+    }
+}
+
+fn make_facts(alloc: Global, edge: &mut Edge, requests: &[&[u8]]) -> bool {
+    for request in requests {
+        if !makes_fact(alloc, edge, request) {
+            return false;
+        }
+    }
+    true
+}
+
+// Returns whether a connection ends as expected at an edge that answered only the requests before.
+fn ends(alloc: Global, talk: &Talk, steps: Steps, failing: Failing, want: &End) -> bool {
     match new_edge(alloc) {
         Some(mut edge) => {
-            let is_so = ends_at(alloc, &mut edge, ASKED, steps, failing, want);
+            let is_so = make_facts(alloc, &mut edge, talk.before)
+                && ends_at(alloc, &mut edge, talk, steps, failing, want);
             drop(edge);
             is_so
         }
@@ -114,77 +137,131 @@ fn ends(alloc: Global, steps: Steps, failing: Failing, want: &End) -> bool {
     }
 }
 
-// Whether it ends so where one call fails, and where all behind it do too.
-fn both_end(alloc: Global, one: Failing, all: Failing, want: &End) -> bool {
-    ends(alloc, STEPS, one, want) && ends(alloc, STEPS, all, want)
+// Returns whether the connection ends as expected if one call fails, and if all later calls fail,
+// too.
+fn both_end(alloc: Global, talk: &Talk, one: Failing, all: Failing, want: &End) -> bool {
+    ends(alloc, talk, STEPS, one, want) && ends(alloc, talk, STEPS, all, want)
 }
 
 #[test]
 fn a_request_is_served_in_any_pieces(rt: HostRuntime) {
-    for step in 1..REQUEST.len() {
-        let is_served = ends(rt.alloc(), (step, 1_000), SOUND, &DONE);
+    let done = done(&REGISTRATION);
+    for step in 1..REGISTRATION.request.len() {
+        let is_served = ends(rt.alloc(), &REGISTRATION, (step, 1_000), SOUND, &done);
         assert!(rt; is_served, "by {step}");
     }
 }
 
-// The calls of the request, the record and the reply, at so many bytes a call; one more flushes the log. Where calls fail from the
-// first one that isn't made, all is as over sound devices.
-const READS: u64 = 6;
+const TALKS: &[Talk] = &[REGISTRATION, EXCHANGE];
 
-const PUTS: u64 = 3;
+// Returns how many calls give or take the bytes. If only later calls fail, the connection ends as
+// over devices that don't fail.
+fn calls(bytes: &[u8]) -> u64 {
+    bytes.len().div_ceil(STEP) as u64
+}
 
-const WRITES: u64 = 8;
-
-#[rattlefmt::skip]
-const UNREAD: End = End { result: Err(Fault::Read), facts: 0, sealed: false, logged: Some(0), written: Some(0), called: true, failed: 0 };
+// Returns the first call of the source whose failure changes something, or is reported as another
+// fault.
+fn misread(alloc: Global, talk: &Talk) -> Option<u64> {
+    let (calls, done) = (calls(talk.request), done(talk));
+    let want = End {
+        result: Err(Fault::Read),
+        facts: talk.before.len() as u64,
+        logged: Some(0),
+        written: Some(0),
+        ..done
+    };
+    for call in 0..calls {
+        let one = [Fails::At(call), NEVER, NEVER];
+        let all = [Fails::From(call), NEVER, NEVER];
+        if !both_end(alloc, talk, one, all, &want) {
+            return Some(call);
+        }
+    }
+    let none = [Fails::From(calls), NEVER, NEVER];
+    if ends(alloc, talk, STEPS, none, &done) {
+        None
+    } else {
+        Some(calls)
+    }
+}
 
 #[test]
 fn a_reader_that_fails_changes_nothing(rt: HostRuntime) {
-    for call in 0..READS {
-        let one = [Fails::At(call), NEVER, NEVER];
-        let all = [Fails::From(call), NEVER, NEVER];
-        assert!(rt; both_end(rt.alloc(), one, all, &UNREAD), "call {call}");
+    for talk in TALKS {
+        let (name, miss) = (talk.name, misread(rt.alloc(), talk));
+        assert!(rt; miss.is_none(), "{name}: call {miss:?}");
     }
-    let last = [Fails::From(READS), NEVER, NEVER];
-    assert!(rt; ends(rt.alloc(), STEPS, last, &DONE), "no call is left");
 }
 
-#[rattlefmt::skip]
-const UNLOGGED: End = End { result: Err(Fault::Log), facts: 1, sealed: true, logged: Some(0), written: Some(0), called: true, failed: 0 };
+// Returns the first call of the log whose failure doesn't seal the edge before the reply. The last
+// call flushes the log.
+fn mislogged(alloc: Global, talk: &Talk) -> Option<u64> {
+    let (puts, done) = (calls(talk.record), done(talk));
+    for call in 0..=puts {
+        let one = [NEVER, NEVER, Fails::At(call)];
+        let all = [NEVER, NEVER, Fails::From(call)];
+        let want = End {
+            result: Err(Fault::Log),
+            sealed: true,
+            logged: Some((call as usize).saturating_mul(STEP).min(talk.record.len())),
+            written: Some(0),
+            ..done
+        };
+        if !both_end(alloc, talk, one, all, &want) {
+            return Some(call);
+        }
+    }
+    let none = [NEVER, NEVER, Fails::From(puts.saturating_add(1))];
+    if ends(alloc, talk, STEPS, none, &done) {
+        None
+    } else {
+        Some(puts)
+    }
+}
 
 #[test]
 fn a_log_that_fails_seals_before_the_reply(rt: HostRuntime) {
-    for call in 0..=PUTS {
-        let one = [NEVER, NEVER, Fails::At(call)];
-        let all = [NEVER, NEVER, Fails::From(call)];
-        let logged = Some((call as usize * STEP).min(RECORD.len()));
-        let want = End { logged, ..UNLOGGED };
-        assert!(rt; both_end(rt.alloc(), one, all, &want), "call {call}");
+    for talk in TALKS {
+        let (name, miss) = (talk.name, mislogged(rt.alloc(), talk));
+        assert!(rt; miss.is_none(), "{name}: call {miss:?}");
     }
-    let last = [NEVER, NEVER, Fails::From(PUTS + 1)];
-    assert!(rt; ends(rt.alloc(), STEPS, last, &DONE), "no call is left");
 }
 
-#[rattlefmt::skip]
-const UNWRITTEN: End = End { result: Err(Fault::Write), facts: 1, sealed: false, logged: Some(51), written: Some(0), called: true, failed: 1 };
+// Returns the first call of the client whose failure leaves no fact, no record, or another part of
+// the reply than was taken.
+fn miswritten(alloc: Global, talk: &Talk) -> Option<u64> {
+    let (calls, done) = (calls(talk.reply), done(talk));
+    for call in 0..calls {
+        let one = [NEVER, Fails::At(call), NEVER];
+        let all = [NEVER, Fails::From(call), NEVER];
+        let want = End {
+            result: Err(Fault::Write),
+            written: Some((call as usize).saturating_mul(STEP)),
+            failed: 1,
+            ..done
+        };
+        if !both_end(alloc, talk, one, all, &want) {
+            return Some(call);
+        }
+    }
+    let none = [NEVER, Fails::From(calls), NEVER];
+    if ends(alloc, talk, STEPS, none, &done) {
+        None
+    } else {
+        Some(calls)
+    }
+}
 
 #[test]
 fn a_writer_that_fails_leaves_fact_and_record(rt: HostRuntime) {
-    for call in 0..WRITES {
-        let one = [NEVER, Fails::At(call), NEVER];
-        let all = [NEVER, Fails::From(call), NEVER];
-        let written = Some(call as usize * STEP);
-        let want = End {
-            written,
-            ..UNWRITTEN
-        };
-        assert!(rt; both_end(rt.alloc(), one, all, &want), "call {call}");
+    for talk in TALKS {
+        let (name, miss) = (talk.name, miswritten(rt.alloc(), talk));
+        assert!(rt; miss.is_none(), "{name}: call {miss:?}");
     }
-    let last = [NEVER, Fails::From(WRITES), NEVER];
-    assert!(rt; ends(rt.alloc(), STEPS, last, &DONE), "no call is left");
 }
 
-// Whether the bytes are answered so without devices, and make no record.
+// Returns whether the bytes get this reply without devices, and make no record.
 fn is_answered(alloc: Global, edge: &mut Edge, bytes: &[u8], told: (Status, &[u8])) -> bool {
     let Some(now) = Moment::new(1_000) else {
         return false;
@@ -201,13 +278,13 @@ fn is_answered(alloc: Global, edge: &mut Edge, bytes: &[u8], told: (Status, &[u8
     }
 }
 
-// Whether the request is served without a log, and over std's own reader and writer.
+// Returns whether the request is served without a log, and over std's own reader and writer.
 fn is_served_by_std(alloc: Global, edge: &mut Edge) -> bool {
     let Some(now) = Moment::new(1_000) else {
         return false;
     };
     let mut log = Discard;
-    let mut reader = crate::Counted::new(REQUEST);
+    let mut reader = crate::Counted::new(REGISTRATION.request);
     let mut writer = crate::Counted::new(Vec::new(alloc));
     let mut buf = [0u8; 8_192];
     let result = edge.serve_one(
@@ -220,8 +297,17 @@ fn is_served_by_std(alloc: Global, edge: &mut Edge) -> bool {
         &[0; 6],
     );
     let is_quiet = reader.failures() == 0 && Sink::failures(&log) == 0;
-    result == DONE.result && is_quiet && writer.inner.as_slice() == CREATED
+    result == done(&REGISTRATION).result
+        && is_quiet
+        && writer.inner.as_slice() == REGISTRATION.reply
 }
+
+// A client that sends no byte.
+const SILENT: Talk = Talk {
+    request: b"",
+    reply: b"",
+    ..REGISTRATION
+};
 
 const MUTE: Failing = [NEVER, Fails::From(0), Fails::From(0)];
 
@@ -233,7 +319,10 @@ const UNLOGGABLE: Failing = [NEVER, NEVER, Fails::At(0)];
 #[rattlefmt::skip]
 const SEALED: End = End { result: Err(Fault::Log), facts: 2, sealed: true, logged: Some(0), written: Some(0), called: true, failed: 0 };
 
-const TURNED: (&[u8], &[u8]) = (REQUEST, AWAY);
+const TURNED: Talk = Talk {
+    reply: AWAY,
+    ..REGISTRATION
+};
 
 #[rattlefmt::skip]
 const TURNED_AWAY: End = End { result: Ok(Served::Done(Status::ServiceUnavailable)), facts: 2, sealed: true, logged: Some(0), written: Some(AWAY.len()), called: false, failed: 0 };
@@ -243,22 +332,28 @@ const HALF_WRITTEN: Failing = [NEVER, Fails::At(1), NEVER];
 #[rattlefmt::skip]
 const HALF_AWAY: End = End { result: Err(Fault::Write), facts: 2, sealed: true, logged: Some(0), written: Some(STEP), called: false, failed: 1 };
 
-// What an edge comes to: no byte is answered with none, and no call of client or log; std's devices serve, and a log that fails
-// seals. Then it turns away without a call of source or log, once, again and without devices, and a write that fails is a fault.
+// The life of an edge. An empty request gets no byte, and no call of client or log. std's devices
+// serve. A log that fails seals the edge. A sealed edge turns away without a call of source or log,
+// once, again and without devices, and a write that fails is a fault.
 fn life_at(alloc: Global, edge: &mut Edge) -> [bool; 8] {
     [
         is_answered(alloc, edge, b"", (Status::BadRequest, b"")),
-        ends_at(alloc, edge, (b"", b""), STEPS, MUTE, &NOTHING),
+        ends_at(alloc, edge, &SILENT, STEPS, MUTE, &NOTHING),
         is_served_by_std(alloc, edge),
-        ends_at(alloc, edge, ASKED, STEPS, UNLOGGABLE, &SEALED),
-        ends_at(alloc, edge, TURNED, STEPS, SOUND, &TURNED_AWAY),
-        ends_at(alloc, edge, TURNED, STEPS, SOUND, &TURNED_AWAY),
-        is_answered(alloc, edge, REQUEST, (Status::ServiceUnavailable, AWAY)),
-        ends_at(alloc, edge, TURNED, STEPS, HALF_WRITTEN, &HALF_AWAY),
+        ends_at(alloc, edge, &REGISTRATION, STEPS, UNLOGGABLE, &SEALED),
+        ends_at(alloc, edge, &TURNED, STEPS, SOUND, &TURNED_AWAY),
+        ends_at(alloc, edge, &TURNED, STEPS, SOUND, &TURNED_AWAY),
+        is_answered(
+            alloc,
+            edge,
+            TURNED.request,
+            (Status::ServiceUnavailable, AWAY),
+        ),
+        ends_at(alloc, edge, &TURNED, STEPS, HALF_WRITTEN, &HALF_AWAY),
     ]
 }
 
-// The same of a new one.
+// The life of a new edge.
 fn life(alloc: Global) -> [bool; 8] {
     match new_edge(alloc) {
         Some(mut edge) => {

@@ -1,5 +1,8 @@
-//! What no program calls: what a vector covers, how vectors, stores and ledgers are joined and stores walked over, what is taken back, another
-//! body at a dot (a region asks before it adds), the text of a dot, and what a fact uses. All else of the crates below is in the rows of `rows/`.
+//! Calls that no program makes.
+//!
+//! These are: what a vector covers, joins of vectors, stores and ledgers, walks over stores, taking
+//! a fact back, another body at a dot (a region checks before it adds), the text of a dot, and what
+//! a fact uses. The rows of `rows/` show the other calls of the crates below.
 
 ghost use Rattle.std.specs.Prelude.{◌≡◌, None};
 ghost use Rattle.tk_fact.specs.Check.{refusal_of};
@@ -24,21 +27,22 @@ fn place(dot: Dot) -> Place {
 
 // ---- vectors
 
-// The entries of the regions 1 and 2.
+// Returns the entries of the regions 1 and 2.
 fn entries(vector: &VersionVector) -> Option<(u64, u64)> {
     let one = RegionNumber::new(1)?;
     let two = RegionNumber::new(2)?;
     Some((vector.get(one), vector.get(two)))
 }
 
-// Both entries, whether 2:8 is covered, and whether 2:9 is.
+// Returns both entries, whether 2:8 is covered, and whether 2:9 is.
 fn told(vector: &VersionVector) -> Option<(u64, u64, bool, bool)> {
     let (first, second) = entries(vector)?;
     let (last, next) = (dot((2, 8))?, dot((2, 9))?);
     Some((first, second, vector.covers(last), vector.covers(next)))
 }
 
-// The same of the first one once it is joined with the other; none where that isn't below it then.
+// Joins the other vector to the first, and returns the entries of the union and what it covers;
+// `None` if the other vector isn't below the union.
 fn joined(vector: &mut VersionVector, other: &VersionVector) -> Option<(u64, u64, bool, bool)> {
     match vector.join_from(other) {
         Ok(()) if other.below(vector) => told(vector),
@@ -93,7 +97,7 @@ fn retirement(at: Dot, client: Dot) -> Fact
     }
 }
 
-// Adds retirements at the places, which differ, in this order.
+// Adds retirements at these dots, which differ, in this order.
 fn add_each(store: &mut FactStore, places: &[Place]) -> bool {
     for at in places {
         if add(store, *at) != Some(true) {
@@ -119,7 +123,7 @@ fn walks(store: &FactStore, places: &[Place]) -> bool {
     facts.next().is_none()
 }
 
-// Whether there is a fact to be taken back.
+// Takes the fact at the dot back, and returns whether there was one.
 fn take_back(store: &mut FactStore, at: Dot) -> bool {
     match store.take_back(at) {
         Some(fact) => {
@@ -131,7 +135,7 @@ fn take_back(store: &mut FactStore, at: Dot) -> bool {
     }
 }
 
-// The same of 1:3, and the front of region 1 before and after it.
+// Takes the fact at 1:3 back. Returns whether there was one, between the fronts before and after.
 fn taken_back(store: &mut FactStore) -> Option<(u64, bool, u64)> {
     let at = dot((1, 3))?;
     let before = store.vector().get(at.region());
@@ -139,7 +143,8 @@ fn taken_back(store: &mut FactStore) -> Option<(u64, bool, u64)> {
     Some((before, is_there, store.vector().get(at.region())))
 }
 
-// The same once the other facts are joined; none where these aren't below the whole then, or a walk over it isn't as it is to be.
+// The result once the other facts are joined; `None` if the other facts aren't below the union
+// then, or a walk over the union differs.
 fn join(store: &mut FactStore, other: &FactStore) -> Option<(u64, bool, u64)> {
     match store.join_from(other) {
         Ok(()) if other.below(store) && walks(store, &[(1, 1), (1, 2), (1, 3), (2, 1)]) => {
@@ -166,7 +171,7 @@ fn two_stores_are_joined_and_a_fact_is_taken_back(rt: HostRuntime) {
 
 type Ends = Result<Added, AddError>;
 
-// How the addition of 1:2 ends, and then those of the same body, and of another one.
+// How the addition of 1:2 ends, then that of the same body, then that of another body.
 fn added(store: &mut FactStore) -> Option<[Ends; 3]> {
     let (at, other) = (dot((1, 2))?, dot((9, 9))?);
     let first = store.add(retirement(at, at));
@@ -182,7 +187,7 @@ fn a_dot_has_one_body(rt: HostRuntime) {
 
 // ---- ledgers
 
-// Whether a ledger of a fact at the one dot is joined with one of a fact at the other.
+// Returns whether a ledger of a fact at the one dot joins a ledger of a fact at the other.
 fn are_joined(ledger: &mut Ledger, other: &mut Ledger, one: Dot, two: Dot) -> bool {
     ledger.add(retirement(one, one)) == Ok(Added::New)
         && other.add(retirement(two, one)) == Ok(Added::New)
@@ -209,7 +214,7 @@ fn two_ledgers_are_joined(rt: HostRuntime) {
 
 // ---- dots and facts
 
-// Whether the text was written, and not refused memory, and is this one.
+// Returns whether the text was written, without running out of memory, and is the expected one.
 fn is_written(written: Result<String, AllocError>, text: &str) -> bool {
     match written {
         Ok(written) => written.as_str() == text,

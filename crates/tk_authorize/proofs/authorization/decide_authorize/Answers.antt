@@ -1,4 +1,4 @@
--- Where the decision leads follows from which decision it is.
+-- The URI that the decision leads to follows from which decision it is.
 use Rattle.std.proofs.Common.{rules}
 use Rattle.tk_store.specs.Store.{facts_of}
 use Rattle.tk_authorize.proofs.RedirectLaws.{decision_leads}

@@ -2,6 +2,7 @@ use Rattle.std.proofs.Common.{◌≡◌, ◌++◌, ◌∙◌, length, take, sym,
 use Rattle.std.proofs.lemmas.List.{take_all}
 use Rattle.std.specs.Io.KnownBytes.{Consumes, prepend_known}
 use Rattle.tk_edge.proofs.BodyLaws.{whole_body, short_body}
+use Rattle.tk_edge.proofs.BoundLaws.{takes_kept, takes_piece, takes_within}
 use Rattle.tk_edge.proofs.StreamLaws.{form_in_front}
 use Rattle.tk_edge.proofs.body.read_body.Goals as goal
 
@@ -23,3 +24,28 @@ returns-clause-taken g c = λ rest known.
     let read = subst (λ k. Consumes (prepend_known c.args.front.now k) (g.S.Source.coming c.pieces.source) bytes) known c.pieces.invariant.bytes in
     let long : length bytes ≡ length c.args.body.now = omega (arith, length-take c.pieces.at c.pieces.body) in
     subst (λ n. bytes ≡ take n (c.args.front.now ++ rest)) long (whole_body c.args.front.now rest bytes _ read)
+
+pub returns-in_err-more-clause-most : goal.returns-in_err-more-clause-most
+returns-in_err-more-clause-most g c =
+    takes_within c.pieces.at _ _ _ (omega arith)
+    (takes_kept c.pieces.at _ (g.S.Source.coming c.pieces.source) _ c.pieces.invariant.most c.in_err-more.ensures.err)
+
+pub returns-then-more-at-clause-most : goal.returns-then-more-at-clause-most
+returns-then-more-at-clause-most g c =
+    let taken = c.in_ok-more.ensures.taken in
+    takes_within c.in_ok-more.more _ _ _ (omega arith)
+    (takes_piece c.pieces.at c.in_ok-more.more _ (g.S.Source.coming c.pieces.source) _ taken.0 c.pieces.invariant.most taken.1 taken.2)
+
+pub returns-clause-most : goal.returns-clause-most
+returns-clause-most g c = takes_within c.pieces.at _ _ _ (omega arith) c.pieces.invariant.most
+
+pub pieces-preserved : goal.pieces-preserved
+pieces-preserved g c =
+    let taken = c.in_ok-more.ensures.taken in
+    record {
+      within = c.in_ok-more.ensures.grows.1;
+      room = c.take_more.auto.buf ∙ c.pieces.invariant.room;
+      bytes = c.in_ok-more.ensures.bytes _ c.pieces.invariant.bytes;
+      most = takes_piece c.pieces.at c.in_ok-more.more _ (g.S.Source.coming c.pieces.source) _ taken.0 c.pieces.invariant.most taken.1 taken.2;
+      same = c.in_ok-more.ensures.failures ∙ c.pieces.invariant.same;
+    }

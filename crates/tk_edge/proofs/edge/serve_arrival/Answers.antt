@@ -11,17 +11,17 @@ returns-then-is_silent-clause-served g c = λ sync known arrives.
 pub returns-in-Ok-clause-served : goal.returns-in-Ok-clause-served
 returns-in-Ok-clause-served g c = λ sync known arrives.
     served (record { sync = sync; known = known; now = c.args.now; words = c.args.words.now }) c.args.came.now
-    c.args.region.now c.reply.new.region c.args.region.now refl _ _ c.reply.new.sealed
+    c.args.region.now c.reply.new.region c.args.region.now refl _ _ _ c.reply.new.sealed
     arrives (c.is_silent.ensures.spoke (search rules)) c.in-Ok.status c.in-Ok.ensures.replies
 
 pub returns-in-Err-clause-served : goal.returns-in-Err-clause-served
 returns-in-Err-clause-served g c = λ sync known arrives.
     faulted (record { sync = sync; known = known; now = c.args.now; words = c.args.words.now }) c.args.came.now
-    c.args.region.now c.reply.new.region c.args.region.now refl _ _ c.reply.new.sealed
+    c.args.region.now c.reply.new.region c.args.region.now refl _ _ _ c.reply.new.sealed
     arrives (c.is_silent.ensures.spoke (search rules)) c.in-Err.fault c.in-Err.ensures.replies
 
 pub returns-in-Err-clause-read : goal.returns-in-Err-clause-read
-returns-in-Err-clause-read g c = unread c.args.now c.args.words.now c.args.came.now _ _ _ _ c.in-Err.fault c.in-Err.ensures.replies
+returns-in-Err-clause-read g c = unread c.args.now c.args.words.now c.args.came.now _ _ _ _ _ c.in-Err.fault c.in-Err.ensures.replies
 
 pub returns-in-Err-clause-writer_fault : goal.returns-in-Err-clause-writer_fault
 returns-in-Err-clause-writer_fault g c = λ is. c.in-Err.ensures.faults.writer (faults_as c.in-Err.fault Write is)

@@ -1,4 +1,4 @@
-use Rattle.std.proofs.Common.{rules, arith, length-take, refl}
+use Rattle.std.proofs.Common.{take, rules, arith, length-take, refl}
 use Rattle.std.proofs.KnownBytes.{Consumes-nil}
 use Rattle.tk_edge.proofs.HeadLaws.{known_front, whole_head, no_short_head, no_head_of_none}
 use Rattle.tk_edge.proofs.head.read_head.Goals as goal
@@ -16,3 +16,10 @@ pub returns-clause-head : goal.returns-clause-head
 returns-clause-head g c = λ bytes known h has.
     let split = known_front _ _ bytes _ known c.pieces.invariant.bytes in
     no_short_head bytes _ split.0 _ _ split.1 (omega (arith, length-take c.pieces.filled c.pieces.buf)) c.pieces.invariant.none h has
+
+pub returns-in-Err-clause-most : goal.returns-in-Err-clause-most
+returns-in-Err-clause-most g c = (
+  take c.in_ok-more.more c.take_more.new.buf,
+  omega (arith, length-take c.in_ok-more.more c.take_more.new.buf),
+  c.in_ok-more.ensures.bytes _ c.pieces.invariant.bytes,
+)

@@ -4,6 +4,8 @@ use Rattle.httparse.specs.Spans.{name_and_value}
 use Rattle.tk_edge.specs.HeadFields.{AreFields}
 use Rattle.tk_edge.specs.Judged.{MayAsk}
 use Rattle.tk_edge.specs.declared.judge.Judged.TheVariants.{Body}
+use Rattle.tk_edge.specs.Bounds.{body_limit}
+use Rattle.tk_edge.proofs.BoundLaws.{size_within, takes_within}
 use Rattle.tk_edge.proofs.StreamLaws.{judged_same, judged_may}
 use Rattle.tk_edge.proofs.hear.head_heard.Goals as goal
 
@@ -22,5 +24,11 @@ returns-in-Vector-clause-may g c =
 
 pub returns-in-Body-clause-may : goal.returns-in-Body-clause-may
 returns-in-Body-clause-may g c =
-    c.body_heard.ensures.may c.args.sync
-    (subst (MayAsk c.args.sync) c.in-Body.is (judged_may c.args.sync c.of-method.result.now c.of-target.result.now _ _ _ c.fields_of-fields.ensures c.judge.ensures))
+    let may = judged_may c.args.sync c.of-method.result.now c.of-target.result.now _ _ _ c.fields_of-fields.ensures c.judge.ensures in
+    c.body_heard.ensures.may c.args.sync (subst (MayAsk c.args.sync) c.in-Body.is may).0
+
+pub returns-in-Body-clause-most : goal.returns-in-Body-clause-most
+returns-in-Body-clause-most g c =
+    let may = judged_may c.args.sync c.of-method.result.now c.of-target.result.now _ _ _ c.fields_of-fields.ensures c.judge.ensures in
+    let fits = subst (MayAsk c.args.sync) c.in-Body.is may in
+    takes_within c.in-Body.size (body_limit c.args.sync) _ _ (size_within c.args.sync c.in-Body.posted c.in-Body.size fits.0 fits.1) c.body_heard.ensures.most

@@ -1,4 +1,4 @@
-//! When what is said of the last tokens of a family ends.
+//! The moments at which the standing of a family's last tokens changes.
 
 use super::facts::Token;
 use super::orders::{Both, Said, in_order, is_said};
@@ -8,7 +8,7 @@ use std::alloc::Global;
 // A row of a table, and its moment.
 type Ending = (&'static str, Token, u64, Said);
 
-// From its end on a token is past, and from the family's end on it is over.
+// A token is past from its expiry on, and over from the family's expiry on.
 const ENDINGS: &[Ending] = &[
     ("access", LAST_ACCESS, 4_609, LIVE),
     ("access", LAST_ACCESS, 4_610, PAST),
@@ -16,14 +16,14 @@ const ENDINGS: &[Ending] = &[
     ("refresh", LAST_REFRESH, 87_410, PAST),
     ("refresh", LAST_REFRESH, 89_999, PAST),
     ("refresh", LAST_REFRESH, 90_000, OVER),
-    // It is past since 87,410, but was used: that is told first.
+    // The token is past since 87,410, but it was used: the state is `used`.
     ("used", USED_REFRESH, 89_999, USED),
-    // The end of the family is told before its use.
+    // The state of an expired family comes before that of a used token.
     ("used", USED_REFRESH, 90_000, OVER),
     ("access", LAST_ACCESS, 253_402_300_799, OVER),
 ];
 
-// The first row of which another thing is said.
+// Returns the first row whose standing differs.
 fn first_otherwise(both: &Both, rows: &[Ending]) -> Option<(&'static str, u64)> {
     for (row, token, now, want) in rows {
         if !is_said(both, *now, *token, *want) {
@@ -33,7 +33,7 @@ fn first_otherwise(both: &Both, rows: &[Ending]) -> Option<(&'static str, u64)> 
     None
 }
 
-// The same, of a family.
+// Returns the first row whose standing differs, for a family.
 pub(super) fn ended_otherwise(alloc: Global) -> Option<(&'static str, u64)> {
     match in_order(alloc, FAMILY, 0) {
         Some(both) => {

@@ -1,7 +1,9 @@
-//! What facts say, their bytes, as they come from other regions, and the handles of the tokens that they mint.
+//! Facts as they arrive from other regions, their bytes, and the handles of the tokens that they
+//! mint.
 //!
-//! Clients have the scope `read write`; a code begins at 1,000 and ends at 1,060, its family at 90,000; its tokens begin
-//! at 1,010, the access token ends at 4,610 and the refresh token at 87,410.
+//! Clients have the scope `read write`. A code begins at 1,000 and ends at 1,060, its family at
+//! 90,000. Its tokens begin at 1,010, the access token ends at 4,610 and the refresh token at
+//! 87,410.
 
 use std::alloc::Global;
 use tk_fact::Fact;
@@ -10,30 +12,30 @@ use tk_handle::{Dot, Handle, Kind, RegionNumber, TokenId};
 /// A region and a serial.
 pub(super) type Place = (u16, u64);
 
-/// Where a token is minted, its kind, and its words.
+/// A token: the dot at which it is minted, its kind, and the number of its random words.
 pub(super) type Token = (Place, Kind, u64);
 
-/// What a fact says. Pairs of words are those of an access token and of a refresh token.
+/// The body of a fact. Pairs of random words are those of an access token and a refresh token.
 #[derive(Clone, Copy)]
 pub(super) enum Says {
     ClientAdded,
     ClientRetired(Place),
-    /// To the client, for the scope that is spelled so.
+    /// A consent to the client, for the scope of this text.
     ConsentGiven(Place, &'static [u8]),
     ConsentWithdrawn(Place),
-    /// With these words, to the client, by the consent.
+    /// A code with these random words, to the client, by the consent.
     CodeIssued(u64, Place, Place),
     CodeRedeemed(Place, (u64, u64)),
-    /// Of what was minted there, to the tokens of the generation.
+    /// A rotation of the token minted there, to the tokens of the generation.
     RefreshRotated(Place, u16, (u64, u64)),
-    /// By the client.
+    /// A revocation by the client.
     TokenRevoked(Token, Place),
     ReuseSeen(Place, Kind),
-    /// By the subject that is spelled so, at the moment.
+    /// A sign-out of the subject of this text, at the moment.
     SubjectOut(&'static [u8], u64),
 }
 
-/// Where a fact stands, and what it says.
+/// A fact: its dot and its body.
 pub(super) type Told = (Place, Says);
 
 pub(super) fn dot(place: Place) -> Option<Dot> {
@@ -41,7 +43,7 @@ pub(super) fn dot(place: Place) -> Option<Dot> {
     Dot::new(region, place.1)
 }
 
-/// A handle of the token, of the words of that number.
+/// Returns a handle of the token, made of the random words of that number.
 pub(super) fn handle(token: Token) -> Option<Handle> {
     let (place, kind, word) = token;
     let dot = dot(place)?;
@@ -52,7 +54,7 @@ fn digest(token: Token) -> Option<[u8; 32]> {
     Some(handle(token)?.digest())
 }
 
-// The bytes of a dot.
+// Returns the bytes of a dot.
 fn spelled(place: Place) -> [u8; 10] {
     let [high, low] = place.0.to_be_bytes();
     let [a, b, c, d, e, f, g, h] = place.1.to_be_bytes();
@@ -75,11 +77,11 @@ pub(super) const READ_WRITE: &[u8] = b"\x00\x0aread write";
 
 const ADDED: &[u8] = b"\x01\x00\x00\x0aread write\x01\x00\x16https://app.example/cb";
 
-// The moments of a code, and all behind them.
+// The moments of a code, and the bytes after them.
 const CODE_END: &[u8] = b"\x00\x00\x00\x00\x00\x00\x03\xe8\x00\x00\x00\x00\x00\x00\x04\x24\
     \x00\x00\x00\x00\x00\x01\x5f\x90\x00\x03ann\x00\x0aread write\x00\x16https://app.example/cb\x00\x00";
 
-// The moments of tokens, with the scopes behind their ends.
+// The moments of tokens, with the scopes after their ends.
 const START: &[u8] = b"\x00\x00\x00\x00\x00\x00\x03\xf2";
 
 const ACCESS_END: &[u8] = b"\x00\x00\x00\x00\x00\x00\x12\x02\x00\x0aread write";
@@ -92,7 +94,8 @@ fn issued(alloc: Global, at: Place, word: u64, by: (Place, Place)) -> Option<Vec
     joined(alloc, &[&at, b"\x05", &client, &consent, &digest, CODE_END])
 }
 
-// A fact of the kind of this number that uses what was minted at a dot, with what is behind the dot, for new tokens.
+// Returns a fact of the kind of this number that uses the token minted at a dot, with the bytes
+// after that dot, for new tokens.
 fn minted(
     alloc: Global,
     at: Place,
@@ -125,7 +128,7 @@ fn revoked(alloc: Global, at: Place, token: Token, client: Place) -> Option<Vec<
     )
 }
 
-// A fact whose number is followed by a dot, and then by what is behind it.
+// Returns a fact whose kind is followed by a dot and then by these bytes.
 fn naming(alloc: Global, at: Place, number: &[u8], named: Place, behind: &[u8]) -> Option<Vec<u8>> {
     joined(alloc, &[&spelled(at), number, &spelled(named), behind])
 }
@@ -140,7 +143,7 @@ fn signed_out(alloc: Global, at: Place, subject: &[u8], moment: u64) -> Option<V
     joined(alloc, &[&at, b"\x0a", subject, &moment])
 }
 
-// The bytes of a fact.
+// Returns the bytes of a fact.
 fn bytes_of(alloc: Global, told: &Told) -> Option<Vec<u8>> {
     let (place, says) = *told;
     match says {
@@ -160,7 +163,7 @@ fn bytes_of(alloc: Global, told: &Told) -> Option<Vec<u8>> {
     }
 }
 
-/// The fact that is read from its bytes, where there is memory for it.
+/// Reads the fact of its bytes; `None` if memory runs out.
 pub(super) fn fact(alloc: Global, told: &Told) -> Option<Fact> {
     match &bytes_of(alloc, told) {
         Some(bytes) => Fact::read(alloc, bytes.as_slice()).ok(),

@@ -1,4 +1,4 @@
-//! Forests of tk_family: the tops of their dots, and the look-ups that they take.
+//! Forests of tk_family: the tops of their dots, and how many look-ups a top takes.
 
 use super::facts::{Place, dot};
 use std::alloc::Global;
@@ -6,7 +6,7 @@ use std::process::Abort;
 use tk_family::{Forest, Link, Steps, Top};
 use tk_handle::{Dot, Kind, TokenId};
 
-// What a link does: a rotation has a generation.
+// The kind of a link. A rotation has a generation.
 #[derive(Clone, Copy)]
 enum Does {
     Code,
@@ -14,7 +14,7 @@ enum Does {
     Rotates(u16),
 }
 
-// A link that names the dot, where it names one.
+// Returns a link that names the dot, if it names one.
 fn link(does: Does, names: Dot) -> Link {
     match does {
         Does::Code => Link::Code,
@@ -26,10 +26,10 @@ fn link(does: Does, names: Dot) -> Link {
     }
 }
 
-// A link: its place, what it does, and the place that it names; a code stands with its own.
+// A link: its dot, its kind, and the dot that it names; a code names its own dot.
 type Row = (Place, Does, Place);
 
-// A top, with the place of its code.
+// The top of a dot, with the dot of its code.
 #[derive(Clone, Copy)]
 enum Stands {
     Absent,
@@ -38,16 +38,17 @@ enum Stands {
     Dead(Place),
 }
 
-// What is done to a forest, or asked of it.
+// A step of a test: a change of a forest, or a check of it.
 #[derive(Clone, Copy)]
 enum Step {
-    // Puts a link where none is, which raises the dots at these places.
+    // Puts a link at a free dot, which raises these dots.
     Put(Row, &'static [Place]),
-    // 10,000 rotations at 1:1 and on, each of the one before, the first of the redemption at this place.
+    // Puts 10,000 rotations at 1:1 and on, each of the one before, the first of the redemption at
+    // this dot.
     Rotate(Place),
-    // Whether all of these stand so.
+    // Checks that all of these dots have this top.
     Top(&'static [Place], Stands),
-    // Whether this one stands so, and whether its refresh token is used.
+    // Checks that this dot has this top, and whether its refresh token is used.
     Look(Place, Stands, bool),
 }
 
@@ -67,7 +68,8 @@ fn is_at(forest: &Forest, at: Place, want: Stands) -> bool {
     }
 }
 
-// Where a dot stands, whether its refresh token is used, and how many look-ups tell the one, and both, and one more.
+// Returns the top of a dot, whether its refresh token is used, and three counts of look-ups: after
+// the top, after the use, and after one more tick.
 fn looked_up(forest: &Forest, at: Place) -> Option<(Top, bool, [u64; 3])> {
     let (dot, kind) = (dot(at)?, Kind::Refresh);
     let mut steps = Steps::new();
@@ -79,7 +81,8 @@ fn looked_up(forest: &Forest, at: Place) -> Option<(Top, bool, [u64; 3])> {
     Some((top, is_used, [first, both, steps.count()]))
 }
 
-// The same is told by as many look-ups of every dot with a code, and of one with no link by one less.
+// Returns whether a dot has this top and this use. The top of a dot with a link takes two look-ups,
+// that of a dot without a link takes one.
 fn is_seen(forest: &Forest, at: Place, want: Stands, is_used: bool) -> bool {
     let counts = match want {
         Stands::Absent => [1, 2, 3],
@@ -100,7 +103,8 @@ fn are_at(forest: &Forest, places: &[Place], want: Stands) -> bool {
     true
 }
 
-// The dots that are raised. A put that finds no memory is tried once more: then it does what it would have done.
+// Returns the dots that a put raises. A put that runs out of memory is repeated, and does then what
+// it would have done.
 fn put(forest: &mut Forest, row: Row) -> Option<Vec<Dot>> {
     let (at, does, names) = row;
     let (at, link) = (dot(at)?, link(does, dot(names)?));
@@ -122,7 +126,7 @@ fn are_dots(dots: &[Dot], places: &[Place]) -> bool {
     dots.len() == places.len()
 }
 
-// Whether the dots at these places are raised, in this order.
+// Returns whether the dots at these places are raised, in this order.
 fn raises(forest: &mut Forest, row: Row, places: &[Place]) -> bool {
     match &put(forest, row) {
         Some(dots) => are_dots(dots.as_slice(), places),
@@ -130,7 +134,7 @@ fn raises(forest: &mut Forest, row: Row, places: &[Place]) -> bool {
     }
 }
 
-// How many dots are raised.
+// Returns how many dots a put raises.
 fn raised(forest: &mut Forest, row: Row) -> Option<usize> {
     match &put(forest, row) {
         Some(dots) => Some(dots.len()),
@@ -138,7 +142,7 @@ fn raised(forest: &mut Forest, row: Row) -> Option<usize> {
     }
 }
 
-// As a put, a mark is tried once more.
+// Marks a token. A mark that runs out of memory is repeated.
 fn mark(forest: &mut Forest, token: &TokenId) -> bool {
     forest.mark(*token).is_ok() || forest.mark(*token).is_ok()
 }
@@ -171,7 +175,7 @@ fn is_done(forest: &mut Forest, step: Step) -> bool {
     }
 }
 
-// The index of the first step that goes otherwise.
+// Returns the index of the first step that goes differently.
 fn first_otherwise(forest: &mut Forest, steps: &[Step]) -> Option<usize> {
     for (index, step) in steps.iter().enumerate() {
         if !is_done(forest, *step) {
@@ -181,13 +185,13 @@ fn first_otherwise(forest: &mut Forest, steps: &[Step]) -> Option<usize> {
     None
 }
 
-// The same, in a forest of its own.
+// Returns the index of the first step that goes differently, in a new forest.
 fn otherwise(alloc: Global, steps: &[Step]) -> Option<usize> {
     let mut forest = Forest::new(alloc);
     first_otherwise(&mut forest, steps)
 }
 
-// Asserts that each step goes as it is to.
+// Asserts that each step goes as expected.
 fn goes(rt: &impl Abort, alloc: Global, steps: &[Step]) {
     let wrong = otherwise(alloc, steps);
     assert!(rt; wrong.is_none(), "step {wrong:?}");
@@ -231,7 +235,8 @@ fn a_code_that_comes_last_raises_its_dead_family(rt: HostRuntime) {
     goes(&rt, rt.alloc(), CODE_LAST);
 }
 
-// How many dots the family raises in the order of this number: one of those left at a time, told by a remainder.
+// Returns how many dots the family raises in the order of this number. Each remainder chooses one
+// of the links left.
 fn raised_in_order(forest: &mut Forest, order: usize) -> Option<usize> {
     let mut left = [ISSUED, REDEEMED, ROTATED, ROTATED_AGAIN];
     let (mut digits, mut sum) = (order, 0_usize);
@@ -249,7 +254,7 @@ fn dies_in_order(alloc: Global, order: usize) -> bool {
     raised_in_order(&mut forest, order) == Some(4) && are_at(&forest, FAMILY, DEAD)
 }
 
-// Each order of four links raises four dots, and then all of them are dead.
+// Each order of the four links raises four dots, and all of them are dead then.
 #[test]
 fn a_family_dies_in_every_order(rt: HostRuntime) {
     for order in 0..24 {
@@ -278,7 +283,7 @@ const LIVES: Stands = Stands::Lives(CODE);
 
 const DEAD: Stands = Stands::Dead(CODE);
 
-// Marks of the grants of a family, and of tokens that are none of them.
+// Marks of the grants of a family, and of tokens that aren't its grants.
 #[rattlefmt::skip]
 const MARKS: &[(&str, Place, Kind, Stands)] = &[
     ("the code", CODE, Kind::Code, DEAD),
@@ -298,7 +303,7 @@ const PUT_THREE: &[Step] = &[
     Step::Put(ROTATED, &[LEFT]),
 ];
 
-// Whether a token is marked before all three of a family are put or behind them.
+// Whether a token is marked before the three facts of a family are put, or after.
 fn are_put_and_marked(forest: &mut Forest, at: Place, kind: Kind, before: bool) -> bool {
     if before {
         is_marked(forest, at, kind) && first_otherwise(forest, PUT_THREE).is_none()
@@ -307,13 +312,13 @@ fn are_put_and_marked(forest: &mut Forest, at: Place, kind: Kind, before: bool) 
     }
 }
 
-// Whether all three stand so then.
+// Returns whether all three dots have this top then.
 fn is_when_marked(alloc: Global, at: Place, kind: Kind, want: Stands, before: bool) -> bool {
     let mut forest = Forest::new(alloc);
     are_put_and_marked(&mut forest, at, kind, before) && are_at(&forest, THREE, want)
 }
 
-// The first mark by which something stands otherwise, and whether it comes before.
+// Returns the first mark with which some dot differs, and whether the mark comes first.
 fn marked_otherwise(alloc: Global) -> Option<(&'static str, bool)> {
     for &(name, at, kind, want) in MARKS {
         for before in [true, false] {
@@ -355,7 +360,7 @@ const LONG_LIVES: Stands = Stands::Lives((2, 1));
 
 const LONG_DEAD: Stands = Stands::Dead((2, 1));
 
-// A family of 10,001 members, then dead by a second use of a token in its middle.
+// A family of 10,001 members, which a second use of a token in its middle ends.
 #[rattlefmt::skip]
 const LONG: &[Step] = &[
     Step::Put(((2, 1), Does::Code, (2, 1)), &[(2, 1)]),

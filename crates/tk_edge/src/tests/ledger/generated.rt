@@ -1,4 +1,4 @@
-//! Sets of facts that no one chose, hostile ones among them: the ledger says of them what a walk over the facts says.
+//! Pseudo-random sets of facts, hostile ones among them: the ledger agrees with a walk over the facts.
 
 use super::facts::{ANN, Place, READ_WRITE, Says, Token, dot, handle};
 use super::orders::{Both, add_to_both, found, in_short};
@@ -21,7 +21,7 @@ const PLACES: [Place; 8] = [
 
 const KINDS: [Kind; 3] = [Kind::Code, Kind::Access, Kind::Refresh];
 
-// Numbers that no one chose, each told by the one before.
+// A pseudo-random sequence of numbers, each computed from the one before.
 fn next(number: u64) -> u64 {
     number
         .wrapping_mul(6_364_136_223_846_793_005)
@@ -32,7 +32,8 @@ fn place(number: u64) -> Place {
     PLACES[(number % 8) as usize]
 }
 
-// The kind of fact at a place: in most sets that of the family's story, and in some another.
+// Returns the kind of the fact at an index: in most sets that of the family's story, in some
+// another.
 fn kind_at(index: u64, number: u64) -> u64 {
     if number % 4 == 0 {
         number / 4 % 10
@@ -41,7 +42,7 @@ fn kind_at(index: u64, number: u64) -> u64 {
     }
 }
 
-// The place that a fact names: mostly that of the story, and else any.
+// Returns the dot that a fact names: mostly that of the story, otherwise any.
 fn named(usual: usize, number: u64) -> Place {
     if number % 4 == 0 {
         place(number / 4)
@@ -50,7 +51,7 @@ fn named(usual: usize, number: u64) -> Place {
     }
 }
 
-// What the fact at the place of this index says.
+// Returns the body of the fact at this index.
 fn generated(index: u64, number: u64) -> Says {
     let (client, consent) = (named(0, number >> 20), named(1, number >> 26));
     let (code, parent) = (named(2, number >> 32), named(3, number >> 38));
@@ -65,7 +66,7 @@ fn generated(index: u64, number: u64) -> Says {
         }
         6 => Says::TokenRevoked((parent, Kind::Refresh, 8), client),
         7 => Says::ReuseSeen(code, Kind::Code),
-        // Before the codes begin, and in the same second.
+        // A sign-out before the codes begin, or in the second in which they begin.
         9 => Says::SubjectOut(ANN, 999 + (number >> 50) % 2),
         _ => gone(number >> 50),
     }
@@ -80,12 +81,13 @@ fn gone(number: u64) -> Says {
     }
 }
 
-// Eight facts, or fewer where one conflicts, from a place on that the number tells: whether both took them alike.
+// Adds ten facts to both ledgers, at dots that the seed chooses. Returns whether both ledgers took
+// or refused each of them alike.
 fn are_filled(alloc: Global, both: &mut Both, seed: u64) -> bool {
     let mut number = next(seed);
     for step in 0..10_u64 {
         number = next(number);
-        // Two of the ten come where a fact is already.
+        // There are eight dots, so two of the ten facts are at dots that are taken.
         let index = seed.wrapping_add(step.wrapping_mul(3 + seed % 4 * 2)) % 8;
         match add_to_both(alloc, both, &(place(index), generated(index, number))) {
             Some(Ok(_)) | Some(Err(AddError::Conflict)) => {}
@@ -95,7 +97,7 @@ fn are_filled(alloc: Global, both: &mut Both, seed: u64) -> bool {
     true
 }
 
-// Of a token: its status in both, and its revocation by the client at 1:1.
+// Returns whether both ledgers agree on a token's status and its revocation by the client at 1:1.
 fn tells_alike(both: &Both, token: Token) -> Option<bool> {
     let (handle, client) = (handle(token)?, dot((1, 1))?);
     let (id, digest) = (handle.id, handle.digest());
@@ -104,7 +106,7 @@ fn tells_alike(both: &Both, token: Token) -> Option<bool> {
     Some(is_alike && in_short(both, 1_020, token).is_some())
 }
 
-// Of each token at a place, with its digest and with another.
+// Returns whether both ledgers agree on each token at a dot, with its own digest and with others.
 fn tells_tokens_alike(both: &Both, at: Place) -> bool {
     for kind in KINDS {
         for word in [7, 8, 9] {
@@ -116,7 +118,7 @@ fn tells_tokens_alike(both: &Both, at: Place) -> bool {
     true
 }
 
-// Whether the client that is shown is live.
+// Returns whether the client that is shown is live.
 fn live_client(client: Option<ClientView<'_>>) -> Option<bool> {
     match client {
         Some(client) => Some(client.live),
@@ -124,7 +126,7 @@ fn live_client(client: Option<ClientView<'_>>) -> Option<bool> {
     }
 }
 
-// Whether the consent that is shown is live.
+// Returns whether the consent that is shown is live.
 fn live_consent(consent: Option<ConsentView<'_>>) -> Option<bool> {
     match consent {
         Some(consent) => Some(consent.live),
@@ -152,7 +154,7 @@ fn are_alike(alloc: Global, both: &Both) -> bool {
     true
 }
 
-// How many facts both are filled with, where they say the same of all.
+// Returns how many facts both ledgers were filled with, if they agree on all of them.
 fn filled_alike(alloc: Global, both: &mut Both, seed: u64) -> Option<u64> {
     if are_filled(alloc, both, seed) && are_alike(alloc, both) {
         Some(both.ledger.store().len())

@@ -1,4 +1,4 @@
-//! A family of ten thousand rotations: what is asked of its last tokens costs no more than of its first.
+//! A family of ten thousand rotations: its last tokens cost no more look-ups than its first.
 
 use super::BEFORE_GRANTS;
 use super::facts::{Says, Told, handle};
@@ -36,7 +36,7 @@ fn is_rotated(alloc: Global, ledger: &mut Ledger, rotations: u16) -> bool {
     true
 }
 
-// The ledger of a family with so many rotations.
+// Returns the ledger of a family with the given number of rotations.
 fn rotated(alloc: Global, rotations: u16) -> Option<Ledger> {
     let mut ledger = Ledger::new(alloc);
     if is_issued(alloc, &mut ledger) && is_rotated(alloc, &mut ledger, rotations) {
@@ -47,12 +47,12 @@ fn rotated(alloc: Global, rotations: u16) -> Option<Ledger> {
     }
 }
 
-// The refresh token that so many rotations lead to.
+// Returns the refresh token to which the given number of rotations leads.
 fn last(rotations: u16) -> Option<Handle> {
     handle(((1, 4 + u64::from(rotations)), Kind::Refresh, 8))
 }
 
-// Whether the token is live, and how many look-ups tell so.
+// Returns whether the token is live, and how many look-ups that takes.
 fn told(ledger: &Ledger, now: Moment, token: &Handle) -> (bool, u64) {
     let mut steps = Steps::new();
     let is_live = match ledger.status(now, token, &mut steps) {
@@ -78,7 +78,7 @@ fn look_ups_are_as_many_at_every_generation(rt: HostRuntime) {
     }
 }
 
-// Whether each of 20,000 calls says that it is live.
+// Returns whether each of 20,000 calls reports that the token is live.
 fn is_live(ledger: &Ledger, now: Moment, token: &Handle) -> bool {
     for _ in 0..20_000 {
         if !told(ledger, now, token).0 {
@@ -88,7 +88,7 @@ fn is_live(ledger: &Ledger, now: Moment, token: &Handle) -> bool {
     true
 }
 
-// How long these calls take.
+// Returns how long these calls take.
 fn timed<C: Clock>(rt: &C, ledger: &Ledger, token: &Handle) -> Result<Duration, Fail> {
     let now = Moment::new(1_020).ok_or("a moment")?;
     let start = Instant::now(rt)?;
@@ -106,7 +106,7 @@ fn timed_after<C: Clock>(rt: &C, alloc: Global, rotations: u16) -> Result<Durati
     time
 }
 
-// A walk from parent to parent would take 10,001 steps in place of 2.
+// A walk from parent to parent would take 10,001 steps instead of 2.
 #[test]
 fn a_status_takes_as_long_at_every_generation(rt: HostRuntime) -> Result<(), Fail> {
     let alloc = rt.alloc();

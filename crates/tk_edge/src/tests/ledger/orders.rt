@@ -1,4 +1,4 @@
-//! Ledgers of facts that came in any order, and what they say: each beside a plain one, that says the same.
+//! Ledgers of facts that arrive in any order: each beside a plain one, which agrees.
 
 use super::facts::{Place, Token, Told, dot, fact, handle};
 use super::plain::PlainLedger;
@@ -11,7 +11,7 @@ use tk_ledger::{Ledger, State, Status};
 use tk_scope::Scope;
 use tk_store::{AddError, Added};
 
-/// The same facts in both.
+/// A ledger and a plain ledger of the same facts.
 #[derive(Drop)]
 pub(super) struct Both {
     pub(super) ledger: Ledger,
@@ -27,7 +27,7 @@ impl Both {
     }
 }
 
-/// How an addition ended, None where there is no memory for the fact itself.
+/// How an addition ended; `None` if there was no memory for the fact itself.
 pub(super) type Addition = Option<Result<Added, AddError>>;
 
 pub(super) fn add_to_ledger(alloc: Global, ledger: &mut Ledger, told: &Told) -> Addition {
@@ -52,7 +52,8 @@ fn add_to_plain(alloc: Global, plain: &mut PlainLedger, told: &Told) -> Addition
     }
 }
 
-// How an addition to both ended, None where not alike.
+// Adds a fact to both ledgers. `None` means that they differ, or that there is no memory for the
+// fact.
 pub(super) fn add_to_both(alloc: Global, both: &mut Both, told: &Told) -> Addition {
     let added = add_to_ledger(alloc, &mut both.ledger, told)?;
     if add_to_plain(alloc, &mut both.plain, told)? == added {
@@ -72,7 +73,7 @@ pub(super) fn copied(alloc: Global, facts: &[Told]) -> Option<Vec<Told>> {
     Some(copied)
 }
 
-// Those left are added, if they can be: each time one of them, told by a remainder.
+// Adds the facts left, if they can be added. Each remainder chooses the next one.
 fn are_left_added(alloc: Global, both: &mut Both, left: &mut Vec<Told>, order: usize) -> bool {
     let mut order = order;
     for count in (1..=left.len()).rev() {
@@ -88,7 +89,7 @@ fn are_left_added(alloc: Global, both: &mut Both, left: &mut Vec<Told>, order: u
     true
 }
 
-// Whether the facts are added in the order that has this number, and all of them are held then.
+// Returns whether the facts can be added in the order of this number, and all are held then.
 fn are_added(alloc: Global, both: &mut Both, facts: &[Told], order: usize) -> bool {
     match &mut copied(alloc, facts) {
         Some(left) => {
@@ -99,7 +100,7 @@ fn are_added(alloc: Global, both: &mut Both, facts: &[Told], order: usize) -> bo
     }
 }
 
-// The facts, added in the order that has this number, where all of them are held then.
+// Returns the ledgers of the facts, added in the order of this number, if all are held then.
 pub(super) fn in_order(alloc: Global, facts: &[Told], order: usize) -> Option<Both> {
     let mut both = Both::new(alloc);
     if are_added(alloc, &mut both, facts, order) {
@@ -110,7 +111,7 @@ pub(super) fn in_order(alloc: Global, facts: &[Told], order: usize) -> Option<Bo
     }
 }
 
-// What a status says in short.
+// A short form of a status.
 #[derive(Clone, Copy, PartialEq, Eq)]
 pub(super) enum Said {
     Unseen,
@@ -128,7 +129,8 @@ fn short(status: &Status<'_>) -> Said {
     }
 }
 
-// What both say, by one to eight look-ups; None where not the same, or not by so many.
+// Returns the status in both ledgers, by one to eight look-ups; `None` if they differ or take
+// another number.
 pub(super) fn in_short(both: &Both, now: u64, token: Token) -> Option<Said> {
     let (now, handle) = (Moment::new(now)?, handle(token)?);
     let mut steps = Steps::new();
@@ -148,10 +150,10 @@ pub(super) fn is_said(both: &Both, now: u64, token: Token, want: Said) -> bool {
     }
 }
 
-/// A row of a table: its name, a token, and what is to be said of it.
+/// A row of a table: its name, a token, and the expected status.
 pub(super) type Row = (&'static str, Token, Said);
 
-// The first row of which another thing is said, at 1,020.
+// Returns the first row whose status differs at 1,020.
 fn missed(both: &Both, rows: &[Row]) -> Option<&'static str> {
     for (row, token, want) in rows {
         if !is_said(both, 1_020, *token, *want) {
@@ -161,7 +163,7 @@ fn missed(both: &Both, rows: &[Row]) -> Option<&'static str> {
     None
 }
 
-// The same, where the facts are added in the order that has this number.
+// Returns the first row whose status differs, for facts added in the order of this number.
 fn missed_in_order(
     alloc: Global,
     facts: &[Told],
@@ -178,7 +180,7 @@ fn missed_in_order(
     }
 }
 
-// The order and the first row of which another thing is said, at 1,020, in any of the orders in which the facts may come.
+// Returns the order and the first row whose status differs at 1,020, in any order of the facts.
 fn first_miss(
     alloc: Global,
     facts: &[Told],
@@ -193,10 +195,11 @@ fn first_miss(
     None
 }
 
-/// A name, facts, how many of their orders are tried, and what is to be said of tokens then.
+/// A case: its name, facts, how many of their orders are tried, and the expected standing of
+/// tokens.
 pub(super) type Case = (&'static str, &'static [Told], usize, &'static [Row]);
 
-/// Asserts what is said of the tokens of each case, at 1,020, in all of the orders in which its facts may come.
+/// Asserts the standing of each case's tokens at 1,020, in all orders of its facts.
 pub(super) fn tells(rt: &impl Abort, alloc: Global, cases: &[Case]) {
     for &(name, facts, orders, rows) in cases {
         let miss = first_miss(alloc, facts, orders, rows);
@@ -213,7 +216,8 @@ fn both_find(both: &Both, client: Dot, subject: &Subject, scope: &Scope) -> Opti
     }
 }
 
-// The consent that both find for the client, the subject and the scope; None where not the same.
+// Returns the consent that both ledgers find for the client, the subject and the scope; `None` if
+// they differ.
 fn found_for(
     alloc: Global,
     both: &Both,
@@ -227,7 +231,7 @@ fn found_for(
     }
 }
 
-// The same, of texts.
+// Returns the consent that both ledgers find, given the texts of the subject and the scope.
 pub(super) fn found(
     alloc: Global,
     both: &Both,

@@ -1,5 +1,7 @@
-//! The ledger computed afresh: what docs/DEFINITIONS.md says, written down once more without a contract, by a walk over the facts of a
-//! store for each answer. It takes no memory. Tests compare the ledger with it.
+//! A ledger computed afresh for each answer: `PlainLedger`.
+//!
+//! The definitions of docs/DEFINITIONS.md are written once more, without a contract, as walks over
+//! the facts of a store. The walks take no memory. Tests compare the ledger with it.
 
 use std::alloc::Global;
 use tk_fact::{Body, ClientAdded, CodeIssued, ConsentGiven, Fact, Subject};
@@ -10,20 +12,20 @@ use tk_store::{AddError, Added, FactStore};
 
 // ---- the walk
 
-// What is looked for in each fact.
+// What a walk looks for in each fact.
 #[derive(Clone, Copy)]
 enum Sought {
-    // Of the client.
+    // A retirement of the client.
     Retirement(Dot),
-    // Of the consent.
+    // A withdrawal of the consent.
     Withdrawal(Dot),
-    // Of the token.
+    // A use of the token.
     Reuse(TokenId),
-    // Of the token of that digest, by the client.
+    // A revocation of the token of this digest, by the client.
     Revocation(TokenId, [u8; 32], Dot),
 }
 
-// Whether a fact is what is looked for.
+// Returns whether a fact is what the walk looks for.
 fn holds(facts: &FactStore, sought: &Sought) -> bool {
     for fact in facts.facts() {
         if is_sought(&fact.body, sought) {
@@ -72,7 +74,7 @@ fn revokes(body: &Body, token: TokenId, digest: &[u8; 32], client: Dot) -> bool 
     }
 }
 
-// Whether the subject signed out at the moment, or later.
+// Returns whether the subject signed out at the moment or later.
 fn is_out(facts: &FactStore, subject: &Subject, moment: Moment) -> bool {
     for fact in facts.facts() {
         if signs_out(&fact.body, subject, moment) {
@@ -101,7 +103,7 @@ fn client_at(facts: &FactStore, at: Dot) -> Option<&ClientAdded> {
     }
 }
 
-// Whether a client was added at the dot and no retirement of it is held.
+// Returns whether a client was added at the dot and no retirement of it is held.
 fn is_live_client(facts: &FactStore, client: Dot) -> bool {
     client_at(facts, client).is_some() && !holds(facts, &Sought::Retirement(client))
 }
@@ -121,7 +123,7 @@ fn gives(consent: &ConsentGiven, client: Dot, subject: &Subject) -> bool {
     consent.client == client && consent.subject.as_bytes() == subject.as_bytes()
 }
 
-// Whether the consent of a code is live.
+// Returns whether the consent of a code is live.
 fn is_live_consent(facts: &FactStore, code: &CodeIssued) -> bool {
     match consent_at(facts, code.consent) {
         Some(consent) => {
@@ -131,7 +133,7 @@ fn is_live_consent(facts: &FactStore, code: &CodeIssued) -> bool {
     }
 }
 
-// Whether the fact is a live consent of the client and subject for the scope.
+// Returns whether the fact is a live consent of the client and subject for the scope.
 fn consents(facts: &FactStore, fact: &Fact, client: Dot, subject: &Subject, scope: &Scope) -> bool {
     match &fact.body {
         Body::ConsentGiven(consent) => {
@@ -145,7 +147,7 @@ fn consents(facts: &FactStore, fact: &Fact, client: Dot, subject: &Subject, scop
 
 // ---- families
 
-// Whether the fact at the dot is what the parent of a rotation of this generation is.
+// Returns whether the fact at the dot fits as the parent of a rotation of this generation.
 fn is_parent(facts: &FactStore, at: Dot, generation: u16) -> bool {
     match facts.get(at) {
         Some(fact) => match &fact.body {
@@ -165,7 +167,7 @@ fn issued_at(facts: &FactStore, at: Dot) -> Option<&CodeIssued> {
     }
 }
 
-// The fact above this one in its family.
+// Returns the parent of this fact in its family.
 fn parent(facts: &FactStore, body: &Body) -> Option<Dot> {
     match body {
         Body::CodeRedeemed(fact) if issued_at(facts, fact.code).is_some() => Some(fact.code),
@@ -176,7 +178,8 @@ fn parent(facts: &FactStore, body: &Body) -> Option<Dot> {
     }
 }
 
-// The code that the tokens of the fact at the dot are under: at most 10,001 parents lead to it.
+// Returns the code that the tokens of the fact at the dot are under. At most 10,001 parents lead to
+// it.
 fn code_above(facts: &FactStore, dot: Dot) -> Option<Dot> {
     let mut at = dot;
     for _ in 0..10_002 {
@@ -196,7 +199,7 @@ fn uses(body: &Body, token: &TokenId) -> bool {
     }
 }
 
-// How many facts use the token.
+// Returns how many facts use the token.
 fn uses_of(facts: &FactStore, token: &TokenId) -> u32 {
     let mut count = 0_u32;
     for fact in facts.facts() {
@@ -207,7 +210,7 @@ fn uses_of(facts: &FactStore, token: &TokenId) -> u32 {
     count
 }
 
-// Whether the client of the code that it is under revoked the token.
+// Returns whether the client of the token's code revoked the token.
 fn is_ended(facts: &FactStore, token: &TokenId) -> Option<bool> {
     let fact = facts.get(token.dot)?;
     let code = issued_at(facts, code_above(facts, token.dot)?)?;
@@ -220,7 +223,7 @@ fn is_ended(facts: &FactStore, token: &TokenId) -> Option<bool> {
     }
 }
 
-// The token of a fact whose marks and uses count: its code, or else its refresh token.
+// Returns the token of a fact whose marks and uses count: its code, or otherwise its refresh token.
 fn grant_of(fact: &Fact) -> Option<TokenId> {
     let kind = match &fact.body {
         Body::CodeIssued(_) => Kind::Code,
@@ -233,7 +236,8 @@ fn grant_of(fact: &Fact) -> Option<TokenId> {
     })
 }
 
-// Whether the grant was stopped: a refresh token that was revoked, a code whose subject signed out.
+// Returns whether the grant was stopped: a refresh token was revoked, or the subject of a code
+// signed out.
 fn is_stopped(facts: &FactStore, token: &TokenId) -> bool {
     match issued_at(facts, token.dot) {
         Some(code) => is_out(facts, &code.subject, code.start),
@@ -241,7 +245,7 @@ fn is_stopped(facts: &FactStore, token: &TokenId) -> bool {
     }
 }
 
-// Whether the fact's grant was used again, stopped, or used by two facts.
+// Returns whether the fact's grant was reused, was stopped, or was used by two facts.
 fn is_bad(facts: &FactStore, fact: &Fact) -> bool {
     match grant_of(fact) {
         Some(token) => {
@@ -253,7 +257,7 @@ fn is_bad(facts: &FactStore, fact: &Fact) -> bool {
     }
 }
 
-// Whether the family of the code is dead.
+// Returns whether the family of the code is dead.
 fn is_dead(facts: &FactStore, code: Dot) -> bool {
     for fact in facts.facts() {
         if is_bad(facts, fact) && code_above(facts, fact.dot) == Some(code) {
@@ -307,7 +311,7 @@ impl PlainLedger {
         })
     }
 
-    // The least dot of a live consent of the client and subject for the scope.
+    // Returns the lowest dot of a live consent of the client and subject for the scope.
     pub(super) fn consent_for(&self, client: Dot, subject: &Subject, scope: &Scope) -> Option<Dot> {
         for fact in self.store.facts() {
             if consents(&self.store, fact, client, subject, scope) {
@@ -321,12 +325,12 @@ impl PlainLedger {
         holds(&self.store, &Sought::Revocation(*token, *digest, client))
     }
 
-    // Whether the subject signed out at the moment, or later.
+    // Returns whether the subject signed out at the moment or later.
     pub(super) fn is_signed_out(&self, subject: &Subject, moment: Moment) -> bool {
         is_out(&self.store, subject, moment)
     }
 
-    // Where the token of a handle stands: the first case that holds.
+    // Returns the status of a handle: the first case that holds.
     pub(super) fn status(&self, now: Moment, handle: &Handle) -> Status<'_> {
         let facts = &self.store;
         let Some(fact) = facts.get(handle.id.dot) else {
@@ -358,7 +362,7 @@ impl PlainLedger {
     }
 }
 
-// How many rotations lie between the code and the tokens of the fact.
+// Returns how many rotations lie between the code and the tokens of the fact.
 fn generation(body: &Body) -> u16 {
     match body {
         Body::RefreshRotated(fact) => fact.generation,
@@ -366,7 +370,7 @@ fn generation(body: &Body) -> u16 {
     }
 }
 
-// The first state that holds.
+// Returns the first state that holds.
 fn state(
     facts: &FactStore,
     now: Moment,

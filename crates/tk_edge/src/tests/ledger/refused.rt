@@ -1,5 +1,7 @@
-//! Want of memory in the middle of an addition leaves every answer as it was. Run with each allocation refused in turn, as
-//! docs/ARCHITECTURE.md tells; where none is refused, all facts are held.
+//! Additions that run out of memory leave every answer of a ledger unchanged.
+//!
+//! The tests run with each allocation refused in turn, as docs/GATE.md describes. If no
+//! allocation is refused, all facts are held.
 
 use super::facts::{ANN, Place, Says, Token, Told, dot, handle};
 use super::orders::{Case, Row, add_to_ledger, copied};
@@ -16,9 +18,9 @@ use tk_store::AddError;
 
 const PLACES: [Place; 6] = [(1, 1), (1, 2), (1, 3), (1, 4), (1, 5), (2, 1)];
 
-// One fact of each kind and more, those that wait before the code that all of them are under.
+// At least one fact of each kind, with facts that wait for the code that they are under.
 const FACTS: &[Told] = &[
-    // What waits for others: rotations, a revocation and a redemption.
+    // Facts that wait for others: rotations, a revocation and a redemption.
     ((1, 5), Says::RefreshRotated((1, 4), 1, (7, 8))),
     (
         (2, 2),
@@ -29,7 +31,7 @@ const FACTS: &[Told] = &[
     ADDED,
     GIVEN,
     ISSUED,
-    // What ends a family, all of a subject's, a consent and a client.
+    // Facts that end a family, all families of a subject, a consent and a client.
     ((2, 6), Says::SubjectOut(ANN, 1_020)),
     ((2, 7), Says::SubjectOut(ANN, 1_010)),
     ((2, 3), Says::ReuseSeen((1, 3), Kind::Code)),
@@ -37,7 +39,7 @@ const FACTS: &[Told] = &[
     ((2, 5), Says::ClientRetired((1, 1))),
 ];
 
-// The tokens that any of the places may have minted.
+// The tokens that any of the dots may have minted.
 const TOKENS: &[Token] = &[
     ((1, 1), Kind::Code, 24),
     ((1, 1), Kind::Access, 7),
@@ -59,9 +61,10 @@ const TOKENS: &[Token] = &[
     ((2, 1), Kind::Refresh, 8),
 ];
 
-// ---- what is asked
+// ---- the questions
 
-// What is asked of two ledgers: of these tokens and of all places. It is made before memory is refused to an addition.
+// The questions that two ledgers are compared by: about these tokens and all dots. They are made
+// before an addition runs out of memory.
 #[derive(Drop)]
 struct Asked<'a> {
     now: Moment,
@@ -189,7 +192,7 @@ fn agree(left: &Ledger, right: &Ledger, asked: &Asked<'_>) -> bool {
         && places_agree(left, right, asked)
 }
 
-// ---- additions, each of which tells None where memory is refused outside the ledger that is looked at
+// ---- additions, each of which returns `None` if memory ran out outside the ledger that is tested
 
 fn are_added(alloc: Global, ledger: &mut Ledger, facts: &[Told]) -> bool {
     for told in facts {
@@ -200,8 +203,8 @@ fn are_added(alloc: Global, ledger: &mut Ledger, facts: &[Told]) -> bool {
     true
 }
 
-// A ledger of the facts, none of which is refused memory.
-fn fresh(alloc: Global, facts: &[Told]) -> Option<Ledger> {
+// Returns a ledger of the facts, for which no allocation was refused.
+pub(super) fn fresh(alloc: Global, facts: &[Told]) -> Option<Ledger> {
     let mut ledger = Ledger::new(alloc);
     if are_added(alloc, &mut ledger, facts) {
         Some(ledger)
@@ -211,7 +214,8 @@ fn fresh(alloc: Global, facts: &[Told]) -> Option<Ledger> {
     }
 }
 
-// Whether the fact was added, and where memory was refused for it, whether the ledger answered as before and then took it.
+// Returns whether the fact was added, and, if memory ran out, whether the ledger answered as before
+// and then took the fact.
 fn is_taken(
     alloc: Global,
     ledger: &mut Ledger,
@@ -234,7 +238,8 @@ fn is_taken(
     }
 }
 
-// The ledger of the first facts is made before the next is added, so that it is there where all later memory is refused.
+// Makes the ledger of the first facts before the next fact is added, so that it exists when all
+// later memory is refused.
 fn next_is_taken(
     alloc: Global,
     ledger: &mut Ledger,
@@ -248,7 +253,7 @@ fn next_is_taken(
     is_taken
 }
 
-// Whether the ledger answers as a fresh one of all facts does.
+// Returns whether the ledger agrees with a new one of all facts.
 fn is_as_fresh(alloc: Global, ledger: &Ledger, facts: &[Told], asked: &Asked<'_>) -> Option<bool> {
     let all = fresh(alloc, facts)?;
     let is_so = ledger.store().len() == facts.len() as u64 && agree(ledger, &all, asked);
@@ -270,7 +275,7 @@ fn all_are_taken(
     is_as_fresh(alloc, ledger, facts, asked)
 }
 
-// Whether a ledger takes all facts in this order, and then answers as a fresh one does.
+// Returns whether a ledger takes all facts in this order, and agrees with a new one then.
 fn are_taken(alloc: Global, facts: &[Told], asked: &Asked<'_>) -> Option<bool> {
     let mut ledger = Ledger::new(alloc);
     let are_taken = all_are_taken(alloc, &mut ledger, facts, asked);
@@ -278,7 +283,7 @@ fn are_taken(alloc: Global, facts: &[Told], asked: &Asked<'_>) -> Option<bool> {
     are_taken
 }
 
-// The facts in their order, and then in the reverse, where each waits for what it names.
+// The facts in their order, and then in the reverse order, in which each waits for what it names.
 fn are_taken_both_ways(alloc: Global, facts: &[Told], asked: &Asked<'_>) -> Option<bool> {
     if !are_taken(alloc, facts, asked)? {
         return Some(false);
@@ -288,7 +293,7 @@ fn are_taken_both_ways(alloc: Global, facts: &[Told], asked: &Asked<'_>) -> Opti
     are_taken(alloc, facts.as_slice(), asked)
 }
 
-// The same, and what is asked after each refusal, of the subject among others.
+// The facts in both orders, with the questions after each refusal, about the subject among others.
 fn change_no_answer_of(
     alloc: Global,
     facts: &[Told],
@@ -327,20 +332,21 @@ fn tokens_of(alloc: Global, rows: &[Row]) -> Option<Vec<Token>> {
     Some(tokens)
 }
 
-// The facts of a row, and the tokens of which it says something.
+// The facts of a row, and the tokens that it is about.
 fn row_changes_no_answer(alloc: Global, facts: &[Told], rows: &[Row]) -> Option<bool> {
     let tokens = tokens_of(alloc, rows)?;
     change_no_answer(alloc, facts, tokens.as_slice())
 }
 
-// Asserts that it is so, which isn't known where memory is refused outside the ledger that is looked at.
+// Asserts that the comparison holds, which isn't known if memory ran out outside the ledger that is
+// tested.
 fn is_told(rt: &impl Abort, name: &str, told: Option<bool>) -> Result<(), Fail> {
     let is_so = told.ok_or("no memory")?;
     assert!(rt; is_so, "{name}");
     Ok(())
 }
 
-// Asserts the same of the facts of each case, and of the tokens of which it says something.
+// Asserts the comparison for the facts of each case and the tokens that it is about.
 fn change_no_answers(rt: &impl Abort, alloc: Global, cases: &[Case]) -> Result<(), Fail> {
     for &(name, facts, _, rows) in cases {
         is_told(rt, name, row_changes_no_answer(alloc, facts, rows))?;

@@ -1,4 +1,5 @@
-//! Sign-outs of a subject: which families they end, in every order of the facts, and the last of them.
+//! Sign-outs of a subject: which families they end, in every order of the facts, and which is the
+//! last.
 
 use super::facts::{ANN, Says, Told};
 use super::orders::{Both, Case, Row, in_order, tells};
@@ -21,10 +22,11 @@ const KEPT: &[Row] = &[
     ("refresh of 1:4", ((1, 4), Kind::Refresh, 45), LIVE),
 ];
 
-// A family whose code began at 1,000, who signs out, and when; what is said of the code and of both tokens then.
+// A family whose code began at 1,000, who signs out and when, and the standing of the code and both
+// tokens then.
 #[rattlefmt::skip]
 const SIGN_OUTS: &[Case] = &[
-    // The code began in this very second: it is born dead.
+    // The code began in the second of the sign-out: it is dead from the start.
     ("in the second of the code", &[ADDED, GIVEN, ISSUED, REDEEMED, ((2, 1), Says::SubjectOut(ANN, 1_000))], 120, ENDED),
     ("after it", &[ADDED, GIVEN, ISSUED, REDEEMED, ((2, 1), Says::SubjectOut(ANN, 1_020))], 120, ENDED),
     ("at the last moment", &[ADDED, GIVEN, ISSUED, REDEEMED, ((2, 1), Says::SubjectOut(ANN, 253_402_300_799))], 120, ENDED),
@@ -37,7 +39,7 @@ fn a_sign_out_kills_what_began_before_it(rt: HostRuntime) {
     tells(&rt, rt.alloc(), SIGN_OUTS);
 }
 
-// Two of ann, the later of which isn't the last that came, and one of bob.
+// Two sign-outs of ann, the later of which didn't arrive last, and one of bob.
 const OUTS: &[Told] = &[
     ((1, 1), Says::SubjectOut(ANN, 1_020)),
     ((1, 2), Says::SubjectOut(BOB, 5_000)),
@@ -52,7 +54,8 @@ const LAST: &[(&[u8], Option<u64>)] = &[
     (b"anne", None),
 ];
 
-// Whether the subject signed out last at this moment, and the walk says the same of moments round it.
+// Returns whether the subject signed out last at this moment, and the walk agrees at moments around
+// it.
 fn is_last(both: &Both, subject: &Subject, want: Option<u64>) -> bool {
     let last = match both.ledger.signed_out(subject) {
         Some(moment) => Some(moment.seconds()),
@@ -101,7 +104,7 @@ fn are_last_in_order(alloc: Global, order: usize) -> bool {
     }
 }
 
-// The order in which another moment is told of a subject.
+// Returns the order in which another last moment is reported of a subject.
 fn other_last(alloc: Global) -> Option<usize> {
     for order in 0..6 {
         if !are_last_in_order(alloc, order) {

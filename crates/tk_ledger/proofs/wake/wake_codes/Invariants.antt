@@ -4,7 +4,7 @@ use Rattle.tk_handle.specs.declared.token_id.TokenId.{TokenId as the_token}
 use Rattle.tk_ledger.specs.Index.{codes_of, dots_of, any_woken}
 use Rattle.tk_ledger.proofs.wake.wake_codes.Given as goal
 
--- the links are as they were, and what is marked or left to wake stays the same
+-- the links are as before, and the codes left to mark and the marks stay the same together
 abbrev pub invariant-loop-key : goal.invariant-loop-key
 invariant-loop-key l =
     (l.forest.links ≡ l.fn.forest.links)

@@ -1,4 +1,4 @@
--- The law of introspection, from the laws of a status.
+-- The law of introspection follows from the laws of a status.
 use Rattle.tk_query.proofs.ActiveLaws as laws
 use Rattle.tk_query.proofs.laws.says_active.Goals as goal
 

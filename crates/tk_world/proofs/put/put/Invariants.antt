@@ -2,7 +2,7 @@ use Rattle.std.proofs.Common.{◌≤◌, length, take}
 use Rattle.std.specs.Io.KnownBytes.{Appends}
 use Rattle.tk_world.proofs.put.put.Given as goal
 
--- so many of the bytes are written
+-- the first bytes so far are written
 abbrev pub invariant-loop : goal.invariant-loop
 invariant-loop g l = record {
   within : l.written ≤ length l.bytes;

@@ -3,7 +3,7 @@ use Rattle.tokend.proofs.program.run_loopback.Goals as goal
 
 pub returns-in-Ok-clause-done : goal.returns-in-Ok-clause-done
 returns-in-Ok-clause-done g c =
-    loopback_is_input _ c.in-Ok.script.items _ _ c.loop_text.result c.in-Ok.ensures.whole (rw c.as_slice.ensures.value at c.loop_text.ensures.done)
+    loopback_is_input c.args.settings _ c.in-Ok.script.items _ _ c.loop_text.result c.in-Ok.ensures.whole (rw c.as_slice.ensures.value at c.loop_text.ensures.done)
 
 pub returns-in-Ok-clause-fault : goal.returns-in-Ok-clause-fault
 returns-in-Ok-clause-fault g c =
@@ -11,4 +11,4 @@ returns-in-Ok-clause-fault g c =
 
 pub returns-in-Ok-clause-left : goal.returns-in-Ok-clause-left
 returns-in-Ok-clause-left g c =
-    loopback_left_by_input _ c.in-Ok.script.items c.loop_text.result _ _ c.in-Ok.ensures.whole (rw c.as_slice.ensures.value at c.loop_text.ensures.left)
+    loopback_left_by_input c.args.settings _ c.in-Ok.script.items c.loop_text.result _ _ c.in-Ok.ensures.whole (rw c.as_slice.ensures.value at c.loop_text.ensures.left)

@@ -22,7 +22,7 @@ returns-in-Script-clause-left g c = λ words asked.
 pub returns-in-Loopback-clause-done : goal.returns-in-Loopback-clause-done
 returns-in-Loopback-clause-done g c = λ words asked.
     let asks = subst (Asks words) c.in-Loopback.is asked in
-    loopback_done words _ _ _ c.run_loopback.result (c.in-Loopback.numbers, asks) c.run_loopback.ensures.done
+    loopback_done words _ _ _ c.in-Loopback.numbers c.settings-in-Loopback.result c.run_loopback.result asks c.settings-in-Loopback.ensures c.run_loopback.ensures.done
 
 pub returns-in-Loopback-clause-fault : goal.returns-in-Loopback-clause-fault
 returns-in-Loopback-clause-fault g c = λ words asked.
@@ -32,22 +32,22 @@ returns-in-Loopback-clause-fault g c = λ words asked.
 pub returns-in-Loopback-clause-left : goal.returns-in-Loopback-clause-left
 returns-in-Loopback-clause-left g c = λ words asked.
     let asks = subst (Asks words) c.in-Loopback.is asked in
-    left_by_loopback words _ _ _ c.run_loopback.result (c.in-Loopback.numbers, asks) c.run_loopback.ensures.left
+    left_by_loopback words _ _ _ c.in-Loopback.numbers c.settings-in-Loopback.result c.run_loopback.result asks c.settings-in-Loopback.ensures c.run_loopback.ensures.left
 
 pub returns-in-Serve-clause-done : goal.returns-in-Serve-clause-done
 returns-in-Serve-clause-done g c = λ words asked.
     let asks = subst (Asks words) c.in-Serve.is asked in
-    service_done words _ _ _ c.serve.result (c.in-Serve.service, asks) c.serve.ensures.done
+    service_done words _ _ _ _ c.in-Serve.service c.serve.result asks c.serve.ensures.done
 
 pub returns-in-Serve-clause-fault : goal.returns-in-Serve-clause-fault
 returns-in-Serve-clause-fault g c = λ words asked.
     let asks = subst (Asks words) c.in-Serve.is asked in
-    faults_of_service words _ c.serve.result (c.in-Serve.service, asks) c.serve.ensures.fault
+    faults_of_service words _ c.in-Serve.service c.serve.result asks c.serve.ensures.fault
 
 pub returns-in-Serve-clause-left : goal.returns-in-Serve-clause-left
 returns-in-Serve-clause-left g c = λ words asked.
     let asks = subst (Asks words) c.in-Serve.is asked in
-    left_by_service words _ c.serve.result _ _ (c.in-Serve.service, asks) c.serve.ensures.left
+    left_by_service words _ c.in-Serve.service c.serve.result _ _ asks c.serve.ensures.left
 
 pub returns-in-Serve-clause-quiet : goal.returns-in-Serve-clause-quiet
 returns-in-Serve-clause-quiet g c = λ words asked.

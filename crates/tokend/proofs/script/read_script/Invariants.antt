@@ -3,7 +3,7 @@ use Rattle.std.specs.Io.KnownBytes.{Consumes}
 use Rattle.tokend.specs.declared.script.TheConstants.{LIMIT}
 use Rattle.tokend.proofs.script.read_script.Given as goal
 
--- the input had the script so far, and then what is left
+-- the input's bytes are the script so far, then what is left
 abbrev pub invariant-loop-piece : goal.invariant-loop-piece
 invariant-loop-piece g l = Consumes (g.I.Read.remaining l.fn.input) (g.I.Read.remaining l.input) l.script.items
 

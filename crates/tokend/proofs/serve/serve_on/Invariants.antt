@@ -1,7 +1,7 @@
 use Rattle.tokend.proofs.Connections.{HasServed}
 use Rattle.tokend.proofs.serve.serve_on.Given as goal
 
--- the connections so far, each with words of its own
+-- the connections so far are served, each with the next random words
 abbrev pub invariant-loop : goal.invariant-loop
 invariant-loop g l =
     HasServed l.fn.words (record { edge = l.fn.edge; log = g.L.Sink.holds l.fn.log; faults = g.E.Write.contents l.fn.faults }) l.counter

@@ -5,7 +5,7 @@ use Rattle.tk_scope.specs.declared.error.ScopeError.TheVariants.{Grammar}
 use Rattle.tk_scope.proofs.Printing.{IsAccepted, no_scope, not_utf8, scope_text_again, scope_text_members}
 use Rattle.tk_scope.proofs.scope.Scope.read.Goals as goal
 
--- what was read passes each test
+-- a text that was read passes each test
 passes : (c : goal.In_ok-text) → IsAccepted c.args.text.now
 passes c =
     let same = c.in-Ok.ensures.cases.0 in
@@ -15,7 +15,7 @@ passes c =
       few = omega (arith, c.token_count.ensures, ap (λ (t : List ℕ). length (tokens_of t)) same);
     }
 
--- what was printed is the printed form of the text
+-- the text that was printed is the printed form of the text read
 is_printed : (c : goal.In_ok-text) → scope_text (tokens_of c.args.text.now) ≡ string_bytes c.in_ok-text.text
 is_printed c = sym (c.in_ok-text.ensures ∙ ap (λ (t : List ℕ). scope_text (tokens_of t)) c.in-Ok.ensures.cases.0)
 

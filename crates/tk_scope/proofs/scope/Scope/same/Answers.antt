@@ -5,7 +5,7 @@ use Rattle.tk_scope.specs.Scope.{HasSameTokens, tokens_of}
 use Rattle.tk_scope.proofs.Printing.{same_scope}
 use Rattle.tk_scope.proofs.scope.Scope.same.Goals as goal
 
--- one scope has the same tokens as itself
+-- equal scopes have the same tokens
 itself : (a b : List ℕ) → a ≡ b → HasSameTokens a b
 itself a b same = subst (HasSameTokens a) same (All-contains_itself (tokens_of a), All-contains_itself (tokens_of a))
 

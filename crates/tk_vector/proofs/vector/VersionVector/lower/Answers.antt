@@ -36,7 +36,7 @@ returns-else-lt c =
     let above = ge_from_cmp c.in-Some.serial c.index.result.now.1 _ c.lt.ensures c.if-lt.false in
     sym (lowered_within _ _ _ (omega (arith, c.in-Some.ensures)) (omega (arith, here, above, c.in-Some.ensures.1)))
 
--- the number is 0
+-- a number at most the greatest serial that is no serial is 0
 nothing : (n : ℕ) → n ≤ greatest_serial → ((0 < n) × (n ≤ greatest_serial) → ⊥) → n ≡ 0
 nothing n high not = elim (cases_lt 0 n) [ inl some ↦ absurd (not (some, high)) | inr none ↦ omega arith ]
 

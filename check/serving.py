@@ -1,0 +1,212 @@
+"""serving: connections of a server whose allocations fail, compared with those of a fresh server.
+
+Both servers have the same number, seed and time, so they make the same handles. The fresh server
+has enough memory; it is asked for nothing in the place of a request that got no reply, or is
+pushed the first facts of its bundle. It must give the same replies to all that follows, and have
+the same log. A server of another number that loads the facts held after the request must answer
+the look-ups alike.
+"""
+import re
+import threading
+
+import story
+from many import written_out
+from refusal import FOR_GOOD
+from server import NOTHING, PULL, VECTOR, Server
+from server import body_of, facts_of, http, push, request_of, run_story
+
+MOST_FAULTS = 3  # of one sweep
+REGION, OLD_REGION, OTHER_REGION, READER = 1, 2, 3, 9
+LOOK = "req 1 0 POST /introspect <c2-2:s3cret> - token="
+
+# The stories of many.py ask for client c1-1; region 2 adds the clients here.
+OLD = """
+req 2 0 POST /admin/client - - kind=confidential&secret=s3cret&scope=read&redirects=https://a.test/
+req 2 0 POST /admin/client - - kind=resource&secret=s3cret&scope=read&redirects=https://b.test/
+req 2 0 CONSENT ann
+req 2 0 ASK ann - => code1
+req 2 0 ASK ann - => code2
+req 2 0 REDEEM {code1} => access1 refresh1
+"""
+FAMILY = """
+req 3 0 CONSENT s{n} => consent{n}
+req 3 0 ASK s{n} - => grant{n}
+req 3 0 REDEEM {grant{n}} => access3{n} refresh3{n}
+req 3 0 ROTATE {refresh3{n}} => access4{n} refresh4{n}
+"""
+ENDS = [
+    "req 3 0 REVOKE {access4{n}}",
+    "req 3 0 ROTATE {refresh3{n}}",
+    "req 3 0 POST /admin/signout - - subject=s{n}",
+    "req 3 0 WITHDRAW {consent{n}}",
+]
+ASKED = """
+req 1 0 POST /admin/client - - kind=public&scope=read&redirects=https://c.example/
+req 1 0 REDEEM {code2}
+req 1 0 ROTATE {refresh1}
+req 1 0 REDEEM {code1}
+req 1 0 REVOKE {access1}
+req 1 0 ASK ann -
+req 1 0 POST /introspect <c2-2:s3cret> - token={refresh1}
+req 1 0 POST /admin/signout - - subject=ann
+req 1 0 POST /admin/retire - - client_id=c2-1
+"""
+
+
+def events_of(text):
+    return story.read("serve", written_out(text).replace("c1-1", "c2-1")).events
+
+
+def families_of(count):
+    """The events of this many families of tokens, each of which ends in another way."""
+    return events_of("".join((FAMILY + ENDS[n % len(ENDS)] + "\n").replace("{n}", str(n))
+                             for n in range(count)))
+
+
+class Request:
+    """What a connection sends, and what may have been done if it got no reply."""
+
+    def __init__(self, title, sent, cuts=()):
+        self.title, self.sent, self.cuts = title, sent, [NOTHING] + list(cuts)
+
+
+class Scene:
+    """The facts that servers begin with, the facts that are pushed to them, and the look-ups."""
+
+    def __init__(self, lab, families):
+        self.lab, self.names, self.lock, self.cached = lab, {}, threading.Lock(), {}
+        self.old = run_story(lab, OLD_REGION, events_of(OLD), b"", self.names)
+        pushed = run_story(lab, OTHER_REGION, families_of(families), self.old, self.names)
+        self.pushed = facts_of(pushed)
+        tokens = [it for name, it in sorted(self.names.items())
+                  if re.match("access|refresh", name)]
+        self.looks = [VECTOR, PULL, http("GET", "/admin/client?client_id=c2-1")]
+        self.looks += [request_of(story.encoded(LOOK) + it) for it in tokens]
+
+    def requests(self):
+        """All requests but the push."""
+        for event in events_of(ASKED):
+            yield Request(event.text[8:60], request_of(event.filled(self.names)))
+        yield Request("GET /sync/vector", VECTOR)
+        yield Request("POST /sync/pull", PULL)
+
+    def push(self):
+        fronts = [self.pushed[:count + 1] for count in range(len(self.pushed))]
+        return Request("POST /sync/push of %d facts" % len(fronts), push(self.pushed),
+                       [push(front) for front in fronts])
+
+    def remembered(self, key, make):
+        """The value of the key, which is made once."""
+        with self.lock:
+            found = self.cached.get(key)
+        if found is None:
+            found = make()
+            with self.lock:
+                self.cached[key] = found
+        return found
+
+    def fresh(self, firsts, request):
+        """The talk of a server with enough memory, which is sent `firsts` first."""
+        def make():
+            with Server(self.lab, REGION, self.old) as server:
+                return Talk(self, server, firsts, request)
+        return self.remembered((tuple(firsts), request.sent), make)
+
+    def read_back(self, facts):
+        """The look-ups of a server of another number that loaded these facts."""
+        def make():
+            with Server(self.lab, READER, facts) as server:
+                return server.ask_all(self.looks)
+        return self.remembered(facts, make)
+
+
+class Talk:
+    """A server's replies to the first requests, to look-ups, and to a request and look-ups again.
+
+    The allocations of the first requests fail from number `at` on, `span` of them.
+    """
+
+    def __init__(self, scene, server, firsts, request, at=0, span=0):
+        server.refuse(at, span)
+        self.firsts = server.ask_all(firsts)
+        self.refused = server.refused()
+        server.refuse(0, 0)
+        self.looks = server.ask_all(scene.looks)
+        self.rest = [server.ask(request.sent)] + server.ask_all(scene.looks)
+        self.errors, self.log = server.errors(), server.made()
+
+    def apart(self, wanted):
+        """The first difference to a fresh server's talk, or None. First replies may be empty."""
+        said = [it or one for it, one in zip(self.firsts, wanted.firsts)] + self.looks + self.rest
+        for one, other in zip(wanted.firsts + wanted.looks + wanted.rest, said):
+            if one != other:
+                return "a reply is %r, and not %r" % (other[-200:], one[-200:])
+        if wanted.log == self.log:
+            return None
+        return "the log has %d bytes, and not %d" % (len(self.log), len(wanted.log))
+
+
+def wrong(scene, talk, request):
+    """What is wrong with a talk of a server whose allocations failed, or None."""
+    empty = talk.firsts.count(b"")
+    if talk.errors != b"fault memory\n" * empty or empty > talk.refused:
+        return "%d replies are empty, %d allocations failed, and standard error has %r" % (
+            empty, talk.refused, talk.errors)
+    if scene.read_back(body_of(talk.looks[1])) != talk.looks:
+        return "a server that loads the facts held after the request answers otherwise"
+    told = None
+    for cut in request.cuts if talk.firsts[0] == b"" else [request.sent]:
+        firsts = [cut] + [request.sent if it else NOTHING for it in talk.firsts[1:]]
+        told = talk.apart(scene.fresh(firsts, request))
+        if told is None:
+            return None
+    return told
+
+
+def sweep(scene, request, is_whole, offset, stride):
+    """Yields what is wrong when allocations of a request fail, each time on a new server.
+
+    One allocation fails, or with `is_whole` all that follow too, until the request was sent twice.
+    """
+    at, faults = 1 + offset, 0
+    firsts, span = [request.sent], 1
+    if is_whole:
+        firsts, span = firsts * 2, FOR_GOOD
+    while faults < MOST_FAULTS:
+        scene.lab.count()
+        with Server(scene.lab, REGION, scene.old) as server:
+            talk = Talk(scene, server, firsts, request, at, span)
+        told = wrong(scene, talk, request)
+        if at == 1 and not talk.refused:
+            told = "no allocation is counted"
+        if told:
+            faults += 1
+            yield "serve, %s, allocation %d%s: %s" % (
+                request.title, at, " on" if is_whole else "", told)
+        if not talk.refused:
+            return
+        at += stride
+
+
+def sweep_start(scene, is_whole, offset, stride):
+    """Yields what is wrong when allocations of a start fail. It ends, or it serves as ever."""
+    at, faults, nothing = 1 + offset, 0, Request("a start", VECTOR)
+    span = FOR_GOOD if is_whole else 1
+    while faults < MOST_FAULTS:
+        scene.lab.count()
+        with Server(scene.lab, REGION, scene.old, at=at, span=span) as server:
+            refused, told = server.refused(), None
+            if server.port:
+                told = Talk(scene, server, [], nothing).apart(scene.fresh([], nothing))
+            end, wanted = server.end(), (None, server.output, b"")
+        if not server.port:
+            wanted = (1, b"", b"tokend: memory\n")
+        if at == 1 and not refused:
+            told = "no allocation is counted"
+        if told or end != wanted:
+            faults += 1
+            yield "serve, allocation %d%s of a start: %s, and it ends with %s" % (
+                at, " on" if is_whole else "", told, end)
+        if not refused:
+            return
+        at += stride

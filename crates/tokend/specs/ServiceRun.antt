@@ -1,0 +1,34 @@
+-- What a service that ended well has done (own).
+--   HasRun         the service has run, from its start on
+--   IsServiceRun   the service has run, from reading its seed on
+use Rattle.std.specs.Prelude.{◌≡◌, ℕ, List, Option, Result, Ok}
+use Rattle.rand_chacha.specs.ChaCha.{ChaCha}
+use Rattle.tk_edge.specs.EdgeFields.{EdgeFields}
+use Rattle.tk_edge.specs.Told.{Change}
+use Rattle.tk_region.specs.RegionFields.{RegionFields}
+use Rattle.tokend.specs.Connection.{ServesWithLog}
+use Rattle.tokend.specs.Serving.{Announces}
+use Rattle.tokend.specs.Starting.{IsStart, LoadsOld}
+use Rattle.tokend.specs.declared.options.Service.{Service}
+
+-- the edge with another region
+abbrev pub with_region : EdgeFields → RegionFields → EdgeFields
+with_region edge region = record { region = region; sync = edge.sync; sealed = edge.sealed }
+
+-- The old log was loaded, the announcement written, and as many connections as requested were
+-- served. Each connection has the next random words of the generator.
+pub record HasRun (service : Service) (start : EdgeFields) (words : ChaCha)
+    (output faults : Change) : Type 0 where
+  pub dropped : ℕ
+  pub region : RegionFields
+  pub loaded : LoadsOld service.load start.region (Ok dropped) region
+  pub announced : Announces dropped service.port output.before output.after
+  pub end : EdgeFields
+  pub served : ServesWithLog words service.requests (with_region start region) faults.before end
+      faults.after
+
+-- the service has run from some start that its seed gives
+abbrev pub IsServiceRun : Service → Change → Change → Type 0
+IsServiceRun service output faults =
+    (edge : EdgeFields) × (words : ChaCha) × IsStart service edge words
+    × HasRun service edge words output faults

@@ -1,0 +1,78 @@
+-- The start of a service (own).
+--   first_edge    the edge of the region before any log is loaded
+--   first_words   the generator of random words, by the seed
+--   IsStart       the start of a service
+--   IsToldAs      the program's result of loading a log
+--   LoadsFile     what the file of a name brings
+--   LoadsOld      what the old log brings, if there is one
+use Rattle.std.specs.Prelude.{
+  ◌≡◌,
+  ◌⊎◌,
+  ℕ,
+  true,
+  false,
+  List,
+  length,
+  Option,
+  Some,
+  None,
+  Result,
+  Ok,
+  Err,
+  String,
+  string_bytes,
+}
+use Rattle.std.specs.FinMap as sets
+use Rattle.rand_chacha.specs.ChaCha.{ChaCha, key_of}
+use Rattle.tk_region.specs.RegionFields.{RegionFields}
+use Rattle.tk_edge.specs.EdgeFields.{EdgeFields}
+use Rattle.tokend.specs.CommandLine.{settings_of}
+use Rattle.tokend.specs.Loading.{Loads}
+use Rattle.tokend.specs.Status.{IsUnread}
+use Rattle.tokend.specs.declared.fault.Fault.{Fault}
+use Rattle.tokend.specs.declared.fault.Fault.TheVariants as fault
+use Rattle.tokend.specs.declared.load.LoadFault.{LoadFault}
+use Rattle.tokend.specs.declared.load.LoadFault.TheVariants.{Bad, Memory, Read}
+use Rattle.tokend.specs.declared.options.Service.{Service}
+
+-- the region of the service's number and settings, without facts
+abbrev pub first_region : Service → RegionFields
+first_region service =
+    record { number = service.region; settings = settings_of service.numbers; facts = sets.empty }
+
+-- an edge over which regions exchange facts, and that isn't sealed
+abbrev pub edge_of : RegionFields → EdgeFields
+edge_of region = record { region = region; sync = true; sealed = false }
+
+-- the edge of the service's region, without facts
+abbrev pub first_edge : Service → EdgeFields
+first_edge service = edge_of (first_region service)
+
+-- the generator at its first word: the seed is its key, and the region's number its stream
+abbrev pub first_words : List ℕ → ℕ → ChaCha
+first_words seed region = record { key = key_of seed; stream = region; word_pos = 0 }
+
+-- a service starts with its first edge, and draws random words by a seed of 32 bytes
+abbrev pub IsStart : Service → EdgeFields → ChaCha → Type 0
+IsStart service edge words = (edge ≡ first_edge service)
+    × ((seed : List ℕ) × (length seed ≡ 32) × (words ≡ first_words seed service.region))
+
+-- the program's result of loading the log of this name
+abbrev pub IsToldAs : List ℕ → Result ℕ LoadFault → Result ℕ Fault → Type 0
+IsToldAs name (Ok dropped) told = told ≡ Ok dropped
+IsToldAs name (Err Bad) told = told ≡ Err fault.BadLogFile
+IsToldAs name (Err Memory) told = told ≡ Err fault.Memory
+IsToldAs name (Err Read) (Err f) = IsUnread name f
+IsToldAs name (Err Read) (Ok dropped) = ⊥
+
+-- the file can't be opened and the region is unchanged, or the log in the file is loaded
+abbrev pub LoadsFile : List ℕ → RegionFields → Result ℕ Fault → RegionFields → Type 0
+LoadsFile name old told new = (IsToldAs name (Err Read) told × (new ≡ old))
+    ⊎ ((log : List ℕ) × (result : Result ℕ LoadFault) × Loads old log result new
+    × IsToldAs name result told)
+
+-- the old log of this name is loaded, if there is one
+abbrev pub LoadsOld : {A : Type 0} → Option (String A) → RegionFields → Result ℕ Fault
+    → RegionFields → Type 0
+LoadsOld None old told new = (told ≡ Ok 0) × (new ≡ old)
+LoadsOld (Some name) old told new = LoadsFile (string_bytes name) old told new

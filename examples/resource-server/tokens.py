@@ -1,0 +1,53 @@
+"""Whether a request may pass: a resource server's question to tokend (RFC 7662, RFC 6750).
+
+`Checker.check` returns what introspection reports of a good access token, or raises `Refused` with
+the status and the `WWW-Authenticate` of the reply. It fails closed: if tokend gives no reply, or
+another status than 200, nobody passes. Nothing is cached, so a revocation counts at once.
+"""
+import base64
+import json
+import time
+import urllib.error
+import urllib.parse
+import urllib.request
+
+
+class Refused(Exception):
+    def __init__(self, status, challenge=None):
+        super().__init__(status)
+        self.status, self.challenge = status, challenge
+
+
+class Checker:
+    """Introspects at `url` as the resource client of this id and secret."""
+
+    def __init__(self, url, client_id, secret, timeout=5):
+        pair = ":".join(urllib.parse.quote_plus(part) for part in (client_id, secret))
+        self.url, self.timeout = url, timeout
+        self.basic = "Basic " + base64.b64encode(pair.encode()).decode()
+        # no proxy: the token must not leave the inner network
+        self.opener = urllib.request.build_opener(urllib.request.ProxyHandler({}))
+
+    def introspect(self, token):
+        body = urllib.parse.urlencode({"token": token}).encode()
+        asked = urllib.request.Request(self.url, body, {"Authorization": self.basic})
+        try:
+            with self.opener.open(asked, timeout=self.timeout) as reply:
+                return json.load(reply)
+        except (OSError, ValueError):  # also any status but 200
+            raise Refused(503) from None
+
+    def check(self, authorization, scope):
+        """`authorization` is the request's field, or None; `scope` the scope-token it needs."""
+        scheme, _, token = (authorization or "").partition(" ")
+        if scheme.lower() != "bearer" or not token.strip():
+            raise Refused(401, "Bearer")
+        claims = self.introspect(token.strip())
+        # a good refresh token is active too, but has no token_type
+        if not claims.get("active") or claims.get("token_type") != "Bearer":
+            raise Refused(401, 'Bearer error="invalid_token"')
+        if claims["exp"] <= time.time():
+            raise Refused(401, 'Bearer error="invalid_token"')
+        if scope not in claims["scope"].split(" "):
+            raise Refused(403, 'Bearer error="insufficient_scope", scope="%s"' % scope)
+        return claims
