@@ -8,6 +8,7 @@ use Rattle.std.proofs.lemmas.Bool.Decides.{nat_tests}
 use Rattle.std.specs.Ordering.{eq_by_cmp, is_eq, is_lt, is_gt, ordering_reverse}
 use Rattle.std.specs.declared.cmp.Ordering.{Ordering}
 use Rattle.std.specs.declared.cmp.Ordering.TheVariants.{Less, Equal, Greater}
+use Rattle.std.specs.declared.ops.Bound.{Bound}
 use Rattle.std.specs.declared.ops.Bound.TheVariants.{Excluded, Unbounded}
 use Rattle.std.specs.BTreeMap.Range.{IsLeBy, IsLtBy, IsRangeOf, IsEntryInRange}
 use Rattle.std.specs.BTreeMap.{get}
@@ -16,7 +17,7 @@ use Rattle.tk_handle.specs.declared.dot.Dot.{Dot}
 use Rattle.tk_handle.specs.Dot.{dot_cmp, dot_cmp_total}
 use Rattle.tk_handle.specs.Ranges.{greatest_serial}
 use mathlib.Core.Bool.{false≢true}
-use Rattle.tk_dots.specs.Pages.{span, page_of, Slots, Pages, slot_in, cell, cell_at, seen, FirstFrom, EndsFull, IsPage, IsPages, IsAbove, IsLeastAbove, IsNext, IsLast, IsFirstPage, FirstOfPages}
+use Rattle.tk_dots.specs.Pages.{span, page_of, dot_in, Slots, Pages, slot_in, cell, cell_at, seen, FirstFrom, FirstIn, FirstOn, EndsFull, IsPage, IsPages, IsAbove, IsLeastAbove, IsNext, IsLast, IsFirstPage, FirstOfPages}
 use Rattle.tk_dots.proofs.PlaceLaws.{tied, tied_same, dot_is, get_seen}
 
 -- a dot before another
@@ -58,10 +59,6 @@ lt_reverse Greater = refl
 le_not_lt : (k q : Dot) → IsLeBy dot_cmp k q → is_lt (dot_cmp q k) ≡ false
 le_not_lt k q h = ap is_lt (dot_cmp_total.antisymm q k) ∙ lt_reverse (dot_cmp k q) ∙ h
 
--- the dot at a place of a page
-abbrev dot_in : Dot → ℕ → Dot
-dot_in k i = record { region = k.region; serial = (k.serial - 1) * span + i }
-
 page_in : (k : Dot) (i : ℕ) → 0 < k.serial → i < span → page_of (dot_in k i) ≡ k
 page_in k i some below = dot_is (page_of (dot_in k i)) k refl (omega arith)
 
@@ -99,21 +96,20 @@ module _ {X : Type 0} where
     page_there q h = ap is_some (held_on q h).1
 
     -- the least dot above one: on the page k, from a place on, is the first; what is above and not there is on later pages
-    on_page : (after : Option Dot) (k : Dot) (from : ℕ) (x : X) → 0 < k.serial
+    on_page : (after : Option Dot) (k : Dot) (from : ℕ) (p : Dot × X) → 0 < k.serial
         → ((i : ℕ) → from ≤ i → i < span → IsAbove after (dot_in k i))
         → ((q : Dot) → IsAbove after q → IsSome (map.get F q) → ((page_of q ≡ k) × (from ≤ q.serial % span)) ⊎ Before k (page_of q))
-        → FirstFrom (cell m k) from (Some x) → IsLeastAbove F after x
-    on_page after k from x some up later first =
+        → FirstOn m k from (Some p) → IsLeastAbove F after p.0 p.1
+    on_page after k from p some up later first =
         let i : ℕ = first.0 in
-        let there : (v : Slots X) × (get dot_cmp m k ≡ Some v) × (i < length v.items) = paged (get dot_cmp m k) i (ap is_some first.2) in
+        let there : (v : Slots X) × (get dot_cmp m k ≡ Some v) × (i < length v.items) = paged (get dot_cmp m k) i (ap is_some first.2.1) in
         let page : IsPage k there.0.items = pages k there.0 there.1 in
         let below : i < span = omega (arith, there.2, page.short) in
-        record {
-          dot = dot_in k i;
-          held = in_page k i some below ∙ first.2;
-          above = up i first.1 below;
-          least = λ q above held. not_before q (dot_in k i) (λ b. not_less q i below first.3 (later q above held) held b);
-        }
+        subst (λ (d : Dot). IsLeastAbove F after d p.1) (sym first.1) (record {
+          held = in_page k i some below ∙ first.2.1;
+          above = up i first.2.0 below;
+          least = λ q above held. not_before q (dot_in k i) (λ b. not_less q i below first.2.2 (later q above held) held b);
+        })
       where
         not_less : (q : Dot) (i : ℕ) → i < span → ((j : ℕ) → from ≤ j → j < i → cell m k j ≡ None)
             → ((page_of q ≡ k) × (from ≤ q.serial % span)) ⊎ Before k (page_of q) → IsSome (map.get F q) → Before q (dot_in k i) → ⊥
@@ -140,8 +136,8 @@ module _ {X : Type 0} where
     ]
 
     -- behind a dot on its page
-    pub next_here : (d : Dot) (x : X) → FirstFrom (cell m (page_of d)) (d.serial % span + 1) (Some x) → IsNext F (Some d) (Some x)
-    next_here d x first = on_page (Some d) (page_of d) (d.serial % span + 1) x (omega arith)
+    pub next_here : (d : Dot) (p : Dot × X) → FirstOn m (page_of d) (d.serial % span + 1) (Some p) → IsNext F (Some d) (Some p)
+    next_here d p first = on_page (Some d) (page_of d) (d.serial % span + 1) p (omega arith)
         (λ i le below. is_before d (dot_in (page_of d) i) (inr (refl, omega (arith, le))))
         (λ q above held. rises d q above) first
 
@@ -164,8 +160,8 @@ module _ {X : Type 0} where
     ]
 
     -- nothing behind it there: the first of the next page
-    pub next_page : (d : Dot) (x : X) → FirstFrom (cell m (page_of d)) (d.serial % span + 1) None → FirstOfPages m (Some (page_of d)) (Some x) → IsNext F (Some d) (Some x)
-    next_page d x none first = on_page (Some d) first.key 0 x first.some
+    pub next_page : (d : Dot) (p : Dot × X) → FirstFrom (cell m (page_of d)) (d.serial % span + 1) None → FirstOfPages m (Some (page_of d)) (Some p) → IsNext F (Some d) (Some p)
+    next_page d p none first = on_page (Some d) first.key 0 p first.some
         (λ i le below. above_page first.key i (before (page_of d) first.key first.above) first.some)
         (λ q above held. elim (rises d q above) [
           | inl same ↦ absurd (none_some (map.get F q) (at q ∙ ap (λ (y : Dot). cell m y (q.serial % span)) same.0 ∙ none (q.serial % span) same.1) held)
@@ -186,8 +182,8 @@ module _ {X : Type 0} where
     ]
 
     -- the first of all
-    pub first_page : (x : X) → FirstOfPages m None (Some x) → IsNext F None (Some x)
-    first_page x first = on_page None first.key 0 x first.some (λ i le below. tt)
+    pub first_page : (p : Dot × X) → FirstOfPages m None (Some p) → IsNext F None (Some p)
+    first_page p first = on_page None first.key 0 p first.some (λ i le below. tt)
         (λ q above held. elim (not_lt (page_of q) first.key (first.least (page_of q) tt (page_there q held))) [
           | inl same ↦ inl (same, omega arith)
           | inr more ↦ inr more
@@ -196,11 +192,11 @@ module _ {X : Type 0} where
     pub first_none : FirstOfPages m None None → IsNext F None None
     first_none no_page q above = at q ∙ ap (λ (o : Option (Slots X)). slot_in o (q.serial % span)) (no_page (page_of q) tt)
 
-    pub next_or_none : (d : Dot) (r : Option X) → FirstFrom (cell m (page_of d)) (d.serial % span + 1) None → FirstOfPages m (Some (page_of d)) r → IsNext F (Some d) r
+    pub next_or_none : (d : Dot) (r : Option (Dot × X)) → FirstFrom (cell m (page_of d)) (d.serial % span + 1) None → FirstOfPages m (Some (page_of d)) r → IsNext F (Some d) r
     next_or_none d None none first = next_none d none first
     next_or_none d (Some x) none first = next_page d x none first
 
-    pub first_or_none : (r : Option X) → FirstOfPages m None r → IsNext F None r
+    pub first_or_none : (r : Option (Dot × X)) → FirstOfPages m None r → IsNext F None r
     first_or_none None first = first_none first
     first_or_none (Some x) first = first_page x first
 
@@ -272,23 +268,30 @@ module _ {X : Type 0} where
   -- it has a value, which is the first of all above
   pub page_first : (m : Pages X) → IsPages m → (after : Option Dot) (k : Dot) (v : Slots X) → get dot_cmp m k ≡ Some v → 0 < k.serial → IsAbove after k
       → ((q : Dot) → IsAbove after q → IsSome (get dot_cmp m q) → is_lt (dot_cmp q k) ≡ false)
-      → (r : Option X) → FirstFrom (λ j. get_or v.items j None) 0 r → FirstOfPages m after r
+      → (r : Option (Dot × X)) → FirstIn k v.items 0 r → FirstOfPages m after r
   page_first m pages after k v here some above least None none = absurd (no_none (pages k v here))
     where
       no_none : IsPage k v.items → ⊥
       no_none page = none_some (get_or v.items (length v.items - 1) None) (none (length v.items - 1) (omega arith)) (page.full page.some)
-  page_first m pages after k v here some above least (Some x) first = record {
+  page_first m pages after k v here some above least (Some p) first = record {
     key = k;
     some = some;
     above = above;
     least = least;
-    first = (first.0, first.1, ap (λ (o : Option (Slots X)). slot_in o first.0) here ∙ first.2, λ j le lt. ap (λ (o : Option (Slots X)). slot_in o j) here ∙ first.3 j le lt);
+    first = (first.0, first.1, (first.2.0, ap (λ (o : Option (Slots X)). slot_in o first.0) here ∙ first.2.1, λ j le lt. ap (λ (o : Option (Slots X)). slot_in o j) here ∙ first.2.2 j le lt));
   }
+
+  -- the first entry of a range is one of the pages
+  pub range_has : (m : Pages X) (lo hi : Bound Dot) (part rest : List (Dot × Slots X)) (k : Dot) (v : Slots X)
+      → IsRangeOf dot_cmp lo hi m part → part ≡ (k, v) ∷ rest → get dot_cmp m k ≡ Some v
+  range_has m lo hi part rest k v range steps =
+      let there : IfSome (slice_get ((k, v) ∷ rest) 0) (IsEntryInRange dot_cmp lo hi m) = subst (λ (l : List (Dot × Slots X)). IfSome (slice_get l 0) (IsEntryInRange dot_cmp lo hi m)) steps range.1 in
+      there.1
 
   -- of what lies in a range, the first
   pub range_excluded : (m : Pages X) → IsPages m → (a : Dot) (after : Option Dot) → after ≡ Some a → (part rest : List (Dot × Slots X)) (k : Dot) (v : Slots X)
       → IsRangeOf dot_cmp (Excluded a) Unbounded m part → part ≡ (k, v) ∷ rest → 0 < k.serial
-      → (r : Option X) → FirstFrom (λ j. get_or v.items j None) 0 r → FirstOfPages m after r
+      → (r : Option (Dot × X)) → FirstIn k v.items 0 r → FirstOfPages m after r
   range_excluded m pages a after is part rest k v range steps some r first =
       let there : IfSome (slice_get ((k, v) ∷ rest) 0) (IsEntryInRange dot_cmp (Excluded a) Unbounded m) = subst (λ (l : List (Dot × Slots X)). IfSome (slice_get l 0) (IsEntryInRange dot_cmp (Excluded a) Unbounded m)) steps range.1 in
       subst (λ (o : Option Dot). FirstOfPages m o r) (sym is)
@@ -297,7 +300,7 @@ module _ {X : Type 0} where
 
   pub range_all : (m : Pages X) → IsPages m → (after : Option Dot) → after ≡ None → (part rest : List (Dot × Slots X)) (k : Dot) (v : Slots X)
       → IsRangeOf dot_cmp Unbounded Unbounded m part → part ≡ (k, v) ∷ rest → 0 < k.serial
-      → (r : Option X) → FirstFrom (λ j. get_or v.items j None) 0 r → FirstOfPages m after r
+      → (r : Option (Dot × X)) → FirstIn k v.items 0 r → FirstOfPages m after r
   range_all m pages after is part rest k v range steps some r first =
       let there : IfSome (slice_get ((k, v) ∷ rest) 0) (IsEntryInRange dot_cmp Unbounded Unbounded m) = subst (λ (l : List (Dot × Slots X)). IfSome (slice_get l 0) (IsEntryInRange dot_cmp Unbounded Unbounded m)) steps range.1 in
       subst (λ (o : Option Dot). FirstOfPages m o r) (sym is)

@@ -85,14 +85,18 @@ pub on_both : {A E : Type 0} (r : Result A E) (P Q S R : Type 0) → OnOk r P �
 on_both (Ok a) P Q S R p q s f g = f p q
 on_both (Err e) P Q S R p q s f g = g s
 
+not_at : (i at : ℕ) → i ≢ at → (i == at) ≡ false
+not_at i at ne = elim (cases_Bool (i == at)) [ inl same ↦ absurd (ne (nat_same i at same)) | inr apart ↦ apart ]
+
 module _ {X : Type 0} (k : Dot) where
-  pub page_one : (os : List (Option X)) (at : ℕ) (x : X) → at < span → (k.serial - 1) * span + at ≤ greatest_serial → length os ≡ at + 1
+  pub page_one : (os : List (Option X)) (at : ℕ) (x : X) → at < span → 0 < (k.serial - 1) * span + at → (k.serial - 1) * span + at ≤ greatest_serial → length os ≡ at + 1
       → ((j : ℕ) → get_or os j None ≡ cond (j == at) (Some x) None) → IsPage k os
-  page_one os at x below high len is = record {
+  page_one os at x below low high len is = record {
     some = omega (arith, len);
     full = λ some. ap is_some (ap (λ (i : ℕ). get_or os i None) (last (length os) len) ∙ is at ∙ cond-true _ _ _ (nat_is at at refl));
     short = omega (arith, len, below);
     high = omega (arith, len, high);
+    low = λ first. is 0 ∙ cond-false _ _ _ (not_at 0 at (λ same. absurd (omega (arith, low, first, same))));
   }
     where
       last : (n : ℕ) → n ≡ at + 1 → n - 1 ≡ at
@@ -106,9 +110,9 @@ module _ {X : Type 0} (k : Dot) where
         test : (i : ℕ) → i ≢ at → (i == at) ≡ false
         test i ne = elim (cases_Bool (i == at)) [ inl same ↦ absurd (ne (nat_same i at same)) | inr apart ↦ apart ]
 
-    pub page_put : (x : X) → at < span → (k.serial - 1) * span + at ≤ greatest_serial → length os ≡ max (length old) (at + 1)
+    pub page_put : (x : X) → at < span → 0 < (k.serial - 1) * span + at → (k.serial - 1) * span + at ≤ greatest_serial → length os ≡ max (length old) (at + 1)
         → ((j : ℕ) → get_or os j None ≡ cond (j == at) (Some x) (get_or old j None)) → IsPage k os
-    page_put x below high len is = record {
+    page_put x below low high len is = record {
       some = omega (arith, len);
       full = λ some. elim (cases_Bool ((length os - 1) == at)) [
         | inl same ↦ ap is_some (is (length os - 1) ∙ cond-true _ _ _ same)
@@ -118,6 +122,7 @@ module _ {X : Type 0} (k : Dot) where
       ];
       short = let s = page.short in omega (arith, len, below, s);
       high = let h = page.high in omega (arith, len, high, h);
+      low = λ first. is 0 ∙ cond-false _ _ _ (not_at 0 at (λ same. absurd (omega (arith, low, first, same)))) ∙ page.low first;
     }
 
     pub page_set : (x : X) → length os ≡ length old
@@ -135,12 +140,22 @@ module _ {X : Type 0} (k : Dot) where
       ];
       short = let s = page.short in omega (arith, len, s);
       high = let h = page.high in omega (arith, len, h);
+      low = λ first. is 0 ∙ none_set (0 == at) (nat_same 0 at) (page.low first);
     }
+      where
+        none_set : (b : Bool) → (b ≡ true → 0 ≡ at) → get_or old 0 None ≡ None → cond b (cond (is_some (get_or old at None)) (Some x) None) (get_or old 0 None) ≡ None
+        none_set true same none = ap (λ (o : Option X). cond (is_some o) (Some x) None) (ap (λ (j : ℕ). get_or old j None) (sym (same refl)) ∙ none)
+        none_set false same none = none
 
-    pub page_taken : length os ≤ length old → EndsFull os → 0 < length os → IsPage k os
-    page_taken len full some = record {
+    pub page_taken : length os ≤ length old → ((j : ℕ) → get_or os j None ≡ cond (j == at) None (get_or old j None)) → EndsFull os → 0 < length os → IsPage k os
+    page_taken len is full some = record {
       some = some;
       full = full;
       short = let s = page.short in omega (arith, len, s);
       high = let h = page.high in omega (arith, len, h);
+      low = λ first. is 0 ∙ none_taken (0 == at) (page.low first);
     }
+      where
+        none_taken : (b : Bool) → get_or old 0 None ≡ None → cond b None (get_or old 0 None) ≡ None
+        none_taken true none = refl
+        none_taken false none = none

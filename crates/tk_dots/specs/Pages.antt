@@ -2,9 +2,13 @@
 --   span, page_of          how many dots a page has; the page of a dot
 --   slot_in, cell, cell_at  what lies at a place of a page, of the pages; and at a dot
 --   seen                   the finite map that pages hold
---   FirstFrom, EndsFull    the first value from a place on; no empty place at the end
+--   dot_in                 the dot at a place of a page
+--   FirstFrom              the first value from a place on
+--   FirstIn, FirstOn       the same on a page, and on one of the pages
+--   EndsFull               no empty place at the end
 --   IsPage, IsPages, IsPaged  what holds of a page, and of all
---   IsNext                 the value at the least dot above one
+--   IsNext                 the least dot above one that has a value, and that value
+--   IsLast                 the greatest serial of a region
 use Rattle.std.specs.Prelude.{◌≡◌, ℕ, zero, suc, ◌+◌, ◌*◌, ◌-◌, ◌/◌, ◌%◌, ◌<◌, ◌≤◌, Bool, true, false, cond, List, [], ◌∷◌, length, Option, Some, None, IsSome, slice_index_or}
 use Rattle.std.proofs.Common.{Vec, Global}
 use Rattle.std.specs.BTreeMap.{BTreeMap, get}
@@ -21,6 +25,10 @@ span = 64
 -- the page of a dot: the region, and which of its pages, counted from 1
 abbrev pub page_of : Dot → Dot
 page_of d = record { region = d.region; serial = d.serial / span + 1 }
+
+-- the dot at a place of a page
+abbrev pub dot_in : Dot → ℕ → Dot
+dot_in k i = record { region = k.region; serial = (k.serial - 1) * span + i }
 
 -- a dot above another, or any
 abbrev pub IsAbove : Option Dot → Dot → Type 0
@@ -69,10 +77,23 @@ module _ {X : Type 0} where
   seen [] = map.empty
   seen (e ∷ es) = with_page e.0.region e.0.serial e.1.items (seen es)
 
-  -- the first value from a place on
-  abbrev pub FirstFrom : (ℕ → Option X) → ℕ → Option X → Type 0
+  -- the first place, from one on, that has a value, and that value
+  abbrev pub FirstFrom : (ℕ → Option X) → ℕ → Option (ℕ × X) → Type 0
   FirstFrom f from None = (j : ℕ) → from ≤ j → f j ≡ None
-  FirstFrom f from (Some x) = (i : ℕ) × (from ≤ i) × (f i ≡ Some x) × ((j : ℕ) → from ≤ j → j < i → f j ≡ None)
+  FirstFrom f from (Some p) =
+      (from ≤ p.0) × (f p.0 ≡ Some p.1) × ((j : ℕ) → from ≤ j → j < p.0 → f j ≡ None)
+
+  -- the dot of the first place of a page, from one on, that has a value, and that value
+  abbrev pub FirstIn : Dot → List (Option X) → ℕ → Option (Dot × X) → Type 0
+  FirstIn k os from None = FirstFrom (λ j. slice_index_or os j None) from None
+  FirstIn k os from (Some p) =
+      (i : ℕ) × (p.0 ≡ dot_in k i) × FirstFrom (λ j. slice_index_or os j None) from (Some (i, p.1))
+
+  -- the same on one of the pages
+  abbrev pub FirstOn : Pages X → Dot → ℕ → Option (Dot × X) → Type 0
+  FirstOn m k from None = FirstFrom (cell m k) from None
+  FirstOn m k from (Some p) =
+      (i : ℕ) × (p.0 ≡ dot_in k i) × FirstFrom (cell m k) from (Some (i, p.1))
 
   -- no empty place at the end
   abbrev pub EndsFull : List (Option X) → Type 0
@@ -84,6 +105,7 @@ module _ {X : Type 0} where
     pub full : EndsFull os
     pub short : length os ≤ span
     pub high : (k.serial - 1) * span + length os ≤ greatest_serial + 1
+    pub low : k.serial ≡ 1 → slice_index_or os 0 None ≡ None
 
   -- each page is one
   abbrev pub IsPages : Pages X → Type 0
@@ -95,28 +117,28 @@ module _ {X : Type 0} where
     pub counted : len ≡ map.len (seen m.entries)
 
   -- the first value of the first page above one
-  pub record IsFirstPage (m : Pages X) (after : Option Dot) (x : X) : Type 0 where
+  pub record IsFirstPage (m : Pages X) (after : Option Dot) (p : Dot × X) : Type 0 where
     pub key : Dot
     pub some : 0 < key.serial
     pub above : IsAbove after key
     pub least : (k : Dot) → IsAbove after k → IsSome (get dot_cmp m k) → is_lt (dot_cmp k key) ≡ false
-    pub first : FirstFrom (cell m key) 0 (Some x)
+    pub first : FirstOn m key 0 (Some p)
 
   -- or no page is above
-  abbrev pub FirstOfPages : Pages X → Option Dot → Option X → Type 0
-  FirstOfPages m after (Some x) = IsFirstPage m after x
+  abbrev pub FirstOfPages : Pages X → Option Dot → Option (Dot × X) → Type 0
+  FirstOfPages m after (Some p) = IsFirstPage m after p
   FirstOfPages m after None = (k : Dot) → IsAbove after k → get dot_cmp m k ≡ None
 
-  -- the value at the least dot above one
-  pub record IsLeastAbove (m : map.FinMap dot_cmp X) (after : Option Dot) (x : X) : Type 0 where
-    pub dot : Dot
+  -- the dot is the least above one that has a value, which is x
+  pub record IsLeastAbove (m : map.FinMap dot_cmp X) (after : Option Dot) (dot : Dot) (x : X)
+      : Type 0 where
     pub held : map.get m dot ≡ Some x
     pub above : IsAbove after dot
     pub least : (q : Dot) → IsAbove after q → IsSome (map.get m q) → is_lt (dot_cmp q dot) ≡ false
 
-  -- or none
-  abbrev pub IsNext : map.FinMap dot_cmp X → Option Dot → Option X → Type 0
-  IsNext m after (Some x) = IsLeastAbove m after x
+  -- the least dot above one that has a value, and that value, or none
+  abbrev pub IsNext : map.FinMap dot_cmp X → Option Dot → Option (Dot × X) → Type 0
+  IsNext m after (Some p) = IsLeastAbove m after p.0 p.1
   IsNext m after None = (q : Dot) → IsAbove after q → map.get m q ≡ None
 
   -- the greatest serial of a region, or 0

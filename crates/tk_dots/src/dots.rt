@@ -120,13 +120,14 @@ impl<V> DotMap<V> {
         taken
     }
 
-    /// The value at the least dot above, or of all.
-    pub fn next_after(&self, after: Option<Dot>) -> Option<&V>
-        ensures { IsNext self.now after (option_copied result) }
+    /// Returns the least dot above `after` that has a value, or the least of all if `after` is
+    /// `None`, and the value there.
+    pub fn next_after(&self, after: Option<Dot>) -> Option<(Dot, &V)>
+        ensures { IsNext self.now after (option_map (λ p. (p.0, p.1.now)) result) }
     {
         match after {
             Some(dot) => match rest_of_page(&self.pages, dot) {
-                Some(value) => Some(value),
+                Some(next) => Some(next),
                 None => first_of_pages(&self.pages, Some(page_of(dot))),
             },
             None => first_of_pages(&self.pages, None),

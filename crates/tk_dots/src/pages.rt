@@ -1,14 +1,14 @@
 //! The pages of a map, each behind its number.
 
-ghost use Rattle.std.specs.Prelude.{◌≡◌, ◌<◌, ◌≤◌, ◌+◌, ◌-◌, ◌*◌, ◌==◌, ◌&&◌, ◌%◌, ℕ, None, Some, is_some, if◌then◌else◌, option_copied, OnOk, OnErr, IfOk};
+ghost use Rattle.std.specs.Prelude.{◌≡◌, ◌<◌, ◌≤◌, ◌+◌, ◌-◌, ◌*◌, ◌==◌, ◌&&◌, ◌%◌, ℕ, None, Some, is_some, if◌then◌else◌, option_copied, option_map, OnOk, OnErr, IfOk};
 ghost use Rattle.std.specs.BTreeMap.{get};
 ghost use Rattle.std.specs.Ordering.{eq_by_cmp};
-ghost use Rattle.tk_dots.specs.Pages.{cell, page_of, span, FirstFrom, FirstOfPages, IsPages};
+ghost use Rattle.tk_dots.specs.Pages.{cell, page_of, span, FirstIn, FirstOn, FirstOfPages, IsPage, IsPages};
 ghost use Rattle.tk_handle.specs.declared.dot.Dot.{Dot as the_dot};
 ghost use Rattle.tk_handle.specs.Dot.{dot_cmp};
 ghost use Rattle.tk_handle.specs.Ranges.{greatest_serial};
 
-use crate::place::{page_of as page_at, place_of};
+use crate::place::{dot_at, page_of as page_at, place_of};
 use crate::slots::{first_from, one, put, set, slot, take};
 use std::alloc::{AllocError, Global};
 use std::collections::BTreeMap;
@@ -34,6 +34,7 @@ pub(crate) fn put_in<V: Drop>(
     value: V,
 ) -> Result<bool, AllocError>
     requires within { at < span }
+    requires low { 0 < (page.serial - 1) * span + at }
     requires high { (page.serial - 1) * span + at ≤ greatest_serial }
     requires pages { IsPages pages.old }
     ensures cells { OnOk result ((k : the_dot) (j : ℕ) → cell pages.new k j ≡ (if eq_by_cmp dot_cmp k page && (j == at) then Some value else cell pages.old k j)) }
@@ -92,43 +93,52 @@ pub(crate) fn take_in<V: Drop>(
     taken
 }
 
-// The first value behind a dot on its page.
-pub(crate) fn rest_of_page<V>(pages: &BTreeMap<Dot, Vec<Option<V>>>, dot: Dot) -> Option<&V>
-    ensures { FirstFrom (cell pages.now (page_of dot)) (dot.serial % span + 1) (option_copied result) }
+// Returns the first dot behind a place of the page that has a value, and that value.
+fn first_on<V>(page: Dot, slots: &Vec<Option<V>>, from: usize) -> Option<(Dot, &V)>
+    requires { IsPage page slots.now.items }
+    ensures first { FirstIn page slots.now.items from (option_map (λ p. (p.0, p.1.now)) result) }
+    ensures counted { 0 < page.serial }
 {
-    match pages.get(&page_at(dot)) {
-        Some(slots) => first_from(slots, place_of(dot) + 1),
+    match first_from(slots, from) {
+        Some((at, value)) => Some((dot_at(page, at), value)),
         None => None,
     }
 }
 
-// The first value of the first page above one, or of all.
+// Returns the first dot behind one on its page that has a value, and that value.
+pub(crate) fn rest_of_page<V>(pages: &BTreeMap<Dot, Vec<Option<V>>>, dot: Dot) -> Option<(Dot, &V)>
+    requires { IsPages pages.now }
+    ensures { FirstOn pages.now (page_of dot) (dot.serial % span + 1)
+        (option_map (λ p. (p.0, p.1.now)) result) }
+{
+    let page = page_at(dot);
+    match pages.get(&page) {
+        Some(slots) => first_on(page, slots, place_of(dot) + 1),
+        None => None,
+    }
+}
+
+// Returns the first dot on the first page above one, or of all, and the value there.
 pub(crate) fn first_of_pages<V>(
     pages: &BTreeMap<Dot, Vec<Option<V>>>,
     after: Option<Dot>,
-) -> Option<&V>
+) -> Option<(Dot, &V)>
     requires { IsPages pages.now }
-    ensures { FirstOfPages pages.now after (option_copied result) }
+    ensures { FirstOfPages pages.now after (option_map (λ p. (p.0, p.1.now)) result) }
 {
     match after {
         Some(page) => match pages
             .range((Bound::Excluded(page), Bound::Unbounded))
             .next()
         {
-            Some((key, slots)) => {
-                let _serial = key.serial();
-                first_from(slots, 0)
-            }
+            Some((page, slots)) => first_on(*page, slots, 0),
             None => None,
         },
         None => match pages
             .range((Bound::<Dot>::Unbounded, Bound::<Dot>::Unbounded))
             .next()
         {
-            Some((key, slots)) => {
-                let _serial = key.serial();
-                first_from(slots, 0)
-            }
+            Some((page, slots)) => first_on(*page, slots, 0),
             None => None,
         },
     }

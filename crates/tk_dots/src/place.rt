@@ -1,7 +1,8 @@
 //! Where a dot lies: its page, and its place there.
 
-ghost use Rattle.std.specs.Prelude.{◌≡◌, ◌%◌, ◌<◌};
-ghost use Rattle.tk_dots.specs.Pages.{page_of, span};
+ghost use Rattle.std.specs.Prelude.{◌≡◌, ◌≤◌, ◌<◌, ◌+◌, ◌-◌, ◌*◌, ◌%◌};
+ghost use Rattle.tk_dots.specs.Pages.{dot_in, page_of, span};
+ghost use Rattle.tk_handle.specs.Ranges.{greatest_serial};
 
 use tk_handle::Dot;
 
@@ -24,4 +25,16 @@ pub(crate) fn place_of(dot: Dot) -> usize
     ensures within { result < span }
 {
     (dot.serial() % SPAN) as usize
+}
+
+// Returns the dot at a place of a page. Some dot lies there.
+pub(crate) fn dot_at(page: Dot, at: usize) -> Dot
+    requires low { 0 < (page.serial - 1) * span + at }
+    requires high { (page.serial - 1) * span + at ≤ greatest_serial }
+    ensures { result ≡ dot_in page at }
+{
+    match Dot::new(page.region(), (page.serial() - 1) * SPAN + at as u64) {
+        Some(dot) => dot,
+        None => unreachable!("the serial is in range"),
+    }
 }

@@ -1,6 +1,6 @@
 //! The places of one page.
 
-ghost use Rattle.std.specs.Prelude.{◌≡◌, ◌<◌, ◌≤◌, ◌+◌, ◌-◌, ◌==◌, ℕ, [], None, Some, IsSome, is_some, if◌then◌else◌, option_copied, slice_index_or, vec_len, vec_capacity, OnOk, OnErr, IfOk, length, max};
+ghost use Rattle.std.specs.Prelude.{◌≡◌, ◌<◌, ◌≤◌, ◌+◌, ◌-◌, ◌==◌, ℕ, [], None, Some, IsSome, is_some, if◌then◌else◌, option_copied, option_map, slice_index_or, vec_len, vec_capacity, OnOk, OnErr, IfOk, length, max};
 ghost use Rattle.tk_dots.specs.Pages.{FirstFrom, EndsFull};
 
 use std::alloc::{AllocError, Global};
@@ -16,13 +16,14 @@ pub(crate) fn slot<V>(slots: &Vec<Option<V>>, at: usize) -> Option<&V>
     }
 }
 
-// The first that lies at a place or behind it.
-pub(crate) fn first_from<V>(slots: &Vec<Option<V>>, from: usize) -> Option<&V>
-    ensures { FirstFrom (λ j. slice_index_or slots.now.items j None) from (option_copied result) }
+// Returns the first place, from one on, that has a value, and that value.
+pub(crate) fn first_from<V>(slots: &Vec<Option<V>>, from: usize) -> Option<(usize, &V)>
+    ensures { FirstFrom (λ j. slice_index_or slots.now.items j None) from
+        (option_map (λ p. (p.0, p.1.now)) result) }
 {
     for at in from..slots.len() {
         if let Some(value) = &slots[at] {
-            return Some(value);
+            return Some((at, value));
         }
     }
     None

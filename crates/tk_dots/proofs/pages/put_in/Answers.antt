@@ -22,7 +22,7 @@ pub returns-then-not-contains_key-clause-pages : goal.returns-then-not-contains_
 returns-then-not-contains_key-clause-pages g c =
     pages_updated c.args.pages.now c.insert.new.self c.args.page (Some c.in_ok-slots.slots) c.in_ok-insert.ensures.updates.0 c.requires.pages
     (λ v e. subst (λ (s : Slots g.row.V.Denot). IsPage c.args.page s.items) (some_same c.in_ok-slots.slots v e)
-    (page_one c.args.page c.in_ok-slots.slots.items c.args.at c.args.value c.requires.within c.requires.high (omega (arith, c.in_ok-slots.ensures.len, c.in_ok-slots.slots.ok)) c.in_ok-slots.ensures.items))
+    (page_one c.args.page c.in_ok-slots.slots.items c.args.at c.args.value c.requires.within c.requires.low c.requires.high (omega (arith, c.in_ok-slots.ensures.len, c.in_ok-slots.slots.ok)) c.in_ok-slots.ensures.items))
 
 pub returns-clause-cells : goal.returns-clause-cells
 returns-clause-cells g c =
@@ -48,5 +48,5 @@ returns-clause-pages g c =
     ((c.get_mut.follows.holds c.put.new.slots).3 (ap is_some here)).0 c.requires.pages
     (λ v e. subst (λ (s : Slots g.row.V.Denot). IsPage c.args.page s.items) (some_same c.put.new.slots v e)
     (on_both c.put.result _ _ _ (IsPage c.args.page c.put.new.slots.items) c.put.ensures.items c.put.ensures.len c.put.ensures.err
-    (λ written len. page_put c.args.page c.in-Some.slots.now.items c.put.new.slots.items c.args.at old c.args.value c.requires.within c.requires.high (omega (arith, len, c.put.new.slots.ok, c.in-Some.slots.now.ok)) written)
+    (λ written len. page_put c.args.page c.in-Some.slots.now.items c.put.new.slots.items c.args.at old c.args.value c.requires.within c.requires.low c.requires.high (omega (arith, len, c.put.new.slots.ok, c.in-Some.slots.now.ok)) written)
     (λ same. subst (λ xs. IsPage c.args.page xs) (sym same) old)))

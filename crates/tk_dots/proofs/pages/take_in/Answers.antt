@@ -56,4 +56,4 @@ returns-else-is_empty-clause-pages g c =
     ((c.get_mut.follows.holds c.take-taken.new.slots).3 (ap is_some here)).0 c.requires.pages
     (λ v e. subst (λ (s : Slots g.row.V.Denot). IsPage c.args.page s.items) (some_same c.take-taken.new.slots v e)
     (page_taken c.args.page c.in-Some.slots.now.items c.take-taken.new.slots.items c.args.at old
-    (omega (arith, c.take-taken.ensures.len, c.take-taken.new.slots.ok, c.in-Some.slots.now.ok)) c.take-taken.ensures.full (omega (arith, some, c.take-taken.new.slots.ok))))
+    (omega (arith, c.take-taken.ensures.len, c.take-taken.new.slots.ok, c.in-Some.slots.now.ok)) c.take-taken.ensures.items c.take-taken.ensures.full (omega (arith, some, c.take-taken.new.slots.ok))))
