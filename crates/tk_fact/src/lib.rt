@@ -7,6 +7,8 @@
 //!   and the fields in the order of the kind's struct. A fact has exactly one spelling.
 //! - `Fact::minted` and `Fact::uses` return the tokens that a fact mints, and the token that it
 //!   uses up.
+//! - `Fact::kept_for` returns the token for which a fact is kept. When that token's family is over,
+//!   the fact may be skipped.
 //!
 //! The crates above define what follows from several facts together. tk_scope and tk_match define
 //! scopes, redirection URIs, lists of them, and challenges.
@@ -18,7 +20,7 @@
 //! In reading order: `Subject`, `Sort`, `MintedToken`, the ten kinds from `ClientAdded` to
 //! `SubjectOut`, `Body`, `Fact`, `Minted`. The definitions are in `specs/`: `Subject` for the name
 //! of a subject, `Check` for the rules, `Fields`, `Kinds` and `FactBytes` for the bytes, `Tokens`
-//! for the tokens.
+//! for the tokens, `Keeping` for the token for which a fact is kept.
 #![tactic(auto)]
 
 mod body;
@@ -33,6 +35,7 @@ mod consent_withdrawn;
 mod digest;
 mod fact;
 mod flag;
+mod keeping;
 mod minted_token;
 mod redirects_field;
 mod refresh_rotated;
@@ -54,6 +57,7 @@ pub use code_redeemed::CodeRedeemed;
 pub use consent_given::ConsentGiven;
 pub use consent_withdrawn::ConsentWithdrawn;
 pub use fact::Fact;
+pub use keeping::passing_is_kept;
 pub use minted_token::MintedToken;
 pub use refresh_rotated::RefreshRotated;
 pub use reuse_seen::ReuseSeen;

@@ -249,6 +249,5 @@ vector_laws = record {
   reflexive = below_itself;
   transitive = below_trans;
   antisymmetric = below_antisymmetric;
-  bounded = λ a b c low high. tt;
   joined = λ a b h. join_of a b;
 }

@@ -1,6 +1,6 @@
 -- Joining two values to the least one above both (own): the least upper bound of an order.
 --   IsJoin     the least value above two
---   JoinLaws   the laws of an order, and which of its values have a value above both
+--   JoinLaws   the laws of an order in which values that agree have a least value above both
 use Rattle.std.specs.Prelude.{◌≡◌}
 
 -- c is above a and b, and below every value that is above both
@@ -9,11 +9,9 @@ pub record IsJoin {V : Type 0} (Below : V → V → Type 0) (a b c : V) : Type 0
   pub right : Below b c
   pub least : (d : V) → Below a d → Below b d → Below c d
 
--- `Below` is an order; two values agree exactly if some value is above both, and then there is a
--- least one
+-- `Below` is an order, and two values that agree have a least value above both
 pub record JoinLaws {V : Type 0} (Below Agree : V → V → Type 0) : Type 0 where
   pub reflexive : (a : V) → Below a a
   pub transitive : (a b c : V) → Below a b → Below b c → Below a c
   pub antisymmetric : (a b : V) → Below a b → Below b a → a ≡ b
-  pub bounded : (a b c : V) → Below a c → Below b c → Agree a b
   pub joined : (a b : V) → Agree a b → (c : V) × IsJoin Below a b c

@@ -1,0 +1,35 @@
+-- For which token a fact is kept (own). When that token's family is over, the fact may be skipped.
+--   kept_for       the token for which a fact is kept, if there is one
+--   is_passing     a fact is kept for a token; the facts of the other kinds last
+use Rattle.std.specs.Prelude.{◌≡◌, Bool, true, false, Option, Some, None, is_some}
+use Rattle.tk_handle.specs.declared.dot.Dot.{Dot}
+use Rattle.tk_handle.specs.declared.kind.Kind.TheVariants.{Code, Refresh}
+use Rattle.tk_handle.specs.declared.token_id.TokenId.{TokenId}
+use Rattle.tk_fact.specs.declared.body.Body.{Body}
+use Rattle.tk_fact.specs.declared.body.Body.TheVariants.{
+  CodeIssued,
+  CodeRedeemed,
+  RefreshRotated,
+  ReuseSeen,
+}
+
+-- the token for which the fact is kept: a code or refresh token that it mints, or the token that it
+-- saw used again
+abbrev pub kept_for : Dot → Body → Option TokenId
+kept_for d (CodeIssued f) = Some (record { dot = d; kind = Code })
+kept_for d (CodeRedeemed f) = Some (record { dot = d; kind = Refresh })
+kept_for d (RefreshRotated f) = Some (record { dot = d; kind = Refresh })
+kept_for d (ReuseSeen f) = Some f.token
+kept_for d body = None
+
+-- the fact is kept for a token, at whatever dot it stands
+abbrev pub is_passing : Body → Bool
+is_passing (CodeIssued f) = true
+is_passing (CodeRedeemed f) = true
+is_passing (RefreshRotated f) = true
+is_passing (ReuseSeen f) = true
+is_passing body = false
+
+-- the two agree
+abbrev pub PassingIsKept : Type 0
+PassingIsKept = (d : Dot) (b : Body) → is_passing b ≡ is_some (kept_for d b)
