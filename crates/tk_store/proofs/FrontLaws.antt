@@ -20,10 +20,12 @@ use Rattle.tk_vector.proofs.VersionVectorLaws.{entry_empty, entry_raised, entry_
 use Rattle.tk_store.specs.Front.{dot_at, HeldUpTo, IsFrontAt, IsFront}
 use Rattle.tk_fact.specs.Check.{refusal_of}
 use Rattle.tk_fact.specs.declared.body.Body.{Body}
-use Rattle.tk_store.specs.FactSet.{FactSet, IsFactSet}
-use Rattle.tk_store.specs.Store.{IsKept}
+use Rattle.tk_store.specs.FactSet.{IsFactSet}
+use Rattle.tk_store.specs.Slots.{Slot, Slots, Held, Skipped, held_in, held_slot, without_fact}
+use Rattle.tk_store.specs.StoreFields.{IsKept}
 use Rattle.tk_store.proofs.FactSetLaws.{tied}
-use Rattle.tk_store.proofs.PutLaws.{taken_back, get_here, IsFactSet-empty, IsFactSet-insert, IsFactSet-remove}
+use Rattle.tk_store.proofs.PutLaws.{by_dot, taken_back, get_here, IsFactSet-empty, IsFactSet-insert, IsFactSet-remove}
+use Rattle.tk_store.proofs.SlotLaws.{held_none, held_put, held_skip, held_taken, remove_free}
 
 cases_same : (a b : ℕ) → (a ≡ b) ⊎ (a ≢ b)
 cases_same a b = elim (cases_lt a b) [
@@ -159,28 +161,71 @@ module _ {X : Type 0} where
   front_empty v none r = subst (λ (n : ℕ). IsFrontAt {X = X} map.empty r n) (sym (ap (λ (w : Vector). entry w r) none ∙ entry_empty r))
       (front_from_next map.empty r 0 (λ k low le. absurd (omega arith)) (map.get-empty dot_cmp (dot_at r 1)))
 
--- ---- the facts of a store and its front
+-- ---- the slots of a store and its front
 
-pub kept_nothing : (F : FactSet) (v : Vector) → F ≡ map.empty → v ≡ map.empty → IsKept F v
-kept_nothing F v none zero_front = record {
-  sound = subst IsFactSet (sym none) IsFactSet-empty;
-  front_is = subst (λ (G : FactSet). IsFront G v) (sym none) (front_empty v zero_front);
+pub kept_nothing : (S : Slots) (v : Vector) → S ≡ map.empty → v ≡ map.empty → IsKept S v
+kept_nothing S v none zero_front = record {
+  sound = subst IsFactSet (sym (held_none S none)) IsFactSet-empty;
+  front_is = subst (λ (R : Slots). IsFront R v) (sym none) (front_empty v zero_front);
 }
 
-pub kept_taken : (F : FactSet) (v : Vector) (d : Dot) → IsKept F v → 0 < d.serial → IsKept (map.remove F d) (lowered v d.region (d.serial - 1))
-kept_taken F v d kept some = record { sound = IsFactSet-remove F d kept.sound; front_is = front_taken F d v kept.front_is some }
+pub kept_taken : (S : Slots) (v : Vector) (d : Dot) → IsKept S v → 0 < d.serial → IsKept (map.remove S d) (lowered v d.region (d.serial - 1))
+kept_taken S v d kept some = record {
+  sound = subst IsFactSet (sym (held_taken S d)) (IsFactSet-remove (held_in S) d kept.sound);
+  front_is = front_taken S d v kept.front_is some;
+}
 
--- a front that has not yet followed a new fact is the front of the set without that fact
-pub before_new : (F G : FactSet) (v : Vector) (d : Dot) (b : Body) → map.get F d ≡ None → G ≡ map.insert F d b → IsFront F v → IsFront (map.remove G d) v
-before_new F G v d b free is front = subst (λ (H : FactSet). IsFront H v) (sym (ap (λ (H : FactSet). map.remove H d) is ∙ taken_back F d b free)) front
+-- a dot that stays known leaves the front
+same_keys : (S R : Slots) (v : Vector) → ((q : Dot) → is_some (map.get R q) ≡ is_some (map.get S q)) → IsFront S v → IsFront R v
+same_keys S R v same front r = record {
+  held = λ k low le. same (dot_at r k) ∙ (front r).held k low le;
+  greatest = λ m h. (front r).greatest m (λ k low le. sym (same (dot_at r k)) ∙ h k low le);
+}
 
-pub new_held : (F G : FactSet) (d : Dot) (b : Body) → G ≡ map.insert F d b → IsSome (map.get G d)
-new_held F G d b is = subst IsSome (sym (ap (λ (H : FactSet). map.get H d) is ∙ get_here F d b)) refl
+pub kept_skipped : (S : Slots) (v : Vector) (d : Dot) → IsKept S v → IsSome (map.get S d) → IsKept (map.insert S d Skipped) v
+kept_skipped S v d kept known = record {
+  sound = subst IsFactSet (sym (held_skip S d)) (IsFactSet-remove (held_in S) d kept.sound);
+  front_is = same_keys S (map.insert S d Skipped) v (λ q. by_dot (λ o. is_some o ≡ is_some (map.get S q)) S d Skipped q (λ same. sym known ∙ ap (λ (x : Dot). is_some (map.get S x)) (sym same)) refl) kept.front_is;
+}
 
-pub kept_new : (F G : FactSet) (v w : Vector) (d : Dot) (b : Body) → IsKept F v → refusal_of b ≡ None → G ≡ map.insert F d b → IsFront G w → IsKept G w
-kept_new F G v w d b kept passes is front = record { sound = subst IsFactSet (sym is) (IsFactSet-insert F d b kept.sound passes); front_is = front }
+-- a front that has not yet followed a new slot is the front of the slots without it
+pub before_new : (S R : Slots) (v : Vector) (d : Dot) (x : Slot) → map.get S d ≡ None → R ≡ map.insert S d x → IsFront S v → IsFront (map.remove R d) v
+before_new S R v d x free is front = subst (λ (Q : Slots). IsFront Q v) (sym (ap (λ (Q : Slots). map.remove Q d) is ∙ taken_back S d x free)) front
 
-pub kept_back : (F G H : FactSet) (v w : Vector) (d : Dot) (b : Body) → IsKept F v → map.get F d ≡ None → G ≡ map.insert F d b → H ≡ map.remove G d → w ≡ v → (H ≡ F) × IsKept H w
-kept_back F G H v w d b kept free is rest same =
-    let whole : H ≡ F = rest ∙ ap (λ (X : FactSet). map.remove X d) is ∙ taken_back F d b free in
-    (whole, subst (λ (X : FactSet). IsKept X w) (sym whole) (subst (IsKept F) (sym same) kept))
+pub new_known : (S R : Slots) (d : Dot) (x : Slot) → R ≡ map.insert S d x → IsSome (map.get R d)
+new_known S R d x is = subst IsSome (sym (ap (λ (Q : Slots). map.get Q d) is ∙ get_here S d x)) refl
+
+pub kept_new : (S R : Slots) (v w : Vector) (d : Dot) (b : Body) → IsKept S v → refusal_of b ≡ None → R ≡ map.insert S d (Held b) → IsFront R w → IsKept R w
+kept_new S R v w d b kept passes is front = record {
+  sound = subst IsFactSet (sym (ap held_in is ∙ held_put S d b)) (IsFactSet-insert (held_in S) d b kept.sound passes);
+  front_is = front;
+}
+
+pub kept_marked : (S R : Slots) (v w : Vector) (d : Dot) → IsKept S v → R ≡ map.insert S d Skipped → IsFront R w → IsKept R w
+kept_marked S R v w d kept is front = record {
+  sound = subst IsFactSet (sym (ap held_in is ∙ held_skip S d)) (IsFactSet-remove (held_in S) d kept.sound);
+  front_is = front;
+}
+
+pub kept_back : (S R Q : Slots) (v w : Vector) (d : Dot) (x : Slot) → IsKept S v → map.get S d ≡ None → R ≡ map.insert S d x → Q ≡ map.remove R d → w ≡ v → (Q ≡ S) × IsKept Q w
+kept_back S R Q v w d x kept free is rest same =
+    let whole : Q ≡ S = rest ∙ ap (λ (X : Slots). map.remove X d) is ∙ taken_back S d x free in
+    (whole, subst (λ (X : Slots). IsKept X w) (sym whole) (subst (IsKept S) (sym same) kept))
+
+-- a fact that was put is taken out
+pub put_taken : (S R Q : Slots) (d : Dot) (b : Body) → R ≡ map.insert S d (Held b) → Q ≡ without_fact R d (map.get R d) → Q ≡ map.remove R d
+put_taken S R Q d b is rest = rest ∙ ap (without_fact R d) (ap (λ (X : Slots). map.get X d) is ∙ get_here S d (Held b))
+
+pub kept_without : (S : Slots) (v : Vector) (d : Dot) (o : Option Slot) → map.get S d ≡ o → IsSome (held_slot o) → IsKept S v → 0 < d.serial → IsKept (without_fact S d o) (lowered v d.region (d.serial - 1))
+kept_without S v d None at some kept high = absurd (false≢true some)
+kept_without S v d (Some (Held b)) at some kept high = kept_taken S v d kept high
+kept_without S v d (Some Skipped) at some kept high = absurd (false≢true some)
+
+-- without a fact there, nothing changes
+pub without_none : (S : Slots) (d : Dot) (o : Option Slot) → map.get S d ≡ o → held_slot o ≡ None → without_fact S d o ≡ S
+without_none S d None at none = remove_free S d at
+without_none S d (Some (Held b)) at none = absurd (some_none b none)
+  where
+    some_none : (x : Body) → Some x ≡ None → ⊥
+    some_none x h = cc
+without_none S d (Some Skipped) at none = refl

@@ -9,6 +9,9 @@ pub mod PagingLaws
 pub mod PutLaws
 pub mod SeekingLaws
 pub mod SetOrderLaws
+pub mod SlotJoiningLaws
+pub mod SlotLaws
+pub mod SlotOrderLaws
 pub mod SubsetLaws
 pub mod TableLaws
 pub mod WalkLaws

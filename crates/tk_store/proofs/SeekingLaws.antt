@@ -9,10 +9,10 @@ use Rattle.std.proofs.lemmas.Bool.Decides.{nat_tests}
 use Rattle.std.specs.Ordering.{is_lt}
 use Rattle.tk_handle.specs.declared.dot.Dot.{Dot}
 use Rattle.tk_handle.specs.Dot.{dot_cmp}
-use Rattle.tk_fact.specs.declared.body.Body.{Body}
 use Rattle.tk_vector.specs.VersionVector.{Vector, entry}
 use Rattle.std.specs.FinMap as sets
-use Rattle.tk_store.specs.FactSet.{FactSet, dot_of}
+use Rattle.tk_store.specs.FactSet.{dot_of}
+use Rattle.tk_store.specs.Slots.{Slot, Slots}
 use Rattle.tk_store.specs.Beyond.{is_beyond, beyond}
 use Rattle.tk_store.specs.Walk.{is_above, above}
 use Rattle.tk_store.specs.Seeking.{SeeksAt, GoesOn, noted}
@@ -52,13 +52,13 @@ covered_between d j x n same le here = grind (arith, nat_tests)
 above_later : (d j x : Dot) → j.region ≡ d.region → d.serial ≤ j.serial → is_lt (dot_cmp j x) ≡ true → is_lt (dot_cmp d x) ≡ true
 above_later d j x same le h = grind (arith, nat_tests)
 
-beyond_serial : (v : Vector) (f : Dot × Body) → entry v f.0.region < f.0.serial → is_beyond v f ≡ true
+beyond_serial : (v : Vector) (f : Dot × Slot) → entry v f.0.region < f.0.serial → is_beyond v f ≡ true
 beyond_serial v f h = grind (arith, nat_tests)
 
-covered_serial : (v : Vector) (f : Dot × Body) → f.0.serial ≤ entry v f.0.region → is_beyond v f ≡ false
+covered_serial : (v : Vector) (f : Dot × Slot) → f.0.serial ≤ entry v f.0.region → is_beyond v f ≡ false
 covered_serial v f h = grind (arith, nat_tests)
 
-module _ (F : FactSet) (v : Vector) (after : Option Dot) (f : Dot × Body) (first : slice_get (above F after) 0 ≡ Some f) where
+module _ (F : Slots) (v : Vector) (after : Option Dot) (f : Dot × Slot) (first : slice_get (above F after) 0 ≡ Some f) where
   went_on : above F after ≡ f ∷ above F (Some f.0)
   went_on = goes_on F after f first
 
@@ -95,20 +95,20 @@ module _ (F : FactSet) (v : Vector) (after : Option Dot) (f : Dot × Body) (firs
       let le : f.0.serial ≤ at.serial = omega (arith, serial, c.1) in
       (seeks_past at region le serial, fewer_past at region le)
 
-pub seeks_none : (F : FactSet) (v : Vector) (after : Option Dot) → slice_get (above F after) 0 ≡ None → map dot_of (beyond F v after) ≡ []
+pub seeks_none : (F : Slots) (v : Vector) (after : Option Dot) → slice_get (above F after) 0 ≡ None → map dot_of (beyond F v after) ≡ []
 seeks_none F v after h = ap (λ l. map dot_of (filter (is_beyond v) l)) (at_end F after h)
 
 -- ---- one step of the search
 
 -- the dots found and those still to be found are all, and no more are found than the limit
-pub record Found (F : FactSet) (v : Vector) (limit : ℕ) (found : List Dot) (place : Option Dot) (all : List Dot) : Type 0 where
+pub record Found (F : Slots) (v : Vector) (limit : ℕ) (found : List Dot) (place : Option Dot) (all : List Dot) : Type 0 where
   pub whole : found ++ map dot_of (beyond F v place) ≡ all
   pub low : length found ≤ limit
 
-pub found_none : (F : FactSet) (v : Vector) (limit : ℕ) (found : List Dot) (place : Option Dot) → found ≡ [] → Found F v limit found place (map dot_of (beyond F v place))
+pub found_none : (F : Slots) (v : Vector) (limit : ℕ) (found : List Dot) (place : Option Dot) → found ≡ [] → Found F v limit found place (map dot_of (beyond F v place))
 found_none F v limit found place none = record { whole = ap (λ l. l ++ map dot_of (beyond F v place)) none; low = omega (arith, ap length none) }
 
-pub found_more : (F : FactSet) (v : Vector) (limit : ℕ) (found more : List Dot) (place : Option Dot) (all : List Dot) (at : Dot) (is : Bool) → Found F v limit found place all → length found < limit
+pub found_more : (F : Slots) (v : Vector) (limit : ℕ) (found more : List Dot) (place : Option Dot) (all : List Dot) (at : Dot) (is : Bool) → Found F v limit found place all → length found < limit
     → SeeksAt F v place at is → more ≡ noted found at is → Found F v limit more (Some at) all
 found_more F v limit found more place all at true f low seeks is = record {
   whole = ap (λ l. l ++ map dot_of (beyond F v (Some at))) is ∙ append_assoc found (at ∷ []) (map dot_of (beyond F v (Some at))) ∙ ap (λ l. found ++ l) (sym seeks) ∙ f.whole;

@@ -1,22 +1,16 @@
 -- Sets of facts are ordered by inclusion, and two that agree have a least set above both. Key
 -- results:
---   set_laws      the contract of `stores_join`
 --   is_join       the union of two sets that agree is the least set above both
 --   below_least   a set within the union is within every set above both
 use Rattle.std.proofs.Common.{◌≡◌, Option, Some, None, refl, sym, ap, subst, ◌∙◌}
 use Rattle.std.specs.FinMap as map
 use Rattle.tk_handle.specs.declared.dot.Dot.{Dot}
 use Rattle.tk_fact.specs.declared.body.Body.{Body}
-use Rattle.tk_vector.specs.Join.{IsJoin, JoinLaws}
+use Rattle.tk_vector.specs.Join.{IsJoin}
 use Rattle.tk_store.specs.FactSet.{FactSet, Agree, IsSubset, joined}
 use Rattle.tk_store.proofs.FactSetLaws.{get-joined, either}
-use Rattle.tk_store.proofs.JoiningLaws.{subset_antisym}
 use Rattle.tk_store.proofs.JoiningStepsLaws.{joins_start}
-use Rattle.tk_store.proofs.PutLaws.{some_injective}
-use Rattle.tk_store.proofs.SubsetLaws.{subset_itself, subset_trans}
-
-agree_below : (F G H : FactSet) → IsSubset F H → IsSubset G H → Agree F G
-agree_below F G H f g d b c at there = some_injective b c (sym (f d b at) ∙ g d c there)
+use Rattle.tk_store.proofs.SubsetLaws.{subset_trans}
 
 pub join_of : (F G : FactSet) → Agree F G → IsJoin IsSubset F G (joined F G)
 join_of F G agree = record {
@@ -29,15 +23,6 @@ join_of F G agree = record {
         → ((c : Body) → map.get F d ≡ Some c → map.get S d ≡ Some c) → ((c : Body) → map.get G d ≡ Some c → map.get S d ≡ Some c) → either (map.get G d) (map.get F d) ≡ Some b → map.get S d ≡ Some b
     first S d (Some c) y b is at f g h = g b (is ∙ sym (ap (λ x. either x (map.get F d)) is) ∙ h)
     first S d None y b is at f g h = f b (sym (ap (λ x. either x (map.get F d)) is) ∙ h)
-
-pub set_laws : JoinLaws IsSubset Agree
-set_laws = record {
-  reflexive = subset_itself;
-  transitive = subset_trans;
-  antisymmetric = subset_antisym;
-  bounded = agree_below;
-  joined = λ F G agree. (joined F G, join_of F G agree);
-}
 
 pub is_join : (F G N : FactSet) → Agree F G → N ≡ joined F G → IsJoin IsSubset F G N
 is_join F G N agree is = subst (IsJoin IsSubset F G) (sym is) (join_of F G agree)

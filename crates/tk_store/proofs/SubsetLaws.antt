@@ -4,9 +4,10 @@
 --   AllIn-take, AllIn-filter, AllIn-subset, AllIn-at   parts of a list that is in a set
 --   IsFactSet-subset                      a set within a set of facts that pass their checks is one
 --                                         too
-use Rattle.std.proofs.Common.{◌≡◌, ℕ, zero, suc, ◌<◌, Bool, true, false, cond, [], ◌∷◌, length, get_or, filter, take, Some, sym, ap, ◌∙◌, arith}
+use Rattle.std.proofs.Common.{◌≡◌, ℕ, zero, suc, ◌<◌, Bool, true, false, cond, List, [], ◌∷◌, length, get_or, filter, take, Some, sym, ap, ◌∙◌, arith}
 use Rattle.std.specs.FinMap as map
 use Rattle.tk_handle.specs.declared.dot.Dot.{Dot}
+use Rattle.tk_handle.specs.Dot.{dot_cmp}
 use Rattle.tk_fact.specs.declared.body.Body.{Body}
 use Rattle.tk_store.specs.FactSet.{FactSet, Facts, IsFactSet, AllIn, IsSubset, with_facts}
 use Rattle.tk_store.proofs.PutLaws.{by_dot, of_dot}
@@ -39,7 +40,7 @@ AllIn-take U zero fs a = tt
 AllIn-take U (suc k) [] a = tt
 AllIn-take U (suc k) (f ∷ fs) a = (a.0, AllIn-take U k fs a.1)
 
-pub AllIn-filter : (U : FactSet) (p : Dot × Body → Bool) (fs : Facts) → AllIn U fs → AllIn U (filter p fs)
+pub AllIn-filter : {X : Type 0} (U : map.FinMap dot_cmp X) (p : Dot × X → Bool) (fs : List (Dot × X)) → AllIn U fs → AllIn U (filter p fs)
 AllIn-filter U p [] a = tt
 AllIn-filter U p (f ∷ fs) a = elim (p f) as (λ t. AllIn U (cond t (f ∷ filter p fs) (filter p fs))) [ true ↦ (a.0, AllIn-filter U p fs a.1) | false ↦ AllIn-filter U p fs a.1 ]
 

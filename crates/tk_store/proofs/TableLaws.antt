@@ -1,10 +1,12 @@
--- A table is seen as what its facts say. Key results:
---   get_bodies, len_bodies        a look-up in the table is one in the set, and both have as many
---   put_bodies, put_home          a fact is put
---   taken_bodies, taken_home      and taken out
---   first_above, none_above       the first fact above a dot
+-- A table is seen as its slots. Key results:
+--   get_slots                     a look-up in the table is one in the slots
+--   shown                         what a look-up returns
+--   put_slots, put_home           a slot is put
+--   taken_slots, taken_home       and taken out
+--   table_put, table_marked, table_skipped, table_taken, table_forgot   the table stays one
+--   walks_on, walks_out           one step of a walk
 --   last_serial_is                the greatest serial of a region
-use Rattle.std.proofs.Common.{◌≡◌, ℕ, ◌+◌, ◌<◌, ◌≤◌, Bool, true, false, cond, ◌&&◌, T, List, [], ◌∷◌, filter, map, length, Option, Some, None, IsSome, is_some, option_map, slice_get, refl, sym, ap, subst, ◌∙◌, inl, inr, arith, Box, Global}
+use Rattle.std.proofs.Common.{◌≡◌, ℕ, ◌+◌, ◌-◌, ◌<◌, ◌≤◌, Bool, true, false, cond, ◌&&◌, T, List, [], ◌∷◌, filter, map, length, Option, Some, None, IsSome, is_some, option_map, slice_get, refl, sym, ap, subst, ◌∙◌, inl, inr, arith, Box, Global}
 use mathlib.Core.Bool.{false≢true}
 use Rattle.std.proofs.lemmas.Bool.{cases_Bool, cond-true, cond-false, cases_lt}
 use Rattle.std.proofs.lemmas.List.{length-map}
@@ -19,14 +21,21 @@ use Rattle.tk_handle.specs.declared.dot.Dot.{Dot}
 use Rattle.tk_handle.specs.Dot.{dot_cmp, dot_cmp_total, dot_cmp-IsAntisymmetric}
 use Rattle.tk_dots.specs.Pages.{IsAbove, IsLeastAbove, IsNext, IsLast}
 use Rattle.tk_fact.specs.declared.body.Body.{Body}
-use Rattle.tk_store.specs.FactSet.{FactSet, Facts}
+use Rattle.tk_store.specs.declared.table.Kept.{Kept}
+use Rattle.tk_store.specs.declared.table.Kept.TheVariants as kept
+use Rattle.tk_store.specs.declared.slot.SlotRef.{SlotRef}
+use Rattle.tk_store.specs.declared.slot.SlotRef.TheVariants as ref
 use Rattle.tk_store.specs.NextDot.{last_serial}
-use Rattle.tk_store.specs.Table.{Boxed, Held, bodies, AreHome}
+use Rattle.tk_store.specs.SlotShown.{shown_slot, HasDot, IsShown, WalksOn}
+use Rattle.tk_store.specs.Slots.{Slot, Slots, Held, Skipped, held_slot, held_in}
+use Rattle.tk_store.specs.Table.{Boxed, KeptMap, Shows, slot_of, slots_of, AreHome, IsTable}
 use Rattle.tk_store.specs.Walk.{is_above, above}
 use Rattle.tk_store.proofs.EntryLaws.{AllIn-entries}
 use Rattle.tk_store.proofs.FactSetLaws.{tied}
 use Rattle.tk_store.proofs.NextDotLaws.{at_most, at_most_last_serial}
-use Rattle.tk_store.proofs.PutLaws.{some_injective, none_is_not_some}
+use Rattle.tk_store.proofs.PutLaws.{some_injective, none_is_not_some, len_new}
+use Rattle.tk_store.proofs.WalkLaws.{goes_on, at_end}
+use Rattle.tk_store.proofs.SlotLaws.{get_held, held_put, held_skip, held_taken, held_most, held_none, remove_free, len_less}
 
 both : (a b : Bool) → T (a && b) → T a × T b
 both true b h = (tt, h)
@@ -38,37 +47,34 @@ is_true false h = absurd h
 
 -- ---- what the facts say
 
-abbrev said : Dot × Boxed → Dot × Body
-said e = (e.0, e.1.value.1)
+abbrev said : Dot × Kept → Dot × Slot
+said e = (e.0, slot_of e.1)
 
-below_said : (d : Dot) (es : List (Dot × Boxed)) → below_all dot_cmp d (map said es) ≡ below_all dot_cmp d es
+below_said : (d : Dot) (es : List (Dot × Kept)) → below_all dot_cmp d (map said es) ≡ below_all dot_cmp d es
 below_said d [] = refl
 below_said d (e ∷ es) = ap (λ b. is_lt (dot_cmp d e.0) && b) (below_said d es)
 
-sorted_said : (es : List (Dot × Boxed)) → sets.is_sorted dot_cmp (map said es) ≡ sets.is_sorted dot_cmp es
+sorted_said : (es : List (Dot × Kept)) → sets.is_sorted dot_cmp (map said es) ≡ sets.is_sorted dot_cmp es
 sorted_said [] = refl
 sorted_said (e ∷ es) = ap (λ b. b && sets.is_sorted dot_cmp (map said es)) (below_said e.0 es) ∙ ap (λ b. below_all dot_cmp e.0 es && b) (sorted_said es)
 
-find_said : (q : Dot) (es : List (Dot × Boxed)) → find dot_cmp q (map said es) ≡ option_map (λ b. b.value.1) (find dot_cmp q es)
+find_said : (q : Dot) (es : List (Dot × Kept)) → find dot_cmp q (map said es) ≡ option_map slot_of (find dot_cmp q es)
 find_said q [] = refl
 find_said q (e ∷ es) =
-    elim (eq_by_cmp dot_cmp q e.0) as (λ t. cond t (Some e.1.value.1) (find dot_cmp q (map said es)) ≡ option_map (λ b. b.value.1) (cond t (Some e.1) (find dot_cmp q es))) [
+    elim (eq_by_cmp dot_cmp q e.0) as (λ t. cond t (Some (slot_of e.1)) (find dot_cmp q (map said es)) ≡ option_map slot_of (cond t (Some e.1) (find dot_cmp q es))) [
       | true ↦ refl
       | false ↦ find_said q es
     ]
 
-entries_said : (m : Held) → sets.entries (bodies m) ≡ map said (sets.entries m)
+entries_said : (m : KeptMap) → sets.entries (slots_of m) ≡ map said (sets.entries m)
 entries_said m = sets.entries-from_sorted dot_cmp _ (subst T (sym (sorted_said (sets.entries m))) (sets.entries_sorted m))
 
-pub get_bodies : (m : Held) (q : Dot) → sets.get (bodies m) q ≡ option_map (λ b. b.value.1) (sets.get m q)
-get_bodies m q = sets.get-entries (bodies m) q ∙ ap (find dot_cmp q) (entries_said m) ∙ find_said q (sets.entries m) ∙ ap (option_map (λ b. b.value.1)) (sym (sets.get-entries m q))
+pub get_slots : (m : KeptMap) (q : Dot) → sets.get (slots_of m) q ≡ option_map slot_of (sets.get m q)
+get_slots m q = sets.get-entries (slots_of m) q ∙ ap (find dot_cmp q) (entries_said m) ∙ find_said q (sets.entries m) ∙ ap (option_map slot_of) (sym (sets.get-entries m q))
 
-pub len_bodies : (m : Held) → sets.len m ≡ sets.len (bodies m)
-len_bodies m = sets.len-entries m ∙ sym (length-map (sets.entries m) said) ∙ ap length (sym (entries_said m)) ∙ sym (sets.len-entries (bodies m))
-
-pub bodies_empty : (m : Held) → m ≡ sets.empty → bodies m ≡ sets.empty
-bodies_empty m none = sets.same_map dot_cmp_total dot_cmp-IsAntisymmetric _ _ (λ q.
-    get_bodies m q ∙ ap (option_map (λ b. b.value.1)) (ap (λ (x : Held). sets.get x q) none ∙ sets.get-empty dot_cmp q) ∙ sym (sets.get-empty dot_cmp q))
+pub slots_none : (m : KeptMap) → m ≡ sets.empty → slots_of m ≡ sets.empty
+slots_none m none = sets.same_map dot_cmp_total dot_cmp-IsAntisymmetric _ _ (λ q.
+    get_slots m q ∙ ap (option_map slot_of) (ap (λ (x : KeptMap). sets.get x q) none ∙ sets.get-empty dot_cmp q) ∙ sym (sets.get-empty dot_cmp q))
 
 some_of : {A B : Type 0} (f : A → B) (o : Option A) → IsSome (option_map f o) → IsSome o
 some_of f None h = h
@@ -78,59 +84,169 @@ of_some : {A B : Type 0} (f : A → B) (o : Option A) → IsSome o → IsSome (o
 of_some f None h = h
 of_some f (Some a) h = refl
 
-module _ (m : Held) (F : FactSet) (seen : bodies m ≡ F) where
-  at : (q : Dot) → sets.get F q ≡ option_map (λ b. b.value.1) (sets.get m q)
-  at q = ap (λ (s : FactSet). sets.get s q) (sym seen) ∙ get_bodies m q
+module _ (m : KeptMap) (F : Slots) (seen : slots_of m ≡ F) where
+  pub at : (q : Dot) → sets.get F q ≡ option_map slot_of (sets.get m q)
+  at q = ap (λ (s : Slots). sets.get s q) (sym seen) ∙ get_slots m q
 
   pub held_there : (q : Dot) → IsSome (sets.get F q) → IsSome (sets.get m q)
   held_there q h = some_of _ (sets.get m q) (subst IsSome (at q) h)
 
-  -- a look-up gives the fact
-  pub got : (home : AreHome m) (d : Dot) (b : Boxed) → sets.get m d ≡ Some b → Some b.value ≡ option_map (λ body. (d, body)) (sets.get F d)
-  got home d b here = ap (λ (x : Dot). Some (x, b.value.1)) (home d b here) ∙ ap (option_map (λ body. (d, body))) (sym (at d ∙ ap (option_map (λ b. b.value.1)) here))
+  -- a free dot is free in the table
+  pub free_there : (q : Dot) → sets.get F q ≡ None → sets.get m q ≡ None
+  free_there q free = by_kept (sets.get m q) (sym (at q) ∙ free)
+    where
+      by_kept : (o : Option Kept) → option_map slot_of o ≡ None → o ≡ None
+      by_kept None h = refl
+      by_kept (Some k) h = absurd (none_is_not_some (slot_of k) (sym h))
 
-  pub got_none : (d : Dot) → sets.get m d ≡ None → ◌≡◌ {A = Option (Dot × Body)} None (option_map (λ body. (d, body)) (sets.get F d))
-  got_none d none = ap (option_map (λ body. (d, body))) (sym (at d ∙ ap (option_map (λ b. b.value.1)) none))
+  -- what is returned is what stands there
+  pub shown_kept : AreHome m → (d : Dot) (r : SlotRef) (k : Kept) → sets.get m d ≡ Some k → Shows r k → (Some (slot_of k) ≡ Some (shown_slot r)) × HasDot d r
+  shown_kept home d (ref.Held f) (kept.Fact b) here shows = (ap (λ (x : Dot × Body). Some (Held x.1)) (sym shows), ap (λ (x : Dot × Body). x.0) shows ∙ home d b here)
+  shown_kept home d (ref.Held f) kept.Skipped here shows = absurd shows
+  shown_kept home d ref.Skipped (kept.Fact b) here shows = absurd shows
+  shown_kept home d ref.Skipped kept.Skipped here shows = (refl, tt)
+
+  pub shown : AreHome m → (d : Dot) (r : SlotRef) (k : Kept) → sets.get m d ≡ Some k → Shows r k → IsShown d (Some r) (sets.get F d)
+  shown home d r k here shows = (let s = shown_kept home d r k here shows in (at d ∙ ap (option_map slot_of) here ∙ s.0, s.1))
+
+  pub shown_none : (d : Dot) → sets.get m d ≡ None → sets.get F d ≡ None
+  shown_none d none = at d ∙ ap (option_map slot_of) none
 
   -- ---- putting and taking out
 
-  module _ (n : Held) (d : Dot) where
-    pub put_bodies : (b : Boxed) → n ≡ sets.insert m d b → bodies n ≡ sets.insert F d b.value.1
-    put_bodies b is = sets.same_map dot_cmp_total dot_cmp-IsAntisymmetric _ _ (λ q.
-        get_bodies n q ∙ ap (option_map (λ b. b.value.1)) (ap (λ (x : Held). sets.get x q) is ∙ sets.get-insert dot_cmp_total m d b q)
-        ∙ mapped (eq_by_cmp dot_cmp q d) (Some b) (sets.get m q) ∙ ap (cond (eq_by_cmp dot_cmp q d) (Some b.value.1)) (sym (at q)) ∙ sym (sets.get-insert dot_cmp_total F d b.value.1 q))
+  module _ (n : KeptMap) (d : Dot) where
+    pub put_slots : (k : Kept) → ((q : Dot) → sets.get n q ≡ cond (eq_by_cmp dot_cmp q d) (Some k) (sets.get m q)) → slots_of n ≡ sets.insert F d (slot_of k)
+    put_slots k is = sets.same_map dot_cmp_total dot_cmp-IsAntisymmetric _ _ (λ q.
+        get_slots n q ∙ ap (option_map slot_of) (is q)
+        ∙ mapped (eq_by_cmp dot_cmp q d) (Some k) (sets.get m q) ∙ ap (cond (eq_by_cmp dot_cmp q d) (Some (slot_of k))) (sym (at q)) ∙ sym (sets.get-insert dot_cmp_total F d (slot_of k) q))
       where
-        mapped : (t : Bool) (o p : Option Boxed) → option_map (λ b. b.value.1) (cond t o p) ≡ cond t (option_map (λ b. b.value.1) o) (option_map (λ b. b.value.1) p)
+        mapped : (t : Bool) (o p : Option Kept) → option_map slot_of (cond t o p) ≡ cond t (option_map slot_of o) (option_map slot_of p)
         mapped true o p = refl
         mapped false o p = refl
 
-    pub put_home : (b : Boxed) → n ≡ sets.insert m d b → b.value.0 ≡ d → AreHome m → AreHome n
-    put_home b is here home q c h = elim (cases_Bool (eq_by_cmp dot_cmp q d)) [
+    pub put_home : (k : Kept) → ((q : Dot) → sets.get n q ≡ cond (eq_by_cmp dot_cmp q d) (Some k) (sets.get m q)) → ((b : Boxed) → k ≡ kept.Fact b → b.value.0 ≡ d) → AreHome m → AreHome n
+    put_home k is here home q c h = elim (cases_Bool (eq_by_cmp dot_cmp q d)) [
       | inl same ↦
-          let e : c ≡ b = some_injective c b (sym h ∙ ap (λ (x : Held). sets.get x q) is ∙ sets.get-insert dot_cmp_total m d b q ∙ cond-true _ _ _ same) in
-          ap (λ (x : Boxed). x.value.0) e ∙ here ∙ sym (tied q d same)
-      | inr apart ↦ home q c (sym (ap (λ (x : Held). sets.get x q) is ∙ sets.get-insert dot_cmp_total m d b q ∙ cond-false _ _ _ apart) ∙ h)
+          let e : k ≡ kept.Fact c = some_injective k (kept.Fact c) (sym (is q ∙ cond-true _ _ _ same) ∙ h) in
+          here c e ∙ sym (tied q d same)
+      | inr apart ↦ home q c (sym (is q ∙ cond-false _ _ _ apart) ∙ h)
     ]
 
-    pub taken_bodies : n ≡ sets.remove m d → bodies n ≡ sets.remove F d
-    taken_bodies is = sets.same_map dot_cmp_total dot_cmp-IsAntisymmetric _ _ (λ q.
-        get_bodies n q ∙ ap (option_map (λ b. b.value.1)) (ap (λ (x : Held). sets.get x q) is ∙ sets.get-remove dot_cmp_total m d q)
+    pub taken_slots : n ≡ sets.remove m d → slots_of n ≡ sets.remove F d
+    taken_slots is = sets.same_map dot_cmp_total dot_cmp-IsAntisymmetric _ _ (λ q.
+        get_slots n q ∙ ap (option_map slot_of) (ap (λ (x : KeptMap). sets.get x q) is ∙ sets.get-remove dot_cmp_total m d q)
         ∙ mapped (eq_by_cmp dot_cmp q d) (sets.get m q) ∙ ap (cond (eq_by_cmp dot_cmp q d) None) (sym (at q)) ∙ sym (sets.get-remove dot_cmp_total F d q))
       where
-        mapped : (t : Bool) (p : Option Boxed) → option_map (λ b. b.value.1) (cond t None p) ≡ cond t None (option_map (λ b. b.value.1) p)
+        mapped : (t : Bool) (p : Option Kept) → option_map slot_of (cond t None p) ≡ cond t None (option_map slot_of p)
         mapped true p = refl
         mapped false p = refl
 
     pub taken_home : n ≡ sets.remove m d → AreHome m → AreHome n
     taken_home is home q c h = elim (cases_Bool (eq_by_cmp dot_cmp q d)) [
-      | inl same ↦ absurd (none_is_not_some c (sym (ap (λ (x : Held). sets.get x q) is ∙ sets.get-remove dot_cmp_total m d q ∙ cond-true _ _ _ same) ∙ h))
-      | inr apart ↦ home q c (sym (ap (λ (x : Held). sets.get x q) is ∙ sets.get-remove dot_cmp_total m d q ∙ cond-false _ _ _ apart) ∙ h)
+      | inl same ↦ absurd (none_is_not_some (kept.Fact c) (sym (ap (λ (x : KeptMap). sets.get x q) is ∙ sets.get-remove dot_cmp_total m d q ∙ cond-true _ _ _ same) ∙ h))
+      | inr apart ↦ home q c (sym (ap (λ (x : KeptMap). sets.get x q) is ∙ sets.get-remove dot_cmp_total m d q ∙ cond-false _ _ _ apart) ∙ h)
     ]
+
+-- ---- a table stays one
+
+pub some_is : {A : Type 0} (o : Option A) → IsSome o → (a : A) × (o ≡ Some a)
+some_is None h = absurd (false≢true h)
+some_is (Some a) h = (a, refl)
+
+-- what holds a fact is known
+pub held_known : (o : Option Slot) → IsSome (held_slot o) → IsSome o
+held_known None h = h
+held_known (Some s) h = refl
+
+-- a value written over one that is there
+pub set_over : (m n : KeptMap) (d : Dot) (k : Kept) → IsSome (sets.get m d) → ((q : Dot) → sets.get n q ≡ cond (eq_by_cmp dot_cmp q d) (option_map (λ _. k) (sets.get m q)) (sets.get m q))
+    → (q : Dot) → sets.get n q ≡ cond (eq_by_cmp dot_cmp q d) (Some k) (sets.get m q)
+set_over m n d k there is q =
+    is q ∙ elim (eq_by_cmp dot_cmp q d) as (λ t. eq_by_cmp dot_cmp q d ≡ t → cond t (option_map (λ _. k) (sets.get m q)) (sets.get m q) ≡ cond t (Some k) (sets.get m q)) [
+      | true ↦ λ same. over (sets.get m q) (subst (λ (x : Dot). IsSome (sets.get m x)) (sym (tied q d same)) there)
+      | false ↦ λ _. refl
+    ] refl
+  where
+    over : (o : Option Kept) → IsSome o → option_map (λ _. k) o ≡ Some k
+    over None h = absurd (false≢true h)
+    over (Some x) h = refl
+
+pub inserted : (m n : KeptMap) (d : Dot) (k : Kept) → n ≡ sets.insert m d k → (q : Dot) → sets.get n q ≡ cond (eq_by_cmp dot_cmp q d) (Some k) (sets.get m q)
+inserted m n d k is q = ap (λ (x : KeptMap). sets.get x q) is ∙ sets.get-insert dot_cmp_total m d k q
+
+pub table_none : (m : KeptMap) → m ≡ sets.empty → IsTable m 0
+table_none m none = record {
+  home = λ d b h. absurd (none_is_not_some (kept.Fact b) (sym (ap (λ (x : KeptMap). sets.get x d) none ∙ sets.get-empty dot_cmp d) ∙ h));
+  counted = sym (ap (λ (s : Slots). sets.len (held_in s)) (slots_none m none) ∙ ap (λ (f : sets.FinMap dot_cmp Body). sets.len f) (held_none sets.empty refl) ∙ sets.len-empty dot_cmp Body);
+}
+
+module _ (m : KeptMap) (held : ℕ) (table : IsTable m held) (F : Slots) (seen : slots_of m ≡ F) where
+  count : held ≡ sets.len (held_in F)
+  count = table.counted ∙ ap (λ (s : Slots). sets.len (held_in s)) seen
+
+  -- no more facts are held than slots are kept
+  pub held_within : held ≤ sets.len m
+  held_within =
+      let most = held_most F in
+      let as_many : sets.len F ≡ sets.len m = ap (λ (s : Slots). sets.len s) (sym seen) ∙ sets.len-entries (slots_of m) ∙ ap length (entries_said m) ∙ length-map (sets.entries m) said ∙ sym (sets.len-entries m) in
+      omega (arith, most, as_many, count)
+
+  module _ (n : KeptMap) (d : Dot) where
+    pub table_put : (b : Boxed) → sets.get F d ≡ None → n ≡ sets.insert m d (kept.Fact b) → b.value.0 ≡ d → IsTable n (held + 1)
+    table_put b free is home = record {
+      home = put_home m F seen n d (kept.Fact b) (inserted m n d (kept.Fact b) is) (λ c e. ap (λ (k : Kept). dot_of k d) (sym e) ∙ home) table.home;
+      counted = ap (λ (k : ℕ). k + 1) count ∙ sym (ap (λ (s : Slots). sets.len (held_in s)) (put_slots m F seen n d (kept.Fact b) (inserted m n d (kept.Fact b) is)) ∙ ap (λ (f : sets.FinMap dot_cmp Body). sets.len f) (held_put F d b.value.1)
+          ∙ len_new (held_in F) d b.value.1 (get_held F d ∙ ap held_slot free));
+    }
+      where
+        dot_of : Kept → Dot → Dot
+        dot_of (kept.Fact c) e = c.value.0
+        dot_of kept.Skipped e = e
+
+    pub table_marked : sets.get F d ≡ None → n ≡ sets.insert m d kept.Skipped → IsTable n held
+    table_marked free is = record {
+      home = put_home m F seen n d kept.Skipped (inserted m n d kept.Skipped is) (λ c e. absurd (no_fact c e)) table.home;
+      counted = count ∙ sym (ap (λ (s : Slots). sets.len (held_in s)) (put_slots m F seen n d kept.Skipped (inserted m n d kept.Skipped is)) ∙ ap (λ (f : sets.FinMap dot_cmp Body). sets.len f) (held_skip F d ∙ remove_free (held_in F) d (get_held F d ∙ ap held_slot free)));
+    }
+      where
+        no_fact : (c : Boxed) → kept.Skipped ≡ kept.Fact c → ⊥
+        no_fact c e = cc
+
+    pub table_skipped : (x : Body) → held_slot (sets.get F d) ≡ Some x → ((q : Dot) → sets.get n q ≡ cond (eq_by_cmp dot_cmp q d) (Some kept.Skipped) (sets.get m q)) → IsTable n (held - 1)
+    table_skipped x there is = record {
+      home = put_home m F seen n d kept.Skipped is (λ c e. absurd (no_fact c e)) table.home;
+      counted =
+          let len : sets.len (sets.remove (held_in F) d) + 1 ≡ sets.len (held_in F) = len_less (held_in F) d x (get_held F d ∙ there) in
+          let now : sets.len (held_in (slots_of n)) ≡ sets.len (sets.remove (held_in F) d) = ap (λ (s : Slots). sets.len (held_in s)) (put_slots m F seen n d kept.Skipped is) ∙ ap (λ (f : sets.FinMap dot_cmp Body). sets.len f) (held_skip F d) in
+          omega (arith, len, now, count);
+    }
+      where
+        no_fact : (c : Boxed) → kept.Skipped ≡ kept.Fact c → ⊥
+        no_fact c e = cc
+
+    pub table_taken : (x : Body) → held_slot (sets.get F d) ≡ Some x → n ≡ sets.remove m d → IsTable n (held - 1)
+    table_taken x there is = record {
+      home = taken_home m F seen n d is table.home;
+      counted =
+          let len : sets.len (sets.remove (held_in F) d) + 1 ≡ sets.len (held_in F) = len_less (held_in F) d x (get_held F d ∙ there) in
+          let now : sets.len (held_in (slots_of n)) ≡ sets.len (sets.remove (held_in F) d) = ap (λ (s : Slots). sets.len (held_in s)) (taken_slots m F seen n d is) ∙ ap (λ (f : sets.FinMap dot_cmp Body). sets.len f) (held_taken F d) in
+          omega (arith, len, now, count);
+    }
+
+    pub table_forgot : held_slot (sets.get F d) ≡ None → n ≡ sets.remove m d → IsTable n held
+    table_forgot there is = record {
+      home = taken_home m F seen n d is table.home;
+      counted = count ∙ sym (ap (λ (s : Slots). sets.len (held_in s)) (taken_slots m F seen n d is) ∙ ap (λ (f : sets.FinMap dot_cmp Body). sets.len f) (held_taken F d ∙ remove_free (held_in F) d (get_held F d ∙ there)));
+    }
+
+    -- a fact that is held is counted
+    pub some_held : (x : Body) → held_slot (sets.get F d) ≡ Some x → 0 < held
+    some_held x there = let len = len_less (held_in F) d x (get_held F d ∙ there) in omega (arith, len, count)
 
 -- ---- walking
 
 -- what stands in a list below which a dot lies, is above the dot
-below_found : (k : Dot) (es : Facts) (q : Dot) (c : Body) → T (below_all dot_cmp k es) → find dot_cmp q es ≡ Some c → is_lt (dot_cmp k q) ≡ true
+below_found : (k : Dot) (es : List (Dot × Slot)) (q : Dot) (c : Slot) → T (below_all dot_cmp k es) → find dot_cmp q es ≡ Some c → is_lt (dot_cmp k q) ≡ true
 below_found k [] q c low h = absurd (none_is_not_some c h)
 below_found k (e ∷ es) q c low h =
     let l = both _ _ low in
@@ -140,7 +256,7 @@ below_found k (e ∷ es) q c low h =
     ]
 
 -- and it hides none
-found_past : (e : Dot × Body) (es : Facts) (q : Dot) (c : Body) → T (below_all dot_cmp e.0 es) → find dot_cmp q es ≡ Some c → find dot_cmp q (e ∷ es) ≡ Some c
+found_past : (e : Dot × Slot) (es : List (Dot × Slot)) (q : Dot) (c : Slot) → T (below_all dot_cmp e.0 es) → find dot_cmp q es ≡ Some c → find dot_cmp q (e ∷ es) ≡ Some c
 found_past e es q c low h = cond-false _ _ _ (apart (dot_cmp e.0 q) (dot_cmp q e.0) (dot_cmp_total.antisymm q e.0) (below_found e.0 es q c low h)) ∙ h
   where
     apart : (o p : Ordering) → p ≡ ordering_reverse o → is_lt o ≡ true → is_eq p ≡ false
@@ -148,8 +264,8 @@ found_past e es q c low h = cond-false _ _ _ (apart (dot_cmp e.0 q) (dot_cmp q e
     apart Equal p e h = absurd (false≢true h)
     apart Greater p e h = absurd (false≢true h)
 
-first_in : (a : Option Dot) (es : Facts) (d : Dot) (b : Body) → T (sets.is_sorted dot_cmp es) → find dot_cmp d es ≡ Some b → is_above a (d, b) ≡ true
-    → ((q : Dot) (c : Body) → find dot_cmp q es ≡ Some c → is_above a (q, c) ≡ true → is_lt (dot_cmp q d) ≡ false) → slice_get (filter (is_above a) es) 0 ≡ Some (d, b)
+first_in : (a : Option Dot) (es : List (Dot × Slot)) (d : Dot) (b : Slot) → T (sets.is_sorted dot_cmp es) → find dot_cmp d es ≡ Some b → is_above a (d, b) ≡ true
+    → ((q : Dot) (c : Slot) → find dot_cmp q es ≡ Some c → is_above a (q, c) ≡ true → is_lt (dot_cmp q d) ≡ false) → slice_get (filter (is_above a) es) 0 ≡ Some (d, b)
 first_in a [] d b s here up least = absurd (none_is_not_some b here)
 first_in a (e ∷ es) d b s here up least =
     let l = both _ _ s in
@@ -157,7 +273,7 @@ first_in a (e ∷ es) d b s here up least =
       | inl same ↦
           let is : d ≡ e.0 = tied d e.0 same in
           let one : e.1 ≡ b = some_injective e.1 b (sym (cond-true _ _ _ same) ∙ here) in
-          ap (λ t. slice_get (cond t (e ∷ filter (is_above a) es) (filter (is_above a) es)) 0) (moved a e d b is one up) ∙ ap (λ (f : Dot × Body). Some f) (pair e.0 e.1 d b is one)
+          ap (λ t. slice_get (cond t (e ∷ filter (is_above a) es) (filter (is_above a) es)) 0) (moved a e d b is one up) ∙ ap (λ (f : Dot × Slot). Some f) (pair e.0 e.1 d b is one)
       | inr apart ↦
           let later : find dot_cmp d es ≡ Some b = sym (cond-false _ _ _ apart) ∙ here in
           elim (cases_Bool (is_above a e)) [
@@ -168,14 +284,14 @@ first_in a (e ∷ es) d b s here up least =
           ]
     ]
   where
-    moved : (a : Option Dot) (e : Dot × Body) (d : Dot) (b : Body) → d ≡ e.0 → e.1 ≡ b → is_above a (d, b) ≡ true → is_above a e ≡ true
+    moved : (a : Option Dot) (e : Dot × Slot) (d : Dot) (b : Slot) → d ≡ e.0 → e.1 ≡ b → is_above a (d, b) ≡ true → is_above a e ≡ true
     moved None e d b i j up = refl
     moved (Some x) e d b i j up = ap (λ (y : Dot). is_lt (dot_cmp x y)) (sym i) ∙ up
 
-    pair : (x : Dot) (y : Body) (d : Dot) (b : Body) → d ≡ x → y ≡ b → ◌≡◌ {A = Dot × Body} (x, y) (d, b)
-    pair x y d b i j = ap (λ (z : Dot). (z, y)) (sym i) ∙ ap (λ (z : Body). (d, z)) j
+    pair : (x : Dot) (y : Slot) (d : Dot) (b : Slot) → d ≡ x → y ≡ b → ◌≡◌ {A = Dot × Slot} (x, y) (d, b)
+    pair x y d b i j = ap (λ (z : Dot). (z, y)) (sym i) ∙ ap (λ (z : Slot). (d, z)) j
 
-none_in : (a : Option Dot) (es : Facts) → T (sets.is_sorted dot_cmp es) → ((q : Dot) (c : Body) → find dot_cmp q es ≡ Some c → is_above a (q, c) ≡ true → ⊥) → slice_get (filter (is_above a) es) 0 ≡ None
+none_in : (a : Option Dot) (es : List (Dot × Slot)) → T (sets.is_sorted dot_cmp es) → ((q : Dot) (c : Slot) → find dot_cmp q es ≡ Some c → is_above a (q, c) ≡ true → ⊥) → slice_get (filter (is_above a) es) 0 ≡ None
 none_in a [] s none = refl
 none_in a (e ∷ es) s none =
     let l = both _ _ s in
@@ -186,32 +302,37 @@ none_in a (e ∷ es) s none =
           ∙ none_in a es l.1 (λ q c h. none q c (found_past e es q c l.0 h))
     ]
 
-up_of : (a : Option Dot) (q : Dot) (c : Body) → is_above a (q, c) ≡ true → IsAbove a q
+up_of : (a : Option Dot) (q : Dot) (c : Slot) → is_above a (q, c) ≡ true → IsAbove a q
 up_of None q c h = tt
 up_of (Some d) q c h = h
 
-up_is : (a : Option Dot) (q : Dot) (c : Body) → IsAbove a q → is_above a (q, c) ≡ true
+up_is : (a : Option Dot) (q : Dot) (c : Slot) → IsAbove a q → is_above a (q, c) ≡ true
 up_is None q c h = refl
 up_is (Some d) q c h = h
 
-module _ (m : Held) (F : FactSet) (seen : bodies m ≡ F) (home : AreHome m) (after : Option Dot) where
-  there : (q : Dot) (c : Body) → find dot_cmp q (sets.entries F) ≡ Some c → IsSome (sets.get m q)
+module _ (m : KeptMap) (F : Slots) (seen : slots_of m ≡ F) (after : Option Dot) where
+  there : (q : Dot) (c : Slot) → find dot_cmp q (sets.entries F) ≡ Some c → IsSome (sets.get m q)
   there q c h = held_there m F seen q (ap is_some (sets.get-entries F q ∙ h))
 
-  pub first_above : (b : Boxed) → IsNext m after (Some b) → Some b.value ≡ slice_get (above F after) 0
-  first_above b next =
-      let here = got m F seen home next.dot b next.held in
-      let body : sets.get F next.dot ≡ Some b.value.1 = at m F seen next.dot ∙ ap (option_map (λ b. b.value.1)) next.held in
-      here ∙ ap (option_map (λ body. (next.dot, body))) body
-      ∙ sym (first_in after (sets.entries F) next.dot b.value.1 (sets.entries_sorted F) (sym (sets.get-entries F next.dot) ∙ body) (up_is after next.dot b.value.1 next.above)
-      (λ q c h up. next.least q (up_of after q c up) (there q c h)))
+  first : (d : Dot) (k : Kept) → IsNext m after (Some (d, k)) → slice_get (above F after) 0 ≡ Some (d, slot_of k)
+  first d k next =
+      let here : sets.get F d ≡ Some (slot_of k) = at m F seen d ∙ ap (option_map slot_of) next.held in
+      first_in after (sets.entries F) d (slot_of k) (sets.entries_sorted F) (sym (sets.get-entries F d) ∙ here) (up_is after d (slot_of k) next.above)
+      (λ q c h up. next.least q (up_of after q c up) (there q c h))
 
-  pub none_above : IsNext m after None → None ≡ slice_get (above F after) 0
-  none_above next = sym (none_in after (sets.entries F) (sets.entries_sorted F) (λ q c h up. false≢true (sym (ap is_some (next q (up_of after q c up))) ∙ there q c h)))
+  pub walks_on : AreHome m → (d : Dot) (k : Kept) (r : SlotRef) → IsNext m after (Some (d, k)) → Shows r k → WalksOn F after (Some (d, r))
+  walks_on home d k r next shows =
+      let s = shown_kept m F seen home d r k next.held shows in
+      let at_first : slice_get (above F after) 0 ≡ Some (d, shown_slot r) = first d k next ∙ ap (λ (o : Option Slot). option_map (λ (x : Slot). (d, x)) o) s.0 in
+      let on : above F after ≡ (d, shown_slot r) ∷ above F (Some d) = goes_on F after (d, shown_slot r) at_first in
+      (on, s.1, let more = ap length on in omega arith)
+
+  pub walks_out : IsNext m after None → above F after ≡ []
+  walks_out next = at_end F after (none_in after (sets.entries F) (sets.entries_sorted F) (λ q c h up. false≢true (sym (ap is_some (next q (up_of after q c up))) ∙ there q c h)))
 
 -- ---- the greatest serial
 
-pub last_serial_is : (m : Held) (F : FactSet) → bodies m ≡ F → (r n : ℕ) → IsLast m r n → n ≡ last_serial r (sets.entries F)
+pub last_serial_is : (m : KeptMap) (F : Slots) → slots_of m ≡ F → (r n : ℕ) → IsLast m r n → n ≡ last_serial r (sets.entries F)
 last_serial_is m F seen r n last =
     let low : last_serial r (sets.entries F) ≤ n = at_most F r n (sets.entries F) (AllIn-entries F) (λ q b h same. last.greatest q same (held_there m F seen q (ap is_some h))) in
     elim (cases_lt 0 n) [
@@ -219,12 +340,6 @@ last_serial_is m F seen r n last =
       | inr none ↦ omega arith
     ]
   where
-    counts : 0 < n → (o : Option Body) → sets.get F (record { region = r; serial = n }) ≡ o → n ≤ last_serial r (sets.entries F)
+    counts : 0 < n → (o : Option Slot) → sets.get F (record { region = r; serial = n }) ≡ o → n ≤ last_serial r (sets.entries F)
     counts some None h = absurd (false≢true (sym (ap is_some (sym (at m F seen (record { region = r; serial = n })) ∙ h)) ∙ of_some _ (sets.get m (record { region = r; serial = n })) (last.there some)))
     counts some (Some b) h = at_most_last_serial r (sets.entries F) (record { region = r; serial = n }) b refl (sym (sets.get-entries F (record { region = r; serial = n })) ∙ h)
-
--- ---- the result of a look-up that finds a fact
-
-pub body_at : (o : Option Body) (d : Dot) (f : Dot × Body) → Some f ≡ option_map (λ b. (d, b)) o → o ≡ Some f.1
-body_at None d f h = absurd (none_is_not_some f (sym h))
-body_at (Some b) d f h = ap (λ (e : Dot × Body). Some e.1) (sym (some_injective f (d, b) h))

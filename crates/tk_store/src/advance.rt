@@ -1,4 +1,4 @@
-//! Moving the front once a fact was put into the set.
+//! Moving the front once a slot was put at a dot.
 
 ghost use Rattle.std.specs.Prelude.{◌≡◌, ℕ, ◌≤◌, ◌+◌, OnOk, OnErr, IsSome, None};
 ghost use Rattle.std.specs.FinMap as sets;
@@ -10,7 +10,7 @@ use std::alloc::AllocError;
 use tk_handle::{Dot, Serial};
 use tk_vector::VersionVector;
 
-// Returns the end of the run of serials, without a gap, that are held from the dot's on.
+// Returns the end of the run of serials, without a gap, that are known from the dot's on.
 fn run_end(table: &Table, dot: Dot) -> u64
     requires { IsSome (sets.get table.now dot) }
     ensures from { dot.serial ≤ result }
@@ -23,7 +23,7 @@ fn run_end(table: &Table, dot: Dot) -> u64
     for serial in dot.serial()..Serial::GREATEST {
         match Dot::new(dot.region(), serial + 1) {
             Some(next) => {
-                if !table.holds(next) {
+                if !table.knows(next) {
                     return serial;
                 }
             }
@@ -33,7 +33,7 @@ fn run_end(table: &Table, dot: Dot) -> u64
     Serial::GREATEST
 }
 
-// Makes the front of the set without the fact at the dot the front of the whole set.
+// Makes the front of the slots without that at the dot the front of all slots.
 pub(crate) fn advance(table: &Table, front: &mut VersionVector, dot: Dot) -> Result<(), AllocError>
     requires held { IsSome (sets.get table.now dot) }
     requires front { IsFront (sets.remove table.now dot) front.old }

@@ -1,4 +1,4 @@
-//! The facts that a vector does not cover, found without looking at those that it covers.
+//! The dots that a vector does not cover, found without looking at those that it covers.
 
 ghost use Rattle.std.specs.Prelude.{◌≡◌, [], IfOk, OnOk, take, map};
 ghost use Rattle.tk_store.specs.FactSet.{dot_of};
@@ -7,11 +7,10 @@ ghost use Rattle.tk_store.specs.Seeking.{Seeks, GoesOn, noted};
 
 use crate::table::Table;
 use std::alloc::{AllocError, Global};
-use tk_fact::Fact;
 use tk_handle::Dot;
 use tk_vector::VersionVector;
 
-// A step of the search: the cursor from which the search goes on, and whether the fact there is one
+// A step of the search: the cursor from which the search goes on, and whether the dot there is one
 // that the vector does not cover.
 #[derive(Clone, Copy)]
 pub(crate) struct Step {
@@ -19,24 +18,24 @@ pub(crate) struct Step {
     is_beyond: bool,
 }
 
-// Returns the step at a fact: to the fact itself, or to the last dot of its region that the vector
-// covers.
-fn step_at(vector: &VersionVector, fact: &Fact) -> Step
-    ensures { GoesOn vector.now fact.now.0 result.at result.is_beyond }
+// Returns the step at a dot that is known: to the dot itself, or to the last dot of its region that
+// the vector covers.
+fn step_at(vector: &VersionVector, dot: Dot) -> Step
+    ensures { GoesOn vector.now dot result.at result.is_beyond }
 {
-    let entry = vector.get(fact.dot.region());
-    if fact.dot.serial() > entry {
+    let entry = vector.get(dot.region());
+    if dot.serial() > entry {
         return Step {
-            at: fact.dot,
+            at: dot,
             is_beyond: true,
         };
     }
-    match Dot::new(fact.dot.region(), entry) {
+    match Dot::new(dot.region(), entry) {
         Some(last) => Step {
             at: last,
             is_beyond: false,
         },
-        None => unreachable!(),
+        None => unreachable!("the entry is not below the dot's serial"),
     }
 }
 
@@ -45,7 +44,7 @@ fn next_step(table: &Table, vector: &VersionVector, after: Option<Dot>) -> Optio
     ensures { Seeks table.now vector.now after result }
 {
     match table.next_after(after) {
-        Some(fact) => Some(step_at(vector, fact)),
+        Some(next) => Some(step_at(vector, next.0)),
         None => None,
     }
 }

@@ -4,27 +4,31 @@ use crate::table::Table;
 use std::alloc::{AllocError, Global};
 use std::marker::Model;
 use tk_fact::Fact;
+use tk_handle::Moment;
 use tk_vector::VersionVector;
 
 /// A set of facts that each pass their check, no two at one dot.
+///
+/// A store may skip a fact that it is no longer kept for: its dot stays known, and the fact is gone
+/// for good. The horizon is the moment up to which families that are over may be skipped.
 #[derive(Drop)]
 pub struct FactStore {
     facts: Table,
-    // The front: to each region, the serial up to which no fact is missing.
+    // The front: to each region, the serial up to which no dot is unknown.
     front: VersionVector,
+    horizon: Moment,
     // The allocator for copies that a join makes.
     alloc: Global,
 }
 
 impl Model for FactStore {
-    ghost use Rattle.tk_store.specs.FactSet.{coded_facts};
-    ghost use Rattle.tk_store.specs.Store.{Store, IsKept};
+    ghost use Rattle.tk_store.specs.StoreFields.{StoreFields, coded_store, IsKept};
 
-    ghost Value = { Store };
+    ghost Value = { StoreFields };
 
-    ghost coded = { coded_facts };
+    ghost coded = { coded_store };
 
-    ghost view = { λ s. s.facts };
+    ghost view = { λ s. record { slots = s.facts; horizon = s.horizon } };
 
     ghost invariant = { λ s. IsKept s.facts s.front };
 }
@@ -32,47 +36,73 @@ impl Model for FactStore {
 /// The outcome of an addition.
 #[derive(Clone, Copy, PartialEq, Eq)]
 pub enum Added {
-    /// The dot was free.
+    /// The dot was unknown.
     New,
-    /// The fact was held already.
+    /// The dot was known: the fact was held already, or is skipped.
     Held,
 }
 
-/// The reason why a fact was not added.
+/// The reason why a fact was not added, or a dot not skipped.
 #[derive(Clone, Copy, Debug, PartialEq, Eq)]
 pub enum AddError {
-    /// Another body is held at the dot: a conflict.
+    /// What stands at the dot does not agree: a conflict.
     Conflict,
-    /// The dot was free, but memory ran out.
+    /// The dot was unknown, but memory ran out.
     Memory,
 }
 
-ghost use Rattle.std.specs.Prelude.{◌≡◌, ◌≤◌, IfOk, OnOk, OnErr, None, take, map, slice_get};
+ghost use Rattle.std.specs.Prelude.{
+  ◌≡◌,
+  ◌≢◌,
+  ◌≤◌,
+  IfOk,
+  OnOk,
+  OnErr,
+  Err,
+  None,
+  Some,
+  true,
+  false,
+  take,
+  map,
+  slice_get,
+};
 ghost use Rattle.std.specs.Option.{SomeIff, option_map, option_copied};
 ghost use Rattle.std.specs.FinMap as sets;
 ghost use Rattle.tk_fact.specs.Check.{refusal_of};
 ghost use Rattle.tk_handle.specs.Ranges.{greatest_serial};
-ghost use Rattle.tk_store.specs.FactSet.{IsFactSet, dot_of};
-ghost use Rattle.tk_store.specs.Store.{facts_of, known_in, IsKept};
-ghost use Rattle.tk_store.specs.Adding.{Adds};
+ghost use Rattle.tk_store.specs.Adding.{AddsTo, HasFact, RefusesFact};
 ghost use Rattle.tk_store.specs.Beyond.{beyond};
+ghost use Rattle.tk_store.specs.FactSet.{IsFactSet, dot_of};
 ghost use Rattle.tk_store.specs.Front.{IsFront};
-ghost use Rattle.tk_store.specs.Walk.{above};
 ghost use Rattle.tk_store.specs.NextDot.{next_dot, next_serial};
+ghost use Rattle.tk_store.specs.Skipping.{Skips};
+ghost use Rattle.tk_store.specs.SlotShown.{IsShown, shown_slot};
+ghost use Rattle.tk_store.specs.Slots.{Held, Skipped, is_skipped, without_fact};
+ghost use Rattle.tk_store.specs.StoreFields.{
+  empty_store,
+  held_facts,
+  with_horizon,
+  IsKept,
+};
+ghost use Rattle.tk_store.specs.Walk.{above};
+ghost use Rattle.tk_store.specs.declared.store.AddError.TheVariants as error;
 
 use crate::advance::advance;
 use crate::since::dots_beyond;
-use crate::walk::Facts;
+use crate::slot::SlotRef;
+use crate::walk::{Facts, next_fact};
 use tk_handle::{Dot, RegionNumber};
 
 impl FactStore {
-    /// Returns a store without facts.
+    /// Returns a store that knows no dot, with the horizon 0.
     pub fn new(alloc: Global) -> FactStore
-        ensures { result ≡ sets.empty }
+        ensures { result ≡ empty_store }
     {
         FactStore {
             facts: Table::new(alloc),
             front: VersionVector::new(alloc),
+            horizon: first_moment(),
             alloc,
         }
     }
@@ -81,26 +111,33 @@ impl FactStore {
         self.alloc
     }
 
+    pub(crate) fn table(&self) -> &Table
+        ensures { result.now ≡ self.now.slots }
+    {
+        &self.facts
+    }
+
     /// Gives a caller's proof the fact that each fact held passes its check. Does nothing at run
     /// time.
     pub fn known(&self)
-        ensures { IsFactSet (facts_of self.now) }
+        ensures { IsFactSet (held_facts self.now) }
     {
         let _facts = &self.facts;
     }
 
     /// Adds a fact that passes its check.
     ///
-    /// If the fact is refused, it is dropped, and the set is unchanged.
+    /// A fact whose dot is skipped is dropped if it may be skipped, and refused if it lasts. If the
+    /// fact is refused, it is dropped, and the store is unchanged.
     pub fn add(&mut self, fact: Fact) -> Result<Added, AddError>
         requires { refusal_of fact.1 ≡ None }
-        ensures { Adds self.old fact result self.new }
+        ensures { AddsTo self.old fact result self.new }
     {
-        match self.facts.get(fact.dot) {
-            Some(held) => {
-                let is_held = held.body.same(&fact.body);
+        match self.facts.slot(fact.dot) {
+            Some(slot) => {
+                let has = has_fact(&slot, &fact);
                 drop(fact);
-                if is_held {
+                if has {
                     return Ok(Added::Held);
                 }
                 Err(AddError::Conflict)
@@ -112,53 +149,111 @@ impl FactStore {
         }
     }
 
+    /// Skips a dot: a fact that is held there is dropped, and none comes there again.
+    ///
+    /// A fact that lasts is not skipped. If the dot is known, the call takes no memory.
+    pub fn skip(&mut self, dot: Dot) -> Result<Added, AddError>
+        ensures skips { Skips self.old dot result self.new }
+        ensures known { sets.get self.old.slots dot ≢ None → result ≢ Err error.Memory }
+    {
+        match self.facts.slot(dot) {
+            Some(SlotRef::Held(fact)) => {
+                if !fact.body.is_passing() {
+                    return Err(AddError::Conflict);
+                }
+                self.facts.skip(dot);
+                Ok(Added::Held)
+            }
+            Some(SlotRef::Skipped) => Ok(Added::Held),
+            None => match skip_new(&mut self.facts, &mut self.front, dot) {
+                Ok(()) => Ok(Added::New),
+                Err(_) => Err(AddError::Memory),
+            },
+        }
+    }
+
+    /// Returns whether the dot is skipped.
+    pub fn skipped(&self, dot: Dot) -> bool
+        ensures { result ≡ is_skipped self.now.slots dot }
+    {
+        self.facts.is_marked(dot)
+    }
+
+    /// Returns what stands at the dot: a fact at this dot, a mark, or `None` if the dot is unknown.
+    pub fn slot(&self, dot: Dot) -> Option<SlotRef<'_>>
+        ensures { IsShown dot result (sets.get self.now.slots dot) }
+    {
+        self.facts.slot(dot)
+    }
+
+    /// Returns the horizon: the moment up to which families that are over may be skipped.
+    pub fn horizon(&self) -> Moment
+        ensures { result ≡ self.now.horizon }
+    {
+        self.horizon
+    }
+
+    /// Raises the horizon to the moment, if that is later.
+    pub fn raise_horizon(&mut self, moment: Moment)
+        ensures { self.new ≡ with_horizon self.old moment }
+    {
+        if self.horizon.seconds() < moment.seconds() {
+            self.horizon = moment;
+        }
+    }
+
     /// Takes the fact at the dot out and returns it, which undoes an addition.
     ///
     /// Takes no memory. If there is no fact at the dot, the method returns `None` and changes
     /// nothing.
     pub fn take_back(&mut self, dot: Dot) -> Option<Fact>
         ensures fact { result
-            ≡ option_map (λ body. (dot, body)) (sets.get (facts_of self.old) dot) }
-        ensures rest { self.new ≡ sets.remove self.old dot }
+            ≡ option_map (λ body. (dot, body)) (sets.get (held_facts self.old) dot) }
+        ensures rest { self.new.slots
+            ≡ without_fact self.old.slots dot (sets.get self.old.slots dot) }
+        ensures horizon { self.new.horizon ≡ self.old.horizon }
     {
-        self.front.lower(dot.region(), dot.serial() - 1);
-        self.facts.take(dot)
+        let taken = self.facts.take(dot);
+        if taken.is_some() {
+            self.front.lower(dot.region(), dot.serial() - 1);
+        }
+        taken
     }
 
     /// Returns the fact at the dot.
     pub fn get(&self, dot: Dot) -> Option<&Fact>
         ensures { option_copied result
-            ≡ option_map (λ body. (dot, body)) (sets.get (facts_of self.now) dot) }
+            ≡ option_map (λ body. (dot, body)) (sets.get (held_facts self.now) dot) }
     {
         self.facts.get(dot)
     }
 
-    /// Returns the number of facts.
+    /// Returns the number of facts that are held.
     pub fn len(&self) -> u64
-        ensures { result ≡ sets.len (facts_of self.now) }
+        ensures { result ≡ sets.len (held_facts self.now) }
     {
         self.facts.len()
     }
 
-    /// Returns the front: to each region the greatest serial such that all from 1 to it are held.
+    /// Returns the front: to each region the greatest serial such that all from 1 to it are known.
     pub fn vector(&self) -> &VersionVector
-        ensures { IsFront (known_in self.now) result.now }
+        ensures { IsFront self.now.slots result.now }
     {
         &self.front
     }
 
     /// Returns the held fact with the least dot above `after`, or with the least dot if `after` is
-    /// `None`.
+    /// `None`. Costs a look-up, and one more for each skipped dot in between.
     pub fn next_after(&self, after: Option<Dot>) -> Option<&Fact>
-        ensures { option_copied result ≡ slice_get (above (facts_of self.now) after) 0 }
+        ensures { option_copied result ≡ slice_get (above (held_facts self.now) after) 0 }
     {
-        self.facts.next_after(after)
+        next_fact(&self.facts, after)
     }
 
-    /// Returns an iterator over the facts, ascending by dot. Each fact is looked up when it is
-    /// reached.
+    /// Returns an iterator over the facts that are held, ascending by dot. Each fact is looked up
+    /// when it is reached.
     pub fn facts(&self) -> Facts<'_>
-        ensures { result ≡ sets.entries (facts_of self.now) }
+        ensures { result ≡ sets.entries (held_facts self.now) }
     {
         Facts {
             store: self,
@@ -166,10 +261,10 @@ impl FactStore {
         }
     }
 
-    /// Returns the first dots that the vector does not cover, above a cursor, ascending, at most
-    /// `limit`.
+    /// Returns the first known dots that the vector does not cover, above a cursor, ascending, at
+    /// most `limit`.
     ///
-    /// Costs one or two look-ups for each of them, and for each region with facts.
+    /// Costs one or two look-ups for each of them, and for each region with dots.
     pub fn since(
         &self,
         alloc: Global,
@@ -179,27 +274,49 @@ impl FactStore {
     ) -> Result<Vec<Dot>, AllocError>
         ensures { IfOk result
             (λ dots. dots.items ≡ take limit
-            (map dot_of (beyond (known_in self.now) vector.now after))) }
+            (map dot_of (beyond self.now.slots vector.now after))) }
     {
         dots_beyond(alloc, &self.facts, vector, after, limit)
     }
 
-    /// Returns the dot of the region's next fact: one past its greatest serial. Returns `None` if
-    /// that serial is the greatest there is.
+    /// Returns the dot of the region's next fact: one past its greatest serial that is known.
+    /// Returns `None` if that serial is the greatest there is.
     pub fn next_dot(&self, region: RegionNumber) -> Option<Dot>
-        ensures { SomeIff result (next_serial (known_in self.now) region ≤ greatest_serial)
-            (next_dot (known_in self.now) region) }
+        ensures { SomeIff result (next_serial self.now.slots region ≤ greatest_serial)
+            (next_dot self.now.slots region) }
     {
         Dot::new(region, self.facts.last_serial(region) + 1)
     }
 }
 
-// Adds a fact at a dot that is free. If memory runs out, the fact is taken out again.
+// Returns the least moment.
+fn first_moment() -> Moment
+    ensures { result ≡ 0 }
+{
+    match Moment::new(0) {
+        Some(moment) => moment,
+        None => unreachable!("0 is in range"),
+    }
+}
+
+// Returns whether a slot at the fact's dot has the fact: holds it, or is a mark and the fact may be
+// skipped.
+fn has_fact(slot: &SlotRef<'_>, fact: &Fact) -> bool
+    ensures has { result ≡ true → HasFact fact.now.1 (Some (shown_slot slot.now)) }
+    ensures refuses { result ≡ false → RefusesFact fact.now.1 (Some (shown_slot slot.now)) }
+{
+    match slot {
+        SlotRef::Held(held) => held.body.same(&fact.body),
+        SlotRef::Skipped => fact.body.is_passing(),
+    }
+}
+
+// Adds a fact at a dot that is unknown. If memory runs out, the fact is taken out again.
 fn add_new(facts: &mut Table, front: &mut VersionVector, fact: Fact) -> Result<(), AllocError>
     requires free { sets.get facts.old fact.0 ≡ None }
     requires passes { refusal_of fact.1 ≡ None }
     requires kept { IsKept facts.old front.old }
-    ensures ok { OnOk result (facts.new ≡ sets.insert facts.old fact.0 fact.1) }
+    ensures ok { OnOk result (facts.new ≡ sets.insert facts.old fact.0 (Held fact.1)) }
     ensures err { OnErr result (facts.new ≡ facts.old) }
     ensures kept { IsKept facts.new front.new }
 {
@@ -207,6 +324,22 @@ fn add_new(facts: &mut Table, front: &mut VersionVector, fact: Fact) -> Result<(
     facts.put(fact)?;
     if let Err(error) = advance(facts, front, dot) {
         drop(facts.take(dot));
+        return Err(error);
+    }
+    Ok(())
+}
+
+// Skips a dot that is unknown. If memory runs out, the dot is unknown again.
+fn skip_new(facts: &mut Table, front: &mut VersionVector, dot: Dot) -> Result<(), AllocError>
+    requires free { sets.get facts.old dot ≡ None }
+    requires kept { IsKept facts.old front.old }
+    ensures ok { OnOk result (facts.new ≡ sets.insert facts.old dot Skipped) }
+    ensures err { OnErr result (facts.new ≡ facts.old) }
+    ensures kept { IsKept facts.new front.new }
+{
+    facts.mark(dot)?;
+    if let Err(error) = advance(facts, front, dot) {
+        facts.forget(dot);
         return Err(error);
     }
     Ok(())

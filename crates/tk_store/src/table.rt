@@ -1,4 +1,4 @@
-//! Facts in a map by dot.
+//! Slots in a map by dot.
 
 use std::alloc::{AllocError, Global};
 use std::marker::Model;
@@ -6,42 +6,67 @@ use tk_dots::DotMap;
 use tk_fact::Fact;
 use tk_handle::Dot;
 
-// A map from dots to facts, each fact at its own dot.
+// What is kept at a dot: a fact in memory of its own, or the mark that one was skipped.
+#[derive(Drop)]
+pub(crate) enum Kept {
+    Fact(Box<Fact>),
+    Skipped,
+}
+
+// A map from dots to slots, each fact at its own dot.
 #[derive(Drop)]
 pub(crate) struct Table {
-    held: DotMap<Box<Fact>>,
+    kept: DotMap<Kept>,
+    // The number of facts: of all that is kept but the marks.
+    held: u64,
     alloc: Global,
 }
 
 impl Model for Table {
-    ghost use Rattle.tk_store.specs.FactSet.{FactSet, coded_facts};
-    ghost use Rattle.tk_store.specs.Table.{bodies, AreHome};
+    ghost use Rattle.std.specs.FinMap as sets;
+    ghost use Rattle.tk_handle.specs.Dot.{coded_dot};
+    ghost use Rattle.tk_store.specs.Slots.{Slots, coded_slot};
+    ghost use Rattle.tk_store.specs.Table.{slots_of, IsTable};
 
-    ghost Value = { FactSet };
+    ghost Value = { Slots };
 
-    ghost coded = { coded_facts };
+    ghost coded = { sets.code coded_dot coded_slot };
 
-    ghost view = { λ t. bodies t.held };
+    ghost view = { λ t. slots_of t.kept };
 
-    ghost invariant = { λ t. AreHome t.held };
+    ghost invariant = { λ t. IsTable t.kept t.held };
 }
 
-ghost use Rattle.std.specs.Prelude.{◌≡◌, ◌≤◌, OnOk, OnErr, IsSome, is_some, slice_get};
+ghost use Rattle.std.specs.Prelude.{◌≡◌, ◌≤◌, OnOk, OnErr, IsSome, None, Some, is_some};
 ghost use Rattle.std.specs.Option.{option_map, option_copied};
 ghost use Rattle.std.specs.FinMap as sets;
 ghost use Rattle.tk_handle.specs.declared.dot.Dot.{Dot as the_dot};
 ghost use Rattle.tk_handle.specs.Ranges.{greatest_serial};
-ghost use Rattle.tk_store.specs.Walk.{above};
+ghost use Rattle.tk_store.specs.Slots.{Held, Skipped, held_in, held_slot, is_skipped_slot, without_fact};
+ghost use Rattle.tk_store.specs.SlotShown.{IsShown, WalksOn};
+ghost use Rattle.tk_store.specs.Table.{Shows};
 ghost use Rattle.tk_store.specs.NextDot as next;
 
+use crate::slot::SlotRef;
 use tk_handle::RegionNumber;
+
+// Returns what is kept as a slot.
+fn slot_of(kept: &Kept) -> SlotRef<'_>
+    ensures { Shows result kept.now }
+{
+    match kept {
+        Kept::Fact(fact) => SlotRef::Held(&**fact),
+        Kept::Skipped => SlotRef::Skipped,
+    }
+}
 
 impl Table {
     pub(crate) fn new(alloc: Global) -> Table
         ensures { result ≡ sets.empty }
     {
         Table {
-            held: DotMap::new(alloc),
+            kept: DotMap::new(alloc),
+            held: 0,
             alloc,
         }
     }
@@ -50,66 +75,128 @@ impl Table {
     pub(crate) fn known(&self)
         ensures { (d : the_dot) → IsSome (sets.get self.now d) → d.serial ≤ greatest_serial }
     {
-        self.held.known();
+        self.kept.known();
     }
 
-    pub(crate) fn get(&self, dot: Dot) -> Option<&Fact>
-        ensures { option_copied result ≡ option_map (λ body. (dot, body)) (sets.get self.now dot) }
+    // Returns what stands at the dot.
+    pub(crate) fn slot(&self, dot: Dot) -> Option<SlotRef<'_>>
+        ensures { IsShown dot result (sets.get self.now dot) }
     {
-        match self.held.get(dot) {
-            Some(fact) => Some(&**fact),
+        match self.kept.get(dot) {
+            Some(kept) => Some(slot_of(kept)),
             None => None,
         }
     }
 
-    pub(crate) fn holds(&self, dot: Dot) -> bool
+    // Returns the fact at the dot.
+    pub(crate) fn get(&self, dot: Dot) -> Option<&Fact>
+        ensures { option_copied result
+            ≡ option_map (λ body. (dot, body)) (held_slot (sets.get self.now dot)) }
+    {
+        match self.slot(dot) {
+            Some(SlotRef::Held(fact)) => Some(fact),
+            Some(SlotRef::Skipped) => None,
+            None => None,
+        }
+    }
+
+    // Returns whether the dot is known.
+    pub(crate) fn knows(&self, dot: Dot) -> bool
         ensures { result ≡ is_some (sets.get self.now dot) }
     {
-        self.get(dot).is_some()
+        self.slot(dot).is_some()
     }
 
-    pub(crate) fn len(&self) -> u64
-        ensures { result ≡ sets.len self.now }
+    // Returns whether a mark is at the dot.
+    pub(crate) fn is_marked(&self, dot: Dot) -> bool
+        ensures { result ≡ is_skipped_slot (sets.get self.now dot) }
     {
-        self.held.len()
+        matches!(self.slot(dot), Some(SlotRef::Skipped))
     }
 
-    // Puts a fact at its dot.
+    // Returns the number of facts.
+    pub(crate) fn len(&self) -> u64
+        ensures { result ≡ sets.len (held_in self.now) }
+    {
+        self.held
+    }
+
+    // Puts a fact at its dot, which is unknown.
     pub(crate) fn put(&mut self, fact: Fact) -> Result<(), AllocError>
-        ensures ok { OnOk result (self.new ≡ sets.insert self.old fact.0 fact.1) }
+        requires { sets.get self.old fact.0 ≡ None }
+        ensures ok { OnOk result (self.new ≡ sets.insert self.old fact.0 (Held fact.1)) }
         ensures err { OnErr result (self.new ≡ self.old) }
     {
+        if self.kept.len() == u64::MAX {
+            return Err(AllocError);
+        }
         let dot = fact.dot;
         let held = Box::new(self.alloc, fact)?;
-        self.held.put(dot, held)
+        self.kept.put(dot, Kept::Fact(held))?;
+        self.held += 1;
+        Ok(())
     }
 
-    // Takes the fact at the dot out. Takes no memory.
+    // Puts a mark at a dot that is unknown.
+    pub(crate) fn mark(&mut self, dot: Dot) -> Result<(), AllocError>
+        requires { sets.get self.old dot ≡ None }
+        ensures ok { OnOk result (self.new ≡ sets.insert self.old dot Skipped) }
+        ensures err { OnErr result (self.new ≡ self.old) }
+    {
+        self.kept.put(dot, Kept::Skipped)
+    }
+
+    // Puts a mark in place of the fact at the dot. Takes no memory.
+    pub(crate) fn skip(&mut self, dot: Dot)
+        requires { IsSome (held_slot (sets.get self.old dot)) }
+        ensures { self.new ≡ sets.insert self.old dot Skipped }
+    {
+        self.kept.set(dot, Kept::Skipped);
+        self.held -= 1;
+    }
+
+    // Takes the fact at the dot out. A mark stays. Takes no memory.
     pub(crate) fn take(&mut self, dot: Dot) -> Option<Fact>
-        ensures fact { result ≡ option_map (λ body. (dot, body)) (sets.get self.old dot) }
-        ensures rest { self.new ≡ sets.remove self.old dot }
+        ensures fact { result
+            ≡ option_map (λ body. (dot, body)) (held_slot (sets.get self.old dot)) }
+        ensures rest { self.new ≡ without_fact self.old dot (sets.get self.old dot) }
     {
-        match self.held.take(dot) {
-            Some(fact) => Some(Box::into_inner(fact)),
+        if self.is_marked(dot) {
+            return None;
+        }
+        match self.kept.take(dot) {
+            Some(Kept::Fact(fact)) => {
+                self.held -= 1;
+                Some(Box::into_inner(fact))
+            }
+            Some(Kept::Skipped) => unreachable!("a mark stays"),
             None => None,
         }
     }
 
-    // Returns the first fact above `after`, or the first of all if `after` is `None`.
-    pub(crate) fn next_after(&self, after: Option<Dot>) -> Option<&Fact>
-        ensures { option_copied result ≡ slice_get (above self.now after) 0 }
+    // Takes the mark at the dot away, so that the dot is unknown. Takes no memory.
+    pub(crate) fn forget(&mut self, dot: Dot)
+        requires { sets.get self.old dot ≡ Some Skipped }
+        ensures { self.new ≡ sets.remove self.old dot }
     {
-        match self.held.next_after(after) {
-            Some(fact) => Some(&**fact),
+        drop(self.kept.take(dot));
+    }
+
+    // Returns the first slot above `after`, or the first of all if `after` is `None`.
+    pub(crate) fn next_after(&self, after: Option<Dot>) -> Option<(Dot, SlotRef<'_>)>
+        ensures { WalksOn self.now after result }
+    {
+        match self.kept.next_after(after) {
+            Some(next) => Some((next.0, slot_of(next.1))),
             None => None,
         }
     }
 
-    // The greatest serial of the region, or 0.
+    // The greatest serial of the region that is known, or 0.
     pub(crate) fn last_serial(&self, region: RegionNumber) -> u64
         ensures value { result ≡ next.last_serial region (sets.entries self.now) }
         ensures high { result ≤ greatest_serial }
     {
-        self.held.last_serial(region)
+        self.kept.last_serial(region)
     }
 }

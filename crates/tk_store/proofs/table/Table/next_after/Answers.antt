@@ -1,11 +1,8 @@
-use Rattle.std.proofs.Common.{ap, sym, ◌∙◌, Some}
-use Rattle.tk_handle.specs.declared.dot.Dot.{Dot}
-use Rattle.tk_fact.specs.declared.body.Body.{Body}
-use Rattle.tk_store.proofs.TableLaws.{first_above, none_above}
+use Rattle.tk_store.proofs.TableLaws.{walks_on, walks_out}
 use Rattle.tk_store.proofs.table.Table.next_after.Goals as goal
 
 pub returns-in-Some : goal.returns-in-Some
-returns-in-Some c = ap (λ (f : Dot × Body). Some f) c.deref.ensures ∙ first_above c.self.inside.held c.args.self.now c.self.view_is c.self.invariant c.args.after c.in-Some.fact.now c.in-Some.ensures
+returns-in-Some c = walks_on c.self.inside.kept c.args.self.now c.self.view_is c.args.after c.self.invariant.home c.in-Some.next.0 c.in-Some.next.1.now c.slot_of.result c.in-Some.ensures c.slot_of.ensures
 
 pub returns-in-None : goal.returns-in-None
-returns-in-None c = none_above c.self.inside.held c.args.self.now c.self.view_is c.self.invariant c.args.after c.in-None.ensures
+returns-in-None c = walks_out c.self.inside.kept c.args.self.now c.self.view_is c.args.after c.in-None.ensures

@@ -1,28 +1,25 @@
-use Rattle.std.proofs.Common.{ap, sym, subst, ◌∙◌, Result, Ok, Err, OnOk, OnErr}
+use Rattle.std.proofs.Common.{◌≡◌, ap, sym, ◌∙◌, arith}
 use Rattle.std.specs.FinMap as sets
 use Rattle.tk_handle.specs.declared.dot.Dot.{Dot}
 use Rattle.tk_fact.specs.declared.body.Body.{Body}
-use Rattle.tk_store.specs.Table.{Held, AreHome}
-use Rattle.tk_store.proofs.TableLaws.{put_bodies, put_home}
+use Rattle.tk_store.specs.Slots.{Slot, Held}
+use Rattle.tk_store.specs.declared.table.Kept.TheVariants as kept
+use Rattle.tk_store.proofs.TableLaws.{table_put, put_slots, inserted, held_within}
 use Rattle.tk_store.proofs.table.Table.put.Goals as goal
 
-either_way : {A E P Q R : Type 0} (r : Result A E) → OnOk r P → OnErr r Q → (P → R) → (Q → R) → R
-either_way (Ok a) h k f g = f h
-either_way (Err e) h k f g = g k
+pub overflow_add-self : goal.overflow_add-self
+overflow_add-self c =
+    let within = held_within c.self.inside.kept c.self.inside.held c.self.invariant c.args.self.now c.self.view_is in
+    omega (arith, within, c.len.ensures, c.if-len.false)
 
-on_ok : {A E P Q : Type 0} (r : Result A E) → OnOk r P → (P → Q) → OnOk r Q
-on_ok (Ok a) h f = f h
-on_ok (Err e) h f = tt
-
-pub invariant_of-self : goal.invariant_of-self
-invariant_of-self c =
-    let dot = ap (λ (f : Dot × Body). f.0) (c.in_ok-held.ensures.ok ∙ sym c.fact.view_is) in
-    either_way {R = AreHome c.put.new.self} c.put.result c.put.ensures.ok c.put.ensures.err
-    (λ is. put_home c.self.inside.held c.args.self.now c.self.view_is c.put.new.self c.fact.inside.dot c.in_ok-held.held is dot c.self.invariant)
-    (λ same. subst AreHome (sym same) c.self.invariant)
+pub invariant_of-self-2 : goal.invariant_of-self-2
+invariant_of-self-2 c =
+    let at : c.fact.inside.dot ≡ c.args.fact.0 = ap (λ (f : Dot × Body). f.0) c.fact.view_is in
+    table_put c.self.inside.kept c.self.inside.held c.self.invariant c.args.self.now c.self.view_is c.put.new.self c.fact.inside.dot c.in_ok-held.held
+    (ap (sets.get c.args.self.now) at ∙ c.requires) c.in_ok-put.ensures.ok (ap (λ (f : Dot × Body). f.0) (c.in_ok-held.ensures.ok ∙ sym c.fact.view_is))
 
 pub returns-clause-ok : goal.returns-clause-ok
-returns-clause-ok c = on_ok c.put.result c.put.ensures.ok (λ is.
-    put_bodies c.self.inside.held c.args.self.now c.self.view_is c.put.new.self c.fact.inside.dot c.in_ok-held.held is
-    ∙ ap (λ (d : Dot). sets.insert c.args.self.now d c.in_ok-held.held.value.1) (ap (λ (f : Dot × Body). f.0) c.fact.view_is)
-    ∙ ap (λ (b : Body). sets.insert c.args.self.now c.args.fact.0 b) (ap (λ (f : Dot × Body). f.1) c.in_ok-held.ensures.ok))
+returns-clause-ok c =
+    put_slots c.self.inside.kept c.args.self.now c.self.view_is c.put.new.self c.fact.inside.dot (kept.Fact c.in_ok-held.held) (inserted c.self.inside.kept c.put.new.self c.fact.inside.dot (kept.Fact c.in_ok-held.held) c.in_ok-put.ensures.ok)
+    ∙ ap (λ (d : Dot). sets.insert c.args.self.now d (Held c.in_ok-held.held.value.1)) (ap (λ (f : Dot × Body). f.0) c.fact.view_is)
+    ∙ ap (λ (b : Body). sets.insert c.args.self.now c.args.fact.0 (Held b)) (ap (λ (f : Dot × Body). f.1) c.in_ok-held.ensures.ok)
