@@ -16,8 +16,7 @@ use Rattle.std.proofs.lemmas.Bool.Decides.{nat_tests}
 use Rattle.tk_handle.specs.declared.dot.Dot.{Dot}
 use Rattle.tk_handle.specs.Dot.{dot_cmp}
 use Rattle.tk_handle.specs.Ranges.{IsSerial, greatest_serial}
-use Rattle.tk_fact.specs.declared.body.Body.{Body}
-use Rattle.tk_store.specs.FactSet.{FactSet, Facts, AllIn}
+use Rattle.tk_store.specs.FactSet.{AllIn}
 use Rattle.tk_store.specs.Front.{dot_at}
 use Rattle.tk_store.specs.NextDot.{last_serial, next_serial, next_dot}
 use Rattle.tk_store.proofs.EntryLaws.{AllIn-entries}

@@ -2,7 +2,7 @@
 --   compared_start, compared_more, compared_all, compared_not   whether the slots agree
 --   joins_start, joins_fits, joins_passes, joins_next, joins_end, joins_low   joining each slot
 --   sought_start, sought_more, sought_all, sought_not           whether each slot is known
-use Rattle.std.proofs.Common.{◌≡◌, inl, inr, true, false, cond, List, [], ◌∷◌, Option, Some, None, refl, sym, ap, subst, ◌∙◌}
+use Rattle.std.proofs.Common.{◌≡◌, inl, inr, List, [], ◌∷◌, Option, Some, None, refl, sym, ap, subst, ◌∙◌}
 use Rattle.std.proofs.lemmas.Bool.{cases_Bool, cond-true, cond-false}
 use Rattle.std.specs.Ordering.{eq_by_cmp}
 use Rattle.std.specs.FinMap as map

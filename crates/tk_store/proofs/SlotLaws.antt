@@ -3,8 +3,8 @@
 --   held_put, held_skip, held_taken   what is held after a slot was put or taken
 --   held_most                         no more facts are held than slots are known
 --   held_none, held_whole             no slots, and slots none of which is a mark
-use Rattle.std.proofs.Common.{◌≡◌, ℕ, ◌+◌, ◌-◌, ◌≤◌, Bool, true, false, cond, ◌&&◌, T, List, [], ◌∷◌, length, Option, Some, None, IsSome, is_some, refl, sym, ap, subst, ◌∙◌, inl, inr, arith}
-use Rattle.std.proofs.lemmas.Bool.{true≢false, cases_Bool, cond-true, cond-false}
+use Rattle.std.proofs.Common.{◌≡◌, ◌+◌, ◌-◌, ◌≤◌, Bool, true, false, cond, ◌&&◌, T, List, [], ◌∷◌, length, Option, Some, None, is_some, refl, sym, ap, subst, ◌∙◌, arith}
+use Rattle.std.proofs.lemmas.Bool.{true≢false}
 use Rattle.std.proofs.lemmas.Cmp.{tied_itself}
 use Rattle.std.specs.Ordering.{eq_by_cmp, is_eq, is_lt}
 use Rattle.std.specs.declared.cmp.Ordering.{Ordering}
@@ -14,8 +14,7 @@ use Rattle.std.specs.FinMap.Entries.{below_all}
 use Rattle.tk_handle.specs.declared.dot.Dot.{Dot}
 use Rattle.tk_handle.specs.Dot.{dot_cmp, dot_cmp_total, dot_cmp-IsAntisymmetric}
 use Rattle.tk_fact.specs.declared.body.Body.{Body}
-use Rattle.tk_store.specs.FactSet.{FactSet, Facts}
-use Rattle.tk_store.specs.Slots.{Slot, Slots, Held, Skipped, held_slot, is_skipped_slot, is_skipped, held_entry, held_entries, held_in, without_fact}
+use Rattle.tk_store.specs.Slots.{Slot, Slots, Held, Skipped, held_slot, is_skipped_slot, is_skipped, held_entries, held_in, without_fact}
 use Rattle.tk_store.proofs.FactSetLaws.{tied}
 use Rattle.tk_store.proofs.PutLaws.{none_is_not_some}
 

@@ -6,7 +6,7 @@
 --   table_put, table_marked, table_skipped, table_taken, table_forgot   the table stays one
 --   walks_on, walks_out           one step of a walk
 --   last_serial_is                the greatest serial of a region
-use Rattle.std.proofs.Common.{◌≡◌, ℕ, ◌+◌, ◌-◌, ◌<◌, ◌≤◌, Bool, true, false, cond, ◌&&◌, T, List, [], ◌∷◌, filter, map, length, Option, Some, None, IsSome, is_some, option_map, slice_get, refl, sym, ap, subst, ◌∙◌, inl, inr, arith, Box, Global}
+use Rattle.std.proofs.Common.{◌≡◌, ℕ, ◌+◌, ◌-◌, ◌<◌, ◌≤◌, Bool, true, false, cond, ◌&&◌, T, List, [], ◌∷◌, filter, map, length, Option, Some, None, IsSome, is_some, option_map, slice_get, refl, sym, ap, subst, ◌∙◌, inl, inr, arith}
 use mathlib.Core.Bool.{false≢true}
 use Rattle.std.proofs.lemmas.Bool.{cases_Bool, cond-true, cond-false, cases_lt}
 use Rattle.std.proofs.lemmas.List.{length-map}
@@ -19,7 +19,7 @@ use Rattle.std.specs.FinMap.{find}
 use Rattle.std.specs.FinMap.Entries.{below_all}
 use Rattle.tk_handle.specs.declared.dot.Dot.{Dot}
 use Rattle.tk_handle.specs.Dot.{dot_cmp, dot_cmp_total, dot_cmp-IsAntisymmetric}
-use Rattle.tk_dots.specs.Pages.{IsAbove, IsLeastAbove, IsNext, IsLast}
+use Rattle.tk_dots.specs.Pages.{IsAbove, IsNext, IsLast}
 use Rattle.tk_fact.specs.declared.body.Body.{Body}
 use Rattle.tk_store.specs.declared.table.Kept.{Kept}
 use Rattle.tk_store.specs.declared.table.Kept.TheVariants as kept
@@ -27,7 +27,7 @@ use Rattle.tk_store.specs.declared.slot.SlotRef.{SlotRef}
 use Rattle.tk_store.specs.declared.slot.SlotRef.TheVariants as ref
 use Rattle.tk_store.specs.NextDot.{last_serial}
 use Rattle.tk_store.specs.SlotShown.{shown_slot, HasDot, IsShown, WalksOn}
-use Rattle.tk_store.specs.Slots.{Slot, Slots, Held, Skipped, held_slot, held_in}
+use Rattle.tk_store.specs.Slots.{Slot, Slots, Held, held_slot, held_in}
 use Rattle.tk_store.specs.Table.{Boxed, KeptMap, Shows, slot_of, slots_of, AreHome, IsTable}
 use Rattle.tk_store.specs.Walk.{is_above, above}
 use Rattle.tk_store.proofs.EntryLaws.{AllIn-entries}

@@ -11,7 +11,6 @@ use Rattle.std.proofs.lemmas.Cmp.{tied_itself}
 use Rattle.tk_handle.specs.declared.dot.Dot.{Dot}
 use Rattle.tk_handle.specs.Dot.{dot_cmp, dot_cmp_total}
 use Rattle.tk_fact.specs.declared.body.Body.{Body}
-use Rattle.tk_store.specs.FactSet.{FactSet, Facts}
 use Rattle.tk_store.specs.declared.slot.SlotRef.{SlotRef}
 use Rattle.tk_store.specs.declared.slot.SlotRef.TheVariants as ref
 use Rattle.tk_store.specs.Slots.{Slot, Slots, Held, Skipped, held_entries, held_in}

@@ -8,7 +8,7 @@ use Rattle.std.specs.Prelude.{Bool, true, false, List, [], ◌∷◌, Option, So
 use Rattle.std.specs.Coded.{Coded, code_by, coded_option}
 use Rattle.std.specs.FinMap as map
 use Rattle.tk_handle.specs.declared.dot.Dot.{Dot}
-use Rattle.tk_handle.specs.Dot.{dot_cmp, coded_dot}
+use Rattle.tk_handle.specs.Dot.{dot_cmp}
 use Rattle.tk_fact.specs.declared.body.Body.{Body}
 use Rattle.tk_fact.specs.contracts.body.Body.{the_row}
 use Rattle.tk_store.specs.FactSet.{FactSet, Facts}

@@ -1,5 +1,4 @@
-use Rattle.std.proofs.Common.{refl, None, sym}
-use Rattle.std.proofs.lemmas.Bool.{true≢false}
+use Rattle.std.proofs.Common.{refl, None}
 use Rattle.tk_store.specs.Walk.{above}
 use Rattle.tk_store.proofs.SlotJoiningLaws.{sought_start, sought_all}
 use Rattle.tk_store.proofs.WalkLaws.{above_none}

@@ -1,4 +1,4 @@
-use Rattle.std.proofs.Common.{ap, sym, refl, ◌∙◌, max, arith}
+use Rattle.std.proofs.Common.{ap, refl, ◌∙◌, max, arith}
 use Rattle.std.specs.FinMap as map
 use Rattle.tk_store.specs.Slots.{with_slots}
 use Rattle.tk_store.specs.StoreFields.{StoreFields}

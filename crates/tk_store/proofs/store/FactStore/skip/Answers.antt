@@ -1,6 +1,6 @@
-use Rattle.std.proofs.Common.{◌≡◌, ap, sym, subst, ◌∙◌, is_some, Option, Some, IsSome}
+use Rattle.std.proofs.Common.{◌≡◌, ap, sym, subst, ◌∙◌, is_some, Some}
 use Rattle.std.specs.FinMap as sets
-use Rattle.tk_store.specs.Slots.{Slot, Slots, Skipped}
+use Rattle.tk_store.specs.Slots.{Slots, Skipped}
 use Rattle.tk_store.specs.declared.slot.SlotRef.{SlotRef}
 use Rattle.tk_store.specs.SlotShown.{shown_slot}
 use Rattle.tk_store.specs.Skipping.{MayGo}

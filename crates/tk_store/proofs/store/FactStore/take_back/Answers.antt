@@ -1,9 +1,9 @@
-use Rattle.std.proofs.Common.{◌≡◌, true, false, refl, ap, sym, subst, ◌∙◌, is_some, Option, Some, None, IsSome, option_map}
+use Rattle.std.proofs.Common.{◌≡◌, false, refl, ap, sym, subst, ◌∙◌, is_some, Option, Some, None, IsSome, option_map}
 use Rattle.std.proofs.lemmas.Bool.{true≢false}
 use Rattle.std.specs.FinMap as sets
 use Rattle.tk_handle.specs.declared.dot.Dot.{Dot}
 use Rattle.tk_fact.specs.declared.body.Body.{Body}
-use Rattle.tk_store.specs.Slots.{Slot, Slots, held_slot}
+use Rattle.tk_store.specs.Slots.{Slots, held_slot}
 use Rattle.tk_store.specs.StoreFields.{StoreFields, held_facts, IsKept}
 use Rattle.tk_store.proofs.FrontLaws.{kept_without, without_none}
 use Rattle.tk_store.proofs.SlotLaws.{get_held}

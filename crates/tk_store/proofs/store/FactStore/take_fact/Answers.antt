@@ -1,4 +1,4 @@
-use Rattle.tk_store.proofs.SlotOrderLaws.{added_joins, added_horizon}
+use Rattle.tk_store.proofs.SlotOrderLaws.{added_joins}
 use Rattle.tk_store.proofs.store.FactStore.take_fact.Goals as goal
 
 pub returns-in-Ok-clause-ok : goal.returns-in-Ok-clause-ok

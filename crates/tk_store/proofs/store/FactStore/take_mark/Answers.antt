@@ -1,4 +1,4 @@
-use Rattle.tk_store.proofs.SlotOrderLaws.{skipped_joins, skipped_horizon}
+use Rattle.tk_store.proofs.SlotOrderLaws.{skipped_joins}
 use Rattle.tk_store.proofs.store.FactStore.take_mark.Goals as goal
 
 pub returns-in-Ok-clause-ok : goal.returns-in-Ok-clause-ok

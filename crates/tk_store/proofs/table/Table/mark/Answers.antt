@@ -1,4 +1,4 @@
-use Rattle.std.proofs.Common.{ap, sym, subst, ◌∙◌, Result, Ok, Err, OnOk, OnErr}
+use Rattle.std.proofs.Common.{sym, subst, Result, Ok, Err, OnOk, OnErr}
 use Rattle.tk_store.specs.Table.{KeptMap, IsTable}
 use Rattle.tk_store.specs.declared.table.Kept.TheVariants as kept
 use Rattle.tk_store.proofs.TableLaws.{table_marked, put_slots, inserted}

@@ -2,7 +2,7 @@ use Rattle.std.proofs.Common.{◌≡◌, ap, sym, ◌∙◌, arith}
 use Rattle.std.specs.FinMap as sets
 use Rattle.tk_handle.specs.declared.dot.Dot.{Dot}
 use Rattle.tk_fact.specs.declared.body.Body.{Body}
-use Rattle.tk_store.specs.Slots.{Slot, Held}
+use Rattle.tk_store.specs.Slots.{Held}
 use Rattle.tk_store.specs.declared.table.Kept.TheVariants as kept
 use Rattle.tk_store.proofs.TableLaws.{table_put, put_slots, inserted, held_within}
 use Rattle.tk_store.proofs.table.Table.put.Goals as goal

@@ -1,8 +1,5 @@
 use Rattle.std.proofs.Common.{◌≡◌, Some}
-use Rattle.std.specs.Ordering.{eq_by_cmp}
 use Rattle.std.specs.FinMap as sets
-use Rattle.tk_handle.specs.declared.dot.Dot.{Dot}
-use Rattle.tk_handle.specs.Dot.{dot_cmp}
 use Rattle.tk_fact.specs.declared.body.Body.{Body}
 use Rattle.tk_store.specs.Slots.{held_slot}
 use Rattle.tk_store.specs.declared.table.Kept.TheVariants as kept

@@ -1,11 +1,10 @@
-use Rattle.std.proofs.Common.{◌≡◌, ap, sym, subst, ◌∙◌, arith, Option, Some, None, option_map, is_some}
+use Rattle.std.proofs.Common.{◌≡◌, ap, sym, ◌∙◌, Option, Some, None, option_map}
 use Rattle.std.proofs.lemmas.Bool.{true≢false}
 use Rattle.std.specs.FinMap as sets
 use Rattle.tk_handle.specs.declared.dot.Dot.{Dot}
 use Rattle.tk_fact.specs.declared.body.Body.{Body}
-use Rattle.tk_store.specs.Slots.{Slot, Held, Skipped, held_slot, is_skipped_slot, without_fact}
+use Rattle.tk_store.specs.Slots.{Slot, Held, Skipped, held_slot, is_skipped_slot}
 use Rattle.tk_store.specs.Table.{slot_of}
-use Rattle.tk_store.specs.declared.table.Kept.TheVariants as kept
 use Rattle.tk_store.proofs.SlotLaws.{without_unmarked}
 use Rattle.tk_store.proofs.TableLaws.{at, shown_none, table_taken, table_forgot, taken_slots, some_held}
 use Rattle.tk_store.proofs.table.Table.take.Goals as goal
