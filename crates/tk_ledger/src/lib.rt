@@ -16,12 +16,12 @@
 //! which no crate above sees:
 //!
 //! - tables by key: clients (`client_rows`), consents (`consent_keys`), revocations
-//!   (`revocations`), and the codes and sign-outs of subjects (`subject_keys`)
-//! - a forest of families, with marks
+//!   (`revocations`), the codes and sign-outs of subjects (`subject_keys`), and reuses (`reuses`)
+//! - a forest of families, with the marks of all codes and refresh tokens in a family
 //!
 //! `change` has the change that a fact makes in the index, and `index` makes the change. `wake`
-//! marks refresh tokens that their client revoked and codes whose subject signed out, whichever
-//! fact arrives first. `looks`, `clients`, `consents`, `sign_outs` and `standing` look facts up.
+//! writes the marks at a dot anew: of refresh tokens that their client revoked, codes whose subject
+//! signed out, and tokens whose reuse was seen, whichever fact arrives first. `looks`, `clients`, `consents`, `sign_outs` and `standing` look facts up.
 //!
 //! In reading order: `Ledger`, `ClientView`, `ConsentView`, `Status`, `Standing`, `State`. The
 //! definitions are in `specs/`: `Clients`, `SignOuts`, `Tokens`, `Status`, `Standings`, `Ends`; for
@@ -42,6 +42,7 @@ mod join;
 mod laws;
 mod ledger;
 mod looks;
+mod reuses;
 mod revocations;
 mod root;
 mod sign_outs;
