@@ -17,7 +17,23 @@
 --                                      grants in a family
 --   Wakes                              the marks at some dots are written anew
 --   IsIndexed                          all tables, and the forest, are those of the set
-use Rattle.std.specs.Prelude.{map as map_list, ◌≡◌, ◌≤◌, ◌-◌, ℕ, Bool, true, false, ◌&&◌, ◌==◌, List, Option, Some, None, is_some}
+use Rattle.std.specs.Prelude.{
+  map as map_list,
+  ◌≡◌,
+  ◌≤◌,
+  ◌-◌,
+  ℕ,
+  Bool,
+  true,
+  false,
+  ◌&&◌,
+  ◌==◌,
+  List,
+  Option,
+  Some,
+  None,
+  is_some,
+}
 use Rattle.std.specs.List.{list_any}
 use Rattle.std.specs.Ordering.{nat_cmp, ordering_then, eq_by_cmp}
 use Rattle.std.specs.declared.cmp.Ordering.{Ordering}
