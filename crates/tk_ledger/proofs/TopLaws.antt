@@ -96,6 +96,7 @@ root_is F now k b m c dead (Some o) h i j e =
       client = o.issued.client;
       subject = o.issued.subject;
       code = o.code;
+      issued = o.issued;
       scope = m.scope;
       start = m.start;
       expiry = m.expiry;
