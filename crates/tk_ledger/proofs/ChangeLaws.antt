@@ -61,7 +61,7 @@ or_cond true b = refl
 or_cond false b = refl
 
 -- the body at a dot whose change is known
-record Changed (G : FactSet) (d : Dot) (x : Change) : Type 0 where
+pub record Changed (G : FactSet) (d : Dot) (x : Change) : Type 0 where
   pub body : Body
   pub held : map.get G d ≡ Some body
   pub is : change_in body ≡ x
@@ -71,7 +71,7 @@ changed_by : (G : FactSet) (d : Dot) (x : Change) (o : Option Body) → map.get 
 changed_by G d x None at h = absurd (none_is_not_some x h)
 changed_by G d x (Some b) at h = record { body = b; held = at; is = some_injective (change_in b) x h; more = more_remove G d b at }
 
-changed : (G : FactSet) (d : Dot) (x : Change) → option_map change_in (map.get G d) ≡ Some x → Changed G d x
+pub changed : (G : FactSet) (d : Dot) (x : Change) → option_map change_in (map.get G d) ≡ Some x → Changed G d x
 changed G d x h = changed_by G d x (map.get G d) refl h
 
 -- ---- the forest

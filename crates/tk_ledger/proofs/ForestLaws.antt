@@ -81,15 +81,15 @@ signs-change : (G : FactSet) (b : Body) (k : TokenId) → SignsOut G b k → sig
 signs-change G b k r = ap (λ (x : Body). signs (change_in x)) r.body
 
 -- a change with a link is no reuse, revocation or sign-out
-put_reuses : (y : Change) (l : Link) (k : TokenId) → puts y ≡ Some l → reuses_of k y ≡ false
+pub put_reuses : (y : Change) (l : Link) (k : TokenId) → puts y ≡ Some l → reuses_of k y ≡ false
 put_reuses (change.Mark j) l k h = absurd (none_is_not_some l h)
 put_reuses other l k h = refl
 
-put_revokes : (y : Change) (l : Link) → puts y ≡ Some l → revoking y ≡ None
+pub put_revokes : (y : Change) (l : Link) → puts y ≡ Some l → revoking y ≡ None
 put_revokes (change.Revoke f) l h = absurd (none_is_not_some l h)
 put_revokes other l h = refl
 
-put_signs : (y : Change) (l : Link) → puts y ≡ Some l → signs y ≡ false
+pub put_signs : (y : Change) (l : Link) → puts y ≡ Some l → signs y ≡ false
 put_signs (change.SignOut subject moment) l h = absurd (none_is_not_some l h)
 put_signs other l h = refl
 
@@ -125,7 +125,7 @@ still_marked : (F G : FactSet) (d : Dot) (b : Body) → OneMore F G d b → (k :
 still_marked F G d b m k h = is_marked-complete G k (IsMarked-below F G (more_subset F G d b m) k (is_marked-sound F k h))
 
 -- a token that one more fact does not touch is marked as before
-same_mark : (F G : FactSet) (d : Dot) (b : Body) (k : TokenId) → OneMore F G d b → ¬ Touches F G b k → is_marked F k ≡ is_marked G k
+pub same_mark : (F G : FactSet) (d : Dot) (b : Body) (k : TokenId) → OneMore F G d b → ¬ Touches F G b k → is_marked F k ≡ is_marked G k
 same_mark F G d b k m apart = same_tests (is_marked F k) (is_marked G k)
     (still_marked F G d b m k)
     (λ h. elim (marks_by_one F G d b k m h) [
@@ -165,11 +165,11 @@ tied_by F G d b x y z at m t links same woke touched = record {
         ∙ by_code q c l apart link under (code_of (links_in (map.get F)) q) refl
 
 -- a change that is no sign-out signs out no code's subject
-unsigned : (G : FactSet) (b : Body) (k : TokenId) {P : Type 0} → signs (change_in b) ≡ false → SignsOut G b k → P
+pub unsigned : (G : FactSet) (b : Body) (k : TokenId) {P : Type 0} → signs (change_in b) ≡ false → SignsOut G b k → P
 unsigned G b k none r = absurd (true≢false (sym (signs-change G b k r) ∙ none))
 
 -- a change that revokes nothing revokes no token
-unrevoked : (b : Body) (k : TokenId) {P : Type 0} → revoking (change_in b) ≡ None → Revokes b k → P
+pub unrevoked : (b : Body) (k : TokenId) {P : Type 0} → revoking (change_in b) ≡ None → Revokes b k → P
 unrevoked b k none r = absurd (none_is_not_some r.revocation (sym none ∙ revoking-change b k r))
 
 -- a change without a link brings no dot under a code

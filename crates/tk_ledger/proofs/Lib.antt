@@ -8,6 +8,7 @@ pub mod ForestLaws
 pub mod IndexLaws
 pub mod KeyLaws
 pub mod KeySearchLaws
+pub mod LossLaws
 pub mod ReuseLaws
 pub mod SameLaws
 pub mod SignOutLaws

@@ -134,15 +134,20 @@ has_reuse_is F t k i = same_tests (has_reuse t k) (is_reused F k)
 abbrev pub RangedReuses : BTreeSet ReuseKey → Type 0
 RangedReuses t = (k : TokenId) (d : Dot) → is_listed_reuse t k d ≡ true → IsDot d
 
+pub reused_on : (F G : FactSet) (d : Dot) (b : Body) (k : TokenId) (q : Dot) (x : Bool) → OneMore F G d b → x ≡ is_reuse_of k (map.get F q)
+    → ((reuses_of k (change_in b) && is_at d q) || x) ≡ is_reuse_of k (map.get G q)
+reused_on F G d b k q x m i =
+    own_on d q (reuses_of k (change_in b)) x (is_reuse_of k (map.get F q)) (is_reuse_of k (map.get G q))
+    (λ same. ap (is_reuse_of k) (ap (map.get F) same ∙ m.free))
+    (λ same. ap (is_reuse_of k) (ap (map.get G) same ∙ m.here) ∙ reuse-change k b)
+    (λ ne. ap (is_reuse_of k) (m.there q ne))
+    i
+
 pub reuses_on : (F G : FactSet) (d : Dot) (b : Body) (t u : BTreeSet ReuseKey) → OneMore F G d b → IsReuses F t → RangedReuses u
     → ((k : TokenId) (q : Dot) → is_listed_reuse u k q ≡ ((reuses_of k (change_in b) && is_at d q) || is_listed_reuse t k q))
     → IsReuses G u
 reuses_on F G d b t u m i ranged l = record {
-  listed = λ k q. l k q ∙ own_on d q (reuses_of k (change_in b)) (is_listed_reuse t k q) (is_reuse_of k (map.get F q)) (is_reuse_of k (map.get G q))
-      (λ same. ap (is_reuse_of k) (ap (map.get F) same ∙ m.free))
-      (λ same. ap (is_reuse_of k) (ap (map.get G) same ∙ m.here) ∙ reuse-change k b)
-      (λ ne. ap (is_reuse_of k) (m.there q ne))
-      (i.listed k q);
+  listed = λ k q. l k q ∙ reused_on F G d b k q (is_listed_reuse t k q) m (i.listed k q);
   ranged = ranged;
 }
 

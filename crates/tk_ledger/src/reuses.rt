@@ -12,7 +12,7 @@ pub(crate) struct ReuseKey {
     pub(crate) place: Dot,
 }
 
-ghost use Rattle.std.specs.Prelude.{◌≡◌, OnOk, OnErr, cond, true};
+ghost use Rattle.std.specs.Prelude.{◌≡◌, OnOk, OnErr, cond, true, false};
 ghost use Rattle.std.specs.Ordering.{eq_by_cmp};
 ghost use Rattle.std.specs.BTreeSet.{contains};
 ghost use Rattle.tk_handle.specs.Dot.{IsDot};
@@ -58,6 +58,15 @@ pub(crate) fn list_reuse(
     let _ranges = (place.region(), place.serial());
     reuses.insert(key(token, place))?;
     Ok(())
+}
+
+// Removes the key of a reuse.
+pub(crate) fn drop_reuse(reuses: &mut BTreeSet<ReuseKey>, token: &TokenId, place: Dot)
+    ensures { (k : the_key) → contains reuse_cmp reuses.new k
+        ≡ cond (eq_by_cmp reuse_cmp (reuse_key token.now place) k) false
+        (contains reuse_cmp reuses.old k) }
+{
+    reuses.remove(&key(token, place));
 }
 
 // Returns the least and the greatest key that a reuse of the token can have.
