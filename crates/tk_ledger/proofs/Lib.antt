@@ -9,6 +9,7 @@ pub mod IndexLaws
 pub mod KeyLaws
 pub mod KeySearchLaws
 pub mod LossLaws
+pub mod RetentionLaws
 pub mod ReuseLaws
 pub mod SameLaws
 pub mod SignOutLaws

@@ -13,6 +13,7 @@
 --   Changes          change_in, the change that one fact makes in the tables
 --   Index            IsIndexed, the tables beside the facts
 --   Losses           WasIndexed, the tables after the loss of a fact
+--   Retention        MaySkip, the facts of families that are over
 --   ByTop            by_top, the status of a token by the top of its dot
 pub mod Bodies
 pub mod ByTop
@@ -22,6 +23,7 @@ pub mod Ends
 pub mod Index
 pub mod Laws
 pub mod Losses
+pub mod Retention
 pub mod SignOuts
 pub mod StandingFields
 pub mod Standings

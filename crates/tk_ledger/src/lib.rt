@@ -23,11 +23,12 @@
 //! undoes it for a fact that is lost. `wake` writes the marks at a dot anew: of refresh tokens that
 //! their client revoked, codes whose subject signed out, and tokens whose reuse was seen, whichever
 //! fact arrives first. `looks`, `clients`, `consents`, `sign_outs` and `standing` look facts up.
+//! `retention` lists the facts of families that are over.
 //!
 //! In reading order: `Ledger`, `ClientView`, `ConsentView`, `Status`, `Standing`, `State`. The
 //! definitions are in `specs/`: `Clients`, `SignOuts`, `Tokens`, `Status`, `Standings`, `Ends`; for
-//! the index `Changes`, `Index`, `Losses`, `ByTop`. The functions of `laws` have empty bodies: they state the
-//! laws in `specs/Laws.antt`.
+//! the index `Changes`, `Index`, `Losses`, `ByTop`; for pruning `Retention`. The functions of
+//! `laws` have empty bodies: they state the laws in `specs/Laws.antt`.
 #![tactic(auto)]
 
 mod change;
@@ -43,6 +44,7 @@ mod join;
 mod laws;
 mod ledger;
 mod looks;
+mod retention;
 mod reuses;
 mod revocations;
 mod root;

@@ -123,8 +123,8 @@ impl Ledger {
 // ---- several look-ups together
 
 impl Ledger {
-    // Returns the fact that issued the code at the dot. The given fact, which is held, is not looked
-    // up again.
+    // Returns the fact that issued the code at the dot. A given fact that is held is not looked up
+    // again.
     fn issued_at<'a>(
         &'a self,
         code: Dot,

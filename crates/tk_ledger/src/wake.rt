@@ -1,5 +1,5 @@
-//! The marks of codes and refresh tokens in a family: those whose reuse was seen, refresh tokens that
-//! their client revoked, and codes whose subject signed out, whichever fact arrives first.
+//! The marks of codes and refresh tokens in a family: tokens whose reuse was seen, refresh tokens
+//! that their client revoked, and codes whose subject signed out, whichever fact arrives first.
 
 ghost use Rattle.std.specs.Prelude.{◌≡◌, IsSome, cond};
 ghost use Rattle.std.specs.Option.{option_map};
