@@ -14,4 +14,3 @@ lookup_find (e ∷ es) q = ap (cond (dot_eq q e.0) (Some e.1)) (lookup_find es q
 
 pub entries_table : (m : RowMap) (q : Dot) → lookup (dot_eq q) (map.entries m) ≡ table m q
 entries_table m q = lookup_find (map.entries m) q ∙ sym (map.get-entries m q)
-

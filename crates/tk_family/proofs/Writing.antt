@@ -57,6 +57,7 @@ settled-more T M N list x c before now q = listed-more (λ o. with_code o c) (λ
 
 pub cleared-more : (T M N : Rows) (list : List Dot) (x : Dot) → ((q : Dot) → M q ≡ cleared T list q) → ((q : Dot) → N q ≡ cond (dot_eq x q) (without_code (M q)) (M q)) → (q : Dot) → N q ≡ cleared T (list ++ x ∷ []) q
 cleared-more T M N list x before now q = listed-more without_code twice_cleared T M N list x before now q
+
 -- a row that says nothing is put where there is none
 pub added : (m n : RowMap) (at : Dot) (r : Row) → n ≡ map.insert m at r → map.get m at ≡ None → r ≡ blank → (q : Dot) → table n q ≡ cond (dot_eq at q) (or_blank (table m q)) (table m q)
 added m n at r is none empty q =

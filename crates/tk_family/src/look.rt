@@ -9,6 +9,7 @@ ghost use Rattle.tk_family.specs.Rows.{
   dead_in,
   first_in,
   next_in,
+  marked_in,
   used_in,
   bad_in,
 };
@@ -104,6 +105,20 @@ pub(crate) fn used_at(rows: &DotMap<PackedRow>, dot: Dot, kind: Kind) -> bool
             Kind::Code => row.unpack().redeemed.is_some(),
             Kind::Access => false,
             Kind::Refresh => row.unpack().rotated.is_some(),
+        },
+        None => false,
+    }
+}
+
+/// Returns whether the token of a kind at a dot is marked.
+pub(crate) fn marked_at(rows: &DotMap<PackedRow>, dot: Dot, kind: Kind) -> bool
+    ensures { result ≡ marked_in (table rows.now dot) kind }
+{
+    match rows.get(dot) {
+        Some(row) => match kind {
+            Kind::Code => row.unpack().marked_code,
+            Kind::Access => row.unpack().marked_access,
+            Kind::Refresh => row.unpack().marked_refresh,
         },
         None => false,
     }

@@ -14,7 +14,9 @@ ghost use Rattle.tk_handle.specs.declared.dot.Dot.{Dot as the_dot};
 
 use crate::gather::gather_into;
 use crate::link::{Link, named};
-use crate::look::{code_at, dead_at, first_at, is_any_bad, is_blank_at, link_at, next_at};
+use crate::look::{
+    code_at, dead_at, first_at, is_any_bad, is_blank_at, link_at, marked_at, next_at,
+};
 use crate::packed::PackedRow;
 use crate::write::{clear, drop_row, hang, set_alive, set_bare, set_unmarked, set_unnamed};
 use tk_dots::DotMap;
@@ -181,7 +183,8 @@ pub(crate) fn take_at(rows: &mut DotMap<PackedRow>, room: &mut Vec<Dot>, dot: Do
     }
 }
 
-/// Takes a mark away. A family that was dead by it lives.
+/// Takes a mark away. A family that was dead by the mark alone lives. A token that isn't marked costs
+/// one look-up.
 pub(crate) fn unmark_token(rows: &mut DotMap<PackedRow>, room: &mut Vec<Dot>, token: TokenId)
     requires forest { IsForest (table rows.old) }
     requires room { map.len rows.old ≤ vec_capacity room.old }
@@ -189,6 +192,9 @@ pub(crate) fn unmark_token(rows: &mut DotMap<PackedRow>, room: &mut Vec<Dot>, to
     ensures len { map.len rows.new ≡ map.len rows.old }
     ensures capacity { vec_capacity room.old ≤ vec_capacity room.new }
 {
+    if !marked_at(rows, token.dot, token.kind) {
+        return;
+    }
     set_unmarked(rows, token.dot, token.kind);
     revive(rows, room, token.dot);
 }

@@ -1,32 +1,29 @@
 -- Empty tables are those of no fact. Key result: empty_indexed.
-use Rattle.std.proofs.Common.{◌≡◌, inl, inr, ℕ, Bool, false, List, [], Option, Some, is_some, sym, ap, ◌∙◌}
-use Rattle.std.proofs.lemmas.Bool.{true≢false, or_cases, false_from_ne_true}
+use Rattle.std.proofs.Common.{◌≡◌, ℕ, Bool, false, List, [], Option, Some, is_some, sym, ap, ◌∙◌}
+use Rattle.std.proofs.lemmas.Bool.{true≢false, false_from_ne_true}
 use Rattle.std.specs.Option.{option_and_then}
 use Rattle.std.specs.List.{list_any}
 use Rattle.std.specs.Map.{lookup}
 use Rattle.std.specs.BTreeMap.{is_at}
 use Rattle.std.specs.FinMap as map
-use Rattle.std.specs.FinSet as set
 use Rattle.tk_handle.specs.declared.dot.Dot.{Dot}
 use Rattle.tk_handle.specs.declared.token_id.TokenId.{TokenId}
 use Rattle.tk_handle.specs.Dot.{dot_cmp}
-use Rattle.tk_handle.specs.TokenId.{token_cmp}
 use Rattle.tk_fact.specs.declared.body.Body.{Body}
-use Rattle.tk_fact.specs.Tokens.{minted_of}
 use Rattle.tk_store.specs.FactSet.{any_fact}
 use Rattle.tk_store.proofs.PutLaws.{none_is_not_some}
 use Rattle.tk_store.proofs.EntryLaws.{Passing, any_fact-held}
 use Rattle.tk_ledger.specs.Clients.{added_in, given_in, retires, withdraws}
 use Rattle.tk_ledger.specs.SignOuts.{sign_out_in}
-use Rattle.tk_ledger.specs.Tokens.{link_of, issued_in, revokes, sees_reuse, is_reused, is_stopped, is_marked}
-use Rattle.tk_ledger.specs.Index.{row_added, row_retired, consent_cmp, consent_key, revocation_cmp, revocation_key, is_from, code_cmp, code_key, is_to, out_cmp, out_key, is_left_by, IsIndexed}
+use Rattle.tk_ledger.specs.Tokens.{link_of, issued_in, revokes}
+use Rattle.tk_ledger.specs.Index.{row_added, row_retired, consent_cmp, consent_key, revocation_cmp, revocation_key, is_from, code_cmp, code_key, is_to, out_cmp, out_key, is_left_by, reuse_cmp, reuse_key, is_reuse_of, IsIndexed}
 use Rattle.tk_ledger.specs.declared.client_rows.ClientRow.{ClientRow}
 use Rattle.tk_ledger.specs.declared.consent_keys.ConsentKey.{ConsentKey}
 use Rattle.tk_ledger.specs.declared.index.Index.{Index}
+use Rattle.tk_ledger.specs.declared.reuses.ReuseKey.{ReuseKey}
 use Rattle.tk_ledger.specs.declared.revocations.Revocation.{Revocation}
 use Rattle.tk_ledger.specs.declared.subject_keys.CodeKey.{CodeKey}
 use Rattle.tk_ledger.specs.declared.subject_keys.OutKey.{OutKey}
-use Rattle.tk_ledger.proofs.TokenLaws.{is_stopped-sound}
 
 none_held : (d : Dot) (b : Body) → ¬ (map.get (map.empty {R = dot_cmp}) d ≡ Some b)
 none_held d b h = none_is_not_some b (sym (map.get-empty dot_cmp d) ∙ h)
@@ -38,17 +35,8 @@ any_fact-empty p = false_from_ne_true (any_fact p map.empty) (λ h. (let x : Pas
 no_value : {B : Type 0} (f : Body → Option B) (d : Dot) (y : B) → ¬ (option_and_then f (map.get (map.empty {R = dot_cmp}) d) ≡ Some y)
 no_value f d y h = none_is_not_some y (sym (ap (option_and_then f) (map.get-empty dot_cmp d)) ∙ h)
 
-marks-empty : (k : TokenId) → is_marked map.empty k ≡ false
-marks-empty k = false_from_ne_true (is_marked map.empty k) (λ h. elim (or_cases (is_reused map.empty k) (is_stopped map.empty k) h) [
-  | inl seen ↦ true≢false (sym seen ∙ any_fact-empty (sees_reuse k))
-  | inr stopped ↦ elim (is_stopped-sound map.empty k stopped) [
-    | inl ended ↦ no_value (λ b. minted_of b k.kind) k.dot ended.1.minted ended.1.mints
-    | inr gone ↦ no_value issued_in k.dot gone.1.issued gone.1.issues
-  ]
-])
-
-pub empty_indexed : (x : Index) → x.clients.entries ≡ [] → x.consents.keys ≡ [] → x.withdrawn.keys ≡ [] → x.revocations.keys ≡ [] → x.codes.keys ≡ [] → x.outs.keys ≡ [] → x.forest.links ≡ map.empty → x.forest.marks ≡ set.empty → IsIndexed map.empty x
-empty_indexed x te ce we re co ou le me = record {
+pub empty_indexed : (x : Index) → x.clients.entries ≡ [] → x.consents.keys ≡ [] → x.withdrawn.keys ≡ [] → x.revocations.keys ≡ [] → x.codes.keys ≡ [] → x.outs.keys ≡ [] → x.reuses.keys ≡ [] → x.forest.links ≡ map.empty → IsIndexed map.empty x
+empty_indexed x te ce we re co ou se le = record {
   clients_are = record {
     added = λ q. ap (λ (es : List (Dot × ClientRow)). row_added (lookup (is_at (dot_cmp q)) es)) te ∙ sym (ap (λ o. is_some (option_and_then added_in o)) (map.get-empty dot_cmp q));
     retired = λ q. ap (λ (es : List (Dot × ClientRow)). row_retired (lookup (is_at (dot_cmp q)) es)) te ∙ sym (any_fact-empty (retires q));
@@ -68,9 +56,13 @@ empty_indexed x te ce we re co ou le me = record {
     ranged = λ s l q h. absurd (true≢false (sym h ∙ no_out s l q));
     early = λ d f h. absurd (no_value sign_out_in d f h);
   };
+  reuses_are = record {
+    listed = λ k q. no_reuse k q ∙ sym (ap (is_reuse_of k) (map.get-empty dot_cmp q));
+    ranged = λ k q h. absurd (true≢false (sym h ∙ no_reuse k q));
+  };
   tied = record {
     links = λ q. ap (λ s. map.get s q) le ∙ map.get-empty dot_cmp q ∙ sym (ap (option_and_then link_of) (map.get-empty dot_cmp q));
-    marks = λ k. ap (λ s. set.contains s k) me ∙ set.contains-empty token_cmp k ∙ sym (marks-empty k);
+    marks = λ q c l at _. absurd (no_value link_of q l at);
   };
 }
   where
@@ -82,3 +74,6 @@ empty_indexed x te ce we re co ou le me = record {
 
     no_out : (s : List _) (l : ℕ) (q : Dot) → list_any (is_at (out_cmp (out_key s l q))) x.outs.keys ≡ false
     no_out s l q = ap (λ (es : List OutKey). list_any (is_at (out_cmp (out_key s l q))) es) ou
+
+    no_reuse : (k : TokenId) (q : Dot) → list_any (is_at (reuse_cmp (reuse_key k q))) x.reuses.keys ≡ false
+    no_reuse k q = ap (λ (es : List ReuseKey). list_any (is_at (reuse_cmp (reuse_key k q))) es) se

@@ -1,9 +1,9 @@
 -- Each kind of change, as the functions that make it need it: over the set that has the fact
 -- already, and that set without the fact. Key results:
---   put_ties, mark_ties, revoke_ties, out_ties   the forest after each kind of change
---   code_row, code_dropped, out_row              the tables after a code and a sign-out
---   index_add .. index_out                       all tables, for each kind of change
---   stored, stored_change, stored_back           a fact at a free dot
+--   put_ties, mark_ties, revoke_ties, out_ties, quiet_ties   the forest after each kind of change
+--   clients_by .. reuses_by, same_consents .. same_reuses    the tables after each kind of change
+--   revoke_row, code_row, code_dropped, out_row, reuse_row   a table after one more key
+--   stored, stored_change, stored_back                       a fact at a free dot
 use Rattle.std.proofs.Common.{◌≡◌, ℕ, ◌≤◌, Bool, true, false, ◌&&◌, ◌||◌, ◌==◌, cond, List, Option, Some, None, Result, Ok, Err, OnOk, refl, sym, ap, subst, ◌∙◌}
 use Rattle.std.specs.Option.{option_and_then, option_map}
 use Rattle.std.specs.Ordering.{eq_by_cmp}
@@ -11,17 +11,15 @@ use Rattle.std.specs.Str.{bytes_eq}
 use Rattle.std.specs.BTreeMap.{BTreeMap}
 use Rattle.std.specs.BTreeSet.{BTreeSet, contains}
 use Rattle.std.specs.FinMap as map
-use Rattle.std.specs.FinSet as set
-use Rattle.sha2.specs.Sha256.{sha256}
 use Rattle.tk_handle.specs.declared.dot.Dot.{Dot}
 use Rattle.tk_handle.specs.declared.token_id.TokenId.{TokenId}
 use Rattle.tk_handle.specs.Dot.{IsDot, dot_cmp}
 use Rattle.tk_handle.specs.Ranges.{greatest_moment}
 use Rattle.tk_family.specs.declared.link.Link.{Link}
-use Rattle.tk_family.specs.Dots.{has}
+use Rattle.tk_family.specs.Dots.{dot_eq, has}
 use Rattle.tk_family.specs.ForestFacts.{ForestFacts, links_at}
 use Rattle.tk_family.specs.Tops.{IsRaised}
-use Rattle.tk_family.proofs.LookUps.{link_put, mark_put}
+use Rattle.tk_family.proofs.LookUps.{link_put}
 use Rattle.tk_fact.specs.declared.body.Body.{Body}
 use Rattle.tk_fact.specs.declared.token_revoked.TokenRevoked as revoked
 use Rattle.tk_store.specs.FactSet.{FactSet}
@@ -30,20 +28,21 @@ use Rattle.tk_store.specs.declared.store.Added.{Added}
 use Rattle.tk_store.specs.declared.store.Added.TheVariants.{New, Held}
 use Rattle.tk_store.proofs.PutLaws.{some_injective, none_is_not_some, get_here, taken_back}
 use Rattle.tk_store.proofs.OneMoreLaws.{OneMore, more_remove}
-use Rattle.tk_ledger.specs.Bodies.{is_same_dot}
+use Rattle.tk_ledger.specs.Bodies.{is_same_dot, is_same_token}
 use Rattle.tk_ledger.specs.Tokens.{link_of, links_in}
 use Rattle.tk_ledger.specs.Changes.{change_in, adds, retires_of, gives_to, withdraws_of, revokes_of, reuses_of}
-use Rattle.tk_ledger.specs.Index.{row_at, row_added, row_retired, is_at, IsClients, consent_cmp, consent_key, is_listed, IsConsents, IsWithdrawals, revocation_cmp, revocation_key, is_listed_revoked, IsRevocations, code_cmp, code_key, codes_of, dots_of, is_listed_code, IsCodes, out_cmp, out_key, left_after, is_listed_out, IsOuts, IsTied, IsIndexed, woken, any_woken}
+use Rattle.tk_ledger.specs.Index.{row_at, row_added, row_retired, is_at, IsClients, consent_cmp, consent_key, is_listed, IsConsents, IsWithdrawals, revocation_cmp, revocation_key, is_listed_revoked, IsRevocations, code_cmp, code_key, codes_of, dots_of, is_listed_code, IsCodes, out_cmp, out_key, left_after, is_listed_out, IsOuts, reuse_cmp, reuse_key, is_listed_reuse, IsReuses, IsTied, Wakes}
 use Rattle.tk_ledger.specs.declared.change.Change.{Change}
 use Rattle.tk_ledger.specs.declared.change.Change.TheVariants as change
 use Rattle.tk_ledger.specs.declared.client_rows.ClientRow.{ClientRow}
 use Rattle.tk_ledger.specs.declared.consent_keys.ConsentKey.{ConsentKey}
-use Rattle.tk_ledger.specs.declared.index.Index.{Index}
+use Rattle.tk_ledger.specs.declared.reuses.ReuseKey.{ReuseKey}
 use Rattle.tk_ledger.specs.declared.revocations.Revocation.{Revocation}
 use Rattle.tk_ledger.specs.declared.subject_keys.CodeKey.{CodeKey}
 use Rattle.tk_ledger.specs.declared.subject_keys.OutKey.{OutKey}
-use Rattle.tk_ledger.proofs.KeyLaws.{at_is_same, token_tied, consent_tied, revocation_tied}
-use Rattle.tk_ledger.proofs.TableLaws.{clients_on, consents_on, Ranged, ranged_on, withdrawals_on, revocations_on}
+use Rattle.tk_ledger.proofs.KeyLaws.{at_is_same, consent_tied, revocation_tied}
+use Rattle.tk_ledger.proofs.ReuseLaws.{reuse_tied, RangedReuses, reuses_on, reuses_ranged, reuses_alike}
+use Rattle.tk_ledger.proofs.TableLaws.{clients_on, consents_on, Ranged, withdrawals_on, revocations_on}
 use Rattle.tk_ledger.proofs.SubjectKeyLaws.{code_tied, out_tied}
 use Rattle.tk_ledger.proofs.SubjectTableLaws.{issuing, issues_to, issues_none, signs_out_by, signs_none, unsigned_early, IsEarly, RangedCodes, RangedOuts, codes_on, codes_ranged, codes_alike, codes_back, outs_on, outs_ranged, outs_alike}
 use Rattle.tk_ledger.proofs.TokenLaws.{from_some}
@@ -57,12 +56,12 @@ pub on_ok2 : {A E : Type 0} (r : Result A E) (P Q R : Type 0) → OnOk r P → O
 on_ok2 (Ok x) P Q R h i f = f h i
 on_ok2 (Err e) P Q R h i f = tt
 
-or_cond : (a b : Bool) → cond a true b ≡ (a || b)
+pub or_cond : (a b : Bool) → cond a true b ≡ (a || b)
 or_cond true b = refl
 or_cond false b = refl
 
 -- the body at a dot whose change is known
-record Changed (G : FactSet) (d : Dot) (x : Change) : Type 0 where
+pub record Changed (G : FactSet) (d : Dot) (x : Change) : Type 0 where
   pub body : Body
   pub held : map.get G d ≡ Some body
   pub is : change_in body ≡ x
@@ -72,7 +71,7 @@ changed_by : (G : FactSet) (d : Dot) (x : Change) (o : Option Body) → map.get 
 changed_by G d x None at h = absurd (none_is_not_some x h)
 changed_by G d x (Some b) at h = record { body = b; held = at; is = some_injective (change_in b) x h; more = more_remove G d b at }
 
-changed : (G : FactSet) (d : Dot) (x : Change) → option_map change_in (map.get G d) ≡ Some x → Changed G d x
+pub changed : (G : FactSet) (d : Dot) (x : Change) → option_map change_in (map.get G d) ≡ Some x → Changed G d x
 changed G d x h = changed_by G d x (map.get G d) refl h
 
 -- ---- the forest
@@ -98,24 +97,22 @@ put_links G d l x y h t new = let c = linked G d l h in
 
 pub put_ties : (G : FactSet) (d : Dot) (l : Link) (x y z : ForestFacts) (ds : List Dot) → links_in (map.get G) d ≡ Some l → IsTied (map.remove G d) x
     → y.links ≡ map.insert x.links d l → y.marks ≡ x.marks → ((q : Dot) → IsRaised (links_at x) (links_at y) q → has ds q ≡ true)
-    → z.links ≡ y.links → ((k : TokenId) → set.contains z.marks k ≡ (any_woken G k ds || set.contains y.marks k)) → IsTied G z
-put_ties G d l x y z ds h t new same all still woke =
+    → Wakes G y (has ds) z → IsTied G z
+put_ties G d l x y z ds h t new same all woke =
     let c = linked G d l h in
-    tied_put (map.remove G d) G d c.body l x y z ds c.more c.is t (put_links G d l x y h t new) same all still woke
+    tied_put (map.remove G d) G d c.body l x y z ds c.more c.is t (put_links G d l x y h t new) same all woke
 
 -- the link of a change
 pub change_link : (G : FactSet) (d : Dot) (y : Change) → option_map change_in (map.get G d) ≡ Some y → links_in (map.get G) d ≡ puts y
 change_link G d y h = let c = changed G d y h in ap (option_and_then link_of) c.held ∙ link-change c.body ∙ ap puts c.is
 
-pub mark_ties : (G : FactSet) (d : Dot) (j : TokenId) (x y : ForestFacts) → option_map change_in (map.get G d) ≡ Some (change.Mark j) → IsTied (map.remove G d) x
-    → y.links ≡ x.links → y.marks ≡ set.insert x.marks j → IsTied G y
-mark_ties G d j x y h t still new = let c = changed G d (change.Mark j) h in
-    tied_mark (map.remove G d) G d c.body j x y c.more c.is t still
-    (λ k. mark_put x.marks y.marks j new k ∙ ap (λ b. b || set.contains x.marks k) (token_tied j k))
+pub mark_ties : (G : FactSet) (d : Dot) (j : TokenId) (x z : ForestFacts) → option_map change_in (map.get G d) ≡ Some (change.Mark j) → IsTied (map.remove G d) x
+    → Wakes G x (λ q. dot_eq q j.dot) z → IsTied G z
+mark_ties G d j x z h t woke = let c = changed G d (change.Mark j) h in tied_mark (map.remove G d) G d c.body j x z c.more c.is t woke
 
-pub revoke_ties : (G : FactSet) (d : Dot) (f : revoked.TokenRevoked) (x y : ForestFacts) → option_map change_in (map.get G d) ≡ Some (change.Revoke f) → IsTied (map.remove G d) x
-    → y.links ≡ x.links → ((k : TokenId) → set.contains y.marks k ≡ (woken G k f.token.dot || set.contains x.marks k)) → IsTied G y
-revoke_ties G d f x y h t still new = let c = changed G d (change.Revoke f) h in tied_revoke (map.remove G d) G d c.body f x y c.more c.is t still new
+pub revoke_ties : (G : FactSet) (d : Dot) (f : revoked.TokenRevoked) (x z : ForestFacts) → option_map change_in (map.get G d) ≡ Some (change.Revoke f) → IsTied (map.remove G d) x
+    → Wakes G x (λ q. dot_eq q f.token.dot) z → IsTied G z
+revoke_ties G d f x z h t woke = let c = changed G d (change.Revoke f) h in tied_revoke (map.remove G d) G d c.body f x z c.more c.is t woke
 
 -- a change without a link leaves the links of the set without the fact
 pub links_before : (G : FactSet) (d : Dot) (y : Change) (x : ForestFacts) → option_map change_in (map.get G d) ≡ Some y → puts y ≡ None → IsTied (map.remove G d) x → (q : Dot) → map.get x.links q ≡ links_in (map.get G) q
@@ -124,16 +121,16 @@ links_before G d y x h none t q = still (changed G d y h)
     still : Changed G d y → map.get x.links q ≡ links_in (map.get G) q
     still c = t.links q ∙ links_still (map.remove G d) G d c.body c.more (ap puts c.is ∙ none) q
 
-pub out_ties : (G : FactSet) (d : Dot) (subject : List ℕ) (moment : ℕ) (codes : BTreeSet CodeKey) (x y : ForestFacts) → option_map change_in (map.get G d) ≡ Some (change.SignOut subject moment) → IsTied (map.remove G d) x → IsCodes G codes
-    → y.links ≡ x.links → ((k : TokenId) → set.contains y.marks k ≡ (any_woken G k (dots_of (codes_of codes subject)) || set.contains x.marks k)) → IsTied G y
-out_ties G d subject moment codes x y h t listed still new = let c = changed G d (change.SignOut subject moment) h in tied_out (map.remove G d) G d c.body subject moment codes x y c.more c.is t listed still new
+pub out_ties : (G : FactSet) (d : Dot) (subject : List ℕ) (moment : ℕ) (codes : BTreeSet CodeKey) (x z : ForestFacts) → option_map change_in (map.get G d) ≡ Some (change.SignOut subject moment) → IsTied (map.remove G d) x → IsCodes G codes
+    → Wakes G x (has (dots_of (codes_of codes subject))) z → IsTied G z
+out_ties G d subject moment codes x z h t listed woke = let c = changed G d (change.SignOut subject moment) h in tied_out (map.remove G d) G d c.body subject moment codes x z c.more c.is t listed woke
 
-quiet_ties : (G : FactSet) (d : Dot) (y : Change) (x : ForestFacts) → option_map change_in (map.get G d) ≡ Some y → puts y ≡ None → revoking y ≡ None → signs y ≡ false → ((k : TokenId) → reuses_of k y ≡ false) → IsTied (map.remove G d) x → IsTied G x
+pub quiet_ties : (G : FactSet) (d : Dot) (y : Change) (x : ForestFacts) → option_map change_in (map.get G d) ≡ Some y → puts y ≡ None → revoking y ≡ None → signs y ≡ false → ((k : TokenId) → reuses_of k y ≡ false) → IsTied (map.remove G d) x → IsTied G x
 quiet_ties G d y x h p r s m t = let c = changed G d y h in tied_still (map.remove G d) G d c.body x c.more (ap puts c.is ∙ p) (ap revoking c.is ∙ r) (ap signs c.is ∙ s) (λ k. ap (reuses_of k) c.is ∙ m k) t
 
 -- ---- the tables
 
-clients_by : (G : FactSet) (d : Dot) (y : Change) (t u : BTreeMap Dot ClientRow) → option_map change_in (map.get G d) ≡ Some y → IsClients (map.remove G d) t
+pub clients_by : (G : FactSet) (d : Dot) (y : Change) (t u : BTreeMap Dot ClientRow) → option_map change_in (map.get G d) ≡ Some y → IsClients (map.remove G d) t
     → ((q : Dot) → row_added (row_at u q) ≡ ((adds y && is_at d q) || row_added (row_at t q)))
     → ((q : Dot) → row_retired (row_at u q) ≡ (retires_of q y || row_retired (row_at t q)))
     → IsClients G u
@@ -143,7 +140,7 @@ clients_by G d y t u h i a r =
     (λ q. a q ∙ ap (λ z. (adds z && is_at d q) || row_added (row_at t q)) (sym x.is))
     (λ q. r q ∙ ap (λ z. retires_of q z || row_retired (row_at t q)) (sym x.is))
 
-consents_by : (G : FactSet) (d : Dot) (y : Change) (t u : BTreeSet ConsentKey) → option_map change_in (map.get G d) ≡ Some y → IsConsents (map.remove G d) t → Ranged u
+pub consents_by : (G : FactSet) (d : Dot) (y : Change) (t u : BTreeSet ConsentKey) → option_map change_in (map.get G d) ≡ Some y → IsConsents (map.remove G d) t → Ranged u
     → ((client : Dot) (subject : List ℕ) (q : Dot) → is_listed u client subject q ≡ ((gives_to client subject y && is_at d q) || is_listed t client subject q))
     → IsConsents G u
 consents_by G d y t u h i ranged l =
@@ -151,21 +148,21 @@ consents_by G d y t u h i ranged l =
     consents_on (map.remove G d) G d x.body t u x.more i ranged
     (λ client subject q. l client subject q ∙ ap (λ z. (gives_to client subject z && is_at d q) || is_listed t client subject q) (sym x.is))
 
-same_consents : (G : FactSet) (d : Dot) (y : Change) (t : BTreeSet ConsentKey) → option_map change_in (map.get G d) ≡ Some y → ((client : Dot) (subject : List ℕ) → gives_to client subject y ≡ false) → IsConsents (map.remove G d) t → IsConsents G t
+pub same_consents : (G : FactSet) (d : Dot) (y : Change) (t : BTreeSet ConsentKey) → option_map change_in (map.get G d) ≡ Some y → ((client : Dot) (subject : List ℕ) → gives_to client subject y ≡ false) → IsConsents (map.remove G d) t → IsConsents G t
 same_consents G d y t h none i = consents_by G d y t t h i i.ranged (λ client subject q. sym (ap (λ b. (b && is_at d q) || is_listed t client subject q) (none client subject)))
 
-withdrawals_by : (G : FactSet) (d : Dot) (y : Change) (t u : BTreeSet Dot) → option_map change_in (map.get G d) ≡ Some y → IsWithdrawals (map.remove G d) t
+pub withdrawals_by : (G : FactSet) (d : Dot) (y : Change) (t u : BTreeSet Dot) → option_map change_in (map.get G d) ≡ Some y → IsWithdrawals (map.remove G d) t
     → ((q : Dot) → contains dot_cmp u q ≡ (withdraws_of q y || contains dot_cmp t q))
     → IsWithdrawals G u
 withdrawals_by G d y t u h i w = let x = changed G d y h in withdrawals_on (map.remove G d) G d x.body t u x.more i (λ q. w q ∙ ap (λ z. withdraws_of q z || contains dot_cmp t q) (sym x.is))
 
-revocations_by : (G : FactSet) (d : Dot) (y : Change) (t u : BTreeSet Revocation) → option_map change_in (map.get G d) ≡ Some y → IsRevocations (map.remove G d) t
+pub revocations_by : (G : FactSet) (d : Dot) (y : Change) (t u : BTreeSet Revocation) → option_map change_in (map.get G d) ≡ Some y → IsRevocations (map.remove G d) t
     → ((k : TokenId) (digest : List ℕ) (client : Dot) → is_listed_revoked u k digest client ≡ (revokes_of k digest client y || is_listed_revoked t k digest client))
     → IsRevocations G u
 revocations_by G d y t u h i r = let x = changed G d y h in revocations_on (map.remove G d) G d x.body t u x.more i (λ k g c. r k g c ∙ ap (λ z. revokes_of k g c z || is_listed_revoked t k g c) (sym x.is))
 
 -- the table with the key of a consent
-give_row : (client : Dot) (subject : List ℕ) (d : Dot) (t u : BTreeSet ConsentKey)
+pub give_row : (client : Dot) (subject : List ℕ) (d : Dot) (t u : BTreeSet ConsentKey)
     → ((k : ConsentKey) → contains consent_cmp u k ≡ cond (eq_by_cmp consent_cmp (consent_key client subject d) k) true (contains consent_cmp t k))
     → (e : Dot) (h : List ℕ) (q : Dot) → is_listed u e h q ≡ ((gives_to e h (change.Give client subject) && is_same_dot d q) || is_listed t e h q)
 give_row client subject d t u r e h q =
@@ -215,6 +212,18 @@ pub same_outs : (G : FactSet) (d : Dot) (y : Change) (t : BTreeSet OutKey) → o
 same_outs G d y t h none i = outs_by G d y t t h i i.ranged (unsigned_early y none)
     (λ subject left q. sym (ap (λ b. (b && is_at d q) || is_listed_out t subject left q) (signs_none subject left y none)))
 
+reuses_by : (G : FactSet) (d : Dot) (y : Change) (t u : BTreeSet ReuseKey) → option_map change_in (map.get G d) ≡ Some y → IsReuses (map.remove G d) t → RangedReuses u
+    → ((k : TokenId) (q : Dot) → is_listed_reuse u k q ≡ ((reuses_of k y && is_at d q) || is_listed_reuse t k q))
+    → IsReuses G u
+reuses_by G d y t u h i ranged l =
+    let x = changed G d y h in
+    reuses_on (map.remove G d) G d x.body t u x.more i ranged
+    (λ k q. l k q ∙ ap (λ z. (reuses_of k z && is_at d q) || is_listed_reuse t k q) (sym x.is))
+
+-- a change that is no reuse leaves the reuses
+pub same_reuses : (G : FactSet) (d : Dot) (y : Change) (t : BTreeSet ReuseKey) → option_map change_in (map.get G d) ≡ Some y → ((k : TokenId) → reuses_of k y ≡ false) → IsReuses (map.remove G d) t → IsReuses G t
+same_reuses G d y t h none i = reuses_by G d y t t h i i.ranged (λ k q. sym (ap (λ b. (b && is_at d q) || is_listed_reuse t k q) (none k)))
+
 -- no fact is at the dot in the set without the fact
 pub change_free : (G : FactSet) (d : Dot) (y : Change) → option_map change_in (map.get G d) ≡ Some y → map.get (map.remove G d) d ≡ None
 change_free G d y h = (changed G d y h).more.free
@@ -225,6 +234,20 @@ codes_same G d t u i same = codes_alike (map.remove G d) t u i same
 
 pub outs_same : (G : FactSet) (d : Dot) (t u : BTreeSet OutKey) → IsOuts (map.remove G d) t → ((k : OutKey) → contains out_cmp u k ≡ contains out_cmp t k) → IsOuts (map.remove G d) u
 outs_same G d t u i same = outs_alike (map.remove G d) t u i same
+
+pub reuses_same : (G : FactSet) (d : Dot) (t u : BTreeSet ReuseKey) → IsReuses (map.remove G d) t → ((k : ReuseKey) → contains reuse_cmp u k ≡ contains reuse_cmp t k) → IsReuses (map.remove G d) u
+reuses_same G d t u i same = reuses_alike (map.remove G d) t u i same
+
+-- the table with the key of a reuse
+pub reuse_row : (G : FactSet) (d : Dot) (j : TokenId) (t u : BTreeSet ReuseKey) → option_map change_in (map.get G d) ≡ Some (change.Mark j) → IsReuses (map.remove G d) t → IsDot d
+    → ((e : ReuseKey) → contains reuse_cmp u e ≡ cond (eq_by_cmp reuse_cmp (reuse_key j d) e) true (contains reuse_cmp t e))
+    → IsReuses G u
+reuse_row G d j t u h i here r = reuses_by G d (change.Mark j) t u h i (reuses_ranged t u d (λ k. is_same_token j k) here i.ranged own)
+    (λ k q. own k q ∙ ap (λ x. (is_same_token j k && x) || is_listed_reuse t k q) (sym (at_is_same d q)))
+  where
+    own : (k : TokenId) (q : Dot) → is_listed_reuse u k q ≡ ((is_same_token j k && is_same_dot d q) || is_listed_reuse t k q)
+    own k q = r (reuse_key k q) ∙ or_cond (eq_by_cmp reuse_cmp (reuse_key j d) (reuse_key k q)) (is_listed_reuse t k q)
+        ∙ ap (λ x. x || is_listed_reuse t k q) (reuse_tied j k d q)
 
 -- the table with the key of a code
 pub code_row : (G : FactSet) (d : Dot) (subject : List ℕ) (t u : BTreeSet CodeKey) → option_map change_in (map.get G d) ≡ Some (change.Issue subject) → IsCodes (map.remove G d) t → IsDot d
@@ -259,135 +282,6 @@ out_row G d subject moment t u h i here early r =
     own : (g : List ℕ) (l : ℕ) (q : Dot) → is_listed_out u g l q ≡ (((bytes_eq subject g && (left_after moment == l)) && is_same_dot d q) || is_listed_out t g l q)
     own g l q = r (out_key g l q) ∙ or_cond (eq_by_cmp out_cmp (out_key subject (left_after moment) d) (out_key g l q)) (is_listed_out t g l q)
         ∙ ap (λ x. x || is_listed_out t g l q) (out_tied subject g (left_after moment) l d q ∙ regroup (bytes_eq subject g) (left_after moment == l) (is_same_dot d q))
-
--- ---- all tables, for each kind of change
-
-pub index_add : (G : FactSet) (d : Dot) (x : Index) (u : BTreeMap Dot ClientRow)
-    → option_map change_in (map.get G d) ≡ Some change.Add → IsIndexed (map.remove G d) x
-    → ((q : Dot) → row_added (row_at u q) ≡ (is_at d q || row_added (row_at x.clients q))) → ((q : Dot) → row_retired (row_at u q) ≡ row_retired (row_at x.clients q))
-    → IsIndexed G (record { clients = u; consents = x.consents; withdrawn = x.withdrawn; revocations = x.revocations; codes = x.codes; outs = x.outs; forest = x.forest })
-index_add G d x u h i a e = record {
-  clients_are = clients_by G d change.Add x.clients u h i.clients_are a e;
-  consents_are = same_consents G d change.Add x.consents h (λ _ _. refl) i.consents_are;
-  withdrawn_are = withdrawals_by G d change.Add x.withdrawn x.withdrawn h i.withdrawn_are (λ q. refl);
-  revocations_are = revocations_by G d change.Add x.revocations x.revocations h i.revocations_are (λ k g c. refl);
-  codes_are = same_codes G d change.Add x.codes h refl i.codes_are;
-  outs_are = same_outs G d change.Add x.outs h refl i.outs_are;
-  tied = quiet_ties G d change.Add x.forest h refl refl refl (λ k. refl) i.tied;
-}
-
-pub index_retire : (G : FactSet) (d c : Dot) (x : Index) (u : BTreeMap Dot ClientRow)
-    → option_map change_in (map.get G d) ≡ Some (change.Retire c) → IsIndexed (map.remove G d) x
-    → ((q : Dot) → row_retired (row_at u q) ≡ (is_at c q || row_retired (row_at x.clients q))) → ((q : Dot) → row_added (row_at u q) ≡ row_added (row_at x.clients q))
-    → IsIndexed G (record { clients = u; consents = x.consents; withdrawn = x.withdrawn; revocations = x.revocations; codes = x.codes; outs = x.outs; forest = x.forest })
-index_retire G d c x u h i e a = record {
-  clients_are = clients_by G d (change.Retire c) x.clients u h i.clients_are a (λ q. e q ∙ ap (λ z. z || row_retired (row_at x.clients q)) (at_is_same c q));
-  consents_are = same_consents G d (change.Retire c) x.consents h (λ _ _. refl) i.consents_are;
-  withdrawn_are = withdrawals_by G d (change.Retire c) x.withdrawn x.withdrawn h i.withdrawn_are (λ q. refl);
-  revocations_are = revocations_by G d (change.Retire c) x.revocations x.revocations h i.revocations_are (λ k g z. refl);
-  codes_are = same_codes G d (change.Retire c) x.codes h refl i.codes_are;
-  outs_are = same_outs G d (change.Retire c) x.outs h refl i.outs_are;
-  tied = quiet_ties G d (change.Retire c) x.forest h refl refl refl (λ k. refl) i.tied;
-}
-
-pub index_give : (G : FactSet) (d client : Dot) (subject : List ℕ) (x : Index) (u : BTreeSet ConsentKey)
-    → option_map change_in (map.get G d) ≡ Some (change.Give client subject) → IsIndexed (map.remove G d) x
-    → IsDot d
-    → ((k : ConsentKey) → contains consent_cmp u k ≡ cond (eq_by_cmp consent_cmp (consent_key client subject d) k) true (contains consent_cmp x.consents k))
-    → IsIndexed G (record { clients = x.clients; consents = u; withdrawn = x.withdrawn; revocations = x.revocations; codes = x.codes; outs = x.outs; forest = x.forest })
-index_give G d client subject x u h i here r =
-    let y = change.Give client subject in
-    let rows = give_row client subject d x.consents u r in
-    record {
-      clients_are = clients_by G d y x.clients x.clients h i.clients_are (λ q. refl) (λ q. refl);
-      consents_are = consents_by G d y x.consents u h i.consents_are
-          (ranged_on x.consents u d (λ e s. gives_to e s y) here i.consents_are.ranged rows)
-          (λ e s q. rows e s q ∙ ap (λ b. (gives_to e s y && b) || is_listed x.consents e s q) (sym (at_is_same d q)));
-      withdrawn_are = withdrawals_by G d y x.withdrawn x.withdrawn h i.withdrawn_are (λ q. refl);
-      revocations_are = revocations_by G d y x.revocations x.revocations h i.revocations_are (λ k g z. refl);
-      codes_are = same_codes G d y x.codes h refl i.codes_are;
-      outs_are = same_outs G d y x.outs h refl i.outs_are;
-      tied = quiet_ties G d y x.forest h refl refl refl (λ k. refl) i.tied;
-    }
-
-pub index_withdraw : (G : FactSet) (d c : Dot) (x : Index) (u : BTreeSet Dot)
-    → option_map change_in (map.get G d) ≡ Some (change.Withdraw c) → IsIndexed (map.remove G d) x
-    → ((q : Dot) → contains dot_cmp u q ≡ cond (is_at c q) true (contains dot_cmp x.withdrawn q))
-    → IsIndexed G (record { clients = x.clients; consents = x.consents; withdrawn = u; revocations = x.revocations; codes = x.codes; outs = x.outs; forest = x.forest })
-index_withdraw G d c x u h i e = record {
-  clients_are = clients_by G d (change.Withdraw c) x.clients x.clients h i.clients_are (λ q. refl) (λ q. refl);
-  consents_are = same_consents G d (change.Withdraw c) x.consents h (λ _ _. refl) i.consents_are;
-  withdrawn_are = withdrawals_by G d (change.Withdraw c) x.withdrawn u h i.withdrawn_are (λ q. e q ∙ or_cond (is_at c q) (contains dot_cmp x.withdrawn q) ∙ ap (λ z. z || contains dot_cmp x.withdrawn q) (at_is_same c q));
-  revocations_are = revocations_by G d (change.Withdraw c) x.revocations x.revocations h i.revocations_are (λ k g z. refl);
-  codes_are = same_codes G d (change.Withdraw c) x.codes h refl i.codes_are;
-  outs_are = same_outs G d (change.Withdraw c) x.outs h refl i.outs_are;
-  tied = quiet_ties G d (change.Withdraw c) x.forest h refl refl refl (λ k. refl) i.tied;
-}
-
-pub index_put : (G : FactSet) (d : Dot) (l : Link) (x : Index) (z : ForestFacts)
-    → option_map change_in (map.get G d) ≡ Some (change.Put l) → IsIndexed (map.remove G d) x → IsTied G z
-    → IsIndexed G (record { clients = x.clients; consents = x.consents; withdrawn = x.withdrawn; revocations = x.revocations; codes = x.codes; outs = x.outs; forest = z })
-index_put G d l x z h i tied = record {
-  clients_are = clients_by G d (change.Put l) x.clients x.clients h i.clients_are (λ q. refl) (λ q. refl);
-  consents_are = same_consents G d (change.Put l) x.consents h (λ _ _. refl) i.consents_are;
-  withdrawn_are = withdrawals_by G d (change.Put l) x.withdrawn x.withdrawn h i.withdrawn_are (λ q. refl);
-  revocations_are = same_revocations G d (change.Put l) x.revocations h (λ _ _ _. refl) i.revocations_are;
-  codes_are = same_codes G d (change.Put l) x.codes h refl i.codes_are;
-  outs_are = same_outs G d (change.Put l) x.outs h refl i.outs_are;
-  tied = tied;
-}
-
-pub index_revoke : (G : FactSet) (d : Dot) (f : revoked.TokenRevoked) (x : Index) (s : BTreeSet Revocation) (z : ForestFacts)
-    → option_map change_in (map.get G d) ≡ Some (change.Revoke f) → IsIndexed (map.remove G d) x → IsRevocations G s → IsTied G z
-    → IsIndexed G (record { clients = x.clients; consents = x.consents; withdrawn = x.withdrawn; revocations = s; codes = x.codes; outs = x.outs; forest = z })
-index_revoke G d f x s z h i rows tied = record {
-  clients_are = clients_by G d (change.Revoke f) x.clients x.clients h i.clients_are (λ q. refl) (λ q. refl);
-  consents_are = same_consents G d (change.Revoke f) x.consents h (λ _ _. refl) i.consents_are;
-  withdrawn_are = withdrawals_by G d (change.Revoke f) x.withdrawn x.withdrawn h i.withdrawn_are (λ q. refl);
-  revocations_are = rows;
-  codes_are = same_codes G d (change.Revoke f) x.codes h refl i.codes_are;
-  outs_are = same_outs G d (change.Revoke f) x.outs h refl i.outs_are;
-  tied = tied;
-}
-
-pub index_mark : (G : FactSet) (d : Dot) (j : TokenId) (x : Index) (z : ForestFacts)
-    → option_map change_in (map.get G d) ≡ Some (change.Mark j) → IsIndexed (map.remove G d) x → IsTied G z
-    → IsIndexed G (record { clients = x.clients; consents = x.consents; withdrawn = x.withdrawn; revocations = x.revocations; codes = x.codes; outs = x.outs; forest = z })
-index_mark G d j x z h i tied = record {
-  clients_are = clients_by G d (change.Mark j) x.clients x.clients h i.clients_are (λ q. refl) (λ q. refl);
-  consents_are = same_consents G d (change.Mark j) x.consents h (λ _ _. refl) i.consents_are;
-  withdrawn_are = withdrawals_by G d (change.Mark j) x.withdrawn x.withdrawn h i.withdrawn_are (λ q. refl);
-  revocations_are = revocations_by G d (change.Mark j) x.revocations x.revocations h i.revocations_are (λ k g c. refl);
-  codes_are = same_codes G d (change.Mark j) x.codes h refl i.codes_are;
-  outs_are = same_outs G d (change.Mark j) x.outs h refl i.outs_are;
-  tied = tied;
-}
-
-pub index_issue : (G : FactSet) (d : Dot) (subject : List ℕ) (x : Index) (s : BTreeSet CodeKey) (z : ForestFacts)
-    → option_map change_in (map.get G d) ≡ Some (change.Issue subject) → IsIndexed (map.remove G d) x → IsCodes G s → IsTied G z
-    → IsIndexed G (record { clients = x.clients; consents = x.consents; withdrawn = x.withdrawn; revocations = x.revocations; codes = s; outs = x.outs; forest = z })
-index_issue G d subject x s z h i rows tied = record {
-  clients_are = clients_by G d (change.Issue subject) x.clients x.clients h i.clients_are (λ q. refl) (λ q. refl);
-  consents_are = same_consents G d (change.Issue subject) x.consents h (λ _ _. refl) i.consents_are;
-  withdrawn_are = withdrawals_by G d (change.Issue subject) x.withdrawn x.withdrawn h i.withdrawn_are (λ q. refl);
-  revocations_are = same_revocations G d (change.Issue subject) x.revocations h (λ _ _ _. refl) i.revocations_are;
-  codes_are = rows;
-  outs_are = same_outs G d (change.Issue subject) x.outs h refl i.outs_are;
-  tied = tied;
-}
-
-pub index_out : (G : FactSet) (d : Dot) (subject : List ℕ) (moment : ℕ) (x : Index) (s : BTreeSet OutKey) (z : ForestFacts)
-    → option_map change_in (map.get G d) ≡ Some (change.SignOut subject moment) → IsIndexed (map.remove G d) x → IsOuts G s → IsTied G z
-    → IsIndexed G (record { clients = x.clients; consents = x.consents; withdrawn = x.withdrawn; revocations = x.revocations; codes = x.codes; outs = s; forest = z })
-index_out G d subject moment x s z h i rows tied = record {
-  clients_are = clients_by G d (change.SignOut subject moment) x.clients x.clients h i.clients_are (λ q. refl) (λ q. refl);
-  consents_are = same_consents G d (change.SignOut subject moment) x.consents h (λ _ _. refl) i.consents_are;
-  withdrawn_are = withdrawals_by G d (change.SignOut subject moment) x.withdrawn x.withdrawn h i.withdrawn_are (λ q. refl);
-  revocations_are = same_revocations G d (change.SignOut subject moment) x.revocations h (λ _ _ _. refl) i.revocations_are;
-  codes_are = same_codes G d (change.SignOut subject moment) x.codes h refl i.codes_are;
-  outs_are = rows;
-  tied = tied;
-}
 
 -- ---- a fact at a free dot
 

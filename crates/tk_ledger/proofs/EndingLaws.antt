@@ -105,7 +105,7 @@ under_itself F d f h =
     record { path = []; leads = (refl, ap (option_and_then link_of) x.1 ∙ issued_link x.0 f x.2) }
 
 -- a dot without a fact is under no code
-under_none : (F : FactSet) (d c : Dot) → map.get F d ≡ None → ¬ IsUnder (links_in (map.get F)) d c
+pub under_none : (F : FactSet) (d c : Dot) → map.get F d ≡ None → ¬ IsUnder (links_in (map.get F)) d c
 under_none F d c free u =
     let l : (l : Link) × (links_in (map.get F) d ≡ Some l) = link_under (links_in (map.get F)) d c u in
     none_is_not_some l.0 (sym (ap (option_and_then link_of) free) ∙ l.1)

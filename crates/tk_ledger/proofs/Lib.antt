@@ -5,8 +5,12 @@ pub mod ConsentLaws
 pub mod EndingLaws
 pub mod FamilyEnds
 pub mod ForestLaws
+pub mod IndexLaws
 pub mod KeyLaws
 pub mod KeySearchLaws
+pub mod LossLaws
+pub mod RetentionLaws
+pub mod ReuseLaws
 pub mod SameLaws
 pub mod SignOutLaws
 pub mod SpanLaws
@@ -18,3 +22,4 @@ pub mod SubjectTableLaws
 pub mod TableLaws
 pub mod TokenLaws
 pub mod TopLaws
+pub mod WakeLaws

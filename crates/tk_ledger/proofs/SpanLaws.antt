@@ -76,6 +76,12 @@ not_past Less h = refl
 not_past Equal h = refl
 not_past Greater h = h
 
+-- what is not below the first and not above the last of two that begin alike begins so, too
+pub between : (o r t : Ordering) → is_le (ordering_then o r) ≡ true → not (is_lt (ordering_then o t)) ≡ true → o ≡ Equal
+between Less r t h i = absurd (true≢false (sym i))
+between Equal r t h i = refl
+between Greater r t h i = absurd (true≢false (sym h))
+
 pub from_first : (q : Dot) → IsDot q → is_le (dot_cmp least_dot q) ≡ true
 from_first q h = dot_le least_dot q (some h.0.0) (some h.1.0)
   where

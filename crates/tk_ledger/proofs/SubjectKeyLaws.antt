@@ -5,7 +5,7 @@
 --   in_codes                                 the span has the dot of each code of the subject
 --   in_outs, of_subject                      the span has the keys of the subject, and no others
 --   code_listed, out_listed                  the keys of a code and of a sign-out that are held
-use Rattle.std.proofs.Common.{◌≡◌, inl, inr, ℕ, ◌≤◌, ◌==◌, Bool, true, false, ◌&&◌, ◌||◌, not, List, [], ◌∷◌, Option, Some, filter, refl, sym, ap, ◌∙◌, arith, eq-eqb}
+use Rattle.std.proofs.Common.{◌≡◌, inl, inr, ℕ, ◌≤◌, ◌==◌, Bool, true, false, ◌&&◌, ◌||◌, not, List, [], ◌∷◌, Some, filter, refl, sym, ap, ◌∙◌, arith, eq-eqb}
 use Rattle.std.proofs.lemmas.Bool.{true≢false, eqb-true, cases_Bool, cond-true, cond-false, or_cases, or_left, and_parts, and_from}
 use Rattle.std.proofs.lemmas.Cmp.{on_total, then_total, tied_itself, nat_list_cmp_total}
 use Rattle.std.proofs.lemmas.Map.Lookups.{exact_bytes}
@@ -17,8 +17,6 @@ use Rattle.std.specs.Cmp.{IsTotalOrder, nat_cmp_total}
 use Rattle.std.specs.Cmp.Lexicographic.{slice_cmp}
 use Rattle.std.specs.Ordering.{nat_cmp, eq_by_cmp, ordering_then, ordering_reverse, is_eq, is_lt, is_le, is_gt}
 use Rattle.std.specs.Str.{bytes_eq}
-use Rattle.std.specs.declared.cmp.Ordering.{Ordering}
-use Rattle.std.specs.declared.cmp.Ordering.TheVariants.{Less, Equal, Greater}
 use Rattle.std.specs.declared.ops.Bound.TheVariants.{Included}
 use Rattle.std.specs.FinMap as map
 use Rattle.sha2.specs.Sha256.{sha256}
@@ -38,7 +36,7 @@ use Rattle.tk_ledger.specs.declared.subject_keys.OutKey.{OutKey}
 use Rattle.tk_ledger.proofs.KeyLaws.{at_itself, at_is_same, both_tied, number_tied, bytes_tied}
 use Rattle.tk_ledger.proofs.KeySearchLaws.{among}
 use Rattle.tk_ledger.proofs.SameLaws.{same_dot-true}
-use Rattle.tk_ledger.proofs.SpanLaws.{number_le, from_first, to_last, not_past}
+use Rattle.tk_ledger.proofs.SpanLaws.{number_le, from_first, to_last, not_past, between}
 
 -- ---- codes
 
@@ -142,11 +140,6 @@ in_outs subject l q le h = and_from _ _
           ap (λ o. not (is_lt (ordering_then (ordering_reverse o) (dot_cmp greatest_dot q)))) same
           ∙ ap (λ o. not (is_lt o)) (dot_cmp_total.antisymm greatest_dot q) ∙ not_past (dot_cmp q greatest_dot) (to_last q h)
     ])
-
-between : (o r t : Ordering) → is_le (ordering_then o r) ≡ true → not (is_lt (ordering_then o t)) ≡ true → o ≡ Equal
-between Less r t h i = absurd (true≢false (sym i))
-between Equal r t h i = refl
-between Greater r t h i = absurd (true≢false (sym h))
 
 -- a key in the span is one of the subject
 pub of_subject : (subject : List ℕ) (e : OutKey) → range_contains out_cmp (Included (out_key subject 0 least_dot)) (Included (out_key subject greatest_moment greatest_dot)) e ≡ true → e.subject ≡ subject

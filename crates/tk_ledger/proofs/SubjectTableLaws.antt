@@ -3,13 +3,12 @@
 --   codes_alike, outs_alike   a table with the same keys
 --   codes_back                the table after the key of a code was removed again
 use Rattle.std.proofs.Common.{◌≡◌, inl, inr, ℕ, ◌≤◌, Bool, true, false, cond, ◌&&◌, ◌||◌, ◌==◌, List, Option, Some, None, refl, sym, ap, subst, ◌∙◌}
-use Rattle.std.proofs.lemmas.Bool.{true≢false, cases_Bool, or_cases, and_parts}
+use Rattle.std.proofs.lemmas.Bool.{true≢false, or_cases, and_parts}
 use Rattle.std.specs.Option.{option_and_then}
 use Rattle.std.specs.Ordering.{eq_by_cmp}
 use Rattle.std.specs.Str.{bytes_eq}
 use Rattle.std.specs.BTreeSet.{BTreeSet, contains}
 use Rattle.std.specs.FinMap as map
-use Rattle.sha2.specs.Sha256.{sha256}
 use Rattle.tk_handle.specs.declared.dot.Dot.{Dot}
 use Rattle.tk_handle.specs.Dot.{IsDot}
 use Rattle.tk_handle.specs.Ranges.{greatest_moment}
@@ -81,7 +80,7 @@ moment-change body f h = absurd (none_is_not_some f h)
 abbrev pub RangedCodes : BTreeSet CodeKey → Type 0
 RangedCodes t = (subject : List ℕ) (d : Dot) → is_listed_code t subject d ≡ true → IsDot d
 
-issued_on : (F G : FactSet) (d : Dot) (b : Body) (subject : List ℕ) (q : Dot) (x : Bool) → OneMore F G d b
+pub issued_on : (F G : FactSet) (d : Dot) (b : Body) (subject : List ℕ) (q : Dot) (x : Bool) → OneMore F G d b
     → x ≡ is_to subject (issued_at (map.get F) q)
     → ((issues_to subject (change_in b) && is_at d q) || x) ≡ is_to subject (issued_at (map.get G) q)
 issued_on F G d b subject q x m i =
@@ -115,7 +114,7 @@ codes_alike F t u i same = record {
 }
 
 -- a key that was put in and removed again leaves the other keys
-without : (a b : Bool) → (a ≡ true → b ≡ false) → cond a false (a || b) ≡ b
+pub without : (a b : Bool) → (a ≡ true → b ≡ false) → cond a false (a || b) ≡ b
 without true b h = sym (h refl)
 without false b h = refl
 
@@ -144,7 +143,7 @@ codes_back F d subject t u v free i r s = record {
 abbrev pub RangedOuts : BTreeSet OutKey → Type 0
 RangedOuts t = (subject : List ℕ) (left : ℕ) (d : Dot) → is_listed_out t subject left d ≡ true → IsDot d
 
-signed_on : (F G : FactSet) (d : Dot) (b : Body) (subject : List ℕ) (left : ℕ) (q : Dot) (x : Bool) → OneMore F G d b
+pub signed_on : (F G : FactSet) (d : Dot) (b : Body) (subject : List ℕ) (left : ℕ) (q : Dot) (x : Bool) → OneMore F G d b
     → x ≡ is_left_by subject left (sign_out_at (map.get F) q)
     → ((signs_out_by subject left (change_in b) && is_at d q) || x) ≡ is_left_by subject left (sign_out_at (map.get G) q)
 signed_on F G d b subject left q x m i =

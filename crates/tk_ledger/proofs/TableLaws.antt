@@ -32,7 +32,7 @@ adds-change : (b : Body) → is_some (added_in b) ≡ adds (change_in b)
 adds-change (ClientAdded f) = refl
 adds-change body = refl
 
-retires-change : (q : Dot) (b : Body) → retires_in q b ≡ retires_of q (change_in b)
+pub retires-change : (q : Dot) (b : Body) → retires_in q b ≡ retires_of q (change_in b)
 retires-change q (ClientRetired f) = refl
 retires-change q body = refl
 
@@ -40,11 +40,11 @@ gives-change : (client : Dot) (subject : List ℕ) (b : Body) → is_from client
 gives-change client subject (ConsentGiven f) = refl
 gives-change client subject body = refl
 
-withdraws-change : (q : Dot) (b : Body) → withdraws_in q b ≡ withdraws_of q (change_in b)
+pub withdraws-change : (q : Dot) (b : Body) → withdraws_in q b ≡ withdraws_of q (change_in b)
 withdraws-change q (ConsentWithdrawn f) = refl
 withdraws-change q body = refl
 
-revokes-change : (k : TokenId) (digest : List ℕ) (client : Dot) (b : Body) → revoked_by k digest client b ≡ revokes_of k digest client (change_in b)
+pub revokes-change : (k : TokenId) (digest : List ℕ) (client : Dot) (b : Body) → revoked_by k digest client b ≡ revokes_of k digest client (change_in b)
 revokes-change k digest client (TokenRevoked f) = refl
 revokes-change k digest client body = refl
 
@@ -75,7 +75,7 @@ own_on d q a x at_f at_g free here there i = elim (cases_dots q d) [
 
 -- ---- clients
 
-added_on : (F G : FactSet) (d : Dot) (b : Body) (q : Dot) (x : Bool) → OneMore F G d b → x ≡ is_some (client_at F q) → ((adds (change_in b) && is_at d q) || x) ≡ is_some (client_at G q)
+pub added_on : (F G : FactSet) (d : Dot) (b : Body) (q : Dot) (x : Bool) → OneMore F G d b → x ≡ is_some (client_at F q) → ((adds (change_in b) && is_at d q) || x) ≡ is_some (client_at G q)
 added_on F G d b q x m i = own_on d q (adds (change_in b)) x (is_some (client_at F q)) (is_some (client_at G q))
     (λ same. ap (λ e. is_some (option_and_then added_in e)) (ap (map.get F) same ∙ m.free))
     (λ same. ap (λ e. is_some (option_and_then added_in e)) (ap (map.get G) same ∙ m.here) ∙ adds-change b)
@@ -93,7 +93,7 @@ clients_on F G d b t u m i a r = record {
 
 -- ---- consents
 
-given_on : (F G : FactSet) (d : Dot) (b : Body) (client : Dot) (subject : List ℕ) (q : Dot) (x : Bool) → OneMore F G d b → x ≡ is_from client subject (consent_at F q) → ((gives_to client subject (change_in b) && is_at d q) || x) ≡ is_from client subject (consent_at G q)
+pub given_on : (F G : FactSet) (d : Dot) (b : Body) (client : Dot) (subject : List ℕ) (q : Dot) (x : Bool) → OneMore F G d b → x ≡ is_from client subject (consent_at F q) → ((gives_to client subject (change_in b) && is_at d q) || x) ≡ is_from client subject (consent_at G q)
 given_on F G d b client subject q x m i = own_on d q (gives_to client subject (change_in b)) x (is_from client subject (consent_at F q)) (is_from client subject (consent_at G q))
     (λ same. ap (λ e. is_from client subject (option_and_then given_in e)) (ap (map.get F) same ∙ m.free))
     (λ same. ap (λ e. is_from client subject (option_and_then given_in e)) (ap (map.get G) same ∙ m.here) ∙ gives-change client subject b)

@@ -2,7 +2,7 @@
 --   top_says, used_says   what the forest's look-ups return, by the set
 --   found_body            the body of the fact that a look-up finds
 --   status_by_top         the status by the top is the status of the handle
-use Rattle.std.proofs.Common.{◌≡◌, ℕ, Bool, true, false, List, Option, Some, None, if◌then◌else◌, refl, sym, ap, subst, ◌∙◌}
+use Rattle.std.proofs.Common.{◌≡◌, inl, inr, ℕ, Bool, true, false, List, Option, Some, None, if◌then◌else◌, refl, sym, ap, subst, ◌∙◌}
 use Rattle.std.proofs.lemmas.Bool.{false_from_ne_true}
 use Rattle.std.specs.Option.{option_and_then, option_map}
 use Rattle.std.specs.Str.{bytes_eq}
@@ -10,12 +10,12 @@ use Rattle.std.specs.FinMap as map
 use Rattle.tk_handle.specs.declared.dot.Dot.{Dot}
 use Rattle.tk_handle.specs.declared.token_id.TokenId.{TokenId}
 use Rattle.tk_handle.specs.declared.handle.Handle.{Handle}
+use Rattle.tk_family.specs.declared.link.Link.{Link}
 use Rattle.tk_family.specs.declared.top.Top.{Top}
 use Rattle.tk_family.specs.declared.top.Top.TheVariants as top
-use Rattle.tk_family.specs.Families.{Links, IsUsed}
+use Rattle.tk_family.specs.Families.{Links, Marks, IsUnder, IsDead, IsUsed, grant_at}
 use Rattle.tk_family.specs.ForestFacts.{ForestFacts, links_at, marks_at}
 use Rattle.tk_family.specs.Tops.{IsTop}
-use Rattle.tk_family.proofs.LookUps.{IsTop-marks}
 use Rattle.tk_family.proofs.WalkLaws.{code_of-complete}
 use Rattle.tk_fact.specs.declared.body.Body.{Body}
 use Rattle.tk_fact.specs.Tokens.{MintedFields, minted_of}
@@ -29,18 +29,38 @@ use Rattle.tk_ledger.specs.declared.status.Status.TheVariants.{Known}
 use Rattle.tk_ledger.proofs.TokenLaws.{is_marked-sound, is_marked-complete, is_dead-sound, is_dead-complete, is_used-sound, is_used-complete, root_at}
 use Rattle.tk_ledger.proofs.KeyLaws.{same_tests}
 use Rattle.tk_ledger.proofs.ForestLaws.{top_code}
+use Rattle.tk_ledger.proofs.WakeLaws.{links_path}
 
 -- ---- the forest's look-ups
 
-links_path : (F : FactSet) (x : ForestFacts) → IsTied F x → links_at x ≡ links_in (map.get F)
-links_path F x t = λ i q. t.links q i
+-- marks of grants in a family are all that a death looks at
+abbrev GrantsWithin : Links → Marks → Marks → Type 0
+GrantsWithin f m n = (q c : Dot) (l : Link) → f q ≡ Some l → IsUnder f q c → m (grant_at q l) → n (grant_at q l)
+
+dead_grants : (f : Links) (m n : Marks) → GrantsWithin f m n → (c : Dot) → IsDead f m c → IsDead f n c
+dead_grants f m n w c x = record {
+  member = x.member;
+  under = x.under;
+  bad = record {
+    link = x.bad.link;
+    here = x.bad.here;
+    why = elim x.bad.why [ inl marked ↦ inl (w x.member c x.bad.link x.bad.here x.under marked) | inr twice ↦ inr twice ];
+  };
+}
+
+-- two relations that mark the same grants in families give the same tops
+top_grants : (f : Links) (m n : Marks) → GrantsWithin f m n → GrantsWithin f n m → (d : Dot) (t : Top) → IsTop f m d t → IsTop f n d t
+top_grants f m n there back d top.Absent h = h
+top_grants f m n there back d top.Broken h = h
+top_grants f m n there back d (top.Code c) h = (h.0, λ dead. h.1 (dead_grants f n m back c dead))
+top_grants f m n there back d (top.Dead c) h = (h.0, dead_grants f m n there c h.1)
 
 top_of_set : (F : FactSet) (x : ForestFacts) (d : Dot) (r : Top) → IsTied F x → IsTop (links_at x) (marks_at x) d r → IsTop (links_in (map.get F)) (IsMarked (map.get F)) d r
 top_of_set F x d r t h =
-    IsTop-marks (links_in (map.get F)) (marks_at x) (IsMarked (map.get F))
-    (λ k m. is_marked-sound F k (sym (t.marks k) ∙ m))
-    (λ k m. t.marks k ∙ is_marked-complete F k m)
-    d r (subst (λ (l : Links). IsTop l (marks_at x) d r) (links_path F x t) h)
+    top_grants (links_in (map.get F)) (marks_at x) (IsMarked (map.get F))
+    (λ q c l at under m. is_marked-sound F (grant_at q l) (sym (t.marks q c l at under) ∙ m))
+    (λ q c l at under m. t.marks q c l at under ∙ is_marked-complete F (grant_at q l) m)
+    d r (subst (λ (l : Links). IsTop l (marks_at x) d r) (links_path F x t.links) h)
 
 says : (F : FactSet) (d : Dot) (r : Top) → IsTop (links_in (map.get F)) (IsMarked (map.get F)) d r → TopSays F d r
 says F d top.Absent h = sym (top_code (links_in (map.get F)) (IsMarked (map.get F)) d top.Absent h)
@@ -53,8 +73,8 @@ top_says F x d r t h = says F d r (top_of_set F x d r t h)
 
 pub used_says : (F : FactSet) (x : ForestFacts) (k : TokenId) (r : Bool) → IsTied F x → ((r ≡ true → IsUsed (links_at x) k) × (IsUsed (links_at x) k → r ≡ true)) → r ≡ is_used F k
 used_says F x k r t both = same_tests r (is_used F k)
-    (λ h. is_used-complete F k (subst (λ (l : Links). IsUsed l k) (links_path F x t) (both.0 h)))
-    (λ h. both.1 (subst (λ (l : Links). IsUsed l k) (sym (links_path F x t)) (is_used-sound F k h)))
+    (λ h. is_used-complete F k (subst (λ (l : Links). IsUsed l k) (links_path F x t.links) (both.0 h)))
+    (λ h. both.1 (subst (λ (l : Links). IsUsed l k) (sym (links_path F x t.links)) (is_used-sound F k h)))
 
 -- ---- the status
 
@@ -76,6 +96,7 @@ root_is F now k b m c dead (Some o) h i j e =
       client = o.issued.client;
       subject = o.issued.subject;
       code = o.code;
+      issued = o.issued;
       scope = m.scope;
       start = m.start;
       expiry = m.expiry;

@@ -82,6 +82,7 @@ standing_by dead F now k body minted root = record {
   client = root.issued.client;
   subject = root.issued.subject;
   code = root.code;
+  issued = root.issued;
   scope = minted.scope;
   start = minted.start;
   expiry = minted.expiry;

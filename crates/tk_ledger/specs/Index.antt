@@ -10,8 +10,12 @@
 --   dots_of                            the dots of codes
 --   IsCodes, IsOuts                    the tables of codes and of sign-outs have what the set has
 --   tells_of                           the sign-out of a key is one of the subject
---   IsTied                             a forest's links and marks are those of the set
---   woken, any_woken                   a token that a revocation or a sign-out stops
+--   reuse_cmp, reuse_key               the keys of reuses, and their order
+--   reuse_keys, has_reuse              the keys of one token, and whether there is one
+--   IsReuses                           the table of reuses has what the set has
+--   IsTied                             a forest's links are those of the set, and its marks of all
+--                                      grants in a family
+--   Wakes                              the marks at some dots are written anew
 --   IsIndexed                          all tables, and the forest, are those of the set
 use Rattle.std.specs.Prelude.{
   map as map_list,
@@ -23,7 +27,6 @@ use Rattle.std.specs.Prelude.{
   true,
   false,
   ◌&&◌,
-  ◌||◌,
   ◌==◌,
   List,
   Option,
@@ -45,22 +48,25 @@ use Rattle.std.specs.FinMap as map
 use Rattle.std.specs.FinSet as set
 use Rattle.sha2.specs.Sha256.{sha256}
 use Rattle.tk_handle.specs.declared.dot.Dot.{Dot}
-use Rattle.tk_handle.specs.declared.kind.Kind.TheVariants as kind
 use Rattle.tk_handle.specs.declared.token_id.TokenId.{TokenId}
 use Rattle.tk_handle.specs.Dot.{IsDot, dot_cmp}
 use Rattle.tk_handle.specs.Kind.{kind_number}
 use Rattle.tk_handle.specs.Ranges.{greatest_region, greatest_serial, greatest_moment}
+use Rattle.tk_family.specs.declared.link.Link.{Link}
+use Rattle.tk_family.specs.Families.{IsUnder, grant_at}
 use Rattle.tk_family.specs.ForestFacts.{ForestFacts}
+use Rattle.tk_fact.specs.declared.body.Body.{Body}
 use Rattle.tk_fact.specs.declared.code_issued.CodeIssued as issued
 use Rattle.tk_fact.specs.declared.consent_given.ConsentGiven as given
 use Rattle.tk_fact.specs.declared.subject_out.SubjectOut as out
 use Rattle.tk_store.specs.FactSet.{FactSet}
-use Rattle.tk_ledger.specs.Bodies.{is_same_dot, is_same_token}
+use Rattle.tk_ledger.specs.Bodies.{is_same_dot}
 use Rattle.tk_ledger.specs.Clients.{client_at, is_retired, consent_at, is_withdrawn}
 use Rattle.tk_ledger.specs.SignOuts.{sign_out_at}
-use Rattle.tk_ledger.specs.Tokens.{links_in, issued_at, is_revoked, is_ended, is_out, is_marked}
+use Rattle.tk_ledger.specs.Tokens.{links_in, issued_at, is_revoked, reuse_of, is_marked}
 use Rattle.tk_ledger.specs.declared.client_rows.ClientRow.{ClientRow}
 use Rattle.tk_ledger.specs.declared.consent_keys.ConsentKey.{ConsentKey}
+use Rattle.tk_ledger.specs.declared.reuses.ReuseKey.{ReuseKey}
 use Rattle.tk_ledger.specs.declared.revocations.Revocation.{Revocation}
 use Rattle.tk_ledger.specs.declared.subject_keys.CodeKey.{CodeKey}
 use Rattle.tk_ledger.specs.declared.subject_keys.OutKey.{OutKey}
@@ -209,7 +215,6 @@ is_to subject None = false
 is_to subject (Some code) = bytes_eq (sha256 code.subject) subject
 
 -- the table has the code of the dot under the digest
--- the table has the code of the dot under the digest
 abbrev pub is_listed_code : BTreeSet CodeKey → List ℕ → Dot → Bool
 is_listed_code t subject d = keys.contains code_cmp t (code_key subject d)
 
@@ -247,36 +252,62 @@ tells_by subject left (Some f) = bytes_eq f.subject subject && left_after f.mome
 abbrev pub tells_of : FactSet → List ℕ → OutKey → Bool
 tells_of F subject k = tells_by subject k.left (sign_out_at (map.get F) k.place)
 
+-- ---- reuses
+
+-- the order of reuses: by token, then by the dot of the fact that saw the reuse
+abbrev pub reuse_cmp : ReuseKey → ReuseKey → Ordering
+reuse_cmp a b =
+    ordering_then (dot_cmp a.dot b.dot)
+    (ordering_then (nat_cmp a.kind b.kind) (dot_cmp a.place b.place))
+
+-- the key of a reuse
+abbrev pub reuse_key : TokenId → Dot → ReuseKey
+reuse_key k d = record { dot = k.dot; kind = kind_number k.kind; place = d }
+
+-- the keys of the reuses of a token
+abbrev pub reuse_keys : BTreeSet ReuseKey → TokenId → List ReuseKey
+reuse_keys t k =
+    keys.keys_between reuse_cmp (Included (reuse_key k least_dot))
+    (Included (reuse_key k greatest_dot)) t
+
+-- the table has a reuse of the token
+abbrev pub has_reuse : BTreeSet ReuseKey → TokenId → Bool
+has_reuse t k = list_any (λ e. true) (reuse_keys t k)
+
+-- there is a body, and it is that the token's reuse was seen
+abbrev pub is_reuse_of : TokenId → Option Body → Bool
+is_reuse_of k None = false
+is_reuse_of k (Some b) = reuse_of k b
+
+-- the table has that the fact at the dot saw a reuse of the token
+abbrev pub is_listed_reuse : BTreeSet ReuseKey → TokenId → Dot → Bool
+is_listed_reuse t k d = keys.contains reuse_cmp t (reuse_key k d)
+
+-- the table has each reuse that was seen, under its token and the dot of its fact, and no other
+pub record IsReuses (F : FactSet) (t : BTreeSet ReuseKey) : Type 0 where
+  pub listed : (k : TokenId) (d : Dot) → is_listed_reuse t k d ≡ is_reuse_of k (map.get F d)
+  pub ranged : (k : TokenId) (d : Dot) → is_listed_reuse t k d ≡ true → IsDot d
+
 -- ---- the forest
 
--- a forest has the links and the marks of the set
+-- a forest has the links of the set, and the marks of all grants in a family. Other marks count for
+-- nothing: no family is dead by them
 pub record IsTied (F : FactSet) (x : ForestFacts) : Type 0 where
   pub links : (q : Dot) → map.get x.links q ≡ links_in (map.get F) q
-  pub marks : (k : TokenId) → set.contains x.marks k ≡ is_marked F k
+  pub marks : (q c : Dot) (l : Link) → links_in (map.get F) q ≡ Some l
+      → IsUnder (links_in (map.get F)) q c
+      → set.contains x.marks (grant_at q l) ≡ is_marked F (grant_at q l)
 
--- the refresh token of the dot
-abbrev pub refresh_at : Dot → TokenId
-refresh_at d = record { dot = d; kind = kind.Refresh }
-
--- the code of the dot
-abbrev pub code_at : Dot → TokenId
-code_at d = record { dot = d; kind = kind.Code }
-
--- the token is the refresh token of the dot, and its client revoked it
-abbrev pub wakes_refresh : FactSet → TokenId → Dot → Bool
-wakes_refresh F k d = is_same_token (refresh_at d) k && is_ended F (refresh_at d)
-
--- the token is the code of the dot, and its subject signed out
-abbrev pub wakes_code : FactSet → TokenId → Dot → Bool
-wakes_code F k d = is_same_token (code_at d) k && is_out F d
-
--- the token is at the dot, and a revocation or a sign-out stops it
-abbrev pub woken : FactSet → TokenId → Dot → Bool
-woken F k d = wakes_refresh F k d || wakes_code F k d
-
--- the token is at one of the dots, and a revocation or a sign-out stops it
-abbrev pub any_woken : FactSet → TokenId → List Dot → Bool
-any_woken F k ds = list_any (woken F k) ds
+-- the grants at the dots of `at` that are in a family are marked as in the set. Links, and marks at
+-- other dots, are as before
+pub record Wakes (F : FactSet) (old : ForestFacts) (at : Dot → Bool) (new : ForestFacts) : Type 0
+  where
+    pub links : new.links ≡ old.links
+    pub here : (q c : Dot) (l : Link) → at q ≡ true → links_in (map.get F) q ≡ Some l
+        → IsUnder (links_in (map.get F)) q c
+        → set.contains new.marks (grant_at q l) ≡ is_marked F (grant_at q l)
+    pub there : (k : TokenId) → at k.dot ≡ false
+        → set.contains new.marks k ≡ set.contains old.marks k
 
 -- ---- all of it
 
@@ -288,4 +319,5 @@ pub record IsIndexed (F : FactSet) (x : Index) : Type 0 where
   pub revocations_are : IsRevocations F x.revocations
   pub codes_are : IsCodes F x.codes
   pub outs_are : IsOuts F x.outs
+  pub reuses_are : IsReuses F x.reuses
   pub tied : IsTied F x.forest

@@ -12,6 +12,8 @@
 --   Laws             the laws, which hold of all sets of facts
 --   Changes          change_in, the change that one fact makes in the tables
 --   Index            IsIndexed, the tables beside the facts
+--   Losses           WasIndexed, the tables after the loss of a fact
+--   Retention        MaySkip, the facts of families that are over
 --   ByTop            by_top, the status of a token by the top of its dot
 pub mod Bodies
 pub mod ByTop
@@ -20,6 +22,8 @@ pub mod Clients
 pub mod Ends
 pub mod Index
 pub mod Laws
+pub mod Losses
+pub mod Retention
 pub mod SignOuts
 pub mod StandingFields
 pub mod Standings

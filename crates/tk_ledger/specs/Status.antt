@@ -84,13 +84,14 @@ abbrev pub generation_of : Body → ℕ
 generation_of (RefreshRotated f) = f.generation
 generation_of body = 0
 
--- the standing of a token. Client, subject and the family's end are the code's; scope, start,
--- expiry and generation are those of the fact that minted the token
+-- the standing of a token. Client, subject and the family's end are those of the fact that issued
+-- the code; scope, start, expiry and generation are those of the fact that minted the token
 abbrev pub standing_in : FactSet → ℕ → TokenId → Body → MintedFields → Root → StandingFields
 standing_in F now k body minted root = record {
   client = root.issued.client;
   subject = root.issued.subject;
   code = root.code;
+  issued = root.issued;
   scope = minted.scope;
   start = minted.start;
   expiry = minted.expiry;

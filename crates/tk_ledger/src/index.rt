@@ -2,13 +2,14 @@
 
 use crate::client_rows::ClientRow;
 use crate::consent_keys::ConsentKey;
+use crate::reuses::ReuseKey;
 use crate::revocations::Revocation;
 use crate::subject_keys::{CodeKey, OutKey};
 use std::collections::{BTreeMap, BTreeSet};
 use tk_family::Forest;
 use tk_handle::Dot;
 
-// The tables: clients, consents, revocations, codes and sign-outs by key, and the families.
+// The tables: clients, consents, revocations, codes, sign-outs and reuses by key, and the families.
 #[derive(Drop)]
 pub(crate) struct Index {
     pub(crate) clients: BTreeMap<Dot, ClientRow>,
@@ -17,6 +18,7 @@ pub(crate) struct Index {
     pub(crate) revocations: BTreeSet<Revocation>,
     pub(crate) codes: BTreeSet<CodeKey>,
     pub(crate) outs: BTreeSet<OutKey>,
+    pub(crate) reuses: BTreeSet<ReuseKey>,
     pub(crate) forest: Forest,
 }
 
@@ -26,12 +28,20 @@ ghost use Rattle.std.specs.FinMap as map;
 ghost use Rattle.tk_store.specs.Store.{facts_of};
 ghost use Rattle.tk_ledger.specs.declared.change.Change.TheVariants as change_as;
 ghost use Rattle.tk_ledger.specs.Changes.{change_in};
-ghost use Rattle.tk_ledger.specs.Index.{IsRevocations, IsCodes, IsOuts, IsTied, IsIndexed};
+ghost use Rattle.tk_ledger.specs.Index.{
+  IsRevocations,
+  IsCodes,
+  IsOuts,
+  IsReuses,
+  IsTied,
+  IsIndexed,
+};
 ghost use Rattle.tk_ledger.specs.Tokens.{links_in};
 
 use crate::change::Change;
 use crate::client_rows::{add_client, retire_client};
 use crate::consent_keys::{give, withdraw};
+use crate::reuses::list_reuse;
 use crate::revocations::revoke;
 use crate::subject_keys::{drop_code, list_code, list_out};
 use crate::wake::{wake, wake_all, wake_codes};
@@ -53,17 +63,19 @@ impl Index {
             revocations: BTreeSet::new(alloc),
             codes: BTreeSet::new(alloc),
             outs: BTreeSet::new(alloc),
+            reuses: BTreeSet::new(alloc),
             forest: Forest::new(alloc),
         }
     }
 }
 
-// Adds a link to the forest, and marks what a revocation or a sign-out stops at the dots that the
-// link brings under a code. Only the link allocates memory.
+// Adds a link to the forest, and writes the marks at the dots that the link brings under a code.
+// Only the link allocates memory.
 fn put_link(
     facts: &FactStore,
     revocations: &BTreeSet<Revocation>,
     outs: &BTreeSet<OutKey>,
+    reuses: &BTreeSet<ReuseKey>,
     forest: &mut Forest,
     dot: Dot,
     link: Link,
@@ -71,13 +83,14 @@ fn put_link(
     requires link { links_in (map.get (facts_of facts.now)) dot ≡ Some link }
     requires revocations { IsRevocations (facts_of facts.now) revocations.now }
     requires outs { IsOuts (facts_of facts.now) outs.now }
+    requires reuses { IsReuses (facts_of facts.now) reuses.now }
     requires tied { IsTied (map.remove (facts_of facts.now) dot) forest.old }
     ensures ok { OnOk result (IsTied (facts_of facts.now) forest.new) }
     ensures err { OnErr result (IsTied (map.remove (facts_of facts.now) dot) forest.new) }
 {
     match forest.put(dot, link) {
         Ok(raised) => {
-            wake_all(facts, revocations, outs, forest, raised.as_slice());
+            wake_all(facts, revocations, outs, reuses, forest, raised.as_slice());
             Ok(())
         }
         Err(error) => Err(error),
@@ -90,6 +103,7 @@ fn issue_code(
     revocations: &BTreeSet<Revocation>,
     codes: &mut BTreeSet<CodeKey>,
     outs: &BTreeSet<OutKey>,
+    reuses: &BTreeSet<ReuseKey>,
     forest: &mut Forest,
     dot: Dot,
     subject: &[u8; 32],
@@ -99,6 +113,7 @@ fn issue_code(
     requires revocations { IsRevocations (facts_of facts.now) revocations.now }
     requires codes { IsCodes (map.remove (facts_of facts.now) dot) codes.old }
     requires outs { IsOuts (facts_of facts.now) outs.now }
+    requires reuses { IsReuses (facts_of facts.now) reuses.now }
     requires tied { IsTied (map.remove (facts_of facts.now) dot) forest.old }
     ensures codes { OnOk result (IsCodes (facts_of facts.now) codes.new) }
     ensures ok { OnOk result (IsTied (facts_of facts.now) forest.new) }
@@ -108,7 +123,7 @@ fn issue_code(
     if let Err(error) = list_code(codes, subject, dot) {
         return Err(error);
     }
-    match put_link(facts, revocations, outs, forest, dot, Link::Code) {
+    match put_link(facts, revocations, outs, reuses, forest, dot, Link::Code) {
         Ok(()) => Ok(()),
         Err(error) => {
             drop_code(codes, subject, dot);
@@ -117,27 +132,42 @@ fn issue_code(
     }
 }
 
-// Marks a token that was reused.
+// Adds the key of a reuse, and writes the marks at its token's dot.
 fn mark_token(
     facts: &FactStore,
+    revocations: &BTreeSet<Revocation>,
+    outs: &BTreeSet<OutKey>,
+    reuses: &mut BTreeSet<ReuseKey>,
     forest: &mut Forest,
     dot: Dot,
     token: TokenId,
 ) -> Result<(), AllocError>
     requires change { option_map change_in (map.get (facts_of facts.now) dot)
         ≡ Some (change_as.Mark token) }
+    requires revocations { IsRevocations (facts_of facts.now) revocations.now }
+    requires outs { IsOuts (facts_of facts.now) outs.now }
+    requires reuses { IsReuses (map.remove (facts_of facts.now) dot) reuses.old }
     requires tied { IsTied (map.remove (facts_of facts.now) dot) forest.old }
+    ensures reuses { OnOk result (IsReuses (facts_of facts.now) reuses.new) }
     ensures ok { OnOk result (IsTied (facts_of facts.now) forest.new) }
+    ensures reuses_err { OnErr result (IsReuses (map.remove (facts_of facts.now) dot) reuses.new) }
     ensures err { OnErr result (IsTied (map.remove (facts_of facts.now) dot) forest.new) }
 {
-    forest.mark(token)
+    match list_reuse(reuses, &token, dot) {
+        Ok(()) => {
+            wake(facts, revocations, outs, reuses, forest, token.dot);
+            Ok(())
+        }
+        Err(error) => Err(error),
+    }
 }
 
-// Adds the key of a revocation, and marks its token if that is under a code of the client.
+// Adds the key of a revocation, and writes the marks at its token's dot.
 fn revoke_token(
     facts: &FactStore,
     revocations: &mut BTreeSet<Revocation>,
     outs: &BTreeSet<OutKey>,
+    reuses: &BTreeSet<ReuseKey>,
     forest: &mut Forest,
     dot: Dot,
     fact: &TokenRevoked,
@@ -146,6 +176,7 @@ fn revoke_token(
         ≡ Some (change_as.Revoke fact.now) }
     requires revocations { IsRevocations (map.remove (facts_of facts.now) dot) revocations.old }
     requires outs { IsOuts (facts_of facts.now) outs.now }
+    requires reuses { IsReuses (facts_of facts.now) reuses.now }
     requires tied { IsTied (map.remove (facts_of facts.now) dot) forest.old }
     ensures revocations { OnOk result (IsRevocations (facts_of facts.now) revocations.new) }
     ensures ok { OnOk result (IsTied (facts_of facts.now) forest.new) }
@@ -155,19 +186,20 @@ fn revoke_token(
 {
     match revoke(revocations, &fact.token, &fact.digest, fact.client) {
         Ok(()) => {
-            wake(facts, revocations, outs, forest, fact.token.dot);
+            wake(facts, revocations, outs, reuses, forest, fact.token.dot);
             Ok(())
         }
         Err(error) => Err(error),
     }
 }
 
-// Adds the key of a sign-out, and marks the codes of the subject that the sign-out stops.
+// Adds the key of a sign-out, and writes the marks at the subject's codes.
 fn sign_out(
     facts: &FactStore,
     revocations: &BTreeSet<Revocation>,
     codes: &BTreeSet<CodeKey>,
     outs: &mut BTreeSet<OutKey>,
+    reuses: &BTreeSet<ReuseKey>,
     forest: &mut Forest,
     dot: Dot,
     subject: &[u8; 32],
@@ -178,6 +210,7 @@ fn sign_out(
     requires revocations { IsRevocations (facts_of facts.now) revocations.now }
     requires codes { IsCodes (facts_of facts.now) codes.now }
     requires outs { IsOuts (map.remove (facts_of facts.now) dot) outs.old }
+    requires reuses { IsReuses (facts_of facts.now) reuses.now }
     requires tied { IsTied (map.remove (facts_of facts.now) dot) forest.old }
     ensures outs { OnOk result (IsOuts (facts_of facts.now) outs.new) }
     ensures ok { OnOk result (IsTied (facts_of facts.now) forest.new) }
@@ -186,7 +219,7 @@ fn sign_out(
 {
     match list_out(outs, subject, moment, dot) {
         Ok(()) => {
-            wake_codes(facts, revocations, codes, outs, forest, subject);
+            wake_codes(facts, revocations, codes, outs, reuses, forest, subject);
             Ok(())
         }
         Err(error) => Err(error),
@@ -216,6 +249,7 @@ pub(crate) fn follow(
             &index.revocations,
             &mut index.codes,
             &index.outs,
+            &index.reuses,
             &mut index.forest,
             dot,
             subject,
@@ -224,6 +258,7 @@ pub(crate) fn follow(
             facts,
             &index.revocations,
             &index.outs,
+            &index.reuses,
             &mut index.forest,
             dot,
             *link,
@@ -232,16 +267,26 @@ pub(crate) fn follow(
             facts,
             &mut index.revocations,
             &index.outs,
+            &index.reuses,
             &mut index.forest,
             dot,
             fact,
         ),
-        Change::Mark(token) => mark_token(facts, &mut index.forest, dot, *token),
+        Change::Mark(token) => mark_token(
+            facts,
+            &index.revocations,
+            &index.outs,
+            &mut index.reuses,
+            &mut index.forest,
+            dot,
+            *token,
+        ),
         Change::SignOut { subject, moment } => sign_out(
             facts,
             &index.revocations,
             &index.codes,
             &mut index.outs,
+            &index.reuses,
             &mut index.forest,
             dot,
             subject,

@@ -16,17 +16,19 @@
 //! which no crate above sees:
 //!
 //! - tables by key: clients (`client_rows`), consents (`consent_keys`), revocations
-//!   (`revocations`), and the codes and sign-outs of subjects (`subject_keys`)
-//! - a forest of families, with marks
+//!   (`revocations`), the codes and sign-outs of subjects (`subject_keys`), and reuses (`reuses`)
+//! - a forest of families, with the marks of all codes and refresh tokens in a family
 //!
-//! `change` has the change that a fact makes in the index, and `index` makes the change. `wake`
-//! marks refresh tokens that their client revoked and codes whose subject signed out, whichever
+//! `change` has the change that a fact makes in the index, `index` makes the change, and `unfollow`
+//! undoes it for a fact that is lost. `wake` writes the marks at a dot anew: of refresh tokens that
+//! their client revoked, codes whose subject signed out, and tokens whose reuse was seen, whichever
 //! fact arrives first. `looks`, `clients`, `consents`, `sign_outs` and `standing` look facts up.
+//! `retention` lists the facts of families that are over.
 //!
 //! In reading order: `Ledger`, `ClientView`, `ConsentView`, `Status`, `Standing`, `State`. The
 //! definitions are in `specs/`: `Clients`, `SignOuts`, `Tokens`, `Status`, `Standings`, `Ends`; for
-//! the index `Changes`, `Index`, `ByTop`. The functions of `laws` have empty bodies: they state the
-//! laws in `specs/Laws.antt`.
+//! the index `Changes`, `Index`, `Losses`, `ByTop`; for pruning `Retention`. The functions of
+//! `laws` have empty bodies: they state the laws in `specs/Laws.antt`.
 #![tactic(auto)]
 
 mod change;
@@ -42,12 +44,15 @@ mod join;
 mod laws;
 mod ledger;
 mod looks;
+mod retention;
+mod reuses;
 mod revocations;
 mod root;
 mod sign_outs;
 mod standing;
 mod status;
 mod subject_keys;
+mod unfollow;
 mod wake;
 
 pub use client_view::ClientView;

@@ -59,7 +59,7 @@ fn code_of_top(top: Top) -> Option<Dot>
 }
 
 // Returns the code that the dot is under.
-fn code_above(forest: &Forest, dot: Dot) -> Option<Dot>
+pub(crate) fn code_above(forest: &Forest, dot: Dot) -> Option<Dot>
     ensures { result ≡ code_of (links_at forest.now) dot }
 {
     code_of_top(forest.top(dot, &mut Steps::new()))

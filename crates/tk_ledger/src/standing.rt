@@ -1,6 +1,6 @@
 //! The status of a handle, by at most eight look-ups.
 
-ghost use Rattle.std.specs.Prelude.{◌≡◌, ◌+◌, ◌^◌, ◌<◌, ◌≤◌};
+ghost use Rattle.std.specs.Prelude.{◌≡◌, ◌+◌, ◌^◌, ◌<◌, ◌≤◌, Some};
 ghost use Rattle.std.specs.Option.{option_copied, option_map};
 ghost use Rattle.std.specs.FinMap as map;
 ghost use Rattle.tk_fact.specs.Tokens.{minted_of, shown_minted};
@@ -10,7 +10,7 @@ ghost use Rattle.tk_ledger.specs.Clients as clients_of;
 ghost use Rattle.tk_ledger.specs.Status as spec;
 ghost use Rattle.tk_ledger.specs.Tokens as tokens_of;
 
-use crate::compare::same_digests;
+use crate::compare::{same_digests, same_dots};
 use crate::consents::{given_in, gives};
 use crate::ledger::Ledger;
 use crate::looks::issued_in;
@@ -123,26 +123,37 @@ impl Ledger {
 // ---- several look-ups together
 
 impl Ledger {
-    // Returns the fact that issued the code at the dot.
-    fn issued_at(&self, code: Dot, steps: &mut Steps) -> Option<&CodeIssued>
+    // Returns the fact that issued the code at the dot. A given fact that is held is not looked up
+    // again.
+    fn issued_at<'a>(
+        &'a self,
+        code: Dot,
+        fact: &'a Fact,
+        steps: &mut Steps,
+    ) -> Option<&'a CodeIssued>
+        requires { map.get (facts_of self.now) fact.now.0 ≡ Some fact.now.1 }
         ensures value { option_copied result ≡ tokens_of.issued_at (map.get (facts_of self.now))
             code }
         ensures more { steps.old ≤ steps.new }
         ensures at_most { steps.new ≤ steps.old + 1 }
     {
+        if same_dots(fact.dot, code) {
+            return issued_in(&fact.body);
+        }
         match self.look(code, steps) {
-            Some(fact) => issued_in(&fact.body),
+            Some(other) => issued_in(&other.body),
             None => None,
         }
     }
 
     // Returns the root with the code at the dot, if a code was issued there.
-    fn root_of(&self, code: Dot, steps: &mut Steps) -> Option<Root<'_>>
+    fn root_of<'a>(&'a self, code: Dot, fact: &'a Fact, steps: &mut Steps) -> Option<Root<'a>>
+        requires { map.get (facts_of self.now) fact.now.0 ≡ Some fact.now.1 }
         ensures value { result ≡ tokens_of.root_of (map.get (facts_of self.now)) code }
         ensures more { steps.old ≤ steps.new }
         ensures at_most { steps.new ≤ steps.old + 1 }
     {
-        match self.issued_at(code, steps) {
+        match self.issued_at(code, fact, steps) {
             Some(issued) => Some(Root { code, issued }),
             None => None,
         }
@@ -214,27 +225,29 @@ impl Ledger {
         &'a self,
         now: Moment,
         token: &TokenId,
-        body: &Body,
+        fact: &'a Fact,
         minted: &Minted<'a>,
         dead: bool,
         code: Dot,
         steps: &mut Steps,
     ) -> Status<'a>
-        ensures value { result ≡ by.by_root dead (facts_of self.now) now token.now body.now
+        requires { map.get (facts_of self.now) fact.now.0 ≡ Some fact.now.1 }
+        ensures value { result ≡ by.by_root dead (facts_of self.now) now token.now fact.now.1
             (shown_minted minted.now) (tokens_of.root_of (map.get (facts_of self.now)) code) }
         ensures more { steps.old ≤ steps.new }
         ensures at_most { steps.new ≤ steps.old + 5 }
     {
-        match self.root_of(code, steps) {
+        match self.root_of(code, fact, steps) {
             Some(root) => Status::Known(Standing {
                 client: root.issued.client,
                 subject: &root.issued.subject,
                 code: root.code,
+                issued: root.issued,
                 scope: minted.scope,
                 start: minted.start,
                 expiry: minted.expiry,
                 family_end: root.issued.family_end,
-                generation: generation(body),
+                generation: generation(&fact.body),
                 state: self.state(now, token, minted, dead, root.issued, steps),
             }),
             None => Status::Broken(minted.expiry),
@@ -246,12 +259,13 @@ impl Ledger {
         &'a self,
         now: Moment,
         token: &TokenId,
-        body: &Body,
+        fact: &'a Fact,
         minted: &Minted<'a>,
         top: Top,
         steps: &mut Steps,
     ) -> Status<'a>
-        ensures value { result ≡ by.by_top (facts_of self.now) now token.now body.now
+        requires { map.get (facts_of self.now) fact.now.0 ≡ Some fact.now.1 }
+        ensures value { result ≡ by.by_top (facts_of self.now) now token.now fact.now.1
             (shown_minted minted.now) top }
         ensures more { steps.old ≤ steps.new }
         ensures at_most { steps.new ≤ steps.old + 5 }
@@ -259,8 +273,8 @@ impl Ledger {
         match top {
             Top::Absent => Status::Broken(minted.expiry),
             Top::Broken => Status::Broken(minted.expiry),
-            Top::Code(code) => self.under(now, token, body, minted, false, code, steps),
-            Top::Dead(code) => self.under(now, token, body, minted, true, code, steps),
+            Top::Code(code) => self.under(now, token, fact, minted, false, code, steps),
+            Top::Dead(code) => self.under(now, token, fact, minted, true, code, steps),
         }
     }
 
@@ -277,6 +291,6 @@ impl Ledger {
             return Status::Wrong;
         };
         let top = self.top(handle.id.dot, steps);
-        self.of_top(now, &handle.id, &fact.body, &minted, top, steps)
+        self.of_top(now, &handle.id, fact, &minted, top, steps)
     }
 }

@@ -1,7 +1,7 @@
 //! The status of a handle, and the standing of its token.
 
 use std::marker::Model;
-use tk_fact::Subject;
+use tk_fact::{CodeIssued, Subject};
 use tk_handle::{Dot, Moment};
 use tk_scope::Scope;
 
@@ -35,6 +35,8 @@ pub struct Standing<'a> {
     pub subject: &'a Subject,
     /// The code whose family the token is in.
     pub code: Dot,
+    /// The fact that issued the code.
+    pub issued: &'a CodeIssued,
     /// The scope of the token, from the fact that minted it.
     pub scope: &'a Scope,
     /// When the token starts, from the fact that minted it.
@@ -59,6 +61,7 @@ impl<'a> Model for Standing<'a> {
       client = s.client;
       subject = s.subject.now;
       code = s.code;
+      issued = s.issued.now;
       scope = s.scope.now;
       start = s.start;
       expiry = s.expiry;

@@ -1,28 +1,29 @@
-//! Marks of refresh tokens that their client revoked, and of codes whose subject signed out,
-//! whichever fact arrives first.
+//! The marks of codes and refresh tokens in a family: tokens whose reuse was seen, refresh tokens
+//! that their client revoked, and codes whose subject signed out, whichever fact arrives first.
 
-ghost use Rattle.std.specs.Prelude.{◌≡◌, ◌||◌};
+ghost use Rattle.std.specs.Prelude.{◌≡◌, IsSome, cond};
 ghost use Rattle.std.specs.Option.{option_map};
 ghost use Rattle.std.specs.FinMap as map;
 ghost use Rattle.std.specs.FinSet as set;
 ghost use Rattle.tk_handle.specs.declared.dot.Dot.{Dot as the_dot};
 ghost use Rattle.tk_handle.specs.declared.token_id.TokenId.{TokenId as the_token};
+ghost use Rattle.tk_family.specs.Dots.{dot_eq, has};
 ghost use Rattle.tk_fact.specs.Tokens.{shown_minted};
 ghost use Rattle.tk_store.specs.Store.{facts_of};
-ghost use Rattle.tk_ledger.specs.Tokens.{links_in, is_ended as ended};
+ghost use Rattle.tk_ledger.specs.Bodies.{is_same_token};
+ghost use Rattle.tk_ledger.specs.ByTop.{ended_in};
 ghost use Rattle.tk_ledger.specs.Index.{
   IsRevocations,
   IsOuts,
+  IsReuses,
+  Wakes,
   codes_of,
   dots_of,
-  wakes_refresh,
-  wakes_code,
-  woken,
-  any_woken,
 };
-ghost use Rattle.tk_ledger.specs.ByTop.{ended_in};
+ghost use Rattle.tk_ledger.specs.Tokens as spec;
 
-use crate::looks::{minted_at, root_above};
+use crate::looks::{code_above, minted_at, root_above};
+use crate::reuses::{ReuseKey, is_reused};
 use crate::revocations::{Revocation, is_revoked};
 use crate::root::Root;
 use crate::sign_outs::is_out;
@@ -63,8 +64,8 @@ fn is_ended(
 ) -> bool
     requires revocations { IsRevocations (facts_of facts.now) revocations.now }
     requires links { (q : the_dot)
-        → map.get forest.now.links q ≡ links_in (map.get (facts_of facts.now)) q }
-    ensures { result ≡ ended (facts_of facts.now) token.now }
+        → map.get forest.now.links q ≡ spec.links_in (map.get (facts_of facts.now)) q }
+    ensures { result ≡ spec.is_ended (facts_of facts.now) token.now }
 {
     is_ended_by(
         revocations,
@@ -74,112 +75,157 @@ fn is_ended(
     )
 }
 
-// Marks the refresh token of the dot, if its client revoked it. The dot of such a token has a link:
-// the mark allocates no memory.
-fn wake_refresh(facts: &FactStore, revocations: &BTreeSet<Revocation>, forest: &mut Forest, at: Dot)
+// Returns whether a revocation or a sign-out stops the token.
+fn is_stopped(
+    facts: &FactStore,
+    revocations: &BTreeSet<Revocation>,
+    outs: &BTreeSet<OutKey>,
+    forest: &Forest,
+    token: &TokenId,
+) -> bool
     requires revocations { IsRevocations (facts_of facts.now) revocations.now }
-    requires links { (q : the_dot)
-        → map.get forest.old.links q ≡ links_in (map.get (facts_of facts.now)) q }
-    ensures links { forest.new.links ≡ forest.old.links }
-    ensures marks { (k : the_token)
-        → set.contains forest.new.marks k ≡ (wakes_refresh (facts_of facts.now) k at
-        || set.contains forest.old.marks k) }
-{
-    let token = TokenId {
-        dot: at,
-        kind: Kind::Refresh,
-    };
-    if is_ended(facts, revocations, forest, &token) {
-        let done: Result<(), AllocError> = forest.mark(token);
-        done.unwrap();
-    }
-}
-
-// Marks the code of the dot, if its subject signed out. The dot of a code has a link: the mark
-// allocates no memory.
-fn wake_code(facts: &FactStore, outs: &BTreeSet<OutKey>, forest: &mut Forest, at: Dot)
     requires outs { IsOuts (facts_of facts.now) outs.now }
     requires links { (q : the_dot)
-        → map.get forest.old.links q ≡ links_in (map.get (facts_of facts.now)) q }
-    ensures links { forest.new.links ≡ forest.old.links }
-    ensures marks { (k : the_token)
-        → set.contains forest.new.marks k ≡ (wakes_code (facts_of facts.now) k at
-        || set.contains forest.old.marks k) }
+        → map.get forest.now.links q ≡ spec.links_in (map.get (facts_of facts.now)) q }
+    ensures { result ≡ spec.is_stopped (facts_of facts.now) token.now }
 {
-    let token = TokenId {
-        dot: at,
-        kind: Kind::Code,
-    };
-    if is_out(facts, outs, at) {
-        let done: Result<(), AllocError> = forest.mark(token);
-        done.unwrap();
+    match token.kind {
+        Kind::Code => is_out(facts, outs, token.dot),
+        Kind::Access => false,
+        Kind::Refresh => is_ended(facts, revocations, forest, token),
     }
 }
 
-// Marks the code and the refresh token of the dot, if a sign-out or a revocation stops them.
+// Returns whether the token's reuse was seen, or a revocation or a sign-out stops the token.
+fn is_marked(
+    facts: &FactStore,
+    revocations: &BTreeSet<Revocation>,
+    outs: &BTreeSet<OutKey>,
+    reuses: &BTreeSet<ReuseKey>,
+    forest: &Forest,
+    token: &TokenId,
+) -> bool
+    requires revocations { IsRevocations (facts_of facts.now) revocations.now }
+    requires outs { IsOuts (facts_of facts.now) outs.now }
+    requires reuses { IsReuses (facts_of facts.now) reuses.now }
+    requires links { (q : the_dot)
+        → map.get forest.now.links q ≡ spec.links_in (map.get (facts_of facts.now)) q }
+    ensures { result ≡ spec.is_marked (facts_of facts.now) token.now }
+{
+    is_reused(reuses, token) || is_stopped(facts, revocations, outs, forest, token)
+}
+
+// Marks a token, or removes its mark. The token's dot has a link: no memory is allocated.
+fn set_mark(forest: &mut Forest, token: TokenId, marked: bool)
+    requires { IsSome (map.get forest.old.links token.dot) }
+    ensures links { forest.new.links ≡ forest.old.links }
+    ensures marks { (k : the_token) → set.contains forest.new.marks k
+        ≡ cond (is_same_token token k) marked (set.contains forest.old.marks k) }
+{
+    if marked {
+        let done: Result<(), AllocError> = forest.mark(token);
+        done.unwrap();
+    } else {
+        forest.unmark(token);
+    }
+}
+
+// Marks a token, or removes its mark, as the facts say. The token's dot has a link.
+fn write_mark(
+    facts: &FactStore,
+    revocations: &BTreeSet<Revocation>,
+    outs: &BTreeSet<OutKey>,
+    reuses: &BTreeSet<ReuseKey>,
+    forest: &mut Forest,
+    token: TokenId,
+)
+    requires revocations { IsRevocations (facts_of facts.now) revocations.now }
+    requires outs { IsOuts (facts_of facts.now) outs.now }
+    requires reuses { IsReuses (facts_of facts.now) reuses.now }
+    requires links { (q : the_dot)
+        → map.get forest.old.links q ≡ spec.links_in (map.get (facts_of facts.now)) q }
+    requires here { IsSome (map.get forest.old.links token.dot) }
+    ensures links { forest.new.links ≡ forest.old.links }
+    ensures marks { (k : the_token) → set.contains forest.new.marks k
+        ≡ cond (is_same_token token k) (spec.is_marked (facts_of facts.now) token)
+        (set.contains forest.old.marks k) }
+{
+    let marked = is_marked(facts, revocations, outs, reuses, forest, &token);
+    set_mark(forest, token, marked);
+}
+
+// Writes the marks of the code and the refresh token of a dot, if the dot is under a code. This
+// allocates no memory.
 pub(crate) fn wake(
     facts: &FactStore,
     revocations: &BTreeSet<Revocation>,
     outs: &BTreeSet<OutKey>,
+    reuses: &BTreeSet<ReuseKey>,
     forest: &mut Forest,
     at: Dot,
 )
     requires revocations { IsRevocations (facts_of facts.now) revocations.now }
     requires outs { IsOuts (facts_of facts.now) outs.now }
+    requires reuses { IsReuses (facts_of facts.now) reuses.now }
     requires links { (q : the_dot)
-        → map.get forest.old.links q ≡ links_in (map.get (facts_of facts.now)) q }
-    ensures links { forest.new.links ≡ forest.old.links }
-    ensures marks { (k : the_token)
-        → set.contains forest.new.marks k ≡ (woken (facts_of facts.now) k at
-        || set.contains forest.old.marks k) }
+        → map.get forest.old.links q ≡ spec.links_in (map.get (facts_of facts.now)) q }
+    ensures { Wakes (facts_of facts.now) forest.old (λ q. dot_eq q at) forest.new }
 {
-    wake_code(facts, outs, forest, at);
-    wake_refresh(facts, revocations, forest, at);
+    if code_above(forest, at).is_some() {
+        let code = TokenId {
+            dot: at,
+            kind: Kind::Code,
+        };
+        let refresh = TokenId {
+            dot: at,
+            kind: Kind::Refresh,
+        };
+        write_mark(facts, revocations, outs, reuses, forest, code);
+        write_mark(facts, revocations, outs, reuses, forest, refresh);
+    }
 }
 
-// Marks the tokens of the dots that a sign-out or a revocation stops.
+// Writes the marks at each dot of a list.
 pub(crate) fn wake_all(
     facts: &FactStore,
     revocations: &BTreeSet<Revocation>,
     outs: &BTreeSet<OutKey>,
+    reuses: &BTreeSet<ReuseKey>,
     forest: &mut Forest,
     dots: &[Dot],
 )
     requires revocations { IsRevocations (facts_of facts.now) revocations.now }
     requires outs { IsOuts (facts_of facts.now) outs.now }
+    requires reuses { IsReuses (facts_of facts.now) reuses.now }
     requires links { (q : the_dot)
-        → map.get forest.old.links q ≡ links_in (map.get (facts_of facts.now)) q }
-    ensures links { forest.new.links ≡ forest.old.links }
-    ensures marks { (k : the_token)
-        → set.contains forest.new.marks k ≡ (any_woken (facts_of facts.now) k dots.now
-        || set.contains forest.old.marks k) }
+        → map.get forest.old.links q ≡ spec.links_in (map.get (facts_of facts.now)) q }
+    ensures { Wakes (facts_of facts.now) forest.old (has dots.now) forest.new }
 {
     for at in dots {
-        wake(facts, revocations, outs, forest, *at);
+        wake(facts, revocations, outs, reuses, forest, *at);
     }
 }
 
-// Marks the codes of a subject that a sign-out stops, by the digest of the subject.
+// Writes the marks at the codes of a subject, by the digest of the subject.
 pub(crate) fn wake_codes(
     facts: &FactStore,
     revocations: &BTreeSet<Revocation>,
     codes: &BTreeSet<CodeKey>,
     outs: &BTreeSet<OutKey>,
+    reuses: &BTreeSet<ReuseKey>,
     forest: &mut Forest,
     subject: &[u8; 32],
 )
     requires revocations { IsRevocations (facts_of facts.now) revocations.now }
     requires outs { IsOuts (facts_of facts.now) outs.now }
+    requires reuses { IsReuses (facts_of facts.now) reuses.now }
     requires links { (q : the_dot)
-        → map.get forest.old.links q ≡ links_in (map.get (facts_of facts.now)) q }
-    ensures links { forest.new.links ≡ forest.old.links }
-    ensures marks { (k : the_token)
-        → set.contains forest.new.marks k
-        ≡ (any_woken (facts_of facts.now) k (dots_of (codes_of codes.now subject.now))
-        || set.contains forest.old.marks k) }
+        → map.get forest.old.links q ≡ spec.links_in (map.get (facts_of facts.now)) q }
+    ensures { Wakes (facts_of facts.now) forest.old
+        (has (dots_of (codes_of codes.now subject.now))) forest.new }
 {
     let (first, last) = code_span(subject);
     for key in codes.range((Bound::Included(first), Bound::Included(last))) {
-        wake(facts, revocations, outs, forest, key.code);
+        wake(facts, revocations, outs, reuses, forest, key.code);
     }
 }

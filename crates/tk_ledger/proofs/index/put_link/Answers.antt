@@ -14,4 +14,4 @@ pub returns-in-Ok-clause-ok : goal.returns-in-Ok-clause-ok
 returns-in-Ok-clause-ok c =
     put_ties c.args.facts.now c.args.dot c.args.link c.args.forest.now c.put.new.self c.wake_all.new.forest c.as_slice.result.now c.requires.link c.requires.tied c.in-Ok.ensures.links c.in-Ok.ensures.marks
     (λ q r. ap (λ (ds : List Dot). has ds q) c.as_slice.ensures.value ∙ c.in-Ok.ensures.all_raised q r)
-    c.wake_all.ensures.links c.wake_all.ensures.marks
+    c.wake_all.ensures

@@ -13,4 +13,4 @@ pub returns-in-Ok-clause-revocations : goal.returns-in-Ok-clause-revocations
 returns-in-Ok-clause-revocations c = revoke_row c.args.facts.now c.args.dot c.args.fact.now c.args.revocations.now c.revoke.new.revocations c.requires.change c.requires.revocations c.in-Ok.ensures.ok
 
 pub returns-in-Ok-clause-ok : goal.returns-in-Ok-clause-ok
-returns-in-Ok-clause-ok c = revoke_ties c.args.facts.now c.args.dot c.args.fact.now c.args.forest.now c.wake.new.forest c.requires.change c.requires.tied c.wake.ensures.links c.wake.ensures.marks
+returns-in-Ok-clause-ok c = revoke_ties c.args.facts.now c.args.dot c.args.fact.now c.args.forest.now c.wake.new.forest c.requires.change c.requires.tied c.wake.ensures

@@ -13,7 +13,7 @@ pub returns-in-Ok-clause-outs : goal.returns-in-Ok-clause-outs
 returns-in-Ok-clause-outs c = out_row c.args.facts.now c.args.dot c.args.subject.now c.args.moment c.args.outs.now c.list_out.new.outs c.requires.change c.requires.outs c.list_out.ensures.ranged c.list_out.ensures.early c.in-Ok.ensures.ok
 
 pub returns-in-Ok-clause-ok : goal.returns-in-Ok-clause-ok
-returns-in-Ok-clause-ok c = out_ties c.args.facts.now c.args.dot c.args.subject.now c.args.moment c.args.codes.now c.args.forest.now c.wake_codes.new.forest c.requires.change c.requires.tied c.requires.codes c.wake_codes.ensures.links c.wake_codes.ensures.marks
+returns-in-Ok-clause-ok c = out_ties c.args.facts.now c.args.dot c.args.subject.now c.args.moment c.args.codes.now c.args.forest.now c.wake_codes.new.forest c.requires.change c.requires.tied c.requires.codes c.wake_codes.ensures
 
 pub returns-in-Err-clause-outs_err : goal.returns-in-Err-clause-outs_err
 returns-in-Err-clause-outs_err c = outs_same c.args.facts.now c.args.dot c.args.outs.now c.list_out.new.outs c.requires.outs c.in-Err.ensures.err

@@ -1,11 +1,11 @@
-use Rattle.std.proofs.Common.{◌≡◌, ◌||◌}
-use Rattle.std.specs.FinSet as set
-use Rattle.tk_handle.specs.declared.token_id.TokenId.{TokenId as the_token}
-use Rattle.tk_ledger.specs.Index.{codes_of, dots_of, any_woken}
+use Rattle.std.proofs.Common.{◌≡◌}
+use Rattle.tk_family.specs.Dots.{has}
+use Rattle.tk_family.specs.ForestFacts.{ForestFacts}
+use Rattle.tk_ledger.specs.Index.{codes_of, dots_of, Wakes}
 use Rattle.tk_ledger.proofs.wake.wake_codes.Given as goal
 
--- the links are as before, and the codes left to mark and the marks stay the same together
+-- the links are as before, and if the marks at the codes that are left are written, all are
 abbrev pub invariant-loop-key : goal.invariant-loop-key
 invariant-loop-key l =
     (l.forest.links ≡ l.fn.forest.links)
-    × ((k : the_token) → (any_woken l.facts k (dots_of l.key-iterator) || set.contains l.forest.marks k) ≡ (any_woken l.facts k (dots_of (codes_of l.codes l.subject)) || set.contains l.fn.forest.marks k))
+    × ((z : ForestFacts) → Wakes l.facts l.forest (has (dots_of l.key-iterator)) z → Wakes l.facts l.fn.forest (has (dots_of (codes_of l.codes l.subject))) z)

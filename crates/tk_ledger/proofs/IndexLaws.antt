@@ -1,0 +1,163 @@
+-- All tables, and the forest, for each kind of change. Key results: index_add .. index_out.
+use Rattle.std.proofs.Common.{◌≡◌, ℕ, ◌&&◌, ◌||◌, cond, true, List, Some, refl, sym, ap, ◌∙◌}
+use Rattle.std.specs.Option.{option_map}
+use Rattle.std.specs.Ordering.{eq_by_cmp}
+use Rattle.std.specs.BTreeMap.{BTreeMap}
+use Rattle.std.specs.BTreeSet.{BTreeSet, contains}
+use Rattle.std.specs.FinMap as map
+use Rattle.tk_handle.specs.declared.dot.Dot.{Dot}
+use Rattle.tk_handle.specs.declared.token_id.TokenId.{TokenId}
+use Rattle.tk_handle.specs.Dot.{IsDot, dot_cmp}
+use Rattle.tk_family.specs.declared.link.Link.{Link}
+use Rattle.tk_family.specs.ForestFacts.{ForestFacts}
+use Rattle.tk_fact.specs.declared.token_revoked.TokenRevoked as revoked
+use Rattle.tk_store.specs.FactSet.{FactSet}
+use Rattle.tk_ledger.specs.Changes.{change_in, gives_to}
+use Rattle.tk_ledger.specs.Index.{row_at, row_added, row_retired, is_at, consent_cmp, consent_key, is_listed, IsRevocations, IsCodes, IsOuts, IsReuses, IsTied, IsIndexed}
+use Rattle.tk_ledger.specs.declared.change.Change.TheVariants as change
+use Rattle.tk_ledger.specs.declared.client_rows.ClientRow.{ClientRow}
+use Rattle.tk_ledger.specs.declared.consent_keys.ConsentKey.{ConsentKey}
+use Rattle.tk_ledger.specs.declared.index.Index.{Index}
+use Rattle.tk_ledger.specs.declared.reuses.ReuseKey.{ReuseKey}
+use Rattle.tk_ledger.specs.declared.revocations.Revocation.{Revocation}
+use Rattle.tk_ledger.specs.declared.subject_keys.CodeKey.{CodeKey}
+use Rattle.tk_ledger.specs.declared.subject_keys.OutKey.{OutKey}
+use Rattle.tk_ledger.proofs.ChangeLaws.{or_cond, clients_by, consents_by, same_consents, withdrawals_by, revocations_by, same_revocations, same_codes, same_outs, same_reuses, give_row, quiet_ties}
+use Rattle.tk_ledger.proofs.KeyLaws.{at_is_same}
+use Rattle.tk_ledger.proofs.TableLaws.{ranged_on}
+
+pub index_add : (G : FactSet) (d : Dot) (x : Index) (u : BTreeMap Dot ClientRow)
+    → option_map change_in (map.get G d) ≡ Some change.Add → IsIndexed (map.remove G d) x
+    → ((q : Dot) → row_added (row_at u q) ≡ (is_at d q || row_added (row_at x.clients q))) → ((q : Dot) → row_retired (row_at u q) ≡ row_retired (row_at x.clients q))
+    → IsIndexed G (record { clients = u; consents = x.consents; withdrawn = x.withdrawn; revocations = x.revocations; codes = x.codes; outs = x.outs; reuses = x.reuses; forest = x.forest })
+index_add G d x u h i a e = record {
+  clients_are = clients_by G d change.Add x.clients u h i.clients_are a e;
+  consents_are = same_consents G d change.Add x.consents h (λ _ _. refl) i.consents_are;
+  withdrawn_are = withdrawals_by G d change.Add x.withdrawn x.withdrawn h i.withdrawn_are (λ q. refl);
+  revocations_are = revocations_by G d change.Add x.revocations x.revocations h i.revocations_are (λ k g c. refl);
+  codes_are = same_codes G d change.Add x.codes h refl i.codes_are;
+  outs_are = same_outs G d change.Add x.outs h refl i.outs_are;
+  reuses_are = same_reuses G d change.Add x.reuses h (λ _. refl) i.reuses_are;
+  tied = quiet_ties G d change.Add x.forest h refl refl refl (λ k. refl) i.tied;
+}
+
+pub index_retire : (G : FactSet) (d c : Dot) (x : Index) (u : BTreeMap Dot ClientRow)
+    → option_map change_in (map.get G d) ≡ Some (change.Retire c) → IsIndexed (map.remove G d) x
+    → ((q : Dot) → row_retired (row_at u q) ≡ (is_at c q || row_retired (row_at x.clients q))) → ((q : Dot) → row_added (row_at u q) ≡ row_added (row_at x.clients q))
+    → IsIndexed G (record { clients = u; consents = x.consents; withdrawn = x.withdrawn; revocations = x.revocations; codes = x.codes; outs = x.outs; reuses = x.reuses; forest = x.forest })
+index_retire G d c x u h i e a = record {
+  clients_are = clients_by G d (change.Retire c) x.clients u h i.clients_are a (λ q. e q ∙ ap (λ z. z || row_retired (row_at x.clients q)) (at_is_same c q));
+  consents_are = same_consents G d (change.Retire c) x.consents h (λ _ _. refl) i.consents_are;
+  withdrawn_are = withdrawals_by G d (change.Retire c) x.withdrawn x.withdrawn h i.withdrawn_are (λ q. refl);
+  revocations_are = revocations_by G d (change.Retire c) x.revocations x.revocations h i.revocations_are (λ k g z. refl);
+  codes_are = same_codes G d (change.Retire c) x.codes h refl i.codes_are;
+  outs_are = same_outs G d (change.Retire c) x.outs h refl i.outs_are;
+  reuses_are = same_reuses G d (change.Retire c) x.reuses h (λ _. refl) i.reuses_are;
+  tied = quiet_ties G d (change.Retire c) x.forest h refl refl refl (λ k. refl) i.tied;
+}
+
+pub index_give : (G : FactSet) (d client : Dot) (subject : List ℕ) (x : Index) (u : BTreeSet ConsentKey)
+    → option_map change_in (map.get G d) ≡ Some (change.Give client subject) → IsIndexed (map.remove G d) x
+    → IsDot d
+    → ((k : ConsentKey) → contains consent_cmp u k ≡ cond (eq_by_cmp consent_cmp (consent_key client subject d) k) true (contains consent_cmp x.consents k))
+    → IsIndexed G (record { clients = x.clients; consents = u; withdrawn = x.withdrawn; revocations = x.revocations; codes = x.codes; outs = x.outs; reuses = x.reuses; forest = x.forest })
+index_give G d client subject x u h i here r =
+    let y = change.Give client subject in
+    let rows = give_row client subject d x.consents u r in
+    record {
+      clients_are = clients_by G d y x.clients x.clients h i.clients_are (λ q. refl) (λ q. refl);
+      consents_are = consents_by G d y x.consents u h i.consents_are
+          (ranged_on x.consents u d (λ e s. gives_to e s y) here i.consents_are.ranged rows)
+          (λ e s q. rows e s q ∙ ap (λ b. (gives_to e s y && b) || is_listed x.consents e s q) (sym (at_is_same d q)));
+      withdrawn_are = withdrawals_by G d y x.withdrawn x.withdrawn h i.withdrawn_are (λ q. refl);
+      revocations_are = revocations_by G d y x.revocations x.revocations h i.revocations_are (λ k g z. refl);
+      codes_are = same_codes G d y x.codes h refl i.codes_are;
+      outs_are = same_outs G d y x.outs h refl i.outs_are;
+      reuses_are = same_reuses G d y x.reuses h (λ _. refl) i.reuses_are;
+      tied = quiet_ties G d y x.forest h refl refl refl (λ k. refl) i.tied;
+    }
+
+pub index_withdraw : (G : FactSet) (d c : Dot) (x : Index) (u : BTreeSet Dot)
+    → option_map change_in (map.get G d) ≡ Some (change.Withdraw c) → IsIndexed (map.remove G d) x
+    → ((q : Dot) → contains dot_cmp u q ≡ cond (is_at c q) true (contains dot_cmp x.withdrawn q))
+    → IsIndexed G (record { clients = x.clients; consents = x.consents; withdrawn = u; revocations = x.revocations; codes = x.codes; outs = x.outs; reuses = x.reuses; forest = x.forest })
+index_withdraw G d c x u h i e = record {
+  clients_are = clients_by G d (change.Withdraw c) x.clients x.clients h i.clients_are (λ q. refl) (λ q. refl);
+  consents_are = same_consents G d (change.Withdraw c) x.consents h (λ _ _. refl) i.consents_are;
+  withdrawn_are = withdrawals_by G d (change.Withdraw c) x.withdrawn u h i.withdrawn_are (λ q. e q ∙ or_cond (is_at c q) (contains dot_cmp x.withdrawn q) ∙ ap (λ z. z || contains dot_cmp x.withdrawn q) (at_is_same c q));
+  revocations_are = revocations_by G d (change.Withdraw c) x.revocations x.revocations h i.revocations_are (λ k g z. refl);
+  codes_are = same_codes G d (change.Withdraw c) x.codes h refl i.codes_are;
+  outs_are = same_outs G d (change.Withdraw c) x.outs h refl i.outs_are;
+  reuses_are = same_reuses G d (change.Withdraw c) x.reuses h (λ _. refl) i.reuses_are;
+  tied = quiet_ties G d (change.Withdraw c) x.forest h refl refl refl (λ k. refl) i.tied;
+}
+
+pub index_put : (G : FactSet) (d : Dot) (l : Link) (x : Index) (z : ForestFacts)
+    → option_map change_in (map.get G d) ≡ Some (change.Put l) → IsIndexed (map.remove G d) x → IsTied G z
+    → IsIndexed G (record { clients = x.clients; consents = x.consents; withdrawn = x.withdrawn; revocations = x.revocations; codes = x.codes; outs = x.outs; reuses = x.reuses; forest = z })
+index_put G d l x z h i tied = record {
+  clients_are = clients_by G d (change.Put l) x.clients x.clients h i.clients_are (λ q. refl) (λ q. refl);
+  consents_are = same_consents G d (change.Put l) x.consents h (λ _ _. refl) i.consents_are;
+  withdrawn_are = withdrawals_by G d (change.Put l) x.withdrawn x.withdrawn h i.withdrawn_are (λ q. refl);
+  revocations_are = same_revocations G d (change.Put l) x.revocations h (λ _ _ _. refl) i.revocations_are;
+  codes_are = same_codes G d (change.Put l) x.codes h refl i.codes_are;
+  outs_are = same_outs G d (change.Put l) x.outs h refl i.outs_are;
+  reuses_are = same_reuses G d (change.Put l) x.reuses h (λ _. refl) i.reuses_are;
+  tied = tied;
+}
+
+pub index_revoke : (G : FactSet) (d : Dot) (f : revoked.TokenRevoked) (x : Index) (s : BTreeSet Revocation) (z : ForestFacts)
+    → option_map change_in (map.get G d) ≡ Some (change.Revoke f) → IsIndexed (map.remove G d) x → IsRevocations G s → IsTied G z
+    → IsIndexed G (record { clients = x.clients; consents = x.consents; withdrawn = x.withdrawn; revocations = s; codes = x.codes; outs = x.outs; reuses = x.reuses; forest = z })
+index_revoke G d f x s z h i rows tied = record {
+  clients_are = clients_by G d (change.Revoke f) x.clients x.clients h i.clients_are (λ q. refl) (λ q. refl);
+  consents_are = same_consents G d (change.Revoke f) x.consents h (λ _ _. refl) i.consents_are;
+  withdrawn_are = withdrawals_by G d (change.Revoke f) x.withdrawn x.withdrawn h i.withdrawn_are (λ q. refl);
+  revocations_are = rows;
+  codes_are = same_codes G d (change.Revoke f) x.codes h refl i.codes_are;
+  outs_are = same_outs G d (change.Revoke f) x.outs h refl i.outs_are;
+  reuses_are = same_reuses G d (change.Revoke f) x.reuses h (λ _. refl) i.reuses_are;
+  tied = tied;
+}
+
+pub index_mark : (G : FactSet) (d : Dot) (j : TokenId) (x : Index) (s : BTreeSet ReuseKey) (z : ForestFacts)
+    → option_map change_in (map.get G d) ≡ Some (change.Mark j) → IsIndexed (map.remove G d) x → IsReuses G s → IsTied G z
+    → IsIndexed G (record { clients = x.clients; consents = x.consents; withdrawn = x.withdrawn; revocations = x.revocations; codes = x.codes; outs = x.outs; reuses = s; forest = z })
+index_mark G d j x s z h i rows tied = record {
+  clients_are = clients_by G d (change.Mark j) x.clients x.clients h i.clients_are (λ q. refl) (λ q. refl);
+  consents_are = same_consents G d (change.Mark j) x.consents h (λ _ _. refl) i.consents_are;
+  withdrawn_are = withdrawals_by G d (change.Mark j) x.withdrawn x.withdrawn h i.withdrawn_are (λ q. refl);
+  revocations_are = revocations_by G d (change.Mark j) x.revocations x.revocations h i.revocations_are (λ k g c. refl);
+  codes_are = same_codes G d (change.Mark j) x.codes h refl i.codes_are;
+  outs_are = same_outs G d (change.Mark j) x.outs h refl i.outs_are;
+  reuses_are = rows;
+  tied = tied;
+}
+
+pub index_issue : (G : FactSet) (d : Dot) (subject : List ℕ) (x : Index) (s : BTreeSet CodeKey) (z : ForestFacts)
+    → option_map change_in (map.get G d) ≡ Some (change.Issue subject) → IsIndexed (map.remove G d) x → IsCodes G s → IsTied G z
+    → IsIndexed G (record { clients = x.clients; consents = x.consents; withdrawn = x.withdrawn; revocations = x.revocations; codes = s; outs = x.outs; reuses = x.reuses; forest = z })
+index_issue G d subject x s z h i rows tied = record {
+  clients_are = clients_by G d (change.Issue subject) x.clients x.clients h i.clients_are (λ q. refl) (λ q. refl);
+  consents_are = same_consents G d (change.Issue subject) x.consents h (λ _ _. refl) i.consents_are;
+  withdrawn_are = withdrawals_by G d (change.Issue subject) x.withdrawn x.withdrawn h i.withdrawn_are (λ q. refl);
+  revocations_are = same_revocations G d (change.Issue subject) x.revocations h (λ _ _ _. refl) i.revocations_are;
+  codes_are = rows;
+  outs_are = same_outs G d (change.Issue subject) x.outs h refl i.outs_are;
+  reuses_are = same_reuses G d (change.Issue subject) x.reuses h (λ _. refl) i.reuses_are;
+  tied = tied;
+}
+
+pub index_out : (G : FactSet) (d : Dot) (subject : List ℕ) (moment : ℕ) (x : Index) (s : BTreeSet OutKey) (z : ForestFacts)
+    → option_map change_in (map.get G d) ≡ Some (change.SignOut subject moment) → IsIndexed (map.remove G d) x → IsOuts G s → IsTied G z
+    → IsIndexed G (record { clients = x.clients; consents = x.consents; withdrawn = x.withdrawn; revocations = x.revocations; codes = x.codes; outs = s; reuses = x.reuses; forest = z })
+index_out G d subject moment x s z h i rows tied = record {
+  clients_are = clients_by G d (change.SignOut subject moment) x.clients x.clients h i.clients_are (λ q. refl) (λ q. refl);
+  consents_are = same_consents G d (change.SignOut subject moment) x.consents h (λ _ _. refl) i.consents_are;
+  withdrawn_are = withdrawals_by G d (change.SignOut subject moment) x.withdrawn x.withdrawn h i.withdrawn_are (λ q. refl);
+  revocations_are = same_revocations G d (change.SignOut subject moment) x.revocations h (λ _ _ _. refl) i.revocations_are;
+  codes_are = same_codes G d (change.SignOut subject moment) x.codes h refl i.codes_are;
+  outs_are = rows;
+  reuses_are = same_reuses G d (change.SignOut subject moment) x.reuses h (λ _. refl) i.reuses_are;
+  tied = tied;
+}

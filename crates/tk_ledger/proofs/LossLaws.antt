@@ -1,0 +1,295 @@
+-- The tables and the forest follow the set when that loses a fact. Key results:
+--   clients_less .. outs_less          tables that have no key of the fact
+--   codes_less, reuses_less            the tables of codes and reuses without the key of the fact
+--   untied_link, untied_reuse          the forest after the loss of a link, and of a reuse
+--   lost_code, lost_link, lost_reuse   all tables, and the forest
+use Rattle.std.proofs.Common.{◌≡◌, ◌≢◌, ◌⊎◌, inl, inr, ℕ, Bool, true, false, ◌&&◌, ◌||◌, cond, if◌then◌else◌, List, Some, None, is_some, refl, sym, ap, subst, ◌∙◌}
+use Rattle.std.proofs.lemmas.Bool.{true≢false, cases_Bool, cond-true, cond-false, and_parts}
+use Rattle.std.specs.Option.{option_and_then}
+use Rattle.std.specs.Ordering.{eq_by_cmp}
+use Rattle.std.specs.Str.{bytes_eq}
+use Rattle.std.specs.BTreeMap.{BTreeMap}
+use Rattle.std.specs.BTreeSet.{BTreeSet, contains}
+use Rattle.std.specs.FinMap as map
+use Rattle.std.specs.FinSet as set
+use Rattle.tk_handle.specs.declared.dot.Dot.{Dot}
+use Rattle.tk_handle.specs.declared.token_id.TokenId.{TokenId}
+use Rattle.tk_handle.specs.Dot.{dot_cmp, dot_cmp_total}
+use Rattle.tk_family.specs.declared.link.Link.{Link}
+use Rattle.tk_family.specs.declared.link.Link.TheVariants.{Code}
+use Rattle.tk_family.specs.Dots.{dot_eq}
+use Rattle.tk_family.specs.Families.{IsUnder, grant_at}
+use Rattle.tk_family.specs.ForestFacts.{ForestFacts}
+use Rattle.tk_family.proofs.FamilyLaws.{IsUnder-within}
+use Rattle.tk_fact.specs.declared.body.Body.{Body}
+use Rattle.tk_store.specs.FactSet.{FactSet}
+use Rattle.tk_store.proofs.PutLaws.{none_is_not_some}
+use Rattle.tk_store.proofs.OneMoreLaws.{OneMore, more_subset, any_fact-more, cases_dots, apart_at}
+use Rattle.tk_ledger.specs.Bodies.{is_same_dot, is_same_token}
+use Rattle.tk_ledger.specs.Changes.{change_in, adds, retires_of, gives_to, withdraws_of, revokes_of, reuses_of}
+use Rattle.tk_ledger.specs.Clients.{client_at, retires, is_retired, consent_at, withdraws, is_withdrawn}
+use Rattle.tk_ledger.specs.Index.{is_at, IsClients, is_from, IsConsents, IsWithdrawals, IsRevocations, code_cmp, code_key, is_to, is_listed_code, IsCodes, is_left_by, IsOuts, reuse_cmp, reuse_key, is_reuse_of, is_listed_reuse, IsReuses, IsTied, Wakes, IsIndexed}
+use Rattle.tk_ledger.specs.Losses.{WasIndexed}
+use Rattle.tk_ledger.specs.SignOuts.{sign_out_in, sign_out_at}
+use Rattle.tk_ledger.specs.Tokens.{link_of, links_in, issued_in, issued_at, revokes, is_revoked, is_marked}
+use Rattle.tk_ledger.specs.declared.change.Change.{Change}
+use Rattle.tk_ledger.specs.declared.change.Change.TheVariants as change
+use Rattle.tk_ledger.specs.declared.client_rows.ClientRow.{ClientRow}
+use Rattle.tk_ledger.specs.declared.consent_keys.ConsentKey.{ConsentKey}
+use Rattle.tk_ledger.specs.declared.index.Index.{Index}
+use Rattle.tk_ledger.specs.declared.reuses.ReuseKey.{ReuseKey}
+use Rattle.tk_ledger.specs.declared.revocations.Revocation.{Revocation}
+use Rattle.tk_ledger.specs.declared.subject_keys.CodeKey.{CodeKey}
+use Rattle.tk_ledger.specs.declared.subject_keys.OutKey.{OutKey}
+use Rattle.tk_ledger.proofs.EndingLaws.{under_none}
+use Rattle.tk_ledger.proofs.ChangeLaws.{Changed, changed}
+use Rattle.tk_ledger.proofs.ForestLaws.{puts, revoking, signs, Touches, same_mark, put_reuses, put_revokes, put_signs, unsigned, unrevoked, links_still}
+use Rattle.tk_ledger.proofs.KeyLaws.{at_is_same, at_itself}
+use Rattle.tk_ledger.proofs.ReuseLaws.{reuse_tied, reused_on}
+use Rattle.tk_ledger.proofs.SameLaws.{same_dot-true, same_token-true}
+use Rattle.tk_ledger.proofs.SubjectKeyLaws.{code_tied}
+use Rattle.tk_ledger.proofs.SubjectTableLaws.{issuing, issues_to, issues_none, signs_none, issued_on, signed_on, without}
+use Rattle.tk_ledger.proofs.TableLaws.{withdraws-change, revokes-change, retires-change, added_on, given_on}
+use Rattle.tk_ledger.proofs.TokenLaws.{links-below}
+use Rattle.tk_ledger.proofs.WakeLaws.{grant_place}
+
+-- ---- tables that have no key of the fact
+
+clients_less : (F G : FactSet) (d : Dot) (b : Body) (t : BTreeMap Dot ClientRow) → OneMore F G d b → adds (change_in b) ≡ false → ((q : Dot) → retires_of q (change_in b) ≡ false) → IsClients G t → IsClients F t
+clients_less F G d b t m none kept i = record {
+  added = λ q. i.added q ∙ sym (added_on F G d b q (is_some (client_at F q)) m refl) ∙ ap (λ a. (a && is_at d q) || is_some (client_at F q)) none;
+  retired = λ q. i.retired q ∙ any_fact-more (retires q) F G d b m ∙ ap (λ a. a || is_retired F q) (retires-change q b ∙ kept q);
+}
+
+consents_less : (F G : FactSet) (d : Dot) (b : Body) (t : BTreeSet ConsentKey) → OneMore F G d b → ((client : Dot) (subject : List ℕ) → gives_to client subject (change_in b) ≡ false) → IsConsents G t → IsConsents F t
+consents_less F G d b t m none i = record {
+  listed = λ c s q. i.listed c s q ∙ sym (given_on F G d b c s q (is_from c s (consent_at F q)) m refl) ∙ ap (λ a. (a && is_at d q) || is_from c s (consent_at F q)) (none c s);
+  ranged = i.ranged;
+}
+
+withdrawals_less : (F G : FactSet) (d : Dot) (b : Body) (t : BTreeSet Dot) → OneMore F G d b → ((q : Dot) → withdraws_of q (change_in b) ≡ false) → IsWithdrawals G t → IsWithdrawals F t
+withdrawals_less F G d b t m none i q = i q ∙ any_fact-more (withdraws q) F G d b m ∙ ap (λ a. a || is_withdrawn F q) (withdraws-change q b ∙ none q)
+
+revocations_less : (F G : FactSet) (d : Dot) (b : Body) (t : BTreeSet Revocation) → OneMore F G d b → ((k : TokenId) (digest : List ℕ) (client : Dot) → revokes_of k digest client (change_in b) ≡ false) → IsRevocations G t → IsRevocations F t
+revocations_less F G d b t m none i k g c = i k g c ∙ any_fact-more (revokes k g c) F G d b m ∙ ap (λ a. a || is_revoked F k g c) (revokes-change k g c b ∙ none k g c)
+
+outs_less : (F G : FactSet) (d : Dot) (b : Body) (t : BTreeSet OutKey) → OneMore F G d b → signs (change_in b) ≡ false → IsOuts G t → IsOuts F t
+outs_less F G d b t m none i = record {
+  listed = λ s l q. i.listed s l q ∙ sym (signed_on F G d b s l q (is_left_by s l (sign_out_at (map.get F) q)) m refl) ∙ ap (λ a. (a && is_at d q) || is_left_by s l (sign_out_at (map.get F) q)) (signs_none s l (change_in b) none);
+  ranged = i.ranged;
+  early = λ q f h. i.early q f (ap (option_and_then sign_out_in) (m.there q (λ same. none_is_not_some f (sym (ap (option_and_then sign_out_in) (ap (map.get F) same ∙ m.free)) ∙ h))) ∙ h);
+}
+
+codes_kept : (F G : FactSet) (d : Dot) (b : Body) (t : BTreeSet CodeKey) → OneMore F G d b → issuing (change_in b) ≡ None → IsCodes G t → IsCodes F t
+codes_kept F G d b t m none i = record {
+  listed = λ s q. i.listed s q ∙ sym (issued_on F G d b s q (is_to s (issued_at (map.get F) q)) m refl) ∙ ap (λ a. (a && is_at d q) || is_to s (issued_at (map.get F) q)) (issues_none s (change_in b) none);
+  ranged = i.ranged;
+}
+
+reuses_kept : (F G : FactSet) (d : Dot) (b : Body) (t : BTreeSet ReuseKey) → OneMore F G d b → ((k : TokenId) → reuses_of k (change_in b) ≡ false) → IsReuses G t → IsReuses F t
+reuses_kept F G d b t m none i = record {
+  listed = λ k q. i.listed k q ∙ sym (reused_on F G d b k q (is_reuse_of k (map.get F q)) m refl) ∙ ap (λ a. (a && is_at d q) || is_reuse_of k (map.get F q)) (none k);
+  ranged = i.ranged;
+}
+
+-- ---- tables without a key
+
+fewer : (a b : Bool) → cond a false b ≡ true → b ≡ true
+fewer true b h = absurd (true≢false (sym h))
+fewer false b h = h
+
+-- the table without the key of a code
+codes_less : (F G : FactSet) (d : Dot) (b : Body) (subject : List ℕ) (t u : BTreeSet CodeKey) → OneMore F G d b → change_in b ≡ change.Issue subject → IsCodes G t
+    → ((k : CodeKey) → contains code_cmp u k ≡ cond (eq_by_cmp code_cmp (code_key subject d) k) false (contains code_cmp t k))
+    → IsCodes F u
+codes_less F G d b subject t u m is i r = record {
+  listed = listed;
+  ranged = λ g q h. i.ranged g q (fewer (eq_by_cmp code_cmp (code_key subject d) (code_key g q)) (is_listed_code t g q) (sym (r (code_key g q)) ∙ h));
+}
+  where
+    tie : List ℕ → Dot → Bool
+    tie g q = eq_by_cmp code_cmp (code_key subject d) (code_key g q)
+
+    before : (g : List ℕ) (q : Dot) → is_listed_code t g q ≡ (eq_by_cmp code_cmp (code_key subject d) (code_key g q) || is_to g (issued_at (map.get F) q))
+    before g q =
+        i.listed g q ∙ sym (issued_on F G d b g q (is_to g (issued_at (map.get F) q)) m refl)
+        ∙ ap (λ y. (issues_to g y && is_at d q) || is_to g (issued_at (map.get F) q)) is
+        ∙ ap (λ a. (bytes_eq subject g && a) || is_to g (issued_at (map.get F) q)) (at_is_same d q)
+        ∙ ap (λ a. a || is_to g (issued_at (map.get F) q)) (sym (code_tied subject g d q))
+
+    gone : (g : List ℕ) (q : Dot) → eq_by_cmp code_cmp (code_key subject d) (code_key g q) ≡ true → is_to g (issued_at (map.get F) q) ≡ false
+    gone g q h =
+        let same : d ≡ q = same_dot-true d q (and_parts (bytes_eq subject g) (is_same_dot d q) (sym (code_tied subject g d q) ∙ h)).1 in
+        ap (λ e. is_to g (option_and_then issued_in e)) (ap (map.get F) (sym same) ∙ m.free)
+
+    listed : (g : List ℕ) (q : Dot) → is_listed_code u g q ≡ is_to g (issued_at (map.get F) q)
+    listed g q =
+        r (code_key g q) ∙ ap (λ x. cond (eq_by_cmp code_cmp (code_key subject d) (code_key g q)) false x) (before g q)
+        ∙ without (eq_by_cmp code_cmp (code_key subject d) (code_key g q)) (is_to g (issued_at (map.get F) q)) (gone g q)
+
+-- the table without the key of a reuse
+reuses_less : (F G : FactSet) (d : Dot) (b : Body) (j : TokenId) (t u : BTreeSet ReuseKey) → OneMore F G d b → change_in b ≡ change.Mark j → IsReuses G t
+    → ((k : ReuseKey) → contains reuse_cmp u k ≡ cond (eq_by_cmp reuse_cmp (reuse_key j d) k) false (contains reuse_cmp t k))
+    → IsReuses F u
+reuses_less F G d b j t u m is i r = record {
+  listed = listed;
+  ranged = λ k q h. i.ranged k q (fewer (eq_by_cmp reuse_cmp (reuse_key j d) (reuse_key k q)) (is_listed_reuse t k q) (sym (r (reuse_key k q)) ∙ h));
+}
+  where
+    before : (k : TokenId) (q : Dot) → is_listed_reuse t k q ≡ (eq_by_cmp reuse_cmp (reuse_key j d) (reuse_key k q) || is_reuse_of k (map.get F q))
+    before k q =
+        i.listed k q ∙ sym (reused_on F G d b k q (is_reuse_of k (map.get F q)) m refl)
+        ∙ ap (λ y. (reuses_of k y && is_at d q) || is_reuse_of k (map.get F q)) is
+        ∙ ap (λ a. (is_same_token j k && a) || is_reuse_of k (map.get F q)) (at_is_same d q)
+        ∙ ap (λ a. a || is_reuse_of k (map.get F q)) (sym (reuse_tied j k d q))
+
+    gone : (k : TokenId) (q : Dot) → eq_by_cmp reuse_cmp (reuse_key j d) (reuse_key k q) ≡ true → is_reuse_of k (map.get F q) ≡ false
+    gone k q h =
+        let same : d ≡ q = same_dot-true d q (and_parts (is_same_token j k) (is_same_dot d q) (sym (reuse_tied j k d q) ∙ h)).1 in
+        ap (is_reuse_of k) (ap (map.get F) (sym same) ∙ m.free)
+
+    listed : (k : TokenId) (q : Dot) → is_listed_reuse u k q ≡ is_reuse_of k (map.get F q)
+    listed k q =
+        r (reuse_key k q) ∙ ap (λ x. cond (eq_by_cmp reuse_cmp (reuse_key j d) (reuse_key k q)) false x) (before k q)
+        ∙ without (eq_by_cmp reuse_cmp (reuse_key j d) (reuse_key k q)) (is_reuse_of k (map.get F q)) (gone k q)
+
+-- ---- the forest
+
+-- the forest of one fact less, if the marks at all dots with a token that the fact touched were
+-- written, but for dots that it brought under a code
+tied_less : (F G : FactSet) (d : Dot) (b : Body) (x y z : ForestFacts) (at : Dot → Bool) → OneMore F G d b → IsTied G x
+    → ((q : Dot) → map.get y.links q ≡ links_in (map.get F) q) → ((k : TokenId) → k.dot ≢ d → set.contains y.marks k ≡ set.contains x.marks k) → Wakes F y at z
+    → ((k : TokenId) → Touches F G b k → at k.dot ≡ false → (c : Dot) → ¬ IsUnder (links_in (map.get F)) k.dot c) → IsTied F z
+tied_less F G d b x y z at m t links kept woke touched = record {
+  links = λ q. ap (λ s. map.get s q) woke.links ∙ links q;
+  marks = λ q c l link under. by_test q c l link under (cases_Bool (at q));
+}
+  where
+    by_test : (q c : Dot) (l : Link) → links_in (map.get F) q ≡ Some l → IsUnder (links_in (map.get F)) q c → (at q ≡ true) ⊎ (at q ≡ false) → set.contains z.marks (grant_at q l) ≡ is_marked F (grant_at q l)
+    by_test q c l link under (inl now) = woke.here q c l now link under
+    by_test q c l link under (inr apart) =
+        let other : q ≢ d = λ same. under_none F q c (ap (map.get F) same ∙ m.free) under in
+        woke.there (grant_at q l) (ap at (grant_place q l) ∙ apart)
+        ∙ kept (grant_at q l) (λ same. other (sym (grant_place q l) ∙ same))
+        ∙ t.marks q c l (links-below F G (more_subset F G d b m) q l link) (IsUnder-within (links_in (map.get F)) (links_in (map.get G)) (links-below F G (more_subset F G d b m)) q c under)
+        ∙ sym (same_mark F G d b (grant_at q l) m (λ touch. touched (grant_at q l) touch (ap at (grant_place q l) ∙ apart) c (subst (λ (p : Dot). IsUnder (links_in (map.get F)) p c) (sym (grant_place q l)) under)))
+
+-- the forest without a link
+untied_link : (F G : FactSet) (d : Dot) (b : Body) (l : Link) (x y : ForestFacts) → OneMore F G d b → puts (change_in b) ≡ Some l → IsTied G x
+    → y.links ≡ map.remove x.links d → ((k : TokenId) → set.contains y.marks k ≡ (if dot_eq d k.dot then false else set.contains x.marks k)) → IsTied F y
+untied_link F G d b l x y m is t links marks =
+    tied_less F G d b x y y (λ _. false) m t
+    (λ q. ap (λ (s : map.FinMap dot_cmp Link). map.get s q) links ∙ map.get-remove dot_cmp_total x.links d q ∙ elim (cases_dots q d) [
+      | inl same ↦ cond-true _ _ _ (ap (λ (p : Dot). dot_eq p d) same ∙ at_itself d) ∙ sym (ap (option_and_then link_of) (ap (map.get F) same ∙ m.free))
+      | inr ne ↦ cond-false _ _ _ (apart_at q d ne) ∙ t.links q ∙ ap (option_and_then link_of) (m.there q ne)
+    ])
+    (λ k ne. marks k ∙ cond-false _ _ _ (apart_at d k.dot (λ same. ne (sym same))))
+    (record { links = refl; here = λ q c l at _ _. absurd (true≢false (sym at)); there = λ _ _. refl })
+    (λ k touch _ c under. elim touch [
+      | inl seen ↦ true≢false (sym seen ∙ put_reuses (change_in b) l k is)
+      | inr (inl r) ↦ unrevoked b k (put_revokes (change_in b) l is) r
+      | inr (inr (inl r)) ↦ unsigned G b k (put_signs (change_in b) l is) r
+      | inr (inr (inr r)) ↦ r.before c under
+    ])
+
+-- the forest without a reuse, if the marks at the token's dot were written
+untied_reuse : (F G : FactSet) (d : Dot) (b : Body) (j : TokenId) (x z : ForestFacts) → OneMore F G d b → change_in b ≡ change.Mark j → IsTied G x
+    → Wakes F x (λ q. dot_eq q j.dot) z → IsTied F z
+untied_reuse F G d b j x z m is t woke =
+    tied_less F G d b x x z (λ q. dot_eq q j.dot) m t
+    (λ q. t.links q ∙ sym (links_still F G d b m (ap puts is) q))
+    (λ _ _. refl)
+    woke
+    (λ k touch apart c under. elim touch [
+      | inl seen ↦ true≢false (sym (ap (λ (h : TokenId). dot_eq k.dot h.dot) (same_token-true j k (sym (ap (reuses_of k) is) ∙ seen)) ∙ at_itself k.dot) ∙ apart)
+      | inr (inl r) ↦ unrevoked b k (ap revoking is) r
+      | inr (inr (inl r)) ↦ unsigned G b k (ap signs is) r
+      | inr (inr (inr r)) ↦ r.before c under
+    ])
+
+-- ---- all tables
+
+-- the fact that is lost, and the set that had it
+record Loss (F : FactSet) (d : Dot) (y : Change) (x : Index) : Type 0 where
+  pub before : FactSet
+  pub body : Body
+  pub is : change_in body ≡ y
+  pub more : OneMore F before d body
+  pub indexed : IsIndexed before x
+
+loss : (F : FactSet) (d : Dot) (y : Change) (x : Index) → WasIndexed F d y x → Loss F d y x
+loss F d y x w =
+    let c : Changed w.before d y = changed w.before d y w.makes in
+    record { before = w.before; body = c.body; is = c.is; more = subst (λ (S : FactSet). OneMore S w.before d c.body) (sym w.rest) c.more; indexed = w.indexed }
+
+pub lost_code : (F : FactSet) (d : Dot) (subject : List ℕ) (x : Index) (s : BTreeSet CodeKey) (z : ForestFacts) → WasIndexed F d (change.Issue subject) x
+    → ((k : CodeKey) → contains code_cmp s k ≡ cond (eq_by_cmp code_cmp (code_key subject d) k) false (contains code_cmp x.codes k))
+    → z.links ≡ map.remove x.forest.links d → ((k : TokenId) → set.contains z.marks k ≡ (if dot_eq d k.dot then false else set.contains x.forest.marks k))
+    → IsIndexed F (record { clients = x.clients; consents = x.consents; withdrawn = x.withdrawn; revocations = x.revocations; codes = s; outs = x.outs; reuses = x.reuses; forest = z })
+lost_code F d subject x s z w r links marks =
+    let o : Loss F d (change.Issue subject) x = loss F d (change.Issue subject) x w in
+    record {
+      clients_are = clients_less F o.before d o.body x.clients o.more (ap adds o.is) (λ q. ap (retires_of q) o.is) o.indexed.clients_are;
+      consents_are = consents_less F o.before d o.body x.consents o.more (λ c g. ap (gives_to c g) o.is) o.indexed.consents_are;
+      withdrawn_are = withdrawals_less F o.before d o.body x.withdrawn o.more (λ q. ap (withdraws_of q) o.is) o.indexed.withdrawn_are;
+      revocations_are = revocations_less F o.before d o.body x.revocations o.more (λ k g c. ap (revokes_of k g c) o.is) o.indexed.revocations_are;
+      codes_are = codes_less F o.before d o.body subject x.codes s o.more o.is o.indexed.codes_are r;
+      outs_are = outs_less F o.before d o.body x.outs o.more (ap signs o.is) o.indexed.outs_are;
+      reuses_are = reuses_kept F o.before d o.body x.reuses o.more (λ k. ap (reuses_of k) o.is) o.indexed.reuses_are;
+      tied = untied_link F o.before d o.body Code x.forest z o.more (ap puts o.is) o.indexed.tied links marks;
+    }
+
+pub lost_link : (F : FactSet) (d : Dot) (l : Link) (x : Index) (z : ForestFacts) → WasIndexed F d (change.Put l) x
+    → z.links ≡ map.remove x.forest.links d → ((k : TokenId) → set.contains z.marks k ≡ (if dot_eq d k.dot then false else set.contains x.forest.marks k))
+    → IsIndexed F (record { clients = x.clients; consents = x.consents; withdrawn = x.withdrawn; revocations = x.revocations; codes = x.codes; outs = x.outs; reuses = x.reuses; forest = z })
+lost_link F d l x z w links marks =
+    let o : Loss F d (change.Put l) x = loss F d (change.Put l) x w in
+    record {
+      clients_are = clients_less F o.before d o.body x.clients o.more (ap adds o.is) (λ q. ap (retires_of q) o.is) o.indexed.clients_are;
+      consents_are = consents_less F o.before d o.body x.consents o.more (λ c g. ap (gives_to c g) o.is) o.indexed.consents_are;
+      withdrawn_are = withdrawals_less F o.before d o.body x.withdrawn o.more (λ q. ap (withdraws_of q) o.is) o.indexed.withdrawn_are;
+      revocations_are = revocations_less F o.before d o.body x.revocations o.more (λ k g c. ap (revokes_of k g c) o.is) o.indexed.revocations_are;
+      codes_are = codes_kept F o.before d o.body x.codes o.more (ap issuing o.is) o.indexed.codes_are;
+      outs_are = outs_less F o.before d o.body x.outs o.more (ap signs o.is) o.indexed.outs_are;
+      reuses_are = reuses_kept F o.before d o.body x.reuses o.more (λ k. ap (reuses_of k) o.is) o.indexed.reuses_are;
+      tied = untied_link F o.before d o.body l x.forest z o.more (ap puts o.is) o.indexed.tied links marks;
+    }
+
+-- the tables by which the marks at the token's dot are written, after the loss of a reuse
+pub lost_revocations : (F : FactSet) (d : Dot) (j : TokenId) (x : Index) → WasIndexed F d (change.Mark j) x → IsRevocations F x.revocations
+lost_revocations F d j x w =
+    let o : Loss F d (change.Mark j) x = loss F d (change.Mark j) x w in
+    revocations_less F o.before d o.body x.revocations o.more (λ k g c. ap (revokes_of k g c) o.is) o.indexed.revocations_are
+
+pub lost_outs : (F : FactSet) (d : Dot) (j : TokenId) (x : Index) → WasIndexed F d (change.Mark j) x → IsOuts F x.outs
+lost_outs F d j x w =
+    let o : Loss F d (change.Mark j) x = loss F d (change.Mark j) x w in
+    outs_less F o.before d o.body x.outs o.more (ap signs o.is) o.indexed.outs_are
+
+pub lost_reuses : (F : FactSet) (d : Dot) (j : TokenId) (x : Index) (s : BTreeSet ReuseKey) → WasIndexed F d (change.Mark j) x
+    → ((k : ReuseKey) → contains reuse_cmp s k ≡ cond (eq_by_cmp reuse_cmp (reuse_key j d) k) false (contains reuse_cmp x.reuses k)) → IsReuses F s
+lost_reuses F d j x s w r =
+    let o : Loss F d (change.Mark j) x = loss F d (change.Mark j) x w in
+    reuses_less F o.before d o.body j x.reuses s o.more o.is o.indexed.reuses_are r
+
+pub lost_links : (F : FactSet) (d : Dot) (j : TokenId) (x : Index) → WasIndexed F d (change.Mark j) x → (q : Dot) → map.get x.forest.links q ≡ links_in (map.get F) q
+lost_links F d j x w q =
+    let o : Loss F d (change.Mark j) x = loss F d (change.Mark j) x w in
+    o.indexed.tied.links q ∙ sym (links_still F o.before d o.body o.more (ap puts o.is) q)
+
+pub lost_reuse : (F : FactSet) (d : Dot) (j : TokenId) (x : Index) (s : BTreeSet ReuseKey) (z : ForestFacts) → WasIndexed F d (change.Mark j) x
+    → ((k : ReuseKey) → contains reuse_cmp s k ≡ cond (eq_by_cmp reuse_cmp (reuse_key j d) k) false (contains reuse_cmp x.reuses k))
+    → Wakes F x.forest (λ q. dot_eq q j.dot) z
+    → IsIndexed F (record { clients = x.clients; consents = x.consents; withdrawn = x.withdrawn; revocations = x.revocations; codes = x.codes; outs = x.outs; reuses = s; forest = z })
+lost_reuse F d j x s z w r woke =
+    let o : Loss F d (change.Mark j) x = loss F d (change.Mark j) x w in
+    record {
+      clients_are = clients_less F o.before d o.body x.clients o.more (ap adds o.is) (λ q. ap (retires_of q) o.is) o.indexed.clients_are;
+      consents_are = consents_less F o.before d o.body x.consents o.more (λ c g. ap (gives_to c g) o.is) o.indexed.consents_are;
+      withdrawn_are = withdrawals_less F o.before d o.body x.withdrawn o.more (λ q. ap (withdraws_of q) o.is) o.indexed.withdrawn_are;
+      revocations_are = lost_revocations F d j x w;
+      codes_are = codes_kept F o.before d o.body x.codes o.more (ap issuing o.is) o.indexed.codes_are;
+      outs_are = lost_outs F d j x w;
+      reuses_are = lost_reuses F d j x s w r;
+      tied = untied_reuse F o.before d o.body j x.forest z o.more o.is o.indexed.tied woke;
+    }

@@ -1,0 +1,110 @@
+-- Which facts may be skipped: those of families that are over (own).
+--   kept_for               the token that a fact is kept for
+--   IsTokenUnder           a token was minted, and is under a code
+--   MaySkip, may_skip      the fact at a dot is kept for a token of a family that is over
+--   is_over                a token was minted, and its family is over
+--   picked, dots_over      the dots of all facts that may be skipped, codes first
+use Rattle.std.specs.Prelude.{
+  map as map_list,
+  ◌≡◌,
+  ◌≢◌,
+  ◌≤◌,
+  ◌++◌,
+  ℕ,
+  Bool,
+  false,
+  ◌&&◌,
+  not,
+  nat_le,
+  List,
+  filter,
+  Option,
+  None,
+  Some,
+  is_some,
+}
+use Rattle.std.specs.FinMap as map
+use Rattle.tk_handle.specs.declared.dot.Dot.{Dot}
+use Rattle.tk_handle.specs.declared.kind.Kind.TheVariants as kind
+use Rattle.tk_handle.specs.declared.token_id.TokenId.{TokenId}
+use Rattle.tk_family.specs.Families.{IsUnder}
+use Rattle.tk_fact.specs.declared.body.Body.{Body}
+use Rattle.tk_fact.specs.declared.body.Body.TheVariants.{
+  CodeIssued,
+  CodeRedeemed,
+  RefreshRotated,
+  ReuseSeen,
+}
+use Rattle.tk_fact.specs.declared.code_issued.CodeIssued as issued
+use Rattle.tk_store.specs.FactSet.{FactSet, Facts}
+use Rattle.tk_ledger.specs.Bodies.{Bodies}
+use Rattle.tk_ledger.specs.Tokens.{links_in, issued_in, issued_at, minted_in, Root, root_in}
+
+-- the token that the fact at a dot is kept for: the code or refresh token that the fact mints, or
+-- the token whose reuse it saw. A fact that is kept for no token is never skipped
+abbrev pub kept_for : Dot → Body → Option TokenId
+kept_for d (CodeIssued f) = Some (record { dot = d; kind = kind.Code })
+kept_for d (CodeRedeemed f) = Some (record { dot = d; kind = kind.Refresh })
+kept_for d (RefreshRotated f) = Some (record { dot = d; kind = kind.Refresh })
+kept_for d (ReuseSeen f) = Some f.token
+kept_for d body = None
+
+-- the token was minted, and is under the code
+abbrev pub IsTokenUnder : Bodies → TokenId → Dot → Type 0
+IsTokenUnder body_at k c = (minted_in body_at k ≢ None) × IsUnder (links_in body_at) k.dot c
+
+-- the fact at the dot is kept for a token of a family that is over at the horizon
+pub record MaySkip (body_at : Bodies) (horizon : ℕ) (d : Dot) : Type 0 where
+  pub fact : Body
+  pub here : body_at d ≡ Some fact
+  pub token : TokenId
+  pub kept : kept_for d fact ≡ Some token
+  pub root : Dot
+  pub under : IsTokenUnder body_at token root
+  pub code : issued.CodeIssued
+  pub issues : issued_at body_at root ≡ Some code
+  pub over : code.family_end ≤ horizon
+
+-- ---- the test
+
+-- there is a root, and its family is over at the horizon
+abbrev pub is_over_by : ℕ → Option Root → Bool
+is_over_by horizon None = false
+is_over_by horizon (Some root) = nat_le root.issued.family_end horizon
+
+-- the token was minted, and is of a family that is over at the horizon
+abbrev pub is_over : FactSet → ℕ → TokenId → Bool
+is_over F horizon k =
+    is_some (minted_in (map.get F) k) && is_over_by horizon (root_in (map.get F) k.dot)
+
+-- there is a token, and it is of a family that is over at the horizon
+abbrev pub is_any_over : FactSet → ℕ → Option TokenId → Bool
+is_any_over F horizon None = false
+is_any_over F horizon (Some k) = is_over F horizon k
+
+-- the fact is kept for a token of a family that is over at the horizon: the test
+abbrev pub may_skip : FactSet → ℕ → Dot × Body → Bool
+may_skip F horizon f = is_any_over F horizon (kept_for f.0 f.1)
+
+-- ---- all facts that may be skipped
+
+-- the body issues a code
+abbrev pub issues : Body → Bool
+issues body = is_some (issued_in body)
+
+-- the fact may be skipped, and issues a code
+abbrev pub picks_code : FactSet → ℕ → Dot × Body → Bool
+picks_code F horizon f = issues f.1 && may_skip F horizon f
+
+-- the fact may be skipped, and issues no code
+abbrev pub picks_other : FactSet → ℕ → Dot × Body → Bool
+picks_other F horizon f = not (issues f.1) && may_skip F horizon f
+
+-- the dots of the facts that pass a test
+abbrev pub picked : (Dot × Body → Bool) → Facts → List Dot
+picked p fs = map_list (λ f. f.0) (filter p fs)
+
+-- the dots of all facts that may be skipped: first those of codes, ascending, then the others
+abbrev pub dots_over : FactSet → ℕ → List Dot
+dots_over F horizon =
+    picked (picks_code F horizon) (map.entries F) ++ picked (picks_other F horizon) (map.entries F)

@@ -1,0 +1,42 @@
+//! The loss of a fact: the tables of the other facts. Nothing here allocates memory.
+
+ghost use Rattle.std.specs.Prelude.{◌≡◌, true};
+ghost use Rattle.tk_store.specs.Store.{facts_of};
+ghost use Rattle.tk_ledger.specs.Index.{IsIndexed};
+ghost use Rattle.tk_ledger.specs.Losses.{WasIndexed, passes};
+
+use crate::change::Change;
+use crate::index::Index;
+use crate::reuses::drop_reuse;
+use crate::subject_keys::drop_code;
+use crate::wake::wake;
+use tk_handle::Dot;
+use tk_store::FactStore;
+
+// Brings the tables up to date with the loss of the fact at the dot, which the store does not hold
+// any more.
+pub(crate) fn unfollow(facts: &FactStore, index: &mut Index, dot: Dot, change: &Change)
+    requires passes { passes change.now ≡ true }
+    requires lost { WasIndexed (facts_of facts.now) dot change.now index.old }
+    ensures { IsIndexed (facts_of facts.now) index.new }
+{
+    match change {
+        Change::Issue(subject) => {
+            drop_code(&mut index.codes, subject, dot);
+            index.forest.take(dot);
+        }
+        Change::Put(_) => index.forest.take(dot),
+        Change::Mark(token) => {
+            drop_reuse(&mut index.reuses, token, dot);
+            wake(
+                facts,
+                &index.revocations,
+                &index.outs,
+                &index.reuses,
+                &mut index.forest,
+                token.dot,
+            );
+        }
+        _ => unreachable!(),
+    }
+}
