@@ -22,7 +22,7 @@ use Rattle.tk_fact.specs.Check.{refusal_of}
 use Rattle.tk_fact.specs.declared.body.Body.{Body}
 use Rattle.tk_store.specs.FactSet.{IsFactSet}
 use Rattle.tk_store.specs.Slots.{Slot, Slots, Held, Skipped, held_in, held_slot, without_fact}
-use Rattle.tk_store.specs.Store.{IsKept}
+use Rattle.tk_store.specs.StoreFields.{IsKept}
 use Rattle.tk_store.proofs.FactSetLaws.{tied}
 use Rattle.tk_store.proofs.PutLaws.{by_dot, taken_back, get_here, IsFactSet-empty, IsFactSet-insert, IsFactSet-remove}
 use Rattle.tk_store.proofs.SlotLaws.{held_none, held_put, held_skip, held_taken, remove_free}

@@ -14,7 +14,7 @@ use Rattle.tk_fact.specs.declared.body.Body.{Body}
 use Rattle.tk_fact.specs.Keeping.{is_passing}
 use Rattle.tk_vector.specs.Join.{IsJoin, JoinLaws}
 use Rattle.tk_store.specs.Slots.{Slot, Slots, Held, Skipped, is_skipped_slot, joined_slot, with_slots}
-use Rattle.tk_store.specs.Store.{Store, with_skipped}
+use Rattle.tk_store.specs.StoreFields.{StoreFields, with_skipped}
 use Rattle.tk_store.specs.Adding.{AddsTo, HasFact}
 use Rattle.tk_store.specs.Skipping.{Skips}
 use Rattle.tk_store.specs.declared.store.Added.{Added}
@@ -146,19 +146,19 @@ joined_least S T R a b d = subst (λ (o : Option Slot). SlotBelow o (map.get R d
 
 -- ---- stores
 
-store_itself : (P : Store) → StoreBelow P P
+store_itself : (P : StoreFields) → StoreBelow P P
 store_itself P = record { slots = slots_itself P.slots; horizon = omega arith }
 
-store_trans : (P Q R : Store) → StoreBelow P Q → StoreBelow Q R → StoreBelow P R
+store_trans : (P Q R : StoreFields) → StoreBelow P Q → StoreBelow Q R → StoreBelow P R
 store_trans P Q R a b = record { slots = slots_trans P.slots Q.slots R.slots a.slots b.slots; horizon = omega (arith, a.horizon, b.horizon) }
 
-store_antisym : (P Q : Store) → StoreBelow P Q → StoreBelow Q P → P ≡ Q
+store_antisym : (P Q : StoreFields) → StoreBelow P Q → StoreBelow Q P → P ≡ Q
 store_antisym P Q a b =
     let slots : P.slots ≡ Q.slots = slots_antisym P.slots Q.slots a.slots b.slots in
     let horizon : P.horizon ≡ Q.horizon = omega (arith, a.horizon, b.horizon) in
     λ i. record { slots = slots i; horizon = horizon i }
 
-pub join_of : (P Q : Store) → StoresAgree P Q → IsJoin StoreBelow P Q (joined_store P Q)
+pub join_of : (P Q : StoreFields) → StoresAgree P Q → IsJoin StoreBelow P Q (joined_store P Q)
 join_of P Q agree = record {
   left = record { slots = joined_left P.slots Q.slots agree; horizon = omega arith };
   right = record { slots = joined_right P.slots Q.slots agree; horizon = omega arith };
@@ -173,7 +173,7 @@ store_laws = record {
   joined = λ P Q agree. (joined_store P Q, join_of P Q agree);
 }
 
-pub is_join : (P Q N : Store) → StoresAgree P Q → N.slots ≡ with_slots P.slots (map.entries Q.slots) → N.horizon ≡ max P.horizon Q.horizon → IsJoin StoreBelow P Q N
+pub is_join : (P Q N : StoreFields) → StoresAgree P Q → N.slots ≡ with_slots P.slots (map.entries Q.slots) → N.horizon ≡ max P.horizon Q.horizon → IsJoin StoreBelow P Q N
 is_join P Q N agree slots horizon =
     let same : joined_store P Q ≡ N = λ i. record { slots = sym slots i; horizon = sym horizon i } in
     subst (IsJoin StoreBelow P Q) same (join_of P Q agree)
@@ -192,39 +192,39 @@ whole_agree P Q R whole a b d = whole_slots (map.get P.slots d) (map.get Q.slots
 
 -- ---- what a call leaves
 
-pub added_joins : (P Q : Store) (f p : Dot × Body) (a : Added) → p ≡ f → AddsTo P p (Ok a) Q → Q.slots ≡ map.insert P.slots f.0 (joined_slot (map.get P.slots f.0) (Held f.1))
+pub added_joins : (P Q : StoreFields) (f p : Dot × Body) (a : Added) → p ≡ f → AddsTo P p (Ok a) Q → Q.slots ≡ map.insert P.slots f.0 (joined_slot (map.get P.slots f.0) (Held f.1))
 added_joins P Q f p a same adds = added_by P Q f a (subst (λ (x : Dot × Body). AddsTo P x (Ok a) Q) same adds)
   where
-    added_by : (P Q : Store) (f : Dot × Body) (a : Added) → AddsTo P f (Ok a) Q → Q.slots ≡ map.insert P.slots f.0 (joined_slot (map.get P.slots f.0) (Held f.1))
-    added_by P Q f added.New adds = ap (λ (X : Store). X.slots) adds.1 ∙ ap (λ (o : Option Slot). map.insert P.slots f.0 (joined_slot o (Held f.1))) (sym adds.0)
-    added_by P Q f added.Held adds = ap (λ (X : Store). X.slots) adds.1 ∙ by_slot (map.get P.slots f.0) refl adds.0
+    added_by : (P Q : StoreFields) (f : Dot × Body) (a : Added) → AddsTo P f (Ok a) Q → Q.slots ≡ map.insert P.slots f.0 (joined_slot (map.get P.slots f.0) (Held f.1))
+    added_by P Q f added.New adds = ap (λ (X : StoreFields). X.slots) adds.1 ∙ ap (λ (o : Option Slot). map.insert P.slots f.0 (joined_slot o (Held f.1))) (sym adds.0)
+    added_by P Q f added.Held adds = ap (λ (X : StoreFields). X.slots) adds.1 ∙ by_slot (map.get P.slots f.0) refl adds.0
       where
         by_slot : (o : Option Slot) → map.get P.slots f.0 ≡ o → HasFact f.1 o → P.slots ≡ map.insert P.slots f.0 (joined_slot (map.get P.slots f.0) (Held f.1))
         by_slot None at h = absurd h
         by_slot (Some (Held c)) at h = sym (ap (λ (x : Option Slot). map.insert P.slots f.0 (joined_slot x (Held f.1))) at ∙ insert_held P.slots f.0 (Held c) at)
         by_slot (Some Skipped) at h = sym (ap (λ (x : Option Slot). map.insert P.slots f.0 (joined_slot x (Held f.1))) at ∙ insert_held P.slots f.0 Skipped at)
 
-pub added_horizon : (P Q : Store) (f : Dot × Body) (r : Result Added AddError) → AddsTo P f r Q → Q.horizon ≡ P.horizon
-added_horizon P Q f (Ok added.New) adds = ap (λ (X : Store). X.horizon) adds.1
-added_horizon P Q f (Ok added.Held) adds = ap (λ (X : Store). X.horizon) adds.1
-added_horizon P Q f (Err Conflict) adds = ap (λ (X : Store). X.horizon) adds.1
-added_horizon P Q f (Err Memory) adds = ap (λ (X : Store). X.horizon) adds.1
+pub added_horizon : (P Q : StoreFields) (f : Dot × Body) (r : Result Added AddError) → AddsTo P f r Q → Q.horizon ≡ P.horizon
+added_horizon P Q f (Ok added.New) adds = ap (λ (X : StoreFields). X.horizon) adds.1
+added_horizon P Q f (Ok added.Held) adds = ap (λ (X : StoreFields). X.horizon) adds.1
+added_horizon P Q f (Err Conflict) adds = ap (λ (X : StoreFields). X.horizon) adds.1
+added_horizon P Q f (Err Memory) adds = ap (λ (X : StoreFields). X.horizon) adds.1
 
 skipped_slot : (o : Option Slot) → joined_slot o Skipped ≡ Skipped
 skipped_slot None = refl
 skipped_slot (Some (Held b)) = refl
 skipped_slot (Some Skipped) = refl
 
-pub skipped_joins : (P Q : Store) (d : Dot) (a : Added) → Skips P d (Ok a) Q → Q.slots ≡ map.insert P.slots d (joined_slot (map.get P.slots d) Skipped)
-skipped_joins P Q d added.New skips = ap (λ (X : Store). X.slots) skips.1 ∙ ap (λ (s : Slot). map.insert P.slots d s) (sym (skipped_slot (map.get P.slots d)))
-skipped_joins P Q d added.Held skips = ap (λ (X : Store). X.slots) skips.1 ∙ ap (λ (s : Slot). map.insert P.slots d s) (sym (skipped_slot (map.get P.slots d)))
+pub skipped_joins : (P Q : StoreFields) (d : Dot) (a : Added) → Skips P d (Ok a) Q → Q.slots ≡ map.insert P.slots d (joined_slot (map.get P.slots d) Skipped)
+skipped_joins P Q d added.New skips = ap (λ (X : StoreFields). X.slots) skips.1 ∙ ap (λ (s : Slot). map.insert P.slots d s) (sym (skipped_slot (map.get P.slots d)))
+skipped_joins P Q d added.Held skips = ap (λ (X : StoreFields). X.slots) skips.1 ∙ ap (λ (s : Slot). map.insert P.slots d s) (sym (skipped_slot (map.get P.slots d)))
 
-pub skipped_horizon : (P Q : Store) (d : Dot) (r : Result Added AddError) → Skips P d r Q → Q.horizon ≡ P.horizon
-skipped_horizon P Q d (Ok added.New) skips = ap (λ (X : Store). X.horizon) skips.1
-skipped_horizon P Q d (Ok added.Held) skips = ap (λ (X : Store). X.horizon) skips.1
-skipped_horizon P Q d (Err Conflict) skips = ap (λ (X : Store). X.horizon) skips.1
-skipped_horizon P Q d (Err Memory) skips = ap (λ (X : Store). X.horizon) skips.1
+pub skipped_horizon : (P Q : StoreFields) (d : Dot) (r : Result Added AddError) → Skips P d r Q → Q.horizon ≡ P.horizon
+skipped_horizon P Q d (Ok added.New) skips = ap (λ (X : StoreFields). X.horizon) skips.1
+skipped_horizon P Q d (Ok added.Held) skips = ap (λ (X : StoreFields). X.horizon) skips.1
+skipped_horizon P Q d (Err Conflict) skips = ap (λ (X : StoreFields). X.horizon) skips.1
+skipped_horizon P Q d (Err Memory) skips = ap (λ (X : StoreFields). X.horizon) skips.1
 
 -- skipping a dot that is skipped changes nothing
-pub skip_again : (P : Store) (d : Dot) → map.get P.slots d ≡ Some Skipped → P ≡ with_skipped P d
+pub skip_again : (P : StoreFields) (d : Dot) → map.get P.slots d ≡ Some Skipped → P ≡ with_skipped P d
 skip_again P d at = λ i. record { slots = sym (insert_held P.slots d Skipped at) i; horizon = P.horizon }

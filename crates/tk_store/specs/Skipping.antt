@@ -5,7 +5,7 @@ use Rattle.std.specs.FinMap as map
 use Rattle.tk_handle.specs.declared.dot.Dot.{Dot}
 use Rattle.tk_fact.specs.Keeping.{is_passing}
 use Rattle.tk_store.specs.Slots.{Slot, Held, Skipped}
-use Rattle.tk_store.specs.Store.{Store, with_skipped}
+use Rattle.tk_store.specs.StoreFields.{StoreFields, with_skipped}
 use Rattle.tk_store.specs.declared.store.Added.{Added}
 use Rattle.tk_store.specs.declared.store.Added.TheVariants as added
 use Rattle.tk_store.specs.declared.store.AddError.{AddError}
@@ -24,7 +24,7 @@ Lasts (Some (Held b)) = is_passing b ≡ false
 Lasts (Some Skipped) = ⊥
 
 -- the result and the new store, when the dot d of the store old is skipped
-abbrev pub Skips : Store → Dot → Result Added AddError → Store → Type 0
+abbrev pub Skips : StoreFields → Dot → Result Added AddError → StoreFields → Type 0
 -- new: the dot was unknown, and is now skipped
 Skips old d (Ok added.New) new = (map.get old.slots d ≡ None) × (new ≡ with_skipped old d)
 -- held: the dot was known, and is skipped now; its fact is no more held

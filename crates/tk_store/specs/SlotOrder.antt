@@ -7,7 +7,7 @@ use Rattle.std.specs.FinMap as map
 use Rattle.tk_handle.specs.declared.dot.Dot.{Dot}
 use Rattle.tk_fact.specs.Keeping.{is_passing}
 use Rattle.tk_store.specs.Slots.{Slot, Slots, Held, Skipped, with_slots}
-use Rattle.tk_store.specs.Store.{Store}
+use Rattle.tk_store.specs.StoreFields.{StoreFields}
 
 -- what is known of a dot is below what the other knows: the same fact, or a mark where the fact may
 -- be skipped
@@ -24,7 +24,7 @@ abbrev pub SlotsBelow : Slots → Slots → Type 0
 SlotsBelow S T = (d : Dot) → SlotBelow (map.get S d) (map.get T d)
 
 -- at each dot, and the horizon is not later
-pub record StoreBelow (P Q : Store) : Type 0 where
+pub record StoreBelow (P Q : StoreFields) : Type 0 where
   pub slots : SlotsBelow P.slots Q.slots
   pub horizon : P.horizon ≤ Q.horizon
 
@@ -42,11 +42,11 @@ abbrev pub SlotsAgree : Slots → Slots → Type 0
 SlotsAgree S T = (d : Dot) → SlotAgrees (map.get S d) (map.get T d)
 
 -- two stores can be joined
-abbrev pub StoresAgree : Store → Store → Type 0
+abbrev pub StoresAgree : StoreFields → StoreFields → Type 0
 StoresAgree P Q = SlotsAgree P.slots Q.slots
 
 -- the join of two stores: all that either knows, and the later horizon
-abbrev pub joined_store : Store → Store → Store
+abbrev pub joined_store : StoreFields → StoreFields → StoreFields
 joined_store P Q = record {
   slots = with_slots P.slots (map.entries Q.slots);
   horizon = max P.horizon Q.horizon;

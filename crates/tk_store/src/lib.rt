@@ -16,7 +16,7 @@
 //!
 //! Contracts see a store as a finite map from dots to slots, and a horizon. The store keeps a map by
 //! dot (`table`) and the front (`advance`); the crates above see neither. The definitions are in
-//! `specs/`: `FactSet` and `Slots` first, then `Store`, `Adding`, `Skipping`, `SlotOrder`,
+//! `specs/`: `FactSet` and `Slots` first, then `StoreFields`, `Adding`, `Skipping`, `SlotOrder`,
 //! `Walk`, `Beyond`, `Front`, `Paging`.
 #![tactic(auto)]
 

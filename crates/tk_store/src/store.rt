@@ -22,9 +22,9 @@ pub struct FactStore {
 }
 
 impl Model for FactStore {
-    ghost use Rattle.tk_store.specs.Store.{Store, coded_store, IsKept};
+    ghost use Rattle.tk_store.specs.StoreFields.{StoreFields, coded_store, IsKept};
 
-    ghost Value = { Store };
+    ghost Value = { StoreFields };
 
     ghost coded = { coded_store };
 
@@ -79,10 +79,9 @@ ghost use Rattle.tk_store.specs.NextDot.{next_dot, next_serial};
 ghost use Rattle.tk_store.specs.Skipping.{Skips};
 ghost use Rattle.tk_store.specs.SlotShown.{IsShown, shown_slot};
 ghost use Rattle.tk_store.specs.Slots.{Held, Skipped, is_skipped, without_fact};
-ghost use Rattle.tk_store.specs.Store.{
+ghost use Rattle.tk_store.specs.StoreFields.{
   empty_store,
-  facts_of,
-  known_in,
+  held_facts,
   with_horizon,
   IsKept,
 };
@@ -121,7 +120,7 @@ impl FactStore {
     /// Gives a caller's proof the fact that each fact held passes its check. Does nothing at run
     /// time.
     pub fn known(&self)
-        ensures { IsFactSet (facts_of self.now) }
+        ensures { IsFactSet (held_facts self.now) }
     {
         let _facts = &self.facts;
     }
@@ -209,7 +208,7 @@ impl FactStore {
     /// nothing.
     pub fn take_back(&mut self, dot: Dot) -> Option<Fact>
         ensures fact { result
-            ≡ option_map (λ body. (dot, body)) (sets.get (facts_of self.old) dot) }
+            ≡ option_map (λ body. (dot, body)) (sets.get (held_facts self.old) dot) }
         ensures rest { self.new.slots
             ≡ without_fact self.old.slots dot (sets.get self.old.slots dot) }
         ensures horizon { self.new.horizon ≡ self.old.horizon }
@@ -224,21 +223,21 @@ impl FactStore {
     /// Returns the fact at the dot.
     pub fn get(&self, dot: Dot) -> Option<&Fact>
         ensures { option_copied result
-            ≡ option_map (λ body. (dot, body)) (sets.get (facts_of self.now) dot) }
+            ≡ option_map (λ body. (dot, body)) (sets.get (held_facts self.now) dot) }
     {
         self.facts.get(dot)
     }
 
     /// Returns the number of facts that are held.
     pub fn len(&self) -> u64
-        ensures { result ≡ sets.len (facts_of self.now) }
+        ensures { result ≡ sets.len (held_facts self.now) }
     {
         self.facts.len()
     }
 
     /// Returns the front: to each region the greatest serial such that all from 1 to it are known.
     pub fn vector(&self) -> &VersionVector
-        ensures { IsFront (known_in self.now) result.now }
+        ensures { IsFront self.now.slots result.now }
     {
         &self.front
     }
@@ -246,7 +245,7 @@ impl FactStore {
     /// Returns the held fact with the least dot above `after`, or with the least dot if `after` is
     /// `None`. Costs a look-up, and one more for each skipped dot in between.
     pub fn next_after(&self, after: Option<Dot>) -> Option<&Fact>
-        ensures { option_copied result ≡ slice_get (above (facts_of self.now) after) 0 }
+        ensures { option_copied result ≡ slice_get (above (held_facts self.now) after) 0 }
     {
         next_fact(&self.facts, after)
     }
@@ -254,7 +253,7 @@ impl FactStore {
     /// Returns an iterator over the facts that are held, ascending by dot. Each fact is looked up
     /// when it is reached.
     pub fn facts(&self) -> Facts<'_>
-        ensures { result ≡ sets.entries (facts_of self.now) }
+        ensures { result ≡ sets.entries (held_facts self.now) }
     {
         Facts {
             store: self,
@@ -275,7 +274,7 @@ impl FactStore {
     ) -> Result<Vec<Dot>, AllocError>
         ensures { IfOk result
             (λ dots. dots.items ≡ take limit
-            (map dot_of (beyond (known_in self.now) vector.now after))) }
+            (map dot_of (beyond self.now.slots vector.now after))) }
     {
         dots_beyond(alloc, &self.facts, vector, after, limit)
     }
@@ -283,8 +282,8 @@ impl FactStore {
     /// Returns the dot of the region's next fact: one past its greatest serial that is known.
     /// Returns `None` if that serial is the greatest there is.
     pub fn next_dot(&self, region: RegionNumber) -> Option<Dot>
-        ensures { SomeIff result (next_serial (known_in self.now) region ≤ greatest_serial)
-            (next_dot (known_in self.now) region) }
+        ensures { SomeIff result (next_serial self.now.slots region ≤ greatest_serial)
+            (next_dot self.now.slots region) }
     {
         Dot::new(region, self.facts.last_serial(region) + 1)
     }

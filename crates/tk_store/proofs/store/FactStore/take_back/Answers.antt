@@ -4,7 +4,7 @@ use Rattle.std.specs.FinMap as sets
 use Rattle.tk_handle.specs.declared.dot.Dot.{Dot}
 use Rattle.tk_fact.specs.declared.body.Body.{Body}
 use Rattle.tk_store.specs.Slots.{Slots, held_slot}
-use Rattle.tk_store.specs.Store.{Store, facts_of, IsKept}
+use Rattle.tk_store.specs.StoreFields.{StoreFields, held_facts, IsKept}
 use Rattle.tk_store.proofs.FrontLaws.{kept_without, without_none}
 use Rattle.tk_store.proofs.SlotLaws.{get_held}
 use Rattle.tk_store.proofs.store.FactStore.take_back.Goals as goal
@@ -30,8 +30,8 @@ invariant_of-self-else-is_some c =
 
 pub returns-then-is_some-clause-fact : goal.returns-then-is_some-clause-fact
 returns-then-is_some-clause-fact c = c.take-taken.ensures.fact ∙ ap (option_map (λ (b : Body). (c.args.dot, b)))
-    (sym (get_held c.self.inside.facts c.args.dot) ∙ ap (λ (P : Store). sets.get (facts_of P) c.args.dot) c.self.view_is)
+    (sym (get_held c.self.inside.facts c.args.dot) ∙ ap (λ (P : StoreFields). sets.get (held_facts P) c.args.dot) c.self.view_is)
 
 pub returns-else-is_some-clause-fact : goal.returns-else-is_some-clause-fact
 returns-else-is_some-clause-fact c = c.take-taken.ensures.fact ∙ ap (option_map (λ (b : Body). (c.args.dot, b)))
-    (sym (get_held c.self.inside.facts c.args.dot) ∙ ap (λ (P : Store). sets.get (facts_of P) c.args.dot) c.self.view_is)
+    (sym (get_held c.self.inside.facts c.args.dot) ∙ ap (λ (P : StoreFields). sets.get (held_facts P) c.args.dot) c.self.view_is)
