@@ -15,3 +15,4 @@ pub mod SlotOrderLaws
 pub mod SubsetLaws
 pub mod TableLaws
 pub mod WalkLaws
+pub mod WholeLaws
