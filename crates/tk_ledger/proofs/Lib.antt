@@ -17,6 +17,7 @@ pub mod SpanLaws
 pub mod StandingLaws
 pub mod StatusCases
 pub mod StatusLaws
+pub mod StoringLaws
 pub mod SubjectKeyLaws
 pub mod SubjectTableLaws
 pub mod TableLaws

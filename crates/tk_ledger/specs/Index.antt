@@ -59,6 +59,7 @@ use Rattle.tk_fact.specs.declared.body.Body.{Body}
 use Rattle.tk_fact.specs.declared.code_issued.CodeIssued as issued
 use Rattle.tk_fact.specs.declared.consent_given.ConsentGiven as given
 use Rattle.tk_fact.specs.declared.subject_out.SubjectOut as out
+use Rattle.tk_store.specs.StoreFields.{StoreFields, held_facts, IsWhole}
 use Rattle.tk_store.specs.FactSet.{FactSet}
 use Rattle.tk_ledger.specs.Bodies.{is_same_dot}
 use Rattle.tk_ledger.specs.Clients.{client_at, is_retired, consent_at, is_withdrawn}
@@ -321,3 +322,9 @@ pub record IsIndexed (F : FactSet) (x : Index) : Type 0 where
   pub outs_are : IsOuts F x.outs
   pub reuses_are : IsReuses F x.reuses
   pub tied : IsTied F x.forest
+
+-- the store of a ledger skips nothing, its horizon is 0, and the tables are those of its facts
+pub record IsLedger (P : StoreFields) (x : Index) : Type 0 where
+  pub indexed : IsIndexed (held_facts P) x
+  pub whole : IsWhole P
+  pub unpruned : P.horizon ≡ 0

@@ -25,7 +25,7 @@ pub(crate) struct Index {
 ghost use Rattle.std.specs.Prelude.{◌≡◌, Some, OnOk, OnErr};
 ghost use Rattle.std.specs.Option.{option_map};
 ghost use Rattle.std.specs.FinMap as map;
-ghost use Rattle.tk_store.specs.Store.{facts_of};
+ghost use Rattle.tk_store.specs.StoreFields.{held_facts};
 ghost use Rattle.tk_ledger.specs.declared.change.Change.TheVariants as change_as;
 ghost use Rattle.tk_ledger.specs.Changes.{change_in};
 ghost use Rattle.tk_ledger.specs.Index.{
@@ -80,13 +80,13 @@ fn put_link(
     dot: Dot,
     link: Link,
 ) -> Result<(), AllocError>
-    requires link { links_in (map.get (facts_of facts.now)) dot ≡ Some link }
-    requires revocations { IsRevocations (facts_of facts.now) revocations.now }
-    requires outs { IsOuts (facts_of facts.now) outs.now }
-    requires reuses { IsReuses (facts_of facts.now) reuses.now }
-    requires tied { IsTied (map.remove (facts_of facts.now) dot) forest.old }
-    ensures ok { OnOk result (IsTied (facts_of facts.now) forest.new) }
-    ensures err { OnErr result (IsTied (map.remove (facts_of facts.now) dot) forest.new) }
+    requires link { links_in (map.get (held_facts facts.now)) dot ≡ Some link }
+    requires revocations { IsRevocations (held_facts facts.now) revocations.now }
+    requires outs { IsOuts (held_facts facts.now) outs.now }
+    requires reuses { IsReuses (held_facts facts.now) reuses.now }
+    requires tied { IsTied (map.remove (held_facts facts.now) dot) forest.old }
+    ensures ok { OnOk result (IsTied (held_facts facts.now) forest.new) }
+    ensures err { OnErr result (IsTied (map.remove (held_facts facts.now) dot) forest.new) }
 {
     match forest.put(dot, link) {
         Ok(raised) => {
@@ -108,17 +108,17 @@ fn issue_code(
     dot: Dot,
     subject: &[u8; 32],
 ) -> Result<(), AllocError>
-    requires change { option_map change_in (map.get (facts_of facts.now) dot)
+    requires change { option_map change_in (map.get (held_facts facts.now) dot)
         ≡ Some (change_as.Issue subject.now) }
-    requires revocations { IsRevocations (facts_of facts.now) revocations.now }
-    requires codes { IsCodes (map.remove (facts_of facts.now) dot) codes.old }
-    requires outs { IsOuts (facts_of facts.now) outs.now }
-    requires reuses { IsReuses (facts_of facts.now) reuses.now }
-    requires tied { IsTied (map.remove (facts_of facts.now) dot) forest.old }
-    ensures codes { OnOk result (IsCodes (facts_of facts.now) codes.new) }
-    ensures ok { OnOk result (IsTied (facts_of facts.now) forest.new) }
-    ensures codes_err { OnErr result (IsCodes (map.remove (facts_of facts.now) dot) codes.new) }
-    ensures err { OnErr result (IsTied (map.remove (facts_of facts.now) dot) forest.new) }
+    requires revocations { IsRevocations (held_facts facts.now) revocations.now }
+    requires codes { IsCodes (map.remove (held_facts facts.now) dot) codes.old }
+    requires outs { IsOuts (held_facts facts.now) outs.now }
+    requires reuses { IsReuses (held_facts facts.now) reuses.now }
+    requires tied { IsTied (map.remove (held_facts facts.now) dot) forest.old }
+    ensures codes { OnOk result (IsCodes (held_facts facts.now) codes.new) }
+    ensures ok { OnOk result (IsTied (held_facts facts.now) forest.new) }
+    ensures codes_err { OnErr result (IsCodes (map.remove (held_facts facts.now) dot) codes.new) }
+    ensures err { OnErr result (IsTied (map.remove (held_facts facts.now) dot) forest.new) }
 {
     if let Err(error) = list_code(codes, subject, dot) {
         return Err(error);
@@ -142,16 +142,16 @@ fn mark_token(
     dot: Dot,
     token: TokenId,
 ) -> Result<(), AllocError>
-    requires change { option_map change_in (map.get (facts_of facts.now) dot)
+    requires change { option_map change_in (map.get (held_facts facts.now) dot)
         ≡ Some (change_as.Mark token) }
-    requires revocations { IsRevocations (facts_of facts.now) revocations.now }
-    requires outs { IsOuts (facts_of facts.now) outs.now }
-    requires reuses { IsReuses (map.remove (facts_of facts.now) dot) reuses.old }
-    requires tied { IsTied (map.remove (facts_of facts.now) dot) forest.old }
-    ensures reuses { OnOk result (IsReuses (facts_of facts.now) reuses.new) }
-    ensures ok { OnOk result (IsTied (facts_of facts.now) forest.new) }
-    ensures reuses_err { OnErr result (IsReuses (map.remove (facts_of facts.now) dot) reuses.new) }
-    ensures err { OnErr result (IsTied (map.remove (facts_of facts.now) dot) forest.new) }
+    requires revocations { IsRevocations (held_facts facts.now) revocations.now }
+    requires outs { IsOuts (held_facts facts.now) outs.now }
+    requires reuses { IsReuses (map.remove (held_facts facts.now) dot) reuses.old }
+    requires tied { IsTied (map.remove (held_facts facts.now) dot) forest.old }
+    ensures reuses { OnOk result (IsReuses (held_facts facts.now) reuses.new) }
+    ensures ok { OnOk result (IsTied (held_facts facts.now) forest.new) }
+    ensures reuses_err { OnErr result (IsReuses (map.remove (held_facts facts.now) dot) reuses.new) }
+    ensures err { OnErr result (IsTied (map.remove (held_facts facts.now) dot) forest.new) }
 {
     match list_reuse(reuses, &token, dot) {
         Ok(()) => {
@@ -172,17 +172,17 @@ fn revoke_token(
     dot: Dot,
     fact: &TokenRevoked,
 ) -> Result<(), AllocError>
-    requires change { option_map change_in (map.get (facts_of facts.now) dot)
+    requires change { option_map change_in (map.get (held_facts facts.now) dot)
         ≡ Some (change_as.Revoke fact.now) }
-    requires revocations { IsRevocations (map.remove (facts_of facts.now) dot) revocations.old }
-    requires outs { IsOuts (facts_of facts.now) outs.now }
-    requires reuses { IsReuses (facts_of facts.now) reuses.now }
-    requires tied { IsTied (map.remove (facts_of facts.now) dot) forest.old }
-    ensures revocations { OnOk result (IsRevocations (facts_of facts.now) revocations.new) }
-    ensures ok { OnOk result (IsTied (facts_of facts.now) forest.new) }
-    ensures revocations_err { OnErr result (IsRevocations (map.remove (facts_of facts.now) dot)
+    requires revocations { IsRevocations (map.remove (held_facts facts.now) dot) revocations.old }
+    requires outs { IsOuts (held_facts facts.now) outs.now }
+    requires reuses { IsReuses (held_facts facts.now) reuses.now }
+    requires tied { IsTied (map.remove (held_facts facts.now) dot) forest.old }
+    ensures revocations { OnOk result (IsRevocations (held_facts facts.now) revocations.new) }
+    ensures ok { OnOk result (IsTied (held_facts facts.now) forest.new) }
+    ensures revocations_err { OnErr result (IsRevocations (map.remove (held_facts facts.now) dot)
         revocations.new) }
-    ensures err { OnErr result (IsTied (map.remove (facts_of facts.now) dot) forest.new) }
+    ensures err { OnErr result (IsTied (map.remove (held_facts facts.now) dot) forest.new) }
 {
     match revoke(revocations, &fact.token, &fact.digest, fact.client) {
         Ok(()) => {
@@ -205,17 +205,17 @@ fn sign_out(
     subject: &[u8; 32],
     moment: Moment,
 ) -> Result<(), AllocError>
-    requires change { option_map change_in (map.get (facts_of facts.now) dot)
+    requires change { option_map change_in (map.get (held_facts facts.now) dot)
         ≡ Some (change_as.SignOut subject.now moment) }
-    requires revocations { IsRevocations (facts_of facts.now) revocations.now }
-    requires codes { IsCodes (facts_of facts.now) codes.now }
-    requires outs { IsOuts (map.remove (facts_of facts.now) dot) outs.old }
-    requires reuses { IsReuses (facts_of facts.now) reuses.now }
-    requires tied { IsTied (map.remove (facts_of facts.now) dot) forest.old }
-    ensures outs { OnOk result (IsOuts (facts_of facts.now) outs.new) }
-    ensures ok { OnOk result (IsTied (facts_of facts.now) forest.new) }
-    ensures outs_err { OnErr result (IsOuts (map.remove (facts_of facts.now) dot) outs.new) }
-    ensures err { OnErr result (IsTied (map.remove (facts_of facts.now) dot) forest.new) }
+    requires revocations { IsRevocations (held_facts facts.now) revocations.now }
+    requires codes { IsCodes (held_facts facts.now) codes.now }
+    requires outs { IsOuts (map.remove (held_facts facts.now) dot) outs.old }
+    requires reuses { IsReuses (held_facts facts.now) reuses.now }
+    requires tied { IsTied (map.remove (held_facts facts.now) dot) forest.old }
+    ensures outs { OnOk result (IsOuts (held_facts facts.now) outs.new) }
+    ensures ok { OnOk result (IsTied (held_facts facts.now) forest.new) }
+    ensures outs_err { OnErr result (IsOuts (map.remove (held_facts facts.now) dot) outs.new) }
+    ensures err { OnErr result (IsTied (map.remove (held_facts facts.now) dot) forest.new) }
 {
     match list_out(outs, subject, moment, dot) {
         Ok(()) => {
@@ -234,10 +234,10 @@ pub(crate) fn follow(
     dot: Dot,
     change: &Change,
 ) -> Result<(), AllocError>
-    requires change { option_map change_in (map.get (facts_of facts.now) dot) ≡ Some change.now }
-    requires indexed { IsIndexed (map.remove (facts_of facts.now) dot) index.old }
-    ensures ok { OnOk result (IsIndexed (facts_of facts.now) index.new) }
-    ensures err { OnErr result (IsIndexed (map.remove (facts_of facts.now) dot) index.new) }
+    requires change { option_map change_in (map.get (held_facts facts.now) dot) ≡ Some change.now }
+    requires indexed { IsIndexed (map.remove (held_facts facts.now) dot) index.old }
+    ensures ok { OnOk result (IsIndexed (held_facts facts.now) index.new) }
+    ensures err { OnErr result (IsIndexed (map.remove (held_facts facts.now) dot) index.new) }
 {
     match change {
         Change::Add => add_client(&mut index.clients, dot),

@@ -5,7 +5,7 @@ ghost use Rattle.std.specs.FinMap as map;
 ghost use Rattle.tk_fact.specs.Check.{refusal_of};
 ghost use Rattle.tk_fact.specs.declared.body.Body.{Body as the_body};
 ghost use Rattle.tk_store.specs.FactSet.{Agree, IsSubset, joined};
-ghost use Rattle.tk_store.specs.Store.{facts_of};
+ghost use Rattle.tk_store.specs.StoreFields.{held_facts};
 
 use crate::ledger::Ledger;
 use std::alloc::{AllocError, Global};
@@ -39,10 +39,10 @@ impl Ledger {
     // Adds copies of all facts of a store that agrees. If memory runs out, the first of them are
     // in.
     fn take_all(&mut self, alloc: Global, other: &FactStore) -> Result<(), AllocError>
-        requires { Agree self.old (facts_of other.now) }
-        ensures ok { OnOk result (self.new ≡ joined self.old (facts_of other.now)) }
+        requires { Agree self.old (held_facts other.now) }
+        ensures ok { OnOk result (self.new ≡ joined self.old (held_facts other.now)) }
         ensures above { OnErr result (IsSubset self.old self.new) }
-        ensures below { OnErr result (IsSubset self.new (joined self.old (facts_of other.now))) }
+        ensures below { OnErr result (IsSubset self.new (joined self.old (held_facts other.now))) }
     {
         other.known();
         for fact in other.facts() {

@@ -23,16 +23,17 @@ pub struct Ledger {
 
 impl Model for Ledger {
     ghost use Rattle.tk_store.specs.FactSet.{coded_facts};
-    ghost use Rattle.tk_store.specs.Store.{Store, facts_of};
-    ghost use Rattle.tk_ledger.specs.Index.{IsIndexed};
+    ghost use Rattle.tk_store.specs.Store.{Store};
+    ghost use Rattle.tk_store.specs.StoreFields.{held_facts};
+    ghost use Rattle.tk_ledger.specs.Index.{IsLedger};
 
     ghost Value = { Store };
 
     ghost coded = { coded_facts };
 
-    ghost view = { λ l. l.store };
+    ghost view = { λ l. held_facts l.store };
 
-    ghost invariant = { λ l. IsIndexed (facts_of l.store) l.index };
+    ghost invariant = { λ l. IsLedger l.store l.index };
 }
 
 ghost use Rattle.std.specs.Prelude.{◌≡◌, ◌≢◌, ◌↔◌, ◌+◌, ◌^◌, ◌<◌, ◌≤◌, ℕ, None, IsTrue};
@@ -41,6 +42,7 @@ ghost use Rattle.tk_handle.specs.declared.kind.Kind.TheVariants as kind;
 ghost use Rattle.tk_fact.specs.Check.{refusal_of};
 ghost use Rattle.tk_store.specs.Adding.{Adds};
 ghost use Rattle.tk_store.specs.Store.{facts_of};
+ghost use Rattle.tk_store.specs.StoreFields.{held_facts, IsWhole};
 ghost use Rattle.tk_ledger.specs.Clients as clients_of;
 ghost use Rattle.tk_ledger.specs.Ends.{FamilyEnds};
 ghost use Rattle.tk_ledger.specs.Index.{IsIndexed};
@@ -89,7 +91,8 @@ impl Ledger {
 
     /// Returns the store of the facts.
     pub fn store(&self) -> &FactStore
-        ensures { result.now ≡ self.now }
+        ensures facts { held_facts result.now ≡ self.now }
+        ensures whole { IsWhole result.now }
     {
         &self.store
     }
@@ -200,11 +203,14 @@ impl Ledger {
 // Adds a fact at a free dot, to the store first, then to the tables. If memory runs out at the
 // tables, the fact is taken out of the store again.
 fn add_new(store: &mut FactStore, index: &mut Index, fact: Fact) -> Result<Added, AddError>
-    requires free { map.get (facts_of store.old) fact.0 ≡ None }
+    requires free { map.get (held_facts store.old) fact.0 ≡ None }
+    requires whole { IsWhole store.old }
     requires passes { refusal_of fact.1 ≡ None }
-    requires indexed { IsIndexed (facts_of store.old) index.old }
-    ensures adds { Adds store.old fact result store.new }
-    ensures indexed { IsIndexed (facts_of store.new) index.new }
+    requires indexed { IsIndexed (held_facts store.old) index.old }
+    ensures adds { Adds (held_facts store.old) fact result (held_facts store.new) }
+    ensures whole { IsWhole store.new }
+    ensures horizon { store.new.horizon ≡ store.old.horizon }
+    ensures indexed { IsIndexed (held_facts store.new) index.new }
 {
     let dot = fact.dot;
     let change = change_of(&fact.body);

@@ -6,7 +6,7 @@ ghost use Rattle.std.specs.FinMap as map;
 ghost use Rattle.tk_family.specs.ForestFacts.{links_at};
 ghost use Rattle.tk_family.specs.Walks.{code_of};
 ghost use Rattle.tk_fact.specs.Tokens.{shown_minted};
-ghost use Rattle.tk_store.specs.Store.{facts_of};
+ghost use Rattle.tk_store.specs.StoreFields.{held_facts};
 ghost use Rattle.tk_ledger.specs.ByTop.{code_in_top, root_by};
 ghost use Rattle.tk_ledger.specs.Tokens as spec;
 
@@ -28,7 +28,7 @@ pub(crate) fn issued_in(body: &Body) -> Option<&CodeIssued>
 
 // Returns the fact that issued the code at the dot.
 pub(crate) fn issued_at(facts: &FactStore, code: Dot) -> Option<&CodeIssued>
-    ensures { option_copied result ≡ spec.issued_at (map.get (facts_of facts.now)) code }
+    ensures { option_copied result ≡ spec.issued_at (map.get (held_facts facts.now)) code }
 {
     match facts.get(code) {
         Some(fact) => issued_in(&fact.body),
@@ -38,7 +38,7 @@ pub(crate) fn issued_at(facts: &FactStore, code: Dot) -> Option<&CodeIssued>
 
 // Returns the root with the code at the dot, if a code was issued there.
 pub(crate) fn root_of(facts: &FactStore, code: Dot) -> Option<Root<'_>>
-    ensures { result ≡ spec.root_of (map.get (facts_of facts.now)) code }
+    ensures { result ≡ spec.root_of (map.get (held_facts facts.now)) code }
 {
     match issued_at(facts, code) {
         Some(issued) => Some(Root { code, issued }),
@@ -67,7 +67,7 @@ pub(crate) fn code_above(forest: &Forest, dot: Dot) -> Option<Dot>
 
 // Returns the root of the family that the dot is in.
 pub(crate) fn root_above<'a>(facts: &'a FactStore, forest: &Forest, dot: Dot) -> Option<Root<'a>>
-    ensures { result ≡ root_by (map.get (facts_of facts.now)) (code_of (links_at forest.now) dot) }
+    ensures { result ≡ root_by (map.get (held_facts facts.now)) (code_of (links_at forest.now) dot) }
 {
     match code_above(forest, dot) {
         Some(code) => root_of(facts, code),
@@ -77,7 +77,7 @@ pub(crate) fn root_above<'a>(facts: &'a FactStore, forest: &Forest, dot: Dot) ->
 
 // Returns what the fact at the token's dot mints of the token's kind.
 pub(crate) fn minted_at<'a>(facts: &'a FactStore, token: &TokenId) -> Option<Minted<'a>>
-    ensures { option_map shown_minted result ≡ spec.minted_in (map.get (facts_of facts.now))
+    ensures { option_map shown_minted result ≡ spec.minted_in (map.get (held_facts facts.now))
         token.now }
 {
     match facts.get(token.dot) {

@@ -4,7 +4,7 @@ ghost use Rattle.std.specs.Prelude.{◌≡◌, ◌++◌, true, IfOk, OnOk};
 ghost use Rattle.std.specs.FinMap as map;
 ghost use Rattle.tk_handle.specs.declared.dot.Dot.{Dot as the_dot};
 ghost use Rattle.tk_family.specs.Dots.{has};
-ghost use Rattle.tk_store.specs.Store.{facts_of};
+ghost use Rattle.tk_store.specs.StoreFields.{held_facts};
 ghost use Rattle.tk_ledger.specs.Retention as spec;
 ghost use Rattle.tk_ledger.specs.Tokens.{links_in};
 
@@ -43,8 +43,8 @@ fn is_over_by(horizon: Moment, root: &Option<Root<'_>>) -> bool
 // Returns whether the token was minted, and is of a family that is over at the horizon.
 fn is_over(facts: &FactStore, forest: &Forest, horizon: Moment, token: &TokenId) -> bool
     requires links { (q : the_dot)
-        → map.get forest.now.links q ≡ links_in (map.get (facts_of facts.now)) q }
-    ensures { result ≡ spec.is_over (facts_of facts.now) horizon token.now }
+        → map.get forest.now.links q ≡ links_in (map.get (held_facts facts.now)) q }
+    ensures { result ≡ spec.is_over (held_facts facts.now) horizon token.now }
 {
     minted_at(facts, token).is_some() && is_over_by(horizon, &root_above(facts, forest, token.dot))
 }
@@ -52,8 +52,8 @@ fn is_over(facts: &FactStore, forest: &Forest, horizon: Moment, token: &TokenId)
 // Returns whether the fact is kept for a token of a family that is over at the horizon.
 fn may_skip(facts: &FactStore, forest: &Forest, horizon: Moment, fact: &Fact) -> bool
     requires links { (q : the_dot)
-        → map.get forest.now.links q ≡ links_in (map.get (facts_of facts.now)) q }
-    ensures { result ≡ spec.may_skip (facts_of facts.now) horizon fact.now }
+        → map.get forest.now.links q ≡ links_in (map.get (held_facts facts.now)) q }
+    ensures { result ≡ spec.may_skip (held_facts facts.now) horizon fact.now }
 {
     match kept_for(fact.dot, &fact.body) {
         Some(token) => is_over(facts, forest, horizon, &token),
@@ -69,10 +69,10 @@ fn list_codes(
     list: &mut Vec<Dot>,
 ) -> Result<(), AllocError>
     requires links { (q : the_dot)
-        → map.get forest.now.links q ≡ links_in (map.get (facts_of facts.now)) q }
+        → map.get forest.now.links q ≡ links_in (map.get (held_facts facts.now)) q }
     ensures { OnOk result (list.new.items ≡ list.old.items
-        ++ spec.picked (spec.picks_code (facts_of facts.now) horizon)
-        (map.entries (facts_of facts.now))) }
+        ++ spec.picked (spec.picks_code (held_facts facts.now) horizon)
+        (map.entries (held_facts facts.now))) }
 {
     for fact in facts.facts() {
         if issued_in(&fact.body).is_some() && may_skip(facts, forest, horizon, fact) {
@@ -92,10 +92,10 @@ fn list_others(
     list: &mut Vec<Dot>,
 ) -> Result<(), AllocError>
     requires links { (q : the_dot)
-        → map.get forest.now.links q ≡ links_in (map.get (facts_of facts.now)) q }
+        → map.get forest.now.links q ≡ links_in (map.get (held_facts facts.now)) q }
     ensures { OnOk result (list.new.items ≡ list.old.items
-        ++ spec.picked (spec.picks_other (facts_of facts.now) horizon)
-        (map.entries (facts_of facts.now))) }
+        ++ spec.picked (spec.picks_other (held_facts facts.now) horizon)
+        (map.entries (held_facts facts.now))) }
 {
     for fact in facts.facts() {
         if issued_in(&fact.body).is_none() && may_skip(facts, forest, horizon, fact) {
@@ -116,13 +116,13 @@ pub(crate) fn dots_over(
     horizon: Moment,
 ) -> Result<Vec<Dot>, AllocError>
     requires links { (q : the_dot)
-        → map.get forest.now.links q ≡ links_in (map.get (facts_of facts.now)) q }
+        → map.get forest.now.links q ≡ links_in (map.get (held_facts facts.now)) q }
     ensures value { IfOk result (λ dots.
-        dots.items ≡ spec.dots_over (facts_of facts.now) horizon) }
+        dots.items ≡ spec.dots_over (held_facts facts.now) horizon) }
     ensures over { IfOk result (λ dots. (q : the_dot) → has dots.items q ≡ true
-        → spec.MaySkip (map.get (facts_of facts.now)) horizon q) }
+        → spec.MaySkip (map.get (held_facts facts.now)) horizon q) }
     ensures all { IfOk result (λ dots. (q : the_dot)
-        → spec.MaySkip (map.get (facts_of facts.now)) horizon q → has dots.items q ≡ true) }
+        → spec.MaySkip (map.get (held_facts facts.now)) horizon q → has dots.items q ≡ true) }
 {
     let mut list: Vec<Dot> = Vec::new(alloc);
     list_codes(facts, forest, horizon, &mut list)?;

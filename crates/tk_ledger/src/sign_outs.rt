@@ -7,7 +7,7 @@ ghost use Rattle.std.specs.List.{find};
 ghost use Rattle.std.specs.Option.{option_copied, option_map};
 ghost use Rattle.sha2.specs.Sha256.{sha256};
 ghost use Rattle.tk_fact.specs.declared.subject_out.SubjectOut as out;
-ghost use Rattle.tk_store.specs.Store.{facts_of};
+ghost use Rattle.tk_store.specs.StoreFields.{held_facts};
 ghost use Rattle.tk_ledger.specs.Index.{IsOuts, out_cmp, outs_of, tells_by, tells_of};
 ghost use Rattle.tk_ledger.specs.SignOuts as spec;
 ghost use Rattle.tk_ledger.specs.Tokens as tokens_of;
@@ -34,7 +34,7 @@ fn sign_out_in(body: &Body) -> Option<&SubjectOut>
 
 // Returns the sign-out at the dot.
 fn sign_out_at(facts: &FactStore, at: Dot) -> Option<&SubjectOut>
-    ensures { option_copied result ≡ spec.sign_out_at (map.get (facts_of facts.now)) at }
+    ensures { option_copied result ≡ spec.sign_out_at (map.get (held_facts facts.now)) at }
 {
     match facts.get(at) {
         Some(fact) => sign_out_in(&fact.body),
@@ -56,7 +56,7 @@ fn tells_by(sign_out: Option<&SubjectOut>, subject: &Subject, until: u64) -> boo
 
 // Returns whether the sign-out of the key is one of the subject, at the key's moment.
 fn tells_of(facts: &FactStore, subject: &Subject, key: &OutKey) -> bool
-    ensures { result ≡ tells_of (facts_of facts.now) subject.now key.now }
+    ensures { result ≡ tells_of (held_facts facts.now) subject.now key.now }
 {
     tells_by(sign_out_at(facts, key.place), subject, key.left)
 }
@@ -67,7 +67,7 @@ fn last_key<'a>(
     outs: &'a BTreeSet<OutKey>,
     subject: &Subject,
 ) -> Option<&'a OutKey>
-    ensures first { option_copied result ≡ find (tells_of (facts_of facts.now) subject.now)
+    ensures first { option_copied result ≡ find (tells_of (held_facts facts.now) subject.now)
         (outs_of outs.now (sha256 subject.now)) }
     ensures sorted { IsOrdered out_cmp outs.now }
 {
@@ -82,8 +82,8 @@ pub(crate) fn last_sign_out(
     outs: &BTreeSet<OutKey>,
     subject: &Subject,
 ) -> Option<Moment>
-    requires { IsOuts (facts_of facts.now) outs.now }
-    ensures { spec.IsLastSignOut (map.get (facts_of facts.now)) subject.now result }
+    requires { IsOuts (held_facts facts.now) outs.now }
+    ensures { spec.IsLastSignOut (map.get (held_facts facts.now)) subject.now result }
 {
     let key = last_key(facts, outs, subject)?;
     Some(sign_out_at(facts, key.place)?.moment)
@@ -96,8 +96,8 @@ fn is_signed_out(
     subject: &Subject,
     moment: Moment,
 ) -> bool
-    requires { IsOuts (facts_of facts.now) outs.now }
-    ensures { result ≡ spec.is_signed_out (facts_of facts.now) subject.now moment }
+    requires { IsOuts (held_facts facts.now) outs.now }
+    ensures { result ≡ spec.is_signed_out (held_facts facts.now) subject.now moment }
 {
     match last_sign_out(facts, outs, subject) {
         Some(last) => moment.seconds() <= last.seconds(),
@@ -107,8 +107,8 @@ fn is_signed_out(
 
 // Returns whether the subject of the code signed out at its start, or later.
 fn is_out_by(facts: &FactStore, outs: &BTreeSet<OutKey>, code: Option<&CodeIssued>) -> bool
-    requires { IsOuts (facts_of facts.now) outs.now }
-    ensures { result ≡ tokens_of.is_out_by (facts_of facts.now) (option_copied code.entry) }
+    requires { IsOuts (held_facts facts.now) outs.now }
+    ensures { result ≡ tokens_of.is_out_by (held_facts facts.now) (option_copied code.entry) }
 {
     match code {
         Some(code) => is_signed_out(facts, outs, &code.subject, code.start),
@@ -118,8 +118,8 @@ fn is_out_by(facts: &FactStore, outs: &BTreeSet<OutKey>, code: Option<&CodeIssue
 
 // Returns whether a code was issued at the dot whose subject signed out at its start, or later.
 pub(crate) fn is_out(facts: &FactStore, outs: &BTreeSet<OutKey>, at: Dot) -> bool
-    requires { IsOuts (facts_of facts.now) outs.now }
-    ensures { result ≡ tokens_of.is_out (facts_of facts.now) at }
+    requires { IsOuts (held_facts facts.now) outs.now }
+    ensures { result ≡ tokens_of.is_out (held_facts facts.now) at }
 {
     is_out_by(facts, outs, issued_at(facts, at))
 }

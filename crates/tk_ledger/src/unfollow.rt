@@ -1,7 +1,7 @@
 //! The loss of a fact: the tables of the other facts. Nothing here allocates memory.
 
 ghost use Rattle.std.specs.Prelude.{◌≡◌, true};
-ghost use Rattle.tk_store.specs.Store.{facts_of};
+ghost use Rattle.tk_store.specs.StoreFields.{held_facts};
 ghost use Rattle.tk_ledger.specs.Index.{IsIndexed};
 ghost use Rattle.tk_ledger.specs.Losses.{WasIndexed, passes};
 
@@ -17,8 +17,8 @@ use tk_store::FactStore;
 // any more.
 pub(crate) fn unfollow(facts: &FactStore, index: &mut Index, dot: Dot, change: &Change)
     requires passes { passes change.now ≡ true }
-    requires lost { WasIndexed (facts_of facts.now) dot change.now index.old }
-    ensures { IsIndexed (facts_of facts.now) index.new }
+    requires lost { WasIndexed (held_facts facts.now) dot change.now index.old }
+    ensures { IsIndexed (held_facts facts.now) index.new }
 {
     match change {
         Change::Issue(subject) => {

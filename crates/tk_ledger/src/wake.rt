@@ -9,7 +9,7 @@ ghost use Rattle.tk_handle.specs.declared.dot.Dot.{Dot as the_dot};
 ghost use Rattle.tk_handle.specs.declared.token_id.TokenId.{TokenId as the_token};
 ghost use Rattle.tk_family.specs.Dots.{dot_eq, has};
 ghost use Rattle.tk_fact.specs.Tokens.{shown_minted};
-ghost use Rattle.tk_store.specs.Store.{facts_of};
+ghost use Rattle.tk_store.specs.StoreFields.{held_facts};
 ghost use Rattle.tk_ledger.specs.Bodies.{is_same_token};
 ghost use Rattle.tk_ledger.specs.ByTop.{ended_in};
 ghost use Rattle.tk_ledger.specs.Index.{
@@ -62,10 +62,10 @@ fn is_ended(
     forest: &Forest,
     token: &TokenId,
 ) -> bool
-    requires revocations { IsRevocations (facts_of facts.now) revocations.now }
+    requires revocations { IsRevocations (held_facts facts.now) revocations.now }
     requires links { (q : the_dot)
-        → map.get forest.now.links q ≡ spec.links_in (map.get (facts_of facts.now)) q }
-    ensures { result ≡ spec.is_ended (facts_of facts.now) token.now }
+        → map.get forest.now.links q ≡ spec.links_in (map.get (held_facts facts.now)) q }
+    ensures { result ≡ spec.is_ended (held_facts facts.now) token.now }
 {
     is_ended_by(
         revocations,
@@ -83,11 +83,11 @@ fn is_stopped(
     forest: &Forest,
     token: &TokenId,
 ) -> bool
-    requires revocations { IsRevocations (facts_of facts.now) revocations.now }
-    requires outs { IsOuts (facts_of facts.now) outs.now }
+    requires revocations { IsRevocations (held_facts facts.now) revocations.now }
+    requires outs { IsOuts (held_facts facts.now) outs.now }
     requires links { (q : the_dot)
-        → map.get forest.now.links q ≡ spec.links_in (map.get (facts_of facts.now)) q }
-    ensures { result ≡ spec.is_stopped (facts_of facts.now) token.now }
+        → map.get forest.now.links q ≡ spec.links_in (map.get (held_facts facts.now)) q }
+    ensures { result ≡ spec.is_stopped (held_facts facts.now) token.now }
 {
     match token.kind {
         Kind::Code => is_out(facts, outs, token.dot),
@@ -105,12 +105,12 @@ fn is_marked(
     forest: &Forest,
     token: &TokenId,
 ) -> bool
-    requires revocations { IsRevocations (facts_of facts.now) revocations.now }
-    requires outs { IsOuts (facts_of facts.now) outs.now }
-    requires reuses { IsReuses (facts_of facts.now) reuses.now }
+    requires revocations { IsRevocations (held_facts facts.now) revocations.now }
+    requires outs { IsOuts (held_facts facts.now) outs.now }
+    requires reuses { IsReuses (held_facts facts.now) reuses.now }
     requires links { (q : the_dot)
-        → map.get forest.now.links q ≡ spec.links_in (map.get (facts_of facts.now)) q }
-    ensures { result ≡ spec.is_marked (facts_of facts.now) token.now }
+        → map.get forest.now.links q ≡ spec.links_in (map.get (held_facts facts.now)) q }
+    ensures { result ≡ spec.is_marked (held_facts facts.now) token.now }
 {
     is_reused(reuses, token) || is_stopped(facts, revocations, outs, forest, token)
 }
@@ -139,15 +139,15 @@ fn write_mark(
     forest: &mut Forest,
     token: TokenId,
 )
-    requires revocations { IsRevocations (facts_of facts.now) revocations.now }
-    requires outs { IsOuts (facts_of facts.now) outs.now }
-    requires reuses { IsReuses (facts_of facts.now) reuses.now }
+    requires revocations { IsRevocations (held_facts facts.now) revocations.now }
+    requires outs { IsOuts (held_facts facts.now) outs.now }
+    requires reuses { IsReuses (held_facts facts.now) reuses.now }
     requires links { (q : the_dot)
-        → map.get forest.old.links q ≡ spec.links_in (map.get (facts_of facts.now)) q }
+        → map.get forest.old.links q ≡ spec.links_in (map.get (held_facts facts.now)) q }
     requires here { IsSome (map.get forest.old.links token.dot) }
     ensures links { forest.new.links ≡ forest.old.links }
     ensures marks { (k : the_token) → set.contains forest.new.marks k
-        ≡ cond (is_same_token token k) (spec.is_marked (facts_of facts.now) token)
+        ≡ cond (is_same_token token k) (spec.is_marked (held_facts facts.now) token)
         (set.contains forest.old.marks k) }
 {
     let marked = is_marked(facts, revocations, outs, reuses, forest, &token);
@@ -164,12 +164,12 @@ pub(crate) fn wake(
     forest: &mut Forest,
     at: Dot,
 )
-    requires revocations { IsRevocations (facts_of facts.now) revocations.now }
-    requires outs { IsOuts (facts_of facts.now) outs.now }
-    requires reuses { IsReuses (facts_of facts.now) reuses.now }
+    requires revocations { IsRevocations (held_facts facts.now) revocations.now }
+    requires outs { IsOuts (held_facts facts.now) outs.now }
+    requires reuses { IsReuses (held_facts facts.now) reuses.now }
     requires links { (q : the_dot)
-        → map.get forest.old.links q ≡ spec.links_in (map.get (facts_of facts.now)) q }
-    ensures { Wakes (facts_of facts.now) forest.old (λ q. dot_eq q at) forest.new }
+        → map.get forest.old.links q ≡ spec.links_in (map.get (held_facts facts.now)) q }
+    ensures { Wakes (held_facts facts.now) forest.old (λ q. dot_eq q at) forest.new }
 {
     if code_above(forest, at).is_some() {
         let code = TokenId {
@@ -194,12 +194,12 @@ pub(crate) fn wake_all(
     forest: &mut Forest,
     dots: &[Dot],
 )
-    requires revocations { IsRevocations (facts_of facts.now) revocations.now }
-    requires outs { IsOuts (facts_of facts.now) outs.now }
-    requires reuses { IsReuses (facts_of facts.now) reuses.now }
+    requires revocations { IsRevocations (held_facts facts.now) revocations.now }
+    requires outs { IsOuts (held_facts facts.now) outs.now }
+    requires reuses { IsReuses (held_facts facts.now) reuses.now }
     requires links { (q : the_dot)
-        → map.get forest.old.links q ≡ spec.links_in (map.get (facts_of facts.now)) q }
-    ensures { Wakes (facts_of facts.now) forest.old (has dots.now) forest.new }
+        → map.get forest.old.links q ≡ spec.links_in (map.get (held_facts facts.now)) q }
+    ensures { Wakes (held_facts facts.now) forest.old (has dots.now) forest.new }
 {
     for at in dots {
         wake(facts, revocations, outs, reuses, forest, *at);
@@ -216,12 +216,12 @@ pub(crate) fn wake_codes(
     forest: &mut Forest,
     subject: &[u8; 32],
 )
-    requires revocations { IsRevocations (facts_of facts.now) revocations.now }
-    requires outs { IsOuts (facts_of facts.now) outs.now }
-    requires reuses { IsReuses (facts_of facts.now) reuses.now }
+    requires revocations { IsRevocations (held_facts facts.now) revocations.now }
+    requires outs { IsOuts (held_facts facts.now) outs.now }
+    requires reuses { IsReuses (held_facts facts.now) reuses.now }
     requires links { (q : the_dot)
-        → map.get forest.old.links q ≡ spec.links_in (map.get (facts_of facts.now)) q }
-    ensures { Wakes (facts_of facts.now) forest.old
+        → map.get forest.old.links q ≡ spec.links_in (map.get (held_facts facts.now)) q }
+    ensures { Wakes (held_facts facts.now) forest.old
         (has (dots_of (codes_of codes.now subject.now))) forest.new }
 {
     let (first, last) = code_span(subject);

@@ -3,6 +3,7 @@
 --   whole_taken                   taking a fact back
 --   whole_front, whole_next       the front and the next serial are those of the set
 --   whole_beyond                  and so are the dots that a vector does not cover
+--   empty_held, known_kept        an empty store, and a call that changes nothing
 --   agree_is, below_is            two such stores agree, and are ordered, as their sets are
 use Rattle.std.proofs.Common.{◌≡◌, ◌≢◌, ◌↔◌, ◌≤◌, ◌+◌, ℕ, max, ◌==◌, if◌then◌else◌, Bool, true, false, cond, not, nat_le, List, [], ◌∷◌, map, filter, Option, Some, None, IsSome, is_some, option_map, Result, Ok, Err, refl, sym, ap, subst, ◌∙◌, arith}
 use Rattle.std.proofs.lemmas.Bool.{true≢false}
@@ -19,7 +20,7 @@ use Rattle.tk_store.specs.Front.{IsFront, IsFrontAt, HeldUpTo, dot_at}
 use Rattle.tk_store.specs.NextDot.{last_serial, next_serial}
 use Rattle.tk_store.specs.SlotOrder.{SlotBelow, SlotAgrees, StoreBelow, StoresAgree}
 use Rattle.tk_store.specs.Slots.{Slot, Slots, Held, Skipped, held_slot, held_in, held_entries, is_skipped, is_skipped_slot, without_fact}
-use Rattle.tk_store.specs.StoreFields.{StoreFields, held_facts, IsWhole, with_fact}
+use Rattle.tk_store.specs.StoreFields.{StoreFields, empty_store, held_facts, IsWhole, with_fact}
 use Rattle.tk_store.specs.Walk.{above, is_above}
 use Rattle.tk_store.specs.declared.store.Added.{Added}
 use Rattle.tk_store.specs.declared.store.Added.TheVariants as added
@@ -27,7 +28,7 @@ use Rattle.tk_store.specs.declared.store.AddError.{AddError}
 use Rattle.tk_store.specs.declared.store.AddError.TheVariants.{Conflict, Memory}
 use Rattle.tk_store.proofs.EntryLaws.{AllIn-entries}
 use Rattle.tk_store.proofs.PutLaws.{by_dot, none_is_not_some, some_injective}
-use Rattle.tk_store.proofs.SlotLaws.{get_held, held_put, held_without, entries_held, whole_held, whole_free}
+use Rattle.tk_store.proofs.SlotLaws.{get_held, held_none, held_put, held_without, entries_held, whole_held, whole_free}
 use Rattle.tk_store.specs.FactSet.{AllIn}
 
 -- ---- what stands at a dot
@@ -175,3 +176,18 @@ module _ (P Q : StoreFields) (p : IsWhole P) (q : IsWhole Q) where
     λ below d x at. get_held Q.slots d ∙ below_slots (sets.get P.slots d) (sets.get Q.slots d) (p d) (q d) (below.slots d) x (sym (get_held P.slots d) ∙ at),
     λ within. record { slots = λ d. slots_below (sets.get P.slots d) (sets.get Q.slots d) (p d) (q d) (λ x at. sym (get_held Q.slots d) ∙ within d x (get_held P.slots d ∙ at)); horizon = le },
   )
+
+-- ---- an empty store, and a call that changes nothing
+
+pub empty_held : (P : StoreFields) → P ≡ empty_store → held_facts P ≡ sets.empty
+empty_held P is = held_none P.slots (ap (λ (Q : StoreFields). Q.slots) is)
+
+pub empty_whole : (P : StoreFields) → P ≡ empty_store → IsWhole P
+empty_whole P is d = ap (λ (Q : StoreFields). is_skipped Q.slots d) is ∙ ap is_skipped_slot (sets.get-empty dot_cmp d)
+
+-- adding a fact at a dot that is held changes nothing
+pub known_kept : (P Q : StoreFields) (f : Dot × Body) (r : Result Added AddError) → IsSome (sets.get (held_facts P) f.0) → AddsTo P f r Q → Q ≡ P
+known_kept P Q f (Ok added.New) known adds = absurd (true≢false (sym known ∙ ap is_some (get_held P.slots f.0 ∙ ap held_slot adds.0)))
+known_kept P Q f (Ok added.Held) known adds = adds.1
+known_kept P Q f (Err Conflict) known adds = adds.1
+known_kept P Q f (Err Memory) known adds = absurd (true≢false (sym known ∙ ap is_some (get_held P.slots f.0 ∙ ap held_slot adds.0)))

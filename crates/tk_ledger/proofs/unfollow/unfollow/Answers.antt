@@ -1,35 +1,36 @@
 use Rattle.std.proofs.Common.{subst}
+use Rattle.tk_store.specs.StoreFields.{held_facts}
 use Rattle.tk_ledger.specs.Losses.{WasIndexed}
 use Rattle.tk_ledger.specs.declared.change.Change.{Change}
 use Rattle.tk_ledger.proofs.LossLaws.{lost_code, lost_link, lost_revocations, lost_outs, lost_reuses, lost_links, lost_reuse}
 use Rattle.tk_ledger.proofs.unfollow.unfollow.Goals as goal
 
 pub wake-requires-clause-revocations : goal.wake-requires-clause-revocations
-wake-requires-clause-revocations c = lost_revocations c.args.facts.now c.args.dot c.in-Mark.token c.args.index.now (subst (λ (y : Change). WasIndexed c.args.facts.now c.args.dot y c.args.index.now) c.in-Mark.is c.requires.lost)
+wake-requires-clause-revocations c = lost_revocations (held_facts c.args.facts.now) c.args.dot c.in-Mark.token c.args.index.now (subst (λ (y : Change). WasIndexed (held_facts c.args.facts.now) c.args.dot y c.args.index.now) c.in-Mark.is c.requires.lost)
 
 pub wake-requires-clause-outs : goal.wake-requires-clause-outs
-wake-requires-clause-outs c = lost_outs c.args.facts.now c.args.dot c.in-Mark.token c.args.index.now (subst (λ (y : Change). WasIndexed c.args.facts.now c.args.dot y c.args.index.now) c.in-Mark.is c.requires.lost)
+wake-requires-clause-outs c = lost_outs (held_facts c.args.facts.now) c.args.dot c.in-Mark.token c.args.index.now (subst (λ (y : Change). WasIndexed (held_facts c.args.facts.now) c.args.dot y c.args.index.now) c.in-Mark.is c.requires.lost)
 
 pub wake-requires-clause-reuses : goal.wake-requires-clause-reuses
-wake-requires-clause-reuses c = lost_reuses c.args.facts.now c.args.dot c.in-Mark.token c.args.index.now c.drop_reuse.new.reuses (subst (λ (y : Change). WasIndexed c.args.facts.now c.args.dot y c.args.index.now) c.in-Mark.is c.requires.lost) c.drop_reuse.ensures
+wake-requires-clause-reuses c = lost_reuses (held_facts c.args.facts.now) c.args.dot c.in-Mark.token c.args.index.now c.drop_reuse.new.reuses (subst (λ (y : Change). WasIndexed (held_facts c.args.facts.now) c.args.dot y c.args.index.now) c.in-Mark.is c.requires.lost) c.drop_reuse.ensures
 
 pub wake-requires-clause-links : goal.wake-requires-clause-links
-wake-requires-clause-links c = lost_links c.args.facts.now c.args.dot c.in-Mark.token c.args.index.now (subst (λ (y : Change). WasIndexed c.args.facts.now c.args.dot y c.args.index.now) c.in-Mark.is c.requires.lost)
+wake-requires-clause-links c = lost_links (held_facts c.args.facts.now) c.args.dot c.in-Mark.token c.args.index.now (subst (λ (y : Change). WasIndexed (held_facts c.args.facts.now) c.args.dot y c.args.index.now) c.in-Mark.is c.requires.lost)
 
 pub returns-in-Issue : goal.returns-in-Issue
 returns-in-Issue c =
-    lost_code c.args.facts.now c.args.dot c.in-Issue.subject c.args.index.now c.drop_code.new.codes c.take.new.self
-    (subst (λ (y : Change). WasIndexed c.args.facts.now c.args.dot y c.args.index.now) c.in-Issue.is c.requires.lost)
+    lost_code (held_facts c.args.facts.now) c.args.dot c.in-Issue.subject c.args.index.now c.drop_code.new.codes c.take.new.self
+    (subst (λ (y : Change). WasIndexed (held_facts c.args.facts.now) c.args.dot y c.args.index.now) c.in-Issue.is c.requires.lost)
     c.drop_code.ensures c.take.ensures.links c.take.ensures.marks
 
 pub returns-in-Put : goal.returns-in-Put
 returns-in-Put c =
-    lost_link c.args.facts.now c.args.dot c.in-Put.field-0 c.args.index.now c.take-in-Put.new.self
-    (subst (λ (y : Change). WasIndexed c.args.facts.now c.args.dot y c.args.index.now) c.in-Put.is c.requires.lost)
+    lost_link (held_facts c.args.facts.now) c.args.dot c.in-Put.field-0 c.args.index.now c.take-in-Put.new.self
+    (subst (λ (y : Change). WasIndexed (held_facts c.args.facts.now) c.args.dot y c.args.index.now) c.in-Put.is c.requires.lost)
     c.take-in-Put.ensures.links c.take-in-Put.ensures.marks
 
 pub returns-in-Mark : goal.returns-in-Mark
 returns-in-Mark c =
-    lost_reuse c.args.facts.now c.args.dot c.in-Mark.token c.args.index.now c.drop_reuse.new.reuses c.wake.new.forest
-    (subst (λ (y : Change). WasIndexed c.args.facts.now c.args.dot y c.args.index.now) c.in-Mark.is c.requires.lost)
+    lost_reuse (held_facts c.args.facts.now) c.args.dot c.in-Mark.token c.args.index.now c.drop_reuse.new.reuses c.wake.new.forest
+    (subst (λ (y : Change). WasIndexed (held_facts c.args.facts.now) c.args.dot y c.args.index.now) c.in-Mark.is c.requires.lost)
     c.drop_reuse.ensures c.wake.ensures
