@@ -30,7 +30,7 @@ abbrev pub judged_by_type : FactSet → ℕ → Pairs → Dot → Option (List �
 judged_by_type F now params client None = Refused MissingGrantType
 judged_by_type F now params client (Some name) =
     if bytes_eq name (codes "authorization_code")
-    then redeemed_of F params (gate_of F now client kind.Code (value_of (codes "code") params))
+    then redeemed_of params (gate_of F now client kind.Code (value_of (codes "code") params))
     else if bytes_eq name (codes "refresh_token")
     then rotated_of params (gate_of F now client kind.Refresh
     (value_of (codes "refresh_token") params))

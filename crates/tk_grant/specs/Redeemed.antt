@@ -16,22 +16,14 @@ use Rattle.std.specs.Prelude.{
   if◌then◌else◌,
 }
 use Rattle.std.specs.Str.{bytes_eq}
-use Rattle.std.specs.FinMap as map
 use Rattle.tk_match.specs.Challenge.{ChallengeFields, is_met}
-use Rattle.tk_fact.specs.declared.code_issued.CodeIssued as issued
-use Rattle.tk_store.specs.FactSet.{FactSet}
 use Rattle.tk_ledger.specs.StandingFields.{StandingFields}
-use Rattle.tk_ledger.specs.Tokens.{issued_at}
 use Rattle.tk_params.specs.Params.{Pairs, value_of}
 use Rattle.tk_grant.specs.declared.gate.Gate.{Gate}
 use Rattle.tk_grant.specs.declared.gate.Gate.TheVariants.{Shut, Reuse, Open}
 use Rattle.tk_grant.specs.declared.judged.Judged.{Judged}
 use Rattle.tk_grant.specs.declared.judged.Judged.TheVariants.{Refused, Reused, Redeems}
-use Rattle.tk_grant.specs.declared.refusal.Refusal.TheVariants.{
-  UnknownGrant,
-  WrongRedirect,
-  WrongVerifier,
-}
+use Rattle.tk_grant.specs.declared.refusal.Refusal.TheVariants.{WrongRedirect, WrongVerifier}
 
 -- the URI is the code's, byte for byte. The request may leave the URI out only if the code's
 -- request did (RFC 6749, 4.1.3)
@@ -47,14 +39,14 @@ meets_challenge (Some challenge) None = false
 meets_challenge (Some challenge) (Some verifier) = is_met challenge verifier
 
 -- the judgement of the code by the URI (RFC 6749, 4.1.3) and the verifier (RFC 7636, 4.6). Both
--- tokens get the code's scope (RFC 6749, 4.1.4 and 6). The code at an open gate was issued: `None`
--- never happens
-abbrev pub redeemed_by : Pairs → StandingFields → Option issued.CodeIssued → Judged
-redeemed_by params standing None = Refused UnknownGrant
-redeemed_by params standing (Some code) =
-    if not (names_uri code.sent code.uri (value_of (codes "redirect_uri") params))
+-- tokens get the code's scope (RFC 6749, 4.1.4 and 6)
+abbrev pub redeemed_by : Pairs → StandingFields → Judged
+redeemed_by params standing =
+    if not (names_uri standing.issued.sent standing.issued.uri
+    (value_of (codes "redirect_uri") params))
     then Refused WrongRedirect
-    else if not (meets_challenge code.challenge (value_of (codes "code_verifier") params))
+    else if not (meets_challenge standing.issued.challenge
+    (value_of (codes "code_verifier") params))
     then Refused WrongVerifier
     else Redeems (record {
       from = standing.code;
@@ -64,8 +56,7 @@ redeemed_by params standing (Some code) =
     })
 
 -- the judgement of the code at the gate
-abbrev pub redeemed_of : FactSet → Pairs → Gate → Judged
-redeemed_of F params (Shut why) = Refused why
-redeemed_of F params (Reuse id) = Reused id
-redeemed_of F params (Open id standing) =
-    redeemed_by params standing (issued_at (map.get F) standing.code)
+abbrev pub redeemed_of : Pairs → Gate → Judged
+redeemed_of params (Shut why) = Refused why
+redeemed_of params (Reuse id) = Reused id
+redeemed_of params (Open id standing) = redeemed_by params standing

@@ -119,7 +119,7 @@ fn judge_by_type(
     };
     if grant_type == "authorization_code" {
         let gate = find_gate(ledger, now, client, Kind::Code, params.value("code"));
-        return redeem(alloc, ledger, now, params, gate);
+        return redeem(alloc, now, params, gate);
     }
     if grant_type == "refresh_token" {
         let gate = find_gate(

@@ -1,10 +1,7 @@
 //! Redeeming a code (RFC 6749, 4.1.3).
 
 ghost use Rattle.std.specs.Prelude.{◌≡◌, ◌<◌, IfOk};
-ghost use Rattle.std.specs.FinMap as map;
 ghost use Rattle.std.specs.Option.{option_copied};
-ghost use Rattle.tk_store.specs.Store.{facts_of};
-ghost use Rattle.tk_ledger.specs.Tokens as tokens;
 ghost use Rattle.tk_grant.specs.Redeemed as spec;
 ghost use Rattle.tk_grant.specs.SoundGate.{IsSoundGate};
 ghost use Rattle.tk_grant.specs.SoundJudged.{IsSoundJudged};
@@ -13,71 +10,41 @@ use crate::gate::Gate;
 use crate::judged::{Grant, Judged};
 use crate::refusal::Refusal;
 use std::alloc::{AllocError, Global};
-use tk_fact::{Body, CodeIssued};
-use tk_handle::{Dot, Moment};
-use tk_ledger::{Ledger, Standing};
+use tk_handle::Moment;
+use tk_ledger::Standing;
 use tk_match::{Challenge, Uri};
 use tk_message::Params;
 
 // Judges the redemption of the code at the gate, by the parameters.
 pub(crate) fn redeem(
     alloc: Global,
-    ledger: &Ledger,
     now: Moment,
     params: &Params,
     gate: Gate<'_>,
 ) -> Result<Judged, AllocError>
     requires { IsSoundGate now gate }
-    ensures value { IfOk result (λ judged.
-        judged ≡ spec.redeemed_of (facts_of ledger.now) params.now gate.entry) }
+    ensures value { IfOk result (λ judged. judged ≡ spec.redeemed_of params.now gate.entry) }
     ensures sound { IfOk result (IsSoundJudged now) }
 {
     match gate {
         Gate::Shut(why) => Ok(Judged::Refused(why)),
         Gate::Reuse(id) => Ok(Judged::Reused(id)),
-        Gate::Open(_, standing) => {
-            let code = issued_at(ledger, standing.code);
-            redeem_by(alloc, now, params, &standing, code)
-        }
+        Gate::Open(_, standing) => redeem_by(alloc, now, params, &standing),
     }
 }
 
-// Returns the fact at the dot, if it is that a code was issued.
-fn issued_at(ledger: &Ledger, code: Dot) -> Option<&CodeIssued>
-    ensures { option_copied result ≡ tokens.issued_at (map.get (facts_of ledger.now)) code }
-{
-    match ledger.store().get(code) {
-        Some(fact) => issued_in(&fact.body),
-        None => None,
-    }
-}
-
-// Returns the fact that a code was issued, if the body is one.
-fn issued_in(body: &Body) -> Option<&CodeIssued>
-    ensures { option_copied result ≡ tokens.issued_in body.now }
-{
-    match body {
-        Body::CodeIssued(code) => Some(code),
-        _ => None,
-    }
-}
-
-// Judges the redemption of a code that was issued.
+// Judges the redemption of a code by its standing.
 fn redeem_by(
     alloc: Global,
     now: Moment,
     params: &Params,
     standing: &Standing<'_>,
-    code: Option<&CodeIssued>,
 ) -> Result<Judged, AllocError>
     requires { now < standing.now.family_end }
-    ensures value { IfOk result (λ judged.
-        judged ≡ spec.redeemed_by params.now standing.now (option_copied code.entry)) }
+    ensures value { IfOk result (λ judged. judged ≡ spec.redeemed_by params.now standing.now) }
     ensures sound { IfOk result (IsSoundJudged now) }
 {
-    let Some(code) = code else {
-        return Ok(Judged::Refused(Refusal::UnknownGrant));
-    };
+    let code = standing.issued;
     if !names_uri(code.sent, &code.uri, params.value("redirect_uri")) {
         return Ok(Judged::Refused(Refusal::WrongRedirect));
     }

@@ -352,6 +352,7 @@ impl PlainLedger {
             client: issued.client,
             subject: &issued.subject,
             code,
+            issued,
             scope: minted.scope,
             start: minted.start,
             expiry: minted.expiry,
