@@ -25,13 +25,12 @@ use Rattle.tk_message.specs.declared.error_code.ErrorCode.{ErrorCode}
 use Rattle.tk_message.specs.declared.status.Status.{Status}
 use Rattle.tk_region.specs.RegionFields.{RegionFields, Gains}
 use Rattle.tk_region.specs.Step.{PreparedFields, prepared_of}
-use Rattle.tk_edge.specs.Answers.{told_by, rendered, refused_by, answer_by, fact_by, AnswersBy}
+use Rattle.tk_edge.specs.Answers.{rendered, refused_by, answer_by, fact_by, AnswersBy}
 use Rattle.tk_edge.specs.Arrivals.{Answers, IsShort}
 use Rattle.tk_edge.specs.Exchanges.{Exchanges, page_reply}
 use Rattle.tk_edge.specs.Heard.{Arrives, IsArrival, MayArrive}
 use Rattle.tk_edge.specs.Judged.{code_of, allowed_by}
 use Rattle.tk_edge.specs.Pulls.{wanted}
-use Rattle.tk_edge.specs.Rendering.{reply_bytes}
 use Rattle.tk_edge.specs.Served.{Asked, Step, Replies, IsServed}
 use Rattle.tk_edge.specs.Told.{AnswerFields, Change}
 use Rattle.tk_edge.specs.declared.edge.Served.{Served}
@@ -43,14 +42,13 @@ use Rattle.tk_edge.specs.declared.refusal.Refusal.{Refusal}
 use Rattle.tk_edge.specs.declared.tell.Fault.{Fault}
 use Rattle.tk_edge.specs.declared.tell.Fault.TheVariants.{Read, Write, Log, Memory}
 
-pub refused : (why : Refusal) (code : ErrorCode) (seen reply : ReplyFields) (allowed : Option (List ℕ)) (bytes : List ℕ)
-    → code ≡ code_of why → seen ≡ reply → reply ≡ error_reply code → allowed ≡ allowed_by why → bytes ≡ reply_bytes reply allowed
-    → told_by seen.status bytes None ≡ refused_by why
-refused why code seen reply allowed bytes code_is same reply_is allowed_is bytes_are =
-    ap (λ (r : ReplyFields). told_by r.status bytes None) same
-    ∙ ap (λ b. told_by reply.status b None) bytes_are
-    ∙ ap (λ a. rendered reply a None) allowed_is
-    ∙ ap (λ r. rendered r (allowed_by why) None) (reply_is ∙ ap error_reply code_is)
+pub refused : (why : Refusal) (code : ErrorCode) (reply : ReplyFields) (allowed : Option (List ℕ)) (result : Result AnswerFields AllocError)
+    → code ≡ code_of why → reply ≡ error_reply code → allowed ≡ allowed_by why → IfOk result (λ a. a ≡ rendered reply allowed None)
+    → IfOk result (λ a. a ≡ refused_by why)
+refused why code reply allowed (Ok a) code_is reply_is allowed_is is =
+    is ∙ ap (λ w. rendered reply w None) allowed_is
+    ∙ ap (λ (r : ReplyFields). rendered r (allowed_by why) None) (reply_is ∙ ap error_reply code_is)
+refused why code reply allowed (Err e) code_is reply_is allowed_is is = tt
 
 pub gains_nothing : (r : RegionFields) → Gains r [] r
 gains_nothing r = record { number = refl; settings = refl; joins = joins_nothing r.facts }

@@ -147,18 +147,10 @@ hears_nothing sync known came silent arrives bytes is = silent_is_empty sync byt
 
 -- the paths that are served only if regions exchange facts
 abbrev MayServe : Bool → Path → Type 0
-MayServe sync path.Authorize = Unit {0}
-MayServe sync path.Token = Unit {0}
-MayServe sync path.Introspect = Unit {0}
-MayServe sync path.Revoke = Unit {0}
-MayServe sync path.Client = Unit {0}
-MayServe sync path.Retire = Unit {0}
-MayServe sync path.Consent = Unit {0}
-MayServe sync path.Withdraw = Unit {0}
-MayServe sync path.SignOut = Unit {0}
 MayServe sync path.Vector = sync ≡ true
 MayServe sync path.Pull = sync ≡ true
 MayServe sync path.Push = sync ≡ true
+MayServe sync path = Unit {0}
 
 abbrev MayServeIf : Bool → Option Path → Type 0
 MayServeIf sync None = Unit {0}
@@ -202,30 +194,11 @@ MayDoIf sync (Some s) = MayDo sync s
 
 may_do : (sync : Bool) (p : Path) (m : Option Method) → MayServe sync p → MayDoIf sync (service_at p m)
 may_do sync p None h = tt
-may_do sync path.Authorize (Some Get) h = tt
-may_do sync path.Token (Some Get) h = tt
-may_do sync path.Introspect (Some Get) h = tt
-may_do sync path.Revoke (Some Get) h = tt
-may_do sync path.Client (Some Get) h = tt
-may_do sync path.Retire (Some Get) h = tt
-may_do sync path.Consent (Some Get) h = tt
-may_do sync path.Withdraw (Some Get) h = tt
-may_do sync path.SignOut (Some Get) h = tt
 may_do sync path.Vector (Some Get) h = h
-may_do sync path.Pull (Some Get) h = tt
-may_do sync path.Push (Some Get) h = tt
-may_do sync path.Authorize (Some Post) h = tt
-may_do sync path.Token (Some Post) h = tt
-may_do sync path.Introspect (Some Post) h = tt
-may_do sync path.Revoke (Some Post) h = tt
-may_do sync path.Client (Some Post) h = tt
-may_do sync path.Retire (Some Post) h = tt
-may_do sync path.Consent (Some Post) h = tt
-may_do sync path.Withdraw (Some Post) h = tt
-may_do sync path.SignOut (Some Post) h = tt
-may_do sync path.Vector (Some Post) h = tt
+may_do sync p (Some Get) h = tt
 may_do sync path.Pull (Some Post) h = h
 may_do sync path.Push (Some Post) h = h
+may_do sync p (Some Post) h = tt
 
 choose : (sync b : Bool) (j k : Judged) → MayAsk sync j → MayAsk sync k → MayAsk sync (cond b j k)
 choose sync true j k h l = h

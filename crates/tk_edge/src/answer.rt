@@ -32,6 +32,7 @@ impl Model for Answer {
 }
 
 ghost use Rattle.std.specs.Prelude.{◌≡◌, IfOk, IfSome, None};
+ghost use Rattle.std.specs.Option.{option_copied};
 ghost use Rattle.tk_region.specs.Step.{IsNextFact};
 ghost use Rattle.tk_edge.specs.Answers as spec;
 ghost use Rattle.tk_edge.specs.Arrivals.{Answers};
@@ -42,7 +43,7 @@ use crate::refusal::Refusal;
 use crate::render::render;
 use std::alloc::{AllocError, Global};
 use tk_handle::Moment;
-use tk_message::{Reply, Request, error_reply};
+use tk_message::{Reply, Request, Told};
 use tk_region::{Prepared, Region};
 
 // Replies to an arrival. `now` is the current moment, `words` the random words for new handles. If
@@ -80,15 +81,8 @@ fn silent(alloc: Global) -> Answer
 pub(crate) fn refuse(alloc: Global, why: Refusal) -> Result<Answer, AllocError>
     ensures { IfOk result (λ answer. answer ≡ spec.refused_by why) }
 {
-    let reply = error_reply(alloc, why.code())?;
-    let status = reply.status;
-    let bytes = render(alloc, &reply, why.allowed());
-    drop(reply);
-    Ok(Answer {
-        status,
-        bytes: bytes?,
-        logged: None,
-    })
+    let reply = Told::Error(why.code()).reply(alloc)?;
+    answer_with(alloc, &reply, why.allowed())
 }
 
 // Replies to a request for the region.
@@ -148,11 +142,17 @@ fn commit(region: &mut Region, prepared: Prepared, bytes: Vec<u8>) -> Result<Ans
     }
 }
 
-// Returns the answer to a request that makes no fact.
-pub(crate) fn answer_with(alloc: Global, reply: &Reply) -> Result<Answer, AllocError>
-    ensures { IfOk result (λ answer. answer ≡ spec.rendered reply.now None None) }
+// Returns the answer to a request that makes no fact. `allowed` is the value of `Allow`, if the
+// answer has one.
+pub(crate) fn answer_with(
+    alloc: Global,
+    reply: &Reply,
+    allowed: Option<&[u8]>,
+) -> Result<Answer, AllocError>
+    ensures { IfOk result (λ answer. answer
+        ≡ spec.rendered reply.now (option_copied allowed.entry) None) }
 {
-    let bytes = render(alloc, reply, None)?;
+    let bytes = render(alloc, reply, allowed)?;
     Ok(Answer {
         status: reply.status,
         bytes,
