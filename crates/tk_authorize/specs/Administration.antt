@@ -27,7 +27,8 @@ use Rattle.tk_message.specs.declared.place.Place.{Place}
 use Rattle.tk_message.specs.declared.status.Status.TheVariants as status
 use Rattle.tk_message.specs.Decision.{answered, refused}
 use Rattle.tk_message.specs.Place.{next_in}
-use Rattle.tk_message.specs.Reply.{client_reply, consent_reply, shown_reply, subject_reply}
+use Rattle.tk_message.specs.Bodies.{client_body, consent_body, shown_body, subject_body}
+use Rattle.tk_message.specs.Reply.{json_reply}
 use Rattle.tk_message.specs.RequestFields.{RequestFields}
 use Rattle.tk_authorize.specs.declared.admin_refusal.AdminRefusal.{AdminRefusal}
 use Rattle.tk_authorize.specs.declared.admin_refusal.AdminRefusal.TheVariants as refusal
@@ -63,17 +64,20 @@ code_of refusal.UnknownEndpoint = NotFound
 
 -- a client is added, and gets the id of the next dot
 abbrev pub decided_registered : Place → added.ClientAdded → Decision
-decided_registered place client =
-    record { reply = client_reply status.Created (next_in place); made = Some (ClientAdded client) }
+decided_registered place client = record {
+  reply = json_reply status.Created (client_body (next_in place));
+  made = Some (ClientAdded client);
+}
 
 -- a client is shown
 abbrev pub decided_shown : ShownClient → Decision
-decided_shown client = answered (shown_reply client.client client.sort client.live client.scope)
+decided_shown client = answered
+    (json_reply status.Ok (shown_body client.client client.sort client.live client.scope))
 
 -- a client is retired. A client that is not live makes no fact
 abbrev pub decided_retired : Dot → Bool → Decision
 decided_retired client live = record {
-  reply = client_reply status.Ok client;
+  reply = json_reply status.Ok (client_body client);
   made = if live then Some (ClientRetired (record { client = client })) else None;
 }
 
@@ -81,21 +85,23 @@ decided_retired client live = record {
 abbrev pub decided_consented : Place → given.ConsentGiven → Decision
 decided_consented place consent =
     record {
-      reply = consent_reply status.Created (next_in place);
+      reply = json_reply status.Created (consent_body (next_in place));
       made = Some (ConsentGiven consent);
     }
 
 -- a consent is withdrawn. A consent that is not live makes no fact
 abbrev pub decided_withdrawn : Dot → Bool → Decision
 decided_withdrawn consent live = record {
-  reply = consent_reply status.Ok consent;
+  reply = json_reply status.Ok (consent_body consent);
   made = if live then Some (ConsentWithdrawn (record { consent = consent })) else None;
 }
 
 -- a subject is signed out
 abbrev pub decided_out : out.SubjectOut → Decision
-decided_out sign_out =
-    record { reply = subject_reply sign_out.subject; made = Some (SubjectOut sign_out) }
+decided_out sign_out = record {
+  reply = json_reply status.Ok (subject_body sign_out.subject);
+  made = Some (SubjectOut sign_out);
+}
 
 -- the decision by a judgement. A subject that is signed out already makes no fact
 abbrev pub administered_by : Place → Administered → Decision
@@ -105,7 +111,7 @@ administered_by place (Shows client) = decided_shown client
 administered_by place (Retires client live) = decided_retired client live
 administered_by place (Consents consent) = decided_consented place consent
 administered_by place (Withdraws consent live) = decided_withdrawn consent live
-administered_by place (AlreadyOut subject) = answered (subject_reply subject)
+administered_by place (AlreadyOut subject) = answered (json_reply status.Ok (subject_body subject))
 administered_by place (SignsOut sign_out) = decided_out sign_out
 
 -- the decision of an administration request

@@ -3,7 +3,8 @@
 ghost use Rattle.std.specs.Prelude.{◌≡◌, IfOk};
 ghost use Rattle.tk_store.specs.Store.{facts_of};
 ghost use Rattle.tk_message.specs.Decision.{answered, Passes};
-ghost use Rattle.tk_message.specs.Reply.{subject_reply};
+ghost use Rattle.tk_message.specs.Bodies.{subject_body};
+ghost use Rattle.tk_message.specs.Reply.{json_reply};
 ghost use Rattle.tk_authorize.specs.Administration as spec;
 ghost use Rattle.tk_authorize.specs.SoundAdministered.{IsSoundAdministered};
 
@@ -133,7 +134,7 @@ fn decide_withdrawn(alloc: Global, consent: Dot, live: bool) -> Result<Decision,
 
 // Names a subject that is signed out already, without a fact.
 fn decide_already_out(alloc: Global, subject: &Subject) -> Result<Decision, AllocError>
-    ensures { IfOk result (λ d. d ≡ answered (subject_reply subject.now)) }
+    ensures { IfOk result (λ d. d ≡ answered (json_reply Status.Ok (subject_body subject.now))) }
 {
     let reply = Told::Subject(subject).reply(alloc)?;
     Ok(Decision::answer(reply))

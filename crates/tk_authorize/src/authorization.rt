@@ -179,6 +179,7 @@ fn later(now: Moment, life: u64) -> Moment
     ensures value { result ≡ moment_plus now life }
     ensures later { now ≤ result }
 {
+    // This call gives the proof that the moment is in its range.
     let _now = now.seconds();
     now.plus(life)
 }

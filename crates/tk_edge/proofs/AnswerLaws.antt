@@ -3,6 +3,8 @@
 --   gains_nothing    a region that gains no facts is unchanged
 --   answers_nothing  an answer without a fact changes nothing
 --   answers_request  what was prepared for a request is its answer
+--   answers_alone    an arrival's answer and fact, if regions don't exchange facts
+--   answered         an arrival is answered, if memory doesn't run out
 --   short_of         running out of memory leaves the region unchanged, or with the first facts of
 --                    a bundle
 --   short_answer     short_of, for a stream whose bytes are known
@@ -11,7 +13,7 @@
 --   faults_as        equal faults of a connection are equal faults of telling
 --   served           replying to an arrival is what a connection does
 --   faulted          a fault while replying is a connection's fault
-use Rattle.std.proofs.Common.{◌≡◌, ◌≢◌, ℕ, Bool, List, [], Option, None, Some, Result, Ok, Err, IfOk, OnErr, refl, subst, ap, ◌∙◌, inl, inr}
+use Rattle.std.proofs.Common.{◌≡◌, ◌≢◌, ℕ, Bool, true, false, List, [], Option, None, Some, Result, Ok, Err, IfOk, OnOk, OnErr, refl, subst, ap, ◌∙◌, inl, inr}
 use Rattle.std.specs.declared.alloc.AllocError.{AllocError}
 use Rattle.tk_format.specs.Format.{whole}
 use Rattle.tk_store.specs.Store.{known_in}
@@ -23,34 +25,30 @@ use Rattle.tk_message.specs.declared.error_code.ErrorCode.{ErrorCode}
 use Rattle.tk_message.specs.declared.status.Status.{Status}
 use Rattle.tk_region.specs.RegionFields.{RegionFields, Gains}
 use Rattle.tk_region.specs.Step.{PreparedFields, prepared_of}
-use Rattle.tk_edge.specs.Answers.{told_by, rendered, refused_by, Answers, AnswersBy}
-use Rattle.tk_edge.specs.Arrivals.{AnswersArrival, IsShort}
+use Rattle.tk_edge.specs.Answers.{rendered, refused_by, answer_by, fact_by, AnswersBy}
+use Rattle.tk_edge.specs.Arrivals.{Answers, IsShort}
 use Rattle.tk_edge.specs.Exchanges.{Exchanges, page_reply}
 use Rattle.tk_edge.specs.Heard.{Arrives, IsArrival, MayArrive}
 use Rattle.tk_edge.specs.Judged.{code_of, allowed_by}
 use Rattle.tk_edge.specs.Pulls.{wanted}
-use Rattle.tk_edge.specs.Rendering.{reply_bytes}
 use Rattle.tk_edge.specs.Served.{Asked, Step, Replies, IsServed}
 use Rattle.tk_edge.specs.Told.{AnswerFields, Change}
 use Rattle.tk_edge.specs.declared.edge.Served.{Served}
 use Rattle.tk_edge.specs.declared.edge.Served.TheVariants.{Done}
 use Rattle.tk_edge.specs.declared.exchange.Exchange.TheVariants.{Vector, Pull, Push}
 use Rattle.tk_edge.specs.declared.hear.Arrival.{Arrival}
-use Rattle.tk_edge.specs.declared.hear.Arrival.TheVariants.{Heard, Exchange}
-use Rattle.tk_edge.specs.declared.hear.Heard.TheVariants.{Silence}
-use Rattle.tk_edge.specs.declared.hear.Heard.TheVariants as heard
+use Rattle.tk_edge.specs.declared.hear.Arrival.TheVariants.{Silence, Request, Exchange}
 use Rattle.tk_edge.specs.declared.refusal.Refusal.{Refusal}
 use Rattle.tk_edge.specs.declared.tell.Fault.{Fault}
 use Rattle.tk_edge.specs.declared.tell.Fault.TheVariants.{Read, Write, Log, Memory}
 
-pub refused : (why : Refusal) (code : ErrorCode) (seen reply : ReplyFields) (allowed : Option (List ℕ)) (bytes : List ℕ)
-    → code ≡ code_of why → seen ≡ reply → reply ≡ error_reply code → allowed ≡ allowed_by why → bytes ≡ reply_bytes reply allowed
-    → told_by seen.status bytes None ≡ refused_by why
-refused why code seen reply allowed bytes code_is same reply_is allowed_is bytes_are =
-    ap (λ (r : ReplyFields). told_by r.status bytes None) same
-    ∙ ap (λ b. told_by reply.status b None) bytes_are
-    ∙ ap (λ a. rendered reply a None) allowed_is
-    ∙ ap (λ r. rendered r (allowed_by why) None) (reply_is ∙ ap error_reply code_is)
+pub refused : (why : Refusal) (code : ErrorCode) (reply : ReplyFields) (allowed : Option (List ℕ)) (result : Result AnswerFields AllocError)
+    → code ≡ code_of why → reply ≡ error_reply code → allowed ≡ allowed_by why → IfOk result (λ a. a ≡ rendered reply allowed None)
+    → IfOk result (λ a. a ≡ refused_by why)
+refused why code reply allowed (Ok a) code_is reply_is allowed_is is =
+    is ∙ ap (λ w. rendered reply w None) allowed_is
+    ∙ ap (λ (r : ReplyFields). rendered r (allowed_by why) None) (reply_is ∙ ap error_reply code_is)
+refused why code reply allowed (Err e) code_is reply_is allowed_is is = tt
 
 pub gains_nothing : (r : RegionFields) → Gains r [] r
 gains_nothing r = record { number = refl; settings = refl; joins = joins_nothing r.facts }
@@ -60,22 +58,38 @@ answers_nothing r told (Ok a) h = (h, gains_nothing r, tt)
 answers_nothing r told (Err e) h = refl
 
 pub answers_request : (r : RegionFields) (now : ℕ) (words : List ℕ) (request : RequestFields) (p : PreparedFields) (result : Result AnswerFields AllocError) (new : RegionFields)
-    → p ≡ prepared_of r now words request → AnswersBy r (rendered p.reply None p.logged) p.fact result new → Answers r now words (heard.Asked request) result new
+    → p ≡ prepared_of r now words request → AnswersBy r (rendered p.reply None p.logged) p.fact result new → Answers r now words (Request request) result new
 answers_request r now words request p result new is told =
     subst (λ (x : PreparedFields). AnswersBy r (rendered x.reply None x.logged) x.fact result new) is told
 
+-- if regions don't exchange facts, an arrival is answered with its answer and its fact
+pub answers_alone : (r : RegionFields) (now : ℕ) (words : List ℕ) (came : Arrival) (result : Result AnswerFields AllocError) (new : RegionFields) → MayArrive false came
+    → Answers r now words came result new → AnswersBy r (answer_by r now words came) (fact_by r now words came) result new
+answers_alone r now words (Exchange asked) result new off told = absurd (clash off)
+  where
+    clash : false ≡ true → ⊥
+    clash e = cc
+answers_alone r now words came result new off told = told
+
 -- running out of memory leaves the region unchanged, or with the first facts of a bundle
 pub short_of : (sync : Bool) (known : Option (List ℕ)) (now : ℕ) (words : List ℕ) (came : Arrival) (old new : RegionFields) (e : AllocError) → Arrives sync known came
-    → AnswersArrival old now words came (Err e) new → IsShort sync known old new
-short_of sync known now words (Heard heard) old new e arrives told = inl told
+    → Answers old now words came (Err e) new → IsShort sync known old new
 short_of sync known now words (Exchange Vector) old new e arrives told = inl told
 short_of sync known now words (Exchange (Pull sent)) old new e arrives told = inl told
 short_of sync known now words (Exchange (Push sent)) old new e arrives told = inr (sent, arrives, told.0, told.1)
+short_of sync known now words came old new e arrives told = inl told
+
+-- an arrival is answered, if memory doesn't run out
+pub answered : (sync : Bool) (bytes : List ℕ) (now : ℕ) (words : List ℕ) (came : Arrival) (old new : RegionFields) (result : Result AnswerFields AllocError)
+    → IsArrival sync bytes came → Answers old now words came result new
+    → OnOk result ((x : Arrival) × IsArrival sync bytes x × Answers old now words x result new)
+answered sync bytes now words came old new (Ok answer) is told = (came, is, told)
+answered sync bytes now words came old new (Err e) is told = tt
 
 -- running out of memory over known bytes leaves the region unchanged, or with the first facts of a
 -- bundle
 pub short_answer : (sync : Bool) (bytes : List ℕ) (now : ℕ) (words : List ℕ) (came : Arrival) (old new : RegionFields) (result : Result AnswerFields AllocError)
-    → IsArrival sync bytes came → MayArrive sync came → AnswersArrival old now words came result new → OnErr result (IsShort sync (Some bytes) old new)
+    → IsArrival sync bytes came → MayArrive sync came → Answers old now words came result new → OnErr result (IsShort sync (Some bytes) old new)
 short_answer sync bytes now words came old new (Ok answer) is may told = tt
 short_answer sync bytes now words came old new (Err e) is may told = short_of sync (Some bytes) now words came old new e (may, λ b same. subst (λ x. IsArrival sync x came) (some_is b same) is) told
   where
@@ -95,7 +109,7 @@ fails fault = Err fault
 abbrev told_fault : Fault → Result Status Fault
 told_fault fault = Err fault
 
-module _ (asked : Asked) (came : Arrival) (old new seen : RegionFields) (same : old ≡ seen) (log : Change) (still : Type 0) (writer : Change) (sealed : Bool) (arrives : Arrives asked.sync asked.known came) (spoke : came ≢ Heard Silence) where
+module _ (asked : Asked) (came : Arrival) (old new seen : RegionFields) (same : old ≡ seen) (log : Change) (still : Type 0) (writer : Change) (sealed : Bool) (arrives : Arrives asked.sync asked.known came) (spoke : came ≢ Silence) where
   -- replying to an arrival, with the region as contracts see it
   as_seen : (result : Result Status Fault) → Replies asked.now asked.words came (record { before = old; after = new }) log still writer sealed result
       → Replies asked.now asked.words came (record { before = seen; after = new }) log still writer sealed result

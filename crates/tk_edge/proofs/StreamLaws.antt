@@ -5,7 +5,6 @@
 --   judged_same       the meaning of a head, by what was judged of its parts
 --   hears_head        the meaning of a head that was read from a source, and of what follows it
 --   has_one_meaning   a stream has at most one meaning
---   one_arrival       a stream has at most one meaning, also if regions exchange facts
 --   silent_is_empty   only an empty stream is silent
 --   judged_may        an exchange is requested only if regions exchange facts, and a body is within
 --                     its limit
@@ -26,19 +25,17 @@ use Rattle.httparse.proofs.GrammarLemmas.{ReadsRequest-append, request_unique}
 use Rattle.tk_edge.specs.HeadFields.{AreFields, has_repeats, coding_in, length_in, type_in}
 use Rattle.tk_edge.specs.declared.field.Fields.{Fields}
 use Rattle.tk_edge.specs.Heads.{HasHead, field_limit}
-use Rattle.tk_edge.specs.Heard.{request_at, posted_to, arrival_by, arrival_of, IsArrival, IsHeard, MayArrive, Arrives}
+use Rattle.tk_edge.specs.Heard.{posted_to, arrival_by, arrival_of, headless, IsArrival, MayArrive, Arrives}
 use Rattle.tk_edge.specs.Judged.{judged_of, at_path, at_service, asked, with_body, sized, fits_type, limit_of, MayPost, MayAsk}
 use Rattle.tk_edge.specs.Laws.{HasOneMeaning, HearsAll}
-use Rattle.tk_edge.specs.Paths.{path_of, path_named, sync_named, query_of, method_named, service_at}
+use Rattle.tk_edge.specs.Paths.{path_of, path_named, sync_named, method_named, service_at}
 use Rattle.tk_format.specs.Numerals.{is_numeral, numeral_up_to}
 use Rattle.tk_format.specs.declared.numeral.Numeral.{Numeral}
 use Rattle.tk_format.specs.declared.numeral.Numeral.TheVariants as numeral
 use Rattle.tk_params.specs.Params.{Pairs}
 use Rattle.tk_edge.specs.declared.hear.Arrival.{Arrival}
+use Rattle.tk_edge.specs.declared.hear.Arrival.TheVariants.{Silence, Request}
 use Rattle.tk_edge.specs.declared.hear.Arrival.TheVariants as arrival
-use Rattle.tk_edge.specs.declared.hear.Heard.{Heard}
-use Rattle.tk_edge.specs.declared.hear.Heard.TheVariants.{Silence, Asked}
-use Rattle.tk_edge.specs.declared.hear.Heard.TheVariants as heard
 use Rattle.tk_edge.specs.declared.judge.Judged.{Judged}
 use Rattle.tk_edge.specs.declared.judge.Judged.TheVariants.{Refused, Query, Vector, Body}
 use Rattle.tk_edge.specs.declared.path.Path.{Path}
@@ -112,62 +109,48 @@ hears_head sync front size old new headers spans (Ok came) room c found told may
     (may, λ bytes known. whole_head_heard sync bytes front size old new headers spans came room known c (found bytes known) told)
 hears_head sync front size old new headers spans (Err e) room c found told may = tt
 
-pub one_arrival : HasOneMeaning
-one_arrival sync bytes a b (inl (none, p)) (inl (none-2, q)) = p ∙ sym q
-one_arrival sync bytes a b (inl (none, p)) (inr (h, rest, reads, has, q)) = absurd (none h has)
-one_arrival sync bytes a b (inr (h, rest, reads, has, p)) (inl (none, q)) = absurd (none h has)
-one_arrival sync bytes a b (inr (h, rest, reads, has, p)) (inr (k, more, reads-2, has-2, q)) =
+pub has_one_meaning : HasOneMeaning
+has_one_meaning sync bytes a b (inl (none, p)) (inl (none-2, q)) = p ∙ sym q
+has_one_meaning sync bytes a b (inl (none, p)) (inr (h, rest, reads, has, q)) = absurd (none h has)
+has_one_meaning sync bytes a b (inr (h, rest, reads, has, p)) (inl (none, q)) = absurd (none h has)
+has_one_meaning sync bytes a b (inr (h, rest, reads, has, p)) (inr (k, more, reads-2, has-2, q)) =
     let same = request_unique bytes h k rest more reads reads-2 in
     p ∙ ap (λ x. arrival_of sync x rest) same.0 ∙ ap (λ x. arrival_of sync k x) same.1 ∙ sym q
 
-heard_is : (a b : Heard) → arrival.Heard a ≡ arrival.Heard b → a ≡ b
-heard_is a b e = cc
-
-pub has_one_meaning : (bytes : List ℕ) (a b : Heard) → IsHeard bytes a → IsHeard bytes b → a ≡ b
-has_one_meaning bytes a b p q = heard_is a b (one_arrival false bytes (arrival.Heard a) (arrival.Heard b) p q)
-
 -- ---- silence
 
-speaks_to : (posted : Posted) (body : List ℕ) (pairs : Pairs) → arrival.Heard Silence ≡ posted_to posted body pairs → ⊥
+speaks_to : (posted : Posted) (body : List ℕ) (pairs : Pairs) → Silence ≡ posted_to posted body pairs → ⊥
 speaks_to (Form endpoint) body pairs e = absurd (cc)
 speaks_to Pull body pairs e = absurd (cc)
 speaks_to Push body pairs e = absurd (cc)
 
-speaks : (target : List ℕ) (pairs : Pairs) (rest : List ℕ) (judged : Judged) → arrival.Heard Silence ≡ arrival_by target pairs rest judged → ⊥
+speaks : (target : List ℕ) (pairs : Pairs) (rest : List ℕ) (judged : Judged) → Silence ≡ arrival_by target pairs rest judged → ⊥
 speaks target pairs rest (Refused why) e = absurd (cc)
 speaks target pairs rest (Query endpoint) e = absurd (cc)
 speaks target pairs rest Vector e = absurd (cc)
 speaks target pairs rest (Body posted n) e =
-    (elim (nat_le n (length rest)) as (λ b. arrival.Heard Silence ≡ cond b (posted_to posted (take n rest) pairs) (arrival.Heard (heard.Refused ShortBody)) → ⊥) [
+    (elim (nat_le n (length rest)) as (λ b. Silence ≡ cond b (posted_to posted (take n rest) pairs) (arrival.Refused ShortBody) → ⊥) [
       | true ↦ speaks_to posted (take n rest) pairs
       | false ↦ λ e. absurd (cc)
     ]) e
 
-pub silent_is_empty : (sync : Bool) (bytes : List ℕ) → IsArrival sync bytes (arrival.Heard Silence) → bytes ≡ []
+pub silent_is_empty : (sync : Bool) (bytes : List ℕ) → IsArrival sync bytes Silence → bytes ≡ []
 silent_is_empty sync [] came = refl
 silent_is_empty sync (b ∷ bytes) (inl (none, e)) = absurd (cc)
 silent_is_empty sync (b ∷ bytes) (inr (h, rest, reads, has, e)) =
     absurd (speaks h.target (map name_and_value h.fields) rest (judged_of sync h.method h.target (map name_and_value h.fields)) e)
 
-pub hears_nothing : (sync : Bool) (known : Option (List ℕ)) (came : Arrival) → came ≡ arrival.Heard Silence → Arrives sync known came → (bytes : List ℕ) → known ≡ Some bytes → bytes ≡ []
+pub hears_nothing : (sync : Bool) (known : Option (List ℕ)) (came : Arrival) → came ≡ Silence → Arrives sync known came → (bytes : List ℕ) → known ≡ Some bytes → bytes ≡ []
 hears_nothing sync known came silent arrives bytes is = silent_is_empty sync bytes (subst (IsArrival sync bytes) silent (arrives.1 bytes is))
 
 -- ---- if regions exchange no facts
 
 -- the paths that are served only if regions exchange facts
 abbrev MayServe : Bool → Path → Type 0
-MayServe sync path.Authorize = Unit {0}
-MayServe sync path.Token = Unit {0}
-MayServe sync path.Introspect = Unit {0}
-MayServe sync path.Revoke = Unit {0}
-MayServe sync path.Client = Unit {0}
-MayServe sync path.Retire = Unit {0}
-MayServe sync path.Consent = Unit {0}
-MayServe sync path.Withdraw = Unit {0}
-MayServe sync path.SignOut = Unit {0}
 MayServe sync path.Vector = sync ≡ true
 MayServe sync path.Pull = sync ≡ true
 MayServe sync path.Push = sync ≡ true
+MayServe sync path = Unit {0}
 
 abbrev MayServeIf : Bool → Option Path → Type 0
 MayServeIf sync None = Unit {0}
@@ -211,30 +194,11 @@ MayDoIf sync (Some s) = MayDo sync s
 
 may_do : (sync : Bool) (p : Path) (m : Option Method) → MayServe sync p → MayDoIf sync (service_at p m)
 may_do sync p None h = tt
-may_do sync path.Authorize (Some Get) h = tt
-may_do sync path.Token (Some Get) h = tt
-may_do sync path.Introspect (Some Get) h = tt
-may_do sync path.Revoke (Some Get) h = tt
-may_do sync path.Client (Some Get) h = tt
-may_do sync path.Retire (Some Get) h = tt
-may_do sync path.Consent (Some Get) h = tt
-may_do sync path.Withdraw (Some Get) h = tt
-may_do sync path.SignOut (Some Get) h = tt
 may_do sync path.Vector (Some Get) h = h
-may_do sync path.Pull (Some Get) h = tt
-may_do sync path.Push (Some Get) h = tt
-may_do sync path.Authorize (Some Post) h = tt
-may_do sync path.Token (Some Post) h = tt
-may_do sync path.Introspect (Some Post) h = tt
-may_do sync path.Revoke (Some Post) h = tt
-may_do sync path.Client (Some Post) h = tt
-may_do sync path.Retire (Some Post) h = tt
-may_do sync path.Consent (Some Post) h = tt
-may_do sync path.Withdraw (Some Post) h = tt
-may_do sync path.SignOut (Some Post) h = tt
-may_do sync path.Vector (Some Post) h = tt
+may_do sync p (Some Get) h = tt
 may_do sync path.Pull (Some Post) h = h
 may_do sync path.Push (Some Post) h = h
+may_do sync p (Some Post) h = tt
 
 choose : (sync b : Bool) (j k : Judged) → MayAsk sync j → MayAsk sync k → MayAsk sync (cond b j k)
 choose sync true j k h l = h
@@ -290,25 +254,28 @@ pub judged_may : (sync : Bool) (method target : List ℕ) (fields : Fields) (pai
     → ((all : Pairs) → AreFields fields all → judged ≡ judged_of sync method target all) → MayAsk sync judged
 judged_may sync method target fields pairs judged are told = subst (MayAsk sync) (sym (told pairs are)) (may_ask sync method target pairs)
 
--- false is not true
-off : ¬ (false ≡ true)
-off e = cc
+by_posted : (posted : Posted) (body : List ℕ) (pairs : Pairs) → MayPost false posted → MayArrive false (posted_to posted body pairs)
+by_posted (Form e) body pairs h = tt
+by_posted Pull body pairs h = h
+by_posted Push body pairs h = h
 
-by_judged : (target : List ℕ) (pairs : Pairs) (rest : List ℕ) (judged : Judged) → MayAsk false judged → (h : Heard) × (arrival_by target pairs rest judged ≡ arrival.Heard h)
-by_judged target pairs rest (Refused why) h = (heard.Refused why, refl)
-by_judged target pairs rest (Query e) h = (Asked (request_at e (query_of target) pairs), refl)
-by_judged target pairs rest Vector h = absurd (off h)
-by_judged target pairs rest (Body (Form e) n) h =
-    elim (nat_le n (length rest)) as (λ b. (h : Heard) × (cond b (arrival.Heard (Asked (request_at e (take n rest) pairs))) (arrival.Heard (heard.Refused ShortBody)) ≡ arrival.Heard h)) [
-      | true ↦ (Asked (request_at e (take n rest) pairs), refl)
-      | false ↦ (heard.Refused ShortBody, refl)
+by_judged : (target : List ℕ) (pairs : Pairs) (rest : List ℕ) (judged : Judged) → MayAsk false judged → MayArrive false (arrival_by target pairs rest judged)
+by_judged target pairs rest (Refused why) h = tt
+by_judged target pairs rest (Query e) h = tt
+by_judged target pairs rest Vector h = h
+by_judged target pairs rest (Body posted n) h =
+    elim (nat_le n (length rest)) as (λ b. MayArrive false (cond b (posted_to posted (take n rest) pairs) (arrival.Refused ShortBody))) [
+      | true ↦ by_posted posted (take n rest) pairs h.0
+      | false ↦ tt
     ]
-by_judged target pairs rest (Body Pull n) h = absurd (off h.0)
-by_judged target pairs rest (Body Push n) h = absurd (off h.0)
+
+headless_may : (bytes : List ℕ) → MayArrive false (headless bytes)
+headless_may [] = tt
+headless_may (b ∷ bytes) = tt
 
 pub all_heard : HearsAll
-all_heard bytes came (inl (none, p)) = (_, p)
+all_heard bytes came (inl (none, p)) = subst (MayArrive false) (sym p) (headless_may bytes)
 all_heard bytes came (inr (h, rest, reads, has, p)) =
     let pairs = map name_and_value h.fields in
-    let found = by_judged h.target pairs rest (judged_of false h.method h.target pairs) (may_ask false h.method h.target pairs) in
-    (found.0, p ∙ found.1)
+    subst (MayArrive false) (sym p)
+    (by_judged h.target pairs rest (judged_of false h.method h.target pairs) (may_ask false h.method h.target pairs))

@@ -2,10 +2,9 @@
 --   told_by      an answer with a status, bytes and a record
 --   rendered     the answer with the bytes of a reply
 --   refused_by   the answer to a request that the region doesn't see
---   answer_by    the answer to what anyone may send
---   made_by      the fact that the region makes for a request, if any
+--   answer_by    the answer to an arrival that is no exchange
+--   fact_by      the fact that the region makes for an arrival, if any
 --   AnswersBy    how replying with a given answer and fact may end
---   Answers      how replying to what anyone may send may end
 use Rattle.std.specs.Prelude.{◌≡◌, ℕ, List, [], Option, None, IfSome, Result, Ok, Err}
 use Rattle.std.specs.declared.alloc.AllocError.{AllocError}
 use Rattle.tk_handle.specs.declared.dot.Dot.{Dot}
@@ -19,9 +18,10 @@ use Rattle.tk_region.specs.Step.{prepared_of, listed, IsNextFact}
 use Rattle.tk_edge.specs.Judged.{code_of, allowed_by}
 use Rattle.tk_edge.specs.Rendering.{reply_bytes}
 use Rattle.tk_edge.specs.Told.{AnswerFields}
-use Rattle.tk_edge.specs.declared.hear.Heard.{Heard}
-use Rattle.tk_edge.specs.declared.hear.Heard.TheVariants.{Silence, Refused, Asked}
+use Rattle.tk_edge.specs.declared.hear.Arrival.{Arrival}
+use Rattle.tk_edge.specs.declared.hear.Arrival.TheVariants.{Silence, Refused, Request, Exchange}
 use Rattle.tk_edge.specs.declared.refusal.Refusal.{Refusal}
+use Rattle.tk_edge.specs.declared.refusal.Refusal.TheVariants.{UnknownPath}
 
 -- an answer with this status, these bytes, and the record of the fact made, if any
 abbrev pub told_by : Status → List ℕ → Option (List ℕ) → AnswerFields
@@ -39,29 +39,26 @@ refused_by why = rendered (error_reply (code_of why)) (allowed_by why) None
 abbrev pub silent : AnswerFields
 silent = record { status = status.BadRequest; bytes = []; logged = None }
 
--- the answer to what anyone may send, at the moment and with the random words
-abbrev pub answer_by : RegionFields → ℕ → List ℕ → Heard → AnswerFields
+-- The answer to an arrival at the moment and with the random words, if regions don't exchange facts:
+-- the path of an exchange is then unknown. specs/Exchanges has the answers to exchanges.
+abbrev pub answer_by : RegionFields → ℕ → List ℕ → Arrival → AnswerFields
 answer_by r now words Silence = silent
 answer_by r now words (Refused why) = refused_by why
-answer_by r now words (Asked request) =
+answer_by r now words (Request request) =
     rendered (prepared_of r now words request).reply None (prepared_of r now words request).logged
+answer_by r now words (Exchange asked) = refused_by UnknownPath
 
--- the fact that the region makes for what anyone may send, if any
-abbrev pub made_by : RegionFields → ℕ → List ℕ → Heard → Option (Dot × Body)
-made_by r now words Silence = None
-made_by r now words (Refused why) = None
-made_by r now words (Asked request) = (prepared_of r now words request).fact
+-- the fact that the region makes for an arrival, if any; for an exchange it makes none
+abbrev pub fact_by : RegionFields → ℕ → List ℕ → Arrival → Option (Dot × Body)
+fact_by r now words Silence = None
+fact_by r now words (Refused why) = None
+fact_by r now words (Request request) = (prepared_of r now words request).fact
+fact_by r now words (Exchange asked) = None
 
--- Success: the answer is the given one, and the fact made, if any, is the region's next and is
--- added. Out of memory: the region is unchanged.
+-- Success: the answer is the given one, and the fact, if any, is the region's next and is added.
+-- Out of memory: the region is unchanged.
 abbrev pub AnswersBy : RegionFields → AnswerFields → Option (Dot × Body)
     → Result AnswerFields AllocError → RegionFields → Type 0
-AnswersBy old told made (Ok answer) new =
-    (answer ≡ told) × Gains old (listed made) new × IfSome made (IsNextFact old)
-AnswersBy old told made (Err e) new = new ≡ old
-
--- how replying to what anyone may send may end, at the moment and with the random words
-abbrev pub Answers : RegionFields → ℕ → List ℕ → Heard → Result AnswerFields AllocError
-    → RegionFields → Type 0
-Answers old now words heard result new =
-    AnswersBy old (answer_by old now words heard) (made_by old now words heard) result new
+AnswersBy old told fact (Ok answer) new =
+    (answer ≡ told) × Gains old (listed fact) new × IfSome fact (IsNextFact old)
+AnswersBy old told fact (Err e) new = new ≡ old

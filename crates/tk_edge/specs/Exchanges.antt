@@ -20,10 +20,12 @@ use Rattle.tk_store.specs.Store.{facts_of, known_in}
 use Rattle.tk_bundle.specs.Bundle.{bundle, bundle_bytes}
 use Rattle.tk_bundle.specs.Page.{page_of}
 use Rattle.tk_message.specs.Place.{next_in}
-use Rattle.tk_message.specs.Reply.{bytes_reply, error_reply, taken_reply}
+use Rattle.tk_message.specs.Bodies.{taken_body}
+use Rattle.tk_message.specs.Reply.{bytes_reply, error_reply, json_reply}
 use Rattle.tk_message.specs.ReplyFields.{ReplyFields}
 use Rattle.tk_message.specs.declared.error_code.ErrorCode.{ErrorCode}
 use Rattle.tk_message.specs.declared.error_code.ErrorCode.TheVariants as code
+use Rattle.tk_message.specs.declared.status.Status.TheVariants as status
 use Rattle.tk_region.specs.RegionFields.{RegionFields, place_in}
 use Rattle.tk_region.specs.Taking.{TakesIn}
 use Rattle.tk_region.specs.declared.take.TakeError.{TakeError}
@@ -79,7 +81,7 @@ IsErrorReply None reply = ⊥
 
 -- the reply to a push: how many facts were new, or why the bundle was refused
 abbrev pub IsTakenReply : Result ℕ TakeError → ReplyFields → Type 0
-IsTakenReply (Ok n) reply = reply ≡ taken_reply n
+IsTakenReply (Ok n) reply = reply ≡ json_reply status.Ok (taken_body n)
 IsTakenReply (Err error) reply = IsErrorReply (refusal_code error) reply
 
 -- Success: the answer reports what became of the bundle. Out of memory: the bundle may still have

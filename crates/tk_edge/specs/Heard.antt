@@ -36,9 +36,7 @@ use Rattle.tk_edge.specs.Judged.{judged_of}
 use Rattle.tk_edge.specs.Paths.{query_of}
 use Rattle.tk_edge.specs.declared.exchange.Exchange.TheVariants as exchange
 use Rattle.tk_edge.specs.declared.hear.Arrival.{Arrival}
-use Rattle.tk_edge.specs.declared.hear.Arrival.TheVariants as arrival
-use Rattle.tk_edge.specs.declared.hear.Heard.{Heard}
-use Rattle.tk_edge.specs.declared.hear.Heard.TheVariants.{Silence, Refused, Asked}
+use Rattle.tk_edge.specs.declared.hear.Arrival.TheVariants.{Silence, Refused, Request, Exchange}
 use Rattle.tk_edge.specs.declared.judge.Judged.{Judged}
 use Rattle.tk_edge.specs.declared.judge.Judged.TheVariants as judged
 use Rattle.tk_edge.specs.declared.path.Posted.{Posted}
@@ -56,19 +54,18 @@ request_at endpoint form pairs = record {
 
 -- the meaning of a whole body, by its use
 abbrev pub posted_to : Posted → List ℕ → Pairs → Arrival
-posted_to (Form endpoint) body pairs = arrival.Heard (Asked (request_at endpoint body pairs))
-posted_to Pull body pairs = arrival.Exchange (exchange.Pull body)
-posted_to Push body pairs = arrival.Exchange (exchange.Push body)
+posted_to (Form endpoint) body pairs = Request (request_at endpoint body pairs)
+posted_to Pull body pairs = Exchange (exchange.Pull body)
+posted_to Push body pairs = Exchange (exchange.Push body)
 
 -- the meaning of a head that was judged: the query of a GET, or the body of a POST
 abbrev pub arrival_by : List ℕ → Pairs → List ℕ → Judged → Arrival
-arrival_by target pairs rest (judged.Refused why) = arrival.Heard (Refused why)
+arrival_by target pairs rest (judged.Refused why) = Refused why
 arrival_by target pairs rest (judged.Query endpoint) =
-    arrival.Heard (Asked (request_at endpoint (query_of target) pairs))
-arrival_by target pairs rest judged.Vector = arrival.Exchange exchange.Vector
+    Request (request_at endpoint (query_of target) pairs)
+arrival_by target pairs rest judged.Vector = Exchange exchange.Vector
 arrival_by target pairs rest (judged.Body posted n) =
-    if nat_le n (length rest)
-    then posted_to posted (take n rest) pairs else arrival.Heard (Refused ShortBody)
+    if nat_le n (length rest) then posted_to posted (take n rest) pairs else Refused ShortBody
 
 -- the meaning of a head and the bytes behind it
 abbrev pub arrival_of : Bool → RequestHead → List ℕ → Arrival
@@ -77,7 +74,7 @@ arrival_of sync h rest =
     (judged_of sync h.method h.target (map name_and_value h.fields))
 
 -- the meaning of a stream without a head: silence if it is empty, `NoHead` otherwise
-abbrev pub headless : List ℕ → Heard
+abbrev pub headless : List ℕ → Arrival
 headless [] = Silence
 headless (b ∷ bytes) = Refused NoHead
 
@@ -85,20 +82,21 @@ headless (b ∷ bytes) = Refused NoHead
 -- a head, so that the meaning is unique.
 abbrev pub IsArrival : Bool → List ℕ → Arrival → Type 0
 IsArrival sync bytes came =
-    (((h : RequestHead) → HasHead bytes head_limit field_limit h → ⊥)
-    × (came ≡ arrival.Heard (headless bytes)))
+    (((h : RequestHead) → HasHead bytes head_limit field_limit h → ⊥) × (came ≡ headless bytes))
     ⊎ ((h : RequestHead) × (rest : List ℕ) × ReadsRequest bytes h rest
     × HasHead bytes head_limit field_limit h
     × (came ≡ arrival_of sync h rest))
 
 -- the meaning of a stream if regions don't exchange facts
-abbrev pub IsHeard : List ℕ → Heard → Type 0
-IsHeard bytes heard = IsArrival false bytes (arrival.Heard heard)
+abbrev pub IsHeard : List ℕ → Arrival → Type 0
+IsHeard bytes came = IsArrival false bytes came
 
 -- whatever the bytes are, an exchange arrives only if regions exchange facts
 abbrev pub MayArrive : Bool → Arrival → Type 0
-MayArrive sync (arrival.Heard heard) = ⊤
-MayArrive sync (arrival.Exchange asked) = sync ≡ true
+MayArrive sync Silence = ⊤
+MayArrive sync (Refused why) = ⊤
+MayArrive sync (Request request) = ⊤
+MayArrive sync (Exchange asked) = sync ≡ true
 
 -- what may arrive from a source: the meaning of its bytes, if these are known
 abbrev pub Arrives : Bool → Option (List ℕ) → Arrival → Type 0

@@ -2,10 +2,8 @@
 --   HasOneMeaning   a stream has at most one meaning
 --   HearsAll        no exchange arrives unless regions exchange facts
 use Rattle.std.specs.Prelude.{◌≡◌, ℕ, Bool, false, List}
-use Rattle.tk_edge.specs.Heard.{IsArrival}
+use Rattle.tk_edge.specs.Heard.{IsArrival, MayArrive}
 use Rattle.tk_edge.specs.declared.hear.Arrival.{Arrival}
-use Rattle.tk_edge.specs.declared.hear.Arrival.TheVariants as arrival
-use Rattle.tk_edge.specs.declared.hear.Heard.{Heard}
 
 -- a stream has at most one meaning
 abbrev pub HasOneMeaning : Type 0
@@ -15,6 +13,4 @@ HasOneMeaning =
 
 -- no exchange arrives unless regions exchange facts
 abbrev pub HearsAll : Type 0
-HearsAll =
-    (bytes : List ℕ) (came : Arrival) → IsArrival false bytes came
-    → (heard : Heard) × (came ≡ arrival.Heard heard)
+HearsAll = (bytes : List ℕ) (came : Arrival) → IsArrival false bytes came → MayArrive false came

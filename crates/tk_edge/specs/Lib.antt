@@ -10,9 +10,9 @@
 --   Pulls        wanted, the format of a pull
 --   Rendering    reply_bytes, the bytes of a reply
 --   Told         IsTold, the record is written and then the reply
---   Answers      answer_by, the reply to a request; made_by, the fact made for it
+--   Answers      answer_by, the reply to a request; fact_by, the fact made for it
 --   Exchanges    Exchanges, the reply to another region
---   Arrivals     AnswersArrival, the reply to what arrived
+--   Arrivals     Answers, the reply to what arrived
 --   EdgeFields   EdgeFields, what contracts see of an edge
 --   Served       IsServed, one connection is one step
 --   Laws         HasOneMeaning, the meaning of a stream is unique

@@ -1,7 +1,7 @@
 -- One connection is one step, and the log is written before the reply (own).
 --   IsServed       what a connection to an edge that isn't sealed does, by its result
 --   IsTurnedAway   what a connection to a sealed edge does
---   IsReadFault    the only device that may be at fault while a request is read
+--   IsReadFault    a read fault is returned only if the source failed
 -- Throughout, `still` is the statement that the log is as it was before, because no call reached
 -- it.
 use Rattle.std.specs.Prelude.{◌≡◌, ◌≢◌, ℕ, ⊤, Bool, false, List, [], Option, Some, Result, Ok, Err}
@@ -10,15 +10,16 @@ use Rattle.std.specs.Io.KnownBytes.{Appends, Keeps}
 use Rattle.tk_message.specs.declared.status.Status.{Status}
 use Rattle.tk_region.specs.RegionFields.{RegionFields}
 use Rattle.tk_edge.specs.Answers.{refused_by}
-use Rattle.tk_edge.specs.Arrivals.{AnswersArrival, IsShort}
+use Rattle.tk_edge.specs.Arrivals.{Answers, IsShort}
 use Rattle.tk_edge.specs.Failures.{Rose}
 use Rattle.tk_edge.specs.Heard.{Arrives}
 use Rattle.tk_edge.specs.Told.{AnswerFields, AppendsFront, Change, IsTold, UsesLog}
 use Rattle.tk_edge.specs.declared.edge.Served.{Served}
 use Rattle.tk_edge.specs.declared.edge.Served.TheVariants.{Nothing, Done}
 use Rattle.tk_edge.specs.declared.hear.Arrival.{Arrival}
-use Rattle.tk_edge.specs.declared.hear.Arrival.TheVariants.{Heard}
-use Rattle.tk_edge.specs.declared.hear.Heard.TheVariants.{Silence}
+use Rattle.tk_edge.specs.declared.hear.Arrival.TheVariants.{Silence}
+use Rattle.tk_edge.specs.declared.hear.HearError.{HearError}
+use Rattle.tk_edge.specs.declared.hear.HearError.TheVariants as hear
 use Rattle.tk_edge.specs.declared.refusal.Refusal.TheVariants.{Sealed}
 use Rattle.tk_edge.specs.declared.tell.Fault.{Fault}
 use Rattle.tk_edge.specs.declared.tell.Fault.TheVariants.{Read, Write, Log, Memory}
@@ -51,7 +52,7 @@ IsUntouched region log still writer sealed =
 abbrev pub AnswersAndTells : ℕ → List ℕ → Arrival → Step → Change → Type 0 → Change → Bool
     → Result Status Fault → Type 0
 AnswersAndTells now words came region log still writer sealed result =
-    (answer : AnswerFields) × AnswersArrival region.before now words came (Ok answer) region.after
+    (answer : AnswerFields) × Answers region.before now words came (Ok answer) region.after
     × IsTold answer log writer sealed result × UsesLog answer still result
 
 -- how serving an arrival may end; if memory runs out, nothing is written
@@ -65,14 +66,14 @@ Replies now words came region log still writer sealed (Err Write) =
 Replies now words came region log still writer sealed (Err Log) =
     AnswersAndTells now words came region log still writer sealed (Err Log)
 Replies now words came region log still writer sealed (Err Memory) =
-    (e : AllocError) × AnswersArrival region.before now words came (Err e) region.after
+    (e : AllocError) × Answers region.before now words came (Err e) region.after
     × WritesNothing log still writer sealed
 
 -- some arrival that the source may send, which isn't silence, is answered and the reply is written
 abbrev pub IsAnswered : Asked → Step → Change → Type 0 → Change → Bool → Result Status Fault
     → Type 0
 IsAnswered asked region log still writer sealed result =
-    (came : Arrival) × Arrives asked.sync asked.known came × (came ≢ Heard Silence)
+    (came : Arrival) × Arrives asked.sync asked.known came × (came ≢ Silence)
     × AnswersAndTells asked.now asked.words came region log still writer sealed result
 
 -- what a connection to an edge that isn't sealed does, by its result
@@ -103,11 +104,8 @@ IsTurnedAway writer (Err Memory) = Keeps writer.before writer.after
 IsTurnedAway writer (Err Read) = ⊥
 IsTurnedAway writer (Err Log) = ⊥
 
--- the source failed in this call if a read fault is returned; the faults of log and client are
--- never returned
-abbrev pub IsReadFault : {A : Type 0} → Result A Fault → ℕ → ℕ → Type 0
+-- a read fault is returned only if the source failed in this call
+abbrev pub IsReadFault : {A : Type 0} → Result A HearError → ℕ → ℕ → Type 0
 IsReadFault (Ok a) old new = ⊤
-IsReadFault (Err Read) old new = Rose old new
-IsReadFault (Err Memory) old new = ⊤
-IsReadFault (Err Write) old new = ⊥
-IsReadFault (Err Log) old new = ⊥
+IsReadFault (Err hear.Read) old new = Rose old new
+IsReadFault (Err hear.Memory) old new = ⊤

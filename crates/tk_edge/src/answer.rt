@@ -32,20 +32,23 @@ impl Model for Answer {
 }
 
 ghost use Rattle.std.specs.Prelude.{◌≡◌, IfOk, IfSome, None};
+ghost use Rattle.std.specs.Option.{option_copied};
 ghost use Rattle.tk_region.specs.Step.{IsNextFact};
 ghost use Rattle.tk_edge.specs.Answers as spec;
-ghost use Rattle.tk_edge.specs.Arrivals.{AnswersArrival};
+ghost use Rattle.tk_edge.specs.Arrivals.{Answers};
 
 use crate::exchange::answer_exchange;
-use crate::hear::{Arrival, Heard};
+use crate::hear::Arrival;
 use crate::refusal::Refusal;
 use crate::render::render;
 use std::alloc::{AllocError, Global};
 use tk_handle::Moment;
-use tk_message::{Reply, Request, error_reply};
-use tk_region::{Handled, Prepared, Region};
+use tk_message::{Reply, Request, Told};
+use tk_region::{Prepared, Region};
 
-// Replies to an arrival. `now` is the current moment, `words` the random words for new handles.
+// Replies to an arrival. `now` is the current moment, `words` the random words for new handles. If
+// memory runs out, the region is unchanged, except that the first facts of a pushed bundle may be
+// in.
 pub(crate) fn answer_arrival(
     alloc: Global,
     region: &mut Region,
@@ -53,28 +56,13 @@ pub(crate) fn answer_arrival(
     words: &[u64; 6],
     came: &Arrival,
 ) -> Result<Answer, AllocError>
-    ensures { AnswersArrival region.old now words.now came.now result region.new }
+    ensures { Answers region.old now words.now came.now result region.new }
 {
     match came {
-        Arrival::Heard(heard) => answer_heard(alloc, region, now, words, heard),
+        Arrival::Silence => Ok(silent(alloc)),
+        Arrival::Refused(why) => refuse(alloc, *why),
+        Arrival::Request(request) => answer_request(alloc, region, now, words, request),
         Arrival::Exchange(exchange) => answer_exchange(alloc, region, exchange),
-    }
-}
-
-// Replies to what anyone may send. The region is unchanged when memory runs out.
-fn answer_heard(
-    alloc: Global,
-    region: &mut Region,
-    now: Moment,
-    words: &[u64; 6],
-    heard: &Heard,
-) -> Result<Answer, AllocError>
-    ensures { spec.Answers region.old now words.now heard.now result region.new }
-{
-    match heard {
-        Heard::Silence => Ok(silent(alloc)),
-        Heard::Refused(why) => refuse(alloc, *why),
-        Heard::Asked(request) => answer_request(alloc, region, now, words, request),
     }
 }
 
@@ -93,17 +81,11 @@ fn silent(alloc: Global) -> Answer
 pub(crate) fn refuse(alloc: Global, why: Refusal) -> Result<Answer, AllocError>
     ensures { IfOk result (λ answer. answer ≡ spec.refused_by why) }
 {
-    let reply = error_reply(alloc, why.code())?;
-    let status = reply.status;
-    let bytes = render(alloc, &reply, why.allowed());
-    drop(reply);
-    Ok(Answer {
-        status,
-        bytes: bytes?,
-        logged: None,
-    })
+    let reply = Told::Error(why.code()).reply(alloc)?;
+    answer_with(alloc, &reply, why.allowed())
 }
 
+// Replies to a request for the region.
 fn answer_request(
     alloc: Global,
     region: &mut Region,
@@ -111,13 +93,13 @@ fn answer_request(
     words: &[u64; 6],
     request: &Request,
 ) -> Result<Answer, AllocError>
-    ensures { spec.Answers region.old now words.now (Heard.Asked request.now) result region.new }
+    ensures { Answers region.old now words.now (Arrival.Request request.now) result region.new }
 {
     let prepared = region.decide(alloc, now, words, request)?;
     send(alloc, region, prepared)
 }
 
-// Renders the reply, then adds the fact. No fact is added if memory runs out for its reply.
+// Makes the answer, then adds the fact. No fact is added if memory runs out for its reply.
 fn send(alloc: Global, region: &mut Region, prepared: Prepared) -> Result<Answer, AllocError>
     requires { IfSome prepared.fact (IsNextFact region.old) }
     ensures { spec.AnswersBy region.old (spec.rendered prepared.reply None prepared.logged)
@@ -132,36 +114,45 @@ fn send(alloc: Global, region: &mut Region, prepared: Prepared) -> Result<Answer
     }
 }
 
-// Adds the fact of a rendered reply. `bytes` is that reply.
+// Adds the fact of a rendered reply, whose answer is made before. `bytes` is that reply.
 fn commit(region: &mut Region, prepared: Prepared, bytes: Vec<u8>) -> Result<Answer, AllocError>
     requires { IfSome prepared.fact (IsNextFact region.old) }
     ensures { spec.AnswersBy region.old
         (spec.told_by prepared.reply.status bytes.items prepared.logged) prepared.fact result
         region.new }
 {
-    let Ok(handled) = region.commit(prepared) else {
-        return Err(AllocError);
-    };
-    Ok(told_by(handled, bytes))
-}
-
-// Joins the bytes of a reply with the record of its fact.
-fn told_by(handled: Handled, bytes: Vec<u8>) -> Answer
-    ensures { result ≡ spec.told_by handled.reply.status bytes.items handled.logged }
-{
-    let Handled { reply, logged } = handled;
-    Answer {
+    let Prepared {
+        reply,
+        fact,
+        logged,
+    } = prepared;
+    let answer = Answer {
         status: reply.status,
         bytes,
         logged,
+    };
+    let prepared = Prepared {
+        reply,
+        fact,
+        logged: None,
+    };
+    match region.commit(prepared) {
+        Ok(_) => Ok(answer),
+        Err(error) => Err(error),
     }
 }
 
-// Returns the answer to a request that makes no fact.
-pub(crate) fn answer_with(alloc: Global, reply: &Reply) -> Result<Answer, AllocError>
-    ensures { IfOk result (λ answer. answer ≡ spec.rendered reply.now None None) }
+// Returns the answer to a request that makes no fact. `allowed` is the value of `Allow`, if the
+// answer has one.
+pub(crate) fn answer_with(
+    alloc: Global,
+    reply: &Reply,
+    allowed: Option<&[u8]>,
+) -> Result<Answer, AllocError>
+    ensures { IfOk result (λ answer. answer
+        ≡ spec.rendered reply.now (option_copied allowed.entry) None) }
 {
-    let bytes = render(alloc, reply, None)?;
+    let bytes = render(alloc, reply, allowed)?;
     Ok(Answer {
         status: reply.status,
         bytes,

@@ -55,7 +55,7 @@ ghost use Rattle.std.specs.Borrow.{Lends, sem};
 ghost use Rattle.tk_region.specs.contracts.region.Region.{the_row as region_row};
 ghost use Rattle.tk_edge.specs.contracts.edge.Edge.{the_row as edge_row};
 ghost use Rattle.tk_edge.specs.Answers.{refused_by};
-ghost use Rattle.tk_edge.specs.Arrivals.{AnswersArrival, IsShort};
+ghost use Rattle.tk_edge.specs.Arrivals.{Answers, IsShort};
 ghost use Rattle.tk_edge.specs.Bounds.{TakesAtMost, request_limit};
 ghost use Rattle.tk_edge.specs.Failures.{Rose};
 ghost use Rattle.tk_edge.specs.Told.{IsFaultOfDevice};
@@ -67,7 +67,8 @@ ghost use Rattle.tk_edge.specs.declared.hear.Arrival.{Arrival as AnyArrival};
 use crate::answer::{Answer, answer_arrival, refuse};
 use crate::device::{Sink, Source};
 use crate::given::Given;
-use crate::hear::{Arrival, Heard, hear};
+use crate::head::HEAD_LIMIT;
+use crate::hear::{Arrival, HearError, hear};
 use crate::put::put_all;
 use crate::refusal::Refusal;
 use crate::tell::{Fault, tell};
@@ -136,7 +137,7 @@ impl Edge {
     ) -> Result<Answer, AllocError>
         ensures answers { self.old.sealed ≡ false
             → OnOk result ((came : AnyArrival) × IsArrival self.old.sync bytes.now came
-            × AnswersArrival self.old.region now words.now came result self.new.region) }
+            × Answers self.old.region now words.now came result self.new.region) }
         ensures away { self.old.sealed ≡ true
             → IfOk result (λ answer. answer ≡ refused_by Refusal.Sealed) }
         ensures untouched { self.old.sealed ≡ true → self.new ≡ self.old }
@@ -156,7 +157,7 @@ impl Edge {
     ///
     /// The reply is that of [`Edge::answer`]. The record of the fact is written to the log and
     /// flushed before the first byte of the reply. The log isn't called without a fact. `buf` holds
-    /// the head while it is read: 8,192 bytes of any value. A sealed edge reads nothing, and writes
+    /// the head while it is read: [`HEAD_LIMIT`] bytes of any value. A sealed edge reads nothing, and writes
     /// the reply 503 temporarily_unavailable.
     pub fn serve_one<S: Source, L: Sink, W: Sink>(
         &mut self,
@@ -205,17 +206,20 @@ impl Edge {
         if self.sealed {
             return turn_away(alloc, writer);
         }
-        let came = hear(alloc, self.sync, reader, buf)?;
-        serve_arrival(
-            alloc,
-            &mut self.region,
-            &mut self.sealed,
-            log,
-            writer,
-            now,
-            words,
-            &came,
-        )
+        match hear(alloc, self.sync, reader, buf) {
+            Ok(came) => serve_arrival(
+                alloc,
+                &mut self.region,
+                &mut self.sealed,
+                log,
+                writer,
+                now,
+                words,
+                came,
+            ),
+            Err(HearError::Read) => Err(Fault::Read),
+            Err(HearError::Memory) => Err(Fault::Memory),
+        }
     }
 }
 
@@ -228,10 +232,10 @@ fn serve_arrival<L: Sink, W: Sink>(
     writer: &mut W,
     now: Moment,
     words: &[u64; 6],
-    came: &Arrival,
+    came: Arrival,
 ) -> Result<Served, Fault>
     requires { sealed.old ≡ false }
-    ensures served { (sync : Bool) (known : Option (List ℕ)) → Arrives sync known came.now
+    ensures served { (sync : Bool) (known : Option (List ℕ)) → Arrives sync known came
         → IsServed
         (record { sync = sync; known = known; now = now; words = words.now })
         (record { before = region.old; after = region.new })
@@ -242,20 +246,20 @@ fn serve_arrival<L: Sink, W: Sink>(
         → Rose (W.failed writer.old) (W.failed writer.new) }
     ensures log_fault { result ≡ Err Fault.Log → Rose (L.failed log.old) (L.failed log.new) }
 {
-    if is_silent(came) {
+    if is_silent(&came) {
         return Ok(Served::Nothing);
     }
-    match reply(alloc, region, sealed, log, writer, now, words, came) {
+    match reply(alloc, region, sealed, log, writer, now, words, &came) {
         Ok(status) => Ok(Served::Done(status)),
         Err(fault) => Err(fault),
     }
 }
 
 fn is_silent(came: &Arrival) -> bool
-    ensures silent { result ≡ true → came.now ≡ Arrival.Heard Heard.Silence }
-    ensures spoke { result ≡ false → came.now ≢ Arrival.Heard Heard.Silence }
+    ensures silent { result ≡ true → came.now ≡ Arrival.Silence }
+    ensures spoke { result ≡ false → came.now ≢ Arrival.Silence }
 {
-    matches!(came, Arrival::Heard(Heard::Silence))
+    matches!(came, Arrival::Silence)
 }
 
 // Answers what arrived, and writes the record to the log and the reply to the client.
@@ -299,17 +303,15 @@ fn turn_away<W: Sink>(alloc: Global, writer: &mut W) -> Result<Served, Fault>
     }
 }
 
-// Reads a request from the bytes of a stream that then ends.
+// Reads a request from the bytes of a stream that then ends. Memory alone can run out: the source
+// is a slice, which doesn't fail.
 fn hear_bytes(alloc: Global, sync: bool, bytes: &[u8]) -> Result<Arrival, AllocError>
     ensures came { IfOk result (IsArrival sync bytes.now) }
     ensures may { IfOk result (MayArrive sync) }
 {
-    let mut buf = [0u8; 8192];
+    let mut buf = [0u8; HEAD_LIMIT];
     match hear(alloc, sync, &mut Given { rest: bytes }, &mut buf) {
         Ok(came) => Ok(came),
-        Err(Fault::Memory) => Err(AllocError),
-        Err(Fault::Read) => unreachable!("memory doesn't fail"),
-        Err(Fault::Write) => unreachable!("nothing is written"),
-        Err(Fault::Log) => unreachable!("nothing is logged"),
+        Err(_) => Err(AllocError),
     }
 }

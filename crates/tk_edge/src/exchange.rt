@@ -41,7 +41,7 @@ use crate::answer::{Answer, answer_with};
 use crate::pull::read_wanted;
 use std::alloc::{AllocError, Global};
 use tk_format::ReadError;
-use tk_message::{ErrorCode, Reply, Told, bytes_reply, error_reply};
+use tk_message::{ErrorCode, Reply, Told, bytes_reply};
 use tk_region::{Region, TakeError};
 
 impl Sent {
@@ -80,7 +80,7 @@ fn tell_vector(alloc: Global, region: &Region) -> Result<Answer, AllocError>
 {
     let vector = region.vector(alloc)?;
     let bytes = vector.write(alloc)?;
-    answer_with(alloc, &bytes_reply(bytes))
+    answer_with(alloc, &bytes_reply(bytes), None)
 }
 
 // Replies with the page that a pull requests.
@@ -90,7 +90,7 @@ fn send_page(alloc: Global, region: &Region, bytes: &[u8]) -> Result<Answer, All
         None) }
 {
     let reply = page_reply(alloc, region, bytes)?;
-    answer_with(alloc, &reply)
+    answer_with(alloc, &reply, None)
 }
 
 // Returns the page that a pull requests, or the error for bytes that are no pull.
@@ -112,7 +112,7 @@ fn refuse_by(alloc: Global, name: Option<ErrorCode>) -> Result<Reply, AllocError
     ensures { IfOk result (spec.IsErrorReply name) }
 {
     match name {
-        Some(name) => error_reply(alloc, name),
+        Some(name) => Told::Error(name).reply(alloc),
         None => Err(AllocError),
     }
 }
@@ -145,7 +145,7 @@ fn take_bundle(alloc: Global, region: &mut Region, bytes: &[u8]) -> Result<Answe
 {
     let taken = region.take_in(alloc, bytes);
     let reply = taken_answer(alloc, taken)?;
-    answer_with(alloc, &reply)
+    answer_with(alloc, &reply, None)
 }
 
 // Returns the reply to a push, by its result. Memory that ran out while taking in gets no reply.

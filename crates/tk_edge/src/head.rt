@@ -26,6 +26,9 @@ use crate::device::{Failed, Source};
 use httparse::Status;
 use httparse::spans::{HeaderSpan, RequestSpans, parse_request};
 
+/// The most bytes of a request's head.
+pub const HEAD_LIMIT: usize = 8_192;
+
 // What the front of a stream is: a head or no head. `filled` counts the bytes read so far.
 #[derive(Clone, Copy)]
 pub(crate) enum HeadRead {

@@ -1,6 +1,4 @@
-//! Reads one request from a source: `hear` returns what arrived.
-//!
-//! An `Arrival` is `Heard`, which anyone may send, or an `Exchange` with another region.
+//! Reads one request from a source: `hear` returns what arrived, an `Arrival`.
 
 use crate::exchange::{Exchange, Sent};
 use crate::refusal::Refusal;
@@ -9,21 +7,23 @@ use tk_message::Request;
 /// What arrived over a connection.
 #[derive(Drop)]
 pub enum Arrival {
-    /// A request, refusal or silence, which anyone may cause.
-    Heard(Heard),
-    /// A request of another region.
-    Exchange(Exchange),
-}
-
-/// What anyone may send over a connection.
-#[derive(Drop)]
-pub enum Heard {
     /// Nothing: the stream ended before its first byte.
     Silence,
     /// A request that isn't handed to the region.
     Refused(Refusal),
     /// A request for the region.
-    Asked(Request),
+    Request(Request),
+    /// A request of another region.
+    Exchange(Exchange),
+}
+
+/// Why nothing was heard.
+#[derive(Clone, Copy)]
+pub(crate) enum HearError {
+    /// The source failed.
+    Read,
+    /// Memory ran out.
+    Memory,
 }
 
 ghost use Rattle.std.specs.Prelude.{
@@ -60,7 +60,6 @@ use crate::field::{Fields, fields_of, only_value};
 use crate::head::{HeadRead, read_head};
 use crate::judge::{Judged, judge};
 use crate::path::{Posted, split_target};
-use crate::tell::Fault;
 use httparse::spans::{EMPTY_HEADER_SPAN, HeaderSpan, RequestSpans};
 use std::alloc::{AllocError, Global};
 use tk_message::Endpoint;
@@ -73,7 +72,7 @@ pub(crate) fn hear<S: Source>(
     sync: bool,
     reader: &mut S,
     buf: &mut [u8],
-) -> Result<Arrival, Fault>
+) -> Result<Arrival, HearError>
     requires { length buf.old ≡ head_limit }
     ensures room { length buf.new ≡ length buf.old }
     ensures came { IfOk result (spec.Arrives sync (S.coming reader.old)) }
@@ -82,7 +81,7 @@ pub(crate) fn hear<S: Source>(
 {
     let mut headers = [EMPTY_HEADER_SPAN; 64];
     let Ok(head) = read_head(reader, buf, &mut headers) else {
-        return Err(Fault::Read);
+        return Err(HearError::Read);
     };
     match head {
         HeadRead::Whole { filled, spans } => {
@@ -90,18 +89,11 @@ pub(crate) fn hear<S: Source>(
         }
         HeadRead::Missing { filled } => {
             if filled == 0 {
-                return Ok(Arrival::Heard(Heard::Silence));
+                return Ok(Arrival::Silence);
             }
-            Ok(refused(Refusal::NoHead))
+            Ok(Arrival::Refused(Refusal::NoHead))
         }
     }
-}
-
-// Wraps a refusal as an arrival.
-fn refused(why: Refusal) -> Arrival
-    ensures { result ≡ Arrival.Heard (Heard.Refused why) }
-{
-    Arrival::Heard(Heard::Refused(why))
 }
 
 // Reads the request whose head is at the front of `buf`. The bytes behind that head begin the body.
@@ -112,7 +104,7 @@ fn head_heard<S: Source>(
     buf: &[u8],
     headers: &[HeaderSpan],
     spans: RequestSpans,
-) -> Result<Arrival, Fault>
+) -> Result<Arrival, HearError>
     requires { IsRequestWithin buf.now headers.now spans }
     ensures came { (h : RequestHead) (rest : List ℕ) → IsRequestAt buf.now headers.now spans h
         → S.coming reader.old ≡ Some rest
@@ -125,7 +117,7 @@ fn head_heard<S: Source>(
     let method = spans.method.of(buf);
     let target = spans.path.of(buf);
     match judge(sync, method, target, &fields) {
-        Judged::Refused(why) => Ok(refused(why)),
+        Judged::Refused(why) => Ok(Arrival::Refused(why)),
         Judged::Query(endpoint) => {
             let query = split_target(target).1;
             asked(alloc, endpoint, query, &fields)
@@ -146,7 +138,7 @@ fn body_heard<S: Source>(
     size: usize,
     front: &[u8],
     fields: &Fields<'_>,
-) -> Result<Arrival, Fault>
+) -> Result<Arrival, HearError>
     ensures came { (target rest : List ℕ) (pairs : Pairs) → AreFields fields.now pairs
         → S.coming reader.old ≡ Some rest
         → IfOk result (λ came. came
@@ -159,17 +151,17 @@ fn body_heard<S: Source>(
         return lent(alloc, posted, &front[..size], fields);
     }
     let Ok(mut body) = Vec::from_elem(alloc, 0u8, size) else {
-        return Err(Fault::Memory);
+        return Err(HearError::Memory);
     };
     if fill(reader, front, &mut body)? {
         kept(alloc, posted, body, fields)
     } else {
-        Ok(refused(Refusal::ShortBody))
+        Ok(Arrival::Refused(Refusal::ShortBody))
     }
 }
 
 // Fills the body, and returns whether the stream had enough bytes.
-fn fill<S: Source>(reader: &mut S, front: &[u8], body: &mut [u8]) -> Result<bool, Fault>
+fn fill<S: Source>(reader: &mut S, front: &[u8], body: &mut [u8]) -> Result<bool, HearError>
     ensures room { length body.new ≡ length body.old }
     ensures enough { (rest : List ℕ) → S.coming reader.old ≡ Some rest
         → IfOk result (λ enough. enough ≡ nat_le (length body.old) (length (front.now ++ rest))) }
@@ -182,12 +174,17 @@ fn fill<S: Source>(reader: &mut S, front: &[u8], body: &mut [u8]) -> Result<bool
     let size = body.len();
     match read_body(reader, front, body) {
         Ok(count) => Ok(size <= count),
-        Err(_) => Err(Fault::Read),
+        Err(_) => Err(HearError::Read),
     }
 }
 
 // Makes the arrival of a whole body that is in the buffer of its head.
-fn lent(alloc: Global, posted: Posted, body: &[u8], fields: &Fields<'_>) -> Result<Arrival, Fault>
+fn lent(
+    alloc: Global,
+    posted: Posted,
+    body: &[u8],
+    fields: &Fields<'_>,
+) -> Result<Arrival, HearError>
     ensures came { (pairs : Pairs) → AreFields fields.now pairs
         → IfOk result (λ came. came ≡ spec.posted_to posted body.now pairs) }
     ensures may { (sync : Bool) → MayPost sync posted → IfOk result (spec.MayArrive sync) }
@@ -197,7 +194,7 @@ fn lent(alloc: Global, posted: Posted, body: &[u8], fields: &Fields<'_>) -> Resu
         Posted::Form(endpoint) => asked(alloc, endpoint, body, fields),
         Posted::Pull | Posted::Push => {
             let Ok(copy) = Vec::from_slice(alloc, body) else {
-                return Err(Fault::Memory);
+                return Err(HearError::Memory);
             };
             kept(alloc, posted, copy, fields)
         }
@@ -205,7 +202,12 @@ fn lent(alloc: Global, posted: Posted, body: &[u8], fields: &Fields<'_>) -> Resu
 }
 
 // Makes the arrival of a whole body that has a buffer of its own.
-fn kept(alloc: Global, posted: Posted, body: Vec<u8>, fields: &Fields<'_>) -> Result<Arrival, Fault>
+fn kept(
+    alloc: Global,
+    posted: Posted,
+    body: Vec<u8>,
+    fields: &Fields<'_>,
+) -> Result<Arrival, HearError>
     ensures came { (pairs : Pairs) → AreFields fields.now pairs
         → IfOk result (λ came. came ≡ spec.posted_to posted body.items pairs) }
     ensures may { (sync : Bool) → MayPost sync posted → IfOk result (spec.MayArrive sync) }
@@ -224,16 +226,16 @@ fn asked(
     endpoint: Endpoint,
     form: &[u8],
     fields: &Fields<'_>,
-) -> Result<Arrival, Fault>
+) -> Result<Arrival, HearError>
     ensures came { (pairs : Pairs) → AreFields fields.now pairs
         → IfOk result (λ came. came
-        ≡ Arrival.Heard (Heard.Asked (spec.request_at endpoint form.now pairs))) }
+        ≡ Arrival.Request (spec.request_at endpoint form.now pairs)) }
     ensures may { (sync : Bool) → IfOk result (spec.MayArrive sync) }
     ensures fault { IsReadFault result 0 0 }
 {
     match request_of(alloc, endpoint, form, fields) {
-        Ok(request) => Ok(Arrival::Heard(Heard::Asked(request))),
-        Err(_) => Err(Fault::Memory),
+        Ok(request) => Ok(Arrival::Request(request)),
+        Err(_) => Err(HearError::Memory),
     }
 }
 

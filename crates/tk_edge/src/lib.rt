@@ -11,8 +11,7 @@
 //! - `head`, `field`, `body`: read the parts of a request.
 //! - [`Path`] and `judge`: which service a head requests, or the [`Refusal`] of it, by ordered
 //!   cases.
-//! - [`Arrival`]: what a stream means. [`Heard`] is what anyone may send, an [`Exchange`] is with
-//!   another region.
+//! - [`Arrival`]: what a stream means. An [`Exchange`] is with another region.
 //! - `answer` makes the reply to an arrival, and `render` its bytes.
 //! - `tell` writes the record of a fact and only then the reply, or returns a [`Fault`].
 //! - [`Edge`]: [`Edge::answer`] over bytes, [`Edge::serve_one`] over devices.
@@ -46,7 +45,8 @@ pub use counted::Counted;
 pub use device::{Failed, Sink, Source};
 pub use edge::{Edge, Served};
 pub use exchange::{Exchange, Sent};
-pub use hear::{Arrival, Heard};
+pub use head::HEAD_LIMIT;
+pub use hear::Arrival;
 pub use laws::{hears_all, one_meaning};
 pub use path::Path;
 pub use put::Discard;

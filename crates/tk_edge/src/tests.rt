@@ -1,20 +1,11 @@
-//! Tests of what no row of `rows/` can show, for this crate and the crates below.
+//! Tests of connections over devices that fail, which no row of `rows/` can show.
 //!
-//! - `serving`: connections over devices that fail at each of their calls. `frail` has the devices,
-//!   and `talks` the requests.
-//! - `region` and `ledger`: a region and ledgers that run out of memory, ledgers beside a plain
-//!   one, forests, and how many look-ups a reply takes.
-//! - `results` and `uris`: results of calls that the program doesn't print.
-//! - `uncalled`: calls that no program makes.
+//! `serving` has the tests, `frail` the devices, and `talks` the requests. The tests of the crates
+//! below are in tk_trials.
 
 mod frail;
-mod ledger;
-mod region;
-mod results;
 mod serving;
 mod talks;
-mod uncalled;
-mod uris;
 
 use crate::Edge;
 use std::alloc::Global;

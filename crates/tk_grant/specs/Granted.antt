@@ -16,9 +16,11 @@ use Rattle.tk_ledger.specs.Status.{digest_of}
 use Rattle.tk_message.specs.declared.decision.Decision.{Decision}
 use Rattle.tk_message.specs.declared.error_code.ErrorCode.TheVariants.{InvalidGrant}
 use Rattle.tk_message.specs.declared.place.Place.{Place}
+use Rattle.tk_message.specs.declared.status.Status.TheVariants.{Ok}
+use Rattle.tk_message.specs.Bodies.{token_body}
 use Rattle.tk_message.specs.Decision.{refused}
 use Rattle.tk_message.specs.Place.{next_in}
-use Rattle.tk_message.specs.Reply.{error_reply, token_reply}
+use Rattle.tk_message.specs.Reply.{error_reply, json_reply}
 use Rattle.tk_message.specs.ReplyFields.{ReplyFields}
 use Rattle.tk_message.specs.RequestFields.{RequestFields}
 use Rattle.tk_grant.specs.declared.judged.Grant.{Grant}
@@ -67,9 +69,10 @@ refresh_token place now words grant = record {
 
 -- the reply with both handles, and the life of the access token (RFC 6749, 5.1)
 abbrev pub granted_reply : Place → ℕ → List ℕ → Grant → ReplyFields
-granted_reply place now words grant = token_reply
-    (access_handle (next_in place) words) (ends_at now place.lives.access grant.family_end - now)
-    (refresh_handle (next_in place) words) grant.access
+granted_reply place now words grant = json_reply Ok
+    (token_body (access_handle (next_in place) words)
+    (ends_at now place.lives.access grant.family_end - now)
+    (refresh_handle (next_in place) words) grant.access)
 
 -- the decision by a judgement: an error (RFC 6749, 5.2); a reuse, which is an error and makes a
 -- fact (RFC 6749, 4.1.2 and 10.4); tokens for a code (RFC 6749, 4.1.4) or for a refresh token (RFC

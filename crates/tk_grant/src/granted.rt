@@ -11,7 +11,7 @@ use std::alloc::{AllocError, Global};
 use tk_fact::{Body, CodeRedeemed, MintedToken, RefreshRotated, ReuseSeen};
 use tk_handle::{Dot, Handle, Kind, Moment, TokenId};
 use tk_ledger::Ledger;
-use tk_message::{Decision, ErrorCode, Place, Reply, Request, Told, error_reply};
+use tk_message::{Decision, ErrorCode, Place, Reply, Request, Told};
 
 /// Decides a token request at a moment (RFC 6749, 4.1.3, 4.1.4, 5, 6 and 10.4; RFC 7636, 4.5 and
 /// 4.6). Returns the reply, and the fact that the request makes, if any.
@@ -52,7 +52,7 @@ fn decide_by(
     match judged {
         Judged::Refused(why) => Decision::refuse(alloc, why.code()),
         Judged::Reused(token) => {
-            let reply = error_reply(alloc, ErrorCode::InvalidGrant)?;
+            let reply = Told::Error(ErrorCode::InvalidGrant).reply(alloc)?;
             Ok(Decision {
                 reply,
                 made: Some(Body::ReuseSeen(ReuseSeen { token })),
@@ -78,9 +78,12 @@ fn decide_redeemed(
         d ≡ spec.granted_by place.now now words.now (Judged.Redeems grant)) }
     ensures passes { IfOk result (λ d. Passes d.made) }
 {
-    let reply = reply_for(alloc, place, now, words, &grant)?;
     let code = grant.from;
-    let (access, refresh) = tokens(place, now, words, grant);
+    let Minted {
+        reply,
+        access,
+        refresh,
+    } = mint(alloc, place, now, words, grant)?;
     let fact = CodeRedeemed {
         code,
         start: now,
@@ -107,9 +110,12 @@ fn decide_rotated(
         d ≡ spec.granted_by place.now now words.now (Judged.Rotates generation grant)) }
     ensures passes { IfOk result (λ d. Passes d.made) }
 {
-    let reply = reply_for(alloc, place, now, words, &grant)?;
     let parent = grant.from;
-    let (access, refresh) = tokens(place, now, words, grant);
+    let Minted {
+        reply,
+        access,
+        refresh,
+    } = mint(alloc, place, now, words, grant)?;
     let fact = RefreshRotated {
         parent,
         generation,
@@ -123,53 +129,49 @@ fn decide_rotated(
     })
 }
 
-// Returns the access token and the refresh token that the fact mints.
-fn tokens(place: &Place, now: Moment, words: &[u64; 6], grant: Grant) -> (MintedToken, MintedToken)
-    requires { now < grant.family_end }
-    ensures value { result ≡ (
-      spec.access_token place.now now words.now grant,
-      spec.refresh_token place.now now words.now grant,
-    ) }
-    ensures access { now ≤ result.0.end }
-    ensures refresh { now ≤ result.1.end }
-{
-    let next = place.next_dot();
-    let Grant {
-        from: _,
-        family_end,
-        access,
-        refresh,
-    } = grant;
-    let access = MintedToken {
-        digest: access_handle(next, words).digest(),
-        end: ends_at(now, place.lives.access, family_end),
-        scope: access,
-    };
-    let refresh = MintedToken {
-        digest: refresh_handle(next, words).digest(),
-        end: ends_at(now, place.lives.refresh, family_end),
-        scope: refresh,
-    };
-    (access, refresh)
+// The tokens that a fact mints, and the reply with their handles.
+#[derive(Drop)]
+struct Minted {
+    reply: Reply,
+    access: MintedToken,
+    refresh: MintedToken,
 }
 
-// Returns the reply with both tokens.
-fn reply_for(
+// Mints both tokens of a grant.
+fn mint(
     alloc: Global,
     place: &Place,
     now: Moment,
     words: &[u64; 6],
-    grant: &Grant,
-) -> Result<Reply, AllocError>
-    requires { now < grant.now.family_end }
-    ensures { IfOk result (λ reply. reply ≡ spec.granted_reply place.now now words.now grant.now) }
+    grant: Grant,
+) -> Result<Minted, AllocError>
+    requires { now < grant.family_end }
+    ensures reply { IfOk result (λ m. m.reply ≡ spec.granted_reply place.now now words.now grant) }
+    ensures access { IfOk result (λ m. (m.access ≡ spec.access_token place.now now words.now grant)
+        × (now ≤ m.access.end)) }
+    ensures refresh { IfOk result
+        (λ m. (m.refresh ≡ spec.refresh_token place.now now words.now grant)
+        × (now ≤ m.refresh.end)) }
 {
     let next = place.next_dot();
-    let end = ends_at(now, place.lives.access, grant.family_end);
-    let lifetime = end.seconds() - now.seconds();
-    let access = access_handle(next, words);
-    let refresh = refresh_handle(next, words);
-    Told::Tokens(&access, lifetime, &refresh, &grant.access).reply(alloc)
+    let (access, refresh) = (access_handle(next, words), refresh_handle(next, words));
+    let access_end = ends_at(now, place.lives.access, grant.family_end);
+    let refresh_end = ends_at(now, place.lives.refresh, grant.family_end);
+    let lifetime = access_end.seconds() - now.seconds();
+    let reply = Told::Tokens(&access, lifetime, &refresh, &grant.access).reply(alloc)?;
+    Ok(Minted {
+        reply,
+        access: MintedToken {
+            digest: access.digest(),
+            end: access_end,
+            scope: grant.access,
+        },
+        refresh: MintedToken {
+            digest: refresh.digest(),
+            end: refresh_end,
+            scope: grant.refresh,
+        },
+    })
 }
 
 // Makes the access token's handle, of the first three random words.

@@ -7,6 +7,7 @@
 --   token_body      an access token and a refresh token (RFC 6749, 5.1)
 --   access_body     an active access token (RFC 7662, 2.2)
 --   refresh_body    an active refresh token (RFC 7662, 2.2)
+--   standing_body   the body of an active token, by its standing
 --   inactive_body   a token that is not active (RFC 7662, 2.2)
 --   taken_body      {"took":N} (own)
 --   IsWritable      a value that has one text: it holds no floating-point number
@@ -29,6 +30,7 @@ use Rattle.tk_handle.specs.declared.handle.Handle.{Handle}
 use Rattle.tk_handle.specs.Handle.{handle_text}
 use Rattle.tk_fact.specs.declared.sort.Sort.{Sort}
 use Rattle.tk_fact.specs.declared.sort.Sort.TheVariants.{Public, Confidential, Resource}
+use Rattle.tk_ledger.specs.StandingFields.{StandingFields}
 
 -- the value has one text: it holds no floating-point number
 abbrev pub IsWritable : Data → Type 0
@@ -96,6 +98,10 @@ refresh_body client expiry start scope subject = object
     (member (codes "iat") (number (unsigned start))
     (member (codes "scope") (string scope)
     (member (codes "sub") (string subject) no_members))))))
+
+-- the body of an active token, by its standing
+abbrev pub standing_body : (Dot → ℕ → ℕ → List ℕ → List ℕ → Data) → StandingFields → Data
+standing_body body s = body s.client s.expiry s.start s.scope s.subject
 
 -- a token that is not active
 abbrev pub inactive_body : Data

@@ -7,8 +7,8 @@
 --   ErrorCode        error_row, the status and the name of an error
 --   Bodies           the JSON bodies of replies, as values
 --   ReplyFields      ReplyFields, what contracts see of a reply
---   Reply            json_reply, and the reply of each kind
---   Told             told, the reply with each content of a JSON reply
+--   Reply            json_reply, and the replies without JSON
+--   Told             told, the reply that says something in JSON
 --   Decision         answered, refused, decisions without a fact; Passes
 --   Place            next_in, the dot of the next fact
 pub mod Authentication

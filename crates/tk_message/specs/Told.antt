@@ -1,8 +1,14 @@
--- The contents of JSON replies other than errors (RFC 6749, 5.1, for tokens; RFC 7662, 2.2, for
+-- What JSON replies say (RFC 6749, 5.1, for tokens, 5.2, for errors; RFC 7662, 2.2, for
 -- introspection; the others are own).
---   told   the reply with a content
+--   status_of   the status of the reply
+--   body_of     the body of the reply
+--   told        the reply that says this
+use Rattle.serde_json.specs.Data.{Data}
+use Rattle.tk_message.specs.declared.status.Status.{Status}
+use Rattle.tk_message.specs.declared.status.Status.TheVariants.{Ok}
 use Rattle.tk_message.specs.declared.told.Told.{Told}
 use Rattle.tk_message.specs.declared.told.Told.TheVariants.{
+  Error,
   Client,
   Shown,
   Consent,
@@ -13,27 +19,44 @@ use Rattle.tk_message.specs.declared.told.Told.TheVariants.{
   Inactive,
   Taken,
 }
-use Rattle.tk_message.specs.Reply.{
-  client_reply,
-  shown_reply,
-  consent_reply,
-  subject_reply,
-  token_reply,
-  access_reply,
-  refresh_reply,
-  inactive_reply,
-  taken_reply,
+use Rattle.tk_message.specs.Bodies.{
+  error_body,
+  client_body,
+  shown_body,
+  consent_body,
+  subject_body,
+  token_body,
+  access_body,
+  refresh_body,
+  standing_body,
+  inactive_body,
+  taken_body,
 }
+use Rattle.tk_message.specs.ErrorCode.{error_status, error_name}
+use Rattle.tk_message.specs.Reply.{json_reply}
 use Rattle.tk_message.specs.ReplyFields.{ReplyFields}
 
--- the reply with a content
+-- the status of the reply
+abbrev pub status_of : Told → Status
+status_of (Error code) = error_status code
+status_of (Client status client) = status
+status_of (Consent status consent) = status
+status_of told = Ok
+
+-- the body of the reply
+abbrev pub body_of : Told → Data
+body_of (Error code) = error_body (error_name code)
+body_of (Client status client) = client_body client
+body_of (Shown client sort live scope) = shown_body client sort.now live scope.now
+body_of (Consent status consent) = consent_body consent
+body_of (Subject subject) = subject_body subject.now
+body_of (Tokens access lifetime refresh scope) =
+    token_body access.now lifetime refresh.now scope.now
+body_of (Access s) = standing_body access_body s
+body_of (Refresh s) = standing_body refresh_body s
+body_of Inactive = inactive_body
+body_of (Taken count) = taken_body count
+
+-- the reply that says this
 abbrev pub told : Told → ReplyFields
-told (Client status client) = client_reply status client
-told (Shown client sort live scope) = shown_reply client sort.now live scope.now
-told (Consent status consent) = consent_reply status consent
-told (Subject subject) = subject_reply subject.now
-told (Tokens access lifetime refresh scope) = token_reply access.now lifetime refresh.now scope.now
-told (Access s) = access_reply s.client s.expiry s.start s.scope s.subject
-told (Refresh s) = refresh_reply s.client s.expiry s.start s.scope s.subject
-told Inactive = inactive_reply
-told (Taken count) = taken_reply count
+told t = json_reply (status_of t) (body_of t)

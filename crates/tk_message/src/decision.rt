@@ -4,7 +4,8 @@ ghost use Rattle.std.specs.Prelude.{◌≡◌, IfOk};
 ghost use Rattle.tk_message.specs.Decision as spec;
 
 use crate::error_code::ErrorCode;
-use crate::reply::{Reply, error_reply};
+use crate::reply::Reply;
+use crate::told::Told;
 use std::alloc::{AllocError, Global};
 use tk_fact::Body;
 
@@ -29,7 +30,7 @@ impl Decision {
     pub fn refuse(alloc: Global, code: ErrorCode) -> Result<Decision, AllocError>
         ensures { IfOk result (λ decision. decision ≡ spec.refused code) }
     {
-        let reply = error_reply(alloc, code)?;
+        let reply = Told::Error(code).reply(alloc)?;
         Ok(Decision::answer(reply))
     }
 }

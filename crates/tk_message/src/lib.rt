@@ -5,8 +5,8 @@
 //!   that sends a request. `scope_asked` returns the scope that a request asks for.
 //! - A `Reply` is a `Status`, perhaps a place to redirect to, and a `Payload`.
 //! - An `ErrorCode` has a name and a status.
-//! - `Told` is the content of a JSON reply other than an error. No other crate makes JSON: each
-//!   body is defined in `specs/Bodies.antt` and written by one function.
+//! - `Told` is what a JSON reply says. No other crate makes JSON: `Told::reply` writes every one,
+//!   and each body is defined in `specs/Bodies.antt`.
 //! - A `Decision` is a reply, and the fact that the request makes, if any.
 //! - A `Place` is the dot of that fact, and how long tokens live.
 //!
@@ -35,9 +35,7 @@ pub use caller::{Caller, find_caller};
 pub use decision::Decision;
 pub use error_code::ErrorCode;
 pub use place::{Lives, Place};
-pub use reply::{
-    Payload, Reply, bytes_reply, empty_reply, error_reply, handle_string, redirect_reply,
-};
+pub use reply::{Payload, Reply, bytes_reply, empty_reply, handle_string, redirect_reply};
 pub use request::{Endpoint, Request};
 pub use scope::scope_asked;
 pub use status::Status;

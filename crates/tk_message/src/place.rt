@@ -45,9 +45,6 @@ impl Place {
     pub fn next_dot(&self) -> Dot
         ensures { result ≡ next_in self.now }
     {
-        match Dot::new(self.number, self.next.number()) {
-            Some(dot) => dot,
-            None => unreachable!(),
-        }
+        Dot::new(self.number, self.next.number()).unwrap()
     }
 }

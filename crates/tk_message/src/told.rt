@@ -1,14 +1,17 @@
-//! The contents of JSON replies other than errors.
+//! What a JSON reply says, and the one function that writes such a reply.
 
+use crate::error_code::ErrorCode;
 use crate::status::Status;
 use tk_fact::{Sort, Subject};
 use tk_handle::{Dot, Handle};
 use tk_ledger::Standing;
 use tk_scope::Scope;
 
-/// The content of a JSON reply. An error is an `ErrorCode`, and has `error_reply`.
+/// What a JSON reply says.
 #[derive(Drop)]
 pub enum Told<'a> {
+    /// The name of an error (RFC 6749, 5.2).
+    Error(ErrorCode),
     /// The id of the client that was added at the dot (own).
     Client(Status, Dot),
     /// The client that was added at the dot: its id, kind, whether it is live, and its scope (own).
@@ -31,31 +34,63 @@ pub enum Told<'a> {
 }
 
 ghost use Rattle.std.specs.Prelude.{◌≡◌, IfOk};
+ghost use Rattle.serde_json.specs.View.{view};
+ghost use Rattle.tk_message.specs.Bodies.{IsWritable};
 ghost use Rattle.tk_message.specs.Told as spec;
 
-use crate::reply::{
-    Reply, access_reply, client_reply, consent_reply, inactive_reply, refresh_reply, shown_reply,
-    subject_reply, taken_reply, token_reply,
+use crate::bodies::{
+    access_body, client_body, consent_body, one_member, one_text, refresh_body, shown_body,
+    token_body,
 };
+use crate::reply::{Payload, Reply, asks_credentials};
+use serde_json::Value;
 use std::alloc::{AllocError, Global};
 
 impl Told<'_> {
-    /// Returns the reply with this content; an error if memory runs out.
+    /// Returns the reply that says this; an error if memory runs out.
     pub fn reply(self, alloc: Global) -> Result<Reply, AllocError>
         ensures { IfOk result (λ reply. reply ≡ spec.told self.entry) }
     {
+        let status = self.status();
+        let body = self.body(alloc)?;
+        let text = body.to_vec(alloc)?;
+        Ok(Reply {
+            status,
+            location: None,
+            www: asks_credentials(status),
+            body: Payload::Json(text),
+        })
+    }
+
+    // Returns the status of the reply.
+    fn status(&self) -> Status
+        ensures { result ≡ spec.status_of self.now }
+    {
         match self {
-            Told::Client(status, client) => client_reply(alloc, status, client),
-            Told::Shown(client, sort, live, scope) => shown_reply(alloc, client, sort, live, scope),
-            Told::Consent(status, consent) => consent_reply(alloc, status, consent),
-            Told::Subject(subject) => subject_reply(alloc, subject),
+            Told::Error(code) => code.status(),
+            Told::Client(status, _) | Told::Consent(status, _) => *status,
+            _ => Status::Ok,
+        }
+    }
+
+    // Returns the body of the reply.
+    fn body(self, alloc: Global) -> Result<Value, AllocError>
+        ensures value { IfOk result (λ body. view body ≡ spec.body_of self.entry) }
+        ensures writable { IfOk result (λ body. IsWritable (view body)) }
+    {
+        match self {
+            Told::Error(code) => one_text(alloc, "error", code.name()),
+            Told::Client(_, client) => client_body(alloc, client),
+            Told::Shown(client, sort, live, scope) => shown_body(alloc, client, sort, live, scope),
+            Told::Consent(_, consent) => consent_body(alloc, consent),
+            Told::Subject(subject) => one_text(alloc, "subject", subject.as_str()),
             Told::Tokens(access, lifetime, refresh, scope) => {
-                token_reply(alloc, access, lifetime, refresh, scope)
+                token_body(alloc, access, lifetime, refresh, scope)
             }
-            Told::Access(standing) => access_reply(alloc, &standing),
-            Told::Refresh(standing) => refresh_reply(alloc, &standing),
-            Told::Inactive => inactive_reply(alloc),
-            Told::Taken(count) => taken_reply(alloc, count),
+            Told::Access(standing) => access_body(alloc, &standing),
+            Told::Refresh(standing) => refresh_body(alloc, &standing),
+            Told::Inactive => one_member(alloc, "active", Value::from(false)),
+            Told::Taken(count) => one_member(alloc, "took", Value::from(count)),
         }
     }
 }

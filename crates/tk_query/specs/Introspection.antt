@@ -4,9 +4,10 @@
 --   introspection_of   the reply to a request
 use Rattle.std.specs.Prelude.{ℕ}
 use Rattle.tk_store.specs.FactSet.{FactSet}
-use Rattle.tk_ledger.specs.StandingFields.{StandingFields}
+use Rattle.tk_message.specs.declared.status.Status.TheVariants.{Ok}
+use Rattle.tk_message.specs.Bodies.{access_body, refresh_body, standing_body}
 use Rattle.tk_message.specs.Caller.{caller_of}
-use Rattle.tk_message.specs.Reply.{error_reply, access_reply, refresh_reply, inactive_reply}
+use Rattle.tk_message.specs.Reply.{error_reply, inactive_reply, json_reply}
 use Rattle.tk_message.specs.ReplyFields.{ReplyFields}
 use Rattle.tk_message.specs.RequestFields.{RequestFields}
 use Rattle.tk_query.specs.declared.introspected.Introspected.{Introspected}
@@ -20,21 +21,13 @@ use Rattle.tk_query.specs.Caller.{known_names}
 use Rattle.tk_query.specs.Introspected.{introspected_by_caller}
 use Rattle.tk_query.specs.Refusal.{refusal_code}
 
--- the reply for an active access token: client, expiry, start, scope and subject (RFC 7662, 2.2)
-abbrev pub told_access : StandingFields → ReplyFields
-told_access s = access_reply s.client s.expiry s.start s.scope s.subject
-
--- the reply for an active refresh token: client, expiry, start, scope and subject (RFC 7662, 2.2)
-abbrev pub told_refresh : StandingFields → ReplyFields
-told_refresh s = refresh_reply s.client s.expiry s.start s.scope s.subject
-
 -- the reply by the outcome of introspection: an error (RFC 7662, 2.3), or what the sender may know
 -- of the token (RFC 7662, 2.2)
 abbrev pub told : Introspected → ReplyFields
 told (Refused why) = error_reply (refusal_code why)
 told Inactive = inactive_reply
-told (Access s) = told_access s
-told (Refresh s) = told_refresh s
+told (Access s) = json_reply Ok (standing_body access_body s)
+told (Refresh s) = json_reply Ok (standing_body refresh_body s)
 
 -- the reply to an introspection request
 abbrev pub introspection_of : FactSet → ℕ → RequestFields → ReplyFields

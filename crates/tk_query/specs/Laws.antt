@@ -11,7 +11,9 @@ use Rattle.tk_handle.specs.declared.handle.Handle.{Handle}
 use Rattle.tk_fact.specs.declared.sort.Sort.{Sort}
 use Rattle.tk_store.specs.FactSet.{FactSet}
 use Rattle.tk_ledger.specs.Status.{IsActive}
-use Rattle.tk_message.specs.Reply.{access_reply, refresh_reply, inactive_reply}
+use Rattle.tk_message.specs.declared.status.Status.TheVariants.{Ok}
+use Rattle.tk_message.specs.Bodies.{access_body, refresh_body}
+use Rattle.tk_message.specs.Reply.{inactive_reply, json_reply}
 use Rattle.tk_message.specs.ReplyFields.{ReplyFields}
 use Rattle.tk_query.specs.Introspected.{introspected_by_handle, sees}
 use Rattle.tk_query.specs.Introspection.{told}
@@ -20,9 +22,9 @@ use Rattle.tk_query.specs.Introspection.{told}
 abbrev pub told_by_kind : Kind → Dot → ℕ → ℕ → List ℕ → List ℕ → ReplyFields
 told_by_kind kind.Code client expiry start scope subject = inactive_reply
 told_by_kind kind.Access client expiry start scope subject =
-    access_reply client expiry start scope subject
+    json_reply Ok (access_body client expiry start scope subject)
 told_by_kind kind.Refresh client expiry start scope subject =
-    refresh_reply client expiry start scope subject
+    json_reply Ok (refresh_body client expiry start scope subject)
 
 -- the reply to a client of the given kind for a handle
 abbrev pub told_to : FactSet → ℕ → Sort → Dot → Handle → ReplyFields

@@ -10,7 +10,7 @@ use crate::introspected::{Introspected, introspect};
 use std::alloc::{AllocError, Global};
 use tk_handle::Moment;
 use tk_ledger::Ledger;
-use tk_message::{Decision, Reply, Request, Told, error_reply};
+use tk_message::{Decision, Reply, Request, Told};
 
 /// Decides an introspection request at a moment, and returns the reply (RFC 7662, 2).
 ///
@@ -38,7 +38,7 @@ fn reply_to(alloc: Global, known: Introspected<'_>) -> Result<Reply, AllocError>
     ensures { IfOk result (λ reply. reply ≡ spec.told known.entry) }
 {
     match known {
-        Introspected::Refused(why) => error_reply(alloc, why.code()),
+        Introspected::Refused(why) => Told::Error(why.code()).reply(alloc),
         Introspected::Inactive => Told::Inactive.reply(alloc),
         Introspected::Access(standing) => Told::Access(standing).reply(alloc),
         Introspected::Refresh(standing) => Told::Refresh(standing).reply(alloc),

@@ -77,13 +77,6 @@ impl Region {
         self.number
     }
 
-    /// Returns the region's settings.
-    pub fn settings(&self) -> Settings
-        ensures { result ≡ self.now.settings }
-    {
-        self.settings
-    }
-
     /// Returns the region's ledger: its facts, and the clients, consents and tokens that they
     /// define.
     pub fn ledger(&self) -> &Ledger
@@ -238,8 +231,8 @@ fn add_free(ledger: &mut Ledger, fact: Fact) -> Result<(), AllocError>
 {
     match ledger.add(fact) {
         Ok(Added::New) => Ok(()),
-        Ok(Added::Held) => unreachable!(),
+        Ok(Added::Held) => unreachable!("the dot is free"),
         Err(AddError::Memory) => Err(AllocError),
-        Err(AddError::Conflict) => unreachable!(),
+        Err(AddError::Conflict) => unreachable!("the dot is free"),
     }
 }

@@ -139,6 +139,6 @@ fn take_fact(alloc: Global, ledger: &mut Ledger, fact: &Fact) -> Result<u16, All
         Ok(Added::New) => Ok(1),
         Ok(Added::Held) => Ok(0),
         Err(AddError::Memory) => Err(AllocError),
-        Err(AddError::Conflict) => unreachable!(),
+        Err(AddError::Conflict) => unreachable!("no other body is held at a dot of the bundle"),
     }
 }

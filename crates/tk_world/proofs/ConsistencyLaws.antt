@@ -23,9 +23,9 @@ use Rattle.tk_store.proofs.PutLaws.{by_dot, of_dot, get_here, some_injective, no
 use Rattle.tk_store.proofs.SubsetLaws.{subset_itself, subset_trans, subset_with_facts, keeps_with_facts, AllIn-take, AllIn-subset}
 use Rattle.tk_region.specs.SettingsFields.{SettingsFields, greatest_cap}
 use Rattle.tk_region.specs.Step.{listed, IsNextFact}
-use Rattle.tk_edge.specs.Answers.{made_by}
+use Rattle.tk_edge.specs.Answers.{fact_by as made_by}
 use Rattle.tk_edge.specs.Heard.{IsHeard}
-use Rattle.tk_edge.specs.declared.hear.Heard.{Heard}
+use Rattle.tk_edge.specs.declared.hear.Arrival.{Arrival as Heard}
 use Rattle.tk_world.specs.AskedFields.{AskedFields}
 use Rattle.tk_world.specs.State.{State, new_state, with_region, with_bundle, region_with, Consists, IsConsistent}
 use Rattle.tk_world.specs.declared.event.Event.{Event}

@@ -27,14 +27,13 @@ use Rattle.tk_message.specs.declared.status.Status.{Status}
 use Rattle.tk_region.specs.RegionFields.{RegionFields, Gains}
 use Rattle.tk_region.specs.SettingsFields.{SettingsFields}
 use Rattle.tk_region.specs.Step.{listed, IsNextFact}
-use Rattle.tk_edge.specs.Answers as Told
-use Rattle.tk_edge.specs.Answers.{answer_by, made_by}
+use Rattle.tk_edge.specs.Answers.{answer_by, fact_by as made_by, AnswersBy}
 use Rattle.tk_edge.specs.Told.{AnswerFields}
 use Rattle.tk_edge.specs.EdgeFields.{EdgeFields}
-use Rattle.tk_edge.specs.Arrivals.{AnswersArrival, IsShort}
+use Rattle.tk_edge.specs.Arrivals.{Answers as AnswersArrival, IsShort}
 use Rattle.tk_edge.specs.Heard.{IsArrival, IsHeard}
 use Rattle.tk_edge.specs.declared.hear.Arrival.{Arrival}
-use Rattle.tk_edge.specs.declared.hear.Heard.{Heard}
+use Rattle.tk_edge.specs.declared.hear.Arrival.{Arrival as Heard}
 use Rattle.tk_world.specs.AskedFields.{AskedFields}
 use Rattle.tk_world.specs.declared.event.Event.{Event}
 use Rattle.tk_world.specs.declared.event.Event.TheVariants.{Open, Pull, Deliver}
@@ -45,6 +44,7 @@ use Rattle.tk_world.specs.Regions.{entry_of, entries_of, IsOpen, HaveSettings}
 use Rattle.tk_world.specs.State.{State, with_region, region_with, IsConsistent}
 use Rattle.tk_world.specs.World.{Grows, IsAnswer, IsReplied, Step}
 use Rattle.tk_world.specs.Parts.{Answers, Opens, Pages, TakesFacts}
+use Rattle.tk_edge.proofs.AnswerLaws.{answers_alone}
 use Rattle.tk_edge.proofs.StreamLaws.{all_heard, has_one_meaning}
 use Rattle.tk_world.proofs.ConsistencyLaws.{IsNextMade, IsNextOf, answer_keeps, step_keeps}
 use Rattle.tk_world.proofs.RegionLaws.{entry_at, entries_set, entries_insert, settings_at, settings_set, settings_insert}
@@ -104,7 +104,7 @@ request_step s r p q asked o is at a = absurd a
 pub request_next : (s : State) (r : ℕ) (p q : EdgeFields) (asked : AskedFields) (o : Outcome) → p.region ≡ region_with s r p.region.facts → map.get s.regions r ≡ Some p.region.facts → Answers p asked o q → IsNextMade s r asked o
 request_next s r p q asked (Reply status bytes) is at a = λ F there heard hears.
     let same : p.region ≡ region_with s r F = is ∙ ap (region_with s r) (some_injective p.region.facts F (sym at ∙ there)) in
-    let one : a.0 ≡ heard = has_one_meaning asked.bytes a.0 heard a.1 hears in
+    let one : a.0 ≡ heard = has_one_meaning false asked.bytes a.0 heard a.1 hears in
     subst (λ h. IfSome (made_by (region_with s r F) asked.now asked.words h) (IsNextFact (region_with s r F))) one
     (subst (λ x. IfSome (made_by x asked.now asked.words a.0) (IsNextFact x)) same a.4)
 request_next s r p q asked Memory is at a = tt
@@ -203,11 +203,11 @@ answered_number p q asked o a = absurd a
 -- if regions don't exchange facts, an arrival is heard
 heard_answer : (sync : Bool) (r new : RegionFields) (asked : AskedFields) (seen : AnswerFields) → sync ≡ false
     → ((came : Arrival) × IsArrival sync asked.bytes came × AnswersArrival r asked.now asked.words came (Ok seen) new)
-    → (heard : Heard) × IsHeard asked.bytes heard × Told.Answers r asked.now asked.words heard (Ok seen) new
+    → (heard : Heard) × IsHeard asked.bytes heard
+    × AnswersBy r (answer_by r asked.now asked.words heard) (made_by r asked.now asked.words heard) (Ok seen) new
 heard_answer sync r new asked seen off (came, is, told) =
     let there : IsArrival false asked.bytes came = subst (λ s. IsArrival s asked.bytes came) off is in
-    let found = all_heard asked.bytes came there in
-    (found.0, subst (IsArrival false asked.bytes) found.1 there, subst (λ c. AnswersArrival r asked.now asked.words c (Ok seen) new) found.1 told)
+    (came, there, answers_alone r asked.now asked.words came (Ok seen) new (all_heard asked.bytes came there) told)
 
 -- if regions don't exchange facts, running out of memory leaves the region unchanged
 pub untouched : (p q : EdgeFields) (bytes : List ℕ) → p.sync ≡ false → q.sealed ≡ p.sealed → q.sync ≡ p.sync → IsShort p.sync (Some bytes) p.region q.region → q ≡ p

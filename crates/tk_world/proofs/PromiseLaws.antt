@@ -4,7 +4,7 @@
 --   introspect_alike    regions with equal sets introspect alike
 --   revoked_inactive    a token that its client revoked is inactive
 --   families_inactive   each token of a family with a bad grant is inactive
-use Rattle.std.proofs.Common.{◌≡◌, ℕ, zero, suc, List, [], ◌∷◌, take, slice_get, Some, None, unwrap_or, refl, sym, ap, subst, ◌∙◌}
+use Rattle.std.proofs.Common.{false, ◌≡◌, ℕ, zero, suc, List, [], ◌∷◌, take, slice_get, Some, None, unwrap_or, refl, sym, ap, subst, ◌∙◌}
 use Rattle.std.specs.FinMap as map
 use Rattle.tk_handle.specs.declared.handle.Handle.{Handle}
 use Rattle.tk_store.specs.FactSet.{FactSet, Facts}
@@ -21,7 +21,7 @@ use Rattle.tk_region.specs.Decision.{decision_by}
 use Rattle.tk_region.specs.RegionFields.{RegionFields, place_in}
 use Rattle.tk_region.specs.Step.{prepared_by}
 use Rattle.tk_edge.specs.Answers.{answer_by, rendered}
-use Rattle.tk_edge.specs.declared.hear.Heard.TheVariants.{Asked}
+use Rattle.tk_edge.specs.declared.hear.Arrival.TheVariants.{Request as Asked}
 use Rattle.tk_edge.proofs.StreamLaws.{has_one_meaning}
 use Rattle.tk_world.specs.declared.event.Event.{Event}
 use Rattle.tk_world.specs.declared.event.Event.TheVariants.{Request}
@@ -70,7 +70,7 @@ tells_of_sets old es os ss new run i r now request status reply q =
     let joins = run_joins old (take i es) (take i os) (take i ss) at.mid at.run r in
     let F = at.step.0 in
     let held : F ≡ held_before old es ss i r = ap (λ o. unwrap_or o map.empty) (sym at.step.1.is_open) ∙ joins.joins in
-    let one : at.step.2 ≡ Asked request = has_one_meaning q.bytes.items at.step.2 (Asked request) at.step.3 q.heard in
+    let one : at.step.2 ≡ Asked request = has_one_meaning false q.bytes.items at.step.2 (Asked request) at.step.3 q.heard in
     let told = ap (answer_by (region_with at.mid r F) now q.words) one ∙ introspects (region_with at.mid r F) now q.words request q.introspects
     ∙ ap (λ G. rendered (introspection_of G now request) None None) held in
     subst (λ a. IsReplied a status reply) told (at.step.4.0, sym q.replied ∙ at.step.4.1)

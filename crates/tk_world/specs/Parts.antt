@@ -10,10 +10,10 @@ use Rattle.tk_store.specs.Store.{facts_of}
 use Rattle.tk_bundle.specs.Page.{PageFields}
 use Rattle.tk_region.specs.RegionFields.{RegionFields, Gains}
 use Rattle.tk_region.specs.Step.{listed, IsNextFact}
-use Rattle.tk_edge.specs.Answers.{answer_by, made_by}
+use Rattle.tk_edge.specs.Answers.{answer_by, fact_by as made_by}
 use Rattle.tk_edge.specs.EdgeFields.{EdgeFields}
 use Rattle.tk_edge.specs.Heard.{IsHeard}
-use Rattle.tk_edge.specs.declared.hear.Heard.{Heard}
+use Rattle.tk_edge.specs.declared.hear.Arrival.{Arrival as Heard}
 use Rattle.tk_world.specs.declared.event.Outcome.{Outcome}
 use Rattle.tk_world.specs.declared.event.Outcome.TheVariants.{Opened, Reply, Bundle, Took, Memory}
 use Rattle.tk_world.specs.AskedFields.{AskedFields}

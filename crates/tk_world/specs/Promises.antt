@@ -32,7 +32,7 @@ use Rattle.tk_world.specs.declared.event.Outcome.TheVariants.{Reply}
 use Rattle.tk_world.specs.State.{State, facts_in}
 use Rattle.tk_edge.specs.Answers.{rendered}
 use Rattle.tk_edge.specs.Heard.{IsHeard}
-use Rattle.tk_edge.specs.declared.hear.Heard.TheVariants.{Asked}
+use Rattle.tk_edge.specs.declared.hear.Arrival.TheVariants.{Request as Asked}
 use Rattle.tk_world.specs.World.{seen_by, IsReplied}
 
 -- ---- regions with equal facts introspect alike

@@ -36,10 +36,10 @@ use Rattle.tk_store.specs.Joining.{JoinsFacts}
 use Rattle.tk_bundle.specs.Page.{page_of}
 use Rattle.tk_message.specs.declared.status.Status.{Status}
 use Rattle.tk_region.specs.Step.{listed}
-use Rattle.tk_edge.specs.Answers.{answer_by, made_by}
+use Rattle.tk_edge.specs.Answers.{answer_by, fact_by as made_by}
 use Rattle.tk_edge.specs.Heard.{IsHeard}
 use Rattle.tk_edge.specs.Told.{AnswerFields}
-use Rattle.tk_edge.specs.declared.hear.Heard.{Heard}
+use Rattle.tk_edge.specs.declared.hear.Arrival.{Arrival as Heard}
 use Rattle.tk_world.specs.declared.event.Event.{Event}
 use Rattle.tk_world.specs.declared.event.Event.TheVariants.{Open, Request, Pull, Deliver}
 use Rattle.tk_world.specs.declared.event.Outcome.{Outcome}

@@ -18,7 +18,7 @@ use Rattle.tk_region.specs.Taking.{TakesIn}
 use Rattle.tk_region.specs.declared.take.TakeError.{TakeError}
 use Rattle.tk_region.specs.declared.take.TakeError.TheVariants.{Malformed, OwnNumber, Conflict}
 use Rattle.tk_region.specs.declared.take.TakeError.TheVariants as Take
-use Rattle.tk_edge.specs.Arrivals.{AnswersArrival, IsShort}
+use Rattle.tk_edge.specs.Arrivals.{Answers, IsShort}
 use Rattle.tk_edge.specs.EdgeFields.{EdgeFields}
 use Rattle.tk_edge.specs.Exchanges.{TakesBundle}
 use Rattle.tk_edge.specs.Served.{Asked, IsServed, Step}
@@ -26,7 +26,7 @@ use Rattle.tk_edge.specs.Told.{AnswerFields, Change, UsesLog}
 use Rattle.tk_message.specs.declared.status.Status.{Status}
 use Rattle.tk_edge.specs.declared.exchange.Exchange.TheVariants.{Vector, Pull, Push}
 use Rattle.tk_edge.specs.declared.hear.Arrival.{Arrival}
-use Rattle.tk_edge.specs.declared.hear.Arrival.TheVariants.{Heard, Exchange}
+use Rattle.tk_edge.specs.declared.hear.Arrival.TheVariants.{Exchange}
 use Rattle.tk_edge.specs.declared.edge.Served.{Served}
 use Rattle.tk_edge.specs.declared.edge.Served.TheVariants.{Nothing, Done}
 use Rattle.tk_edge.specs.declared.tell.Fault.{Fault}
@@ -62,11 +62,11 @@ taken_gains old new bytes taken h = by_bundle (whole bundle bytes) taken h.takes
     by_bundle (Some fs) (Ok n) k = joined fs k.2.0
 
 -- replying to an arrival joins facts to the region
-answered_gains : (now : ℕ) (words : List ℕ) (came : Arrival) (answer : AnswerFields) (old new : RegionFields) → AnswersArrival old now words came (Ok answer) new → (fs : Facts) × Gains old fs new
-answered_gains now words (Heard heard) answer old new h = (_, h.1)
+answered_gains : (now : ℕ) (words : List ℕ) (came : Arrival) (answer : AnswerFields) (old new : RegionFields) → Answers old now words came (Ok answer) new → (fs : Facts) × Gains old fs new
 answered_gains now words (Exchange Vector) answer old new h = same_gains old new h.1
 answered_gains now words (Exchange (Pull sent)) answer old new h = same_gains old new h.1
 answered_gains now words (Exchange (Push sent)) answer old new h = taken_gains old new sent h.0 h.1
+answered_gains now words came answer old new h = (_, h.1)
 
 short_gains : (sync : Bool) (known : Option (List ℕ)) (old new : RegionFields) → IsShort sync known old new → (fs : Facts) × Gains old fs new
 short_gains sync known old new (inl same) = same_gains old new same

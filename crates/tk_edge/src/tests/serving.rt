@@ -3,7 +3,7 @@
 use super::frail::{Fails, FrailSink, FrailSource};
 use super::new_edge;
 use super::talks::{EXCHANGE, REGISTRATION, Talk};
-use crate::{Discard, Edge, Fault, Served, Sink, Source};
+use crate::{Discard, Edge, Fault, HEAD_LIMIT, Served, Sink, Source};
 use std::alloc::Global;
 use tk_handle::Moment;
 use tk_message::Status;
@@ -75,7 +75,7 @@ fn ends_at(
     let Some(now) = Moment::new(1_000) else {
         return false;
     };
-    let mut buf = [0u8; 8_192];
+    let mut buf = [0u8; HEAD_LIMIT];
     let mut reader = FrailSource::new(talk.request, given.max(1), read);
     let mut writer = FrailSink::new(alloc, taken.max(1), write);
     let mut log = FrailSink::new(alloc, taken.max(1), log);
@@ -286,7 +286,7 @@ fn is_served_by_std(alloc: Global, edge: &mut Edge) -> bool {
     let mut log = Discard;
     let mut reader = crate::Counted::new(REGISTRATION.request);
     let mut writer = crate::Counted::new(Vec::new(alloc));
-    let mut buf = [0u8; 8_192];
+    let mut buf = [0u8; HEAD_LIMIT];
     let result = edge.serve_one(
         alloc,
         &mut reader,

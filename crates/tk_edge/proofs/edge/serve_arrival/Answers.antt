@@ -10,21 +10,21 @@ returns-then-is_silent-clause-served g c = λ sync known arrives.
 
 pub returns-in-Ok-clause-served : goal.returns-in-Ok-clause-served
 returns-in-Ok-clause-served g c = λ sync known arrives.
-    served (record { sync = sync; known = known; now = c.args.now; words = c.args.words.now }) c.args.came.now
+    served (record { sync = sync; known = known; now = c.args.now; words = c.args.words.now }) c.args.came
     c.args.region.now c.reply.new.region c.args.region.now refl _ _ _ c.reply.new.sealed
     arrives (c.is_silent.ensures.spoke (search rules)) c.in-Ok.status c.in-Ok.ensures.replies
 
-pub returns-in-Err-clause-served : goal.returns-in-Err-clause-served
-returns-in-Err-clause-served g c = λ sync known arrives.
-    faulted (record { sync = sync; known = known; now = c.args.now; words = c.args.words.now }) c.args.came.now
+pub returns-clause-served : goal.returns-clause-served
+returns-clause-served g c = λ sync known arrives.
+    faulted (record { sync = sync; known = known; now = c.args.now; words = c.args.words.now }) c.args.came
     c.args.region.now c.reply.new.region c.args.region.now refl _ _ _ c.reply.new.sealed
     arrives (c.is_silent.ensures.spoke (search rules)) c.in-Err.fault c.in-Err.ensures.replies
 
-pub returns-in-Err-clause-read : goal.returns-in-Err-clause-read
-returns-in-Err-clause-read g c = unread c.args.now c.args.words.now c.args.came.now _ _ _ _ _ c.in-Err.fault c.in-Err.ensures.replies
+pub returns-clause-read : goal.returns-clause-read
+returns-clause-read g c = unread c.args.now c.args.words.now c.args.came _ _ _ _ _ c.in-Err.fault c.in-Err.ensures.replies
 
-pub returns-in-Err-clause-writer_fault : goal.returns-in-Err-clause-writer_fault
-returns-in-Err-clause-writer_fault g c = λ is. c.in-Err.ensures.faults.writer (faults_as c.in-Err.fault Write is)
+pub returns-clause-writer_fault : goal.returns-clause-writer_fault
+returns-clause-writer_fault g c = λ is. c.in-Err.ensures.faults.writer (faults_as c.in-Err.fault Write is)
 
-pub returns-in-Err-clause-log_fault : goal.returns-in-Err-clause-log_fault
-returns-in-Err-clause-log_fault g c = λ is. c.in-Err.ensures.faults.log (faults_as c.in-Err.fault Log is)
+pub returns-clause-log_fault : goal.returns-clause-log_fault
+returns-clause-log_fault g c = λ is. c.in-Err.ensures.faults.log (faults_as c.in-Err.fault Log is)

@@ -1,8 +1,7 @@
 //! The standing of a family's tokens, whatever the order in which its facts arrive.
 //!
-//! These are the tests of tk_ledger and, in `forests`, of tk_family. They are in this crate because
-//! a crate with tests is proved once more. `plain` is a ledger that walks its facts, for
-//! comparison.
+//! These are the tests of tk_ledger and, in `forests`, of tk_family. `plain` is a ledger that walks
+//! its facts, for comparison.
 
 mod checked;
 mod ends;

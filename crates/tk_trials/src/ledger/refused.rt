@@ -238,8 +238,8 @@ fn is_taken(
     }
 }
 
-// Makes the ledger of the first facts before the next fact is added, so that it exists when all
-// later memory is refused.
+// Makes the ledger of the first facts before the next fact is added, so that it exists when each
+// later allocation is refused.
 fn next_is_taken(
     alloc: Global,
     ledger: &mut Ledger,

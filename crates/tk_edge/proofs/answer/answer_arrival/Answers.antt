@@ -1,5 +1,5 @@
 use Rattle.tk_edge.proofs.AnswerLaws.{gains_nothing, answers_nothing}
-use Rattle.tk_edge.proofs.answer.answer_heard.Goals as goal
+use Rattle.tk_edge.proofs.answer.answer_arrival.Goals as goal
 
 pub returns-in-Silence : goal.returns-in-Silence
 returns-in-Silence c = rw c.in-Silence.is (c.silent.ensures, gains_nothing _, tt)

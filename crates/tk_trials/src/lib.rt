@@ -1,0 +1,24 @@
+//! Tests of the crates below over their public names, which no row of `rows/` can show.
+//!
+//! The crate has no function of its own. A crate with tests is proved once more for them, so these
+//! tests are not in the crates that they test.
+//!
+//! - `ledger`: ledgers that run out of memory, ledgers beside a plain one, forests, and how many
+//!   look-ups a reply takes.
+//! - `region`: a region that runs out of memory.
+//! - `results` and `uris`: results of calls that the program doesn't print.
+//! - `uncalled`: calls that no program makes.
+//!
+//! tk_edge has its own tests: connections over devices that fail.
+#![tactic(auto)]
+
+#[cfg(test)]
+mod ledger;
+#[cfg(test)]
+mod region;
+#[cfg(test)]
+mod results;
+#[cfg(test)]
+mod uncalled;
+#[cfg(test)]
+mod uris;
