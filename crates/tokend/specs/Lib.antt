@@ -27,6 +27,5 @@ pub mod Connection
 pub mod ServiceRun
 pub mod Status
 pub mod ScriptRun
-pub mod Sites
 pub mod LoopbackRun
 pub mod ProgramRun
