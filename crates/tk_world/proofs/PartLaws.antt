@@ -22,7 +22,7 @@ use Rattle.tk_vector.specs.VersionVector.{Vector}
 use Rattle.tk_store.specs.FactSet.{FactSet, Facts}
 use Rattle.tk_store.specs.Joining.{JoinsFacts}
 use Rattle.tk_store.proofs.JoiningLaws.{joins_is_with_facts}
-use Rattle.tk_region.specs.RegionFields.{RegionFields, Gains}
+use Rattle.tk_region.specs.RegionFields.{RegionFields}
 use Rattle.tk_region.specs.SettingsFields.{SettingsFields}
 use Rattle.tk_region.specs.Step.{listed, IsNextFact}
 use Rattle.tk_edge.specs.Answers as Told

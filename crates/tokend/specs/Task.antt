@@ -22,7 +22,6 @@ use Rattle.tk_region.specs.SettingsFields.{SettingsFields}
 use Rattle.tokend.specs.CommandLine.{HasNumbers, HasService, tokend_app}
 use Rattle.tokend.specs.declared.fault.Fault.{Fault}
 use Rattle.tokend.specs.declared.fault.Fault.TheVariants.{Memory, Words}
-use Rattle.tokend.specs.declared.options.Numbers.{Numbers}
 use Rattle.tokend.specs.declared.options.Service.{Service}
 use Rattle.tokend.specs.declared.options.Task.{Task}
 use Rattle.tokend.specs.declared.options.Task.TheVariants.{Script, Loopback, Serve}

@@ -3,7 +3,7 @@ use Rattle.std.specs.FinMap as map
 use Rattle.tk_world.specs.AskedFields.{AskedFields}
 use Rattle.tk_world.specs.Broken.{Requests}
 use Rattle.tk_world.specs.State.{IsConsistent}
-use Rattle.tk_world.proofs.PartLaws.{world, absent_at, held_at, region_at, sorted_after, settings_after, state_after, open_at, alone_at, request_step, request_keeps, carried_number, ended}
+use Rattle.tk_world.proofs.PartLaws.{world, absent_at, held_at, region_at, sorted_after, settings_after, state_after, request_step, request_keeps, carried_number, ended}
 use Rattle.tk_world.proofs.world.World.request.Goals as goal
 
 pub returns-in-Err : goal.returns-in-Err
