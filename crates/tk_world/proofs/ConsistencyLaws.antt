@@ -1,6 +1,7 @@
 -- A step keeps a world consistent: all facts made stay in one set. Key results:
---   step_keeps          a step leaves a consistent world
---   answer_keeps        a request leaves a consistent world
+--   made_keeps          adding a region's next fact leaves a consistent world
+--   opening_keeps, pull_keeps, delivery_keeps
+--                       an event that is no request leaves a consistent world
 --   new_is_consistent   a world without regions and bundles is consistent
 use Rattle.std.proofs.Common.{◌≡◌, ℕ, zero, suc, ◌≤◌, true, false, cond, List, [], ◌∷◌, ◌++◌, length, take, slice_get, Option, Some, None, IfSome, refl, sym, ap, subst, ◌∙◌, arith}
 use Rattle.std.specs.Ordering.{nat_cmp, eq_by_cmp, is_eq}
@@ -23,17 +24,11 @@ use Rattle.tk_store.proofs.PutLaws.{by_dot, of_dot, get_here, some_injective, no
 use Rattle.tk_store.proofs.SubsetLaws.{subset_itself, subset_trans, subset_with_facts, keeps_with_facts, AllIn-take, AllIn-subset}
 use Rattle.tk_region.specs.SettingsFields.{SettingsFields, greatest_cap}
 use Rattle.tk_region.specs.Step.{listed, IsNextFact}
-use Rattle.tk_edge.specs.Answers.{fact_by as made_by}
-use Rattle.tk_edge.specs.Heard.{IsHeard}
-use Rattle.tk_edge.specs.declared.hear.Arrival.{Arrival as Heard}
-use Rattle.tk_world.specs.AskedFields.{AskedFields}
 use Rattle.tk_world.specs.State.{State, new_state, with_region, with_bundle, region_with, Consists, IsConsistent}
-use Rattle.tk_world.specs.declared.event.Event.{Event}
-use Rattle.tk_world.specs.declared.event.Event.TheVariants.{Open, Request, Pull, Deliver}
 use Rattle.tk_world.specs.declared.event.Outcome.{Outcome}
-use Rattle.tk_world.specs.declared.event.Outcome.TheVariants.{Opened, NumberTaken, NoRegion, NoBundle, Reply, Bundle, Took, Memory}
+use Rattle.tk_world.specs.declared.event.Outcome.TheVariants.{Opened, NumberTaken, NoRegion, NoBundle, Bundle, Took, Memory}
 use Rattle.tk_bundle.specs.Page.{page_of}
-use Rattle.tk_world.specs.World.{Grows, IsAnswer, Step}
+use Rattle.tk_world.specs.World.{Grows, IsDelivery, IsOpening, IsPull}
 
 -- ---- pages
 
@@ -141,7 +136,8 @@ consists_bundle s U fs k a short = record {
 
 -- ---- a step
 
-made_keeps : (s : State) (n : ℕ) (F : FactSet) → map.get s.regions n ≡ Some F → (o : Option (Dot × Body)) → IfSome o (IsNextFact (region_with s n F)) → IsConsistent s → IsConsistent (with_region s n (with_facts F (listed o)))
+-- adding the fact made for an answer, if it is the region's next, leaves a consistent world
+pub made_keeps : (s : State) (n : ℕ) (F : FactSet) → map.get s.regions n ≡ Some F → (o : Option (Dot × Body)) → IfSome o (IsNextFact (region_with s n F)) → IsConsistent s → IsConsistent (with_region s n (with_facts F (listed o)))
 made_keeps s n F at None x k = (k.0, consists_set s k.0 n F F k.1 at (k.1.held n F at) (subset_itself F))
 made_keeps s n F at (Some f) x k =
     let free : map.get F f.0 ≡ None = ap (map.get F) x.next ∙ next_is_free F n in
@@ -158,48 +154,31 @@ joined_keeps old new n F seen g k all =
     subst IsConsistent (sym (grown_to old new n F seen seen g refl))
     (k.0, consists_set old k.0 n F _ k.1 g.is_open (subset_with_facts F k.0 seen within all) (keeps_with_facts F k.0 seen within all))
 
--- the fact made for a reply, if there is one, is the region's next
-abbrev pub IsNextMade : State → ℕ → AskedFields → Outcome → Type 0
-IsNextMade old n asked (Reply status bytes) = (F : FactSet) → map.get old.regions n ≡ Some F → (heard : Heard) → IsHeard asked.bytes heard
-    → IfSome (made_by (region_with old n F) asked.now asked.words heard) (IsNextFact (region_with old n F))
-IsNextMade old n asked o = Unit {0}
+pub opening_keeps : (old : State) (n : ℕ) (o : Outcome) (seen : Facts) (new : State) → IsOpening old n o seen new → IsConsistent old → IsConsistent new
+opening_keeps old n Opened seen new step k = subst IsConsistent (sym step.2) (k.0, consists_opened old k.0 n k.1 step.0)
+opening_keeps old n NumberTaken seen new step k = subst IsConsistent (sym step.1.1) k
+opening_keeps old n Memory seen new step k = subst IsConsistent (sym step.1.1) k
+opening_keeps old n o seen new step k = absurd step
 
-pub answer_keeps : (old : State) (n : ℕ) (asked : AskedFields) (o : Outcome) (seen : Facts) (new : State) → IsAnswer old n asked o seen new → IsNextMade old n asked o → IsConsistent old → IsConsistent new
-answer_keeps old n asked (Reply status bytes) seen new step next k =
-    let F = step.0 in
-    let fact = made_by (region_with old n F) asked.now asked.words step.2 in
-    subst IsConsistent (sym (grown_to old new n F seen (listed fact) step.1 step.5))
-    (made_keeps old n F step.1.is_open fact (next F step.1.is_open step.2 step.3) k)
-answer_keeps old n asked NoRegion seen new step next k = subst IsConsistent (sym step.1.1) k
-answer_keeps old n asked Memory seen new step next k = subst IsConsistent (sym step.1.1) k
-answer_keeps old n asked o seen new step next k = absurd step
-
-abbrev pub IsNextOf : State → Event → Outcome → Type 0
-IsNextOf old (Request n now words q) o = IsNextMade old n (record { now = now; words = words; bytes = q.items }) o
-IsNextOf old (Open n) o = Unit {0}
-IsNextOf old (Pull n v after) o = Unit {0}
-IsNextOf old (Deliver i n) o = Unit {0}
-
-pub step_keeps : (old : State) (e : Event) (o : Outcome) (seen : Facts) (new : State) → Step old e o seen new → IsNextOf old e o → IsConsistent old → IsConsistent new
-step_keeps old (Open n) Opened seen new step next k = subst IsConsistent (sym step.2) (k.0, consists_opened old k.0 n k.1 step.0)
-step_keeps old (Open n) NumberTaken seen new step next k = subst IsConsistent (sym step.1.1) k
-step_keeps old (Open n) Memory seen new step next k = subst IsConsistent (sym step.1.1) k
-step_keeps old (Request n now words q) o seen new step next k = answer_keeps old n (record { now = now; words = words; bytes = q.items }) o seen new step next k
-step_keeps old (Pull n v after) (Bundle index count last more) seen new step next k =
+pub pull_keeps : (old : State) (n : ℕ) (v : Vector) (after : Option Dot) (o : Outcome) (seen : Facts) (new : State) → IsPull old n v after o seen new → IsConsistent old → IsConsistent new
+pull_keeps old n v after (Bundle index count last more) seen new step k =
     let F = step.0 in
     let fs = (page_of F v after).facts in
     subst IsConsistent (sym step.3.4) (k.0, consists_bundle old k.0 fs k.1 (AllIn-subset F k.0 fs (k.1.held n F step.1) (AllIn-page F v after)) (short_page (beyond F v after)))
   where
     short_page : (fs : Facts) → length (take 128 fs) ≤ 128
     short_page fs = omega (arith, length-take 128 fs)
-step_keeps old (Pull n v after) NoRegion seen new step next k = subst IsConsistent (sym step.1.1) k
-step_keeps old (Pull n v after) Memory seen new step next k = subst IsConsistent (sym step.1.1) k
-step_keeps old (Deliver i n) (Took m) seen new step next k = joined_keeps old new n step.0 seen step.1 k (k.1.carried i seen step.2).0
-step_keeps old (Deliver i n) Memory seen new step next k =
+pull_keeps old n v after NoRegion seen new step k = subst IsConsistent (sym step.1.1) k
+pull_keeps old n v after Memory seen new step k = subst IsConsistent (sym step.1.1) k
+pull_keeps old n v after o seen new step k = absurd step
+
+pub delivery_keeps : (old : State) (i n : ℕ) (o : Outcome) (seen : Facts) (new : State) → IsDelivery old i n o seen new → IsConsistent old → IsConsistent new
+delivery_keeps old i n (Took m) seen new step k = joined_keeps old new n step.0 seen step.1 k (k.1.carried i seen step.2).0
+delivery_keeps old i n Memory seen new step k =
     joined_keeps old new n step.0 seen step.1 k (subst (AllIn k.0) (sym step.5) (AllIn-take k.0 step.4 step.2 (k.1.carried i step.2 step.3).0))
-step_keeps old (Deliver i n) NoRegion seen new step next k = subst IsConsistent (sym step.1.1) k
-step_keeps old (Deliver i n) NoBundle seen new step next k = subst IsConsistent (sym step.2.1) k
-step_keeps old e o seen new step next k = absurd step
+delivery_keeps old i n NoRegion seen new step k = subst IsConsistent (sym step.1.1) k
+delivery_keeps old i n NoBundle seen new step k = subst IsConsistent (sym step.2.1) k
+delivery_keeps old i n o seen new step k = absurd step
 
 -- a world without regions and bundles is consistent
 pub new_is_consistent : (settings : SettingsFields) → settings.cap ≤ greatest_cap → IsConsistent (new_state settings)

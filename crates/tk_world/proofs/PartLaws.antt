@@ -4,11 +4,10 @@
 --                                                      a write there
 --   settings_after, state_after                        the settings and the state after a write at
 --                                                      an index
---   ended, ended_keeps                                 the end of each method is a step, and keeps
---                                                      the invariant
---   answered, answered_keeps                           the end of a request is a step, and keeps
---                                                      the invariant
-use Rattle.std.proofs.Common.{◌≡◌, ℕ, T, List, [], take, slice_get, get_or, set, Option, Some, None, Ok, IsSome, IfSome, is_some, cond, Bool, true, false, inl, inr, refl, sym, ap, subst, ◌∙◌}
+--   request_steps                                      how a request ends is how its event ends
+--   request_keeps                                      carrying a request keeps a world consistent
+--   ended                                              what holds of the fields holds of the world
+use Rattle.std.proofs.Common.{◌≡◌, ℕ, T, List, [], take, slice_get, get_or, set, Option, Some, None, Result, Ok, Err, Vec, Global, IsSome, IfSome, is_some, cond, Bool, true, false, inl, inr, refl, sym, ap, subst, ◌∙◌}
 use Rattle.std.specs.List.{insert}
 use Rattle.std.specs.Ordering.{nat_cmp, eq_by_cmp, is_eq}
 use Rattle.std.specs.declared.cmp.Ordering.{Ordering}
@@ -22,31 +21,30 @@ use Rattle.tk_handle.specs.declared.dot.Dot.{Dot}
 use Rattle.tk_vector.specs.VersionVector.{Vector}
 use Rattle.tk_store.specs.FactSet.{FactSet, Facts}
 use Rattle.tk_store.specs.Joining.{JoinsFacts}
-use Rattle.tk_store.proofs.PutLaws.{some_injective}
-use Rattle.tk_message.specs.declared.status.Status.{Status}
-use Rattle.tk_region.specs.RegionFields.{RegionFields, Gains}
+use Rattle.tk_store.proofs.JoiningLaws.{joins_is_with_facts}
+use Rattle.tk_region.specs.RegionFields.{RegionFields}
 use Rattle.tk_region.specs.SettingsFields.{SettingsFields}
 use Rattle.tk_region.specs.Step.{listed, IsNextFact}
-use Rattle.tk_edge.specs.Answers.{answer_by, fact_by as made_by, AnswersBy}
+use Rattle.tk_edge.specs.Answers.{answer_by, fact_by, AnswersBy}
 use Rattle.tk_edge.specs.Told.{AnswerFields}
 use Rattle.tk_edge.specs.EdgeFields.{EdgeFields}
-use Rattle.tk_edge.specs.Arrivals.{Answers as AnswersArrival, IsShort}
+use Rattle.tk_edge.specs.Arrivals.{Answers, IsShort}
 use Rattle.tk_edge.specs.Heard.{IsArrival, IsHeard}
 use Rattle.tk_edge.specs.declared.hear.Arrival.{Arrival}
-use Rattle.tk_edge.specs.declared.hear.Arrival.{Arrival as Heard}
 use Rattle.tk_world.specs.AskedFields.{AskedFields}
-use Rattle.tk_world.specs.declared.event.Event.{Event}
-use Rattle.tk_world.specs.declared.event.Event.TheVariants.{Open, Pull, Deliver}
 use Rattle.tk_world.specs.declared.event.Outcome.{Outcome}
 use Rattle.tk_world.specs.declared.event.Outcome.TheVariants.{Opened, Reply, Bundle, Took, Memory}
 use Rattle.tk_bundle.specs.Page.{page_of}
 use Rattle.tk_world.specs.Regions.{entry_of, entries_of, IsOpen, HaveSettings}
 use Rattle.tk_world.specs.State.{State, with_region, region_with, IsConsistent}
-use Rattle.tk_world.specs.World.{Grows, IsAnswer, IsReplied, Step}
-use Rattle.tk_world.specs.Parts.{Answers, Opens, Pages, TakesFacts}
+use Rattle.tk_world.specs.declared.event.Event.TheVariants.{Request}
+use Rattle.tk_world.specs.Broken.{Requests, Steps}
+use Rattle.tk_world.specs.Carrying.{Carries, IsReplied, Makes, Way}
+use Rattle.tk_world.specs.World.{Grows, IsDelivery, IsOpening, IsPull}
+use Rattle.tk_world.specs.Parts.{Opens, Pages, TakesFacts}
 use Rattle.tk_edge.proofs.AnswerLaws.{answers_alone}
-use Rattle.tk_edge.proofs.StreamLaws.{all_heard, has_one_meaning}
-use Rattle.tk_world.proofs.ConsistencyLaws.{IsNextMade, IsNextOf, answer_keeps, step_keeps}
+use Rattle.tk_edge.proofs.StreamLaws.{all_heard}
+use Rattle.tk_world.proofs.ConsistencyLaws.{made_keeps}
 use Rattle.tk_world.proofs.RegionLaws.{entry_at, entries_set, entries_insert, settings_at, settings_set, settings_insert}
 
 -- an edge has the settings of another, is sealed if that one is, and exchanges facts if that one
@@ -83,39 +81,68 @@ some_is o x h = ap is_some h
 abbrev grows_to : (s : State) (r : ℕ) (F : FactSet) (q : RegionFields) (fs : Facts) → map.get s.regions r ≡ Some F → JoinsFacts F fs q.facts → Grows s r F fs (with_region s r q.facts)
 grows_to s r F q fs at joins = record { is_open = at; grown = q.facts; joins = joins; changes = refl }
 
--- the answer of a region that is known by its number, settings and set is an answer of the world's
--- region
-answered_as : (s : State) (r : ℕ) (p q : RegionFields) (asked : AskedFields) (heard : Heard) (status : Status) (bytes : List ℕ) → p ≡ region_with s r p.facts
-    → IsReplied (answer_by p asked.now asked.words heard) status bytes → JoinsFacts p.facts (listed (made_by p asked.now asked.words heard)) q.facts
-    → IsReplied (answer_by (region_with s r p.facts) asked.now asked.words heard) status bytes
-    × JoinsFacts p.facts (listed (made_by (region_with s r p.facts) asked.now asked.words heard)) q.facts
-answered_as s r p q asked heard status bytes is same joins =
-    subst (λ x. IsReplied (answer_by x asked.now asked.words heard) status bytes × JoinsFacts p.facts (listed (made_by x asked.now asked.words heard)) q.facts) is (same, joins)
+-- what was made by an edge's region is made by the world's region
+made_as : (s : State) (r : ℕ) (p q : EdgeFields) (asked : AskedFields) (heard : Arrival) → p.region ≡ region_with s r p.region.facts → Makes p asked heard q
+    → JoinsFacts p.region.facts (listed (fact_by (region_with s r p.region.facts) asked.now asked.words heard)) q.region.facts
+    × IfSome (fact_by (region_with s r p.region.facts) asked.now asked.words heard) (IsNextFact (region_with s r p.region.facts))
+made_as s r p q asked heard is made =
+    subst (λ (x : RegionFields). JoinsFacts p.region.facts (listed (fact_by x asked.now asked.words heard)) q.region.facts
+    × IfSome (fact_by x asked.now asked.words heard) (IsNextFact x)) is (made.gains.joins, made.next)
 
-pub request_step : (s : State) (r : ℕ) (p q : EdgeFields) (asked : AskedFields) (o : Outcome) → p.region ≡ region_with s r p.region.facts → map.get s.regions r ≡ Some p.region.facts → Answers p asked o q → (seen : Facts) × IsAnswer s r asked o seen (with_region s r q.region.facts)
-request_step s r p q asked (Reply status bytes) is at a =
-    let both = answered_as s r p.region q.region asked a.0 status bytes.items is a.2 a.3.joins in
-    let made = listed (made_by (region_with s r p.region.facts) asked.now asked.words a.0) in
-    (made, (p.region.facts, grows_to s r p.region.facts q.region made at both.1, a.0, a.1, both.0, refl))
-request_step s r p q asked Memory is at a = ([], (some_is _ p.region.facts at, (refl, ap (λ (x : EdgeFields). with_region s r x.region.facts) a ∙ same_region s r p.region.facts at)))
-request_step s r p q asked o is at a = absurd a
+-- an edge that is unchanged leaves the world unchanged
+unchanged : (s : State) (r : ℕ) (p q : EdgeFields) → map.get s.regions r ≡ Some p.region.facts → q ≡ p → with_region s r q.region.facts ≡ s
+unchanged s r p q at same = ap (λ (x : EdgeFields). with_region s r x.region.facts) same ∙ same_region s r p.region.facts at
 
--- the fact made for a reply is the region's next
-pub request_next : (s : State) (r : ℕ) (p q : EdgeFields) (asked : AskedFields) (o : Outcome) → p.region ≡ region_with s r p.region.facts → map.get s.regions r ≡ Some p.region.facts → Answers p asked o q → IsNextMade s r asked o
-request_next s r p q asked (Reply status bytes) is at a = λ F there heard hears.
-    let same : p.region ≡ region_with s r F = is ∙ ap (region_with s r) (some_injective p.region.facts F (sym at ∙ there)) in
-    let one : a.0 ≡ heard = has_one_meaning false asked.bytes a.0 heard a.1 hears in
-    subst (λ h. IfSome (made_by (region_with s r F) asked.now asked.words h) (IsNextFact (region_with s r F))) one
-    (subst (λ x. IfSome (made_by x asked.now asked.words a.0) (IsNextFact x)) same a.4)
-request_next s r p q asked Memory is at a = tt
-request_next s r p q asked o is at a = absurd a
+module _ (way : Way) (s : State) (r : ℕ) (p q : EdgeFields) (asked : AskedFields) (is : p.region ≡ region_with s r p.region.facts) (at : map.get s.regions r ≡ Some p.region.facts) where
+  -- the fact made for an answer joins the world's region
+  made_grows : (heard : Arrival) → Makes p asked heard q
+      → Grows s r p.region.facts (listed (fact_by (region_with s r p.region.facts) asked.now asked.words heard)) (with_region s r q.region.facts)
+  made_grows heard made =
+      grows_to s r p.region.facts q.region (listed (fact_by (region_with s r p.region.facts) asked.now asked.words heard)) at (made_as s r p q asked heard is made).0
 
-pub deliver_step : (s : State) (i r : ℕ) (p q : RegionFields) (fs : Facts) (o : Outcome) → map.get s.regions r ≡ Some p.facts → slice_get s.bundles i ≡ Some fs → TakesFacts p fs o q → (seen : Facts) × Step s (Deliver i r) o seen (with_region s r q.facts)
+  pub request_step : {F : Type 0} (o : Result Outcome F) → Carries way p asked o q → Requests way s r asked o (with_region s r q.region.facts)
+  request_step (Ok (Reply status bytes)) a = (
+    listed (fact_by (region_with s r p.region.facts) asked.now asked.words a.0),
+    (
+      p.region.facts,
+      made_grows a.0 a.3,
+      a.0,
+      a.1,
+      subst (λ (x : RegionFields). way.Shows (answer_by x asked.now asked.words a.0) status bytes.items) is a.2,
+      refl,
+    ),
+  )
+  request_step (Ok Memory) a = ([], (some_is _ p.region.facts at, (refl, unchanged s r p q at a)))
+  request_step (Ok o) a = absurd a
+  request_step (Err fault) (inl same) = inl (unchanged s r p q at same)
+  request_step (Err fault) (inr (heard, hears, made)) = inr (p.region.facts, heard, hears, made_grows heard made)
+
+  -- an answer keeps the world consistent
+  answer_keeps : (heard : Arrival) → Makes p asked heard q → IsConsistent s → IsConsistent (with_region s r q.region.facts)
+  answer_keeps heard made k =
+      let both = made_as s r p q asked heard is made in
+      subst (λ F. IsConsistent (with_region s r F)) (sym (joins_is_with_facts both.0))
+      (made_keeps s r p.region.facts at (fact_by (region_with s r p.region.facts) asked.now asked.words heard) both.1 k)
+
+  pub request_keeps : {F : Type 0} (o : Result Outcome F) → Carries way p asked o q → IsConsistent s → IsConsistent (with_region s r q.region.facts)
+  request_keeps (Ok (Reply status bytes)) a k = answer_keeps a.0 a.3 k
+  request_keeps (Ok Memory) a k = subst IsConsistent (sym (unchanged s r p q at a)) k
+  request_keeps (Ok o) a k = absurd a
+  request_keeps (Err fault) (inl same) k = subst IsConsistent (sym (unchanged s r p q at same)) k
+  request_keeps (Err fault) (inr (heard, hears, made)) k = answer_keeps heard made k
+
+-- how a request ends is how its event ends
+pub request_steps : {F : Type 0} (way : Way) (old : State) (r now : ℕ) (words : List ℕ) (bytes : Vec ℕ Global) (o : Result Outcome F) (new : State)
+    → Requests way old r (record { now = now; words = words; bytes = bytes.items }) o new → Steps way old (Request r now words bytes) o new
+request_steps way old r now words bytes (Ok outcome) new h = h
+request_steps way old r now words bytes (Err fault) new h = h
+
+pub deliver_step : (s : State) (i r : ℕ) (p q : RegionFields) (fs : Facts) (o : Outcome) → map.get s.regions r ≡ Some p.facts → slice_get s.bundles i ≡ Some fs → TakesFacts p fs o q → (seen : Facts) × IsDelivery s i r o seen (with_region s r q.facts)
 deliver_step s i r p q fs (Took n) at there t = (fs, (p.facts, grows_to s r p.facts q fs at t.0.joins, there, t.1))
 deliver_step s i r p q fs Memory at there t = (take t.0 fs, (p.facts, grows_to s r p.facts q (take t.0 fs) at t.1.joins, fs, there, t.0, refl))
 deliver_step s i r p q fs o at there t = absurd t
 
-pub pull_step : (s : State) (r : ℕ) (F : FactSet) (v : Vector) (after : Option Dot) (o : Outcome) (bs : List Facts) → map.get s.regions r ≡ Some F → Pages (page_of F v after) s.bundles o bs → (seen : Facts) × Step s (Pull r v after) o seen (record { settings = s.settings; regions = s.regions; bundles = bs })
+pub pull_step : (s : State) (r : ℕ) (F : FactSet) (v : Vector) (after : Option Dot) (o : Outcome) (bs : List Facts) → map.get s.regions r ≡ Some F → Pages (page_of F v after) s.bundles o bs → (seen : Facts) × IsPull s r v after o seen (record { settings = s.settings; regions = s.regions; bundles = bs })
 pull_step s r F v after (Bundle index count last more) bs at p = ([], (F, at, refl, (p.0, p.1, p.2, p.3, ap (λ xs. record { settings = s.settings; regions = s.regions; bundles = xs }) p.4)))
 pull_step s r F v after Memory bs at p = ([], (some_is _ F at, (refl, ap (λ xs. record { settings = s.settings; regions = s.regions; bundles = xs }) p)))
 pull_step s r F v after o bs at p = absurd p
@@ -134,7 +161,7 @@ module _ (settings : SettingsFields) (rs : List EdgeFields) (bs : List Facts) (s
     opened_entries : (new : List EdgeFields) → new ≡ insert rs i p → entries_of new ≡ insert (entries_of rs) i (r, map.empty)
     opened_entries new h = ap entries_of h ∙ entries_insert rs i p ∙ ap (λ x. insert (entries_of rs) i (entry_of x)) is
 
-    pub open_step : (o : Outcome) (new : List EdgeFields) → Opens rs i p o new → (seen : Facts) × Step (world settings rs bs) (Open r) o seen (world settings new bs)
+    pub open_step : (o : Outcome) (new : List EdgeFields) → Opens rs i p o new → (seen : Facts) × IsOpening (world settings rs bs) r o seen (world settings new bs)
     open_step Opened new h =
         ([], (absent_at gap, refl, ap (λ es. state settings es bs) (opened_entries new h) ∙ ap (λ m. record { settings = settings; regions = m; bundles = bs }) (insert_at_gap nat_cmp_total (entries_of rs) sorted r i gap map.empty)))
     open_step Memory new h = ([], (absent_at gap, (refl, ap (λ xs. world settings xs bs) h)))
@@ -194,17 +221,27 @@ module _ (settings : SettingsFields) (rs : List EdgeFields) (bs : List Facts) (s
           ap (λ es. state settings es bs) after
           ∙ ap (λ m. record { settings = settings; regions = m; bundles = bs }) (insert_at_place nat_cmp_total (entries_of rs) sorted r i at q.region.facts (entry_of p))
 
--- replying leaves the region's number, its settings, and whether the edge is open
-pub answered_number : (p q : EdgeFields) (asked : AskedFields) (o : Outcome) → Answers p asked o q → (q.region.number ≡ p.region.number) × IsAsOpen p q
-answered_number p q asked (Reply status bytes) a = (a.3.number, (a.3.settings, a.5, a.6))
-answered_number p q asked Memory a = (ap (λ (x : EdgeFields). x.region.number) a, (ap (λ (x : EdgeFields). x.region.settings) a, ap (λ (x : EdgeFields). x.sealed) a, ap (λ (x : EdgeFields). x.sync) a))
-answered_number p q asked o a = absurd a
+-- carrying a request leaves the region's number, its settings, and whether the edge is open
+pub carried_number : {F : Type 0} (way : Way) (p q : EdgeFields) (asked : AskedFields) (o : Result Outcome F) → Carries way p asked o q → (q.region.number ≡ p.region.number) × IsAsOpen p q
+carried_number {F = F} way p q asked o a = by o a
+  where
+    same : q ≡ p → (q.region.number ≡ p.region.number) × IsAsOpen p q
+    same e = (ap (λ (x : EdgeFields). x.region.number) e, (ap (λ (x : EdgeFields). x.region.settings) e, ap (λ (x : EdgeFields). x.sealed) e, ap (λ (x : EdgeFields). x.sync) e))
+
+    made : (heard : Arrival) → Makes p asked heard q → (q.region.number ≡ p.region.number) × IsAsOpen p q
+    made heard m = (m.gains.number, (m.gains.settings, m.sealed, m.sync))
+
+    by : (o : Result Outcome F) → Carries way p asked o q → (q.region.number ≡ p.region.number) × IsAsOpen p q
+    by (Ok (Reply status bytes)) a = made a.0 a.3
+    by (Ok Memory) a = same a
+    by (Ok o) a = absurd a
+    by (Err fault) (inl e) = same e
+    by (Err fault) (inr (heard, hears, m)) = made heard m
 
 -- if regions don't exchange facts, an arrival is heard
 heard_answer : (sync : Bool) (r new : RegionFields) (asked : AskedFields) (seen : AnswerFields) → sync ≡ false
-    → ((came : Arrival) × IsArrival sync asked.bytes came × AnswersArrival r asked.now asked.words came (Ok seen) new)
-    → (heard : Heard) × IsHeard asked.bytes heard
-    × AnswersBy r (answer_by r asked.now asked.words heard) (made_by r asked.now asked.words heard) (Ok seen) new
+    → ((came : Arrival) × IsArrival sync asked.bytes came × Answers r asked.now asked.words came (Ok seen) new)
+    → (heard : Arrival) × IsHeard asked.bytes heard × AnswersBy r (answer_by r asked.now asked.words heard) (fact_by r asked.now asked.words heard) (Ok seen) new
 heard_answer sync r new asked seen off (came, is, told) =
     let there : IsArrival false asked.bytes came = subst (λ s. IsArrival s asked.bytes came) off is in
     (came, there, answers_alone r asked.now asked.words came (Ok seen) new (all_heard asked.bytes came there) told)
@@ -220,18 +257,17 @@ untouched p q bytes off sealed sync (inr (sent, arrives, taken, took)) = absurd 
     clash : false ≡ true → ⊥
     clash e = cc
 
--- the answer of an edge, by what contracts see of the request and of the answer
-pub answered_part : (p q : EdgeFields) (given asked : AskedFields) (told seen : AnswerFields) → given ≡ asked → told ≡ seen → p.sync ≡ false → q.sealed ≡ p.sealed → q.sync ≡ p.sync
-    → ((came : Arrival) × IsArrival p.sync given.bytes came × AnswersArrival p.region given.now given.words came (Ok seen) q.region)
-    → (heard : Heard) × IsHeard asked.bytes heard × IsReplied (answer_by p.region asked.now asked.words heard) told.status told.bytes
-    × Gains p.region (listed (made_by p.region asked.now asked.words heard)) q.region
-    × IfSome (made_by p.region asked.now asked.words heard) (IsNextFact p.region) × (q.sealed ≡ p.sealed) × (q.sync ≡ p.sync)
-answered_part p q given asked told seen same is off sealed sync came =
-    let a = heard_answer p.sync p.region q.region given seen off came in
-    subst (λ (x : AskedFields). (heard : Heard) × IsHeard x.bytes heard × IsReplied (answer_by p.region x.now x.words heard) told.status told.bytes
-    × Gains p.region (listed (made_by p.region x.now x.words heard)) q.region
-    × IfSome (made_by p.region x.now x.words heard) (IsNextFact p.region) × (q.sealed ≡ p.sealed) × (q.sync ≡ p.sync)) same
-    (a.0, a.1, (ap (λ (x : AnswerFields). x.status) (is ∙ a.2.0), ap (λ (x : AnswerFields). x.bytes) (is ∙ a.2.0)), a.2.1, a.2.2, sealed, sync)
+-- the answer of an edge, by what contracts see of it
+pub answered_part : (p q : EdgeFields) (asked : AskedFields) (told seen : AnswerFields) → told ≡ seen → p.sync ≡ false → q.sealed ≡ p.sealed → q.sync ≡ p.sync
+    → ((came : Arrival) × IsArrival p.sync asked.bytes came × Answers p.region asked.now asked.words came (Ok seen) q.region)
+    → (heard : Arrival) × IsHeard asked.bytes heard × IsReplied (answer_by p.region asked.now asked.words heard) told.status told.bytes × Makes p asked heard q
+answered_part p q asked told seen is off sealed sync came =
+    let a = heard_answer p.sync p.region q.region asked seen off came in (
+      a.0,
+      a.1,
+      (ap (λ (x : AnswerFields). x.status) (is ∙ a.2.0), ap (λ (x : AnswerFields). x.bytes) (is ∙ a.2.0)),
+      record { gains = a.2.1; next = a.2.2; sealed = sealed; sync = sync },
+    )
 
 pub taken_number : (p q : EdgeFields) (fs : Facts) (o : Outcome) → TakesFacts p.region fs o q.region → q.sealed ≡ p.sealed → q.sync ≡ p.sync → (q.region.number ≡ p.region.number) × IsAsOpen p q
 taken_number p q fs (Took n) t sealed sync = (t.0.number, (t.0.settings, sealed, sync))
@@ -240,19 +276,6 @@ taken_number p q fs o t sealed sync = absurd t
 
 -- ---- the end of a call
 
--- a step from the fields before to the fields after is a step of the world
-pub ended : (s : State) (e : Event) (o : Outcome) (new' : State) → ((seen : Facts) × Step s e o seen new') → (new : State) → new ≡ new' → (old : State) → s ≡ old → (seen : Facts) × Step old e o seen new
-ended s e o new' step new same old seen_as =
-    (step.0, subst (λ w. Step w e o step.0 new) seen_as (subst (λ w. Step s e o step.0 w) (sym same) step.1))
-
--- an answer from the fields before to the fields after is an answer of the world
-pub answered : (s : State) (r : ℕ) (asked : AskedFields) (o : Outcome) (new' : State) → ((seen : Facts) × IsAnswer s r asked o seen new') → (new : State) → new ≡ new' → (old : State) → s ≡ old → (seen : Facts) × IsAnswer old r asked o seen new
-answered s r asked o new' step new same old seen_as =
-    (step.0, subst (λ w. IsAnswer w r asked o step.0 new) seen_as (subst (λ w. IsAnswer s r asked o step.0 w) (sym same) step.1))
-
-pub answered_keeps : (s : State) (r : ℕ) (asked : AskedFields) (o : Outcome) (new' : State) → ((seen : Facts) × IsAnswer s r asked o seen new') → IsNextMade s r asked o → (new : State) → new ≡ new' → IsConsistent s → IsConsistent new
-answered_keeps s r asked o new' step next new same k = subst IsConsistent (sym same) (answer_keeps s r asked o step.0 new' step.1 next k)
-
--- a step keeps the invariant
-pub ended_keeps : (s : State) (e : Event) (o : Outcome) (new' : State) → ((seen : Facts) × Step s e o seen new') → IsNextOf s e o → (new : State) → new ≡ new' → IsConsistent s → IsConsistent new
-ended_keeps s e o new' step next new same k = subst IsConsistent (sym same) (step_keeps s e o step.0 new' step.1 next k)
+-- what holds of the fields before and after holds of the world
+pub ended : (P : State → State → Type 0) (s new' : State) → P s new' → (new : State) → new ≡ new' → (old : State) → s ≡ old → P old new
+ended P s new' h new same old seen_as = subst (λ w. P w new) seen_as (subst (P s) (sym same) h)

@@ -29,7 +29,8 @@ use Rattle.tk_world.specs.declared.event.Outcome.{Outcome}
 use Rattle.tk_world.specs.declared.event.Outcome.TheVariants.{Reply}
 use Rattle.tk_world.specs.Promises.{held_before, TellsOfSets, IntrospectAlike, IsInactive, RevokedInactive, FamiliesInactive}
 use Rattle.tk_world.specs.State.{State, facts_in, region_with}
-use Rattle.tk_world.specs.World.{IsReplied, Step, Run}
+use Rattle.tk_world.specs.Carrying.{in_place, IsReplied}
+use Rattle.tk_world.specs.World.{Step, Run}
 use Rattle.tk_world.proofs.RunLaws.{run_joins}
 
 -- ---- one event of a run
@@ -67,7 +68,7 @@ introspects r now words request h =
 pub tells_of_sets : (old : State) (es : List Event) (os : List Outcome) (ss : List Facts) (new : State) → Run old es os ss new → TellsOfSets old es os ss
 tells_of_sets old es os ss new run i r now request status reply q =
     let at : At old es os ss i (Request r now q.words q.bytes) (Reply status q.written) = run_at old es os ss new run i (Request r now q.words q.bytes) (Reply status q.written) q.asked q.answered in
-    let joins = run_joins old (take i es) (take i os) (take i ss) at.mid at.run r in
+    let joins = run_joins in_place old (take i es) (take i os) (take i ss) at.mid at.run r in
     let F = at.step.0 in
     let held : F ≡ held_before old es ss i r = ap (λ o. unwrap_or o map.empty) (sym at.step.1.is_open) ∙ joins.joins in
     let one : at.step.2 ≡ Asked request = has_one_meaning false q.bytes.items at.step.2 (Asked request) at.step.3 q.heard in

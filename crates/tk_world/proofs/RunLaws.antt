@@ -16,7 +16,8 @@ use Rattle.tk_world.specs.declared.event.Event.TheVariants.{Open, Request, Pull,
 use Rattle.tk_world.specs.declared.event.Outcome.{Outcome}
 use Rattle.tk_world.specs.declared.event.Outcome.TheVariants.{Opened, NumberTaken, NoRegion, NoBundle, Reply, Bundle, Took, Memory}
 use Rattle.tk_world.specs.State.{State, with_region, facts_in}
-use Rattle.tk_world.specs.World.{Grows, Step, Run, region_of, seen_by}
+use Rattle.tk_world.specs.Carrying.{Way}
+use Rattle.tk_world.specs.World.{Grows, StepBy, RunBy, region_of, seen_by}
 
 -- the facts that an event shows a region: no facts if the event is another region's
 abbrev pub shown : Event → Facts → ℕ → Facts
@@ -62,42 +63,42 @@ opened s new n seen none nothing is r =
     ] refl))
 
 -- a step joins the facts that it shows to its region's set, and leaves the other regions unchanged
-pub step_shows : (old : State) (e : Event) (o : Outcome) (seen : Facts) (new : State) → Step old e o seen new → (r : ℕ) → JoinsFacts (facts_in old r) (shown e seen r) (facts_in new r)
-step_shows old (Open n) Opened seen new step r = opened old new n seen step.0 step.1 step.2 r
-step_shows old (Open n) NumberTaken seen new step r = same_after old new (Open n) seen r step.1.0 step.1.1
-step_shows old (Open n) Memory seen new step r = same_after old new (Open n) seen r step.1.0 step.1.1
-step_shows old (Request n now words q) (Reply status bytes) seen new step r = grown old new n step.0 seen step.1 r
-step_shows old (Request n now words q) NoRegion seen new step r = same_after old new (Request n now words q) seen r step.1.0 step.1.1
-step_shows old (Request n now words q) Memory seen new step r = same_after old new (Request n now words q) seen r step.1.0 step.1.1
-step_shows old (Pull n v after) (Bundle index count last more) seen new step r =
+pub step_shows : (way : Way) (old : State) (e : Event) (o : Outcome) (seen : Facts) (new : State) → StepBy way old e o seen new → (r : ℕ) → JoinsFacts (facts_in old r) (shown e seen r) (facts_in new r)
+step_shows way old (Open n) Opened seen new step r = opened old new n seen step.0 step.1 step.2 r
+step_shows way old (Open n) NumberTaken seen new step r = same_after old new (Open n) seen r step.1.0 step.1.1
+step_shows way old (Open n) Memory seen new step r = same_after old new (Open n) seen r step.1.0 step.1.1
+step_shows way old (Request n now words q) (Reply status bytes) seen new step r = grown old new n step.0 seen step.1 r
+step_shows way old (Request n now words q) NoRegion seen new step r = same_after old new (Request n now words q) seen r step.1.0 step.1.1
+step_shows way old (Request n now words q) Memory seen new step r = same_after old new (Request n now words q) seen r step.1.0 step.1.1
+step_shows way old (Pull n v after) (Bundle index count last more) seen new step r =
     subst (λ w. JoinsFacts (facts_in old r) (shown (Pull n v after) seen r) (facts_in w r)) (sym step.3.4) (same_after old old (Pull n v after) seen r step.2 refl)
-step_shows old (Pull n v after) NoRegion seen new step r = same_after old new (Pull n v after) seen r step.1.0 step.1.1
-step_shows old (Pull n v after) Memory seen new step r = same_after old new (Pull n v after) seen r step.1.0 step.1.1
-step_shows old (Deliver i n) (Took k) seen new step r = grown old new n step.0 seen step.1 r
-step_shows old (Deliver i n) Memory seen new step r = grown old new n step.0 seen step.1 r
-step_shows old (Deliver i n) NoRegion seen new step r = same_after old new (Deliver i n) seen r step.1.0 step.1.1
-step_shows old (Deliver i n) NoBundle seen new step r = same_after old new (Deliver i n) seen r step.2.0 step.2.1
-step_shows old e o seen new step r = absurd step
+step_shows way old (Pull n v after) NoRegion seen new step r = same_after old new (Pull n v after) seen r step.1.0 step.1.1
+step_shows way old (Pull n v after) Memory seen new step r = same_after old new (Pull n v after) seen r step.1.0 step.1.1
+step_shows way old (Deliver i n) (Took k) seen new step r = grown old new n step.0 seen step.1 r
+step_shows way old (Deliver i n) Memory seen new step r = grown old new n step.0 seen step.1 r
+step_shows way old (Deliver i n) NoRegion seen new step r = same_after old new (Deliver i n) seen r step.1.0 step.1.1
+step_shows way old (Deliver i n) NoBundle seen new step r = same_after old new (Deliver i n) seen r step.2.0 step.2.1
+step_shows way old e o seen new step r = absurd step
 
 -- after a run each region's set is its old one joined with what the region has seen
-pub run_joins : (old : State) (es : List Event) (os : List Outcome) (ss : List Facts) (new : State) → Run old es os ss new → (r : ℕ) → JoinsFacts (facts_in old r) (seen_by r es ss) (facts_in new r)
-run_joins old [] [] [] new run r = subst (λ w. JoinsFacts (facts_in old r) [] (facts_in w r)) (sym run) (joins_nothing (facts_in old r))
-run_joins old (e ∷ es) (o ∷ os) (s ∷ ss) new run r = joins_more (step_shows old e o s run.0 run.1 r) (run_joins run.0 es os ss new run.2 r)
-run_joins old es os ss new run r = absurd run
+pub run_joins : (way : Way) (old : State) (es : List Event) (os : List Outcome) (ss : List Facts) (new : State) → RunBy way old es os ss new → (r : ℕ) → JoinsFacts (facts_in old r) (seen_by r es ss) (facts_in new r)
+run_joins way old [] [] [] new run r = subst (λ w. JoinsFacts (facts_in old r) [] (facts_in w r)) (sym run) (joins_nothing (facts_in old r))
+run_joins way old (e ∷ es) (o ∷ os) (s ∷ ss) new run r = joins_more (step_shows way old e o s run.0 run.1 r) (run_joins way run.0 es os ss new run.2 r)
+run_joins way old es os ss new run r = absurd run
 
 -- regions that began alike, and have seen the same facts, are alike
-pub run_alike : (old : State) (es : List Event) (os : List Outcome) (ss : List Facts) (new : State) → Run old es os ss new → (q r : ℕ) → facts_in old q ≡ facts_in old r → SameFacts (seen_by q es ss) (seen_by r es ss) → facts_in new q ≡ facts_in new r
-run_alike old es os ss new run q r began same =
-    joins_same (subst (λ F. JoinsFacts F (seen_by q es ss) (facts_in new q)) began (run_joins old es os ss new run q)) (run_joins old es os ss new run r) same
+pub run_alike : (way : Way) (old : State) (es : List Event) (os : List Outcome) (ss : List Facts) (new : State) → RunBy way old es os ss new → (q r : ℕ) → facts_in old q ≡ facts_in old r → SameFacts (seen_by q es ss) (seen_by r es ss) → facts_in new q ≡ facts_in new r
+run_alike way old es os ss new run q r began same =
+    joins_same (subst (λ F. JoinsFacts F (seen_by q es ss) (facts_in new q)) began (run_joins way old es os ss new run q)) (run_joins way old es os ss new run r) same
 
 -- a run goes on by one step
-pub run_more : (old : State) (es : List Event) (os : List Outcome) (ss : List Facts) (mid : State) (e : Event) (o : Outcome) (s : Facts) (new : State) → Run old es os ss mid → Step mid e o s new → Run old (es ++ e ∷ []) (os ++ o ∷ []) (ss ++ s ∷ []) new
-run_more old [] [] [] mid e o s new run step = (new, subst (λ w. Step w e o s new) run step, refl)
-run_more old (e' ∷ es) (o' ∷ os) (s' ∷ ss) mid e o s new run step = (run.0, run.1, run_more run.0 es os ss mid e o s new run.2 step)
-run_more old es os ss mid e o s new run step = absurd run
+pub run_more : (way : Way) (old : State) (es : List Event) (os : List Outcome) (ss : List Facts) (mid : State) (e : Event) (o : Outcome) (s : Facts) (new : State) → RunBy way old es os ss mid → StepBy way mid e o s new → RunBy way old (es ++ e ∷ []) (os ++ o ∷ []) (ss ++ s ∷ []) new
+run_more way old [] [] [] mid e o s new run step = (new, subst (λ w. StepBy way w e o s new) run step, refl)
+run_more way old (e' ∷ es) (o' ∷ os) (s' ∷ ss) mid e o s new run step = (run.0, run.1, run_more way run.0 es os ss mid e o s new run.2 step)
+run_more way old es os ss mid e o s new run step = absurd run
 
 -- a run has one outcome for each event
-pub run_counts : (old : State) (es : List Event) (os : List Outcome) (ss : List Facts) (new : State) → Run old es os ss new → length os ≡ length es
-run_counts old [] [] [] new run = refl
-run_counts old (e ∷ es) (o ∷ os) (s ∷ ss) new run = ap suc (run_counts run.0 es os ss new run.2)
-run_counts old es os ss new run = absurd run
+pub run_counts : (way : Way) (old : State) (es : List Event) (os : List Outcome) (ss : List Facts) (new : State) → RunBy way old es os ss new → length os ≡ length es
+run_counts way old [] [] [] new run = refl
+run_counts way old (e ∷ es) (o ∷ os) (s ∷ ss) new run = ap suc (run_counts way run.0 es os ss new run.2)
+run_counts way old es os ss new run = absurd run

@@ -1,4 +1,4 @@
--- What contracts see of what reaches a region: AskedFields.
+-- What reaches a region (own): AskedFields.
 use Rattle.std.specs.Prelude.{ℕ, List}
 
 -- the moment, the six random words, and the bytes of the stream

@@ -1,25 +1,29 @@
 -- The definitions of this crate, in reading order:
---   AskedFields   AskedFields, what contracts see of what reaches a region
+--   AskedFields   AskedFields, what reaches a region: a moment, random words, and bytes
 --   Bundles       facts_in_bytes, the facts of a bundle; IsReadable, bytes that spell a bundle
 --   Regions       entries_of, the numbers and facts of regions
 --   State         State, a world's regions and bundles; Consists, the set of all its facts
---   World         Step, one event; Run, a list of them; seen_by, what a region has seen
+--   Carrying      Way, what a request may be heard as and what its reply shows; Carries, what
+--                 carrying a request does to an edge
+--   World         Step, one event; Run, a list of them; StepBy, RunBy, by any way to carry requests;
+--                 seen_by, what a region has seen
+--   Broken        BreaksOff, what a run leaves that ended with an error
 --   Promises      TellsOfSets, IntrospectAlike, RevokedInactive, FamiliesInactive: the promises
 --                 about introspection
---   Parts         Opens, Answers, Pages, TakesFacts: how the parts of a step may end
+--   Parts         Opens, Pages, TakesFacts: how the parts of a step may end
 --   Fields        region_in, moment_in, IsCursorText: the numbers and texts of a line's fields
 --   RequestLine   asked_of, the requests of lines, whole and short
 --   Line          IsEventLine, the event of a line; HasWords, the random words of a request
---   Put           Prints, what writing leaves of an output
 --   Printed       lines_text, the lines of outcomes
 pub mod AskedFields
+pub mod Broken
 pub mod Bundles
+pub mod Carrying
 pub mod Fields
 pub mod Line
 pub mod Parts
 pub mod Printed
 pub mod Promises
-pub mod Put
 pub mod Regions
 pub mod RequestLine
 pub mod State

@@ -33,7 +33,8 @@ use Rattle.tk_world.specs.State.{State, facts_in}
 use Rattle.tk_edge.specs.Answers.{rendered}
 use Rattle.tk_edge.specs.Heard.{IsHeard}
 use Rattle.tk_edge.specs.declared.hear.Arrival.TheVariants.{Request as Asked}
-use Rattle.tk_world.specs.World.{seen_by, IsReplied}
+use Rattle.tk_world.specs.Carrying.{IsReplied}
+use Rattle.tk_world.specs.World.{seen_by}
 
 -- ---- regions with equal facts introspect alike
 

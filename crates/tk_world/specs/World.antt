@@ -1,13 +1,14 @@
 -- What an event may do to a world, and what a run of events is (own).
 --   IsUnchanged   no fact was shown and nothing changed
 --   Grows         a region's set is joined with the facts that it was shown
---   IsReplied     a reply has the status and the bytes of an answer
 --   IsOpening     how opening a region may end
 --   IsAnswer      how a request may end
 --   IsPull        how making a bundle may end
 --   IsDelivery    how a delivery may end
---   Step          one event: its outcome, the facts that it showed its region, and the new state
---   Run           one step after another
+--   StepBy        one event, if requests go this way: its outcome, the facts that it showed its
+--                 region, and the new state
+--   RunBy         one step after another, if requests go this way
+--   Step, Run     the same without a device between
 --   seen_by       what a region has seen: the facts that it made and took in
 use Rattle.std.specs.Prelude.{
   ◌≡◌,
@@ -34,12 +35,9 @@ use Rattle.tk_store.specs.FactSet.{FactSet}
 pub use Rattle.tk_store.specs.FactSet.{Facts}
 use Rattle.tk_store.specs.Joining.{JoinsFacts}
 use Rattle.tk_bundle.specs.Page.{page_of}
-use Rattle.tk_message.specs.declared.status.Status.{Status}
 use Rattle.tk_region.specs.Step.{listed}
-use Rattle.tk_edge.specs.Answers.{answer_by, fact_by as made_by}
-use Rattle.tk_edge.specs.Heard.{IsHeard}
-use Rattle.tk_edge.specs.Told.{AnswerFields}
-use Rattle.tk_edge.specs.declared.hear.Arrival.{Arrival as Heard}
+use Rattle.tk_edge.specs.Answers.{answer_by, fact_by}
+use Rattle.tk_edge.specs.declared.hear.Arrival.{Arrival}
 use Rattle.tk_world.specs.declared.event.Event.{Event}
 use Rattle.tk_world.specs.declared.event.Event.TheVariants.{Open, Request, Pull, Deliver}
 use Rattle.tk_world.specs.declared.event.Outcome.{Outcome}
@@ -54,6 +52,7 @@ use Rattle.tk_world.specs.declared.event.Outcome.TheVariants.{
   Memory,
 }
 use Rattle.tk_world.specs.AskedFields.{AskedFields}
+use Rattle.tk_world.specs.Carrying.{Way, in_place}
 use Rattle.tk_world.specs.State.{State, with_region, with_bundle, region_with}
 
 -- no fact was shown to a region, and nothing changed
@@ -70,10 +69,6 @@ pub record Grows (old : State) (r : ℕ) (F : FactSet) (seen : Facts) (new : Sta
 
 -- ---- what each event may do, and with which outcomes
 
--- a reply has the status and the bytes of an answer
-abbrev pub IsReplied : AnswerFields → Status → List ℕ → Type 0
-IsReplied answer status bytes = (status ≡ answer.status) × (bytes ≡ answer.bytes)
-
 -- opening a region may end with a region without facts, a number that is taken, or no memory
 abbrev pub IsOpening : State → ℕ → Outcome → Facts → State → Type 0
 IsOpening old n Opened seen new =
@@ -82,16 +77,18 @@ IsOpening old n NumberTaken seen new = IsSome (map.get old.regions n) × IsUncha
 IsOpening old n Memory seen new = (map.get old.regions n ≡ None) × IsUnchanged old seen new
 IsOpening old n outcome seen new = ⊥
 
--- the reply is the region's answer to the meaning of the bytes, and the fact made for it, if any,
--- joins the set
-abbrev pub IsAnswer : State → ℕ → AskedFields → Outcome → Facts → State → Type 0
-IsAnswer old r asked (Reply status bytes) seen new =
-    (F : FactSet) × Grows old r F seen new × (heard : Heard) × IsHeard asked.bytes heard
-    × IsReplied (answer_by (region_with old r F) asked.now asked.words heard) status bytes.items
-    × (seen ≡ listed (made_by (region_with old r F) asked.now asked.words heard))
-IsAnswer old r asked NoRegion seen new = (map.get old.regions r ≡ None) × IsUnchanged old seen new
-IsAnswer old r asked Memory seen new = IsSome (map.get old.regions r) × IsUnchanged old seen new
-IsAnswer old r asked outcome seen new = ⊥
+-- the reply shows the region's answer to what the bytes are heard as, and the fact made for it, if
+-- any, joins the set
+abbrev pub IsAnswer : Way → State → ℕ → AskedFields → Outcome → Facts → State → Type 0
+IsAnswer way old r asked (Reply status bytes) seen new =
+    (F : FactSet) × Grows old r F seen new × (heard : Arrival) × way.Hears asked.bytes heard
+    × way.Shows (answer_by (region_with old r F) asked.now asked.words heard) status bytes.items
+    × (seen ≡ listed (fact_by (region_with old r F) asked.now asked.words heard))
+IsAnswer way old r asked NoRegion seen new =
+    (map.get old.regions r ≡ None) × IsUnchanged old seen new
+IsAnswer way old r asked Memory seen new =
+    IsSome (map.get old.regions r) × IsUnchanged old seen new
+IsAnswer way old r asked outcome seen new = ⊥
 
 -- the page above the cursor of what the vector doesn't cover joins the list of bundles
 abbrev pub IsPull : State → ℕ → Vector → Option Dot → Outcome → Facts → State → Type 0
@@ -120,19 +117,29 @@ IsDelivery old i r outcome seen new = ⊥
 
 -- ---- steps and runs
 
--- From old, the event may have this outcome, show its region these facts, and lead to new.
-abbrev pub Step : State → Event → Outcome → Facts → State → Type 0
-Step old (Open n) outcome seen new = IsOpening old n outcome seen new
-Step old (Request r now words bytes) outcome seen new =
-    IsAnswer old r (record { now = now; words = words; bytes = bytes.items }) outcome seen new
-Step old (Pull r v after) outcome seen new = IsPull old r v after outcome seen new
-Step old (Deliver i r) outcome seen new = IsDelivery old i r outcome seen new
+-- From old, the event may have this outcome, show its region these facts, and lead to new, if
+-- requests go this way.
+abbrev pub StepBy : Way → State → Event → Outcome → Facts → State → Type 0
+StepBy way old (Open n) outcome seen new = IsOpening old n outcome seen new
+StepBy way old (Request r now words bytes) outcome seen new =
+    IsAnswer way old r (record { now = now; words = words; bytes = bytes.items }) outcome seen new
+StepBy way old (Pull r v after) outcome seen new = IsPull old r v after outcome seen new
+StepBy way old (Deliver i r) outcome seen new = IsDelivery old i r outcome seen new
 
--- one step after another, with what each showed its region
+-- one step after another, with what each showed its region, if requests go this way
+abbrev pub RunBy : Way → State → List Event → List Outcome → List Facts → State → Type 0
+RunBy way old [] [] [] new = new ≡ old
+RunBy way old (e ∷ es) (o ∷ os) (s ∷ ss) new =
+    (mid : State) × StepBy way old e o s mid × RunBy way mid es os ss new
+RunBy way old es os ss new = ⊥
+
+-- a step without a device between: the bytes of a request are heard, and its reply is the answer
+abbrev pub Step : State → Event → Outcome → Facts → State → Type 0
+Step old e o seen new = StepBy in_place old e o seen new
+
+-- one step after another, without a device between
 abbrev pub Run : State → List Event → List Outcome → List Facts → State → Type 0
-Run old [] [] [] new = new ≡ old
-Run old (e ∷ es) (o ∷ os) (s ∷ ss) new = (mid : State) × Step old e o s mid × Run mid es os ss new
-Run old es os ss new = ⊥
+Run old es os ss new = RunBy in_place old es os ss new
 
 -- the number of the region that an event is for
 abbrev pub region_of : Event → ℕ

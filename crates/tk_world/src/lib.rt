@@ -10,32 +10,30 @@
 //!
 //! In reading order:
 //!
-//! - `Event`, `Outcome`, `World`: what happens to a world. Inside, `region` handles what reaches
-//!   one region.
+//! - `Event`, `Outcome`, `World`: what happens to a world. `Carrier`: how requests reach its
+//!   regions. Inside, `region` hands bundles to one region.
 //! - `line`: the lines of events. `request_line` makes their requests, `fields` reads their numbers
 //!   and texts.
-//! - `print`: the lines of outcomes. `put` writes them, `reply_parts` finds what they show of a
-//!   reply.
+//! - `print`: the lines of outcomes. `reply_parts` finds what they show of a reply.
 //!
-//! tk_edge replies to the bytes of a request, and tk_region takes a bundle in. The definitions are
-//! in `specs/`: `State` and `World` define steps and runs. The crate reads no clock and draws no
-//! random words: each event brings them.
+//! tk_put writes the lines, tk_edge replies to the bytes of a request, and tk_region takes a bundle
+//! in. The definitions are in `specs/`: `State` and `World` define steps and runs. The crate reads
+//! no clock and draws no random words: each event brings them.
 #![tactic(auto)]
 
-mod asked;
 mod bundle;
+mod carrier;
 mod event;
 mod fields;
 mod line;
 mod print;
-mod put;
 mod region;
 mod reply_parts;
 mod request_line;
 mod world;
 
+pub use carrier::{Carrier, RunError};
 pub use event::{Event, Outcome};
 pub use print::print_outcomes;
-pub use put::put_all;
 pub use tk_region::Settings;
 pub use world::World;

@@ -7,15 +7,15 @@ ghost use Rattle.std.specs.Option.{option_copied, option_map};
 ghost use Rattle.tk_message.specs.Status.{status_number};
 ghost use Rattle.tk_world.specs.World.{region_of as event_region};
 ghost use Rattle.tk_world.specs.Printed as spec;
-ghost use Rattle.tk_world.specs.Put.{Prints};
+ghost use Rattle.tk_put.specs.Put.{Prints};
 
 use crate::event::{Event, Outcome};
-use crate::put::put_all;
 use crate::reply_parts::{body_in, location_in};
 use itoa::Buffer;
 use std::io::{self, Write};
 use tk_handle::{Dot, RegionNumber};
 use tk_message::Status;
+use tk_put::put_all;
 
 /// Writes one line for each event, in order, as far as there are outcomes.
 ///

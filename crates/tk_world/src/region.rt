@@ -1,33 +1,17 @@
-//! One region in a world: `answer` and `deliver` are what a request and a delivery do to its edge.
+//! One region in a world: `deliver` hands it a bundle.
 
 ghost use Rattle.std.specs.Prelude.{◌≡◌, false};
 ghost use Rattle.tk_message.specs.Place.{next_in};
 ghost use Rattle.tk_region.specs.RegionFields.{place_in};
 ghost use Rattle.tk_region.specs.Taking.{AgreesWith, has_unmade};
 ghost use Rattle.tk_store.specs.Store.{facts_of};
-ghost use Rattle.tk_world.specs.Parts.{Answers, TakesFacts};
+ghost use Rattle.tk_world.specs.Parts.{TakesFacts};
 
-use crate::asked::Asked;
 use crate::bundle::MadeBundle;
 use crate::event::Outcome;
 use std::alloc::Global;
 use tk_edge::Edge;
 use tk_region::TakeError;
-
-// Replies to the bytes of a request, and adds the fact made for the reply.
-pub(crate) fn answer(alloc: Global, edge: &mut Edge, asked: &Asked<'_>) -> Outcome
-    requires sealed { edge.old.sealed ≡ false }
-    requires sync { edge.old.sync ≡ false }
-    ensures { Answers edge.old asked.entry.now result edge.new }
-{
-    match edge.answer(alloc, asked.now, asked.words, asked.bytes) {
-        Ok(answer) => Outcome::Reply {
-            status: answer.status,
-            bytes: answer.bytes,
-        },
-        Err(_) => Outcome::Memory,
-    }
-}
 
 // Takes a bundle in. The region has no reason to refuse a bundle of its world.
 pub(crate) fn deliver(alloc: Global, edge: &mut Edge, bundle: &MadeBundle) -> Outcome
@@ -40,8 +24,8 @@ pub(crate) fn deliver(alloc: Global, edge: &mut Edge, bundle: &MadeBundle) -> Ou
     match edge.region_mut().take_in(alloc, bundle.bytes()) {
         Ok(new) => Outcome::Took(new),
         Err(TakeError::Memory) => Outcome::Memory,
-        Err(TakeError::Malformed) => unreachable!(),
-        Err(TakeError::OwnNumber) => unreachable!(),
-        Err(TakeError::Conflict) => unreachable!(),
+        Err(TakeError::Malformed) => unreachable!("a bundle that was made can be read"),
+        Err(TakeError::OwnNumber) => unreachable!("a region has made each fact of its number"),
+        Err(TakeError::Conflict) => unreachable!("all facts of a world are one set"),
     }
 }

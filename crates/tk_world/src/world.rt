@@ -54,6 +54,7 @@ ghost use Rattle.std.specs.Prelude.{
   ℕ,
   List,
   IfOk,
+  IfErr,
   OnOk,
   OnErr,
   MatchResult,
@@ -76,7 +77,8 @@ ghost use Rattle.tk_store.specs.Store.{known_in};
 ghost use Rattle.tk_bundle.specs.Bundle.{bundle, bundle_bytes};
 ghost use Rattle.tk_bundle.specs.Page as pages;
 ghost use Rattle.tk_world.specs.State.{facts_in, new_state, region_with, IsConsistent};
-ghost use Rattle.tk_world.specs.World.{Step, Run, IsAnswer, seen_by};
+ghost use Rattle.tk_world.specs.Broken.{BreaksOff, Requests, Steps};
+ghost use Rattle.tk_world.specs.World.{IsDelivery, IsOpening, IsPull, Run, RunBy, seen_by};
 ghost use Rattle.tk_world.specs.Parts.{Opens, Pages};
 ghost use Rattle.tk_world.specs.Promises.{
   TellsOfSets,
@@ -86,12 +88,12 @@ ghost use Rattle.tk_world.specs.Promises.{
 };
 ghost use Rattle.tk_world.specs.Regions.{entries_of};
 
-use crate::asked::Asked;
+use crate::carrier::{Carrier, InPlace, RunError};
 use crate::event::{Event, Outcome};
-use crate::region::{answer, deliver};
+use crate::region::deliver;
 use std::alloc::AllocError;
 use tk_bundle::Page;
-use tk_handle::{Dot, RegionNumber};
+use tk_handle::{Dot, Moment, RegionNumber};
 use tk_vector::VersionVector;
 
 impl World {
@@ -119,6 +121,7 @@ impl World {
         ensures revoked { RevokedInactive self.now }
         ensures families { FamiliesInactive self.now }
     {
+        // A read of a field gives the proof the world's invariant.
         let _regions = &self.regions;
     }
 
@@ -167,10 +170,50 @@ impl World {
 
         ensures err { OnErr result (self.new ≡ self.old) }
     {
-        let mut outcomes = Vec::with_capacity(self.alloc, events.len())?;
+        match self.run_by(&InPlace { alloc: self.alloc }, events) {
+            Ok(outcomes) => Ok(outcomes),
+            Err(RunError::Memory) => Err(AllocError),
+            Err(RunError::Lost(nothing)) => match nothing {},
+        }
+    }
+
+    /// Runs the events in order with each request by this carrier, and returns one outcome for each
+    /// event.
+    ///
+    /// # Errors
+    ///
+    /// `Memory` if there is no memory for the outcomes: no event has run then. `Lost` if the
+    /// carrier lost a request: the events before it have run.
+    pub fn run_by<C: Carrier>(
+        &mut self,
+        carrier: &C,
+        events: &[Event],
+    ) -> Result<Vec<Outcome>, RunError<C::Fault>>
+        // The run has one outcome for each event.
+        ensures count { IfOk result (λ outcomes. length outcomes.items ≡ length events.now) }
+
+        // The old world, the events, the outcomes and the new world are a run by this carrier.
+        // Each region's set of facts is its old set joined with what it has seen, which agrees with
+        // it.
+        // Two regions that began alike and have seen the same facts are alike.
+        ensures run { IfOk result (λ outcomes. (shown : List Facts)
+            × RunBy C.way self.old events.now outcomes.items shown self.new
+            × ((r : ℕ)
+            → JoinsFacts (facts_in self.old r) (seen_by r events.now shown) (facts_in self.new r))
+            × ((q r : ℕ) → facts_in self.old q ≡ facts_in self.old r
+            → SameFacts (seen_by q events.now shown) (seen_by r events.now shown)
+            → facts_in self.new q ≡ facts_in self.new r)) }
+
+        ensures err { IfErr result (BreaksOff C.way self.old events.now self.new) }
+    {
+        let Ok(mut outcomes) = Vec::with_capacity(self.alloc, events.len()) else {
+            return Err(RunError::Memory);
+        };
         for event in events {
-            let outcome = self.step(event);
-            push_within(&mut outcomes, outcome);
+            match self.step(carrier, event) {
+                Ok(outcome) => push_within(&mut outcomes, outcome),
+                Err(fault) => return Err(RunError::Lost(fault)),
+            }
         }
         Ok(outcomes)
     }
@@ -187,33 +230,29 @@ impl World {
     }
 
     // Runs one event.
-    fn step(&mut self, event: &Event) -> Outcome
-        ensures { (seen : Facts) × Step self.old event.now result seen self.new }
+    fn step<C: Carrier>(&mut self, carrier: &C, event: &Event) -> Result<Outcome, C::Fault>
+        ensures { Steps C.way self.old event.now result self.new }
     {
         match event {
-            Event::Open(number) => self.open(*number),
+            Event::Open(number) => Ok(self.open(*number)),
             Event::Request {
                 region,
                 now,
                 words,
                 bytes,
-            } => {
-                let now = *now;
-                let asked = Asked { now, words, bytes };
-                self.request(*region, &asked)
-            }
+            } => self.request(carrier, *region, *now, words, bytes),
             Event::Pull {
                 region,
                 vector,
                 after,
-            } => self.pull(*region, vector, *after),
-            Event::Deliver { bundle, region } => self.deliver(*bundle, *region),
+            } => Ok(self.pull(*region, vector, *after)),
+            Event::Deliver { bundle, region } => Ok(self.deliver(*bundle, *region)),
         }
     }
 
     // Opens a region.
     fn open(&mut self, number: RegionNumber) -> Outcome
-        ensures { (seen : Facts) × Step self.old (Event.Open number) result seen self.new }
+        ensures { (seen : Facts) × IsOpening self.old number result seen self.new }
     {
         match find_region(&self.regions, number) {
             Ok(_) => Outcome::NumberTaken,
@@ -225,19 +264,26 @@ impl World {
     }
 
     // Hands the bytes of a request to a region.
-    fn request(&mut self, region: RegionNumber, asked: &Asked<'_>) -> Outcome
-        ensures { (seen : Facts) × IsAnswer self.old region asked.entry.now result seen self.new }
+    fn request<C: Carrier>(
+        &mut self,
+        carrier: &C,
+        region: RegionNumber,
+        now: Moment,
+        words: &[u64; 6],
+        bytes: &[u8],
+    ) -> Result<Outcome, C::Fault>
+        ensures { Requests C.way self.old region
+            (record { now = now; words = words.now; bytes = bytes.now }) result self.new }
     {
         match find_region(&self.regions, region) {
-            Ok(at) => answer(self.alloc, &mut self.regions[at], asked),
-            Err(_) => Outcome::NoRegion,
+            Ok(at) => carrier.carry(&mut self.regions[at], now, words, bytes),
+            Err(_) => Ok(Outcome::NoRegion),
         }
     }
 
     // Makes a bundle of a region's page.
     fn pull(&mut self, region: RegionNumber, vector: &VersionVector, after: Option<Dot>) -> Outcome
-        ensures { (seen : Facts)
-            × Step self.old (Event.Pull region vector.now after) result seen self.new }
+        ensures { (seen : Facts) × IsPull self.old region vector.now after result seen self.new }
     {
         match find_region(&self.regions, region) {
             Ok(at) => pull_page(
@@ -253,8 +299,7 @@ impl World {
 
     // Hands a bundle to a region.
     fn deliver(&mut self, bundle: u64, region: RegionNumber) -> Outcome
-        ensures { (seen : Facts)
-            × Step self.old (Event.Deliver bundle region) result seen self.new }
+        ensures { (seen : Facts) × IsDelivery self.old bundle region result seen self.new }
     {
         match find_region(&self.regions, region) {
             Ok(at) => match bundle_at(&self.bundles, bundle) {
@@ -275,7 +320,7 @@ fn push_within(outcomes: &mut Vec<Outcome>, outcome: Outcome)
 {
     match outcomes.push(outcome) {
         Ok(()) => {}
-        Err(_) => unreachable!(),
+        Err(_) => unreachable!("there is room for one more outcome"),
     }
 }
 

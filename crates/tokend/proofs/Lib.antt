@@ -2,12 +2,11 @@ pub mod Commands
 pub mod Connections
 pub mod EventWords
 pub mod Loads
-pub mod Loopbacks
 pub mod OneSet
 pub mod Runs
 pub mod Services
 pub mod ScriptEvents
 pub mod Shows
-pub mod SiteLaws
+pub mod SocketLaws
 pub mod Tasks
 pub mod TypedNumber

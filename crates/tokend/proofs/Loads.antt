@@ -8,11 +8,9 @@
 --   load_fault     the fault that ends loading
 use Rattle.std.proofs.Common.{◌≡◌, ◌<◌, ◌≤◌, ℕ, true, List, [], ◌∷◌, ◌++◌, length, take, drop, Option, Some, None, Result, Ok, Err, inl, inr, refl, sym, ap, subst, arith, ◌∙◌}
 use Rattle.std.specs.Prelude.{◌⊎◌, zero, suc, IfSome}
-use Rattle.std.specs.List.{flat_map}
 use Rattle.std.proofs.lemmas.List.{append-nil, append_assoc, take-append-drop}
 use Rattle.std.proofs.lemmas.Grind.{flat_map-append}
 use Rattle.tk_store.specs.FactSet.{Facts}
-use Rattle.tk_store.specs.Joining.{JoinsFacts}
 use Rattle.tk_store.proofs.JoiningLaws.{joins_nothing, joins_more}
 use Rattle.tk_store.specs.Store.{facts_of}
 use Rattle.tk_format.specs.Format.{whole}

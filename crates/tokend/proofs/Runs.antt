@@ -1,139 +1,140 @@
 -- Runs of the program, from what the parts of a run do. Key results:
 --   script_printed    the lines of a script were written
 --   script_begun      a beginning of the lines was written
---   script_is_input   the script is the input's bytes
---   script_fault      a script's fault is the program's
+--   read_fault        a fault of reading a script, by the input's bytes
+--   faults_of_task    a fault of the task is the program's
+--   left_by_task      what a task's fault leaves is what the program's leaves
 --   script_done       the program has done what the script's run did
 --   service_done      the program has done what the service did
 --   tells_behind      a fault is written behind what was kept
-use Rattle.std.proofs.Common.{◌≡◌, ℕ, List, Option, Some, None, Result, Ok, Err, subst, sym, ap, refl, inl, inr, arith, ◌<◌, ◌∙◌, ◌++◌}
+use Rattle.std.proofs.Common.{◌≡◌, ◌⊎◌, ℕ, List, length, Option, Some, None, Result, Ok, Err, subst, sym, ap, refl, inl, inr, arith, ◌<◌, ◌≤◌, ◌∙◌, ◌++◌}
 use Rattle.std.specs.Prelude.{IfSome, IfErr, OnOk, OnErr, MatchResult}
 use Rattle.std.specs.Io.KnownBytes.{Appends, Keeps}
 use Rattle.clap.specs.Words.{Text}
-use Rattle.tk_region.specs.SettingsFields.{SettingsFields}
-use Rattle.tk_world.specs.Put.{AppendsFront}
+use Rattle.tk_world.specs.Printed.{lines_text}
+use Rattle.tk_put.specs.Put.{AppendsFront}
+use Rattle.tk_world.specs.declared.event.Event.{Event}
+use Rattle.tk_world.specs.declared.event.Outcome.{Outcome}
 use Rattle.tk_edge.specs.Told.{Change}
 use Rattle.tokend.specs.ServiceRun.{IsServiceRun}
-use Rattle.tokend.specs.Serving.{IsServiceFault, LeavesService}
-use Rattle.tokend.specs.Task.{script_task, Asks, AsksToServe}
-use Rattle.tokend.specs.ScriptRun.{IsScriptRun, PrintsScript, IsScriptFault, LeavesScript}
-use Rattle.tokend.specs.ProgramRun.{IsDone, IsFaultFor, IsQuiet, Leaves, Tells}
-use Rattle.tokend.specs.Status.{fault_text, status_of}
-use Rattle.tokend.specs.CommandLine.{settings_of}
-use Rattle.tokend.specs.declared.options.Numbers.{Numbers}
+use Rattle.tokend.specs.LoopbackRun.{by_loopback}
+use Rattle.tokend.specs.Task.{Asks, AsksToServe, AsksToShow}
+use Rattle.tokend.specs.Script.{greatest_length, IsFaultOf, IsFirstBad}
+use Rattle.tokend.specs.ScriptRun.{in_world, IsReadFault, IsScript, IsScriptFault, IsScriptRun, LeavesScript, Mode, PrintsScript}
+use Rattle.tokend.specs.ProgramRun.{BeginsLines, BeginsToServe, FailsToRun, FailsToServe, IsDone, IsFaultFor, IsQuiet, Leaves, PrintsLines, Tells}
+use Rattle.tokend.specs.Status.{fault_text, status_of, LeavesBegun}
 use Rattle.tokend.specs.declared.options.Service.{Service}
-use Rattle.tokend.specs.declared.options.Task.TheVariants.{Script, Serve}
+use Rattle.tokend.specs.declared.options.Task.TheVariants.{Serve}
 use Rattle.tokend.specs.declared.fault.Fault.{Fault}
-use Rattle.tokend.specs.declared.fault.Fault.TheVariants.{BadLine, BadLogFile, BadSeedFile, CannotListen, CannotOpen, CannotRead, CannotReadFile, Memory, Output, ScriptTooLong, Words}
+use Rattle.tokend.specs.declared.fault.Fault.TheVariants.{BadLine, BadLogFile, BadSeedFile, CannotListen, CannotOpen, CannotRead, CannotReadFile, Memory, Output, ScriptTooLong, SocketFailed, Words}
+
+-- the run of a script that was read, if the input's bytes are known
+script_run : (mode : Mode) (input : Option (List ℕ)) (events : List Event) (outcomes : List Outcome) → IfSome input (λ script. IsScript mode.longest script events) → mode.Runs events outcomes
+    → IfSome input (λ script. IsScriptRun mode script (lines_text events outcomes))
+script_run mode None events outcomes given run = tt
+script_run mode (Some script) events outcomes given run = record { events = events; outcomes = outcomes; given = given; run = run; printed = refl }
 
 -- the lines of a script that was read were written
-pub script_printed : {T : Type 0} (settings : SettingsFields) (script lines : List ℕ) (old new : Option (List ℕ)) (r : Result T Fault)
-    → IsScriptRun settings script lines → OnOk r (Appends old new lines) → OnOk r (PrintsScript settings (Some script) old new)
-script_printed settings script lines old new (Ok x) run appended = (lines, run, appended)
-script_printed settings script lines old new (Err fault) run appended = tt
+pub script_printed : {T : Type 0} (mode : Mode) (input : Option (List ℕ)) (events : List Event) (outcomes : List Outcome) (old new : Option (List ℕ)) (r : Result T Fault)
+    → IfSome input (λ script. IsScript mode.longest script events) → mode.Runs events outcomes → OnOk r (Appends old new (lines_text events outcomes))
+    → OnOk r (PrintsScript mode input old new)
+script_printed mode input events outcomes old new (Ok x) given run appended = (lines_text events outcomes, script_run mode input events outcomes given run, appended)
+script_printed mode input events outcomes old new (Err fault) given run appended = tt
 
 -- a beginning of the lines of a script was written, if the output failed
-pub script_begun : {T : Type 0} (settings : SettingsFields) (script lines : List ℕ) (old new : Option (List ℕ)) (r : Result T Fault)
-    → IsScriptRun settings script lines → IfErr r (λ fault. (fault ≡ Output) × AppendsFront old new lines)
-    → IfErr r (λ fault. LeavesScript settings (Some script) fault old new)
-script_begun settings script lines old new (Ok x) run begun = tt
-script_begun settings script lines old new (Err fault) run begun =
-    subst (λ f. LeavesScript settings (Some script) f old new) (sym begun.0) (lines, run, begun.1)
+pub script_begun : {T : Type 0} (mode : Mode) (input : Option (List ℕ)) (events : List Event) (outcomes : List Outcome) (old new : Option (List ℕ)) (r : Result T Fault)
+    → IfSome input (λ script. IsScript mode.longest script events) → mode.Runs events outcomes → IfErr r (λ fault. (fault ≡ Output) × AppendsFront old new (lines_text events outcomes))
+    → IfErr r (λ fault. LeavesScript mode input fault old new)
+script_begun mode input events outcomes old new (Ok x) given run begun = tt
+script_begun mode input events outcomes old new (Err fault) given run begun =
+    subst (λ f. LeavesScript mode input f old new) (sym begun.0) (lines_text events outcomes, script_run mode input events outcomes given run, begun.1)
 
--- the script is the input's bytes, if these are known
-pub script_is_input : {T : Type 0} (settings : SettingsFields) (input : Option (List ℕ)) (script : List ℕ) (old new : Option (List ℕ)) (r : Result T Fault)
-    → IfSome input (λ bytes. script ≡ bytes) → OnOk r (PrintsScript settings (Some script) old new) → OnOk r (PrintsScript settings input old new)
-script_is_input settings None script old new (Ok x) whole h = (h.0, tt, h.2)
-script_is_input settings (Some bytes) script old new (Ok x) whole h = subst (λ s. PrintsScript settings (Some s) old new) whole h
-script_is_input settings input script old new (Err fault) whole h = tt
+-- a fault of a script is one of the input, whose bytes it is if these are known
+pub read_fault : {T : Type 0} (longest : Option ℕ) (input : Option (List ℕ)) (script : List ℕ) (r : Result T Fault) → length script ≤ greatest_length → IfSome input (λ bytes. script ≡ bytes)
+    → IfErr r (IsFaultOf longest script) → IfErr r (IsReadFault longest input)
+read_fault longest input script (Ok x) short whole h = tt
+read_fault longest input script (Err fault) short whole h = of fault h
+  where
+    first : (number : ℕ) → IsFirstBad longest script number → (known : Option (List ℕ)) → IfSome known (λ bytes. script ≡ bytes)
+        → IfSome known (λ bytes. (length bytes ≤ greatest_length) × IsFirstBad longest bytes number)
+    first number bad None same = tt
+    first number bad (Some bytes) same = subst (λ s. (length s ≤ greatest_length) × IsFirstBad longest s number) same (short, bad)
 
-input_fault_of : (input : Option (List ℕ)) (script : List ℕ) (fault : Fault) → IfSome input (λ bytes. script ≡ bytes)
-    → IsScriptFault (Some script) fault → IsScriptFault input fault
-input_fault_of (Some bytes) script fault whole h = subst (λ s. IsScriptFault (Some s) fault) whole h
-input_fault_of None script (Words error) whole h = h
-input_fault_of None script CannotRead whole h = h
-input_fault_of None script (CannotReadFile name) whole h = h
-input_fault_of None script (CannotOpen name) whole h = h
-input_fault_of None script CannotListen whole h = h
-input_fault_of None script BadSeedFile whole h = h
-input_fault_of None script BadLogFile whole h = h
-input_fault_of None script ScriptTooLong whole h = tt
-input_fault_of None script (BadLine number) whole h = tt
-input_fault_of None script Memory whole h = h
-input_fault_of None script Output whole h = h
+    of : (fault : Fault) → IsFaultOf longest script fault → IsReadFault longest input fault
+    of Memory h = tt
+    of (BadLine number) h = first number h input whole
+    of (Words error) h = absurd h
+    of CannotRead h = absurd h
+    of (CannotReadFile name) h = absurd h
+    of (CannotOpen name) h = absurd h
+    of CannotListen h = absurd h
+    of SocketFailed h = absurd h
+    of BadSeedFile h = absurd h
+    of BadLogFile h = absurd h
+    of ScriptTooLong h = absurd h
+    of Output h = absurd h
 
-pub faults_of_input : {T : Type 0} (input : Option (List ℕ)) (script : List ℕ) (r : Result T Fault) → IfSome input (λ bytes. script ≡ bytes)
-    → IfErr r (IsScriptFault (Some script)) → IfErr r (IsScriptFault input)
-faults_of_input input script (Ok x) whole h = tt
-faults_of_input input script (Err fault) whole h = input_fault_of input script fault whole h
+-- the faults of a task are those of the program
+task_fault : (words : List Text) (input : Option (List ℕ)) (fault : Fault) → FailsToServe words fault ⊎ FailsToRun words input fault → IsFaultFor words input fault
+task_fault words input (Words error) h = absurd (none h)
+  where
+    none : FailsToServe words (Words error) ⊎ FailsToRun words input (Words error) → ⊥
+    none (inl serves) = serves.2
+    none (inr (inl runs)) = by runs.2
+      where
+        by : IsScriptFault (in_world runs.0) input (Words error) → ⊥
+        by (inl h) = h
+        by (inr (inl e)) = absurd (cc)
+        by (inr (inr e)) = absurd (cc)
+    none (inr (inr runs)) = by runs.2
+      where
+        by : IsScriptFault (by_loopback runs.0) input (Words error) → ⊥
+        by (inl h) = h
+        by (inr (inl h)) = h
+        by (inr (inr e)) = absurd (cc)
+task_fault words input Memory h = tt
+task_fault words input Output h = tt
+task_fault words input CannotRead h = h
+task_fault words input (CannotReadFile name) h = h
+task_fault words input (CannotOpen name) h = h
+task_fault words input CannotListen h = h
+task_fault words input SocketFailed h = h
+task_fault words input BadSeedFile h = h
+task_fault words input BadLogFile h = h
+task_fault words input ScriptTooLong h = h
+task_fault words input (BadLine number) h = h
 
-input_leaves : (settings : SettingsFields) (input : Option (List ℕ)) (script : List ℕ) (fault : Fault) (old new : Option (List ℕ))
-    → IfSome input (λ bytes. script ≡ bytes) → LeavesScript settings (Some script) fault old new → LeavesScript settings input fault old new
-input_leaves settings (Some bytes) script fault old new whole h = subst (λ s. LeavesScript settings (Some s) fault old new) whole h
-input_leaves settings None script (Words error) old new whole h = h
-input_leaves settings None script CannotRead old new whole h = h
-input_leaves settings None script (CannotReadFile name) old new whole h = h
-input_leaves settings None script (CannotOpen name) old new whole h = h
-input_leaves settings None script CannotListen old new whole h = h
-input_leaves settings None script BadSeedFile old new whole h = h
-input_leaves settings None script BadLogFile old new whole h = h
-input_leaves settings None script ScriptTooLong old new whole h = h
-input_leaves settings None script (BadLine number) old new whole h = h
-input_leaves settings None script Memory old new whole h = h
-input_leaves settings None script Output old new whole h = (h.0, tt, h.2)
+pub faults_of_task : {T : Type 0} (words : List Text) (input : Option (List ℕ)) (P : Fault → Type 0) (r : Result T Fault)
+    → ((fault : Fault) → P fault → FailsToServe words fault ⊎ FailsToRun words input fault) → IfErr r P → IfErr r (IsFaultFor words input)
+faults_of_task words input P (Ok x) f h = tt
+faults_of_task words input P (Err fault) f h = task_fault words input fault (f fault h)
 
-pub left_by_input : {T : Type 0} (settings : SettingsFields) (input : Option (List ℕ)) (script : List ℕ) (r : Result T Fault) (old new : Option (List ℕ))
-    → IfSome input (λ bytes. script ≡ bytes) → IfErr r (λ fault. LeavesScript settings (Some script) fault old new)
-    → IfErr r (λ fault. LeavesScript settings input fault old new)
-left_by_input settings input script (Ok x) old new whole h = tt
-left_by_input settings input script (Err fault) old new whole h = input_leaves settings input script fault old new whole h
+-- what a fault leaves, by less than all that was to be written
+begun_less : (A B : Type 0) (fault : Fault) (old new : Option (List ℕ)) → (A → B) → LeavesBegun A fault old new → LeavesBegun B fault old new
+begun_less A B Output old new f h = f h
+begun_less A B (Words error) old new f h = h
+begun_less A B CannotRead old new f h = h
+begun_less A B (CannotReadFile name) old new f h = h
+begun_less A B (CannotOpen name) old new f h = h
+begun_less A B CannotListen old new f h = h
+begun_less A B SocketFailed old new f h = h
+begun_less A B BadSeedFile old new f h = h
+begun_less A B BadLogFile old new f h = h
+begun_less A B ScriptTooLong old new f h = h
+begun_less A B (BadLine number) old new f h = h
+begun_less A B Memory old new f h = h
 
--- a script's fault is the program's, if the arguments request a script
-pub script_fault : (words : List Text) (input : Option (List ℕ)) (settings : SettingsFields) → Asks words (script_task settings)
-    → (fault : Fault) → IsScriptFault input fault → IsFaultFor words input fault
-script_fault words input settings asks (Words error) h = absurd h
-script_fault words input settings asks CannotRead h = inl ((settings, asks), h)
-script_fault words input settings asks ScriptTooLong h = inl ((settings, asks), h)
-script_fault words input settings asks (BadLine number) h = inl ((settings, asks), h)
-script_fault words input settings asks (CannotReadFile name) h = absurd h
-script_fault words input settings asks (CannotOpen name) h = absurd h
-script_fault words input settings asks CannotListen h = absurd h
-script_fault words input settings asks BadSeedFile h = absurd h
-script_fault words input settings asks BadLogFile h = absurd h
-script_fault words input settings asks Memory h = tt
-script_fault words input settings asks Output h = tt
-
-pub faults_of_script : {T : Type 0} (words : List Text) (input : Option (List ℕ)) (n : Numbers) (r : Result T Fault)
-    → Asks words (Script n) → IfErr r (IsScriptFault input) → IfErr r (IsFaultFor words input)
-faults_of_script words input n (Ok x) asks h = tt
-faults_of_script words input n (Err fault) asks h = script_fault words input (settings_of n) asks fault h
-
--- the lines that a script's run printed, and what its fault left, are the program's
-pub script_done : {T : Type 0} (words : List Text) (input old new : Option (List ℕ)) (n : Numbers) (settings : SettingsFields) (r : Result T Fault)
-    → Asks words (Script n) → settings ≡ settings_of n → OnOk r (PrintsScript settings input old new) → OnOk r (IsDone words input old new)
-script_done words input old new n settings (Ok x) asks e h = inl (inl (settings, subst (λ s. Asks words (script_task s)) (sym e) asks, h))
-script_done words input old new n settings (Err fault) asks e h = tt
-
-script_leaves : (words : List Text) (input old new : Option (List ℕ)) (settings : SettingsFields) (fault : Fault)
-    → Asks words (script_task settings) → LeavesScript settings input fault old new → Leaves words input fault old new
-script_leaves words input old new settings (Words error) asks h = h
-script_leaves words input old new settings CannotRead asks h = h
-script_leaves words input old new settings (CannotReadFile name) asks h = h
-script_leaves words input old new settings (CannotOpen name) asks h = h
-script_leaves words input old new settings CannotListen asks h = h
-script_leaves words input old new settings BadSeedFile asks h = h
-script_leaves words input old new settings BadLogFile asks h = h
-script_leaves words input old new settings ScriptTooLong asks h = h
-script_leaves words input old new settings (BadLine number) asks h = h
-script_leaves words input old new settings Memory asks h = h
-script_leaves words input old new settings Output asks h = inl (inl (settings, asks, h))
-
-pub left_by_script : {T : Type 0} (words : List Text) (input old new : Option (List ℕ)) (n : Numbers) (settings : SettingsFields) (r : Result T Fault)
-    → Asks words (Script n) → settings ≡ settings_of n → IfErr r (λ fault. LeavesScript settings input fault old new)
+pub left_by_task : {T : Type 0} (words : List Text) (input old new : Option (List ℕ)) (A : Type 0) (r : Result T Fault)
+    → (A → BeginsLines words input old new ⊎ (BeginsToServe words old new ⊎ AsksToShow words)) → IfErr r (λ fault. LeavesBegun A fault old new)
     → IfErr r (λ fault. Leaves words input fault old new)
-left_by_script words input old new n settings (Ok x) asks e h = tt
-left_by_script words input old new n settings (Err fault) asks e h =
-    script_leaves words input old new settings fault (subst (λ s. Asks words (script_task s)) (sym e) asks) h
+left_by_task words input old new A (Ok x) f h = tt
+left_by_task words input old new A (Err fault) f h = begun_less A _ fault old new f h
+
+-- the lines that a script's run printed are the program's
+pub script_done : {T : Type 0} (words : List Text) (input old new : Option (List ℕ)) (P : Type 0) (r : Result T Fault)
+    → (P → PrintsLines words input old new) → OnOk r P → OnOk r (IsDone words input old new)
+script_done words input old new P (Ok x) f h = inl (f h)
+script_done words input old new P (Err fault) f h = tt
 
 -- a service that has run is the program's end, whatever faults its connections had
 pub service_done : {T : Type 0} (words : List Text) (input old new : Option (List ℕ)) (faults : Change) (service : Service) (r : Result T Fault)
@@ -174,45 +175,6 @@ tells_behind fault a b c kept = of (fault_text fault)
     of None h = tt
     of (Some text) h = record { front = h.front; rest = h.rest; parts = h.parts; appended = appends_behind a b c h.front kept h.appended }
 
--- a service's fault is the program's, if the arguments request that service
-service_fault : (words : List Text) (input : Option (List ℕ)) (service : Service) → Asks words (Serve service) → (fault : Fault)
-    → IsServiceFault service fault → IsFaultFor words input fault
-service_fault words input service asks (Words error) h = absurd h
-service_fault words input service asks CannotRead h = absurd h
-service_fault words input service asks (CannotReadFile name) h = (service, asks, h)
-service_fault words input service asks (CannotOpen name) h = (service, asks, h)
-service_fault words input service asks CannotListen h = inr (service, asks, h)
-service_fault words input service asks BadSeedFile h = (service, asks, h)
-service_fault words input service asks BadLogFile h = (service, asks, h)
-service_fault words input service asks ScriptTooLong h = absurd h
-service_fault words input service asks (BadLine number) h = absurd h
-service_fault words input service asks Memory h = tt
-service_fault words input service asks Output h = tt
-
-pub faults_of_service : {T : Type 0} (words : List Text) (input : Option (List ℕ)) (service : Service) (r : Result T Fault) → Asks words (Serve service)
-    → IfErr r (IsServiceFault service) → IfErr r (IsFaultFor words input)
-faults_of_service words input service (Ok x) asks h = tt
-faults_of_service words input service (Err fault) asks h = service_fault words input service asks fault h
-
-service_leaves : (words : List Text) (input : Option (List ℕ)) (service : Service) → Asks words (Serve service) → (fault : Fault) (old new : Option (List ℕ))
-    → LeavesService service fault old new → Leaves words input fault old new
-service_leaves words input service asks (Words error) old new h = h
-service_leaves words input service asks CannotRead old new h = h
-service_leaves words input service asks (CannotReadFile name) old new h = h
-service_leaves words input service asks (CannotOpen name) old new h = h
-service_leaves words input service asks CannotListen old new h = h
-service_leaves words input service asks BadSeedFile old new h = h
-service_leaves words input service asks BadLogFile old new h = h
-service_leaves words input service asks ScriptTooLong old new h = h
-service_leaves words input service asks (BadLine number) old new h = h
-service_leaves words input service asks Memory old new h = h
-service_leaves words input service asks Output old new h = inr (inl (service, asks, h))
-
-pub left_by_service : {T : Type 0} (words : List Text) (input : Option (List ℕ)) (service : Service) (r : Result T Fault) (old new : Option (List ℕ))
-    → Asks words (Serve service) → IfErr r (λ fault. LeavesService service fault old new) → IfErr r (λ fault. Leaves words input fault old new)
-left_by_service words input service (Ok x) old new asks h = tt
-left_by_service words input service (Err fault) old new asks h = service_leaves words input service asks fault old new h
-
 -- the status of a fault isn't 0
 no_status : (fault : Fault) → status_of fault ≡ 0 → ⊥
 no_status (Words error) e = absurd (cc)
@@ -220,6 +182,7 @@ no_status CannotRead e = absurd (cc)
 no_status (CannotReadFile name) e = absurd (cc)
 no_status (CannotOpen name) e = absurd (cc)
 no_status CannotListen e = absurd (cc)
+no_status SocketFailed e = absurd (cc)
 no_status BadSeedFile e = absurd (cc)
 no_status BadLogFile e = absurd (cc)
 no_status ScriptTooLong e = absurd (cc)
@@ -235,6 +198,7 @@ keeps_by words input CannotRead old new e h = h
 keeps_by words input (CannotReadFile name) old new e h = h
 keeps_by words input (CannotOpen name) old new e h = h
 keeps_by words input CannotListen old new e h = h
+keeps_by words input SocketFailed old new e h = h
 keeps_by words input BadSeedFile old new e h = h
 keeps_by words input BadLogFile old new e h = h
 keeps_by words input ScriptTooLong old new e h = h

@@ -28,7 +28,7 @@ use Rattle.std.specs.Prelude.{
 use Rattle.std.specs.Option.{unwrap_or}
 use Rattle.std.specs.Io.KnownBytes.{Keeps}
 use Rattle.rand_chacha.specs.ChaCha.{ChaCha}
-use Rattle.tk_world.specs.Put.{AppendsFront}
+use Rattle.tk_put.specs.Put.{AppendsFront}
 use Rattle.tk_edge.specs.EdgeFields.{EdgeFields}
 use Rattle.tk_edge.specs.Served.{IsServed, IsTurnedAway}
 use Rattle.tk_edge.specs.Told.{Change}

@@ -11,10 +11,10 @@
 --   Connection    IsConnection, what a connection does to an edge, its log and the lines about
 --                 faults
 --   ServiceRun    IsServiceRun, what a service that ended well has done
---   Status        status_of, the exit status of a fault
---   ScriptRun     IsScriptRun, the lines of a script that is run in a world
---   Sites         SiteRun, what events do if requests go through sockets
---   LoopbackRun   IsLoopbackRun, the lines of a script whose requests go through sockets
+--   Status        status_of, the exit status of a fault; LeavesBegun, what a fault leaves of the
+--                 output
+--   ScriptRun     IsScriptRun, the lines of a script that is run; in_world, a run in a world
+--   LoopbackRun   by_sockets, the way of requests through sockets; by_loopback, a run with these
 --   ProgramRun    IsDone, IsFaultFor: what a run of the program does
 pub mod CommandLine
 pub mod Task
@@ -27,6 +27,5 @@ pub mod Connection
 pub mod ServiceRun
 pub mod Status
 pub mod ScriptRun
-pub mod Sites
 pub mod LoopbackRun
 pub mod ProgramRun

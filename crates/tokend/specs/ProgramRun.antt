@@ -4,6 +4,7 @@
 --   ServesAsked     a service that the arguments request has run
 --   BeginsToServe   a beginning of a service's announcement was written
 --   FailsToServe    a fault keeps a service from its first connection
+--   FailsToRun      a fault of a script that the arguments request
 --   IsDone          a run without a fault
 --   IsFaultFor      the faults that a run may have
 --   Leaves          what a fault leaves of the output
@@ -20,27 +21,22 @@ use Rattle.tokend.specs.Task.{
   script_task,
   loopback_task,
   Asks,
-  AsksToLoop,
   AsksToServe,
   AsksToShow,
   IsNoShow,
   IsRefusalOf,
 }
-use Rattle.tk_world.specs.Put.{AppendsFront}
-use Rattle.tokend.specs.ScriptRun.{PrintsScript, BeginsScript, IsScriptFault}
-use Rattle.tokend.specs.LoopbackRun.{PrintsLoopback, BeginsLoopback, IsLoopbackFault}
-use Rattle.tokend.specs.Status.{fault_text}
-use Rattle.tokend.specs.declared.fault.Fault.{Fault}
-use Rattle.tokend.specs.declared.fault.Fault.TheVariants.{
-  BadLogFile,
-  BadSeedFile,
-  CannotListen,
-  CannotOpen,
-  CannotReadFile,
-  Memory,
-  Output,
-  Words,
+use Rattle.tk_put.specs.Put.{AppendsFront}
+use Rattle.tokend.specs.ScriptRun.{
+  in_world,
+  PrintsScript,
+  BeginsScript,
+  IsScriptFault,
 }
+use Rattle.tokend.specs.LoopbackRun.{by_loopback}
+use Rattle.tokend.specs.Status.{fault_text, LeavesBegun}
+use Rattle.tokend.specs.declared.fault.Fault.{Fault}
+use Rattle.tokend.specs.declared.fault.Fault.TheVariants.{Memory, Output, Words}
 use Rattle.tokend.specs.declared.options.Service.{Service}
 use Rattle.tokend.specs.declared.options.Task.TheVariants.{Serve}
 
@@ -48,17 +44,17 @@ use Rattle.tokend.specs.declared.options.Task.TheVariants.{Serve}
 abbrev pub PrintsLines : List Text → Option (List ℕ) → Option (List ℕ) → Option (List ℕ) → Type 0
 PrintsLines words input old new =
     ((settings : SettingsFields) × Asks words (script_task settings)
-    × PrintsScript settings input old new)
+    × PrintsScript (in_world settings) input old new)
     ⊎ ((settings : SettingsFields) × Asks words (loopback_task settings)
-    × PrintsLoopback settings input old new)
+    × PrintsScript (by_loopback settings) input old new)
 
 -- the arguments request a script, by sockets or not, and a beginning of its lines was written
 abbrev pub BeginsLines : List Text → Option (List ℕ) → Option (List ℕ) → Option (List ℕ) → Type 0
 BeginsLines words input old new =
     ((settings : SettingsFields) × Asks words (script_task settings)
-    × BeginsScript settings input old new)
+    × BeginsScript (in_world settings) input old new)
     ⊎ ((settings : SettingsFields) × Asks words (loopback_task settings)
-    × BeginsLoopback settings input old new)
+    × BeginsScript (by_loopback settings) input old new)
 
 -- the arguments request a service, and it has run: it was announced, and its connections were
 -- served
@@ -76,6 +72,14 @@ abbrev pub FailsToServe : List Text → Fault → Type 0
 FailsToServe words fault =
     (service : Service) × Asks words (Serve service) × IsServiceFault service fault
 
+-- the arguments request a script, by sockets or not, and the fault is one of that script
+abbrev pub FailsToRun : List Text → Option (List ℕ) → Fault → Type 0
+FailsToRun words input fault =
+    ((settings : SettingsFields) × Asks words (script_task settings)
+    × IsScriptFault (in_world settings) input fault)
+    ⊎ ((settings : SettingsFields) × Asks words (loopback_task settings)
+    × IsScriptFault (by_loopback settings) input fault)
+
 -- the lines of a script were written, a service has run, or the arguments request help or the
 -- version
 abbrev pub IsDone : List Text → Option (List ℕ) → Option (List ℕ) → Option (List ℕ) → Type 0
@@ -88,21 +92,14 @@ abbrev pub IsFaultFor : List Text → Option (List ℕ) → Fault → Type 0
 IsFaultFor words input (Words error) = IsRefusalOf words (kind_of error) × IsNoShow (kind_of error)
 IsFaultFor words input Memory = ⊤
 IsFaultFor words input Output = ⊤
-IsFaultFor words input (CannotReadFile name) = FailsToServe words (CannotReadFile name)
-IsFaultFor words input (CannotOpen name) = FailsToServe words (CannotOpen name)
-IsFaultFor words input CannotListen = AsksToLoop words ⊎ FailsToServe words CannotListen
-IsFaultFor words input BadSeedFile = FailsToServe words BadSeedFile
-IsFaultFor words input BadLogFile = FailsToServe words BadLogFile
-IsFaultFor words input fault =
-    (((settings : SettingsFields) × Asks words (script_task settings)) × IsScriptFault input fault)
-    ⊎ (AsksToLoop words × IsLoopbackFault input fault)
+IsFaultFor words input fault = FailsToServe words fault ⊎ FailsToRun words input fault
 
 -- the output that failed has a beginning of what would have been printed; other faults leave the
 -- output unchanged
 abbrev pub Leaves : List Text → Option (List ℕ) → Fault → Option (List ℕ) → Option (List ℕ) → Type 0
-Leaves words input Output old new =
-    BeginsLines words input old new ⊎ (BeginsToServe words old new ⊎ AsksToShow words)
-Leaves words input fault old new = Keeps old new
+Leaves words input fault old new =
+    LeavesBegun (BeginsLines words input old new ⊎ (BeginsToServe words old new ⊎ AsksToShow words))
+    fault old new
 
 -- a beginning of the fault's line was written, or all of the line if the writer took it; clap
 -- writes the faults of arguments

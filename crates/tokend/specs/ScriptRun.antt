@@ -1,11 +1,26 @@
--- The lines of a script that the program runs in a world.
---   IsScriptRun      the lines of a script, by a run of its events in a new world
+-- The lines of a script that the program runs.
+--   Mode             how a script is run
+--   in_world         a script is run in a new world
+--   IsScript         the events of a script
+--   IsScriptRun      the lines of a script, by a run of its events
 --   PrintsScript     the lines of the input's script were written
 --   BeginsScript     a beginning of the lines was written
---   IsScriptFault    the faults of such a run
---   LeavesScript     what a fault leaves of the output
-use Rattle.std.specs.Prelude.{◌≡◌, ◌≤◌, ⊤, ℕ, List, Option, None, IfSome, length, slice_get}
-use Rattle.std.specs.Io.KnownBytes.{Appends, Keeps}
+--   IsReadFault      the faults of an input that gives no events
+--   IsScriptFault    the faults of a script that is run
+--   LeavesScript     what a fault of a script leaves of the output
+use Rattle.std.specs.Prelude.{
+  ◌≡◌,
+  ◌≤◌,
+  ◌⊎◌,
+  ℕ,
+  List,
+  Option,
+  None,
+  IfSome,
+  length,
+  slice_get,
+}
+use Rattle.std.specs.Io.KnownBytes.{Appends}
 use Rattle.tk_region.specs.SettingsFields.{SettingsFields}
 use Rattle.tk_world.specs.State.{State, new_state}
 use Rattle.tk_world.specs.World.{Facts, Run}
@@ -16,51 +31,73 @@ use Rattle.tokend.specs.Script.{
   greatest_length,
   lines_of,
   AreEvents,
+  AreShort,
   IsFirstBad,
   IsInputFault,
   words_at,
 }
 use Rattle.tk_world.specs.Printed.{lines_text}
-use Rattle.tk_world.specs.Put.{AppendsFront}
+use Rattle.tk_put.specs.Put.{AppendsFront}
+use Rattle.tokend.specs.Status.{LeavesBegun}
 use Rattle.tokend.specs.declared.fault.Fault.{Fault}
-use Rattle.tokend.specs.declared.fault.Fault.TheVariants.{BadLine, Output}
+use Rattle.tokend.specs.declared.fault.Fault.TheVariants.{BadLine, Memory, Output}
 
--- the script is short enough; its events, with their random words, are run in a new world, and the
--- lines are those of their outcomes
-pub record IsScriptRun (settings : SettingsFields) (script : List ℕ) (lines : List ℕ) : Type 0 where
+-- how a script is run: the greatest length of a request, if there is a limit, the runs of its
+-- events with their outcomes, and the faults that may end a run
+pub record Mode : Type 1 where
+  pub longest : Option ℕ
+  pub Runs : List Event → List Outcome → Type 0
+  pub Fails : Fault → Type 0
+
+-- the events are run in a new world with these settings, or there is no memory for the outcomes
+abbrev pub in_world : SettingsFields → Mode
+in_world settings = record {
+  longest = None;
+  Runs = λ events outcomes. (after : State) × (shown : List Facts)
+      × Run (new_state settings) events outcomes shown after;
+  Fails = λ fault. fault ≡ Memory;
+}
+
+-- the script and its requests are short enough, and these are its events, with their random words
+pub record IsScript (longest : Option ℕ) (script : List ℕ) (events : List Event) : Type 0 where
   pub short : length script ≤ greatest_length
+  pub found : AreEvents (lines_of script) events
+  pub within : AreShort longest events
+  pub words : (k : ℕ) → IfSome (slice_get events k) (HasWords (words_at k))
+
+-- the events of the script are run, and the lines are those of their outcomes
+pub record IsScriptRun (mode : Mode) (script : List ℕ) (lines : List ℕ) : Type 0 where
   pub events : List Event
   pub outcomes : List Outcome
-  pub after : State
-  pub found : AreEvents (lines_of script) events
-  pub words : (k : ℕ) → IfSome (slice_get events k) (HasWords (words_at k))
-  pub run : (shown : List Facts) × Run (new_state settings) events outcomes shown after
+  pub given : IsScript mode.longest script events
+  pub run : mode.Runs events outcomes
   pub printed : lines ≡ lines_text events outcomes
 
 -- the lines of the input's script were written behind what the output had
-abbrev pub PrintsScript : SettingsFields → Option (List ℕ) → Option (List ℕ) → Option (List ℕ)
-    → Type 0
-PrintsScript settings input old new =
-    (lines : List ℕ) × IfSome input (λ script. IsScriptRun settings script lines)
+abbrev pub PrintsScript : Mode → Option (List ℕ) → Option (List ℕ) → Option (List ℕ) → Type 0
+PrintsScript mode input old new =
+    (lines : List ℕ) × IfSome input (λ script. IsScriptRun mode script lines)
     × Appends old new lines
 
 -- a beginning of the lines of the input's script was written behind what the output had
-abbrev pub BeginsScript : SettingsFields → Option (List ℕ) → Option (List ℕ) → Option (List ℕ)
-    → Type 0
-BeginsScript settings input old new =
-    (lines : List ℕ) × IfSome input (λ script. IsScriptRun settings script lines)
+abbrev pub BeginsScript : Mode → Option (List ℕ) → Option (List ℕ) → Option (List ℕ) → Type 0
+BeginsScript mode input old new =
+    (lines : List ℕ) × IfSome input (λ script. IsScriptRun mode script lines)
     × AppendsFront old new lines
 
--- the faults of a run of a script: the input gives no script, the script gives no events, or memory
--- or the output fails
-abbrev pub IsScriptFault : Option (List ℕ) → Fault → Type 0
-IsScriptFault input Output = ⊤
-IsScriptFault input (BadLine number) =
-    IfSome input (λ script. (length script ≤ greatest_length) × IsFirstBad None script number)
-IsScriptFault input fault = IsInputFault input fault
+-- the faults of an input that gives no events: the first bad line, or the input gives no script
+abbrev pub IsReadFault : Option ℕ → Option (List ℕ) → Fault → Type 0
+IsReadFault longest input (BadLine number) =
+    IfSome input (λ script. (length script ≤ greatest_length) × IsFirstBad longest script number)
+IsReadFault longest input fault = IsInputFault input fault
+
+-- the faults of a script that is run: the input gives no events, or the run or the output fails
+abbrev pub IsScriptFault : Mode → Option (List ℕ) → Fault → Type 0
+IsScriptFault mode input fault =
+    IsReadFault mode.longest input fault ⊎ (mode.Fails fault ⊎ (fault ≡ Output))
 
 -- the output that failed has a beginning of the lines; other faults leave the output unchanged
-abbrev pub LeavesScript : SettingsFields → Option (List ℕ) → Fault → Option (List ℕ)
-    → Option (List ℕ) → Type 0
-LeavesScript settings input Output old new = BeginsScript settings input old new
-LeavesScript settings input fault old new = Keeps old new
+abbrev pub LeavesScript : Mode → Option (List ℕ) → Fault → Option (List ℕ) → Option (List ℕ)
+    → Type 0
+LeavesScript mode input fault old new =
+    LeavesBegun (BeginsScript mode input old new) fault old new

@@ -1,7 +1,7 @@
 -- What a service that ended well has done (own).
 --   HasRun         the service has run, from its start on
 --   IsServiceRun   the service has run, from reading its seed on
-use Rattle.std.specs.Prelude.{◌≡◌, ℕ, List, Option, Result, Ok}
+use Rattle.std.specs.Prelude.{ℕ, Ok}
 use Rattle.rand_chacha.specs.ChaCha.{ChaCha}
 use Rattle.tk_edge.specs.EdgeFields.{EdgeFields}
 use Rattle.tk_edge.specs.Told.{Change}

@@ -28,10 +28,11 @@ use Rattle.std.specs.Prelude.{
   decimal,
   if◌then◌else◌,
 }
-use Rattle.std.specs.Io.KnownBytes.{Appends, Keeps}
-use Rattle.tk_world.specs.Put.{AppendsFront}
+use Rattle.std.specs.Io.KnownBytes.{Appends}
+use Rattle.tk_put.specs.Put.{AppendsFront}
 use Rattle.tk_edge.specs.declared.tell.Fault.{Fault as EdgeFault}
 use Rattle.tk_edge.specs.declared.tell.Fault.TheVariants as edge
+use Rattle.tokend.specs.Status.{LeavesBegun}
 use Rattle.tokend.specs.declared.fault.Fault.{Fault}
 use Rattle.tokend.specs.declared.fault.Fault.TheVariants.{
   BadLogFile,
@@ -137,11 +138,11 @@ IsServiceFault service fault = IsFileFault service fault
 -- the output that failed has a beginning of the announcement; other faults leave the output
 -- unchanged
 abbrev pub LeavesAnnouncement : ℕ → ℕ → Fault → Option (List ℕ) → Option (List ℕ) → Type 0
-LeavesAnnouncement dropped asked Output old new = BeginsToAnnounce dropped asked old new
-LeavesAnnouncement dropped asked fault old new = Keeps old new
+LeavesAnnouncement dropped asked fault old new =
+    LeavesBegun (BeginsToAnnounce dropped asked old new) fault old new
 
 -- the output that failed has a beginning of the service's announcement; other faults leave the
 -- output unchanged
 abbrev pub LeavesService : Service → Fault → Option (List ℕ) → Option (List ℕ) → Type 0
-LeavesService service Output old new = BeginsAnnouncement service old new
-LeavesService service fault old new = Keeps old new
+LeavesService service fault old new =
+    LeavesBegun (BeginsAnnouncement service old new) fault old new

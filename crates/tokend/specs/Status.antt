@@ -2,6 +2,7 @@
 --   status_of     the exit status of a fault
 --   fault_text    the line of a fault
 --   input_fault   the fault of an input that fails
+--   LeavesBegun   what a fault leaves of the output
 --   IsUnread      the fault of a file that can't be read, by its name
 --   IsUnopened    the fault of a log that can't be opened, by its name
 use Rattle.std.specs.Prelude.{
@@ -19,6 +20,7 @@ use Rattle.std.specs.Prelude.{
   Some,
   None,
 }
+use Rattle.std.specs.Io.KnownBytes.{Keeps}
 use Rattle.std.specs.declared.io.ErrorKind.{ErrorKind}
 use Rattle.std.specs.declared.io.ErrorKind.TheVariants.{OutOfMemory}
 use Rattle.tokend.specs.declared.fault.Fault.{Fault}
@@ -28,6 +30,7 @@ use Rattle.tokend.specs.declared.fault.Fault.TheVariants.{
   CannotReadFile,
   CannotOpen,
   CannotListen,
+  SocketFailed,
   ScriptTooLong,
   BadLine,
   BadSeedFile,
@@ -47,6 +50,7 @@ status_of CannotRead = 1
 status_of (CannotReadFile name) = 1
 status_of (CannotOpen name) = 1
 status_of CannotListen = 1
+status_of SocketFailed = 1
 status_of Memory = 1
 status_of Output = 1
 
@@ -63,12 +67,19 @@ fault_text (CannotReadFile name) =
     Some (codes "tokend: cannot read " ++ (string_bytes name ++ 10 ∷ []))
 fault_text (CannotOpen name) = Some (codes "tokend: cannot open " ++ (string_bytes name ++ 10 ∷ []))
 fault_text CannotListen = Some (codes "tokend: cannot listen" ++ 10 ∷ [])
+fault_text SocketFailed = Some (codes "tokend: cannot listen" ++ 10 ∷ [])
 fault_text BadSeedFile = Some (codes "tokend: bad seed file" ++ 10 ∷ [])
 fault_text BadLogFile = Some (codes "tokend: bad log file" ++ 10 ∷ [])
 fault_text ScriptTooLong = Some (codes "tokend: script too long" ++ 10 ∷ [])
 fault_text (BadLine number) = Some (codes "tokend: bad line " ++ (decimal number ++ 10 ∷ []))
 fault_text Memory = Some (codes "tokend: memory" ++ 10 ∷ [])
 fault_text Output = Some []
+
+-- the output that failed has a beginning of what was to be written, by this statement; other faults
+-- leave the output unchanged
+abbrev pub LeavesBegun : Type 0 → Fault → Option (List ℕ) → Option (List ℕ) → Type 0
+LeavesBegun begins Output old new = begins
+LeavesBegun begins fault old new = Keeps old new
 
 -- the fault of a file that can't be read: it names the file, unless there is no memory for the name
 abbrev pub IsUnread : List ℕ → Fault → Type 0

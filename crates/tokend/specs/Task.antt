@@ -5,7 +5,6 @@
 --   IsNoTask        the subcommand and its values are no task's
 --   IsNoService     the values are no service's
 --   Asks            the arguments request this task
---   AsksToLoop      the arguments request a script by sockets
 --   AsksToServe     the arguments request a service
 --   AsksToShow      the arguments request help or the version
 --   IsRefusalOf     the kind of a fault in the arguments
@@ -23,7 +22,6 @@ use Rattle.tk_region.specs.SettingsFields.{SettingsFields}
 use Rattle.tokend.specs.CommandLine.{HasNumbers, HasService, tokend_app}
 use Rattle.tokend.specs.declared.fault.Fault.{Fault}
 use Rattle.tokend.specs.declared.fault.Fault.TheVariants.{Memory, Words}
-use Rattle.tokend.specs.declared.options.Numbers.{Numbers}
 use Rattle.tokend.specs.declared.options.Service.{Service}
 use Rattle.tokend.specs.declared.options.Task.{Task}
 use Rattle.tokend.specs.declared.options.Task.TheVariants.{Script, Loopback, Serve}
@@ -70,10 +68,6 @@ IsNoTask found = (task : Task) → ¬ (IsTask found task)
 -- the arguments request this task: clap finds no fault in them, and they name the task
 abbrev pub Asks : List Text → Task → Type 0
 Asks words task = (fault_of tokend_app words ≡ []) × IsTask (subcommand_of tokend_app words) task
-
--- the arguments request a script by sockets
-abbrev pub AsksToLoop : List Text → Type 0
-AsksToLoop words = (numbers : Numbers) × Asks words (Loopback numbers)
 
 -- the arguments request a service
 abbrev pub AsksToServe : List Text → Type 0

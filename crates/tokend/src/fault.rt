@@ -3,13 +3,13 @@
 ghost use Rattle.std.specs.Prelude.{◌≡◌, ◌++◌, ◌∷◌, [], codes, decimal, string_bytes, IfSome};
 ghost use Rattle.std.specs.IoError.{error_kind};
 ghost use Rattle.tokend.specs.declared.fault.Fault.TheVariants as fault;
-ghost use Rattle.tk_world.specs.Put.{Prints};
+ghost use Rattle.tk_put.specs.Put.{Prints};
 ghost use Rattle.tokend.specs.Status.{fault_text, input_fault, status_of, IsUnopened, IsUnread};
 
 use itoa::Buffer;
 use std::alloc::{AllocError, AllocFailed, Global};
 use std::io::{self, Write};
-use tk_world::put_all;
+use tk_put::put_all;
 
 /// Why the program ended early.
 #[derive(Drop)]
@@ -22,8 +22,10 @@ pub enum Fault {
     CannotReadFile(String),
     /// The log of this name can't be opened.
     CannotOpen(String),
-    /// The port is in use, or can't be listened on. In `loopback`, any socket failed.
+    /// The port is in use, or can't be listened on.
     CannotListen,
+    /// A socket of `loopback` failed. The line is that of `CannotListen`.
+    SocketFailed,
     /// The seed file hasn't exactly 32 bytes.
     BadSeedFile,
     /// The old log has bytes that are no bundle or a bundle that is refused, or the new log isn't
@@ -46,7 +48,8 @@ impl Fault {
     {
         match self {
             Fault::Memory | Fault::CannotRead | Fault::CannotReadFile(_) => 1,
-            Fault::CannotOpen(_) | Fault::CannotListen | Fault::Output => 1,
+            Fault::CannotOpen(_) | Fault::CannotListen | Fault::SocketFailed => 1,
+            Fault::Output => 1,
             Fault::Words(_) | Fault::ScriptTooLong | Fault::BadLine(_) => 2,
             Fault::BadSeedFile | Fault::BadLogFile => 2,
         }
@@ -69,6 +72,7 @@ pub(crate) fn tell<E: Write>(faults: &mut E, fault: &Fault) -> io::Result<()>
         Fault::CannotReadFile(name) => tell_name(faults, b"tokend: cannot read ", name),
         Fault::CannotOpen(name) => tell_name(faults, b"tokend: cannot open ", name),
         Fault::CannotListen => put_all(faults, &[b"tokend: cannot listen\n"]),
+        Fault::SocketFailed => put_all(faults, &[b"tokend: cannot listen\n"]),
         Fault::BadSeedFile => put_all(faults, &[b"tokend: bad seed file\n"]),
         Fault::BadLogFile => put_all(faults, &[b"tokend: bad log file\n"]),
         Fault::Memory => put_all(faults, &[b"tokend: memory\n"]),

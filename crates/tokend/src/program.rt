@@ -6,12 +6,12 @@ ghost use Rattle.std.specs.Prelude.{
   ◌⊎◌,
   ◌≤◌,
   List,
-  Some,
   OnOk,
   OnErr,
+  IfOk,
   IfErr,
+  IfSome,
   MatchResult,
-  length,
   map,
 };
 ghost use Rattle.std.specs.Io.KnownBytes.{Appends, Keeps};
@@ -19,10 +19,16 @@ ghost use Rattle.tk_world.specs.Printed.{lines_text};
 ghost use Rattle.clap.specs.Words.{Text, kind_of};
 ghost use Rattle.clap.specs.declared.error.kind.ErrorKind.TheVariants as kind;
 ghost use Rattle.tokend.specs.ProgramRun.{IsDone, IsFaultFor, IsQuiet, Leaves, Tells};
-ghost use Rattle.tk_world.specs.Put.{AppendsFront, Prints};
-ghost use Rattle.tokend.specs.LoopbackRun.{PrintsLoopback, IsLoopbackFault, LeavesLoopback};
-ghost use Rattle.tokend.specs.Script.{greatest_length};
-ghost use Rattle.tokend.specs.ScriptRun.{PrintsScript, IsScriptFault, LeavesScript};
+ghost use Rattle.tk_put.specs.Put.{AppendsFront, Prints};
+ghost use Rattle.tokend.specs.LoopbackRun.{by_loopback};
+ghost use Rattle.tokend.specs.ScriptRun.{
+  in_world,
+  IsReadFault,
+  IsScript,
+  IsScriptFault,
+  LeavesScript,
+  PrintsScript,
+};
 ghost use Rattle.tokend.specs.Status.{status_of};
 ghost use Rattle.tokend.specs.Task.{Asks, IsNoShow};
 ghost use Rattle.tokend.specs.declared.fault.Fault.{Fault as FaultValue};
@@ -196,35 +202,14 @@ fn run_script<I: Read, O: Write>(
     output: &mut O,
 ) -> Result<(), Fault>
     ensures done { OnOk result
-        (PrintsScript settings (I.remaining input.old) (O.contents output.old)
+        (PrintsScript (in_world settings) (I.remaining input.old) (O.contents output.old)
         (O.contents output.new)) }
-    ensures fault { IfErr result (IsScriptFault (I.remaining input.old)) }
+    ensures fault { IfErr result (IsScriptFault (in_world settings) (I.remaining input.old)) }
     ensures left { IfErr result
-        (λ fault. LeavesScript settings (I.remaining input.old) fault (O.contents output.old)
-        (O.contents output.new)) }
+        (λ fault. LeavesScript (in_world settings) (I.remaining input.old) fault
+        (O.contents output.old) (O.contents output.new)) }
 {
-    match read_script(alloc, input) {
-        Ok(script) => run_text(alloc, settings, script.as_slice(), output),
-        Err(fault) => Err(fault),
-    }
-}
-
-// Runs a script that was read.
-fn run_text<O: Write>(
-    alloc: Global,
-    settings: Settings,
-    script: &[u8],
-    output: &mut O,
-) -> Result<(), Fault>
-    requires { length script.now ≤ greatest_length }
-    ensures done { OnOk result
-        (PrintsScript settings (Some script.now) (O.contents output.old) (O.contents output.new)) }
-    ensures fault { IfErr result (IsScriptFault (Some script.now)) }
-    ensures left { IfErr result
-        (λ fault. LeavesScript settings (Some script.now) fault (O.contents output.old)
-        (O.contents output.new)) }
-{
-    let events = match read_events(alloc, script, None) {
+    let events = match read_input(alloc, input, None) {
         Ok(events) => events,
         Err(fault) => return Err(fault),
     };
@@ -246,43 +231,35 @@ fn run_loopback<R, I: Read, O: Write>(
 where
     R: AllocGlobal + Clock + Net<Listener = TcpListener, Stream = TcpStream>,
     ensures done { OnOk result
-        (PrintsLoopback settings (I.remaining input.old) (O.contents output.old)
+        (PrintsScript (by_loopback settings) (I.remaining input.old) (O.contents output.old)
         (O.contents output.new)) }
-    ensures fault { IfErr result (IsLoopbackFault (I.remaining input.old)) }
+    ensures fault { IfErr result (IsScriptFault (by_loopback settings) (I.remaining input.old)) }
     ensures left { IfErr result
-        (λ fault. LeavesLoopback settings (I.remaining input.old) fault (O.contents output.old)
-        (O.contents output.new)) }
+        (λ fault. LeavesScript (by_loopback settings) (I.remaining input.old) fault
+        (O.contents output.old) (O.contents output.new)) }
 {
-    match read_script(rt.alloc(), input) {
-        Ok(script) => loop_text(rt, settings, script.as_slice(), output),
-        Err(fault) => Err(fault),
-    }
-}
-
-// Runs a script that was read, with each request through a socket.
-fn loop_text<R, O: Write>(
-    rt: &R,
-    settings: Settings,
-    script: &[u8],
-    output: &mut O,
-) -> Result<(), Fault>
-where
-    R: AllocGlobal + Clock + Net<Listener = TcpListener, Stream = TcpStream>,
-    requires { length script.now ≤ greatest_length }
-    ensures done { OnOk result
-        (PrintsLoopback settings (Some script.now) (O.contents output.old)
-        (O.contents output.new)) }
-    ensures fault { IfErr result (IsLoopbackFault (Some script.now)) }
-    ensures left { IfErr result
-        (λ fault. LeavesLoopback settings (Some script.now) fault (O.contents output.old)
-        (O.contents output.new)) }
-{
-    let events = match read_events(rt.alloc(), script, Some(LONGEST)) {
+    let events = match read_input(rt.alloc(), input, Some(LONGEST)) {
         Ok(events) => events,
         Err(fault) => return Err(fault),
     };
     match run_by_sockets(rt, settings, events.as_slice()) {
         Ok(outcomes) => print_lines(output, events.as_slice(), outcomes.as_slice()),
+        Err(fault) => Err(fault),
+    }
+}
+
+// Reads the events of the input's script, whose requests have at most `longest` bytes.
+fn read_input<I: Read>(
+    alloc: Global,
+    input: &mut I,
+    longest: Option<u64>,
+) -> Result<Vec<Event>, Fault>
+    ensures given { IfOk result
+        (λ events. IfSome (I.remaining input.old) (λ script. IsScript longest script events.items)) }
+    ensures fault { IfErr result (IsReadFault longest (I.remaining input.old)) }
+{
+    match read_script(alloc, input) {
+        Ok(script) => read_events(alloc, script.as_slice(), longest),
         Err(fault) => Err(fault),
     }
 }

@@ -10,7 +10,7 @@ ghost use Rattle.tk_region.specs.SettingsFields.{IsSettings};
 ghost use Rattle.tk_store.specs.FactSet.{Facts};
 ghost use Rattle.tokend.specs.CommandLine.{settings_of};
 ghost use Rattle.tokend.specs.Connection.{IsConnection, ServesAll, ServesWithLog, Told};
-ghost use Rattle.tk_world.specs.Put.{Prints, joined_text};
+ghost use Rattle.tk_put.specs.Put.{Prints, joined_text};
 ghost use Rattle.tokend.specs.ServiceRun.{HasRun, IsServiceRun};
 ghost use Rattle.tokend.specs.Serving.{
   announced,
@@ -43,7 +43,7 @@ use std::rt::Files;
 use std::time::Clock;
 use tk_edge::{Discard, Edge, Fault as EdgeFault, Served, Sink, Source};
 use tk_handle::Moment;
-use tk_world::put_all;
+use tk_put::put_all;
 
 /// How many bytes after its request a client may send, which the server reads and drops.
 const DROPPED: usize = 65_536;
@@ -364,7 +364,7 @@ fn moment<C: Clock>(clock: &C) -> io::Result<Moment> {
     let seconds = clock.since_1970()?.as_secs().min(Moment::GREATEST);
     match Moment::new(seconds) {
         Some(moment) => Ok(moment),
-        None => unreachable!(),
+        None => unreachable!("the seconds are at most the greatest moment's"),
     }
 }
 

@@ -1,14 +1,15 @@
-use Rattle.tokend.proofs.Runs.{faults_of_input, left_by_input, script_is_input}
+use Rattle.tokend.specs.ScriptRun.{in_world}
+use Rattle.tokend.proofs.Runs.{script_begun, script_printed}
 use Rattle.tokend.proofs.program.run_script.Goals as goal
 
-pub returns-in-Ok-clause-done : goal.returns-in-Ok-clause-done
-returns-in-Ok-clause-done g c =
-    script_is_input c.args.settings _ c.in-Ok.script.items _ _ c.run_text.result c.in-Ok.ensures.whole (rw c.as_slice.ensures.value at c.run_text.ensures.done)
+pub returns-in-Ok-run-clause-done : goal.returns-in-Ok-run-clause-done
+returns-in-Ok-run-clause-done g c =
+    let ran = rw (c.new-world.ensures, c.as_slice.ensures.value) at c.in-Ok-run.ensures.run in
+    script_printed (in_world c.args.settings) _ c.in-Ok.events.items c.in-Ok-run.outcomes.items _ _ c.print_lines.result c.in-Ok.ensures.given (c.run.new.self, ran.0, ran.1)
+    (rw (c.as_slice-in-Ok-run.ensures.value, c.as_slice-in-Ok-run-2.ensures.value) at c.print_lines.ensures.done)
 
-pub returns-in-Ok-clause-fault : goal.returns-in-Ok-clause-fault
-returns-in-Ok-clause-fault g c =
-    faults_of_input _ c.in-Ok.script.items c.run_text.result c.in-Ok.ensures.whole (rw c.as_slice.ensures.value at c.run_text.ensures.fault)
-
-pub returns-in-Ok-clause-left : goal.returns-in-Ok-clause-left
-returns-in-Ok-clause-left g c =
-    left_by_input c.args.settings _ c.in-Ok.script.items c.run_text.result _ _ c.in-Ok.ensures.whole (rw c.as_slice.ensures.value at c.run_text.ensures.left)
+pub returns-in-Ok-run-clause-left : goal.returns-in-Ok-run-clause-left
+returns-in-Ok-run-clause-left g c =
+    let ran = rw (c.new-world.ensures, c.as_slice.ensures.value) at c.in-Ok-run.ensures.run in
+    script_begun (in_world c.args.settings) _ c.in-Ok.events.items c.in-Ok-run.outcomes.items _ _ c.print_lines.result c.in-Ok.ensures.given (c.run.new.self, ran.0, ran.1)
+    (rw (c.as_slice-in-Ok-run.ensures.value, c.as_slice-in-Ok-run-2.ensures.value) at c.print_lines.ensures.fault)

@@ -1,38 +1,37 @@
-use Rattle.std.proofs.Common.{subst}
-use Rattle.tokend.specs.Task.{Asks}
-use Rattle.tokend.proofs.Loopbacks.{faults_of_loopback, left_by_loopback, loopback_done}
-use Rattle.tokend.proofs.Runs.{faults_of_script, faults_of_service, left_by_script, left_by_service, script_done, service_done, service_quiet, untold}
+use Rattle.std.proofs.Common.{subst, sym, inl, inr}
+use Rattle.tokend.specs.Task.{script_task, loopback_task, Asks}
+use Rattle.tokend.proofs.Runs.{faults_of_task, left_by_task, script_done, service_done, service_quiet, untold}
 use Rattle.tokend.proofs.program.run_task.Goals as goal
 
 pub returns-in-Script-clause-done : goal.returns-in-Script-clause-done
 returns-in-Script-clause-done g c = λ words asked.
-    let asks = subst (Asks words) c.in-Script.is asked in
-    script_done words _ _ _ c.in-Script.numbers c.settings.result c.run_script.result asks c.settings.ensures c.run_script.ensures.done
+    let asks = subst (λ s. Asks words (script_task s)) (sym c.settings.ensures) (subst (Asks words) c.in-Script.is asked) in
+    script_done words _ _ _ _ c.run_script.result (λ h. inl (c.settings.result, asks, h)) c.run_script.ensures.done
 
 pub returns-in-Script-clause-fault : goal.returns-in-Script-clause-fault
 returns-in-Script-clause-fault g c = λ words asked.
-    let asks = subst (Asks words) c.in-Script.is asked in
-    faults_of_script words _ c.in-Script.numbers c.run_script.result asks c.run_script.ensures.fault
+    let asks = subst (λ s. Asks words (script_task s)) (sym c.settings.ensures) (subst (Asks words) c.in-Script.is asked) in
+    faults_of_task words _ _ c.run_script.result (λ fault h. inr (inl (c.settings.result, asks, h))) c.run_script.ensures.fault
 
 pub returns-in-Script-clause-left : goal.returns-in-Script-clause-left
 returns-in-Script-clause-left g c = λ words asked.
-    let asks = subst (Asks words) c.in-Script.is asked in
-    left_by_script words _ _ _ c.in-Script.numbers c.settings.result c.run_script.result asks c.settings.ensures c.run_script.ensures.left
+    let asks = subst (λ s. Asks words (script_task s)) (sym c.settings.ensures) (subst (Asks words) c.in-Script.is asked) in
+    left_by_task words _ _ _ _ c.run_script.result (λ h. inl (inl (c.settings.result, asks, h))) c.run_script.ensures.left
 
 pub returns-in-Loopback-clause-done : goal.returns-in-Loopback-clause-done
 returns-in-Loopback-clause-done g c = λ words asked.
-    let asks = subst (Asks words) c.in-Loopback.is asked in
-    loopback_done words _ _ _ c.in-Loopback.numbers c.settings-in-Loopback.result c.run_loopback.result asks c.settings-in-Loopback.ensures c.run_loopback.ensures.done
+    let asks = subst (λ s. Asks words (loopback_task s)) (sym c.settings-in-Loopback.ensures) (subst (Asks words) c.in-Loopback.is asked) in
+    script_done words _ _ _ _ c.run_loopback.result (λ h. inr (c.settings-in-Loopback.result, asks, h)) c.run_loopback.ensures.done
 
 pub returns-in-Loopback-clause-fault : goal.returns-in-Loopback-clause-fault
 returns-in-Loopback-clause-fault g c = λ words asked.
-    let asks = subst (Asks words) c.in-Loopback.is asked in
-    faults_of_loopback words _ c.run_loopback.result (c.in-Loopback.numbers, asks) c.run_loopback.ensures.fault
+    let asks = subst (λ s. Asks words (loopback_task s)) (sym c.settings-in-Loopback.ensures) (subst (Asks words) c.in-Loopback.is asked) in
+    faults_of_task words _ _ c.run_loopback.result (λ fault h. inr (inr (c.settings-in-Loopback.result, asks, h))) c.run_loopback.ensures.fault
 
 pub returns-in-Loopback-clause-left : goal.returns-in-Loopback-clause-left
 returns-in-Loopback-clause-left g c = λ words asked.
-    let asks = subst (Asks words) c.in-Loopback.is asked in
-    left_by_loopback words _ _ _ c.in-Loopback.numbers c.settings-in-Loopback.result c.run_loopback.result asks c.settings-in-Loopback.ensures c.run_loopback.ensures.left
+    let asks = subst (λ s. Asks words (loopback_task s)) (sym c.settings-in-Loopback.ensures) (subst (Asks words) c.in-Loopback.is asked) in
+    left_by_task words _ _ _ _ c.run_loopback.result (λ h. inl (inr (c.settings-in-Loopback.result, asks, h))) c.run_loopback.ensures.left
 
 pub returns-in-Serve-clause-done : goal.returns-in-Serve-clause-done
 returns-in-Serve-clause-done g c = λ words asked.
@@ -42,12 +41,12 @@ returns-in-Serve-clause-done g c = λ words asked.
 pub returns-in-Serve-clause-fault : goal.returns-in-Serve-clause-fault
 returns-in-Serve-clause-fault g c = λ words asked.
     let asks = subst (Asks words) c.in-Serve.is asked in
-    faults_of_service words _ c.in-Serve.service c.serve.result asks c.serve.ensures.fault
+    faults_of_task words _ _ c.serve.result (λ fault h. inl (c.in-Serve.service, asks, h)) c.serve.ensures.fault
 
 pub returns-in-Serve-clause-left : goal.returns-in-Serve-clause-left
 returns-in-Serve-clause-left g c = λ words asked.
     let asks = subst (Asks words) c.in-Serve.is asked in
-    left_by_service words _ c.in-Serve.service c.serve.result _ _ asks c.serve.ensures.left
+    left_by_task words _ _ _ _ c.serve.result (λ h. inr (inl (c.in-Serve.service, asks, h))) c.serve.ensures.left
 
 pub returns-in-Serve-clause-quiet : goal.returns-in-Serve-clause-quiet
 returns-in-Serve-clause-quiet g c = λ words asked.

@@ -1,5 +1,5 @@
-use Rattle.std.proofs.Common.{◌≡◌, List, Result, Ok, Err}
-use Rattle.std.specs.Prelude.{Vec, MatchResult, OnErr, IfOk}
+use Rattle.std.proofs.Common.{Result, Ok, Err}
+use Rattle.std.specs.Prelude.{MatchResult, OnErr, IfOk}
 use Rattle.tokend.proofs.promises.an_error_changes_nothing.Goals as goal
 
 -- a result by its two cases

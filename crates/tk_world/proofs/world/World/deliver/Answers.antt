@@ -3,9 +3,12 @@ use Rattle.std.specs.FinMap as map
 use Rattle.tk_message.specs.Place.{next_in}
 use Rattle.tk_region.specs.RegionFields.{RegionFields, place_in}
 use Rattle.tk_region.specs.Taking.{has_unmade}
-use Rattle.tk_world.specs.declared.event.Event.TheVariants.{Deliver}
+use Rattle.tk_store.specs.FactSet.{Facts}
+use Rattle.tk_world.specs.World.{IsDelivery}
+use Rattle.tk_world.proofs.ConsistencyLaws.{delivery_keeps}
+use Rattle.tk_world.specs.State.{IsConsistent}
 use Rattle.tk_world.proofs.HonestLaws.{agrees_within, all_made}
-use Rattle.tk_world.proofs.PartLaws.{world, absent_at, held_at, region_at, sorted_after, settings_after, state_after, found_at, deliver_step, taken_number, ended, ended_keeps}
+use Rattle.tk_world.proofs.PartLaws.{world, absent_at, held_at, region_at, sorted_after, settings_after, state_after, found_at, deliver_step, taken_number, ended}
 use Rattle.tk_world.proofs.world.World.deliver.Goals as goal
 
 pub returns-in-Err : goal.returns-in-Err
@@ -58,8 +61,8 @@ invariant_of-self c =
     let step = deliver_step s c.args.bundle c.args.region p.region q.region c.in-Some.bundle.now c.deliver.result held (sym there) c.deliver.ensures.takes in (
       sorted_after w.settings w.regions.items w.bundles.items c.self.invariant.0 c.args.region c.in-Ok.at at c.self.invariant.1 p is q kept.0 kept.1,
       settings_after w.settings w.regions.items w.bundles.items c.self.invariant.0 c.args.region c.in-Ok.at at c.self.invariant.1 p is q kept.0 kept.1,
-      ended_keeps s (Deliver c.args.bundle c.args.region) c.deliver.result _ step tt _
-          (state_after w.settings w.regions.items w.bundles.items c.self.invariant.0 c.args.region c.in-Ok.at at c.self.invariant.1 p is q kept.0 kept.1) c.self.invariant.2,
+      subst IsConsistent (sym (state_after w.settings w.regions.items w.bundles.items c.self.invariant.0 c.args.region c.in-Ok.at at c.self.invariant.1 p is q kept.0 kept.1))
+          (delivery_keeps s c.args.bundle c.args.region c.deliver.result step.0 _ step.1 c.self.invariant.2),
     )
 
 pub returns-in-Some : goal.returns-in-Some
@@ -74,7 +77,7 @@ returns-in-Some c =
     let q = c.deliver.new.edge in
     let kept = taken_number p q c.in-Some.bundle.now c.deliver.result c.deliver.ensures.takes c.deliver.ensures.sealed c.deliver.ensures.sync in
     let step = deliver_step s c.args.bundle c.args.region p.region q.region c.in-Some.bundle.now c.deliver.result held (sym there) c.deliver.ensures.takes in
-    ended s (Deliver c.args.bundle c.args.region) c.deliver.result _ step _
+    ended (λ x y. (seen : Facts) × IsDelivery x c.args.bundle c.args.region c.deliver.result seen y) s _ step _
     (state_after w.settings w.regions.items w.bundles.items c.self.invariant.0 c.args.region c.in-Ok.at at c.self.invariant.1 p is q kept.0 kept.1) _ c.self.view_is
 
 pub returns-in-None : goal.returns-in-None

@@ -1,7 +1,9 @@
 use Rattle.std.proofs.Common.{[], ap, sym, ◌∙◌, refl}
 use Rattle.std.specs.FinMap as map
-use Rattle.tk_world.specs.declared.event.Event.TheVariants.{Pull}
-use Rattle.tk_world.proofs.PartLaws.{world, absent_at, held_at, pull_step, ended, ended_keeps}
+use Rattle.tk_store.specs.FactSet.{Facts}
+use Rattle.tk_world.specs.World.{IsPull}
+use Rattle.tk_world.proofs.ConsistencyLaws.{pull_keeps}
+use Rattle.tk_world.proofs.PartLaws.{world, absent_at, held_at, pull_step, ended}
 use Rattle.tk_world.proofs.world.World.pull.Goals as goal
 
 pub returns-in-Err : goal.returns-in-Err
@@ -24,7 +26,7 @@ invariant_of-self c =
     let s = world w.settings w.regions.items w.bundles.items in
     let held = held_at w.settings w.regions.items w.bundles.items c.self.invariant.0 c.args.region c.in-Ok.at at c.self.invariant.1 p is in
     let step = pull_step s c.args.region p.region.facts c.args.vector.now c.args.after c.pull_page.result c.pull_page.new.bundles.items held (rw c.region.ensures at c.pull_page.ensures) in
-    (c.self.invariant.0, c.self.invariant.1, ended_keeps s (Pull c.args.region c.args.vector.now c.args.after) c.pull_page.result _ step tt _ refl c.self.invariant.2)
+    (c.self.invariant.0, c.self.invariant.1, pull_keeps s c.args.region c.args.vector.now c.args.after c.pull_page.result step.0 _ step.1 c.self.invariant.2)
 
 pub returns-in-Ok : goal.returns-in-Ok
 returns-in-Ok c =
@@ -35,4 +37,4 @@ returns-in-Ok c =
     let s = world w.settings w.regions.items w.bundles.items in
     let held = held_at w.settings w.regions.items w.bundles.items c.self.invariant.0 c.args.region c.in-Ok.at at c.self.invariant.1 p is in
     let step = pull_step s c.args.region p.region.facts c.args.vector.now c.args.after c.pull_page.result c.pull_page.new.bundles.items held (rw c.region.ensures at c.pull_page.ensures) in
-    ended s (Pull c.args.region c.args.vector.now c.args.after) c.pull_page.result _ step _ refl _ c.self.view_is
+    ended (λ x y. (seen : Facts) × IsPull x c.args.region c.args.vector.now c.args.after c.pull_page.result seen y) s _ step _ refl _ c.self.view_is

@@ -1,10 +1,13 @@
-use Rattle.std.proofs.Common.{[], ap, sym, ◌∙◌, refl}
+use Rattle.std.proofs.Common.{[], ap, sym, subst, ◌∙◌, refl}
 use Rattle.std.specs.FinMap as map
-use Rattle.tk_world.proofs.PartLaws.{world, absent_at, held_at, region_at, sorted_after, settings_after, state_after, request_step, request_next, answered_number, answered, answered_keeps}
+use Rattle.tk_world.specs.AskedFields.{AskedFields}
+use Rattle.tk_world.specs.Broken.{Requests}
+use Rattle.tk_world.specs.State.{IsConsistent}
+use Rattle.tk_world.proofs.PartLaws.{world, absent_at, held_at, region_at, sorted_after, settings_after, state_after, request_step, request_keeps, carried_number, ended}
 use Rattle.tk_world.proofs.world.World.request.Goals as goal
 
 pub returns-in-Err : goal.returns-in-Err
-returns-in-Err c =
+returns-in-Err g c =
     let w = c.self.inside in (
       [],
       (
@@ -15,7 +18,7 @@ returns-in-Err c =
     )
 
 pub invariant_of-self : goal.invariant_of-self
-invariant_of-self c =
+invariant_of-self g c =
     let w = c.self.inside in
     let at = rw c.deref.ensures.value at c.in-Ok.ensures in
     let p = c.index_mut.result.now in
@@ -23,19 +26,17 @@ invariant_of-self c =
     let s = world w.settings w.regions.items w.bundles.items in
     let held = held_at w.settings w.regions.items w.bundles.items c.self.invariant.0 c.args.region c.in-Ok.at at c.self.invariant.1 p is in
     let same = region_at w.settings w.regions.items w.bundles.items c.self.invariant.0 c.args.region c.in-Ok.at at c.self.invariant.1 p is in
-    let q = c.answer.new.edge in
-    let asked = c.args.asked.now in
-    let kept = answered_number p q asked c.answer.result c.answer.ensures in
-    let step = request_step s c.args.region p q asked c.answer.result same held c.answer.ensures in
-    let next = request_next s c.args.region p q asked c.answer.result same held c.answer.ensures in (
+    let q = c.carry.new.edge in
+    let asked : AskedFields = record { now = c.args.now; words = c.args.words.now; bytes = c.args.bytes.now } in
+    let kept = carried_number g.C.Carrier.way p q asked c.carry.result c.carry.ensures in (
       sorted_after w.settings w.regions.items w.bundles.items c.self.invariant.0 c.args.region c.in-Ok.at at c.self.invariant.1 p is q kept.0 kept.1,
       settings_after w.settings w.regions.items w.bundles.items c.self.invariant.0 c.args.region c.in-Ok.at at c.self.invariant.1 p is q kept.0 kept.1,
-      answered_keeps s c.args.region asked c.answer.result _ step next _
-          (state_after w.settings w.regions.items w.bundles.items c.self.invariant.0 c.args.region c.in-Ok.at at c.self.invariant.1 p is q kept.0 kept.1) c.self.invariant.2,
+      subst IsConsistent (sym (state_after w.settings w.regions.items w.bundles.items c.self.invariant.0 c.args.region c.in-Ok.at at c.self.invariant.1 p is q kept.0 kept.1))
+          (request_keeps g.C.Carrier.way s c.args.region p q asked same held c.carry.result c.carry.ensures c.self.invariant.2),
     )
 
 pub returns-in-Ok : goal.returns-in-Ok
-returns-in-Ok c =
+returns-in-Ok g c =
     let w = c.self.inside in
     let at = rw c.deref.ensures.value at c.in-Ok.ensures in
     let p = c.index_mut.result.now in
@@ -43,9 +44,9 @@ returns-in-Ok c =
     let s = world w.settings w.regions.items w.bundles.items in
     let held = held_at w.settings w.regions.items w.bundles.items c.self.invariant.0 c.args.region c.in-Ok.at at c.self.invariant.1 p is in
     let same = region_at w.settings w.regions.items w.bundles.items c.self.invariant.0 c.args.region c.in-Ok.at at c.self.invariant.1 p is in
-    let q = c.answer.new.edge in
-    let asked = c.args.asked.now in
-    let kept = answered_number p q asked c.answer.result c.answer.ensures in
-    let step = request_step s c.args.region p q asked c.answer.result same held c.answer.ensures in
-    answered s c.args.region asked c.answer.result _ step _
-    (state_after w.settings w.regions.items w.bundles.items c.self.invariant.0 c.args.region c.in-Ok.at at c.self.invariant.1 p is q kept.0 kept.1) _ c.self.view_is
+    let q = c.carry.new.edge in
+    let asked : AskedFields = record { now = c.args.now; words = c.args.words.now; bytes = c.args.bytes.now } in
+    let kept = carried_number g.C.Carrier.way p q asked c.carry.result c.carry.ensures in
+    ended (λ x y. Requests g.C.Carrier.way x c.args.region asked c.carry.result y) s _
+    (request_step g.C.Carrier.way s c.args.region p q asked same held c.carry.result c.carry.ensures)
+    _ (state_after w.settings w.regions.items w.bundles.items c.self.invariant.0 c.args.region c.in-Ok.at at c.self.invariant.1 p is q kept.0 kept.1) _ c.self.view_is

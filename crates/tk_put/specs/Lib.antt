@@ -1,0 +1,3 @@
+-- The definitions of this crate:
+--   Put   Prints, what writing leaves of an output; joined_text, the text of pieces
+pub mod Put
