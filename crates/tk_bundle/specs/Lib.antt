@@ -17,3 +17,4 @@ pub mod VersionLaws
 pub mod Versions
 pub use Rattle.tk_store.specs.FactSet
 pub use Rattle.tk_store.specs.Store
+pub use Rattle.tk_store.specs.StoreFields

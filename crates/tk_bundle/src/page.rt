@@ -21,7 +21,7 @@ ghost use Rattle.std.specs.List.{AllByRecursion, flat_map};
 ghost use Rattle.tk_format.specs.Format.{number};
 ghost use Rattle.tk_fact.specs.Check.{refusal_of};
 ghost use Rattle.tk_fact.specs.FactBytes.{framed};
-ghost use Rattle.tk_store.specs.Store.{facts_of, known_in};
+ghost use Rattle.tk_store.specs.StoreFields.{held_facts, IsWhole};
 ghost use Rattle.tk_store.specs.Paging as paging;
 ghost use Rattle.tk_bundle.specs.Versions.{newest_kind, version_with};
 ghost use Rattle.tk_bundle.specs.Bundle.{magic, most_facts, bundle, bundle_bytes};
@@ -39,18 +39,19 @@ use tk_vector::VersionVector;
 /// vector does not cover.
 ///
 /// If more facts follow, the next page is the one with the last dot as its cursor. Facts that the
-/// vector covers are skipped without a walk over them.
+/// vector covers are passed over without a walk. The store has skipped no fact.
 pub fn make(
     alloc: Global,
     store: &FactStore,
     vector: &VersionVector,
     after: Option<Dot>,
 ) -> Result<Page, AllocError>
+    requires { IsWhole store.now }
     ensures page { IfOk result (λ page.
-        spec.IsPageOf page (spec.page_of (known_in store.now) vector.now after)) }
+        spec.IsPageOf page (spec.page_of (held_facts store.now) vector.now after)) }
 
     // A page can be read.
-    ensures fits { OnOk result (bundle.Fits (spec.page_of (known_in store.now) vector.now
+    ensures fits { OnOk result (bundle.Fits (spec.page_of (held_facts store.now) vector.now
         after).facts) }
 {
     page_within(alloc, store, vector, after, MOST_FACTS as usize)
@@ -65,10 +66,11 @@ fn page_within(
     after: Option<Dot>,
     limit: usize,
 ) -> Result<Page, AllocError>
-    requires { limit ≤ most_facts }
+    requires most { limit ≤ most_facts }
+    requires whole { IsWhole store.now }
     ensures page { IfOk result (λ page.
-        spec.IsPageOf page (spec.page_within limit (known_in store.now) vector.now after)) }
-    ensures fits { OnOk result (bundle.Fits (paging.page limit (known_in store.now) vector.now
+        spec.IsPageOf page (spec.page_within limit (held_facts store.now) vector.now after)) }
+    ensures fits { OnOk result (bundle.Fits (paging.page limit (held_facts store.now) vector.now
         after)) }
 {
     let mut dots = store.since(alloc, vector, after, limit + 1)?;
@@ -80,9 +82,9 @@ fn page_within(
 // Makes the page of the facts at the dots.
 fn page_at(alloc: Global, store: &FactStore, dots: &[Dot], more: bool) -> Result<Page, AllocError>
     requires { length dots.now ≤ most_facts }
-    ensures page { IfOk result (λ page. spec.IsPageAt page (facts_of store.now) dots.now more) }
+    ensures page { IfOk result (λ page. spec.IsPageAt page (held_facts store.now) dots.now more) }
     ensures fits { OnOk result (AllByRecursion framed.Fits
-        (spec.facts_at (facts_of store.now) dots.now)) }
+        (spec.facts_at (held_facts store.now) dots.now)) }
 {
     let count = dots.len() as u16;
     let mut writer = begin_bundle(alloc, newest_at(store, dots), count)?;
@@ -97,7 +99,7 @@ fn page_at(alloc: Global, store: &FactStore, dots: &[Dot], more: bool) -> Result
 
 // Returns the newest kind among the facts at the dots.
 fn newest_at(store: &FactStore, dots: &[Dot]) -> u8
-    ensures { result ≡ newest_kind 0 (spec.facts_at (facts_of store.now) dots.now) }
+    ensures { result ≡ newest_kind 0 (spec.facts_at (held_facts store.now) dots.now) }
 {
     let mut newest = 0;
     for dot in dots {
@@ -108,7 +110,7 @@ fn newest_at(store: &FactStore, dots: &[Dot]) -> u8
 
 // Returns the greater of a kind and that of the fact at the dot, if there is one.
 fn newest_with(last: u8, store: &FactStore, dot: Dot) -> u8
-    ensures { result ≡ newest_kind last (spec.facts_at (facts_of store.now) (dot ∷ [])) }
+    ensures { result ≡ newest_kind last (spec.facts_at (held_facts store.now) (dot ∷ [])) }
 {
     match store.get(dot) {
         Some(fact) => last.max(kind_of(&fact.body)),
@@ -147,9 +149,9 @@ fn write_facts(
     writer: &mut Writer,
 ) -> Result<(), AllocError>
     ensures written { OnOk result (writer.new ≡ writer.old ++ flat_map framed.spell
-        (spec.facts_at (facts_of store.now) dots.now)) }
+        (spec.facts_at (held_facts store.now) dots.now)) }
     ensures fits { OnOk result (AllByRecursion framed.Fits
-        (spec.facts_at (facts_of store.now) dots.now)) }
+        (spec.facts_at (held_facts store.now) dots.now)) }
 {
     for dot in dots {
         write_fact(alloc, store, *dot, writer)?;
@@ -165,9 +167,9 @@ fn write_fact(
     writer: &mut Writer,
 ) -> Result<(), AllocError>
     ensures written { OnOk result (writer.new ≡ writer.old ++ flat_map framed.spell
-        (spec.facts_at (facts_of store.now) (dot ∷ []))) }
+        (spec.facts_at (held_facts store.now) (dot ∷ []))) }
     ensures fits { OnOk result (AllByRecursion framed.Fits
-        (spec.facts_at (facts_of store.now) (dot ∷ []))) }
+        (spec.facts_at (held_facts store.now) (dot ∷ []))) }
 {
     store.known();
     match store.get(dot) {
