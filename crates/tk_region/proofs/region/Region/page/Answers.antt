@@ -7,4 +7,4 @@ use Rattle.tk_region.proofs.region.Region.page.Goals as goal
 pub returns-clause-page : goal.returns-clause-page
 returns-clause-page c =
     subst (λ (F : Store). IfOk c.make.result (λ page. pages.IsPageOf page (pages.page_of F c.args.vector.now c.args.after)))
-    (c.store.ensures ∙ ap (λ (r : RegionFields). r.facts) c.self.view_is) c.make.ensures.page
+    (c.store.ensures.facts ∙ ap (λ (r : RegionFields). r.facts) c.self.view_is) c.make.ensures.page
