@@ -279,10 +279,10 @@ def blocks_in(name):
         lines = content.decode().split("\n")
     except UnicodeDecodeError as e:
         line = content.count(b"\n", 0, e.start) + 1
-        raise Bad("rows/%s:%d: bytes that are no text" % (name, line))
+        raise Bad("check/rows/%s:%d: bytes that are no text" % (name, line))
     blocks = []
     for number, line in enumerate(lines, 1):
-        place, (sign, _, text) = "rows/%s:%d" % (name, number), line.partition(" ")
+        place, (sign, _, text) = "check/rows/%s:%d" % (name, number), line.partition(" ")
         if sign in ("==", "::", "||"):
             if not text.strip() or any(block[1:3] == (sign, text) for block in blocks):
                 raise Bad("%s: a name that is none, or comes twice" % place)
@@ -319,7 +319,7 @@ def all_rows():
         if name == SHARED:
             shared = beginnings
         elif not here:
-            raise Bad("rows/%s:1: no row" % name)
+            raise Bad("check/rows/%s:1: no row" % name)
         rows += here
         others += list(beginnings.values()) + list(tables.values())
     if not rows:
