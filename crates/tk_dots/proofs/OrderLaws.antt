@@ -229,7 +229,7 @@ module _ {X : Type 0} where
           let there : (v : Slots X) × (get dot_cmp m (page_of q) ≡ Some v) × (q.serial % span < length v.items) = held_on q h in
           let page : IsPage (page_of q) there.0.items = pages (page_of q) there.0 there.1 in
           let within : IsLeBy dot_cmp (record { region = r; serial = 1 }) (page_of q) × IsLeBy dot_cmp (page_of q) (record { region = r; serial = greatest_serial }) =
-              in_region (page_of q) same (omega arith) (omega (arith, page.high, page.some)) in
+          in_region (page_of q) same (omega arith) (omega (arith, page.high, page.some)) in
           (subst (λ (x : Dot). IsLeBy dot_cmp x (page_of q)) (sym lo) within.0, subst (λ (x : Dot). IsLeBy dot_cmp (page_of q) x) (sym hi) within.1)
 
       pub last_is : (k : Dot) (v : Slots X) → IsLeBy dot_cmp first k × IsLeBy dot_cmp k last → get dot_cmp m k ≡ Some v → 0 < k.serial
