@@ -1,5 +1,5 @@
--- A dot is taken out of the chain of its parent: the chain is built anew from the same dots, without
--- that one.
+-- A dot is taken out of the chain of the dot that it names: the chain is built anew from the same
+-- dots, without that one.
 use Rattle.std.specs.FinMap as map
 use Rattle.std.proofs.Common.{◌≡◌, ◌≢◌, inl, inr, ℕ, ◌-◌, ◌≤◌, ◌||◌, ◌&&◌, Bool, true, false, cond, Option, None, Some, List, [], ◌∷◌, ◌++◌, length, ap, sym, ◌∙◌, refl, arith, subst, append_assoc, append-nil, IsSome}
 use Rattle.std.proofs.lemmas.Bool.{true≢false, cond-true, cond-false, false_from_ne_true}

@@ -2,7 +2,8 @@
 --   without            links without the one at a dot
 --   IsShort            a list has no room for all children of a dot
 --   IsSettled          each row has the code that its dot is under, and each chain has the children
---   KeptBut, Unhangs   a dot is out of the chain of its parent, whose uses are counted anew
+--   KeptBut, Unhangs   a dot is out of the chain of the dot that it names, whose uses are counted
+--                      anew
 --   Unlinks            the link at a dot is gone, with what followed from it; the codes in the rows
 --                      below the dot stay
 --   Clears             a dot and what hung below it are under no code

@@ -1,8 +1,8 @@
 //! What a forest keeps at a dot.
 //!
-//! The children of a dot are the dots whose links name it. They are one chain: the row of the dot
-//! has the `first` of them, and the row of each child has the `next`. A new child becomes the
-//! `first`, so the chain begins with the child that was put latest.
+//! The children of a dot are here the dots whose links name it, whether or not they fit. They are
+//! one chain: the row of the parent has the `first` of them, and the row of each child has the
+//! `next`. A new child becomes the `first`, so the chain begins with the child that was put latest.
 //!
 //! ```text
 //!            parent
