@@ -1,5 +1,5 @@
--- Dots rise as their pages do, and on a page as their places do. Key results:
---   on_page, no_page    the least dot above is found on a page
+-- The order of dots is that of their pages, and on one page that of their places. Key results:
+--   on_page, no_page    the least dot above a dot is found on a page
 --   last_is             the greatest serial of a region
 use Rattle.std.proofs.Common.{◌≡◌, ◌≢◌, ℕ, ◌+◌, ◌*◌, ◌/◌, ◌%◌, ◌-◌, ◌<◌, ◌≤◌, Bool, true, false, cond, length, List, [], ◌∷◌, slice_get, IfSome, Option, Some, None, IsSome, is_some, refl, sym, ap, subst, ◌∙◌, inl, inr, ◌⊎◌, arith, get_or}
 use Rattle.std.proofs.lemmas.List.{get_or_past}
@@ -20,7 +20,7 @@ use mathlib.Core.Bool.{false≢true}
 use Rattle.tk_dots.specs.Pages.{span, page_of, dot_in, Slots, Pages, slot_in, cell, cell_at, seen, FirstFrom, FirstIn, FirstOn, EndsFull, IsPage, IsPages, IsAbove, IsLeastAbove, IsNext, IsLast, IsFirstPage, FirstOfPages}
 use Rattle.tk_dots.proofs.PlaceLaws.{tied, tied_same, dot_is, get_seen}
 
--- a dot before another
+-- a dot is below another
 abbrev Before : Dot → Dot → Type 0
 Before a b = (a.region < b.region) ⊎ ((a.region ≡ b.region) × (a.serial < b.serial))
 
@@ -66,7 +66,7 @@ place_in : (k : Dot) (i : ℕ) → i < span → (dot_in k i).serial % span ≡ i
 place_in k i below = omega arith
 
 module _ {X : Type 0} where
-  -- where something lies, there is a page
+  -- a place with a value is on a page
   paged : (o : Option (Slots X)) (i : ℕ) → IsSome (slot_in o i) → (v : Slots X) × (o ≡ Some v) × (i < length v.items)
   paged None i h = absurd (false≢true h)
   paged (Some v) i h = (
@@ -88,14 +88,15 @@ module _ {X : Type 0} where
         ∙ ap (λ (x : Dot). cell m x ((dot_in k i).serial % span)) (page_in k i some below)
         ∙ ap (λ (j : ℕ). cell m k j) (place_in k i below)
 
-    -- what is held lies on a page
+    -- a dot with a value has a page
     pub held_on : (q : Dot) → IsSome (map.get F q) → (v : Slots X) × (get dot_cmp m (page_of q) ≡ Some v) × (q.serial % span < length v.items)
     held_on q h = paged (get dot_cmp m (page_of q)) (q.serial % span) (subst IsSome (at q) h)
 
     page_there : (q : Dot) → IsSome (map.get F q) → IsSome (get dot_cmp m (page_of q))
     page_there q h = ap is_some (held_on q h).1
 
-    -- the least dot above one: on the page k, from a place on, is the first; what is above and not there is on later pages
+    -- the least dot above a dot is the first of the page k, from a place on, if the other dots above
+    -- are on later pages
     on_page : (after : Option Dot) (k : Dot) (from : ℕ) (p : Dot × X) → 0 < k.serial
         → ((i : ℕ) → from ≤ i → i < span → IsAbove after (dot_in k i))
         → ((q : Dot) → IsAbove after q → IsSome (map.get F q) → ((page_of q ≡ k) × (from ≤ q.serial % span)) ⊎ Before k (page_of q))
@@ -123,7 +124,7 @@ module _ {X : Type 0} where
         not_less q i below none (inr (inr e)) held (inl lt') = absurd (omega (arith, lt', e.0))
         not_less q i below none (inr (inr e)) held (inr f) = absurd (omega (arith, e.1, f.1, below))
 
-    -- a dot above another: behind it on its page, or on a later one
+    -- a dot above another is at a later place of its page, or on a later page
     rises : (d q : Dot) → is_lt (dot_cmp d q) ≡ true → ((page_of q ≡ page_of d) × (d.serial % span + 1 ≤ q.serial % span)) ⊎ Before (page_of d) (page_of q)
     rises d q h = elim (before d q h) [
       | inl lt ↦ inr (inl lt)
@@ -135,7 +136,7 @@ module _ {X : Type 0} where
       ]
     ]
 
-    -- behind a dot on its page
+    -- the least dot above is on the page of the dot
     pub next_here : (d : Dot) (p : Dot × X) → FirstOn m (page_of d) (d.serial % span + 1) (Some p) → IsNext F (Some d) (Some p)
     next_here d p first = on_page (Some d) (page_of d) (d.serial % span + 1) p (omega arith)
         (λ i le below. is_before d (dot_in (page_of d) i) (inr (refl, omega (arith, le))))
@@ -159,7 +160,7 @@ module _ {X : Type 0} where
       ]
     ]
 
-    -- nothing behind it there: the first of the next page
+    -- no dot above is on the page of the dot: the least is the first of the next page
     pub next_page : (d : Dot) (p : Dot × X) → FirstFrom (cell m (page_of d)) (d.serial % span + 1) None → FirstOfPages m (Some (page_of d)) (Some p) → IsNext F (Some d) (Some p)
     next_page d p none first = on_page (Some d) first.key 0 p first.some
         (λ i le below. above_page first.key i (before (page_of d) first.key first.above) first.some)
@@ -181,7 +182,7 @@ module _ {X : Type 0} where
       | inr later ↦ at q ∙ ap (λ (o : Option (Slots X)). slot_in o (q.serial % span)) (no_page (page_of q) (is_before (page_of d) (page_of q) later))
     ]
 
-    -- the first of all
+    -- the least dot of all
     pub first_page : (p : Dot × X) → FirstOfPages m None (Some p) → IsNext F None (Some p)
     first_page p first = on_page None first.key 0 p first.some (λ i le below. tt)
         (λ q above held. elim (not_lt (page_of q) first.key (first.least (page_of q) tt (page_there q held))) [
@@ -229,7 +230,7 @@ module _ {X : Type 0} where
           let there : (v : Slots X) × (get dot_cmp m (page_of q) ≡ Some v) × (q.serial % span < length v.items) = held_on q h in
           let page : IsPage (page_of q) there.0.items = pages (page_of q) there.0 there.1 in
           let within : IsLeBy dot_cmp (record { region = r; serial = 1 }) (page_of q) × IsLeBy dot_cmp (page_of q) (record { region = r; serial = greatest_serial }) =
-              in_region (page_of q) same (omega arith) (omega (arith, page.high, page.some)) in
+          in_region (page_of q) same (omega arith) (omega (arith, page.high, page.some)) in
           (subst (λ (x : Dot). IsLeBy dot_cmp x (page_of q)) (sym lo) within.0, subst (λ (x : Dot). IsLeBy dot_cmp (page_of q) x) (sym hi) within.1)
 
       pub last_is : (k : Dot) (v : Slots X) → IsLeBy dot_cmp first k × IsLeBy dot_cmp k last → get dot_cmp m k ≡ Some v → 0 < k.serial
@@ -265,7 +266,7 @@ module _ {X : Type 0} where
 
   -- ---- the first page
 
-  -- it has a value, which is the first of all above
+  -- the first page above has a value, and its first is the least above
   pub page_first : (m : Pages X) → IsPages m → (after : Option Dot) (k : Dot) (v : Slots X) → get dot_cmp m k ≡ Some v → 0 < k.serial → IsAbove after k
       → ((q : Dot) → IsAbove after q → IsSome (get dot_cmp m q) → is_lt (dot_cmp q k) ≡ false)
       → (r : Option (Dot × X)) → FirstIn k v.items 0 r → FirstOfPages m after r
@@ -288,7 +289,7 @@ module _ {X : Type 0} where
       let there : IfSome (slice_get ((k, v) ∷ rest) 0) (IsEntryInRange dot_cmp lo hi m) = subst (λ (l : List (Dot × Slots X)). IfSome (slice_get l 0) (IsEntryInRange dot_cmp lo hi m)) steps range.1 in
       there.1
 
-  -- of what lies in a range, the first
+  -- the first entry of a range above a page has the first value above that page
   pub range_excluded : (m : Pages X) → IsPages m → (a : Dot) (after : Option Dot) → after ≡ Some a → (part rest : List (Dot × Slots X)) (k : Dot) (v : Slots X)
       → IsRangeOf dot_cmp (Excluded a) Unbounded m part → part ≡ (k, v) ∷ rest → 0 < k.serial
       → (r : Option (Dot × X)) → FirstIn k v.items 0 r → FirstOfPages m after r

@@ -1,7 +1,7 @@
 -- The pages after one of them was written. Key results:
 --   cells_updated, pages_updated              a page is put, or written through
 --   cells_taken, pages_taken                  a page without values is taken out
---   page_one, page_put, page_set, page_taken  a page stays one
+--   page_one, page_put, page_set, page_taken  a page is as `IsPage` says after a write
 use Rattle.std.proofs.Common.{◌≡◌, ◌≢◌, ℕ, ◌+◌, ◌*◌, ◌-◌, ◌<◌, ◌≤◌, ◌==◌, ◌&&◌, max, Bool, true, false, cond, length, List, [], Option, Some, None, IsSome, is_some, Result, Ok, Err, OnOk, OnErr, refl, sym, ap, subst, ◌∙◌, inl, inr, arith, get_or}
 use Rattle.std.proofs.lemmas.List.{get_or_past}
 use Rattle.std.proofs.lemmas.Bool.{cases_Bool, cond-true, cond-false, cases_lt}
@@ -48,7 +48,7 @@ module _ {X : Type 0} (m n : Pages X) (k0 : Dot) (w : Option (Slots X)) (updates
     | inr apart ↦ pages k v (sym (updates k ∙ cond-false _ _ _ apart) ∙ at)
   ]
 
--- what stays the same at one page, stays
+-- a page is written with the values that it had: no cell changes
 pub cells_kept : {X : Type 0} (m n : Pages X) (k0 : Dot) (w : Slots X) → ((q : Dot) → get dot_cmp n q ≡ cond (is_at (dot_cmp k0) q) (Some w) (get dot_cmp m q))
     → ((j : ℕ) → get_or w.items j None ≡ cell m k0 j) → (k : Dot) (j : ℕ) → cell n k j ≡ cell m k j
 cells_kept {X} m n k0 w updates same k j = elim (cases_Bool (is_at (dot_cmp k0) k)) [
@@ -65,7 +65,7 @@ pub taken_out : {X : Type 0} (m l n : Pages X) (k0 : Dot) (w : Slots X) → ((q 
     → ((q : Dot) → get dot_cmp n q ≡ cond (is_at (dot_cmp k0) q) None (get dot_cmp l q)) → (q : Dot) → get dot_cmp n q ≡ cond (is_at (dot_cmp k0) q) None (get dot_cmp m q)
 taken_out m l n k0 w there gone q = gone q ∙ ap (cond (is_at (dot_cmp k0) q) None) (there q) ∙ cond_twice (is_at (dot_cmp k0) q) None (Some w) (get dot_cmp m q)
 
--- look-ups that are the same
+-- equal look-ups
 pub same_lookups : {X : Type 0} (m n : Pages X) → n.entries ≡ m.entries → (q : Dot) → get dot_cmp n q ≡ get dot_cmp m q
 same_lookups {X} m n e q = ap (λ (es : List (Dot × Slots X)). lookup (is_at (dot_cmp q)) es) e
 

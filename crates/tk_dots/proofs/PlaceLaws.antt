@@ -1,6 +1,6 @@
--- A dot is told by its page and its place there, and a map by what lies at each. Key results:
---   get_seen    what the map of the pages has at a dot
---   same_place  one page and one place are one dot
+-- A dot is known by its page and its place there. Key results:
+--   get_seen    the value at a dot, in the map that pages hold, is the value at its place
+--   same_place  two dots with one page and one place are equal
 use Rattle.std.proofs.Common.{◌≡◌, ◌≢◌, ℕ, zero, suc, ◌+◌, ◌*◌, ◌/◌, ◌%◌, ◌-◌, ◌<◌, ◌≤◌, ◌==◌, ◌&&◌, Bool, true, false, cond, List, [], ◌∷◌, Option, Some, None, IsSome, refl, sym, ap, subst, ◌∙◌, inl, inr, arith, get_or, ◌⊎◌}
 use Rattle.std.proofs.lemmas.Bool.{cases_Bool, cond-true, cond-false, cases_lt}
 use Rattle.std.proofs.lemmas.Bool.Decides.{nat_tests}
@@ -16,7 +16,7 @@ use Rattle.std.specs.declared.cmp.Ordering.TheVariants.{Less, Equal, Greater}
 use mathlib.Core.Bool.{false≢true}
 use Rattle.tk_dots.specs.Pages.{span, page_of, Slots, Pages, slot_in, cell, cell_at, with_slot, with_places, with_page, seen}
 
--- dots that compare alike are one
+-- dots that compare as equal are equal
 pub tied : (q d : Dot) → eq_by_cmp dot_cmp q d ≡ true → q ≡ d
 tied q d h = dot_cmp-IsAntisymmetric q d (equal_of (dot_cmp q d) h)
   where
@@ -31,7 +31,7 @@ tied_same q d e = subst (λ (x : Dot). eq_by_cmp dot_cmp q x ≡ true) e (ap is_
 pub dot_is : (q d : Dot) → q.region ≡ d.region → q.serial ≡ d.serial → q ≡ d
 dot_is q d e f = λ i. record { region = e i; serial = f i }
 
--- one page and one place are one dot
+-- two dots with one page and one place are equal
 pub same_place : (q d : Dot) → page_of q ≡ page_of d → q.serial % span ≡ d.serial % span → q ≡ d
 same_place q d pages places =
     let e : q.serial / span + 1 ≡ d.serial / span + 1 = ap (λ (x : Dot). x.serial) pages in
@@ -102,6 +102,6 @@ module _ {X : Type 0} where
       ∙ ap (cond (eq_by_cmp dot_cmp (page_of q) e.0) (get_or e.1.items (q.serial % span) None)) (get_entries es q)
       ∙ cond_slot (eq_by_cmp dot_cmp (page_of q) e.0) e.1 (lookup (is_at (dot_cmp (page_of q))) es) (q.serial % span)
 
-  -- what the map of the pages has at a dot
+  -- the value at a dot, in the map that pages hold
   pub get_seen : (m : Pages X) (q : Dot) → map.get (seen m.entries) q ≡ cell_at m q
   get_seen m q = get_entries m.entries q

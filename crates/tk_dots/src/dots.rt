@@ -1,15 +1,15 @@
-//! The map.
+//! A finite map from dots to values.
 
 use std::alloc::{AllocError, Global};
 use std::collections::BTreeMap;
 use std::marker::Model;
 use tk_handle::Dot;
 
-/// A value at each of some dots (own). Contracts see a finite map.
+/// A finite map from dots to values. Contracts see the map.
 #[derive(Drop)]
 pub struct DotMap<V> {
     pages: BTreeMap<Dot, Vec<Option<V>>>,
-    // How many values.
+    // The number of values.
     len: u64,
     alloc: Global,
 }
@@ -28,7 +28,17 @@ impl<V> Model for DotMap<V> {
     ghost invariant = { λ m. IsPaged m.pages m.len };
 }
 
-ghost use Rattle.std.specs.Prelude.{◌≡◌, ◌≤◌, OnOk, OnErr, IsSome, if◌then◌else◌, option_copied, option_map, is_some};
+ghost use Rattle.std.specs.Prelude.{
+  ◌≡◌,
+  ◌≤◌,
+  OnOk,
+  OnErr,
+  IsSome,
+  if◌then◌else◌,
+  option_copied,
+  option_map,
+  is_some,
+};
 ghost use Rattle.std.specs.FinMap as maps;
 ghost use Rattle.std.specs.Ordering.{eq_by_cmp};
 ghost use Rattle.tk_dots.specs.Pages.{IsNext, IsLast};
@@ -42,7 +52,7 @@ use std::ops::Bound;
 use tk_handle::{RegionNumber, Serial};
 
 impl<V> DotMap<V> {
-    /// No value.
+    /// Returns a map without values.
     pub fn new(alloc: Global) -> DotMap<V>
         ensures { result ≡ maps.empty }
     {
@@ -53,28 +63,31 @@ impl<V> DotMap<V> {
         }
     }
 
-    /// Each dot's serial is in range: told to callers, nothing is done.
+    /// Gives a caller's proof the fact that each dot's serial is in range. Does nothing at run
+    /// time.
     pub fn known(&self)
         ensures { (d : the_dot) → IsSome (maps.get self.now d) → d.serial ≤ greatest_serial }
     {
         let _pages = &self.pages;
     }
 
-    /// The value at the dot.
+    /// Returns the value at the dot. Costs a look-up among the pages.
     pub fn get(&self, dot: Dot) -> Option<&V>
         ensures { option_copied result ≡ maps.get self.now dot }
     {
         get_in(&self.pages, page_of(dot), place_of(dot))
     }
 
-    /// How many values there are.
+    /// Returns the number of values.
     pub fn len(&self) -> u64
         ensures { result ≡ maps.len self.now }
     {
         self.len
     }
 
-    /// Puts a value at a dot. Where memory is refused nothing changes.
+    /// Puts a value at a dot, in place of the one there.
+    ///
+    /// Fails if memory runs out; the map is unchanged then. Fails too at 2^64 - 1 values.
     pub fn put(&mut self, dot: Dot, value: V) -> Result<(), AllocError>
     where
         V: Drop,
@@ -97,16 +110,19 @@ impl<V> DotMap<V> {
         Ok(())
     }
 
-    /// Writes a value over the one at the dot, if there is one.
+    /// Replaces the value at the dot, if there is one. Takes no memory.
     pub fn set(&mut self, dot: Dot, value: V)
     where
         V: Drop,
-        ensures { (q : the_dot) → maps.get self.new q ≡ (if eq_by_cmp dot_cmp q dot then option_map (λ _. value) (maps.get self.old q) else maps.get self.old q) }
+        ensures { (q : the_dot)
+            → maps.get self.new q ≡
+            (if eq_by_cmp dot_cmp q dot then option_map (λ _. value) (maps.get self.old q)
+            else maps.get self.old q) }
     {
         set_in(&mut self.pages, page_of(dot), place_of(dot), value);
     }
 
-    /// Takes the value at the dot out, which takes no memory.
+    /// Removes the value at the dot and returns it. Takes no memory.
     pub fn take(&mut self, dot: Dot) -> Option<V>
     where
         V: Drop,
@@ -134,7 +150,7 @@ impl<V> DotMap<V> {
         }
     }
 
-    /// The greatest serial of the region, or 0.
+    /// Returns the greatest serial of the region that has a value, or 0.
     pub fn last_serial(&self, region: RegionNumber) -> u64
         ensures last { IsLast self.now region result }
         ensures high { result ≤ greatest_serial }

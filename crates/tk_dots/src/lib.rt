@@ -1,10 +1,15 @@
-//! A finite map from dots to values, for the facts of a region and what is kept beside them.
+//! A finite map from dots to values, in pages.
 //!
-//! The dots of a region follow one another, mostly without a gap. So their values lie on pages of 64 dots each, and a
-//! look-up goes to the page by a map of the pages, which is small, and from there straight to the value. A dot that
-//! stands alone costs its page up to 64 places.
+//! The dots of a region follow one another, mostly without a gap. Values are kept in pages of 64
+//! dots each. A look-up finds the page in a small map of pages, and then the value by its place on
+//! the page. A page ends with its last value, so a lone dot takes up to 64 places.
 //!
-//! Contracts see a finite map from dots to values.
+//! - `dots`: `DotMap`, the map. Contracts see a finite map from dots to values.
+//! - `place`: the page of a dot, and the place of a dot on its page.
+//! - `pages`: all pages, by their numbers.
+//! - `slots`: the places of one page.
+//!
+//! The definitions are in `specs/Pages.antt`.
 #![tactic(auto)]
 
 mod dots;

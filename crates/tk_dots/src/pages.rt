@@ -1,9 +1,38 @@
-//! The pages of a map, each behind its number.
+//! The pages of a map, by their numbers.
 
-ghost use Rattle.std.specs.Prelude.{◌≡◌, ◌<◌, ◌≤◌, ◌+◌, ◌-◌, ◌*◌, ◌==◌, ◌&&◌, ◌%◌, ℕ, None, Some, is_some, if◌then◌else◌, option_copied, option_map, OnOk, OnErr, IfOk};
+ghost use Rattle.std.specs.Prelude.{
+  ◌≡◌,
+  ◌<◌,
+  ◌≤◌,
+  ◌+◌,
+  ◌-◌,
+  ◌*◌,
+  ◌==◌,
+  ◌&&◌,
+  ◌%◌,
+  ℕ,
+  None,
+  Some,
+  is_some,
+  if◌then◌else◌,
+  option_copied,
+  option_map,
+  OnOk,
+  OnErr,
+  IfOk,
+};
 ghost use Rattle.std.specs.BTreeMap.{get};
 ghost use Rattle.std.specs.Ordering.{eq_by_cmp};
-ghost use Rattle.tk_dots.specs.Pages.{cell, page_of, span, FirstIn, FirstOn, FirstOfPages, IsPage, IsPages};
+ghost use Rattle.tk_dots.specs.Pages.{
+  cell,
+  page_of,
+  span,
+  FirstIn,
+  FirstOn,
+  FirstOfPages,
+  IsPage,
+  IsPages,
+};
 ghost use Rattle.tk_handle.specs.declared.dot.Dot.{Dot as the_dot};
 ghost use Rattle.tk_handle.specs.Dot.{dot_cmp};
 ghost use Rattle.tk_handle.specs.Ranges.{greatest_serial};
@@ -15,7 +44,7 @@ use std::collections::BTreeMap;
 use std::ops::Bound;
 use tk_handle::Dot;
 
-// The value at a place of a page.
+// Returns the value at a place of a page.
 pub(crate) fn get_in<V>(pages: &BTreeMap<Dot, Vec<Option<V>>>, page: Dot, at: usize) -> Option<&V>
     ensures { option_copied result ≡ cell pages.now page at }
 {
@@ -25,7 +54,8 @@ pub(crate) fn get_in<V>(pages: &BTreeMap<Dot, Vec<Option<V>>>, page: Dot, at: us
     }
 }
 
-// Puts a value at a place of a page, and tells whether one lay there. Where memory is refused nothing changes.
+// Puts a value at a place of a page, and returns whether there was one. If memory runs out, nothing
+// changes.
 pub(crate) fn put_in<V: Drop>(
     alloc: Global,
     pages: &mut BTreeMap<Dot, Vec<Option<V>>>,
@@ -37,9 +67,13 @@ pub(crate) fn put_in<V: Drop>(
     requires low { 0 < (page.serial - 1) * span + at }
     requires high { (page.serial - 1) * span + at ≤ greatest_serial }
     requires pages { IsPages pages.old }
-    ensures cells { OnOk result ((k : the_dot) (j : ℕ) → cell pages.new k j ≡ (if eq_by_cmp dot_cmp k page && (j == at) then Some value else cell pages.old k j)) }
+    ensures cells { OnOk result
+        ((k : the_dot) (j : ℕ)
+        → cell pages.new k j ≡
+        (if eq_by_cmp dot_cmp k page && (j == at) then Some value else cell pages.old k j)) }
     ensures was { IfOk result (λ was. was ≡ is_some (cell pages.old page at)) }
-    ensures err { OnErr result ((k : the_dot) (j : ℕ) → cell pages.new k j ≡ cell pages.old k j) }
+    ensures err { OnErr result
+        ((k : the_dot) (j : ℕ) → cell pages.new k j ≡ cell pages.old k j) }
     ensures pages { IsPages pages.new }
 {
     if !pages.contains_key(&page) {
@@ -53,7 +87,7 @@ pub(crate) fn put_in<V: Drop>(
     }
 }
 
-// Writes a value over the one at a place of a page, if one lies there.
+// Replaces the value at a place of a page, if there is one.
 pub(crate) fn set_in<V: Drop>(
     pages: &mut BTreeMap<Dot, Vec<Option<V>>>,
     page: Dot,
@@ -61,7 +95,11 @@ pub(crate) fn set_in<V: Drop>(
     value: V,
 )
     requires pages { IsPages pages.old }
-    ensures cells { (k : the_dot) (j : ℕ) → cell pages.new k j ≡ (if eq_by_cmp dot_cmp k page && (j == at) then (if is_some (cell pages.old page at) then Some value else None) else cell pages.old k j) }
+    ensures cells { (k : the_dot) (j : ℕ)
+        → cell pages.new k j ≡
+        (if eq_by_cmp dot_cmp k page && (j == at)
+        then (if is_some (cell pages.old page at) then Some value else None)
+        else cell pages.old k j) }
     ensures pages { IsPages pages.new }
 {
     if let Some(slots) = pages.get_mut(&page) {
@@ -69,7 +107,7 @@ pub(crate) fn set_in<V: Drop>(
     }
 }
 
-// Takes the value at a place of a page out.
+// Removes the value at a place of a page and returns it, and removes a page that is empty then.
 pub(crate) fn take_in<V: Drop>(
     pages: &mut BTreeMap<Dot, Vec<Option<V>>>,
     page: Dot,
@@ -77,7 +115,9 @@ pub(crate) fn take_in<V: Drop>(
 ) -> Option<V>
     requires pages { IsPages pages.old }
     ensures value { result ≡ cell pages.old page at }
-    ensures cells { (k : the_dot) (j : ℕ) → cell pages.new k j ≡ (if eq_by_cmp dot_cmp k page && (j == at) then None else cell pages.old k j) }
+    ensures cells { (k : the_dot) (j : ℕ)
+        → cell pages.new k j ≡
+        (if eq_by_cmp dot_cmp k page && (j == at) then None else cell pages.old k j) }
     ensures pages { IsPages pages.new }
 {
     let (taken, is_empty) = match pages.get_mut(&page) {
@@ -93,7 +133,7 @@ pub(crate) fn take_in<V: Drop>(
     taken
 }
 
-// Returns the first dot behind a place of the page that has a value, and that value.
+// Returns the first dot of a page, from a place on, that has a value, and that value.
 fn first_on<V>(page: Dot, slots: &Vec<Option<V>>, from: usize) -> Option<(Dot, &V)>
     requires { IsPage page slots.now.items }
     ensures first { FirstIn page slots.now.items from (option_map (λ p. (p.0, p.1.now)) result) }
@@ -105,7 +145,7 @@ fn first_on<V>(page: Dot, slots: &Vec<Option<V>>, from: usize) -> Option<(Dot, &
     }
 }
 
-// Returns the first dot behind one on its page that has a value, and that value.
+// Returns the first dot above a dot, on its page, that has a value, and that value.
 pub(crate) fn rest_of_page<V>(pages: &BTreeMap<Dot, Vec<Option<V>>>, dot: Dot) -> Option<(Dot, &V)>
     requires { IsPages pages.now }
     ensures { FirstOn pages.now (page_of dot) (dot.serial % span + 1)
@@ -118,7 +158,8 @@ pub(crate) fn rest_of_page<V>(pages: &BTreeMap<Dot, Vec<Option<V>>>, dot: Dot) -
     }
 }
 
-// Returns the first dot on the first page above one, or of all, and the value there.
+// Returns the first dot of the first page above `after`, or of the first page of all if `after` is
+// `None`, and the value there.
 pub(crate) fn first_of_pages<V>(
     pages: &BTreeMap<Dot, Vec<Option<V>>>,
     after: Option<Dot>,

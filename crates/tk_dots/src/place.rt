@@ -1,4 +1,4 @@
-//! Where a dot lies: its page, and its place there.
+//! The page of a dot, and the place of a dot on its page.
 
 ghost use Rattle.std.specs.Prelude.{◌≡◌, ◌≤◌, ◌<◌, ◌+◌, ◌-◌, ◌*◌, ◌%◌};
 ghost use Rattle.tk_dots.specs.Pages.{dot_in, page_of, span};
@@ -6,10 +6,10 @@ ghost use Rattle.tk_handle.specs.Ranges.{greatest_serial};
 
 use tk_handle::Dot;
 
-// How many dots a page has.
+// The number of dots of a page.
 pub(crate) const SPAN: u64 = 64;
 
-// The page of a dot: the region, and which of its pages, counted from 1.
+// Returns the page of a dot, as a dot: the region, and the number of the page, from 1.
 pub(crate) fn page_of(dot: Dot) -> Dot
     ensures { result ≡ page_of dot }
 {
@@ -19,7 +19,7 @@ pub(crate) fn page_of(dot: Dot) -> Dot
     }
 }
 
-// Its place there, counted from 0.
+// Returns the place of a dot on its page, from 0.
 pub(crate) fn place_of(dot: Dot) -> usize
     ensures value { result ≡ dot.serial % span }
     ensures within { result < span }
@@ -27,7 +27,7 @@ pub(crate) fn place_of(dot: Dot) -> usize
     (dot.serial() % SPAN) as usize
 }
 
-// Returns the dot at a place of a page. Some dot lies there.
+// Returns the dot at a place of a page. The place must be that of a dot: the serial is in range.
 pub(crate) fn dot_at(page: Dot, at: usize) -> Dot
     requires low { 0 < (page.serial - 1) * span + at }
     requires high { (page.serial - 1) * span + at ≤ greatest_serial }

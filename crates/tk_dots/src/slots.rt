@@ -1,11 +1,35 @@
 //! The places of one page.
 
-ghost use Rattle.std.specs.Prelude.{◌≡◌, ◌<◌, ◌≤◌, ◌+◌, ◌-◌, ◌==◌, ℕ, [], None, Some, IsSome, is_some, if◌then◌else◌, option_copied, option_map, slice_index_or, vec_len, vec_capacity, OnOk, OnErr, IfOk, length, max};
+ghost use Rattle.std.specs.Prelude.{
+  ◌≡◌,
+  ◌<◌,
+  ◌≤◌,
+  ◌+◌,
+  ◌-◌,
+  ◌==◌,
+  ℕ,
+  [],
+  None,
+  Some,
+  IsSome,
+  is_some,
+  if◌then◌else◌,
+  option_copied,
+  option_map,
+  slice_index_or,
+  vec_len,
+  vec_capacity,
+  OnOk,
+  OnErr,
+  IfOk,
+  length,
+  max,
+};
 ghost use Rattle.tk_dots.specs.Pages.{FirstFrom, EndsFull};
 
 use std::alloc::{AllocError, Global};
 
-// What lies at a place.
+// Returns the value at a place.
 pub(crate) fn slot<V>(slots: &Vec<Option<V>>, at: usize) -> Option<&V>
     ensures { option_copied result ≡ slice_index_or slots.now.items at None }
 {
@@ -29,11 +53,13 @@ pub(crate) fn first_from<V>(slots: &Vec<Option<V>>, from: usize) -> Option<(usiz
     None
 }
 
-// Puts a value past the last one. There is room for it.
+// Puts a value at a place past the end. The list has room for it.
 fn extend<V>(slots: &mut Vec<Option<V>>, at: usize, value: V)
     requires past { vec_len slots.old ≤ at }
     requires room { at < vec_capacity slots.old }
-    ensures items { (j : ℕ) → slice_index_or slots.new.items j None ≡ (if j == at then Some value else slice_index_or slots.old.items j None) }
+    ensures items { (j : ℕ)
+        → slice_index_or slots.new.items j None ≡
+        (if j == at then Some value else slice_index_or slots.old.items j None) }
     ensures len { vec_len slots.new ≡ at + 1 }
 {
     while slots.len() < at {
@@ -42,10 +68,12 @@ fn extend<V>(slots: &mut Vec<Option<V>>, at: usize, value: V)
     slots.push_reserved(Some(value));
 }
 
-// The places of a page with one value.
+// Returns the places of a page with one value.
 pub(crate) fn one<V: Drop>(alloc: Global, at: usize, value: V) -> Result<Vec<Option<V>>, AllocError>
     requires { at < 64 }
-    ensures items { IfOk result (λ slots. (j : ℕ) → slice_index_or slots.items j None ≡ (if j == at then Some value else None)) }
+    ensures items { IfOk result
+        (λ slots. (j : ℕ)
+        → slice_index_or slots.items j None ≡ (if j == at then Some value else None)) }
     ensures len { IfOk result (λ slots. vec_len slots ≡ at + 1) }
 {
     let mut slots = Vec::with_capacity(alloc, at + 1)?;
@@ -53,14 +81,17 @@ pub(crate) fn one<V: Drop>(alloc: Global, at: usize, value: V) -> Result<Vec<Opt
     Ok(slots)
 }
 
-// Puts a value at a place, and tells whether one lay there. Where memory is refused nothing changes.
+// Puts a value at a place, and returns whether there was one. If memory runs out, nothing changes.
 pub(crate) fn put<V: Drop>(
     slots: &mut Vec<Option<V>>,
     at: usize,
     value: V,
 ) -> Result<bool, AllocError>
     requires { at < 64 }
-    ensures items { OnOk result ((j : ℕ) → slice_index_or slots.new.items j None ≡ (if j == at then Some value else slice_index_or slots.old.items j None)) }
+    ensures items { OnOk result
+        ((j : ℕ)
+        → slice_index_or slots.new.items j None ≡
+        (if j == at then Some value else slice_index_or slots.old.items j None)) }
     ensures was { IfOk result (λ was. was ≡ is_some (slice_index_or slots.old.items at None)) }
     ensures len { OnOk result (vec_len slots.new ≡ max (vec_len slots.old) (at + 1)) }
     ensures err { OnErr result (slots.new.items ≡ slots.old.items) }
@@ -75,9 +106,13 @@ pub(crate) fn put<V: Drop>(
     Ok(false)
 }
 
-// Writes a value over the one at a place, if one lies there.
+// Replaces the value at a place, if there is one.
 pub(crate) fn set<V: Drop>(slots: &mut Vec<Option<V>>, at: usize, value: V)
-    ensures items { (j : ℕ) → slice_index_or slots.new.items j None ≡ (if j == at then (if is_some (slice_index_or slots.old.items at None) then Some value else None) else slice_index_or slots.old.items j None) }
+    ensures items { (j : ℕ)
+        → slice_index_or slots.new.items j None ≡
+        (if j == at
+        then (if is_some (slice_index_or slots.old.items at None) then Some value else None)
+        else slice_index_or slots.old.items j None) }
     ensures len { vec_len slots.new ≡ vec_len slots.old }
 {
     if at < slots.len() {
@@ -87,10 +122,12 @@ pub(crate) fn set<V: Drop>(slots: &mut Vec<Option<V>>, at: usize, value: V)
     }
 }
 
-// Takes the value at a place out, and the empty places behind the last value.
+// Removes the value at a place and returns it. Removes empty places at the end.
 pub(crate) fn take<V: Drop>(slots: &mut Vec<Option<V>>, at: usize) -> Option<V>
     ensures value { result ≡ slice_index_or slots.old.items at None }
-    ensures items { (j : ℕ) → slice_index_or slots.new.items j None ≡ (if j == at then None else slice_index_or slots.old.items j None) }
+    ensures items { (j : ℕ)
+        → slice_index_or slots.new.items j None ≡
+        (if j == at then None else slice_index_or slots.old.items j None) }
     ensures len { vec_len slots.new ≤ vec_len slots.old }
     ensures full { EndsFull slots.new.items }
 {
@@ -103,9 +140,10 @@ pub(crate) fn take<V: Drop>(slots: &mut Vec<Option<V>>, at: usize) -> Option<V>
     taken
 }
 
-// Drops the empty places behind the last value.
+// Removes empty places at the end.
 fn trim<V: Drop>(slots: &mut Vec<Option<V>>)
-    ensures items { (j : ℕ) → slice_index_or slots.new.items j None ≡ slice_index_or slots.old.items j None }
+    ensures items { (j : ℕ)
+        → slice_index_or slots.new.items j None ≡ slice_index_or slots.old.items j None }
     ensures len { vec_len slots.new ≤ vec_len slots.old }
     ensures full { EndsFull slots.new.items }
 {

@@ -101,7 +101,7 @@ Alike-back T N a = record {
   again = λ q k. sym (a.again q k);
 }
 
--- ---- a row that says nothing goes
+-- ---- a blank row is removed
 
 none_if : {X : Type 0} (o : Option X) → is_none o ≡ true → o ≡ None
 none_if None h = refl
@@ -140,7 +140,7 @@ blank_is row h =
       next = none_if row.next j.1 x;
     }
 
--- a row that says nothing stood there, or none
+-- the row was blank or absent
 blank_or : (o : Option Row) → is_blank_row o ≡ true → (o ≡ None) ⊎ (o ≡ Some blank)
 blank_or None h = inl refl
 blank_or (Some row) h = inr (ap (λ (r : Row). Some r) (blank_is row h))
@@ -157,7 +157,7 @@ Alike-dropped T N at h rows = elim (blank_or (T at) h) [
   ]))
 ]
 
--- ---- marking: also what a row that says nothing needs, as a mark of no token
+-- ---- marking, and adding a blank row as marking no token
 
 -- N is T with the token k marked, and with the tombstone that the mark of k requires
 pub record MarkRows (T N : Rows) (k : TokenId) : Type 0 where

@@ -1,4 +1,5 @@
--- Gathering all that hangs below a dot, by a list that is its own queue.
+-- Gathering all that hangs below a dot, in a list that is its own queue (`Gathering`, the loop's
+-- invariant).
 use Rattle.std.specs.FinMap as map
 use Rattle.std.proofs.Common.{◌≡◌, ◌≢◌, inl, inr, ℕ, ◌+◌, ◌<◌, ◌≤◌, true, Option, None, Some, List, [], ◌∷◌, ◌++◌, length, take, drop, get_or, ap, sym, ◌∙◌, refl, arith, subst, append-nil, length-append, IsSome, rules}
 use Rattle.std.proofs.lemmas.Bool.{true≢false, cond-true, cond-false}
@@ -67,7 +68,7 @@ AreChildren-none g d x none = record {
   distinct = search rules;
 }
 
--- the list is done with its first i dots
+-- the invariant: the children of the first i dots of the list are in the list
 pub record Gathering (m : RowMap) (d : Dot) (l : Link) (ys : List Dot) (i : ℕ) : Type 0 where
   pub walk : Walk (with_link (links_of (table m)) d l) d (take i ys) (drop i ys)
   pub within : i ≤ length ys

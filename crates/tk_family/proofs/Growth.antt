@@ -1,4 +1,6 @@
--- What a forest's rows keep is kept when a link is put and when a token is marked.
+-- What the rows of a forest keep is kept when a link is put and when a token is marked.
+--   Grown                  the dots that a link brought under a code
+--   PutRows, PutChains     the rows and chains after a link was put
 use Rattle.std.proofs.Common.{◌≡◌, ◌≢◌, ◌⊎◌, inl, inr, true, false, cond, Option, None, Some, List, [], ◌∷◌, ◌||◌, ◌&&◌, ap, sym, ◌∙◌, refl, subst}
 use Rattle.std.proofs.lemmas.Bool.{true≢false, cases_Bool, or_cases, or_left, or_right, false_from_ne_true, cond-true, cond-false, and_parts, and_from, or_parts}
 use Rattle.std.specs.List.{AllByRecursion}

@@ -1,4 +1,4 @@
--- Going along what hangs below a dot.
+-- Going along the chain of the dots that name a dot (`Pushing`, the loop's invariant).
 use Rattle.std.specs.FinMap as map
 use Rattle.std.proofs.Common.{◌≡◌, ◌≢◌, inl, inr, ℕ, ◌+◌, ◌-◌, ◌<◌, ◌≤◌, Bool, true, false, cond, Option, None, Some, List, [], ◌∷◌, ◌++◌, length, filter, ap, sym, ◌∙◌, refl, arith, subst, append_assoc, append-nil, length-append, IsSome, rules}
 use Rattle.std.proofs.lemmas.Bool.{true≢false, cases_Bool, cond-true, cond-false, false_from_ne_true}

@@ -1,4 +1,4 @@
--- From the rows to the finite map and set that contracts see.
+-- From the rows of a forest to the finite map and set that contracts see.
 use Rattle.std.proofs.Common.{◌≡◌, ◌≢◌, ◌&&◌, not, inl, inr, Bool, true, false, Option, None, Some, List, [], ap, sym, ◌∙◌, refl, subst, Result, Ok, Err, IfOk, OnOk, OnErr, ◌||◌, Vec, Global, rules}
 use Rattle.std.specs.Cmp.{IsEquivalence, eq_by_cmp_equiv, Equal-is, both_ways}
 use Rattle.std.specs.Ordering.{eq_by_cmp}

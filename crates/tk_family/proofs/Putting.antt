@@ -1,4 +1,7 @@
--- The rows after a link was put are as `PutRows` says.
+-- The rows after a link was put meet `PutRows`.
+--   Hung     the columns after a link was hung
+--   Mid      the columns after codes and tombstone were written
+--   Last     the columns after the named dot's family was buried
 use Rattle.std.proofs.Common.{◌≡◌, ◌≢◌, ◌⊎◌, inl, inr, ◌||◌, ◌&&◌, Bool, true, false, cond, Option, None, Some, List, [], ◌∷◌, ap, sym, ◌∙◌, refl, subst, IsSome}
 use Rattle.std.proofs.lemmas.Bool.{true≢false, cases_Bool, cond-true, cond-false, or_left, or_right, or_cases, and_parts, and_from}
 use Rattle.std.specs.List.{list_any}
@@ -176,7 +179,7 @@ put_present : (o : Option Row) (b : Bool) (l : Link) (n : Option Dot) → RowAt 
 put_present o true l n r = record { row = record r.row { link = Some l; next = n }; is = ap (λ (x : Option Row). with_put x l n) r.is }
 put_present o false l n r = r
 
--- what hanging leaves in the columns, where the link names p
+-- `Hung` holds after a link that names p was hung
 pub record HungCols (T N : Rows) (d p : Dot) (l : Link) : Type 0 where
   pub link_here : link_in (N d) ≡ Some l
   pub link_old : (q : Dot) → q ≢ d → link_in (N q) ≡ link_in (T q)

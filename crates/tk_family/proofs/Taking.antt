@@ -1,4 +1,4 @@
--- What a forest's rows keep is kept when a link is taken away, and when a mark is.
+-- What the rows of a forest keep is kept when a link is removed, and when a mark is.
 use Rattle.std.proofs.Common.{◌≡◌, ◌≢◌, ◌⊎◌, inl, inr, ◌&&◌, ◌<◌, ◌+◌, Bool, true, false, cond, Option, None, Some, List, [], ◌∷◌, ap, sym, ◌∙◌, refl, arith, subst, is_some}
 use Rattle.std.proofs.lemmas.Bool.{true≢false, cases_Bool, cond-true, cond-false, and_from, false_from_ne_true}
 use Rattle.std.specs.List.{list_any}
@@ -30,7 +30,7 @@ use Rattle.tk_family.proofs.Unhanging.{without-here, without-other}
 
 -- ---- what hung below the dot
 
--- ys came under c0 by the link, and are under no code without it
+-- the link brought ys under c0, and without the link they are under no code
 pub record Below (U T : Rows) (c0 : Dot) (ys : List Dot) : Type 0 where
   pub grown : Grown (links_of U) (links_of T) c0 ys
   pub free : (q : Dot) → has ys q ≡ true → (c : Dot) → ¬ IsUnder (links_of U) q c
@@ -97,7 +97,7 @@ Cleared-from U A ys h = record {
   again = λ q k. ap (λ (o : Option Row). again_in o k) (h q) ∙ column (λ (o : Option Row). again_in o k) (has ys q) (without_code (U q)) (U q) (uncoded_flags (U q) k).2;
 }
 
--- each dot says its code again
+-- each row has the code of its dot again
 pub IsSettled-take : (T U A : Rows) (d : Dot) (c0 : Dot) (ys : List Dot) → IsForest T → LinksWithin (links_of U) (links_of T) → Unlinks T U d → Below U T c0 ys → Cleared U A ys → IsSettled A
 IsSettled-take T U A d c0 ys t w u b x =
     let to_A : LinksWithin (links_of U) (links_of A) = λ q k h. x.link q ∙ h in
@@ -124,7 +124,7 @@ IsSettled-take T U A d c0 ys t w u b x =
 
 -- ---- the tombstone of the family concerned
 
--- the tombstone of the family of the dot that the link names stays only where a token of it is bad; the others stay
+-- the tombstone of the parent's family stays only if a token of the family is bad; the others stay
 pub record After (A N : Rows) (l : Link) : Type 0 where
   pub alike : AlikeButDeath A N
   pub old : (c : Dot) → dead_in (N c) ≡ true → dead_in (A c) ≡ true
@@ -167,7 +167,7 @@ After-none A l none =
       tomb = λ p c q names code dead said bad. absurd (nobody p names);
     }
 
--- where the tombstone stays, or there is none
+-- if the tombstone stays, or there is none
 after-stays : (A N : Rows) (l : Link) (p : Dot) (r : Revives A N p) → named_by l ≡ Some p → r.spared ≡ false → After A N l
 after-stays A N l p r names stays =
     let same : (q : Dot) → N q ≡ A q = λ q. r.rows q ∙ cond-false _ _ _ (ap (λ (b : Bool). b && dot_eq r.code q) stays) in
@@ -180,7 +180,7 @@ after-stays A N l p r names stays =
       tomb = λ o c q h code dead said bad. ap dead_in (same c) ∙ dead;
     }
 
--- where it is taken away
+-- if the tombstone is removed
 after-spared : (A N : Rows) (l : Link) (p : Dot) (r : Revives A N p) → named_by l ≡ Some p → r.spared ≡ true → After A N l
 after-spared A N l p r names spared =
     let one : (o : Dot) → named_by l ≡ Some o → p ≡ o = λ o h. (let both : Some p ≡ Some o = sym names ∙ h in cc) in
@@ -220,7 +220,7 @@ concerned_by A l (Some p) c names = elim (same_or_not (code_in (A p)) c) [
 concerned : (A : Rows) (l : Link) (c : Dot) → ((p : Dot) × (named_by l ≡ Some p) × (code_in (A p) ≡ Some c)) ⊎ ((p : Dot) → named_by l ≡ Some p → code_in (A p) ≢ Some c)
 concerned A l c = concerned_by A l (named_by l) c refl
 
--- ---- a link is taken away
+-- ---- a link is removed
 
 parent_by_path : (T U A : Rows) (d : Dot) (l : Link) (c : Dot) → Adds (links_of U) (links_of T) d l → LinksWithin (links_of U) (links_of A) → IsSettled A → c ≢ d → (ps : List Dot) → IsPath (links_of T) d ps c → (p : Dot) × (named_by l ≡ Some p) × (code_in (A p) ≡ Some c)
 parent_by_path T U A d l c a to_A s ne [] m = absurd (ne (sym m.0))
@@ -233,7 +233,7 @@ parent_by_path T U A d l c a to_A s ne (p ∷ ps) m =
     let above : IsUnder (links_of U) p c = IsPath-below (links_of U) (links_of T) d l a p ps c (m.0.1, m.1) less in
     (p, sym (ap named_by same) ∙ par.names, s.memo p c (IsUnder-within (links_of U) (links_of A) to_A p c above))
 
--- the code that d was under is that of the dot that its link names, unless d is the code itself
+-- the code that d was under is the code of its parent, unless d is the code itself
 parent_code : (T U A : Rows) (d : Dot) (l : Link) (c : Dot) → Adds (links_of U) (links_of T) d l → LinksWithin (links_of U) (links_of A) → IsSettled A → c ≢ d → IsUnder (links_of T) d c → (p : Dot) × (named_by l ≡ Some p) × (code_in (A p) ≡ Some c)
 parent_code T U A d l c a to_A s ne under = parent_by_path T U A d l c a to_A s ne under.path under.leads
 
@@ -335,7 +335,7 @@ Takes-from T U A N d l c0 ys t here u root b x after = record {
   ]));
 }
 
--- where the code was said, what hung below is cleared; where none was, nothing is
+-- if d was under a code, what hung below d is cleared; otherwise nothing is
 abbrev pub ClearsWhere : Rows → Rows → Dot → Link → Option Dot → Type 0
 ClearsWhere U A d l None = (q : Dot) → A q ≡ U q
 ClearsWhere U A d l (Some c) = Clears U A d l
@@ -362,7 +362,7 @@ Takes-where T U A N d l None t here u code x after =
 Takes-where T U A N d l (Some c) t here u code x after =
     Takes-from T U A N d l c x.list t here u (λ q _. x.got.root) (Below-whole T U d l c x.list t (Adds-unlinks T U d l here u) code x.got) (Cleared-from U A x.list x.rows) after
 
--- ---- a mark is taken away
+-- ---- a mark is removed
 
 unmarked_cols : (o : Option Row) (k : Kind) → (link_in (without_mark o k) ≡ link_in o) × (code_in (without_mark o k) ≡ code_in o) × (dead_in (without_mark o k) ≡ dead_in o) × (first_in (without_mark o k) ≡ first_in o) × (next_in (without_mark o k) ≡ next_in o)
 unmarked_cols None k = (refl, refl, refl, refl, refl)
@@ -400,7 +400,7 @@ unmarked_kept (Some r) kind.Refresh kind.Code ne = refl
 unmarked_kept (Some r) kind.Refresh kind.Access ne = refl
 unmarked_kept (Some r) kind.Refresh kind.Refresh ne = absurd (ne refl)
 
--- each column is as it was, but for one mark
+-- each column is as it was, except one mark
 pub record Unmarked (T S : Rows) (k : TokenId) : Type 0 where
   pub link : (q : Dot) → link_in (S q) ≡ link_in (T q)
   pub code : (q : Dot) → code_in (S q) ≡ code_in (T q)
@@ -520,14 +520,14 @@ family_path : (f : Links) (c : Dot) (zs : List Dot) → has zs c ≡ true → ((
 family_path f c zs root closed q [] m = ap (has zs) m.0 ∙ root
 family_path f c zs root closed q (p ∷ ps) m = closed p q (family_path f c zs root closed p ps (m.0.1, m.1)) m.0.0
 
--- links with the code that is there are the links
+-- links with a code put that is there already are the same links
 code_again : (f : Links) (c : Dot) → f c ≡ Some Code → (q : Dot) → with_link f c Code q ≡ f q
 code_again f c at q = elim (cases_dots q c) [
   | inl same ↦ ap (with_link f c Code) same ∙ (with_link-here f c Code ∙ (sym at ∙ ap f (sym same)))
   | inr ne ↦ with_link-other f c Code q ne
 ]
 
--- the list has what says the code, and nothing else
+-- the list has the dots that are under the code, and no others
 pub record IsFamily (A : Rows) (c : Dot) (zs : List Dot) : Type 0 where
   pub all : (q : Dot) → code_in (A q) ≡ Some c → has zs q ≡ true
   pub sound : (q : Dot) → has zs q ≡ true → code_in (A q) ≡ Some c
@@ -561,7 +561,7 @@ Revives-stays A c zs x bad =
       stays = λ o _ code dead. let both : Some c ≡ Some o = sym x.self ∙ code in (some.0, x.sound some.0 some.1 ∙ both, some.2);
     }
 
--- none was found, so it is taken away
+-- no bad token was found, so the tombstone is removed
 pub Revives-spared : (A N : Rows) (c : Dot) (zs : List Dot) → IsFamily A c zs → list_any (λ q. bad_in (A q)) zs ≡ false → ((q : Dot) → N q ≡ cond (dot_eq c q) (without_dead (A q)) (A q)) → Revives A N c
 Revives-spared A N c zs x none rows = record {
   spared = true;
@@ -572,7 +572,7 @@ Revives-spared A N c zs x none rows = record {
   stays = λ o h. absurd (true≢false h);
 }
 
--- where there is no code, or no tombstone at it, nothing is to be done
+-- if there is no code, or no tombstone at the code, nothing is to be done
 pub Revives-none : (A : Rows) (at : Dot) → ((c : Dot) → code_in (A at) ≡ Some c → dead_in (A c) ≡ false) → Revives A A at
 Revives-none A at alive = record {
   spared = false;
@@ -594,7 +594,7 @@ Revives-at A N at c code self r = record {
   stays = λ o h is dead. r.stays o h (self ∙ (sym code ∙ is)) dead;
 }
 
--- a code that a dot says is one, and says itself
+-- the code that a dot is under is a code, and is under itself
 pub code_there : (A : Rows) (at c : Dot) → IsSettled A → code_in (A at) ≡ Some c → links_of A c ≡ Some Code
 code_there A at c s said = let u : IsUnder (links_of A) at c = s.under at c said in IsPath-code (links_of A) at u.path c u.leads
 
@@ -610,7 +610,7 @@ none_dead A at none = Revives-none A at (λ o is. absurd (let clash : None ≡ S
 pub IsSettled-forest : (T : Rows) → IsForest T → IsSettled T
 IsSettled-forest T t = record { under = t.under; memo = t.memo; hangs = t.hangs }
 
--- with one mark less each dot says its code
+-- with one mark less each row has the code of its dot
 pub IsSettled-unmarked : (T S : Rows) (k : TokenId) → IsForest T → Unmarked T S k → IsSettled S
 IsSettled-unmarked T S k t x = record {
   under = λ q c h. IsUnder-within (links_of T) (links_of S) (λ p l at. x.link p ∙ at) q c (t.under q c (sym (x.code q) ∙ h));

@@ -1,4 +1,5 @@
--- A dot goes out of the chain of those that name another: the chain is built anew from what was there, without it.
+-- A dot is taken out of the chain of the dot that it names: the chain is built anew from the same
+-- dots, without that one.
 use Rattle.std.specs.FinMap as map
 use Rattle.std.proofs.Common.{◌≡◌, ◌≢◌, inl, inr, ℕ, ◌-◌, ◌≤◌, ◌||◌, ◌&&◌, Bool, true, false, cond, Option, None, Some, List, [], ◌∷◌, ◌++◌, length, ap, sym, ◌∙◌, refl, arith, subst, append_assoc, append-nil, IsSome}
 use Rattle.std.proofs.lemmas.Bool.{true≢false, cond-true, cond-false, false_from_ne_true}
@@ -42,7 +43,7 @@ chain_none : (n : Dot → Option Dot) (rest : List Dot) → IsChain n None rest 
 chain_none n [] h = refl
 chain_none n (y ∷ ys) h = absurd (let clash : None ≡ Some y = h.0 in cc)
 
--- what stands in the middle of a list of distinct dots doesn't stand after it
+-- an element in the middle of a list of distinct dots is not among those that follow
 IsDistinct-after : (a : List Dot) (x : Dot) (b : List Dot) → IsDistinct dot_eq (a ++ x ∷ b) → has b x ≡ false
 IsDistinct-after [] x b d = list_none x b (IsDistinct-head dot_eq x b d)
 IsDistinct-after (z ∷ zs) x b d = IsDistinct-after zs x b (IsDistinct-tail dot_eq z (zs ++ x ∷ b) d)
@@ -90,7 +91,8 @@ kept-reset T M p h =
 
 -- ---- the loop
 
--- the chain of p has what was seen of it, without d, and the rest is still read off by going from the cursor on
+-- the invariant: the chain of p has the dots that were visited, without d, and the rest of the old
+-- chain is found by `next` from the cursor on
 pub record Rehanging (T M : Rows) (p d : Dot) (cursor : Option Dot) (left : ℕ) : Type 0 where
   pub seen : List Dot
   pub rest : List Dot
@@ -141,7 +143,7 @@ Rehanging-more T M p d e left r =
     let head : (ys : List Dot) × (r.rest ≡ e ∷ ys) × IsChain (λ q. next_in (M q)) (next_in (M e)) ys = chain_head (λ q. next_in (M q)) e r.rest r.chain in
     more_of r.rest e head.0 left head.1 r.room
 
--- what the next dot of the chain is
+-- the next dot of the chain
 record Next (T M : Rows) (p d e : Dot) (seen : List Dot) : Type 0 where
   pub ys : List Dot
   pub names : NamesAll (links_of T) p ((seen ++ e ∷ []) ++ ys)
@@ -166,7 +168,7 @@ next_of T M p d e left r =
       less_of r.rest e ys left head.1 r.room,
     )
 
--- the dot that goes is passed over
+-- the dot that is taken out is passed over
 pub Rehanging-skips : (T M : Rows) (p d e : Dot) (left : ℕ) → Rehanging T M p d (Some e) left → e ≡ d → Rehanging T M p d (next_in (M e)) (left - 1)
 Rehanging-skips T M p d e left r same =
     let n : (n : Next T M p d e r.seen) × (length n.ys ≤ left - 1) = next_of T M p d e left r in
@@ -194,7 +196,7 @@ named_some : (o : Option Link) (x : Dot) → named_of o ≡ Some x → (k : Link
 named_some None x h = absurd (cc)
 named_some (Some k) x h = (k, refl)
 
--- another is hung again
+-- each other dot is put into the chain again
 pub Rehanging-turns : (T M N : Rows) (p d e : Dot) (left : ℕ) → Rehanging T M p d (Some e) left → e ≢ d → ((l : Link) → link_in (M e) ≡ Some l → (q : Dot) → N q ≡ hung M e l q) → Rehanging T N p d (next_in (M e)) (left - 1)
 Rehanging-turns T M N p d e left r ne hangs =
     let n : (n : Next T M p d e r.seen) × (length n.ys ≤ left - 1) = next_of T M p d e left r in
@@ -260,13 +262,13 @@ Rehanging-ends T M p d left r =
 
 -- ---- the link is gone
 
--- what names p by the links f hangs there
+-- the dots that name p by the links f are in the chain of p
 pub record HangsAs (f : Links) (M : Rows) (p : Dot) : Type 0 where
   pub list : List Dot
   pub chain : IsChain (λ q. next_in (M q)) (first_in (M p)) list
   pub names : NamesAll f p list
 
--- each column is as it was, but that the uses, and what names a dot, are those without d
+-- each column is as it was, except that the uses and chains are those without d
 pub record Loose (T M : Rows) (d : Dot) : Type 0 where
   pub link : (q : Dot) → link_in (M q) ≡ link_in (T q)
   pub code : (q : Dot) → code_in (M q) ≡ code_in (T q)
@@ -290,14 +292,14 @@ Adds-without f d l here = record { free = without-here f d; here = here; others 
 used-within : (f g : Links) → LinksWithin f g → (k : TokenId) → IsUsed f k → IsUsed g k
 used-within f g w k u = record { user = u.user; by = use_of-within f g w u.user (f u.user) k refl u.by }
 
--- what names a dot isn't d, as d has no link; nor is what uses a token
+-- a dot that names a dot, or uses a token, is not d, since d has no link
 not_gone : (f : Links) (d e x : Dot) → named_of (without f d e) ≡ Some x → e ≢ d
 not_gone f d e x names same = let clash : None ≡ Some x = sym (ap named_of (ap (without f d) same ∙ without-here f d)) ∙ names in cc
 
 no_user : (f : Links) (d e : Dot) (k : TokenId) → use_of (without f d e) ≡ Some k → e ≢ d
 no_user f d e k by same = let clash : None ≡ Some k = sym (ap use_of (ap (without f d) same ∙ without-here f d)) ∙ by in cc
 
--- a chain in which d doesn't stand
+-- a chain that does not have d
 hangs_without : (T M : Rows) (d p : Dot) (h : Hangs T p) → ((e : Dot) → has h.list e ≡ true → e ≢ d) → ((e : Dot) → has h.list e ≡ true → next_in (M e) ≡ next_in (T e)) → first_in (M p) ≡ first_in (T p) → HangsAs (without (links_of T) d) M p
 hangs_without T M d p h apart next first = record {
   list = h.list;
@@ -309,7 +311,7 @@ hangs_without T M d p h apart next first = record {
   };
 }
 
--- a code names nothing
+-- a code names no dot
 pub Loose-code : (T : Rows) (d : Dot) → IsForest T → links_of T d ≡ Some Code → Loose T T d
 Loose-code T d t here =
     let a : Adds (without (links_of T) d) (links_of T) d Code = Adds-without (links_of T) d Code here in
@@ -404,7 +406,7 @@ Loose-from T M d p l t here names u =
       ];
     }
 
--- the dot that a link names has a row, as the link's dot hangs there
+-- the dot that a link names has a row, since its chain has the link's dot
 first_there : (T : Rows) (p d : Dot) (list : List Dot) → IsChain (λ q. next_in (T q)) (first_in (T p)) list → has list d ≡ true → IsSome (T p)
 first_there T p d [] chain at = absurd (true≢false (sym at))
 first_there T p d (e ∷ es) chain at = let r : RowAt (T p) = row_first (T p) e chain.0 in subst (λ (o : Option Row). IsSome o) (sym r.is) refl
@@ -412,7 +414,7 @@ first_there T p d (e ∷ es) chain at = let r : RowAt (T p) = row_first (T p) e 
 pub above_there : (T : Rows) (d p : Dot) (l : Link) → IsForest T → links_of T d ≡ Some l → named_by l ≡ Some p → IsSome (T p)
 above_there T d p l t here names = let h : Hangs T p = t.hangs p in first_there T p d h.list h.chain (h.names.all d (ap named_of here ∙ names))
 
--- ---- the row says no link
+-- ---- the row has no link
 
 bare_cols : (o : Option Row) → (link_in (without_link o) ≡ None) × (code_in (without_link o) ≡ None) × (dead_in (without_link o) ≡ false) × (first_in (without_link o) ≡ first_in o)
 bare_cols None = (refl, refl, refl, refl)

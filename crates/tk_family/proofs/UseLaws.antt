@@ -1,4 +1,4 @@
--- Uses that are counted along a list.
+-- The uses of a token, counted along a list.
 use Rattle.std.proofs.Common.{◌≡◌, ◌≢◌, inl, inr, ◌&&◌, true, false, Option, None, Some, List, [], ◌∷◌, ap, sym, ◌∙◌, refl, subst}
 use Rattle.std.proofs.lemmas.Bool.{true≢false, or_left, or_right, or_cases, and_parts, and_from, false_from_ne_true}
 use Rattle.std.proofs.lemmas.Map.Keys.{IsDistinct-head, IsDistinct-tail}
@@ -24,7 +24,7 @@ pub use_of-uses : (o : Option Link) (k : TokenId) → use_of o ≡ Some k → us
 use_of-uses None k h = absurd (cc)
 use_of-uses (Some l) k h = used_by-uses l k h
 
--- a link uses no token but of the dot that it names
+-- a link uses only tokens of the dot that it names
 pub uses_it-apart : (l : Link) (p : Dot) (k : TokenId) → named_by l ≡ Some p → k.dot ≢ p → uses_it l k ≡ false
 uses_it-apart Code p k names ne = refl
 uses_it-apart (Redeems c) p k names ne =
@@ -36,7 +36,7 @@ uses_it-apart (Rotates c g) p k names ne =
     let same : c ≡ p = cc in
     false_from_ne_true (uses_it (Rotates c g) k) (λ h. let parts = and_parts _ _ h in ne (sym (dot_eq-true c k.dot parts.0) ∙ same))
 
--- and where it uses one, it names its dot
+-- a link that uses a token names the token's dot
 pub uses_named : (o : Option Link) (k : TokenId) → uses_by o k ≡ true → named_of o ≡ Some k.dot
 uses_named None k h = absurd (true≢false (sym h))
 uses_named (Some Code) k h = absurd (true≢false (sym h))

@@ -1,4 +1,4 @@
--- What the rows show is what their look-ups show.
+-- Rows and what contracts see of them have the same look-ups.
 use Rattle.std.proofs.Common.{◌≡◌, ◌||◌, ◌&&◌, not, Bool, true, false, cond, Option, None, Some, List, [], ◌∷◌, ap, sym, ◌∙◌, refl}
 use Rattle.std.proofs.lemmas.Bool.{true≢false, and_parts}
 use Rattle.std.specs.declared.cmp.Ordering.{Ordering}
@@ -111,7 +111,7 @@ exact_tokens a b h =
     let parts : (is_eq (dot_cmp a.dot b.dot) ≡ true) × (is_eq (nat_cmp (kind_number a.kind) (kind_number b.kind)) ≡ true) = and_parts _ _ (sym (then_eq (dot_cmp a.dot b.dot) (nat_cmp (kind_number a.kind) (kind_number b.kind))) ∙ ap is_eq h) in
     token_is a b (dot_eq-true a.dot b.dot parts.0) (same_kind a.kind b.kind parts.1)
 
--- rows with the same look-ups show the same
+-- rows with the same look-ups are seen as the same forest
 pub seen_same : (m n : RowMap) → ((q : Dot) → links_of (table n) q ≡ links_of (table m) q) → ((k : TokenId) → marks_of (table n) k ≡ marks_of (table m) k) → seen n ≡ seen m
 seen_same m n links marks =
     let l : seen_links (map.entries n) ≡ seen_links (map.entries m) = map.same_map dot_cmp_total dot_cmp-IsAntisymmetric _ _ (λ q. get-links n q ∙ (links q ∙ sym (get-links m q))) in

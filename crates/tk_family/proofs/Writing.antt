@@ -1,4 +1,4 @@
--- What the steps of `put` and `mark` write.
+-- What the steps of a forest write into the rows.
 use Rattle.std.specs.FinMap as map
 use Rattle.std.proofs.Common.{◌≡◌, ◌≤◌, ◌-◌, ◌+◌, inl, inr, Bool, ℕ, arith, true, false, cond, Option, None, Some, List, [], ◌∷◌, ◌++◌, option_map, is_some, ap, sym, ◌∙◌, refl, subst}
 use Rattle.std.proofs.lemmas.Bool.{true≢false, cases_Bool, cond-true, cond-false, false_from_ne_true}
@@ -58,7 +58,7 @@ settled-more T M N list x c before now q = listed-more (λ o. with_code o c) (λ
 pub cleared-more : (T M N : Rows) (list : List Dot) (x : Dot) → ((q : Dot) → M q ≡ cleared T list q) → ((q : Dot) → N q ≡ cond (dot_eq x q) (without_code (M q)) (M q)) → (q : Dot) → N q ≡ cleared T (list ++ x ∷ []) q
 cleared-more T M N list x before now q = listed-more without_code twice_cleared T M N list x before now q
 
--- a row that says nothing is put where there is none
+-- a blank row is put at a dot that has none
 pub added : (m n : RowMap) (at : Dot) (r : Row) → n ≡ map.insert m at r → map.get m at ≡ None → r ≡ blank → (q : Dot) → table n q ≡ cond (dot_eq at q) (or_blank (table m q)) (table m q)
 added m n at r is none empty q =
     ap (λ (x : RowMap). map.get x q) is ∙ map.get-insert dot_cmp_total m at r q ∙ ap (λ (b : Bool). cond b (Some r) (map.get m q)) (dots_equiv.symm q at)
@@ -104,7 +104,7 @@ one_more false x y h = omega arith
 pub longer : (m n : RowMap) (at : Dot) (row : Row) → n ≡ map.insert m at row → map.len n ≤ map.len m + 1
 longer m n at row is = one_more (map.contains_key m at) (map.len n) (map.len m) (ap map.len is ∙ map.len-insert dot_cmp_total m at row)
 
--- a row is taken away
+-- a row is removed
 pub dropped : (m n : RowMap) (at : Dot) → n ≡ map.remove m at → (q : Dot) → table n q ≡ cond (dot_eq at q) None (table m q)
 dropped m n at is q = ap (λ (x : RowMap). map.get x q) is ∙ (map.get-remove dot_cmp_total m at q ∙ ap (λ (b : Bool). cond b None (map.get m q)) (dots_equiv.symm q at))
 

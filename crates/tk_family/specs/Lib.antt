@@ -8,12 +8,12 @@
 --   ForestFacts   a forest as contracts see it: a finite map of links, and a finite set of marks
 --   View          the links and marks of the rows of a forest
 --   Rows          the rows of a forest, and their columns
---   Packed        a row in little room
+--   Packed        a row in little memory
 --   Kept          what the rows of a forest keep
 --   Writes        what the steps of a forest write
 --   Puts          what they do together
 --   Uses          the uses of a token, counted along a list
---   Takes         what taking a link or a mark away does to the rows of a forest
+--   Takes         what removing a link or a mark does to the rows of a forest
 pub mod Dots
 pub mod Families
 pub mod ForestFacts

@@ -1,5 +1,5 @@
--- A row in little room: its dots as numbers, and its link in parts (own).
---   dot_from, IsDotFrom                  the dot of two numbers, none at the serial 0
+-- A row in little memory: its dots as numbers, and its link in parts (own).
+--   dot_from, IsDotFrom                  the dot of two numbers; the serial 0 is of no dot
 --   form_of, named_in, generation_in     the parts of a link
 --   link_from                            the link of its parts
 use Rattle.std.specs.Prelude.{ℕ, zero, suc, ◌<◌, Option, Some, None}
@@ -10,37 +10,37 @@ use Rattle.tk_family.specs.declared.link.Link.TheVariants.{Code, Redeems, Rotate
 use Rattle.tk_family.specs.declared.packed.Form.{Form}
 use Rattle.tk_family.specs.declared.packed.Form.TheVariants as form
 
--- the dot of two numbers, none at the serial 0
+-- the dot of a region and a serial; the serial 0 is of no dot
 abbrev pub dot_from : ℕ → ℕ → Option Dot
 dot_from r zero = None
 dot_from r (suc s) = Some (record { region = r; serial = suc s })
 
--- the numbers are those of a dot, or of none
+-- the numbers are those of a dot, or the serial is 0
 abbrev pub IsDotFrom : ℕ → ℕ → Type 0
 IsDotFrom r s = 0 < s → IsRegion r × IsSerial s
 
--- what a link is
+-- the kind of a link, or that there is no link
 abbrev pub form_of : Option Link → Form
 form_of None = form.Absent
 form_of (Some Code) = form.Code
 form_of (Some (Redeems d)) = form.Redeems
 form_of (Some (Rotates d g)) = form.Rotates
 
--- the dot that it names
+-- the dot that a link names, if it names one
 abbrev pub named_in : Option Link → Option Dot
 named_in None = None
 named_in (Some Code) = None
 named_in (Some (Redeems d)) = Some d
 named_in (Some (Rotates d g)) = Some d
 
--- its generation, or 0
+-- the generation of a link, or 0 if it has none
 abbrev pub generation_in : Option Link → ℕ
 generation_in None = 0
 generation_in (Some Code) = 0
 generation_in (Some (Redeems d)) = 0
 generation_in (Some (Rotates d g)) = g
 
--- the link of its parts
+-- the link that has these parts
 abbrev pub link_from : Form → Option Dot → ℕ → Option Link
 link_from form.Absent o g = None
 link_from form.Code o g = Some Code

@@ -1,6 +1,8 @@
--- The rows of a forest by their look-up, and their columns (own). An absent row and one that says nothing are alike.
---   Rows, RowMap, table            the row at each dot, if there is one; those of a map
---   link_in, code_in, dead_in      the link at a dot, the code that it is under, the death of its family
+-- The rows of a forest by their look-up, and their columns (own). A blank row has the same columns
+-- as an absent one.
+--   Rows, RowMap, table            the row at each dot, if there is one; the rows of a map
+--   link_in, code_in, dead_in      the link at a dot, the code that it is under, the death of its
+--                                  family
 --   first_in, next_in              the chain of the dots whose links name a dot
 --   marked_in, used_in, again_in   by kind: a token of the dot is marked, is used, is used twice
 --   bad_in                         the code or refresh token of the dot is marked, or used twice

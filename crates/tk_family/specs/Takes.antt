@@ -1,13 +1,31 @@
--- What taking a link or a mark away does to the rows of a forest, and its steps (own).
+-- What removing a link or a mark does to the rows of a forest, and its steps (own).
 --   without            links without the one at a dot
 --   IsShort            a list has no room for all children of a dot
---   IsSettled          each dot says the code that it is under, and what names a dot hangs there
---   KeptBut, Unhangs   a dot is out of the chain of those that name another, whose uses are counted anew
---   Unlinks            the link at a dot is gone, and what follows from it, but for the codes that are said below it
---   Clears             no code is said at the dot and below it
---   Revives            the tombstone of the family that a dot is in stays only where a token of the family is bad
---   Takes, Unmarks     a link is taken away, or a mark
-use Rattle.std.specs.Prelude.{◌≡◌, ◌≢◌, ◌<◌, ℕ, Bool, true, false, if◌then◌else◌, ◌&&◌, List, ◌++◌, length, Some, None, IsSome}
+--   IsSettled          each row has the code that its dot is under, and each chain has the children
+--   KeptBut, Unhangs   a dot is out of the chain of the dot that it names, whose uses are counted
+--                      anew
+--   Unlinks            the link at a dot is gone, with what followed from it; the codes in the rows
+--                      below the dot stay
+--   Clears             a dot and what hung below it are under no code
+--   Revives            the tombstone of a dot's family stays only if a token of the family is bad
+--   Takes, Unmarks     a link is removed, or a mark
+use Rattle.std.specs.Prelude.{
+  ◌≡◌,
+  ◌≢◌,
+  ◌<◌,
+  ℕ,
+  Bool,
+  true,
+  false,
+  if◌then◌else◌,
+  ◌&&◌,
+  List,
+  ◌++◌,
+  length,
+  Some,
+  None,
+  IsSome,
+}
 use Rattle.std.specs.List.{IsDistinct}
 use Rattle.tk_handle.specs.declared.dot.Dot.{Dot}
 use Rattle.tk_handle.specs.declared.kind.Kind.{Kind}
@@ -17,7 +35,21 @@ use Rattle.tk_family.specs.Dots.{dot_eq, has}
 use Rattle.tk_family.specs.Families.{Links, IsUnder, IsUsed, IsTwice}
 use Rattle.tk_family.specs.Kept.{IsChain, Hangs, IsForest}
 use Rattle.tk_family.specs.Puts.{FitsAll, Gathers}
-use Rattle.tk_family.specs.Rows.{Rows, link_in, code_in, dead_in, first_in, next_in, marked_in, used_in, again_in, bad_in, links_of, marks_of, named_of}
+use Rattle.tk_family.specs.Rows.{
+  Rows,
+  link_in,
+  code_in,
+  dead_in,
+  first_in,
+  next_in,
+  marked_in,
+  used_in,
+  again_in,
+  bad_in,
+  links_of,
+  marks_of,
+  named_of,
+}
 use Rattle.tk_family.specs.Uses.{uses_some, uses_two}
 use Rattle.tk_family.specs.Writes.{without_dead, cleared}
 
@@ -31,13 +63,13 @@ pub record IsShort (f : Links) (x : Dot) (above : Link) (old : List Dot) (room :
   pub fit : FitsAll f x above children
   pub short : room < length (old ++ children)
 
--- each dot says the code that it is under, and what names a dot hangs there
+-- each row has the code that its dot is under, and each chain has the children of its dot
 pub record IsSettled (T : Rows) : Type 0 where
   pub under : (q c : Dot) → code_in (T q) ≡ Some c → IsUnder (links_of T) q c
   pub memo : (q c : Dot) → IsUnder (links_of T) q c → code_in (T q) ≡ Some c
   pub hangs : (p : Dot) → Hangs T p
 
--- each column is as it was, but for what names p
+-- each column is as it was, except those that depend on the links that name p
 pub record KeptBut (T N : Rows) (p : Dot) : Type 0 where
   pub link : (q : Dot) → link_in (N q) ≡ link_in (T q)
   pub code : (q : Dot) → code_in (N q) ≡ code_in (T q)
@@ -48,10 +80,11 @@ pub record KeptBut (T N : Rows) (p : Dot) : Type 0 where
   pub used : (q : Dot) (k : Kind) → q ≢ p → used_in (N q) k ≡ used_in (T q) k
   pub again : (q : Dot) (k : Kind) → q ≢ p → again_in (N q) k ≡ again_in (T q) k
 
+-- the token of a kind at a dot
 abbrev pub token_at : Dot → Kind → TokenId
 token_at p k = record { dot = p; kind = k }
 
--- the dots that name p, but for d, hang below it, and the uses of the tokens at p are theirs
+-- the dots that name p, except d, are the chain of p, and the uses of the tokens at p are theirs
 pub record Unhangs (T N : Rows) (p d : Dot) : Type 0 where
   pub kept : KeptBut T N p
   pub list : List Dot
@@ -62,7 +95,7 @@ pub record Unhangs (T N : Rows) (p d : Dot) : Type 0 where
   pub used_here : (k : Kind) → used_in (N p) k ≡ uses_some (links_of T) (token_at p k) list
   pub again_here : (k : Kind) → again_in (N p) k ≡ uses_two (links_of T) (token_at p k) list
 
--- the link at d is gone, and what follows from it, but for the codes that are said below d
+-- the link at d is gone, with what followed from it; the codes in the rows below d stay
 pub record Unlinks (T N : Rows) (d : Dot) : Type 0 where
   pub row : IsSome (N d)
   pub links : (q : Dot) → links_of N q ≡ without (links_of T) d q
@@ -78,28 +111,30 @@ pub record Unlinks (T N : Rows) (d : Dot) : Type 0 where
   pub twice : (k : TokenId) → IsTwice (links_of N) k → again_in (N k.dot) k.kind ≡ true
   pub hangs : (p : Dot) → Hangs N p
 
--- no code is said at d and at what hung below it, where l was at d
+-- d and what hung below it are under no code, if l was the link at d
 pub record Clears (T N : Rows) (d : Dot) (l : Link) : Type 0 where
   pub list : List Dot
   pub got : Gathers (links_of T) d l list
   pub rows : (q : Dot) → N q ≡ cleared T list q
 
--- the tombstone of the family that a dot is in is taken away where no token of the family is bad; else nothing changes
+-- the tombstone of the dot's family is removed if no token of the family is bad; otherwise nothing
+-- changes
 pub record Revives (T N : Rows) (at : Dot) : Type 0 where
   pub spared : Bool
   pub code : Dot
   pub rows : (q : Dot) → N q ≡ (if spared && dot_eq code q then without_dead (T q) else T q)
   pub here : spared ≡ true → code_in (T at) ≡ Some code
   pub sound : spared ≡ true → (q : Dot) → code_in (T q) ≡ Some code → bad_in (T q) ≡ false
-  pub stays : (c : Dot) → spared ≡ false → code_in (T at) ≡ Some c → dead_in (T c) ≡ true → (q : Dot) × (code_in (T q) ≡ Some c) × (bad_in (T q) ≡ true)
+  pub stays : (c : Dot) → spared ≡ false → code_in (T at) ≡ Some c → dead_in (T c) ≡ true
+      → (q : Dot) × (code_in (T q) ≡ Some c) × (bad_in (T q) ≡ true)
 
--- the link at d is taken away, and the marks of its tokens
+-- the link at d is removed, with the marks of its tokens
 pub record Takes (T N : Rows) (d : Dot) : Type 0 where
   pub forest : IsForest N
   pub links : (q : Dot) → links_of N q ≡ without (links_of T) d q
   pub marks : (k : TokenId) → marks_of N k ≡ (if dot_eq d k.dot then false else marks_of T k)
 
--- the token k isn't marked any more
+-- the token k is not marked any more
 pub record Unmarks (T N : Rows) (k : TokenId) : Type 0 where
   pub forest : IsForest N
   pub links : (q : Dot) → links_of N q ≡ links_of T q

@@ -1,6 +1,6 @@
 -- The uses of a token, counted along a list of dots (own).
 --   is_code, is_refresh, uses_it, uses_by   a link uses a token
---   uses_some, uses_two                     a link of the list, or two of them, use it
+--   uses_some, uses_two                     a link of the list uses the token, or two links do
 use Rattle.std.specs.Prelude.{Bool, true, false, ◌&&◌, ◌||◌, List, [], ◌∷◌, Option, Some, None}
 use Rattle.tk_handle.specs.declared.dot.Dot.{Dot}
 use Rattle.tk_handle.specs.declared.kind.Kind.{Kind}
@@ -11,11 +11,13 @@ use Rattle.tk_family.specs.declared.link.Link.TheVariants.{Code, Redeems, Rotate
 use Rattle.tk_family.specs.Dots.{dot_eq}
 use Rattle.tk_family.specs.Families.{Links}
 
+-- the kind of a code
 abbrev pub is_code : Kind → Bool
 is_code kind.Code = true
 is_code kind.Access = false
 is_code kind.Refresh = false
 
+-- the kind of a refresh token
 abbrev pub is_refresh : Kind → Bool
 is_refresh kind.Code = false
 is_refresh kind.Access = false
@@ -27,17 +29,17 @@ uses_it Code k = false
 uses_it (Redeems code) k = dot_eq code k.dot && is_code k.kind
 uses_it (Rotates parent generation) k = dot_eq parent k.dot && is_refresh k.kind
 
--- what stands at a dot uses it
+-- the link at a dot, if there is one, uses the token
 abbrev pub uses_by : Option Link → TokenId → Bool
 uses_by None k = false
 uses_by (Some link) k = uses_it link k
 
--- what stands at one of the dots uses it
+-- the link at one of the dots uses the token
 abbrev pub uses_some : Links → TokenId → List Dot → Bool
 uses_some f k [] = false
 uses_some f k (e ∷ es) = uses_some f k es || uses_by (f e) k
 
--- what stands at two of them does
+-- the links at two of the dots use the token
 abbrev pub uses_two : Links → TokenId → List Dot → Bool
 uses_two f k [] = false
 uses_two f k (e ∷ es) = uses_two f k es || (uses_by (f e) k && uses_some f k es)

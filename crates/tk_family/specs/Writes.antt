@@ -1,13 +1,16 @@
--- What the steps of `put` and `mark` write into rows, each as a function of the rows before it (own).
---   blank, or_blank, is_blank       a row that says nothing
+-- What the steps of a forest write into rows, each as a function of the rows before (own).
+--   blank, or_blank, is_blank       a blank row
 --   once_more                       one use more
 --   with_code, with_dead, with_put, with_redeemer, with_rotator, with_marked   a row with one thing
 --                                                                              written
 --   put_at, hung                    a link is put, and hung below the dot that it names
---   without_code, without_dead, without_users, without_link, without_mark   a row with one thing taken away
---   settled, raised                 a code is written at dots, and its tombstone where a token of theirs is bad
---   cleared                         no code is said at dots
---   buried                          the tombstone of the family that a dot is in, if its token is bad
+--   without_code, without_dead, without_users, without_link, without_mark   a row with one thing
+--                                                                           removed
+--   settled, raised                 a code is written at dots, with its tombstone if a token of
+--                                   theirs is bad
+--   cleared                         dots are under no code
+--   buried                          the tombstone of a dot's family is written, if the dot's token
+--                                   is bad
 --   chain_by, chain_code            the code that a link comes under
 use Rattle.std.specs.Prelude.{Bool, true, false, not, ◌&&◌, if◌then◌else◌, List, Option, Some, None}
 use Rattle.std.specs.List.{list_any}
@@ -47,21 +50,25 @@ abbrev pub or_blank : Option Row → Option Row
 or_blank None = Some blank
 or_blank (Some row) = Some row
 
+-- a number of uses is 0
 abbrev pub is_never : Uses → Bool
 is_never Never = true
 is_never Once = false
 is_never Often = false
 
+-- a row is blank
 abbrev pub is_blank : Row → Bool
 is_blank row =
-    is_none row.link && (is_none row.code && (not row.dead && (not row.marked_code && (not row.marked_access && (not row.marked_refresh
-    && (is_never row.redeemed && (is_never row.rotated && (is_none row.first && is_none row.next))))))))
+    is_none row.link && (is_none row.code && (not row.dead && (not row.marked_code
+    && (not row.marked_access && (not row.marked_refresh && (is_never row.redeemed
+    && (is_never row.rotated && (is_none row.first && is_none row.next))))))))
 
+-- a row is blank or absent
 abbrev pub is_blank_row : Option Row → Bool
 is_blank_row None = true
 is_blank_row (Some row) = is_blank row
 
--- one use more
+-- a number of uses, with one use more
 abbrev pub once_more : Uses → Uses
 once_more Never = Once
 once_more Once = Often
@@ -99,26 +106,31 @@ with_marked (Some row) kind.Code = Some (record row { marked_code = true })
 with_marked (Some row) kind.Access = Some (record row { marked_access = true })
 with_marked (Some row) kind.Refresh = Some (record row { marked_refresh = true })
 
--- ---- rows with one thing taken away
+-- ---- rows with one thing removed
 
+-- the row, under no code
 abbrev pub without_code : Option Row → Option Row
 without_code None = None
 without_code (Some row) = Some (record row { code = None })
 
+-- the row without a tombstone
 abbrev pub without_dead : Option Row → Option Row
 without_dead None = None
 without_dead (Some row) = Some (record row { dead = false })
 
--- nothing names the row's dot
+-- the row, as the row of a dot that no link names
 abbrev pub without_users : Option Row → Option Row
 without_users None = None
 without_users (Some row) = Some (record row { first = None; redeemed = Never; rotated = Never })
 
--- the row says no link, nor what follows from one, nor marks: what names its dot stays
+-- the row without its link, what followed from the link, and its marks; the chain of the links that
+-- name its dot stays
 abbrev pub without_link : Option Row → Option Row
 without_link None = None
-without_link (Some row) = Some (record blank { redeemed = row.redeemed; rotated = row.rotated; first = row.first })
+without_link (Some row) =
+    Some (record blank { redeemed = row.redeemed; rotated = row.rotated; first = row.first })
 
+-- the row with the token of a kind not marked
 abbrev pub without_mark : Option Row → Kind → Option Row
 without_mark None k = None
 without_mark (Some row) kind.Code = Some (record row { marked_code = false })
@@ -150,7 +162,7 @@ hung T d (Rotates p g) q =
 abbrev pub settled : Rows → List Dot → Dot → Rows
 settled T list c q = if has list q then with_code (T q) c else T q
 
--- T without a code at each dot of the list
+-- T with no code at each dot of the list
 abbrev pub cleared : Rows → List Dot → Rows
 cleared T list q = if has list q then without_code (T q) else T q
 

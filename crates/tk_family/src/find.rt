@@ -14,7 +14,7 @@ use crate::top::Top;
 use tk_dots::DotMap;
 use tk_handle::{Dot, TokenId};
 
-/// Where a dot stands, by one look-up, and one more where it is under a code.
+/// Returns where a dot is among families, by one look-up, or by two if the dot is under a code.
 pub(crate) fn top_of(rows: &DotMap<PackedRow>, dot: Dot, steps: &mut Steps) -> Top
     requires { IsForest (table rows.now) }
     ensures top { IsTop (links_of (table rows.now))
@@ -38,7 +38,7 @@ pub(crate) fn top_of(rows: &DotMap<PackedRow>, dot: Dot, steps: &mut Steps) -> T
     }
 }
 
-/// Whether a link uses a token, by one look-up.
+/// Returns whether a link uses a token, by one look-up.
 pub(crate) fn is_used(rows: &DotMap<PackedRow>, token: TokenId, steps: &mut Steps) -> bool
     requires { IsForest (table rows.now) }
     ensures used { IsTrue result ↔ IsUsed (links_of (table rows.now)) token }

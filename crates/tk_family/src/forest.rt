@@ -18,15 +18,21 @@ use tk_handle::{Dot, TokenId};
 
 /// Links and marks, and what follows from them, whatever the order in which they were put.
 ///
-/// No look-up walks: each dot keeps the code that it is under, and each code whether its family is dead. With n links
-/// and marks, `mark`, `top` and `used` cost O(log n), and `put` O(log n) for each dot that comes under a code by it and
-/// for each link that names one of these. `take` costs O(log n) for each dot that hangs below the taken one, for each that
-/// names the same dot, and, where the family was dead, for each of its members; `unmark` for these where it was.
+/// Contracts see a finite map from dots to links, and a finite set of marked tokens.
+///
+/// No look-up walks: each dot keeps the code that it is under, and each code keeps whether its
+/// family is dead. With n links and marks, `mark`, `top` and `used` cost O(log n). `put` costs
+/// O(log n) for each dot that it brings under a code and for each link that names such a dot.
+///
+/// `take` costs O(log n) for each dot that hangs below the taken one, for each dot that names the
+/// same dot, and for each member of the family if the family was dead. `unmark` costs O(log n), and
+/// as much for each member of the family if the family was dead.
 #[derive(Drop)]
 pub struct Forest {
     alloc: Global,
     rows: DotMap<PackedRow>,
-    // Room for the dots of all rows, so that what hangs below a dot is listed without memory. Between calls it is empty.
+    // A list with room for the dots of all rows, so that listing what hangs below a dot takes no
+    // memory. Its dots are of no use between calls.
     room: Vec<Dot>,
 }
 
@@ -52,7 +58,25 @@ impl Forest {
     ghost use Rattle.std.specs.FinMap as map;
     ghost use Rattle.std.specs.FinSet as set;
     ghost use Rattle.std.specs.List.{IsDistinct};
-    ghost use Rattle.std.specs.Prelude.{◌≡◌, ◌+◌, ◌^◌, ◌<◌, ◌≤◌, ◌↔◌, None, true, OnOk, OnErr, IfOk, IsOk, IsSome, IsTrue, IsSorted, if◌then◌else◌, false};
+    ghost use Rattle.std.specs.Prelude.{
+      ◌≡◌,
+      ◌+◌,
+      ◌^◌,
+      ◌<◌,
+      ◌≤◌,
+      ◌↔◌,
+      None,
+      true,
+      OnOk,
+      OnErr,
+      IfOk,
+      IsOk,
+      IsSome,
+      IsTrue,
+      IsSorted,
+      if◌then◌else◌,
+      false,
+    };
     ghost use Rattle.tk_family.specs.Dots.{dot_eq, has};
     ghost use Rattle.tk_family.specs.Families.{IsUsed};
     ghost use Rattle.tk_family.specs.ForestFacts.{links_at, marks_at};
@@ -105,17 +129,23 @@ impl Forest {
         mark_within(&mut self.rows, &mut self.room, token)
     }
 
-    /// Takes the link at a dot away, and what followed from it: what hung below the dot is under no code any more, and a
-    /// family that was dead by it alone lives. The marks of the dot's tokens go too. It takes no memory.
+    /// Removes the link at a dot, the marks of the dot's tokens, and what followed from them.
+    ///
+    /// What hung below the dot is under no code any more. A family that was dead only because of
+    /// the link or the marks is alive again. Takes no memory.
     pub fn take(&mut self, dot: Dot)
         requires { IsSome (map.get self.old.links dot) }
         ensures links { self.new.links ≡ map.remove self.old.links dot }
-        ensures marks { (k : the_token) → set.contains self.new.marks k ≡ (if dot_eq dot k.dot then false else set.contains self.old.marks k) }
+        ensures marks { (k : the_token)
+            → set.contains self.new.marks k ≡
+            (if dot_eq dot k.dot then false else set.contains self.old.marks k) }
     {
         take_at(&mut self.rows, &mut self.room, dot)
     }
 
-    /// Takes the mark of a token away, if it has one. A family that was dead by it alone lives. It takes no memory.
+    /// Removes the mark of a token, if the token has one. Takes no memory.
+    ///
+    /// A family that was dead only because of the mark is alive again.
     pub fn unmark(&mut self, token: TokenId)
         ensures links { self.new.links ≡ self.old.links }
         ensures marks { self.new.marks ≡ set.remove self.old.marks token }
@@ -123,7 +153,7 @@ impl Forest {
         unmark_token(&mut self.rows, &mut self.room, token)
     }
 
-    /// Gives back the room that is kept for links that were taken away.
+    /// Gives memory back that was kept for links that have been removed since.
     pub fn shrink(&mut self)
         ensures { self.new ≡ self.old }
     {

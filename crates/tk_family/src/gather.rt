@@ -1,7 +1,18 @@
 //! Gathering all that hangs below a dot, in a list that is its own queue.
 
 ghost use Rattle.std.specs.FinMap as map;
-ghost use Rattle.std.specs.Prelude.{◌≡◌, ◌<◌, ◌≤◌, [], None, OnOk, OnErr, IfOk, IsSome, vec_capacity};
+ghost use Rattle.std.specs.Prelude.{
+  ◌≡◌,
+  ◌<◌,
+  ◌≤◌,
+  [],
+  None,
+  OnOk,
+  OnErr,
+  IfOk,
+  IsSome,
+  vec_capacity,
+};
 ghost use Rattle.tk_family.specs.declared.link.Link.{Link as the_link};
 ghost use Rattle.tk_family.specs.Kept.{Hangs};
 ghost use Rattle.tk_family.specs.Puts.{with_link, Pushes, Gathers};
@@ -16,7 +27,8 @@ use std::alloc::{AllocError, Global};
 use tk_dots::DotMap;
 use tk_handle::Dot;
 
-/// Adds the dots that hang below a dot and fit its link to the end of a list. The error says that it has no room for them.
+/// Adds to the end of a list the dots that name a dot and whose links fit the link there. Fails
+/// only if the list has no room for them and memory runs out.
 fn push_children(
     rows: &DotMap<PackedRow>,
     dot: Dot,
@@ -24,8 +36,10 @@ fn push_children(
     list: &mut Vec<Dot>,
 ) -> Result<(), AllocError>
     requires { Hangs (table rows.now) dot }
-    ensures ok { OnOk result (Pushes (links_of (table rows.now)) dot above list.old.items list.new.items) }
-    ensures full { OnErr result (IsShort (links_of (table rows.now)) dot above list.old.items (vec_capacity list.old)) }
+    ensures ok { OnOk result
+        (Pushes (links_of (table rows.now)) dot above list.old.items list.new.items) }
+    ensures full { OnErr result
+        (IsShort (links_of (table rows.now)) dot above list.old.items (vec_capacity list.old)) }
     ensures capacity { vec_capacity list.old ≤ vec_capacity list.new }
 {
     let mut cursor = first_at(rows, dot);
@@ -40,7 +54,7 @@ fn push_children(
     Ok(())
 }
 
-/// The link at a dot, once the link is put at its dot.
+/// Returns the link at a dot, once `link` is put at `dot`.
 fn link_with(rows: &DotMap<PackedRow>, dot: Dot, link: &Link, at: Dot) -> Option<Link>
     ensures { result ≡ with_link (links_of (table rows.now)) dot link.now at }
 {
@@ -51,8 +65,9 @@ fn link_with(rows: &DotMap<PackedRow>, dot: Dot, link: &Link, at: Dot) -> Option
     }
 }
 
-/// What is under the code that a dot is under, where the link is at the dot: the dot, and all that hangs below it by
-/// fitting links, in an empty list. The error says that the list has no room, which it has for all rows there are.
+/// Gathers, into an empty list, what a link at a dot brings under the code that the dot is under:
+/// the dot, and all that hangs below it by fitting links. Fails only if the list has no room for as
+/// many dots as there are rows.
 pub(crate) fn gather_into(
     rows: &DotMap<PackedRow>,
     dot: Dot,
@@ -79,7 +94,8 @@ pub(crate) fn gather_into(
     Ok(())
 }
 
-/// The same, as a new list. Nothing is changed.
+/// Returns what a link at a dot will bring under the code that the dot is under: the dot, and all
+/// that hangs below it by fitting links. Changes nothing.
 pub(crate) fn gather(
     alloc: Global,
     rows: &DotMap<PackedRow>,

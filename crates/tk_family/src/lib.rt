@@ -17,17 +17,19 @@
 //! - the dots whose links name a dot hang in a chain from that dot, whether or not they fit. There
 //!   they wait for a dot that has no link yet.
 //!
-//! Modules: `look` reads rows, `write` writes them, `gather` finds what hangs below a dot, `put`
-//! puts a link by these, `mark` marks a token, `find` looks things up.
+//! Modules: `row` is a row and `packed` a row in little memory. `look` reads rows, `write` writes
+//! them, and `gather` finds what hangs below a dot. By these `put` puts a link, `mark` marks a
+//! token, `take` removes a link or a mark, and `find` looks things up.
 //!
 //! In reading order:
 //!
 //! 1. `Link`; `specs/Families.antt`, the definitions; `specs/Walks.antt`, the walk;
 //! 2. `laws`, each stated in `specs/Laws.antt` and proved in `proofs/`;
 //! 3. `specs/Tops.antt`, `Top` and `Forest`;
-//! 4. `specs/Rows.antt`, `specs/Kept.antt`, `specs/Writes.antt` and `specs/Puts.antt`;
-//! 5. `row`, `look`, `write`, `gather`, `put`, `mark`, `find`; `proofs/Growth.antt` has the main
-//!    lemmas of `put`.
+//! 4. `specs/Rows.antt`, `specs/Kept.antt`, `specs/Writes.antt`, `specs/Puts.antt` and
+//!    `specs/Takes.antt`;
+//! 5. `row`, `packed`, `look`, `write`, `gather`, `put`, `mark`, `take`, `find`;
+//!    `proofs/Growth.antt` has the main lemmas of `put`, `proofs/Taking.antt` those of `take`.
 #![tactic(auto)]
 
 mod find;

@@ -22,7 +22,7 @@ use crate::packed::PackedRow;
 use tk_dots::DotMap;
 use tk_handle::{Dot, Kind};
 
-/// The link at a dot.
+/// Returns the link at a dot.
 pub(crate) fn link_at(rows: &DotMap<PackedRow>, dot: Dot) -> Option<Link>
     ensures { result ≡ link_in (table rows.now dot) }
 {
@@ -32,7 +32,7 @@ pub(crate) fn link_at(rows: &DotMap<PackedRow>, dot: Dot) -> Option<Link>
     }
 }
 
-/// The code that a dot is under.
+/// Returns the code that a dot is under.
 pub(crate) fn code_at(rows: &DotMap<PackedRow>, dot: Dot) -> Option<Dot>
     ensures { result ≡ code_in (table rows.now dot) }
 {
@@ -42,7 +42,7 @@ pub(crate) fn code_at(rows: &DotMap<PackedRow>, dot: Dot) -> Option<Dot>
     }
 }
 
-/// The first of the dots whose links name a dot.
+/// Returns the first of the dots whose links name a dot.
 pub(crate) fn first_at(rows: &DotMap<PackedRow>, dot: Dot) -> Option<Dot>
     ensures { result ≡ first_in (table rows.now dot) }
 {
@@ -52,7 +52,7 @@ pub(crate) fn first_at(rows: &DotMap<PackedRow>, dot: Dot) -> Option<Dot>
     }
 }
 
-/// The dot after a dot among those whose links name the same one.
+/// Returns the next dot in the chain of those whose links name one dot.
 pub(crate) fn next_at(rows: &DotMap<PackedRow>, dot: Dot) -> Option<Dot>
     ensures { result ≡ next_in (table rows.now dot) }
 {
@@ -62,7 +62,7 @@ pub(crate) fn next_at(rows: &DotMap<PackedRow>, dot: Dot) -> Option<Dot>
     }
 }
 
-/// The link at a dot, and the code that the dot is under.
+/// Returns the link at a dot, and the code that the dot is under.
 pub(crate) fn seen_at(rows: &DotMap<PackedRow>, dot: Dot) -> (Option<Link>, Option<Dot>)
     ensures link { result.0 ≡ link_in (table rows.now dot) }
     ensures code { result.1 ≡ code_in (table rows.now dot) }
@@ -76,7 +76,7 @@ pub(crate) fn seen_at(rows: &DotMap<PackedRow>, dot: Dot) -> (Option<Link>, Opti
     }
 }
 
-/// Whether what is kept at a dot says nothing.
+/// Returns whether the row at a dot is blank or absent.
 pub(crate) fn is_blank_at(rows: &DotMap<PackedRow>, dot: Dot) -> bool
     ensures { result ≡ is_blank_row (table rows.now dot) }
 {
@@ -86,7 +86,7 @@ pub(crate) fn is_blank_at(rows: &DotMap<PackedRow>, dot: Dot) -> bool
     }
 }
 
-/// Whether the family of the code at a dot is dead.
+/// Returns whether the family of the code at a dot is dead.
 pub(crate) fn dead_at(rows: &DotMap<PackedRow>, dot: Dot) -> bool
     ensures { result ≡ dead_in (table rows.now dot) }
 {
@@ -96,7 +96,7 @@ pub(crate) fn dead_at(rows: &DotMap<PackedRow>, dot: Dot) -> bool
     }
 }
 
-/// Whether a link uses the token of a kind at a dot.
+/// Returns whether a link uses the token of a kind at a dot.
 pub(crate) fn used_at(rows: &DotMap<PackedRow>, dot: Dot, kind: Kind) -> bool
     ensures { result ≡ used_in (table rows.now dot) kind }
 {
@@ -124,7 +124,7 @@ pub(crate) fn marked_at(rows: &DotMap<PackedRow>, dot: Dot, kind: Kind) -> bool
     }
 }
 
-/// Whether the code or refresh token of the link at a dot is marked, or used twice.
+/// Returns whether the code or refresh token of the link at a dot is marked, or used twice.
 pub(crate) fn is_bad(rows: &DotMap<PackedRow>, at: Dot) -> bool
     ensures { result ≡ bad_in (table rows.now at) }
 {
@@ -141,14 +141,14 @@ pub(crate) fn is_bad(rows: &DotMap<PackedRow>, at: Dot) -> bool
     }
 }
 
-/// Whether that is so at a dot of a list.
+/// Returns whether a list has a dot whose code or refresh token is marked, or used twice.
 pub(crate) fn is_any_bad(rows: &DotMap<PackedRow>, list: &[Dot]) -> bool
     ensures { result ≡ list_any (λ q. bad_in (table rows.now q)) list.now }
 {
     list.iter().any(|at| is_bad(rows, *at))
 }
 
-/// Whether the link at a dot fits the link above it.
+/// Returns whether the link at a dot fits the link above it.
 pub(crate) fn fits_below(rows: &DotMap<PackedRow>, dot: Dot, above: &Link) -> bool
     ensures { result ≡ fits_at (link_in (table rows.now dot)) above.now }
 {
@@ -158,7 +158,7 @@ pub(crate) fn fits_below(rows: &DotMap<PackedRow>, dot: Dot, above: &Link) -> bo
     }
 }
 
-/// Whether a link fits the link at a dot.
+/// Returns whether a link fits the link at a dot.
 pub(crate) fn fits_above(rows: &DotMap<PackedRow>, link: &Link, above: Dot) -> bool
     ensures { result ≡ fits_over link.now (link_in (table rows.now above)) }
 {

@@ -13,7 +13,7 @@ use std::alloc::AllocError;
 use tk_dots::DotMap;
 use tk_handle::{Dot, TokenId};
 
-/// Marks a token: it is bad.
+/// Marks a token, which makes it bad.
 fn mark_token(rows: &mut DotMap<PackedRow>, token: TokenId) -> Result<(), AllocError>
     requires { IsForest (table rows.old) }
     ensures ok { OnOk result (MarksOne (table rows.old) (table rows.new) token) }

@@ -1,19 +1,19 @@
-//! A row in little room: its dots as numbers side by side.
+//! A row in little memory: its dots are numbers, side by side.
 
 use crate::row::Uses;
 use std::marker::Model;
 
-// What a link is, without the dot that it names.
+// The kind of a link, or that there is no link.
 #[derive(Clone, Copy)]
 enum Form {
-    // There is none.
+    // There is no link.
     Absent,
     Code,
     Redeems,
     Rotates,
 }
 
-/// A row, in 56 bytes and not 120. A dot that isn't there has the serial 0 (own). Contracts see the row.
+/// A row, in 56 bytes; a `Row` has 120. An absent dot has the serial 0. Contracts see the row.
 #[derive(Drop)]
 pub(crate) struct PackedRow {
     named_serial: u64,
@@ -53,17 +53,27 @@ impl Model for PackedRow {
       next = dot_from p.next_region p.next_serial;
     } };
 
-    ghost invariant = { λ p. IsDotFrom p.named_region p.named_serial × IsDotFrom p.code_region p.code_serial × IsDotFrom p.first_region p.first_serial × IsDotFrom p.next_region p.next_serial };
+    ghost invariant = { λ p. IsDotFrom p.named_region p.named_serial
+        × IsDotFrom p.code_region p.code_serial
+        × IsDotFrom p.first_region p.first_serial
+        × IsDotFrom p.next_region p.next_serial };
 }
 
 ghost use Rattle.std.specs.Prelude.{◌≡◌};
-ghost use Rattle.tk_family.specs.Packed.{dot_from, link_from, named_in, form_of, generation_in, IsDotFrom};
+ghost use Rattle.tk_family.specs.Packed.{
+  dot_from,
+  link_from,
+  named_in,
+  form_of,
+  generation_in,
+  IsDotFrom,
+};
 
 use crate::link::Link;
 use crate::row::Row;
 use tk_handle::{Dot, RegionNumber};
 
-// The two numbers of a dot, or of none.
+// Returns the region and the serial of a dot, or zeros if there is no dot.
 fn numbers(dot: Option<Dot>) -> (u16, u64)
     ensures dot { dot_from result.0 result.1 ≡ dot }
     ensures fits { IsDotFrom result.0 result.1 }
@@ -74,7 +84,7 @@ fn numbers(dot: Option<Dot>) -> (u16, u64)
     }
 }
 
-// The dot of two numbers, if they are one's.
+// Returns the dot of a region and a serial, if the serial is not 0.
 fn dot_of(region: u16, serial: u64) -> Option<Dot>
     requires { IsDotFrom region serial }
     ensures { result ≡ dot_from region serial }
@@ -85,7 +95,7 @@ fn dot_of(region: u16, serial: u64) -> Option<Dot>
     }
 }
 
-// What a link is.
+// Returns the kind of a link.
 fn form_of(link: &Option<Link>) -> Form
     ensures { result ≡ form_of link.now }
 {
@@ -97,7 +107,7 @@ fn form_of(link: &Option<Link>) -> Form
     }
 }
 
-// The dot that it names.
+// Returns the dot that a link names, if the link names one.
 fn named_in(link: &Option<Link>) -> Option<Dot>
     ensures { result ≡ named_in link.now }
 {
@@ -109,7 +119,7 @@ fn named_in(link: &Option<Link>) -> Option<Dot>
     }
 }
 
-// Its generation, or 0.
+// Returns the generation of a link, or 0 if it has none.
 fn generation_in(link: &Option<Link>) -> u16
     ensures { result ≡ generation_in link.now }
 {
@@ -121,7 +131,7 @@ fn generation_in(link: &Option<Link>) -> u16
     }
 }
 
-// The link of its parts.
+// Returns the link of its parts.
 fn link_from(form: Form, named: Option<Dot>, generation: u16) -> Option<Link>
     ensures { result ≡ link_from form named generation }
 {

@@ -1,7 +1,21 @@
 //! Putting a link.
 
 ghost use Rattle.std.specs.FinMap as map;
-ghost use Rattle.std.specs.Prelude.{◌≡◌, ◌≤◌, ◌+◌, vec_capacity, true, false, None, OnOk, OnErr, IfOk, IsSome, [], IsSorted};
+ghost use Rattle.std.specs.Prelude.{
+  ◌≡◌,
+  ◌≤◌,
+  ◌+◌,
+  vec_capacity,
+  true,
+  false,
+  None,
+  OnOk,
+  OnErr,
+  IfOk,
+  IsSome,
+  [],
+  IsSorted,
+};
 ghost use Rattle.tk_family.specs.Families.{named_by};
 ghost use Rattle.tk_family.specs.Kept.{IsForest};
 ghost use Rattle.tk_family.specs.Puts.{Gathers, Puts, NothingSeen};
@@ -19,12 +33,13 @@ use std::alloc::{AllocError, Global};
 use tk_dots::DotMap;
 use tk_handle::Dot;
 
-/// Makes the rows that a link at a dot needs. They say nothing yet.
+/// Makes the rows that a link at a dot needs. New rows are blank.
 fn make_room(rows: &mut DotMap<PackedRow>, dot: Dot, link: &Link) -> Result<(), AllocError>
     requires { IsForest (table rows.old) }
     ensures same { NothingSeen (table rows.old) (table rows.new) }
     ensures own { OnOk result (IsSome (table rows.new dot)) }
-    ensures named { OnOk result ((p : the_dot) → named_by link.now ≡ Some p → IsSome (table rows.new p)) }
+    ensures named { OnOk result
+        ((p : the_dot) → named_by link.now ≡ Some p → IsSome (table rows.new p)) }
     ensures len { map.len rows.new ≤ map.len rows.old + 2 }
 {
     add_row(rows, dot)?;
@@ -34,7 +49,7 @@ fn make_room(rows: &mut DotMap<PackedRow>, dot: Dot, link: &Link) -> Result<(), 
     Ok(())
 }
 
-/// The code that a link comes under at a dot.
+/// Returns the code under which a link at a dot comes.
 fn code_for(rows: &DotMap<PackedRow>, dot: Dot, link: &Link) -> Option<Dot>
     ensures { result ≡ chain_code (table rows.now) dot link.now }
 {
@@ -75,7 +90,7 @@ fn answer(
     Ok(dots)
 }
 
-/// Writes a link and all that follows from it. It takes no memory.
+/// Writes a link and all that follows from it. Takes no memory.
 fn write_put(rows: &mut DotMap<PackedRow>, dot: Dot, link: &Link, code: Option<Dot>, dots: &[Dot])
     requires forest { IsForest (table rows.old) }
     requires free { links_of (table rows.old) dot ≡ None }
@@ -96,7 +111,7 @@ fn write_put(rows: &mut DotMap<PackedRow>, dot: Dot, link: &Link, code: Option<D
     }
 }
 
-/// Puts a link where there is room for its rows, and answers the dots that come under a code by that, in order.
+/// Puts a link, and returns the dots that it brings under a code, in order.
 fn put_link(
     alloc: Global,
     rows: &mut DotMap<PackedRow>,

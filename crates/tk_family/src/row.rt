@@ -1,4 +1,15 @@
 //! What a forest keeps at a dot.
+//!
+//! The children of a dot are here the dots whose links name it, whether or not they fit. They are
+//! one chain: the row of the parent has the `first` of them, and the row of each child has the
+//! `next`. A new child becomes the `first`, so the chain begins with the child that was put latest.
+//!
+//! ```text
+//!            parent
+//!              | first
+//!              v      next          next
+//!           child 3 ------> child 2 ------> child 1   (next: None)
+//! ```
 
 ghost use Rattle.std.specs.Prelude.{◌≡◌, Some};
 ghost use Rattle.tk_family.specs.Rows.{is_some_use, is_often};
@@ -41,7 +52,7 @@ impl Uses {
         }
     }
 
-    /// None.
+    /// Returns whether there is no use.
     fn is_never(self) -> bool
         ensures { result ≡ is_never self }
     {
@@ -52,7 +63,7 @@ impl Uses {
         }
     }
 
-    /// Two or more.
+    /// Returns whether there are at least two uses.
     pub(crate) fn is_often(self) -> bool
         ensures { result ≡ is_often self }
     {
@@ -71,7 +82,7 @@ pub(crate) struct Row {
     pub link: Option<Link>,
     /// The code that the dot is under.
     pub code: Option<Dot>,
-    /// At a code: its family is dead.
+    /// At a code: whether its family is dead.
     pub dead: bool,
     /// Whether the code at the dot is marked.
     pub marked_code: bool,
@@ -83,15 +94,28 @@ pub(crate) struct Row {
     pub redeemed: Uses,
     /// How many links rotate the refresh token at the dot.
     pub rotated: Uses,
-    /// The last dot that was put with a link to this one: the first of the chain.
+    /// The first child of the dot.
     pub first: Option<Dot>,
-    /// The dot put before this one among those whose links name the same dot: the next of the
-    /// chain.
+    /// The next sibling: the next of the dots whose links name the dot that this one names.
     pub next: Option<Dot>,
 }
 
 impl Row {
-    ghost use Rattle.tk_family.specs.Writes.{blank, is_blank, with_code, with_dead, with_put, with_redeemer, with_rotator, with_marked, without_code, without_dead, without_users, without_link, without_mark};
+    ghost use Rattle.tk_family.specs.Writes.{
+      blank,
+      is_blank,
+      with_code,
+      with_dead,
+      with_put,
+      with_redeemer,
+      with_rotator,
+      with_marked,
+      without_code,
+      without_dead,
+      without_users,
+      without_link,
+      without_mark,
+    };
 
     /// Returns a row that is blank but for the link at its dot, if there is one.
     pub(crate) fn new(link: Option<Link>) -> Row
@@ -111,7 +135,7 @@ impl Row {
         }
     }
 
-    /// Whether it says nothing.
+    /// Returns whether the row is blank.
     pub(crate) fn is_blank(&self) -> bool
         ensures { result ≡ is_blank self.now }
     {
@@ -127,7 +151,7 @@ impl Row {
             && self.next.is_none()
     }
 
-    /// The row under a code.
+    /// Returns the row, under a code.
     pub(crate) fn with_code(&self, code: Dot) -> Row
         ensures { with_code (Some self.now) code ≡ Some result }
     {
@@ -188,7 +212,7 @@ impl Row {
         row
     }
 
-    /// The row without the code that it is under.
+    /// Returns the row, under no code.
     pub(crate) fn without_code(&self) -> Row
         ensures { without_code (Some self.now) ≡ Some result }
     {
@@ -197,7 +221,7 @@ impl Row {
         row
     }
 
-    /// The row of a code whose family lives.
+    /// Returns the row, as the row of a code whose family is alive.
     pub(crate) fn without_dead(&self) -> Row
         ensures { without_dead (Some self.now) ≡ Some result }
     {
@@ -206,7 +230,7 @@ impl Row {
         row
     }
 
-    /// The row whose dot nothing names.
+    /// Returns the row, as the row of a dot without children.
     pub(crate) fn without_users(&self) -> Row
         ensures { without_users (Some self.now) ≡ Some result }
     {
@@ -217,7 +241,8 @@ impl Row {
         row
     }
 
-    /// The row without its link, what follows from that, and its marks. What names its dot stays.
+    /// Returns the row without its link, what followed from the link, and its marks. The children
+    /// of the dot stay, and so do the counts of uses.
     pub(crate) fn without_link(&self) -> Row
         ensures { without_link (Some self.now) ≡ Some result }
     {
@@ -228,7 +253,7 @@ impl Row {
         row
     }
 
-    /// The row without the mark of the token of a kind.
+    /// Returns the row, with the token of a kind not marked.
     pub(crate) fn unmarked_as(&self, kind: Kind) -> Row
         ensures { without_mark (Some self.now) kind ≡ Some result }
     {

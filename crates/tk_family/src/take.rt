@@ -1,5 +1,6 @@
-//! Taking a link away, and a mark, with all that followed from it. Nothing here takes memory: a list that has room for all
-//! rows is handed in.
+//! Removing a link or a mark, with all that followed from it.
+//!
+//! Nothing here takes memory: the caller passes a list that has room for the dots of all rows.
 
 ghost use Rattle.std.specs.FinMap as map;
 ghost use Rattle.std.specs.Prelude.{◌≡◌, ◌≤◌, Some, IsSome, vec_capacity};
@@ -8,7 +9,15 @@ ghost use Rattle.tk_family.specs.Dots.{dot_eq};
 ghost use Rattle.tk_family.specs.Kept.{Hangs, IsForest};
 ghost use Rattle.tk_family.specs.Puts.{NothingSeen};
 ghost use Rattle.tk_family.specs.Rows.{table, link_in, links_of, marks_of};
-ghost use Rattle.tk_family.specs.Takes.{IsSettled, Unhangs, Unlinks, Clears, Revives, Takes, Unmarks};
+ghost use Rattle.tk_family.specs.Takes.{
+  IsSettled,
+  Unhangs,
+  Unlinks,
+  Clears,
+  Revives,
+  Takes,
+  Unmarks,
+};
 ghost use Rattle.tk_family.specs.Writes.{hung};
 ghost use Rattle.tk_handle.specs.declared.dot.Dot.{Dot as the_dot};
 
@@ -22,9 +31,10 @@ use crate::write::{clear, drop_row, hang, set_alive, set_bare, set_unmarked, set
 use tk_dots::DotMap;
 use tk_handle::{Dot, TokenId};
 
-/// Hangs a dot below the one that its link names, once more.
+/// Puts a dot into the chain of the dot that its link names, once more.
 fn hang_again(rows: &mut DotMap<PackedRow>, at: Dot)
-    ensures rows { (l : the_link) → link_in (table rows.old at) ≡ Some l → (q : the_dot) → table rows.new q ≡ hung (table rows.old) at l q }
+    ensures rows { (l : the_link) → link_in (table rows.old at) ≡ Some l → (q : the_dot)
+        → table rows.new q ≡ hung (table rows.old) at l q }
     ensures len { map.len rows.new ≡ map.len rows.old }
 {
     if let Some(link) = link_at(rows, at) {
@@ -32,14 +42,15 @@ fn hang_again(rows: &mut DotMap<PackedRow>, at: Dot)
     }
 }
 
-/// Whether two dots are one.
+/// Returns whether two dots are equal.
 fn is_one(a: Dot, b: Dot) -> bool
     ensures { result ≡ dot_eq a b }
 {
     a == b
 }
 
-/// Takes a dot out of the chain of those whose links name another, and counts the uses of the tokens there anew.
+/// Takes a dot out of the chain of those whose links name `above`, and counts the uses of the
+/// tokens there anew.
 fn unhang(rows: &mut DotMap<PackedRow>, above: Dot, dot: Dot)
     requires hangs { Hangs (table rows.old) above }
     requires row { IsSome (table rows.old above) }
@@ -58,7 +69,7 @@ fn unhang(rows: &mut DotMap<PackedRow>, above: Dot, dot: Dot)
     }
 }
 
-/// Takes the link at a dot away. The codes that are said below the dot stay.
+/// Removes the link at a dot. The codes that the dots below it are under stay.
 fn unlink(rows: &mut DotMap<PackedRow>, dot: Dot, link: &Link)
     requires forest { IsForest (table rows.old) }
     requires here { links_of (table rows.old) dot ≡ Some link.now }
@@ -71,7 +82,7 @@ fn unlink(rows: &mut DotMap<PackedRow>, dot: Dot, link: &Link)
     set_bare(rows, dot);
 }
 
-/// Writes that no code is said at a dot and at what hung below it.
+/// Writes that a dot, and what hung below it, is under no code.
 fn clear_below(rows: &mut DotMap<PackedRow>, room: &mut Vec<Dot>, dot: Dot, link: &Link)
     requires hung { (p : the_dot) → Hangs (table rows.old) p }
     requires row { IsSome (table rows.old dot) }
@@ -88,7 +99,7 @@ fn clear_below(rows: &mut DotMap<PackedRow>, room: &mut Vec<Dot>, dot: Dot, link
     }
 }
 
-/// Takes the tombstone of the family that a dot is in away, where no token of the family is bad.
+/// Removes the tombstone of a dot's family, if no token of the family is bad.
 fn revive(rows: &mut DotMap<PackedRow>, room: &mut Vec<Dot>, at: Dot)
     requires settled { IsSettled (table rows.old) }
     requires room { map.len rows.old ≤ vec_capacity room.old }
@@ -103,7 +114,7 @@ fn revive(rows: &mut DotMap<PackedRow>, room: &mut Vec<Dot>, at: Dot)
     }
 }
 
-/// Takes the tombstone at a code away, where no token of its family is bad.
+/// Removes the tombstone at a code, if no token of its family is bad.
 fn revive_family(rows: &mut DotMap<PackedRow>, room: &mut Vec<Dot>, code: Dot)
     requires settled { IsSettled (table rows.old) }
     requires code { links_of (table rows.old) code ≡ Some Link.Code }
@@ -123,8 +134,8 @@ fn revive_family(rows: &mut DotMap<PackedRow>, room: &mut Vec<Dot>, code: Dot)
     }
 }
 
-/// Takes the link at a dot away, and all that followed from it: what hung below the dot is under no code, and a family
-/// that was dead by it lives. The marks of the dot's tokens go too.
+/// Removes the link at a dot, the marks of the dot's tokens, and what followed from them. What hung
+/// below the dot is under no code any more. A family that was dead only because of them is alive.
 fn take_link(rows: &mut DotMap<PackedRow>, room: &mut Vec<Dot>, dot: Dot, link: &Link)
     requires forest { IsForest (table rows.old) }
     requires here { links_of (table rows.old) dot ≡ Some link.now }
@@ -143,7 +154,7 @@ fn take_link(rows: &mut DotMap<PackedRow>, room: &mut Vec<Dot>, dot: Dot, link: 
     }
 }
 
-/// Drops the row at a dot, where it says nothing.
+/// Removes the row at a dot, if it is blank.
 fn drop_blank(rows: &mut DotMap<PackedRow>, at: Dot)
     requires { IsForest (table rows.old) }
     ensures same { NothingSeen (table rows.old) (table rows.new) }
@@ -154,7 +165,7 @@ fn drop_blank(rows: &mut DotMap<PackedRow>, at: Dot)
     }
 }
 
-/// Drops the rows of a dot and of the one that a link names, where they say nothing.
+/// Removes the rows of a dot and of the dot that a link names, if they are blank.
 fn drop_blanks(rows: &mut DotMap<PackedRow>, dot: Dot, link: &Link)
     requires { IsForest (table rows.old) }
     ensures same { NothingSeen (table rows.old) (table rows.new) }
@@ -166,7 +177,7 @@ fn drop_blanks(rows: &mut DotMap<PackedRow>, dot: Dot, link: &Link)
     }
 }
 
-/// Takes the link at a dot away, as `take_link` does, and the rows that say nothing then.
+/// Removes the link at a dot, as `take_link` does, and the rows that are blank then.
 pub(crate) fn take_at(rows: &mut DotMap<PackedRow>, room: &mut Vec<Dot>, dot: Dot)
     requires forest { IsForest (table rows.old) }
     requires here { IsSome (links_of (table rows.old) dot) }
@@ -183,8 +194,8 @@ pub(crate) fn take_at(rows: &mut DotMap<PackedRow>, room: &mut Vec<Dot>, dot: Do
     }
 }
 
-/// Takes a mark away. A family that was dead by the mark alone lives. A token that isn't marked costs
-/// one look-up.
+/// Removes a mark. A family that was dead only because of the mark is alive. A token that is not
+/// marked costs one look-up.
 pub(crate) fn unmark_token(rows: &mut DotMap<PackedRow>, room: &mut Vec<Dot>, token: TokenId)
     requires forest { IsForest (table rows.old) }
     requires room { map.len rows.old ≤ vec_capacity room.old }

@@ -1,10 +1,39 @@
 //! Writes of rows. Only `add_row` takes memory.
 
 ghost use Rattle.std.specs.FinMap as map;
-ghost use Rattle.std.specs.Prelude.{◌≡◌, ◌≤◌, ◌+◌, None, OnOk, OnErr, IsOk, IsSome, if◌then◌else◌, option_map};
+ghost use Rattle.std.specs.Prelude.{
+  ◌≡◌,
+  ◌≤◌,
+  ◌+◌,
+  None,
+  OnOk,
+  OnErr,
+  IsOk,
+  IsSome,
+  if◌then◌else◌,
+  option_map,
+};
 ghost use Rattle.tk_family.specs.Dots.{dot_eq};
 ghost use Rattle.tk_family.specs.Rows.{table};
-ghost use Rattle.tk_family.specs.Writes.{or_blank, with_code, with_dead, with_put, with_redeemer, with_rotator, with_marked, without_code, without_dead, without_users, without_link, without_mark, hung, settled, cleared, raised, buried};
+ghost use Rattle.tk_family.specs.Writes.{
+  or_blank,
+  with_code,
+  with_dead,
+  with_put,
+  with_redeemer,
+  with_rotator,
+  with_marked,
+  without_code,
+  without_dead,
+  without_users,
+  without_link,
+  without_mark,
+  hung,
+  settled,
+  cleared,
+  raised,
+  buried,
+};
 ghost use Rattle.tk_handle.specs.declared.dot.Dot.{Dot as the_dot};
 
 use crate::link::Link;
@@ -15,9 +44,11 @@ use std::alloc::AllocError;
 use tk_dots::DotMap;
 use tk_handle::{Dot, Kind};
 
-/// Makes a row that says nothing, where there is none.
+/// Makes a blank row at a dot that has none.
 pub(crate) fn add_row(rows: &mut DotMap<PackedRow>, at: Dot) -> Result<(), AllocError>
-    ensures ok { OnOk result ((q : the_dot) → table rows.new q ≡ (if dot_eq at q then or_blank (table rows.old q) else table rows.old q)) }
+    ensures ok { OnOk result
+        ((q : the_dot) → table rows.new q
+        ≡ (if dot_eq at q then or_blank (table rows.old q) else table rows.old q)) }
     ensures err { OnErr result ((q : the_dot) → table rows.new q ≡ table rows.old q) }
     ensures present { IsSome (table rows.old at) → IsOk result }
     ensures len { map.len rows.new ≤ map.len rows.old + 1 }
@@ -29,9 +60,11 @@ pub(crate) fn add_row(rows: &mut DotMap<PackedRow>, at: Dot) -> Result<(), Alloc
     rows.put(at, PackedRow::pack(&Row::new(None)))
 }
 
-/// Writes a row in place of the one at a dot, if there is one.
+/// Replaces the row at a dot, if there is one.
 fn put_row(rows: &mut DotMap<PackedRow>, at: Dot, row: Row)
-    ensures rows { (q : the_dot) → table rows.new q ≡ (if dot_eq at q then option_map (λ _. row) (table rows.old q) else table rows.old q) }
+    ensures rows { (q : the_dot)
+        → table rows.new q ≡
+        (if dot_eq at q then option_map (λ _. row) (table rows.old q) else table rows.old q) }
     ensures len { map.len rows.new ≡ map.len rows.old }
 {
     rows.set(at, PackedRow::pack(&row));
@@ -39,7 +72,9 @@ fn put_row(rows: &mut DotMap<PackedRow>, at: Dot, row: Row)
 
 /// Writes the code that a dot is under.
 fn set_code(rows: &mut DotMap<PackedRow>, at: Dot, code: Dot)
-    ensures rows { (q : the_dot) → table rows.new q ≡ (if dot_eq at q then with_code (table rows.old q) code else table rows.old q) }
+    ensures rows { (q : the_dot)
+        → table rows.new q ≡
+        (if dot_eq at q then with_code (table rows.old q) code else table rows.old q) }
     ensures len { map.len rows.new ≡ map.len rows.old }
 {
     if let Some(row) = rows.get(at) {
@@ -50,7 +85,9 @@ fn set_code(rows: &mut DotMap<PackedRow>, at: Dot, code: Dot)
 
 /// Writes a tombstone: the family of the code at a dot is dead.
 fn set_dead(rows: &mut DotMap<PackedRow>, at: Dot)
-    ensures rows { (q : the_dot) → table rows.new q ≡ (if dot_eq at q then with_dead (table rows.old q) else table rows.old q) }
+    ensures rows { (q : the_dot)
+        → table rows.new q ≡
+        (if dot_eq at q then with_dead (table rows.old q) else table rows.old q) }
     ensures len { map.len rows.new ≡ map.len rows.old }
 {
     if let Some(row) = rows.get(at) {
@@ -59,9 +96,11 @@ fn set_dead(rows: &mut DotMap<PackedRow>, at: Dot)
     }
 }
 
-/// Writes a link, and the dot after it among those that name the same dot.
+/// Writes a link, and the next dot of the chain of those that name the same dot.
 fn set_link(rows: &mut DotMap<PackedRow>, at: Dot, link: &Link, next: Option<Dot>)
-    ensures rows { (q : the_dot) → table rows.new q ≡ (if dot_eq at q then with_put (table rows.old q) link.now next else table rows.old q) }
+    ensures rows { (q : the_dot)
+        → table rows.new q ≡
+        (if dot_eq at q then with_put (table rows.old q) link.now next else table rows.old q) }
     ensures len { map.len rows.new ≡ map.len rows.old }
 {
     if let Some(row) = rows.get(at) {
@@ -70,9 +109,11 @@ fn set_link(rows: &mut DotMap<PackedRow>, at: Dot, link: &Link, next: Option<Dot
     }
 }
 
-/// Writes that the link at a dot redeems the code at another.
+/// Writes that the link at `dot` redeems the code at `at`.
 fn set_redeemer(rows: &mut DotMap<PackedRow>, at: Dot, dot: Dot)
-    ensures rows { (q : the_dot) → table rows.new q ≡ (if dot_eq at q then with_redeemer (table rows.old q) dot else table rows.old q) }
+    ensures rows { (q : the_dot)
+        → table rows.new q ≡
+        (if dot_eq at q then with_redeemer (table rows.old q) dot else table rows.old q) }
     ensures len { map.len rows.new ≡ map.len rows.old }
 {
     if let Some(row) = rows.get(at) {
@@ -81,9 +122,11 @@ fn set_redeemer(rows: &mut DotMap<PackedRow>, at: Dot, dot: Dot)
     }
 }
 
-/// Writes that the link at a dot rotates the refresh token at another.
+/// Writes that the link at `dot` rotates the refresh token at `at`.
 fn set_rotator(rows: &mut DotMap<PackedRow>, at: Dot, dot: Dot)
-    ensures rows { (q : the_dot) → table rows.new q ≡ (if dot_eq at q then with_rotator (table rows.old q) dot else table rows.old q) }
+    ensures rows { (q : the_dot)
+        → table rows.new q ≡
+        (if dot_eq at q then with_rotator (table rows.old q) dot else table rows.old q) }
     ensures len { map.len rows.new ≡ map.len rows.old }
 {
     if let Some(row) = rows.get(at) {
@@ -94,7 +137,9 @@ fn set_rotator(rows: &mut DotMap<PackedRow>, at: Dot, dot: Dot)
 
 /// Writes that the token of a kind is marked.
 pub(crate) fn set_marked(rows: &mut DotMap<PackedRow>, at: Dot, kind: Kind)
-    ensures rows { (q : the_dot) → table rows.new q ≡ (if dot_eq at q then with_marked (table rows.old q) kind else table rows.old q) }
+    ensures rows { (q : the_dot)
+        → table rows.new q ≡
+        (if dot_eq at q then with_marked (table rows.old q) kind else table rows.old q) }
     ensures len { map.len rows.new ≡ map.len rows.old }
 {
     if let Some(row) = rows.get(at) {
@@ -103,9 +148,11 @@ pub(crate) fn set_marked(rows: &mut DotMap<PackedRow>, at: Dot, kind: Kind)
     }
 }
 
-/// Writes that no code is said at a dot.
+/// Writes that a dot is under no code.
 fn set_uncoded(rows: &mut DotMap<PackedRow>, at: Dot)
-    ensures rows { (q : the_dot) → table rows.new q ≡ (if dot_eq at q then without_code (table rows.old q) else table rows.old q) }
+    ensures rows { (q : the_dot)
+        → table rows.new q ≡
+        (if dot_eq at q then without_code (table rows.old q) else table rows.old q) }
     ensures len { map.len rows.new ≡ map.len rows.old }
 {
     if let Some(row) = rows.get(at) {
@@ -114,9 +161,11 @@ fn set_uncoded(rows: &mut DotMap<PackedRow>, at: Dot)
     }
 }
 
-/// Takes a tombstone away.
+/// Removes a tombstone.
 pub(crate) fn set_alive(rows: &mut DotMap<PackedRow>, at: Dot)
-    ensures rows { (q : the_dot) → table rows.new q ≡ (if dot_eq at q then without_dead (table rows.old q) else table rows.old q) }
+    ensures rows { (q : the_dot)
+        → table rows.new q ≡
+        (if dot_eq at q then without_dead (table rows.old q) else table rows.old q) }
     ensures len { map.len rows.new ≡ map.len rows.old }
 {
     if let Some(row) = rows.get(at) {
@@ -125,9 +174,11 @@ pub(crate) fn set_alive(rows: &mut DotMap<PackedRow>, at: Dot)
     }
 }
 
-/// Writes that nothing names a dot.
+/// Writes that no link names a dot.
 pub(crate) fn set_unnamed(rows: &mut DotMap<PackedRow>, at: Dot)
-    ensures rows { (q : the_dot) → table rows.new q ≡ (if dot_eq at q then without_users (table rows.old q) else table rows.old q) }
+    ensures rows { (q : the_dot)
+        → table rows.new q ≡
+        (if dot_eq at q then without_users (table rows.old q) else table rows.old q) }
     ensures len { map.len rows.new ≡ map.len rows.old }
 {
     if let Some(row) = rows.get(at) {
@@ -136,9 +187,12 @@ pub(crate) fn set_unnamed(rows: &mut DotMap<PackedRow>, at: Dot)
     }
 }
 
-/// Writes that no link is at a dot, and no mark. What names the dot stays.
+/// Writes that a dot has no link and no marks. The dot's children stay, and so do the counts of
+/// uses.
 pub(crate) fn set_bare(rows: &mut DotMap<PackedRow>, at: Dot)
-    ensures rows { (q : the_dot) → table rows.new q ≡ (if dot_eq at q then without_link (table rows.old q) else table rows.old q) }
+    ensures rows { (q : the_dot)
+        → table rows.new q ≡
+        (if dot_eq at q then without_link (table rows.old q) else table rows.old q) }
     ensures len { map.len rows.new ≡ map.len rows.old }
 {
     if let Some(row) = rows.get(at) {
@@ -147,9 +201,11 @@ pub(crate) fn set_bare(rows: &mut DotMap<PackedRow>, at: Dot)
     }
 }
 
-/// Writes that the token of a kind isn't marked.
+/// Writes that the token of a kind is not marked.
 pub(crate) fn set_unmarked(rows: &mut DotMap<PackedRow>, at: Dot, kind: Kind)
-    ensures rows { (q : the_dot) → table rows.new q ≡ (if dot_eq at q then without_mark (table rows.old q) kind else table rows.old q) }
+    ensures rows { (q : the_dot)
+        → table rows.new q ≡
+        (if dot_eq at q then without_mark (table rows.old q) kind else table rows.old q) }
     ensures len { map.len rows.new ≡ map.len rows.old }
 {
     if let Some(row) = rows.get(at) {
@@ -158,7 +214,7 @@ pub(crate) fn set_unmarked(rows: &mut DotMap<PackedRow>, at: Dot, kind: Kind)
     }
 }
 
-/// Writes that no code is said at the dots of a list.
+/// Writes that the dots of a list are under no code.
 pub(crate) fn clear(rows: &mut DotMap<PackedRow>, list: &[Dot])
     ensures rows { (q : the_dot) → table rows.new q ≡ cleared (table rows.old) list.now q }
     ensures len { map.len rows.new ≡ map.len rows.old }
@@ -168,7 +224,7 @@ pub(crate) fn clear(rows: &mut DotMap<PackedRow>, list: &[Dot])
     }
 }
 
-/// Kills the family that a dot is in, if its token is bad.
+/// Writes a tombstone at the code of a dot, if the dot's token is bad.
 pub(crate) fn bury(rows: &mut DotMap<PackedRow>, at: Dot)
     ensures rows { (q : the_dot) → table rows.new q ≡ buried (table rows.old) at q }
     ensures len { map.len rows.new ≡ map.len rows.old }
@@ -190,7 +246,8 @@ pub(crate) fn settle(rows: &mut DotMap<PackedRow>, list: &[Dot], code: Dot)
     }
 }
 
-/// Writes the code at each dot of a list, and the tombstone at the code if one of their tokens is bad.
+/// Writes the code at each dot of a list, and a tombstone at the code if one of their tokens is
+/// bad.
 pub(crate) fn raise(rows: &mut DotMap<PackedRow>, list: &[Dot], code: Dot)
     ensures rows { (q : the_dot) → table rows.new q ≡ raised (table rows.old) list.now code q }
     ensures len { map.len rows.new ≡ map.len rows.old }
@@ -201,7 +258,7 @@ pub(crate) fn raise(rows: &mut DotMap<PackedRow>, list: &[Dot], code: Dot)
     }
 }
 
-/// Writes a link, and hangs it below the dot that it names.
+/// Writes a link, and puts it into the chain of the dot that it names.
 pub(crate) fn hang(rows: &mut DotMap<PackedRow>, dot: Dot, link: &Link)
     ensures rows { (q : the_dot) → table rows.new q ≡ hung (table rows.old) dot link.now q }
     ensures len { map.len rows.new ≡ map.len rows.old }
@@ -221,9 +278,11 @@ pub(crate) fn hang(rows: &mut DotMap<PackedRow>, dot: Dot, link: &Link)
     }
 }
 
-/// Takes the row at a dot away, if there is one.
+/// Removes the row at a dot, if there is one.
 pub(crate) fn drop_row(rows: &mut DotMap<PackedRow>, at: Dot)
-    ensures rows { (q : the_dot) → table rows.new q ≡ (if dot_eq at q then None else table rows.old q) }
+    ensures rows { (q : the_dot)
+        → table rows.new q ≡
+        (if dot_eq at q then None else table rows.old q) }
     ensures len { map.len rows.new ≤ map.len rows.old }
 {
     let _row = rows.take(at);

@@ -131,11 +131,11 @@ pub len_less : {X : Type 0} (F : map.FinMap dot_cmp X) (d : Dot) (x : X) → map
 len_less F d x there =
     let less : map.len (map.remove F d) ≡ map.len F - 1 = map.len-remove dot_cmp_total F d ∙ ap (λ o. cond (is_some o) (map.len F - 1) (map.len F)) there in
     let again : map.insert (map.remove F d) d x ≡ F = map.same_map dot_cmp_total dot_cmp-IsAntisymmetric _ _ (λ q.
-        map.get-insert dot_cmp_total (map.remove F d) d x q
-        ∙ elim (eq_by_cmp dot_cmp q d) as (λ t. eq_by_cmp dot_cmp q d ≡ t → cond t (Some x) (map.get (map.remove F d) q) ≡ map.get F q) [
-          | true ↦ λ same. sym there ∙ ap (map.get F) (sym (tied q d same))
-          | false ↦ λ off. map.get-remove dot_cmp_total F d q ∙ ap (λ t. cond t None (map.get F q)) off
-        ] refl) in
+    map.get-insert dot_cmp_total (map.remove F d) d x q
+    ∙ elim (eq_by_cmp dot_cmp q d) as (λ t. eq_by_cmp dot_cmp q d ≡ t → cond t (Some x) (map.get (map.remove F d) q) ≡ map.get F q) [
+      | true ↦ λ same. sym there ∙ ap (map.get F) (sym (tied q d same))
+      | false ↦ λ off. map.get-remove dot_cmp_total F d q ∙ ap (λ t. cond t None (map.get F q)) off
+    ] refl) in
     let free : map.get (map.remove F d) d ≡ None = map.get-remove dot_cmp_total F d d ∙ ap (λ o. cond (is_eq o) None (map.get F d)) (tied_itself dot_cmp_total d) in
     let more : map.len (map.insert (map.remove F d) d x) ≡ map.len (map.remove F d) + 1 = map.len-insert dot_cmp_total (map.remove F d) d x ∙ ap (λ o. cond (is_some o) (map.len (map.remove F d)) (map.len (map.remove F d) + 1)) free in
     sym more ∙ ap (λ (G : map.FinMap dot_cmp _). map.len G) again
@@ -144,7 +144,7 @@ pub held_none : (S : Slots) → S ≡ map.empty → held_in S ≡ map.empty
 held_none S none = map.same_map dot_cmp_total dot_cmp-IsAntisymmetric _ _ (λ q.
     get_held S q ∙ ap held_slot (ap (λ (R : Slots). map.get R q) none ∙ map.get-empty dot_cmp q) ∙ sym (map.get-empty dot_cmp q))
 
--- taking the fact at a dot out
+-- the fact at a dot is taken out
 pub held_without : (S : Slots) (d : Dot) → held_in (without_fact S d (map.get S d)) ≡ map.remove (held_in S) d
 held_without S d = by_slot (map.get S d) refl
   where
@@ -181,7 +181,7 @@ whole_none None h k = refl
 whole_none (Some (Held c)) h k = absurd (none_is_not_some c (sym k))
 whole_none (Some Skipped) h k = absurd (true≢false h)
 
--- what stands at a dot of slots without marks
+-- the slot at a dot, among slots without marks
 pub whole_held : (S : Slots) (d : Dot) (b : Body) → is_skipped S d ≡ false → map.get (held_in S) d ≡ Some b → map.get S d ≡ Some (Held b)
 whole_held S d b whole at = whole_slot (map.get S d) b whole (sym (get_held S d) ∙ at)
 

@@ -86,7 +86,7 @@ join_least (Some (Held u)) (Held v) c x y = x
 join_least (Some (Held u)) Skipped c x y = y
 join_least (Some Skipped) s c x y = x
 
--- what results agrees with the slot that was joined
+-- the joined slot agrees with the slot that was joined to it
 pub join_agrees : (a : Option Slot) (s : Slot) → SlotAgrees a (Some s) → SlotAgrees (Some (joined_slot a s)) (Some s)
 join_agrees None (Held y) g = refl
 join_agrees None Skipped g = tt
@@ -96,7 +96,7 @@ join_agrees (Some Skipped) s g = g
 
 -- ---- all slots joined
 
--- what is known of a dot, with what another knows of it
+-- what one store knows of a dot, joined with what another knows of it
 abbrev pub slot_join : Option Slot → Option Slot → Option Slot
 slot_join a None = a
 slot_join a (Some s) = Some (joined_slot a s)
@@ -190,7 +190,7 @@ whole_slots (Some Skipped) (Some t) (Some (Held w)) whole x y = absurd x
 pub whole_agree : WholeAgree
 whole_agree P Q R whole a b d = whole_slots (map.get P.slots d) (map.get Q.slots d) (map.get R.slots d) (whole d) (a.slots d) (b.slots d)
 
--- ---- what a call leaves
+-- ---- the store after a call
 
 pub added_joins : (P Q : StoreFields) (f p : Dot × Body) (a : Added) → p ≡ f → AddsTo P p (Ok a) Q → Q.slots ≡ map.insert P.slots f.0 (joined_slot (map.get P.slots f.0) (Held f.1))
 added_joins P Q f p a same adds = added_by P Q f a (subst (λ (x : Dot × Body). AddsTo P x (Ok a) Q) same adds)

@@ -2,7 +2,7 @@
 --   get_slots                     a look-up in the table is one in the slots
 --   shown                         what a look-up returns
 --   put_slots, put_home           a slot is put
---   taken_slots, taken_home       and taken out
+--   taken_slots, taken_home       a slot is taken out
 --   table_put, table_marked, table_skipped, table_taken, table_forgot   the table stays one
 --   walks_on, walks_out           one step of a walk
 --   last_serial_is                the greatest serial of a region
@@ -45,7 +45,7 @@ is_true : (b : Bool) → T b → b ≡ true
 is_true true h = refl
 is_true false h = absurd h
 
--- ---- what the facts say
+-- ---- the slots of a table
 
 abbrev said : Dot × Kept → Dot × Slot
 said e = (e.0, slot_of e.1)
@@ -99,7 +99,7 @@ module _ (m : KeptMap) (F : Slots) (seen : slots_of m ≡ F) where
       by_kept None h = refl
       by_kept (Some k) h = absurd (none_is_not_some (slot_of k) (sym h))
 
-  -- what is returned is what stands there
+  -- what a look-up returns is the slot at the dot
   pub shown_kept : AreHome m → (d : Dot) (r : SlotRef) (k : Kept) → sets.get m d ≡ Some k → Shows r k → (Some (slot_of k) ≡ Some (shown_slot r)) × HasDot d r
   shown_kept home d (ref.Held f) (kept.Fact b) here shows = (ap (λ (x : Dot × Body). Some (Held x.1)) (sym shows), ap (λ (x : Dot × Body). x.0) shows ∙ home d b here)
   shown_kept home d (ref.Held f) kept.Skipped here shows = absurd shows
@@ -153,12 +153,12 @@ pub some_is : {A : Type 0} (o : Option A) → IsSome o → (a : A) × (o ≡ Som
 some_is None h = absurd (false≢true h)
 some_is (Some a) h = (a, refl)
 
--- what holds a fact is known
+-- a slot that holds a fact is known
 pub held_known : (o : Option Slot) → IsSome (held_slot o) → IsSome o
 held_known None h = h
 held_known (Some s) h = refl
 
--- a value written over one that is there
+-- a value is written over another
 pub set_over : (m n : KeptMap) (d : Dot) (k : Kept) → IsSome (sets.get m d) → ((q : Dot) → sets.get n q ≡ cond (eq_by_cmp dot_cmp q d) (option_map (λ _. k) (sets.get m q)) (sets.get m q))
     → (q : Dot) → sets.get n q ≡ cond (eq_by_cmp dot_cmp q d) (Some k) (sets.get m q)
 set_over m n d k there is q =
@@ -245,7 +245,7 @@ module _ (m : KeptMap) (held : ℕ) (table : IsTable m held) (F : Slots) (seen :
 
 -- ---- walking
 
--- what stands in a list below which a dot lies, is above the dot
+-- each element of a list is above a dot that is below the list
 below_found : (k : Dot) (es : List (Dot × Slot)) (q : Dot) (c : Slot) → T (below_all dot_cmp k es) → find dot_cmp q es ≡ Some c → is_lt (dot_cmp k q) ≡ true
 below_found k [] q c low h = absurd (none_is_not_some c h)
 below_found k (e ∷ es) q c low h =
@@ -255,7 +255,7 @@ below_found k (e ∷ es) q c low h =
       | inr apart ↦ below_found k es q c l.1 (sym (cond-false _ _ _ apart) ∙ h)
     ]
 
--- and it hides none
+-- no element of the list is left out
 found_past : (e : Dot × Slot) (es : List (Dot × Slot)) (q : Dot) (c : Slot) → T (below_all dot_cmp e.0 es) → find dot_cmp q es ≡ Some c → find dot_cmp q (e ∷ es) ≡ Some c
 found_past e es q c low h = cond-false _ _ _ (apart (dot_cmp e.0 q) (dot_cmp q e.0) (dot_cmp_total.antisymm q e.0) (below_found e.0 es q c low h)) ∙ h
   where

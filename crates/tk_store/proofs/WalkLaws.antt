@@ -32,7 +32,6 @@ less Less p = refl
 less Equal p = absurd p
 less Greater p = absurd p
 
-
 module _ {X : Type 0} where
   -- a test that keeps e keeps all of a list above e
   keeps_all : (a : Option Dot) (e : Dot × X) (es : List (Dot × X)) → is_above a e ≡ true → T (below_all dot_cmp e.0 es) → filter (is_above a) es ≡ es

@@ -2,9 +2,9 @@
 --   whole_adds                    adding a fact to it is adding the fact to the set
 --   whole_taken                   taking a fact back
 --   whole_front, whole_next       the front and the next serial are those of the set
---   whole_beyond                  and so are the dots that a vector does not cover
+--   whole_beyond                  the dots that a vector does not cover are those of the set
 --   empty_held, known_kept        an empty store, and a call that changes nothing
---   agree_is, below_is            two such stores agree, and are ordered, as their sets are
+--   agree_is, below_is            two whole stores agree, and are ordered, as their sets are
 use Rattle.std.proofs.Common.{◌≡◌, ◌≢◌, ◌↔◌, ◌≤◌, ◌+◌, ℕ, max, ◌==◌, if◌then◌else◌, Bool, true, false, cond, not, nat_le, List, [], ◌∷◌, map, filter, Option, Some, None, IsSome, is_some, option_map, Result, Ok, Err, refl, sym, ap, subst, ◌∙◌, arith}
 use Rattle.std.proofs.lemmas.Bool.{true≢false}
 use Rattle.std.specs.Ordering.{is_lt}
@@ -31,7 +31,7 @@ use Rattle.tk_store.proofs.PutLaws.{by_dot, none_is_not_some, some_injective}
 use Rattle.tk_store.proofs.SlotLaws.{get_held, held_none, held_put, held_without, entries_held, whole_held, whole_free}
 use Rattle.tk_store.specs.FactSet.{AllIn}
 
--- ---- what stands at a dot
+-- ---- the slot at a dot
 
 some_held : (o : Option Slot) → is_skipped_slot o ≡ false → is_some (held_slot o) ≡ is_some o
 some_held None h = refl
@@ -134,7 +134,7 @@ module _ (P : StoreFields) (whole : IsWhole P) where
       ∙ sym (dots_kept (wanted v after) (sets.entries P.slots) all_plain)
       ∙ sym (ap (map dot_of) (one_filter v after (sets.entries (held_facts P)) ∙ ap (filter (λ e. wanted v after e.0)) (entries_held P.slots)))
 
--- ---- two such stores
+-- ---- two whole stores
 
 module _ (P Q : StoreFields) (p : IsWhole P) (q : IsWhole Q) where
   agree_slots : (a b : Option Slot) → is_skipped_slot a ≡ false → is_skipped_slot b ≡ false → SlotAgrees a b → (x y : Body) → held_slot a ≡ Some x → held_slot b ≡ Some y → x ≡ y

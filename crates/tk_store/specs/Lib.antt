@@ -1,13 +1,13 @@
 -- The definitions of this crate, by file:
 --   FactSet        FactSet, a set of facts; Agree, with_facts, joined, IsFactSet, IsSubset
---   Slots          Slot, what stands at a dot that is known; held_in, joined_slot
+--   Slots          Slot, what is known of a dot; held_in, joined_slot
 --   StoreFields    StoreFields, what contracts see of a store; held_facts, IsWhole, IsKept
 --   SlotShown      IsShown, what a look-up of a slot returns
 --   SlotOrder      StoreBelow, the order of stores; StoresAgree
 --   WholeStores    WholeAgree, stores in which nothing is skipped
 --   Joining        JoinsFacts, the set that results from joining facts to a set; SameFacts
 --   JoiningSteps   Compared, Joins, Sought, the loops over the entries of another set
---   SlotJoining    the same over the slots of another store
+--   SlotJoining    Compared, Joins, Sought over the slots of another store
 --   Store          Store, what contracts above see of a set of facts; facts_of, known_in
 --   Adding         Adds and AddsTo, the outcomes of adding a fact to a set and to a store
 --   Skipping       Skips, the outcomes of skipping a dot

@@ -11,7 +11,7 @@ use Rattle.tk_store.specs.declared.store.Added.TheVariants as added
 use Rattle.tk_store.specs.declared.store.AddError.{AddError}
 use Rattle.tk_store.specs.declared.store.AddError.TheVariants.{Conflict, Memory}
 
--- the slot is known, and what stands there may be skipped
+-- the dot is known, and has no fact that lasts
 abbrev pub MayGo : Option Slot → Type 0
 MayGo None = ⊥
 MayGo (Some (Held b)) = is_passing b ≡ true
@@ -27,7 +27,7 @@ Lasts (Some Skipped) = ⊥
 abbrev pub Skips : StoreFields → Dot → Result Added AddError → StoreFields → Type 0
 -- new: the dot was unknown, and is now skipped
 Skips old d (Ok added.New) new = (map.get old.slots d ≡ None) × (new ≡ with_skipped old d)
--- held: the dot was known, and is skipped now; its fact is no more held
+-- held: the dot was known, and is skipped now; its fact, if it had one, is gone
 Skips old d (Ok added.Held) new = MayGo (map.get old.slots d) × (new ≡ with_skipped old d)
 -- conflict: a fact that lasts is at the dot
 Skips old d (Err Conflict) new = Lasts (map.get old.slots d) × (new ≡ old)

@@ -19,11 +19,11 @@ SlotBelow (Some (Held b)) (Some Skipped) = is_passing b ≡ true
 SlotBelow (Some Skipped) (Some (Held b)) = ⊥
 SlotBelow (Some Skipped) (Some Skipped) = Unit {0}
 
--- at each dot
+-- what S knows of each dot is below what T knows of it
 abbrev pub SlotsBelow : Slots → Slots → Type 0
 SlotsBelow S T = (d : Dot) → SlotBelow (map.get S d) (map.get T d)
 
--- at each dot, and the horizon is not later
+-- what P knows of each dot is below what Q knows, and the horizon of P is not later
 pub record StoreBelow (P Q : StoreFields) : Type 0 where
   pub slots : SlotsBelow P.slots Q.slots
   pub horizon : P.horizon ≤ Q.horizon
@@ -37,7 +37,7 @@ SlotAgrees (Some (Held b)) (Some Skipped) = is_passing b ≡ true
 SlotAgrees (Some Skipped) (Some (Held b)) = is_passing b ≡ true
 SlotAgrees (Some Skipped) (Some Skipped) = Unit {0}
 
--- at each dot
+-- what S and T know of each dot agrees
 abbrev pub SlotsAgree : Slots → Slots → Type 0
 SlotsAgree S T = (d : Dot) → SlotAgrees (map.get S d) (map.get T d)
 

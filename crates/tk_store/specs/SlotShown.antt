@@ -1,6 +1,6 @@
 -- What a look-up of a slot returns (own).
 --   shown_slot   a `SlotRef` of the code as contracts see it
---   IsShown      what is returned is what stands at a dot
+--   IsShown      what is returned is the slot at a dot
 --   WalksOn      one step of a walk over slots
 use Rattle.std.specs.Prelude.{◌≡◌, ◌<◌, [], ◌∷◌, length, Option, Some, None}
 use Rattle.tk_handle.specs.declared.dot.Dot.{Dot}
@@ -19,7 +19,7 @@ abbrev pub HasDot : Dot → SlotRef → Type 0
 HasDot d (ref.Held f) = f.now.0 ≡ d
 HasDot d ref.Skipped = Unit {0}
 
--- what is returned for the dot d is what stands there
+-- what is returned for the dot d is the slot there, with the fact's own dot
 abbrev pub IsShown : Dot → Option SlotRef → Option Slot → Type 0
 IsShown d None s = s ≡ None
 IsShown d (Some r) s = (s ≡ Some (shown_slot r)) × HasDot d r

@@ -1,5 +1,5 @@
--- What a store knows of a dot (own): a fact that it holds, or that it skipped one.
---   Slot                   what stands at a dot that is known
+-- What a store knows of a dot (own): a fact that it holds, or the mark that it skipped one.
+--   Slot                   what is known of a dot
 --   Slots                  the slots by their dots
 --   held_slot, held_in     the fact of a slot, and all facts that slots hold
 --   is_skipped             a dot is skipped
@@ -13,7 +13,7 @@ use Rattle.tk_fact.specs.declared.body.Body.{Body}
 use Rattle.tk_fact.specs.contracts.body.Body.{the_row}
 use Rattle.tk_store.specs.FactSet.{FactSet, Facts}
 
--- what stands at a dot that is known: the body of a fact, or the mark that a fact was skipped
+-- what is known of a dot: the body of a fact that is held, or the mark that a fact was skipped
 pub data Slot : Type 0 where
   Held : Body → Slot
   Skipped : Slot
@@ -38,7 +38,7 @@ is_skipped_slot (Some Skipped) = true
 abbrev pub is_skipped : Slots → Dot → Bool
 is_skipped S d = is_skipped_slot (map.get S d)
 
--- the facts in front of a list, with that of a slot if it holds one
+-- the fact of a slot, if it holds one, in front of a list
 abbrev pub held_entry : Dot → Slot → Facts → Facts
 held_entry d (Held b) fs = (d, b) ∷ fs
 held_entry d Skipped fs = fs

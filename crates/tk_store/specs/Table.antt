@@ -31,7 +31,7 @@ Shows (ref.Held f) kept.Skipped = ⊥
 Shows ref.Skipped (kept.Fact b) = ⊥
 Shows ref.Skipped kept.Skipped = Unit {0}
 
--- facts and marks by their dots
+-- facts, each in memory of its own, and marks, by their dots
 abbrev pub KeptMap : Type 0
 KeptMap = sets.FinMap dot_cmp Kept
 
@@ -43,7 +43,7 @@ slots_of m = sets.from_sorted (map (λ e. (e.0, slot_of e.1)) (sets.entries m))
 abbrev pub AreHome : KeptMap → Type 0
 AreHome m = (d : Dot) (b : Boxed) → sets.get m d ≡ Some (kept.Fact b) → b.value.0 ≡ d
 
--- each fact is at its own dot, and so many facts are held
+-- each fact is at its own dot, and `held` is the number of facts
 pub record IsTable (m : KeptMap) (held : ℕ) : Type 0 where
   pub home : AreHome m
   pub counted : held ≡ sets.len (held_in (slots_of m))

@@ -1,5 +1,5 @@
 -- Stores in which nothing is skipped (own).
---   WholeAgree   two stores below such a one agree
+--   WholeAgree   two stores below a store in which nothing is skipped agree
 use Rattle.tk_store.specs.StoreFields.{StoreFields, IsWhole}
 use Rattle.tk_store.specs.SlotOrder.{StoreBelow, StoresAgree}
 

@@ -1,21 +1,23 @@
-//! A finite set of facts, no two at one dot.
+//! Facts by their dots, no two at one dot, and the dots at which facts were skipped.
 //!
-//! A `FactStore` holds the facts of one region.
+//! A `FactStore` holds the facts of one region. What it knows of a dot is a slot: a fact that is
+//! held, or the mark that one was skipped.
 //!
-//! - `add` joins one fact to the set or refuses it, and `take_back` undoes an addition.
-//! - `skip` drops a fact that is over, and keeps its dot known. `skipped` and `slot` look a dot up,
-//!   `horizon` and `raise_horizon` are about the moment up to which families may be skipped.
-//! - `get` looks a fact up. `next_after` and `facts` walk the set in the order of the dots, without
-//!   making a list of it.
-//! - `vector` returns the front of the set.
+//! - `add` joins one fact to the store or refuses it, and `take_back` undoes an addition.
+//! - `skip` drops a fact and keeps its dot known. `skipped` and `slot` look a dot up.
+//! - `horizon` returns the moment up to which families that are over may be skipped, and
+//!   `raise_horizon` raises it.
+//! - `get` looks a fact up. `next_after` and `facts` walk the facts in the order of the dots,
+//!   without making a list of them.
+//! - `vector` returns the front of the store.
 //! - `since` returns the first dots, above a cursor, that a version vector does not cover.
 //! - `next_dot` returns the dot of a region's next fact.
-//! - `Join` joins two stores.
+//! - `agrees` returns whether two stores can be joined, and `Join` joins them.
 //!
-//! Only `facts`, `agrees` and the methods of `Join` walk over all facts.
+//! Only `facts`, `agrees` and the methods of `Join` walk over all slots.
 //!
-//! Contracts see a store as a finite map from dots to slots, and a horizon. The store keeps a map by
-//! dot (`table`) and the front (`advance`); the crates above see neither. The definitions are in
+//! Contracts see a store as a finite map from dots to slots, and a horizon. The store keeps a map
+//! by dot (`table`) and the front (`advance`); the crates above see neither. The definitions are in
 //! `specs/`: `FactSet` and `Slots` first, then `StoreFields`, `Adding`, `Skipping`, `SlotOrder`,
 //! `Walk`, `Beyond`, `Front`, `Paging`.
 #![tactic(auto)]

@@ -2,11 +2,11 @@
 
 use tk_fact::Fact;
 
-/// What stands at a dot that a store knows.
+/// What a store knows of a dot.
 #[derive(Clone, Copy)]
 pub enum SlotRef<'a> {
-    /// The fact at the dot.
+    /// The fact that is held at the dot.
     Held(&'a Fact),
-    /// The mark that the fact at the dot was skipped, or is to be.
+    /// The mark that the dot is skipped: no fact is held there again.
     Skipped,
 }

@@ -7,14 +7,14 @@ use tk_fact::Fact;
 use tk_handle::Moment;
 use tk_vector::VersionVector;
 
-/// A set of facts that each pass their check, no two at one dot.
+/// Facts that each pass their check, no two at one dot, and marks at skipped dots.
 ///
-/// A store may skip a fact that it is no longer kept for: its dot stays known, and the fact is gone
-/// for good. The horizon is the moment up to which families that are over may be skipped.
+/// Skipping drops a fact for good and keeps its dot known. The horizon is the moment up to which
+/// families that are over may be skipped.
 #[derive(Drop)]
 pub struct FactStore {
     facts: Table,
-    // The front: to each region, the serial up to which no dot is unknown.
+    // The front: per region, the serial up to which no dot is unknown.
     front: VersionVector,
     horizon: Moment,
     // The allocator for copies that a join makes.
@@ -45,7 +45,8 @@ pub enum Added {
 /// The reason why a fact was not added, or a dot not skipped.
 #[derive(Clone, Copy, Debug, PartialEq, Eq)]
 pub enum AddError {
-    /// What stands at the dot does not agree: a conflict.
+    /// A conflict: the dot has another fact, or a mark and the fact lasts, or a fact that lasts is
+    /// to be skipped.
     Conflict,
     /// The dot was unknown, but memory ran out.
     Memory,
@@ -149,9 +150,10 @@ impl FactStore {
         }
     }
 
-    /// Skips a dot: a fact that is held there is dropped, and none comes there again.
+    /// Skips a dot: drops the fact that is held there, and lets no fact be held there again.
     ///
-    /// A fact that lasts is not skipped. If the dot is known, the call takes no memory.
+    /// A fact that lasts is not skipped, and the store is unchanged then. If the dot is known, the
+    /// call takes no memory.
     pub fn skip(&mut self, dot: Dot) -> Result<Added, AddError>
         ensures skips { Skips self.old dot result self.new }
         ensures known { sets.get self.old.slots dot ≢ None → result ≢ Err error.Memory }
@@ -179,7 +181,7 @@ impl FactStore {
         self.facts.is_marked(dot)
     }
 
-    /// Returns what stands at the dot: a fact at this dot, a mark, or `None` if the dot is unknown.
+    /// Returns what is known of the dot: its fact or a mark, or `None` if the dot is unknown.
     pub fn slot(&self, dot: Dot) -> Option<SlotRef<'_>>
         ensures { IsShown dot result (sets.get self.now.slots dot) }
     {
@@ -202,7 +204,7 @@ impl FactStore {
         }
     }
 
-    /// Takes the fact at the dot out and returns it, which undoes an addition.
+    /// Takes the fact at the dot out and returns it, which undoes an addition. A mark stays.
     ///
     /// Takes no memory. If there is no fact at the dot, the method returns `None` and changes
     /// nothing.
@@ -235,7 +237,7 @@ impl FactStore {
         self.facts.len()
     }
 
-    /// Returns the front: to each region the greatest serial such that all from 1 to it are known.
+    /// Returns the front: per region the greatest serial such that all from 1 to it are known.
     pub fn vector(&self) -> &VersionVector
         ensures { IsFront self.now.slots result.now }
     {
@@ -299,8 +301,8 @@ fn first_moment() -> Moment
     }
 }
 
-// Returns whether a slot at the fact's dot has the fact: holds it, or is a mark and the fact may be
-// skipped.
+// Returns whether the slot at the fact's dot has the fact: the slot holds it, or is a mark and the
+// fact may be skipped.
 fn has_fact(slot: &SlotRef<'_>, fact: &Fact) -> bool
     ensures has { result ≡ true → HasFact fact.now.1 (Some (shown_slot slot.now)) }
     ensures refuses { result ≡ false → RefusesFact fact.now.1 (Some (shown_slot slot.now)) }

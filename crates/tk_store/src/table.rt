@@ -17,7 +17,7 @@ pub(crate) enum Kept {
 #[derive(Drop)]
 pub(crate) struct Table {
     kept: DotMap<Kept>,
-    // The number of facts: of all that is kept but the marks.
+    // The number of facts; marks do not count.
     held: u64,
     alloc: Global,
 }
@@ -42,7 +42,14 @@ ghost use Rattle.std.specs.Option.{option_map, option_copied};
 ghost use Rattle.std.specs.FinMap as sets;
 ghost use Rattle.tk_handle.specs.declared.dot.Dot.{Dot as the_dot};
 ghost use Rattle.tk_handle.specs.Ranges.{greatest_serial};
-ghost use Rattle.tk_store.specs.Slots.{Held, Skipped, held_in, held_slot, is_skipped_slot, without_fact};
+ghost use Rattle.tk_store.specs.Slots.{
+  Held,
+  Skipped,
+  held_in,
+  held_slot,
+  is_skipped_slot,
+  without_fact,
+};
 ghost use Rattle.tk_store.specs.SlotShown.{IsShown, WalksOn};
 ghost use Rattle.tk_store.specs.Table.{Shows};
 ghost use Rattle.tk_store.specs.NextDot as next;
@@ -78,7 +85,7 @@ impl Table {
         self.kept.known();
     }
 
-    // Returns what stands at the dot.
+    // Returns the slot at the dot.
     pub(crate) fn slot(&self, dot: Dot) -> Option<SlotRef<'_>>
         ensures { IsShown dot result (sets.get self.now dot) }
     {
@@ -107,7 +114,7 @@ impl Table {
         self.slot(dot).is_some()
     }
 
-    // Returns whether a mark is at the dot.
+    // Returns whether the dot has a mark.
     pub(crate) fn is_marked(&self, dot: Dot) -> bool
         ensures { result ≡ is_skipped_slot (sets.get self.now dot) }
     {
@@ -155,7 +162,7 @@ impl Table {
         self.held -= 1;
     }
 
-    // Takes the fact at the dot out. A mark stays. Takes no memory.
+    // Takes the fact at the dot out and returns it. A mark stays. Takes no memory.
     pub(crate) fn take(&mut self, dot: Dot) -> Option<Fact>
         ensures fact { result
             ≡ option_map (λ body. (dot, body)) (held_slot (sets.get self.old dot)) }
@@ -174,7 +181,7 @@ impl Table {
         }
     }
 
-    // Takes the mark at the dot away, so that the dot is unknown. Takes no memory.
+    // Removes the mark at the dot, which makes the dot unknown. Takes no memory.
     pub(crate) fn forget(&mut self, dot: Dot)
         requires { sets.get self.old dot ≡ Some Skipped }
         ensures { self.new ≡ sets.remove self.old dot }
@@ -192,7 +199,7 @@ impl Table {
         }
     }
 
-    // The greatest serial of the region that is known, or 0.
+    // Returns the greatest serial of the region that is known, or 0.
     pub(crate) fn last_serial(&self, region: RegionNumber) -> u64
         ensures value { result ≡ next.last_serial region (sets.entries self.now) }
         ensures high { result ≤ greatest_serial }

@@ -28,17 +28,17 @@ pub returns-clause-cells : goal.returns-clause-cells
 returns-clause-cells g c =
     let here : get dot_cmp c.args.pages.now c.args.page ≡ Some c.in-Some.slots.now = sym c.in-Some.ensures.value in
     on_ok c.put.result _ _ c.put.ensures.items (λ written.
-      cells_updated c.args.pages.now (c.get_mut.follows.lender c.put.new.slots) c.args.page (Some c.put.new.slots)
-      ((c.get_mut.follows.holds c.put.new.slots).3 (ap is_some here)).0 c.args.at (Some c.args.value)
-      (λ j. written j ∙ ap (λ (o : Option (Slots g.row.V.Denot)). cond (j == c.args.at) (Some c.args.value) (slot_in o j)) (sym here)))
+    cells_updated c.args.pages.now (c.get_mut.follows.lender c.put.new.slots) c.args.page (Some c.put.new.slots)
+    ((c.get_mut.follows.holds c.put.new.slots).3 (ap is_some here)).0 c.args.at (Some c.args.value)
+    (λ j. written j ∙ ap (λ (o : Option (Slots g.row.V.Denot)). cond (j == c.args.at) (Some c.args.value) (slot_in o j)) (sym here)))
 
 pub returns-clause-err : goal.returns-clause-err
 returns-clause-err g c =
     let here : get dot_cmp c.args.pages.now c.args.page ≡ Some c.in-Some.slots.now = sym c.in-Some.ensures.value in
     on_err c.put.result _ _ c.put.ensures.err (λ same.
-      cells_kept c.args.pages.now (c.get_mut.follows.lender c.put.new.slots) c.args.page c.put.new.slots
-      ((c.get_mut.follows.holds c.put.new.slots).3 (ap is_some here)).0
-      (λ j. ap (λ xs. get_or xs j None) same ∙ ap (λ (o : Option (Slots g.row.V.Denot)). slot_in o j) (sym here)))
+    cells_kept c.args.pages.now (c.get_mut.follows.lender c.put.new.slots) c.args.page c.put.new.slots
+    ((c.get_mut.follows.holds c.put.new.slots).3 (ap is_some here)).0
+    (λ j. ap (λ xs. get_or xs j None) same ∙ ap (λ (o : Option (Slots g.row.V.Denot)). slot_in o j) (sym here)))
 
 pub returns-clause-pages : goal.returns-clause-pages
 returns-clause-pages g c =

@@ -15,7 +15,7 @@ returns-in-Some-clause-last g c =
     let part = c.range.ensures.in_range tt in
     let within = part.3 _ _ c.in-Some.ensures.steps in
     let at : (c.in-Some.page.now.serial - 1) * span + (length c.in-Some.slots.now.items - 1) ≡ (c.serial.result - 1) * 64 + (c.len.result - 1) =
-        omega (arith, c.serial.ensures.value, c.len.ensures, c.in-Some.slots.now.ok) in
+    omega (arith, c.serial.ensures.value, c.len.ensures, c.in-Some.slots.now.ok) in
     subst (IsLast c.args.self.now c.args.region) at
     (last_is c.self.inside.pages c.args.self.now c.self.view_is c.self.invariant.pages c.args.region c.in-Some-Some.first c.in-Some-Some.last c.in-Some-Some.ensures.1 c.in-Some-Some.ensures'.1
     c.in-Some.page.now c.in-Some.slots.now within.0 within.1 (omega (arith, c.serial.ensures.value, c.serial.ensures.range.0)) (part.4 _ _ c.in-Some.ensures.steps))
