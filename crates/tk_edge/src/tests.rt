@@ -1,4 +1,4 @@
-//! Tests of connections over devices that fail, which no row of `rows/` can show.
+//! Tests of connections over devices that fail, which no row of `check/rows/` can show.
 //!
 //! `serving` has the tests, `frail` the devices, and `talks` the requests. The tests of the crates
 //! below are in tk_trials.

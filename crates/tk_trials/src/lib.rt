@@ -1,4 +1,4 @@
-//! Tests of the crates below over their public names, which no row of `rows/` can show.
+//! Tests of the crates below over their public names, which no row of `check/rows/` can show.
 //!
 //! The crate has no function of its own. A crate with tests is proved once more for them, so these
 //! tests are not in the crates that they test.

@@ -1,6 +1,6 @@
 //! A region that may run out of memory, and a request that it handles in one call.
 //!
-//! Programs decide and commit separately, and the rows of `rows/` show those replies.
+//! Programs decide and commit separately, and the rows of `check/rows/` show those replies.
 
 use std::alloc::{AllocError, Global};
 use std::test::Fail;

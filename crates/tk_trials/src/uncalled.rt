@@ -2,7 +2,7 @@
 //!
 //! These are: what a vector covers, joins of vectors, stores and ledgers, walks over stores, taking
 //! a fact back, another body at a dot (a region checks before it adds), the text of a dot, and what
-//! a fact uses. The rows of `rows/` show the other calls of the crates below.
+//! a fact uses. The rows of `check/rows/` show the other calls of the crates below.
 
 ghost use Rattle.std.specs.Prelude.{◌≡◌, None};
 ghost use Rattle.tk_fact.specs.Check.{refusal_of};
