@@ -5,7 +5,7 @@
 --   State         State, a world's regions and bundles; Consists, the set of all its facts
 --   Carrying      Way, what a request may be heard as and what its reply shows; Carries, what
 --                 carrying a request does to an edge
---   World         Step, one event; Run, a list of them; StepBy, RunBy, by any way to carry requests;
+--   World         Step, one event; Run, a list of them; StepBy, RunBy, by any way of requests;
 --                 seen_by, what a region has seen
 --   Broken        BreaksOff, what a run leaves that ended with an error
 --   Promises      TellsOfSets, IntrospectAlike, RevokedInactive, FamiliesInactive: the promises

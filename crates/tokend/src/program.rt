@@ -255,7 +255,7 @@ fn read_input<I: Read>(
     longest: Option<u64>,
 ) -> Result<Vec<Event>, Fault>
     ensures given { IfOk result
-        (λ events. IfSome (I.remaining input.old) (λ script. IsScript longest script events.items)) }
+        (λ events. IfSome (I.remaining input.old) (λ text. IsScript longest text events.items)) }
     ensures fault { IfErr result (IsReadFault longest (I.remaining input.old)) }
 {
     match read_script(alloc, input) {
