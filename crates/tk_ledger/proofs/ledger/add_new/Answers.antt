@@ -46,8 +46,8 @@ returns-in-Err-follow-clause-indexed c =
     let free = whole_free c.args.store.now.slots c.args.fact.0 (c.requires.whole c.args.fact.0) c.requires.free in
     let back = back_again c.args.store.now c.add.new.self c.take_back.new.self c.args.fact c.fact.inside.dot c.fact.inside.body c.fact.view_is free c.in-Ok.added c.in-Ok.ensures c.take_back.ensures.rest c.take_back.ensures.horizon in
     let before = stored_back (held_facts c.args.store.now) (held_facts c.add.new.self) c.fact.inside.dot c.fact.inside.body
-        (stored (held_facts c.args.store.now) (held_facts c.add.new.self) c.args.fact c.fact.inside.dot c.fact.inside.body c.in-Ok.added c.fact.view_is c.requires.free
-        (whole_adds c.args.store.now c.requires.whole c.args.fact (Ok c.in-Ok.added) c.add.new.self c.in-Ok.ensures).0) in
+    (stored (held_facts c.args.store.now) (held_facts c.add.new.self) c.args.fact c.fact.inside.dot c.fact.inside.body c.in-Ok.added c.fact.view_is c.requires.free
+    (whole_adds c.args.store.now c.requires.whole c.args.fact (Ok c.in-Ok.added) c.add.new.self c.in-Ok.ensures).0) in
     subst (λ (F : FactSet). IsIndexed F c.follow.new.index) (before ∙ sym (ap held_facts back)) c.in-Err-follow.ensures.err
 
 pub returns-in-Err-clause-adds : goal.returns-in-Err-clause-adds

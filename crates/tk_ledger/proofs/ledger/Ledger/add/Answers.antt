@@ -15,8 +15,8 @@ pub invariant_of-self : goal.invariant_of-self
 invariant_of-self c =
     let at : c.fact.inside.dot ≡ c.args.fact.0 = ap (λ (f : Dot × Body). f.0) c.fact.view_is in
     let known : IsSome (map.get (held_facts c.self.inside.store) c.args.fact.0) =
-        subst (λ (d : Dot). IsSome (map.get (held_facts c.self.inside.store) d)) at
-        (known_at (λ r. r.now) (map.get (held_facts c.self.inside.store) c.fact.inside.dot) c.fact.inside.dot c.get.result c.get.ensures (sym c.is_some.ensures ∙ c.if-is_some.true)) in
+    subst (λ (d : Dot). IsSome (map.get (held_facts c.self.inside.store) d)) at
+    (known_at (λ r. r.now) (map.get (held_facts c.self.inside.store) c.fact.inside.dot) c.fact.inside.dot c.get.result c.get.ensures (sym c.is_some.ensures ∙ c.if-is_some.true)) in
     subst (λ (P : StoreFields). IsLedger P c.self.inside.index) (sym (known_kept c.self.inside.store c.add.new.self c.args.fact c.add.result known c.add.ensures)) c.self.invariant
 
 pub returns-then-is_some : goal.returns-then-is_some
