@@ -2,13 +2,13 @@
 --   back_again      the store once a fact that was added is taken back
 --   added_horizon   adding a fact leaves the horizon
 --   known_at        a look-up that finds a fact finds it where one is held
-use Rattle.std.proofs.Common.{◌≡◌, true, false, Option, None, Some, IsSome, is_some, option_map, Result, Ok, Err, refl, sym, ap, subst, ◌∙◌}
+use Rattle.std.proofs.Common.{◌≡◌, true, Option, None, Some, IsSome, is_some, option_map, Ok, refl, sym, ap, subst, ◌∙◌}
 use Rattle.std.proofs.lemmas.Bool.{true≢false}
 use Rattle.std.specs.FinMap as map
 use Rattle.tk_handle.specs.declared.dot.Dot.{Dot}
 use Rattle.tk_fact.specs.declared.body.Body.{Body}
 use Rattle.tk_store.specs.Adding.{AddsTo, HasFact}
-use Rattle.tk_store.specs.Slots.{Slot, Slots, Held, without_fact}
+use Rattle.tk_store.specs.Slots.{Slots, Held, without_fact}
 use Rattle.tk_store.specs.StoreFields.{StoreFields, with_fact}
 use Rattle.tk_store.specs.declared.store.Added.{Added}
 use Rattle.tk_store.specs.declared.store.Added.TheVariants as added

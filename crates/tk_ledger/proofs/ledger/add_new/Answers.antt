@@ -1,11 +1,11 @@
-use Rattle.std.proofs.Common.{◌≡◌, Ok, Err, ap, sym, subst, ◌∙◌}
+use Rattle.std.proofs.Common.{Ok, Err, ap, sym, subst, ◌∙◌}
 use Rattle.tk_store.specs.FactSet.{FactSet}
-use Rattle.tk_store.specs.StoreFields.{StoreFields, held_facts, IsWhole}
+use Rattle.tk_store.specs.StoreFields.{held_facts, IsWhole}
 use Rattle.tk_store.proofs.SlotLaws.{whole_free}
 use Rattle.tk_store.proofs.WholeLaws.{whole_adds}
 use Rattle.tk_ledger.specs.Index.{IsIndexed}
 use Rattle.tk_ledger.proofs.ChangeLaws.{stored, stored_change, stored_back}
-use Rattle.tk_ledger.proofs.StoringLaws.{back_again, added_horizon}
+use Rattle.tk_ledger.proofs.StoringLaws.{back_again}
 use Rattle.tk_ledger.proofs.ledger.add_new.Goals as goal
 
 pub follow-requires-clause-change : goal.follow-requires-clause-change

@@ -1,4 +1,4 @@
-use Rattle.std.proofs.Common.{sym, subst, arith, ◌∙◌}
+use Rattle.std.proofs.Common.{sym, subst, arith}
 use Rattle.tk_store.specs.FactSet.{FactSet, IsSubset}
 use Rattle.tk_store.specs.StoreFields.{held_facts}
 use Rattle.tk_store.proofs.WholeLaws.{below_is}
