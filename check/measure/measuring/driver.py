@@ -1,0 +1,64 @@
+"""driver: builds load.c and floor.c with the C compiler, and drives a server with the first."""
+import contextlib
+import json
+import os
+import shutil
+import subprocess
+import tempfile
+import urllib.parse
+
+from measuring.rounds import Absent, Broken
+from measuring.server import REDIRECT_TEXT, Process
+
+HERE = os.path.dirname(os.path.abspath(__file__))
+
+
+class Driver:
+    """Both C programs, built into a folder that goes after use."""
+
+    def __init__(self):
+        if not shutil.which("cc"):
+            raise Absent("no C compiler (cc)")
+        self.folder = tempfile.TemporaryDirectory()
+
+    def __enter__(self):
+        for name in ("load", "floor"):
+            subprocess.run(["cc", "-O2", "-o", self.path(name), os.path.join(HERE, name + ".c")],
+                           check=True)
+        return self
+
+    def __exit__(self, *_):
+        self.folder.cleanup()
+
+    def path(self, name):
+        return os.path.join(self.folder.name, name)
+
+    def load(self, server, count, *words):
+        """What a run of load prints, with the requests a second and the processor time of each."""
+        before = server.used()
+        words = [self.path("load"), str(server.port), str(count), *words]
+        done = subprocess.run(words, capture_output=True, text=True, check=False)
+        if done.returncode:
+            raise Broken(done.stderr.strip())
+        found = json.loads(done.stdout)
+        found["rate"] = found["requests"] / found["seconds"]
+        found["processor"] = (server.used() - before) * 1e6 / found["sent"]
+        return found
+
+    def work(self, server, count, kind, tokens):
+        """Drives an enrolled server: introspect, refresh or code."""
+        with open(self.path("tokens"), "w", encoding="ascii") as file:
+            file.writelines(it + "\n" for it in tokens)
+        return self.load(server, count, kind, server.client, server.resource, server.authorize,
+                         urllib.parse.quote_plus(REDIRECT_TEXT), self.path("tokens"))
+
+    @contextlib.contextmanager
+    def floor(self, how):
+        """The C server: `none`, `append` or `sync` is what it does with a log."""
+        with tempfile.TemporaryDirectory() as folder:
+            log = [] if how == "none" else [os.path.join(folder, "log")]
+            server = Process([self.path("floor"), how, *log], folder)
+            try:
+                yield server
+            finally:
+                server.stop()

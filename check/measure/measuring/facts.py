@@ -1,0 +1,106 @@
+"""facts: what a region made, as bytes of docs/FORMATS.md, and the handles of its tokens.
+
+All of it is of one region, whose serials begin with 3: the two before belong to a client and to a
+consent. It is made here, and not by a server, so that a million families can be pushed to one.
+"""
+import base64
+import hashlib
+import itertools
+import struct
+import time
+
+LIFE, FAMILY = 86_400, 2_592_000
+CODE, ACCESS, REFRESH = 1, 2, 3
+SCOPE, REDIRECT = b"read write", b"https://app.example/callback"
+
+
+def text(words):
+    return struct.pack(">H", len(words)) + words
+
+
+def dot(pair):
+    return struct.pack(">HQ", *pair)
+
+
+def read_dot(name):
+    """The dot that the id of a client or a consent names, such as c1-1."""
+    region, serial = name[1:].split("-")
+    return int(region), int(serial)
+
+
+def token(kind, at):
+    return struct.pack(">BB", 1, kind) + dot(at) + bytes(24)
+
+
+def handle(kind, at):
+    """What a client has of the token that the fact at this dot minted."""
+    return base64.urlsafe_b64encode(token(kind, at)).decode()
+
+
+def digest(kind, at):
+    return hashlib.sha256(token(kind, at)).digest()
+
+
+class Maker:
+    """Makes facts of a region number, for a client and a consent that a server may have.
+
+    Each login has its own subject, unless one is given. Only tokens of the consent's subject are
+    active.
+    """
+
+    def __init__(self, region, client="c1-1", consent="g1-2", subject=None):
+        self.region, self.client, self.consent = region, read_dot(client), read_dot(consent)
+        self.serials, self.now, self.subject = itertools.count(3), int(time.time()), subject
+
+    def new_dot(self):
+        return self.region, next(self.serials)
+
+    def tokens(self, at):
+        access = digest(ACCESS, at) + struct.pack(">Q", self.now + LIFE) + text(SCOPE)
+        return access + digest(REFRESH, at) + struct.pack(">Q", self.now + FAMILY) + text(SCOPE)
+
+    def login(self):
+        """A code and its redemption: the redemption's dot, and both facts."""
+        code, redemption = self.new_dot(), self.new_dot()
+        subject = self.subject or b"subject-%d" % (code[1] // 2 - 1)
+        times = struct.pack(">QQQ", self.now, self.now + 60, self.now + FAMILY)
+        given = (dot(code) + b"\5" + dot(self.client) + dot(self.consent) + digest(CODE, code)
+                 + times + text(subject) + text(SCOPE) + text(REDIRECT) + b"\1\0")
+        redeemed = dot(redemption) + b"\6" + dot(code) + struct.pack(">Q", self.now)
+        return redemption, [given, redeemed + self.tokens(redemption)]
+
+    def rotation(self, parent, generation):
+        """The rotation of a dot's refresh token: its own dot, and the fact."""
+        at = self.new_dot()
+        return at, dot(at) + b"\7" + dot(parent) + struct.pack(">HQ", generation, self.now) + (
+            self.tokens(at))
+
+    def logins(self, count):
+        """The dots of N redemptions, and the facts of N logins."""
+        made = [self.login() for _ in range(count)]
+        return [at for at, _ in made], [fact for _, both in made for fact in both]
+
+    def chain(self, length):
+        """The last dot and the facts of a login that was refreshed N times."""
+        at, facts = self.login()
+        for generation in range(1, length + 1):
+            at, fact = self.rotation(at, generation)
+            facts.append(fact)
+        return at, facts
+
+
+def bundles(facts, size=128):
+    for at in range(0, len(facts), size):
+        part = facts[at:at + size]
+        yield b"OTB1" + struct.pack(">H", len(part)) + b"".join(map(text, part))
+
+
+def whole_records(log):
+    """How many bytes at the front of a log are whole records, of one fact each."""
+    at = 0
+    while len(log) - at >= 8:
+        end = at + 8 + int.from_bytes(log[at + 6:at + 8], "big")
+        if end > len(log):
+            break
+        at = end
+    return at

@@ -1,0 +1,76 @@
+"""rounds: runs a measurement of each program several times, and shows what came of it.
+
+A measurement is a function of a program and of whether the sizes are to be small. It returns a
+number for each of its names. The programs take turns, so that a machine that is busy for a while
+is so for all of them.
+"""
+import argparse
+import os
+import signal
+import sys
+
+from measuring import tables
+
+ABSENT = 3
+ROOT = os.path.normpath(os.path.join(os.path.dirname(__file__), "../../.."))
+BUILT = os.path.join(ROOT, "crates/tokend/out/tokend")
+
+
+class Absent(Exception):
+    """Something that a measurement needs isn't on this machine."""
+
+
+class Broken(Exception):
+    """A server didn't do what it must."""
+
+
+def arguments(about, rounds):
+    """The parser of what every command of check/measure takes."""
+    parser = argparse.ArgumentParser(description=about.split("\n")[0])
+    parser.add_argument("--rounds", type=int, default=rounds, metavar="N")
+    parser.add_argument("--small", action="store_true", help="small sizes, to see it work")
+    parser.add_argument("--json", metavar="FILE", help="writes the data of the table too")
+    parser.add_argument("program", nargs="*", default=[os.environ.get("TOKEND") or BUILT])
+    return parser
+
+
+def programs_of(given):
+    """The paths of the programs, each of which can be run."""
+    for program in given.program:
+        if not os.access(program, os.X_OK) or os.path.isdir(program):
+            raise Absent("no program at %s" % program)
+    return [os.path.abspath(program) for program in given.program]
+
+
+def collect(measure, given):
+    """For each name, a list of each program's numbers."""
+    rows, programs = {}, programs_of(given)
+    for _ in range(given.rounds):
+        for at, program in enumerate(programs):
+            for name, number in measure(program, given.small).items():
+                rows.setdefault(name, [[] for _ in programs])[at].append(number)
+    return rows
+
+
+def end(*_):
+    raise SystemExit(143)
+
+
+def run(measure, about, rounds):
+    """The whole command: returns its status."""
+    given = arguments(about, rounds).parse_args()
+    name = os.path.basename(sys.argv[0])
+    signal.signal(signal.SIGTERM, end)  # so that servers are stopped
+    try:
+        rows = collect(measure, given)
+    except Absent as why:
+        print("%s: passed over: %s" % (name, why), file=sys.stderr)
+        return ABSENT
+    except Broken as why:
+        print("%s: %s" % (name, why), file=sys.stderr)
+        return 1
+    found = tables.data(name, about, given, rows)
+    if given.json:
+        tables.write(given.json, found)
+    print(tables.machine(found["machine"]) + "\n\n" + tables.table(found))
+    return 0

@@ -1,0 +1,84 @@
+"""tables: the data of a measurement, and its text: a Markdown table of medians and spreads."""
+import hashlib
+import json
+import os
+import statistics
+import subprocess
+import time
+
+
+def about_machine():
+    with open("/proc/cpuinfo", encoding="utf-8") as file:
+        models = [it.split(":", 1)[1].strip() for it in file if it.startswith("model name")]
+    return {"processors": os.cpu_count(), "model": models[0] if models else "unknown",
+            "kernel": os.uname().release, "load": round(os.getloadavg()[0], 2),
+            "date": time.strftime("%Y-%m-%d %H:%M", time.gmtime())}
+
+
+def about_program(path):
+    """Its version, and the digest that tells two builds of a version apart."""
+    said = subprocess.run([path, "--version"], capture_output=True, text=True, check=False)
+    with open(path, "rb") as file:
+        digest = hashlib.sha256(file.read()).hexdigest()[:12]
+    return {"name": os.path.basename(path), "version": said.stdout.strip(), "digest": digest}
+
+
+def data(name, about, given, rows):
+    return {"command": name, "about": about.split("\n")[0], "machine": about_machine(),
+            "programs": [about_program(os.path.abspath(it)) for it in given.program],
+            "rounds": given.rounds, "small": given.small,
+            "rows": [{"name": row, "values": values} for row, values in rows.items()]}
+
+
+def write(path, found):
+    with open(path, "w", encoding="utf-8") as file:
+        json.dump(found, file, indent=1)
+        file.write("\n")
+
+
+def machine(found):
+    return ("%(date)s UTC, %(processors)d processors (%(model)s), Linux %(kernel)s, load %(load)s"
+            % found)
+
+
+def number(value):
+    digits = 0 if value >= 100 or value == int(value) else 1 if value >= 10 else 2
+    return format(value, ",.%df" % (digits if value >= 1 or not digits else 3))
+
+
+def cell(values):
+    """The median, and the least and the greatest of several rounds."""
+    middle = number(statistics.median(values))
+    if len(values) == 1:
+        return middle
+    return "%s (%s to %s)" % (middle, number(min(values)), number(max(values)))
+
+
+def ratio(values):
+    """The second program's median by the first's."""
+    first, second = (statistics.median(it) for it in values)
+    return "%.2f" % (second / first) if first else "-"
+
+
+def cells(row):
+    both = [ratio(row["values"])] if len(row["values"]) == 2 else []
+    return [row["name"]] + [cell(values) for values in row["values"]] + both
+
+
+def programs(found):
+    return ["%(name)s (%(version)s, %(digest)s)" % it for it in found["programs"]]
+
+
+def table(found):
+    """The title, the programs, and a line for each name."""
+    names = [it["name"] for it in found["programs"]]
+    lines = [[""] + names + (["ratio"] if len(names) == 2 else [])]
+    lines += [cells(row) for row in found["rows"]]
+    widths = [max(map(len, column)) for column in zip(*lines)]
+    lines.insert(1, ["-" * width for width in widths])
+    text = ["| " + " | ".join(map(str.ljust, line, widths)) + " |" for line in lines]
+    many = "%d rounds" % found["rounds"] if found["rounds"] > 1 else "1 round"
+    head = ["%s: %s" % (found["command"], found["about"].partition(": ")[0]),
+            "%s%s; %s" % (many, ", small sizes" if found["small"] else "",
+                          "; ".join(programs(found)))]
+    return "\n".join(head + [""] + text)
