@@ -11,7 +11,7 @@ import tempfile
 import urllib.parse
 
 from measuring.facts import REDIRECT
-from measuring.rounds import Broken
+from measuring.rounds import Absent, Broken
 
 PATIENCE = 600  # seconds that a start with a long history may take
 SECRET, WORD = "s3cret", "res0urce"
@@ -34,7 +34,7 @@ def push(bundle):
 
 
 class Process:
-    """A child that prints where it listens, what it used, and its end."""
+    """A child that prints where it listens."""
 
     def __init__(self, words, folder):
         self.folder = folder
@@ -63,7 +63,10 @@ class Process:
 
     def used(self):
         """Seconds of processor that the child has used."""
-        with open("/proc/%d/schedstat" % self.child.pid, encoding="ascii") as file:
+        path = "/proc/%d/schedstat" % self.child.pid
+        if not os.path.exists(path):
+            raise Absent("the kernel has no %s" % path)
+        with open(path, encoding="ascii") as file:
             return int(file.read().split()[0]) / 1e9
 
     def resident(self):
@@ -88,14 +91,16 @@ class Server(Process):
         super().__init__(words + list(options), folder)
 
     def ask(self, sent, patience=60):
-        """The status and the rest of the reply to a request."""
+        """The status of the reply to a request, and the reply."""
         said = b""
         with socket.create_connection(("127.0.0.1", self.port), patience) as peer:
             peer.sendall(sent)
             while piece := peer.recv(65536):
                 said += piece
-        if len(said) < 12:
-            raise ConnectionError("no reply")
+        head, _, body = said.partition(b"\r\n\r\n")
+        length = re.search(rb"\r\nContent-Length: (\d+)", head)
+        if not length or len(body) < int(length[1]):
+            raise ConnectionError("no whole reply")
         return int(said[9:12]), said
 
     def wanted(self, status, sent):
@@ -128,6 +133,11 @@ class Server(Process):
             "response_type": "code", "client_id": self.client_id, "scope": "read write",
             "redirect_uri": REDIRECT_TEXT, "state": "xyz"})
         return self
+
+    def enrol_as(self, other):
+        """Goes on with the clients of another server, whose facts this one has."""
+        self.client, self.resource = other.client, other.resource
+        self.authorize = other.authorize
 
     def log_in(self):
         """The tokens of a code that ann's browser got and the client redeemed."""

@@ -42,8 +42,10 @@ def machine(found):
 
 
 def number(value):
-    digits = 0 if value >= 100 or value == int(value) else 1 if value >= 10 else 2
-    return format(value, ",.%df" % (digits if value >= 1 or not digits else 3))
+    """A number with two or three digits that count, or more if it is great or whole."""
+    if value >= 100 or value == int(value):
+        return format(value, ",.0f")
+    return format(value, ".3g" if value >= 1 else ".2g")
 
 
 def cell(values):
