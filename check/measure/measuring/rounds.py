@@ -66,7 +66,7 @@ def run(measure, about, rounds):
     except Absent as why:
         print("%s: passed over: %s" % (name, why), file=sys.stderr)
         return ABSENT
-    except Broken as why:
+    except (Broken, OSError) as why:
         print("%s: %s" % (name, why), file=sys.stderr)
         return 1
     found = tables.data(name, about, given, rows)
