@@ -25,42 +25,43 @@ class Broken(Exception):
 
 
 def arguments(about, rounds):
-    """The parser of what every command of check/measure takes."""
+    """What a command of check/measure was given. Ends with status 2 if that is wrong."""
     parser = argparse.ArgumentParser(description=about.split("\n")[0])
     parser.add_argument("--rounds", type=int, default=rounds, metavar="N")
     parser.add_argument("--small", action="store_true", help="small sizes, to see it work")
     parser.add_argument("--json", metavar="FILE", help="writes the data of the table too")
     parser.add_argument("program", nargs="*", default=[os.environ.get("TOKEND") or BUILT])
-    return parser
-
-
-def programs_of(given):
-    """The paths of the programs, each of which can be run."""
+    given = parser.parse_args()
+    if given.rounds is not None and given.rounds < 1:
+        parser.error("at least one round")
+    given.program = [os.path.abspath(it) for it in given.program]
     for program in given.program:
         if not os.access(program, os.X_OK) or os.path.isdir(program):
-            raise Absent("no program at %s" % program)
-    return [os.path.abspath(program) for program in given.program]
+            parser.error("no program at %s" % program)
+    return given
 
 
 def collect(measure, given):
     """For each name, a list of each program's numbers."""
-    rows, programs = {}, programs_of(given)
+    rows = {}
     for _ in range(given.rounds):
-        for at, program in enumerate(programs):
+        for at, program in enumerate(given.program):
             for name, number in measure(program, given.small).items():
-                rows.setdefault(name, [[] for _ in programs])[at].append(number)
+                rows.setdefault(name, [[] for _ in given.program])[at].append(number)
     return rows
 
 
 def end(*_):
+    """Ends the command as an exception does, so that its servers are stopped."""
     raise SystemExit(143)
 
 
 def run(measure, about, rounds):
     """The whole command: returns its status."""
-    given = arguments(about, rounds).parse_args()
+    given = arguments(about, rounds)
     name = os.path.basename(sys.argv[0])
-    signal.signal(signal.SIGTERM, end)  # so that servers are stopped
+    signal.signal(signal.SIGTERM, end)
+    machine = tables.about_machine()
     try:
         rows = collect(measure, given)
     except Absent as why:
@@ -69,8 +70,8 @@ def run(measure, about, rounds):
     except (Broken, OSError) as why:
         print("%s: %s" % (name, why), file=sys.stderr)
         return 1
-    found = tables.data(name, about, given, rows)
+    found = tables.data(name, about, machine, given, rows)
     if given.json:
         tables.write(given.json, found)
-    print(tables.machine(found["machine"]) + "\n\n" + tables.table(found))
+    print(tables.machine(machine) + "\n\n" + tables.table(found))
     return 0

@@ -59,7 +59,8 @@ class Process:
             if not line.startswith(b"dropped "):
                 break
         with open(self.path("errors"), encoding="utf-8") as errors:
-            raise Broken("a server didn't start: %s" % errors.read().strip())
+            said = errors.read().strip() or "it printed nothing"
+        raise Broken("%s didn't start: %s" % (os.path.basename(self.child.args[0]), said))
 
     def used(self):
         """Seconds of processor that the child has used."""

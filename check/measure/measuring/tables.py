@@ -8,6 +8,7 @@ import time
 
 
 def about_machine():
+    """The machine, and how busy it is now."""
     with open("/proc/cpuinfo", encoding="utf-8") as file:
         models = [it.split(":", 1)[1].strip() for it in file if it.startswith("model name")]
     return {"processors": os.cpu_count(), "model": models[0] if models else "unknown",
@@ -23,9 +24,10 @@ def about_program(path):
     return {"name": os.path.basename(path), "version": said.stdout.strip(), "digest": digest}
 
 
-def data(name, about, given, rows):
-    return {"command": name, "about": about.split("\n")[0], "machine": about_machine(),
-            "programs": [about_program(os.path.abspath(it)) for it in given.program],
+def data(name, about, machine, given, rows):
+    """What --json writes."""
+    return {"command": name, "about": about.split("\n")[0], "machine": machine,
+            "programs": [about_program(it) for it in given.program],
             "rounds": given.rounds, "small": given.small,
             "rows": [{"name": row, "values": values} for row, values in rows.items()]}
 
@@ -36,9 +38,9 @@ def write(path, found):
         file.write("\n")
 
 
-def machine(found):
-    return ("%(date)s UTC, %(processors)d processors (%(model)s), Linux %(kernel)s, load %(load)s"
-            % found)
+def machine(about):
+    return ("%(date)s UTC, %(processors)d processors (%(model)s), Linux %(kernel)s, load %(load).2f"
+            % about)
 
 
 def number(value):
@@ -71,9 +73,15 @@ def programs(found):
     return ["%(name)s (%(version)s, %(digest)s)" % it for it in found["programs"]]
 
 
+def columns(found):
+    """The programs' names, or their digests if the names are alike."""
+    names = [it["name"] for it in found["programs"]]
+    return names if len(set(names)) == len(names) else [it["digest"] for it in found["programs"]]
+
+
 def table(found):
     """The title, the programs, and a line for each name."""
-    names = [it["name"] for it in found["programs"]]
+    names = columns(found)
     lines = [[""] + names + (["ratio"] if len(names) == 2 else [])]
     lines += [cells(row) for row in found["rows"]]
     widths = [max(map(len, column)) for column in zip(*lines)]
