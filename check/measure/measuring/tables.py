@@ -39,8 +39,8 @@ def write(path, found):
 
 
 def machine(about):
-    return ("%(date)s UTC, %(processors)d processors (%(model)s), Linux %(kernel)s, load %(load).2f"
-            % about)
+    return ("%(date)s UTC, %(processors)d processors (%(model)s), Linux %(kernel)s, "
+            "load %(load).2f" % about)
 
 
 def number(value):
