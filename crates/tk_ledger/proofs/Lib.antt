@@ -13,6 +13,7 @@ pub mod RetentionLaws
 pub mod ReuseLaws
 pub mod SameLaws
 pub mod SignOutLaws
+pub mod SkipLaws
 pub mod SpanLaws
 pub mod StandingLaws
 pub mod StatusCases

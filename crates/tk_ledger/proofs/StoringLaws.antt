@@ -1,19 +1,23 @@
 -- What the store of a ledger knows after a call. Key results:
 --   back_again      the store once a fact that was added is taken back
 --   added_horizon   adding a fact leaves the horizon
---   known_at        a look-up that finds a fact finds it where one is held
-use Rattle.std.proofs.Common.{◌≡◌, true, Option, None, Some, IsSome, is_some, option_map, Ok, refl, sym, ap, subst, ◌∙◌}
+--   free_adds       adding a fact at an unknown dot adds it to the facts that are held
+--   known_kept      adding a fact at a known dot changes nothing
+use Rattle.std.proofs.Common.{◌≡◌, true, None, Some, is_some, Result, Ok, Err, sym, ap, subst, ◌∙◌}
 use Rattle.std.proofs.lemmas.Bool.{true≢false}
 use Rattle.std.specs.FinMap as map
 use Rattle.tk_handle.specs.declared.dot.Dot.{Dot}
 use Rattle.tk_fact.specs.declared.body.Body.{Body}
-use Rattle.tk_store.specs.Adding.{AddsTo, HasFact}
-use Rattle.tk_store.specs.Slots.{Slots, Held, without_fact}
-use Rattle.tk_store.specs.StoreFields.{StoreFields, with_fact}
+use Rattle.tk_store.specs.Adding.{Adds, AddsTo, HasFact}
+use Rattle.tk_store.specs.Slots.{Slots, Held, held_slot, without_fact}
+use Rattle.tk_store.specs.StoreFields.{StoreFields, held_facts, with_fact}
 use Rattle.tk_store.specs.declared.store.Added.{Added}
 use Rattle.tk_store.specs.declared.store.Added.TheVariants as added
+use Rattle.tk_store.specs.declared.store.AddError.{AddError}
+use Rattle.tk_store.specs.declared.store.AddError.TheVariants.{Conflict, Memory}
 use Rattle.tk_store.proofs.FrontLaws.{put_taken}
 use Rattle.tk_store.proofs.PutLaws.{taken_back}
+use Rattle.tk_store.proofs.SlotLaws.{get_held, held_put}
 pub use Rattle.tk_store.proofs.SlotOrderLaws.{added_horizon}
 
 module _ (P Q R : StoreFields) (f : Dot × Body) (d : Dot) (b : Body) (same : (d, b) ≡ f) (free : map.get P.slots f.0 ≡ None) where
@@ -32,11 +36,14 @@ module _ (P Q R : StoreFields) (f : Dot × Body) (d : Dot) (b : Body) (same : (d
       let horizon : R.horizon ≡ P.horizon = level ∙ ap (λ (X : StoreFields). X.horizon) set in
       λ i. record { slots = slots i; horizon = horizon i }
 
--- a look-up that finds a fact finds it where one is held
-pub known_at : {R : Type 0} (now : R → Dot × Body) (o : Option Body) (d : Dot) (found : Option R) → option_map now found ≡ option_map (λ (b : Body). (d, b)) o → is_some found ≡ true → IsSome o
-known_at now None d None is some = absurd (true≢false (sym some))
-known_at now None d (Some r) is some = absurd (none_some is)
-  where
-    none_some : {A : Type 0} {x : A} → Some x ≡ None → ⊥
-    none_some h = cc
-known_at now (Some b) d found is some = refl
+-- adding a fact at an unknown dot adds it to the facts that are held
+pub free_adds : (P Q : StoreFields) (f : Dot × Body) (a : Added) → map.get P.slots f.0 ≡ None → AddsTo P f (Ok a) Q → Adds (held_facts P) f (Ok a) (held_facts Q)
+free_adds P Q f added.New free adds = (get_held P.slots f.0 ∙ ap held_slot free, ap held_facts adds.1 ∙ held_put P.slots f.0 f.1)
+free_adds P Q f added.Held free adds = absurd (subst (HasFact f.1) free adds.0)
+
+-- adding a fact at a known dot changes nothing
+pub known_kept : (P Q : StoreFields) (f : Dot × Body) (r : Result Added AddError) → is_some (map.get P.slots f.0) ≡ true → AddsTo P f r Q → Q ≡ P
+known_kept P Q f (Ok added.New) known adds = absurd (true≢false (sym known ∙ ap is_some adds.0))
+known_kept P Q f (Ok added.Held) known adds = adds.1
+known_kept P Q f (Err Conflict) known adds = adds.1
+known_kept P Q f (Err Memory) known adds = absurd (true≢false (sym known ∙ ap is_some adds.0))

@@ -322,9 +322,3 @@ pub record IsIndexed (F : FactSet) (x : Index) : Type 0 where
   pub outs_are : IsOuts F x.outs
   pub reuses_are : IsReuses F x.reuses
   pub tied : IsTied F x.forest
-
--- the store of a ledger skips nothing, its horizon is 0, and the tables are those of its facts
-pub record IsLedger (P : StoreFields) (x : Index) : Type 0 where
-  pub indexed : IsIndexed (held_facts P) x
-  pub whole : IsWhole P
-  pub unpruned : P.horizon ≡ 0

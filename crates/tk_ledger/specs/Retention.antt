@@ -1,18 +1,23 @@
 -- Which facts may be skipped: those of families that are over (own).
---   kept_for               the token that a fact is kept for
 --   IsTokenUnder           a token was minted, and is under a code
 --   MaySkip, may_skip      the fact at a dot is kept for a token of a family that is over
 --   is_over                a token was minted, and its family is over
 --   picked, dots_over      the dots of all facts that may be skipped, codes first
+--   Prunes                 the store after a prune
+--   SkipsAll, AllMayGo     the store after some dots were skipped, which may go
 use Rattle.std.specs.Prelude.{
   map as map_list,
   ◌≡◌,
   ◌≢◌,
   ◌≤◌,
+  ◌+◌,
   ◌++◌,
+  ◌⊎◌,
   ℕ,
   Bool,
+  true,
   false,
+  max,
   ◌&&◌,
   not,
   nat_le,
@@ -25,29 +30,17 @@ use Rattle.std.specs.Prelude.{
 }
 use Rattle.std.specs.FinMap as map
 use Rattle.tk_handle.specs.declared.dot.Dot.{Dot}
-use Rattle.tk_handle.specs.declared.kind.Kind.TheVariants as kind
 use Rattle.tk_handle.specs.declared.token_id.TokenId.{TokenId}
 use Rattle.tk_family.specs.Families.{IsUnder}
 use Rattle.tk_fact.specs.declared.body.Body.{Body}
-use Rattle.tk_fact.specs.declared.body.Body.TheVariants.{
-  CodeIssued,
-  CodeRedeemed,
-  RefreshRotated,
-  ReuseSeen,
-}
 use Rattle.tk_fact.specs.declared.code_issued.CodeIssued as issued
+use Rattle.tk_fact.specs.Keeping.{kept_for}
 use Rattle.tk_store.specs.FactSet.{FactSet, Facts}
+use Rattle.tk_store.specs.Skipping.{MayGo}
+use Rattle.tk_store.specs.Slots.{Skipped}
+use Rattle.tk_store.specs.StoreFields.{StoreFields, held_facts}
 use Rattle.tk_ledger.specs.Bodies.{Bodies}
 use Rattle.tk_ledger.specs.Tokens.{links_in, issued_in, issued_at, minted_in, Root, root_in}
-
--- the token that the fact at a dot is kept for: the code or refresh token that the fact mints, or
--- the token whose reuse it saw. A fact that is kept for no token is never skipped
-abbrev pub kept_for : Dot → Body → Option TokenId
-kept_for d (CodeIssued f) = Some (record { dot = d; kind = kind.Code })
-kept_for d (CodeRedeemed f) = Some (record { dot = d; kind = kind.Refresh })
-kept_for d (RefreshRotated f) = Some (record { dot = d; kind = kind.Refresh })
-kept_for d (ReuseSeen f) = Some f.token
-kept_for d body = None
 
 -- the token was minted, and is under the code
 abbrev pub IsTokenUnder : Bodies → TokenId → Dot → Type 0
@@ -108,3 +101,26 @@ picked p fs = map_list (λ f. f.0) (filter p fs)
 abbrev pub dots_over : FactSet → ℕ → List Dot
 dots_over F horizon =
     picked (picks_code F horizon) (map.entries F) ++ picked (picks_other F horizon) (map.entries F)
+
+-- ---- a prune
+
+-- the store after a prune up to a moment, by which n facts went: the horizon is not before the
+-- moment, and exactly the facts of families that are over at the horizon are skipped
+pub record Prunes (old : StoreFields) (moment n : ℕ) (new : StoreFields) : Type 0 where
+  pub raised : new.horizon ≡ max old.horizon moment
+  pub skips : (d : Dot) → MaySkip (map.get (held_facts old)) new.horizon d
+      → map.get new.slots d ≡ Some Skipped
+  pub keeps : (d : Dot) → (map.get new.slots d ≡ map.get old.slots d)
+      ⊎ MaySkip (map.get (held_facts old)) new.horizon d
+  pub count : map.len (held_facts old) ≡ map.len (held_facts new) + n
+
+-- the dots that pass a test are skipped, and nothing else changes
+pub record SkipsAll (old : StoreFields) (at : Dot → Bool) (new : StoreFields) : Type 0 where
+  pub here : (d : Dot) → at d ≡ true → map.get new.slots d ≡ Some Skipped
+  pub there : (d : Dot) → at d ≡ false → map.get new.slots d ≡ map.get old.slots d
+  pub horizon : new.horizon ≡ old.horizon
+  pub fewer : map.len (held_facts new) ≤ map.len (held_facts old)
+
+-- each dot that passes the test is known, and has no fact that lasts
+abbrev pub AllMayGo : StoreFields → (Dot → Bool) → Type 0
+AllMayGo P at = (d : Dot) → at d ≡ true → MayGo (map.get P.slots d)

@@ -2,9 +2,11 @@
 --   state_in          the state of a token under a code: the first that holds
 --   standing_in       the standing of a token under a code
 --   status_in         the status of a handle: a function of the set, the moment and the handle
+--   status_here       the status of a handle by what a store knows
 --   IsMintedToken     the fact at the token's dot minted the token, with the handle's digest
 --   IsKnownToken      the token is minted with the handle's digest, and is under a code
 --   Says              what each status means for a handle
+--   SaysHere          what each status means by what a store knows
 --   IsActive          the token of an access or refresh handle is active
 --   IsKnown, IsLive   a status is known, and its state is Live
 use Rattle.std.specs.Prelude.{
@@ -39,6 +41,8 @@ use Rattle.tk_fact.specs.declared.body.Body.TheVariants.{RefreshRotated}
 use Rattle.tk_fact.specs.declared.code_issued.CodeIssued as issued
 use Rattle.tk_fact.specs.Tokens.{MintedFields}
 use Rattle.tk_store.specs.FactSet.{FactSet}
+use Rattle.tk_store.specs.Slots.{is_skipped}
+use Rattle.tk_store.specs.StoreFields.{StoreFields, held_facts}
 use Rattle.tk_ledger.specs.Bodies.{Bodies}
 use Rattle.tk_ledger.specs.Clients.{IsLiveClient, IsLiveConsent, is_live_client, is_live_consent}
 use Rattle.tk_ledger.specs.StandingFields.{StandingFields}
@@ -132,6 +136,12 @@ status_in F now h =
     status_by F now h.id (map.get F h.id.dot) (minted_as (map.get F) h)
     (root_in (map.get F) h.id.dot)
 
+-- the status of a handle by what a store knows: wrong where the token's dot is skipped, and
+-- otherwise the status by the facts that are held
+abbrev pub status_here : StoreFields → ℕ → Handle → Status
+status_here P now h =
+    if is_skipped P.slots h.id.dot then Wrong else status_in (held_facts P) now h
+
 -- ---- what a status means
 
 -- the token of the handle was minted: the fact at its dot mints its kind, with the handle's digest
@@ -156,6 +166,17 @@ Says body_at h (Broken expiry) = ((t : IsMintedToken body_at h) × (expiry ≡ t
     × ¬ IsInFamily (links_in body_at) h.id.dot
 -- the token was minted, and is under a code
 Says body_at h (Known standing) = IsKnownToken body_at h
+
+-- what each status means for a handle, by what a store knows
+abbrev pub SaysHere : StoreFields → Handle → Status → Type 0
+-- the token's dot is unknown
+SaysHere P h Unseen = map.get P.slots h.id.dot ≡ None
+-- the token's dot is known, and no fact that is held there minted the token
+SaysHere P h Wrong =
+    (map.get P.slots h.id.dot ≢ None) × ¬ IsMintedToken (map.get (held_facts P)) h
+-- a fact that is held at the token's dot minted it
+SaysHere P h (Broken expiry) = Says (map.get (held_facts P)) h (Broken expiry)
+SaysHere P h (Known standing) = Says (map.get (held_facts P)) h (Known standing)
 
 -- the status is known
 abbrev pub IsKnown : Status → Type 0

@@ -2,7 +2,7 @@
 
 ghost use Rattle.std.specs.Prelude.{◌≡◌};
 ghost use Rattle.std.specs.Option.{option_copied};
-ghost use Rattle.tk_store.specs.Store.{facts_of};
+ghost use Rattle.tk_store.specs.StoreFields.{held_facts};
 ghost use Rattle.tk_ledger.specs.Clients as spec;
 
 use crate::client_rows;
@@ -23,7 +23,7 @@ fn added_in(body: &Body) -> Option<&ClientAdded>
 impl Ledger {
     // Returns the client that was added at the dot.
     pub(crate) fn added_at(&self, at: Dot) -> Option<&ClientAdded>
-        ensures { option_copied result ≡ spec.client_at (facts_of self.now) at }
+        ensures { option_copied result ≡ spec.client_at (held_facts self.now) at }
     {
         match self.store.get(at) {
             Some(fact) => added_in(&fact.body),
@@ -34,7 +34,7 @@ impl Ledger {
     // Returns whether a client was added at the dot and no retirement of it is held, by one
     // look-up.
     pub(crate) fn has_live_client(&self, client: Dot) -> bool
-        ensures { result ≡ spec.is_live_client (facts_of self.now) client }
+        ensures { result ≡ spec.is_live_client (held_facts self.now) client }
     {
         client_rows::is_live(&self.index.clients, client)
     }

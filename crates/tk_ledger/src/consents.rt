@@ -7,7 +7,7 @@ ghost use Rattle.std.specs.FinMap as map;
 ghost use Rattle.std.specs.List.{find};
 ghost use Rattle.std.specs.Option.{option_copied};
 ghost use Rattle.sha2.specs.Sha256.{sha256};
-ghost use Rattle.tk_store.specs.Store.{facts_of};
+ghost use Rattle.tk_store.specs.StoreFields.{held_facts};
 ghost use Rattle.tk_ledger.specs.Clients as spec;
 ghost use Rattle.tk_ledger.specs.Index.{consent_cmp, consent_key, least_dot, greatest_dot, span_of};
 
@@ -71,7 +71,7 @@ fn span(client: Dot, subject: &[u8; 32]) -> (ConsentKey, ConsentKey)
 impl Ledger {
     // Returns the consent that was given at the dot.
     pub(crate) fn given_at(&self, at: Dot) -> Option<&ConsentGiven>
-        ensures { option_copied result ≡ spec.consent_at (facts_of self.now) at }
+        ensures { option_copied result ≡ spec.consent_at (held_facts self.now) at }
     {
         match self.store.get(at) {
             Some(fact) => given_in(&fact.body),
@@ -81,7 +81,7 @@ impl Ledger {
 
     // Returns whether a withdrawal of the consent is held, by one look-up.
     pub(crate) fn has_withdrawn(&self, consent: Dot) -> bool
-        ensures { result ≡ spec.is_withdrawn (facts_of self.now) consent }
+        ensures { result ≡ spec.is_withdrawn (held_facts self.now) consent }
     {
         consent_keys::is_withdrawn(&self.index.withdrawn, consent)
     }
@@ -89,7 +89,7 @@ impl Ledger {
     // Returns whether a live consent of the subject to the client for the scope was given at the
     // dot.
     fn serves(&self, client: Dot, subject: &Subject, scope: &Scope, consent: Dot) -> bool
-        ensures { result ≡ spec.serves (facts_of self.now) client subject.now scope.now consent }
+        ensures { result ≡ spec.serves (held_facts self.now) client subject.now scope.now consent }
     {
         grants(self.given_at(consent), client, subject, scope) && !self.has_withdrawn(consent)
     }
@@ -104,7 +104,7 @@ impl Ledger {
         scope: &Scope,
     ) -> Option<&'a ConsentKey>
         ensures first { option_copied result ≡ find (λ k.
-            spec.serves (facts_of self.now) client subject.now scope.now k.consent)
+            spec.serves (held_facts self.now) client subject.now scope.now k.consent)
             (span_of consents.now client (sha256 subject.now)) }
         ensures sorted { IsOrdered consent_cmp consents.now }
     {
@@ -117,8 +117,8 @@ impl Ledger {
     // Returns the lowest dot of a live consent of this subject to this client that covers the
     // scope.
     pub(crate) fn first_consent(&self, client: Dot, subject: &Subject, scope: &Scope) -> Option<Dot>
-        ensures value { result ≡ spec.consent_for (facts_of self.now) client subject.now scope.now }
-        ensures least { spec.IsLeastConsent (map.get (facts_of self.now)) client subject.now
+        ensures value { result ≡ spec.consent_for (held_facts self.now) client subject.now scope.now }
+        ensures least { spec.IsLeastConsent (map.get (held_facts self.now)) client subject.now
             scope.now result }
     {
         match self.first_key(&self.index.consents, client, subject, scope) {

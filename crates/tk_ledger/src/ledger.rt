@@ -5,9 +5,10 @@ use std::alloc::Global;
 use std::marker::Model;
 use tk_store::FactStore;
 
-/// A set of facts, with look-ups of clients, consents and tokens. Contracts see the set alone.
+/// A store of facts, with look-ups of clients, consents and tokens. Contracts see the store alone:
+/// what is known of each dot, and the horizon.
 ///
-/// With n facts, a look-up costs O(log n). `client`, `consent`, `revoked`, `signed_out` and
+/// With n known dots, a look-up costs O(log n). `client`, `consent`, `revoked`, `signed_out` and
 /// `status` make a fixed number of look-ups, and `consent_for` at most two for each consent of the
 /// subject to the client. None of these allocates memory. `add` costs O(log n) for each of these:
 ///
@@ -22,33 +23,37 @@ pub struct Ledger {
 }
 
 impl Model for Ledger {
-    ghost use Rattle.tk_store.specs.FactSet.{coded_facts};
-    ghost use Rattle.tk_store.specs.Store.{Store};
-    ghost use Rattle.tk_store.specs.StoreFields.{held_facts};
-    ghost use Rattle.tk_ledger.specs.Index.{IsLedger};
+    ghost use Rattle.tk_store.specs.StoreFields.{StoreFields, coded_store, held_facts};
+    ghost use Rattle.tk_ledger.specs.Index.{IsIndexed};
 
-    ghost Value = { Store };
+    ghost Value = { StoreFields };
 
-    ghost coded = { coded_facts };
+    ghost coded = { coded_store };
 
-    ghost view = { λ l. held_facts l.store };
+    ghost view = { λ l. l.store };
 
-    ghost invariant = { λ l. IsLedger l.store l.index };
+    ghost invariant = { λ l. IsIndexed (held_facts l.store) l.index };
 }
 
 ghost use Rattle.std.specs.Prelude.{◌≡◌, ◌≢◌, ◌↔◌, ◌+◌, ◌^◌, ◌<◌, ◌≤◌, ℕ, None, IsTrue};
 ghost use Rattle.std.specs.FinMap as map;
 ghost use Rattle.tk_handle.specs.declared.kind.Kind.TheVariants as kind;
 ghost use Rattle.tk_fact.specs.Check.{refusal_of};
-ghost use Rattle.tk_store.specs.Adding.{Adds};
-ghost use Rattle.tk_store.specs.Store.{facts_of};
-ghost use Rattle.tk_store.specs.StoreFields.{held_facts, IsWhole};
+ghost use Rattle.tk_store.specs.Adding.{AddsTo};
+ghost use Rattle.tk_store.specs.StoreFields.{empty_store, held_facts};
 ghost use Rattle.tk_ledger.specs.Clients as clients_of;
 ghost use Rattle.tk_ledger.specs.Ends.{FamilyEnds};
 ghost use Rattle.tk_ledger.specs.Index.{IsIndexed};
 ghost use Rattle.tk_ledger.specs.SignOuts.{is_signed_out, reaches, IsLastSignOut};
 ghost use Rattle.tk_ledger.specs.Standings.{IsSound};
-ghost use Rattle.tk_ledger.specs.Status.{status_in, IsActive, IsKnown, IsKnownToken, IsLive, Says};
+ghost use Rattle.tk_ledger.specs.Status.{
+  status_here,
+  IsActive,
+  IsKnown,
+  IsKnownToken,
+  IsLive,
+  SaysHere,
+};
 ghost use Rattle.tk_ledger.specs.Tokens.{is_revoked, IsEnded, IsRevoked};
 ghost use Rattle.tk_ledger.specs.Views.{client_view, consent_view};
 
@@ -68,7 +73,7 @@ use tk_store::{AddError, Added};
 impl Ledger {
     /// Returns a ledger without facts.
     pub fn new(alloc: Global) -> Ledger
-        ensures { result ≡ map.empty }
+        ensures { result ≡ empty_store }
     {
         Ledger {
             store: FactStore::new(alloc),
@@ -77,29 +82,30 @@ impl Ledger {
         }
     }
 
-    /// Adds a fact that passes its check. If the fact is refused or memory runs out, the set is
-    /// unchanged and the fact is dropped.
+    /// Adds a fact that passes its check.
+    ///
+    /// A fact whose dot is skipped is dropped if it may be skipped, and refused if it lasts. If the
+    /// fact is refused or memory runs out, the ledger is unchanged and the fact is dropped.
     pub fn add(&mut self, fact: Fact) -> Result<Added, AddError>
         requires { refusal_of fact.1 ≡ None }
-        ensures { Adds self.old fact result self.new }
+        ensures { AddsTo self.old fact result self.new }
     {
-        if self.store.get(fact.dot).is_some() {
+        if self.store.slot(fact.dot).is_some() {
             return self.store.add(fact);
         }
         add_new(&mut self.store, &mut self.index, fact)
     }
 
-    /// Returns the store of the facts.
+    /// Returns the store of the facts and marks.
     pub fn store(&self) -> &FactStore
-        ensures facts { held_facts result.now ≡ self.now }
-        ensures whole { IsWhole result.now }
+        ensures { result.now ≡ self.now }
     {
         &self.store
     }
 
     /// Returns the client that was added at the dot, retired or not (RFC 6749, 2).
     pub fn client(&self, dot: Dot) -> Option<ClientView<'_>>
-        ensures { result ≡ client_view (facts_of self.now) dot }
+        ensures { result ≡ client_view (held_facts self.now) dot }
     {
         match self.added_at(dot) {
             Some(client) => Some(ClientView {
@@ -114,7 +120,7 @@ impl Ledger {
 
     /// Returns the consent that was given at the dot, withdrawn or not (RFC 6749, 4.1).
     pub fn consent(&self, dot: Dot) -> Option<ConsentView<'_>>
-        ensures { result ≡ consent_view (facts_of self.now) dot }
+        ensures { result ≡ consent_view (held_facts self.now) dot }
     {
         match self.given_at(dot) {
             Some(consent) => Some(ConsentView {
@@ -130,9 +136,9 @@ impl Ledger {
     /// Returns the lowest dot of a live consent of this subject to this client that covers the
     /// scope.
     pub fn consent_for(&self, client: Dot, subject: &Subject, scope: &Scope) -> Option<Dot>
-        ensures value { result ≡ clients_of.consent_for (facts_of self.now) client subject.now
+        ensures value { result ≡ clients_of.consent_for (held_facts self.now) client subject.now
             scope.now }
-        ensures least { clients_of.IsLeastConsent (map.get (facts_of self.now)) client subject.now
+        ensures least { clients_of.IsLeastConsent (map.get (held_facts self.now)) client subject.now
             scope.now result }
     {
         self.first_consent(client, subject, scope)
@@ -143,8 +149,8 @@ impl Ledger {
     /// The digest is SHA-256 of a handle's bytes. Whether the token was minted, and for that
     /// client, does not count.
     pub fn revoked(&self, token: &TokenId, digest: &[u8; 32], client: Dot) -> bool
-        ensures value { result ≡ is_revoked (facts_of self.now) token.now digest.now client }
-        ensures meaning { IsTrue result ↔ IsRevoked (map.get (facts_of self.now)) token.now
+        ensures value { result ≡ is_revoked (held_facts self.now) token.now digest.now client }
+        ensures meaning { IsTrue result ↔ IsRevoked (map.get (held_facts self.now)) token.now
             digest.now client }
     {
         revocations::is_revoked(&self.index.revocations, token, digest, client)
@@ -153,38 +159,38 @@ impl Ledger {
     /// Returns the greatest moment at which the subject signed out everywhere, or None if no
     /// sign-out of the subject is held (own).
     pub fn signed_out(&self, subject: &Subject) -> Option<Moment>
-        ensures value { (moment : ℕ) → is_signed_out (facts_of self.now) subject.now moment
+        ensures value { (moment : ℕ) → is_signed_out (held_facts self.now) subject.now moment
             ≡ reaches result moment }
-        ensures meaning { IsLastSignOut (map.get (facts_of self.now)) subject.now result }
+        ensures meaning { IsLastSignOut (map.get (held_facts self.now)) subject.now result }
     {
         last_sign_out(&self.store, &self.index.outs, subject)
     }
 
     /// Returns the status of a handle's token at the moment. Makes one to eight look-ups, and adds
-    /// their number to `steps`.
+    /// their number to `steps`. At a skipped dot the status is `Wrong`.
     ///
     /// At its expiry a token is past, and at its end a family is over.
     pub fn status(&self, now: Moment, handle: &Handle, steps: &mut Steps) -> Status<'_>
-        ensures value { result ≡ status_in (facts_of self.now) now handle.now }
+        ensures value { result ≡ status_here self.now now handle.now }
 
         // Each status is true of the handle. `Known` is returned exactly for the tokens that are
         // minted, with the handle's digest, and under a code.
-        ensures says { Says (map.get (facts_of self.now)) handle.now result }
-        ensures known { IsKnown result ↔ IsKnownToken (map.get (facts_of self.now)) handle.now }
+        ensures says { SaysHere self.now handle.now result }
+        ensures known { IsKnown result ↔ IsKnownToken (map.get (held_facts self.now)) handle.now }
 
         // The state `Live` is that of exactly the active access and refresh tokens (RFC 7662, 2.2).
         ensures live { handle.now.id.kind ≢ kind.Code
-            → (IsLive result ↔ IsActive (map.get (facts_of self.now)) now handle.now) }
+            → (IsLive result ↔ IsActive (map.get (held_facts self.now)) now handle.now) }
 
         // A code is never active.
         ensures code { handle.now.id.kind ≡ kind.Code
-            → ¬ IsActive (map.get (facts_of self.now)) now handle.now }
+            → ¬ IsActive (map.get (held_facts self.now)) now handle.now }
 
         // A token that its client revoked (RFC 7009, 2.1), or of a family with a bad grant (RFC
         // 6749, 4.1.2, 10.4 and 10.5), is not active.
-        ensures revoked { IsEnded (map.get (facts_of self.now)) handle.now.id
-            → ¬ IsActive (map.get (facts_of self.now)) now handle.now }
-        ensures family { FamilyEnds (map.get (facts_of self.now)) now handle.now }
+        ensures revoked { IsEnded (map.get (held_facts self.now)) handle.now.id
+            → ¬ IsActive (map.get (held_facts self.now)) now handle.now }
+        ensures family { FamilyEnds (map.get (held_facts self.now)) now handle.now }
 
         // The subject of a standing keeps the rules of names, and the family of a live token ends
         // after the moment.
@@ -200,16 +206,13 @@ impl Ledger {
     }
 }
 
-// Adds a fact at a free dot, to the store first, then to the tables. If memory runs out at the
+// Adds a fact at an unknown dot, to the store first, then to the tables. If memory runs out at the
 // tables, the fact is taken out of the store again.
 fn add_new(store: &mut FactStore, index: &mut Index, fact: Fact) -> Result<Added, AddError>
-    requires free { map.get (held_facts store.old) fact.0 ≡ None }
-    requires whole { IsWhole store.old }
+    requires free { map.get store.old.slots fact.0 ≡ None }
     requires passes { refusal_of fact.1 ≡ None }
     requires indexed { IsIndexed (held_facts store.old) index.old }
-    ensures adds { Adds (held_facts store.old) fact result (held_facts store.new) }
-    ensures whole { IsWhole store.new }
-    ensures horizon { store.new.horizon ≡ store.old.horizon }
+    ensures adds { AddsTo store.old fact result store.new }
     ensures indexed { IsIndexed (held_facts store.new) index.new }
 {
     let dot = fact.dot;

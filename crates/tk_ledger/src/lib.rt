@@ -44,6 +44,7 @@ mod join;
 mod laws;
 mod ledger;
 mod looks;
+mod prune;
 mod retention;
 mod reuses;
 mod revocations;

@@ -11,24 +11,10 @@ ghost use Rattle.tk_ledger.specs.Tokens.{links_in};
 use crate::looks::{issued_in, minted_at, root_above};
 use crate::root::Root;
 use std::alloc::{AllocError, Global};
-use tk_fact::{Body, Fact};
+use tk_fact::Fact;
 use tk_family::Forest;
-use tk_handle::{Dot, Kind, Moment, TokenId};
+use tk_handle::{Dot, Moment, TokenId};
 use tk_store::FactStore;
-
-// Returns the token that the fact at a dot is kept for.
-fn kept_for(dot: Dot, body: &Body) -> Option<TokenId>
-    ensures { result ≡ spec.kept_for dot body.now }
-{
-    let token = |kind: Kind| TokenId { dot, kind };
-    match body {
-        Body::CodeIssued(_) => Some(token(Kind::Code)),
-        Body::CodeRedeemed(_) => Some(token(Kind::Refresh)),
-        Body::RefreshRotated(_) => Some(token(Kind::Refresh)),
-        Body::ReuseSeen(fact) => Some(fact.token),
-        _ => None,
-    }
-}
 
 // Returns whether there is a root, and its family is over at the horizon.
 fn is_over_by(horizon: Moment, root: &Option<Root<'_>>) -> bool
@@ -55,7 +41,7 @@ fn may_skip(facts: &FactStore, forest: &Forest, horizon: Moment, fact: &Fact) ->
         → map.get forest.now.links q ≡ links_in (map.get (held_facts facts.now)) q }
     ensures { result ≡ spec.may_skip (held_facts facts.now) horizon fact.now }
 {
-    match kept_for(fact.dot, &fact.body) {
+    match fact.kept_for() {
         Some(token) => is_over(facts, forest, horizon, &token),
         None => false,
     }

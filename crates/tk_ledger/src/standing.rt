@@ -4,7 +4,8 @@ ghost use Rattle.std.specs.Prelude.{◌≡◌, ◌+◌, ◌^◌, ◌<◌, ◌≤
 ghost use Rattle.std.specs.Option.{option_copied, option_map};
 ghost use Rattle.std.specs.FinMap as map;
 ghost use Rattle.tk_fact.specs.Tokens.{minted_of, shown_minted};
-ghost use Rattle.tk_store.specs.Store.{facts_of};
+ghost use Rattle.tk_store.specs.SlotShown.{IsShown};
+ghost use Rattle.tk_store.specs.StoreFields.{held_facts};
 ghost use Rattle.tk_ledger.specs.ByTop as by;
 ghost use Rattle.tk_ledger.specs.Clients as clients_of;
 ghost use Rattle.tk_ledger.specs.Status as spec;
@@ -20,6 +21,7 @@ use crate::status::{Standing, State, Status};
 use tk_fact::{Body, CodeIssued, ConsentGiven, Fact, Minted};
 use tk_family::{Steps, Top};
 use tk_handle::{Dot, Handle, Kind, Moment, TokenId};
+use tk_store::SlotRef;
 
 // Returns what the fact mints of the handle's kind, if that has the handle's digest.
 fn minted_as<'a>(fact: &'a Fact, handle: &Handle) -> Option<Minted<'a>>
@@ -61,7 +63,7 @@ impl Ledger {
     // Looks a fact up, and counts one look-up.
     fn look(&self, dot: Dot, steps: &mut Steps) -> Option<&Fact>
         ensures value { option_copied result ≡ option_map (λ body.
-            (dot, body)) (map.get (facts_of self.now) dot) }
+            (dot, body)) (map.get (held_facts self.now) dot) }
         ensures first { steps.old + 1 < 2 ^ 64 → steps.new ≡ steps.old + 1 }
         ensures more { steps.old ≤ steps.new }
         ensures at_most { steps.new ≤ steps.old + 1 }
@@ -70,9 +72,20 @@ impl Ledger {
         self.store.get(dot)
     }
 
+    // Looks up what is known of a dot, and counts one look-up.
+    fn look_at(&self, dot: Dot, steps: &mut Steps) -> Option<SlotRef<'_>>
+        ensures value { IsShown dot result (map.get self.now.slots dot) }
+        ensures first { steps.old + 1 < 2 ^ 64 → steps.new ≡ steps.old + 1 }
+        ensures more { steps.old ≤ steps.new }
+        ensures at_most { steps.new ≤ steps.old + 1 }
+    {
+        steps.tick();
+        self.store.slot(dot)
+    }
+
     // Looks up the top of a dot in the forest, and counts one look-up.
     fn top(&self, dot: Dot, steps: &mut Steps) -> Top
-        ensures value { by.TopSays (facts_of self.now) dot result }
+        ensures value { by.TopSays (held_facts self.now) dot result }
         ensures more { steps.old ≤ steps.new }
         ensures at_most { steps.new ≤ steps.old + 2 }
     {
@@ -81,7 +94,7 @@ impl Ledger {
 
     // Returns whether the client is live, and counts one look-up.
     fn is_live_client(&self, client: Dot, steps: &mut Steps) -> bool
-        ensures value { result ≡ clients_of.is_live_client (facts_of self.now) client }
+        ensures value { result ≡ clients_of.is_live_client (held_facts self.now) client }
         ensures more { steps.old ≤ steps.new }
         ensures at_most { steps.new ≤ steps.old + 1 }
     {
@@ -91,7 +104,7 @@ impl Ledger {
 
     // Returns whether the consent was withdrawn, and counts one look-up.
     fn is_withdrawn(&self, consent: Dot, steps: &mut Steps) -> bool
-        ensures value { result ≡ clients_of.is_withdrawn (facts_of self.now) consent }
+        ensures value { result ≡ clients_of.is_withdrawn (held_facts self.now) consent }
         ensures more { steps.old ≤ steps.new }
         ensures at_most { steps.new ≤ steps.old + 1 }
     {
@@ -101,7 +114,7 @@ impl Ledger {
 
     // Returns whether a fact uses the token, and counts one look-up.
     fn is_used(&self, token: TokenId, steps: &mut Steps) -> bool
-        ensures value { result ≡ tokens_of.is_used (facts_of self.now) token }
+        ensures value { result ≡ tokens_of.is_used (held_facts self.now) token }
         ensures more { steps.old ≤ steps.new }
         ensures at_most { steps.new ≤ steps.old + 1 }
     {
@@ -110,7 +123,7 @@ impl Ledger {
 
     // Returns whether the client revoked the token, and counts one look-up.
     fn is_revoked(&self, token: &TokenId, digest: &[u8; 32], client: Dot, steps: &mut Steps) -> bool
-        ensures value { result ≡ tokens_of.is_revoked (facts_of self.now) token.now digest.now
+        ensures value { result ≡ tokens_of.is_revoked (held_facts self.now) token.now digest.now
             client }
         ensures more { steps.old ≤ steps.new }
         ensures at_most { steps.new ≤ steps.old + 1 }
@@ -131,8 +144,8 @@ impl Ledger {
         fact: &'a Fact,
         steps: &mut Steps,
     ) -> Option<&'a CodeIssued>
-        requires { map.get (facts_of self.now) fact.now.0 ≡ Some fact.now.1 }
-        ensures value { option_copied result ≡ tokens_of.issued_at (map.get (facts_of self.now))
+        requires { map.get (held_facts self.now) fact.now.0 ≡ Some fact.now.1 }
+        ensures value { option_copied result ≡ tokens_of.issued_at (map.get (held_facts self.now))
             code }
         ensures more { steps.old ≤ steps.new }
         ensures at_most { steps.new ≤ steps.old + 1 }
@@ -148,8 +161,8 @@ impl Ledger {
 
     // Returns the root with the code at the dot, if a code was issued there.
     fn root_of<'a>(&'a self, code: Dot, fact: &'a Fact, steps: &mut Steps) -> Option<Root<'a>>
-        requires { map.get (facts_of self.now) fact.now.0 ≡ Some fact.now.1 }
-        ensures value { result ≡ tokens_of.root_of (map.get (facts_of self.now)) code }
+        requires { map.get (held_facts self.now) fact.now.0 ≡ Some fact.now.1 }
+        ensures value { result ≡ tokens_of.root_of (map.get (held_facts self.now)) code }
         ensures more { steps.old ≤ steps.new }
         ensures at_most { steps.new ≤ steps.old + 1 }
     {
@@ -161,7 +174,7 @@ impl Ledger {
 
     // Returns the consent that was given at the dot.
     fn consent_at(&self, at: Dot, steps: &mut Steps) -> Option<&ConsentGiven>
-        ensures value { option_copied result ≡ clients_of.consent_at (facts_of self.now) at }
+        ensures value { option_copied result ≡ clients_of.consent_at (held_facts self.now) at }
         ensures more { steps.old ≤ steps.new }
         ensures at_most { steps.new ≤ steps.old + 1 }
     {
@@ -173,7 +186,7 @@ impl Ledger {
 
     // Returns whether the consent of a code is live.
     fn is_live_consent(&self, code: &CodeIssued, steps: &mut Steps) -> bool
-        ensures value { result ≡ clients_of.is_live_consent (facts_of self.now) code.now }
+        ensures value { result ≡ clients_of.is_live_consent (held_facts self.now) code.now }
         ensures more { steps.old ≤ steps.new }
         ensures at_most { steps.new ≤ steps.old + 2 }
     {
@@ -194,7 +207,7 @@ impl Ledger {
         issued: &CodeIssued,
         steps: &mut Steps,
     ) -> State
-        ensures value { result ≡ by.state_by dead (facts_of self.now) now token.now
+        ensures value { result ≡ by.state_by dead (held_facts self.now) now token.now
             (shown_minted minted.now) issued.now }
         ensures more { steps.old ≤ steps.new }
         ensures at_most { steps.new ≤ steps.old + 4 }
@@ -231,9 +244,9 @@ impl Ledger {
         code: Dot,
         steps: &mut Steps,
     ) -> Status<'a>
-        requires { map.get (facts_of self.now) fact.now.0 ≡ Some fact.now.1 }
-        ensures value { result ≡ by.by_root dead (facts_of self.now) now token.now fact.now.1
-            (shown_minted minted.now) (tokens_of.root_of (map.get (facts_of self.now)) code) }
+        requires { map.get (held_facts self.now) fact.now.0 ≡ Some fact.now.1 }
+        ensures value { result ≡ by.by_root dead (held_facts self.now) now token.now fact.now.1
+            (shown_minted minted.now) (tokens_of.root_of (map.get (held_facts self.now)) code) }
         ensures more { steps.old ≤ steps.new }
         ensures at_most { steps.new ≤ steps.old + 5 }
     {
@@ -264,8 +277,8 @@ impl Ledger {
         top: Top,
         steps: &mut Steps,
     ) -> Status<'a>
-        requires { map.get (facts_of self.now) fact.now.0 ≡ Some fact.now.1 }
-        ensures value { result ≡ by.by_top (facts_of self.now) now token.now fact.now.1
+        requires { map.get (held_facts self.now) fact.now.0 ≡ Some fact.now.1 }
+        ensures value { result ≡ by.by_top (held_facts self.now) now token.now fact.now.1
             (shown_minted minted.now) top }
         ensures more { steps.old ≤ steps.new }
         ensures at_most { steps.new ≤ steps.old + 5 }
@@ -278,19 +291,37 @@ impl Ledger {
         }
     }
 
-    // Returns the status of a handle.
-    pub(crate) fn of_handle(&self, now: Moment, handle: &Handle, steps: &mut Steps) -> Status<'_>
-        ensures value { result ≡ spec.status_in (facts_of self.now) now handle.now }
-        ensures at_least { steps.old + 8 < 2 ^ 64 → steps.old + 1 ≤ steps.new }
-        ensures at_most { steps.new ≤ steps.old + 8 }
+    // Returns the status of a handle, by the fact that is held at its dot.
+    fn of_fact<'a>(
+        &'a self,
+        now: Moment,
+        handle: &Handle,
+        fact: &'a Fact,
+        steps: &mut Steps,
+    ) -> Status<'a>
+        requires dot { fact.now.0 ≡ handle.now.id.dot }
+        requires held { map.get (held_facts self.now) fact.now.0 ≡ Some fact.now.1 }
+        ensures value { result ≡ spec.status_in (held_facts self.now) now handle.now }
+        ensures more { steps.old ≤ steps.new }
+        ensures at_most { steps.new ≤ steps.old + 7 }
     {
-        let Some(fact) = self.look(handle.id.dot, steps) else {
-            return Status::Unseen;
-        };
         let Some(minted) = minted_as(fact, handle) else {
             return Status::Wrong;
         };
         let top = self.top(handle.id.dot, steps);
         self.of_top(now, &handle.id, fact, &minted, top, steps)
+    }
+
+    // Returns the status of a handle.
+    pub(crate) fn of_handle(&self, now: Moment, handle: &Handle, steps: &mut Steps) -> Status<'_>
+        ensures value { result ≡ spec.status_here self.now now handle.now }
+        ensures at_least { steps.old + 8 < 2 ^ 64 → steps.old + 1 ≤ steps.new }
+        ensures at_most { steps.new ≤ steps.old + 8 }
+    {
+        match self.look_at(handle.id.dot, steps) {
+            Some(SlotRef::Held(fact)) => self.of_fact(now, handle, fact, steps),
+            Some(SlotRef::Skipped) => Status::Wrong,
+            None => Status::Unseen,
+        }
     }
 }

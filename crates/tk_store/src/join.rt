@@ -162,7 +162,7 @@ impl FactStore {
     {
         other.known();
         let mut place = None;
-        'slots: while let Some(next) = other.table().next_after(place) {
+        'slots: while let Some(next) = other.next_slot(place) {
             if let Err(error) = self.take(alloc, next.0, &next.1) {
                 return Err(error);
             }

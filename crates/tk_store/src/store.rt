@@ -78,7 +78,7 @@ ghost use Rattle.tk_store.specs.FactSet.{IsFactSet, dot_of};
 ghost use Rattle.tk_store.specs.Front.{IsFront};
 ghost use Rattle.tk_store.specs.NextDot.{next_dot, next_serial};
 ghost use Rattle.tk_store.specs.Skipping.{Skips};
-ghost use Rattle.tk_store.specs.SlotShown.{IsShown, shown_slot};
+ghost use Rattle.tk_store.specs.SlotShown.{IsShown, WalksOn, shown_slot};
 ghost use Rattle.tk_store.specs.Slots.{Held, Skipped, is_skipped, without_fact};
 ghost use Rattle.tk_store.specs.StoreFields.{
   empty_store,
@@ -250,6 +250,14 @@ impl FactStore {
         ensures { option_copied result ≡ slice_get (above (held_facts self.now) after) 0 }
     {
         next_fact(&self.facts, after)
+    }
+
+    /// Returns the known dot that is the least above `after`, or the least of all if `after` is
+    /// `None`, with what is known of it. Costs a look-up.
+    pub fn next_slot(&self, after: Option<Dot>) -> Option<(Dot, SlotRef<'_>)>
+        ensures { WalksOn self.now.slots after result }
+    {
+        self.facts.next_after(after)
     }
 
     /// Returns an iterator over the facts that are held, ascending by dot. Each fact is looked up

@@ -1,16 +1,8 @@
-use Rattle.std.proofs.Common.{ap, sym, subst}
+use Rattle.std.proofs.Common.{sym, subst}
 use Rattle.tk_store.specs.FactSet.{FactSet}
-use Rattle.tk_store.specs.StoreFields.{StoreFields}
-use Rattle.tk_store.proofs.WholeLaws.{empty_held, empty_whole}
+use Rattle.tk_store.proofs.WholeLaws.{empty_held}
 use Rattle.tk_ledger.specs.Index.{IsIndexed}
 use Rattle.tk_ledger.proofs.ledger.Ledger.new.Goals as goal
 
 pub invariant_of-result : goal.invariant_of-result
-invariant_of-result c = record {
-  indexed = subst (λ (F : FactSet). IsIndexed F c.new-2.result) (sym (empty_held c.new.result c.new.ensures)) c.new-2.ensures;
-  whole = empty_whole c.new.result c.new.ensures;
-  unpruned = ap (λ (P : StoreFields). P.horizon) c.new.ensures;
-}
-
-pub returns : goal.returns
-returns c = empty_held c.new.result c.new.ensures
+invariant_of-result c = subst (λ (F : FactSet). IsIndexed F c.new-2.result) (sym (empty_held c.new.result c.new.ensures)) c.new-2.ensures

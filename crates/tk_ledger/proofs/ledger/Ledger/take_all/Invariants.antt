@@ -1,6 +1,13 @@
-use Rattle.tk_store.specs.JoiningSteps.{Joins}
-use Rattle.tk_store.specs.StoreFields.{held_facts}
+use Rattle.std.proofs.Common.{◌≡◌, length}
+use Rattle.tk_store.specs.SlotJoining.{Joins}
+use Rattle.tk_store.specs.Walk.{above}
 use Rattle.tk_ledger.proofs.ledger.Ledger.take_all.Given as goal
 
-abbrev pub invariant-loop-fact : goal.invariant-loop-fact
-invariant-loop-fact l = Joins l.fn.self (held_facts l.other) l.self l.fact-iterator
+abbrev pub invariant-slots : goal.invariant-slots
+invariant-slots l = record {
+  joins : Joins l.fn.self.slots l.other.slots l.self.slots (above l.other.slots l.place);
+  horizon : l.self.horizon ≡ l.fn.self.horizon;
+}
+
+abbrev pub decreases-slots : goal.decreases-slots
+decreases-slots l = length (above l.other.slots l.place)
