@@ -5,6 +5,7 @@ pub mod ConsentLaws
 pub mod EndingLaws
 pub mod FamilyEnds
 pub mod ForestLaws
+pub mod HereLaws
 pub mod IndexLaws
 pub mod KeyLaws
 pub mod KeySearchLaws

@@ -13,11 +13,12 @@ use Rattle.tk_handle.specs.declared.token_id.TokenId.{TokenId}
 use Rattle.tk_family.specs.Dots.{dot_eq, has}
 use Rattle.tk_family.proofs.DotLaws.{has-append, has-left, has-right}
 use Rattle.tk_fact.specs.declared.body.Body.{Body}
+use Rattle.tk_fact.specs.Keeping.{kept_for}
 use Rattle.tk_fact.specs.Tokens.{MintedFields}
 use Rattle.tk_store.specs.FactSet.{FactSet, Facts}
 use Rattle.tk_store.proofs.EntryLaws.{Passing, any_fact-held, any_fact-of}
 use Rattle.tk_store.proofs.FactSetLaws.{tied}
-use Rattle.tk_ledger.specs.Retention.{kept_for, MaySkip, is_over_by, is_any_over, may_skip, issues, picks_code, picks_other, picked, dots_over}
+use Rattle.tk_ledger.specs.Retention.{MaySkip, is_over_by, is_any_over, may_skip, issues, picks_code, picks_other, picked, dots_over}
 use Rattle.tk_ledger.specs.Tokens.{minted_in, Root, root_in}
 use Rattle.tk_ledger.proofs.KeyLaws.{at_itself}
 use Rattle.tk_ledger.proofs.TokenLaws.{root-sound, root-complete}

@@ -2,15 +2,18 @@
 --   back_again      the store once a fact that was added is taken back
 --   added_horizon   adding a fact leaves the horizon
 --   free_adds       adding a fact at an unknown dot adds it to the facts that are held
+--   shown_known     a look-up that finds a slot finds it where one is known
 --   known_kept      adding a fact at a known dot changes nothing
-use Rattle.std.proofs.Common.{◌≡◌, true, None, Some, is_some, Result, Ok, Err, sym, ap, subst, ◌∙◌}
+use Rattle.std.proofs.Common.{◌≡◌, true, Option, None, Some, is_some, Result, Ok, Err, sym, ap, subst, ◌∙◌}
 use Rattle.std.proofs.lemmas.Bool.{true≢false}
 use Rattle.std.specs.FinMap as map
 use Rattle.tk_handle.specs.declared.dot.Dot.{Dot}
 use Rattle.tk_fact.specs.declared.body.Body.{Body}
 use Rattle.tk_store.specs.Adding.{Adds, AddsTo, HasFact}
-use Rattle.tk_store.specs.Slots.{Slots, Held, held_slot, without_fact}
+use Rattle.tk_store.specs.SlotShown.{IsShown}
+use Rattle.tk_store.specs.Slots.{Slot, Slots, Held, held_slot, without_fact}
 use Rattle.tk_store.specs.StoreFields.{StoreFields, held_facts, with_fact}
+use Rattle.tk_store.specs.declared.slot.SlotRef.{SlotRef}
 use Rattle.tk_store.specs.declared.store.Added.{Added}
 use Rattle.tk_store.specs.declared.store.Added.TheVariants as added
 use Rattle.tk_store.specs.declared.store.AddError.{AddError}
@@ -40,6 +43,11 @@ module _ (P Q R : StoreFields) (f : Dot × Body) (d : Dot) (b : Body) (same : (d
 pub free_adds : (P Q : StoreFields) (f : Dot × Body) (a : Added) → map.get P.slots f.0 ≡ None → AddsTo P f (Ok a) Q → Adds (held_facts P) f (Ok a) (held_facts Q)
 free_adds P Q f added.New free adds = (get_held P.slots f.0 ∙ ap held_slot free, ap held_facts adds.1 ∙ held_put P.slots f.0 f.1)
 free_adds P Q f added.Held free adds = absurd (subst (HasFact f.1) free adds.0)
+
+-- a look-up that finds a slot finds it where one is known
+pub shown_known : (d : Dot) (o : Option SlotRef) (s : Option Slot) → IsShown d o s → is_some o ≡ true → is_some s ≡ true
+shown_known d None s shown h = absurd (true≢false (sym h))
+shown_known d (Some r) s shown h = ap is_some shown.0
 
 -- adding a fact at a known dot changes nothing
 pub known_kept : (P Q : StoreFields) (f : Dot × Body) (r : Result Added AddError) → is_some (map.get P.slots f.0) ≡ true → AddsTo P f r Q → Q ≡ P

@@ -1,16 +1,19 @@
-use Rattle.std.proofs.Common.{ap, sym, ◌∙◌, rules}
-use Rattle.std.specs.Option.{option_copied, option_map}
+use Rattle.std.proofs.Common.{Some, sym, ap, subst, ◌∙◌}
 use Rattle.std.specs.FinMap as map
-use Rattle.tk_fact.specs.Tokens.{shown_minted}
-use Rattle.tk_ledger.proofs.TopLaws.{found_body, status_by_top}
+use Rattle.tk_handle.specs.declared.dot.Dot.{Dot}
+use Rattle.tk_store.specs.SlotShown.{HasDot, shown_slot}
+use Rattle.tk_store.specs.Slots.{held_slot}
+use Rattle.tk_store.specs.declared.slot.SlotRef.{SlotRef}
+use Rattle.tk_store.specs.StoreFields.{held_facts}
+use Rattle.tk_store.proofs.SlotLaws.{get_held}
+use Rattle.tk_ledger.proofs.HereLaws.{here_unknown}
 use Rattle.tk_ledger.proofs.ledger.Ledger.of_handle.Goals as goal
 
-pub returns-clause-value : goal.returns-clause-value
-returns-clause-value c =
-    c.of_top.ensures.value ∙ status_by_top c.args.self.now c.args.now c.args.handle.now c.in-Some.fact.now.1 (shown_minted c.in-Some-minted_as.minted) c.top-top.result
-    (found_body c.args.handle.now.id.dot (map.get c.args.self.now c.args.handle.now.id.dot) c.in-Some.fact.now (sym (ap option_copied c.in-Some.is) ∙ c.look.ensures.value))
-    (sym c.minted_as.ensures ∙ ap (option_map shown_minted) c.in-Some-minted_as.is)
-    c.top-top.ensures.value
+pub of_fact-requires-clause-held : goal.of_fact-requires-clause-held
+of_fact-requires-clause-held c =
+    ap (λ (d : Dot). map.get (held_facts c.args.self.now) d) (subst (HasDot c.args.handle.now.id.dot) c.in-Some-Held.field-0-is c.in-Some-Held.ensures.value.1)
+    ∙ get_held c.args.self.now.slots c.args.handle.now.id.dot
+    ∙ ap held_slot (c.in-Some-Held.ensures.value.0 ∙ ap (λ (r : SlotRef). Some (shown_slot r)) c.in-Some-Held.field-0-is)
 
-pub returns-in_default-clause-at_least : goal.returns-in_default-clause-at_least
-returns-in_default-clause-at_least c = search rules
+pub returns-in-None-clause-value : goal.returns-in-None-clause-value
+returns-in-None-clause-value c = sym (here_unknown c.args.self.now c.args.now c.args.handle.now c.in-None.ensures.value)

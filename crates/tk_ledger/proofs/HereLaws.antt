@@ -1,0 +1,84 @@
+-- The status of a handle by what a store knows. Key results:
+--   here_held, here_skipped, here_unknown   the status by the slot at the handle's dot
+--   says_here, known_here, live_here, sound_here
+--                                           what the status means
+use Rattle.std.proofs.Common.{◌≡◌, ◌≢◌, ◌↔◌, ℕ, Bool, true, false, cond, Option, Some, None, refl, sym, ap, ◌∙◌}
+use Rattle.std.proofs.lemmas.Bool.{true≢false}
+use Rattle.std.specs.Option.{option_and_then}
+use Rattle.std.specs.FinMap as map
+use Rattle.tk_handle.specs.declared.handle.Handle.{Handle}
+use Rattle.tk_handle.specs.declared.kind.Kind.TheVariants as kind
+use Rattle.tk_fact.specs.declared.body.Body.{Body}
+use Rattle.tk_fact.specs.Tokens.{MintedFields, minted_of}
+use Rattle.tk_store.specs.FactSet.{FactSet, IsFactSet}
+use Rattle.tk_store.specs.Slots.{Slot, Held, Skipped, held_slot, is_skipped, is_skipped_slot}
+use Rattle.tk_store.specs.StoreFields.{StoreFields, held_facts}
+use Rattle.tk_store.proofs.PutLaws.{none_is_not_some}
+use Rattle.tk_store.proofs.SlotLaws.{get_held, whole_free}
+use Rattle.tk_ledger.specs.Standings.{IsSound}
+use Rattle.tk_ledger.specs.Status.{status_by, status_in, status_here, minted_as, IsMintedToken, IsKnownToken, IsKnown, IsLive, IsActive, Says, SaysHere}
+use Rattle.tk_ledger.specs.Tokens.{minted_in, root_in}
+use Rattle.tk_ledger.specs.declared.status.Status.{Status}
+use Rattle.tk_ledger.specs.declared.status.Status.TheVariants.{Unseen, Wrong, Broken, Known}
+use Rattle.tk_ledger.proofs.StandingLaws.{sound_status}
+use Rattle.tk_ledger.proofs.StatusCases.{says, known_exactly}
+use Rattle.tk_ledger.proofs.StatusLaws.{live_exactly}
+
+skipped_slot : (o : Option Slot) → is_skipped_slot o ≡ true → o ≡ Some Skipped
+skipped_slot None h = absurd (true≢false (sym h))
+skipped_slot (Some (Held b)) h = absurd (true≢false (sym h))
+skipped_slot (Some Skipped) h = refl
+
+module _ (P : StoreFields) (now : ℕ) (h : Handle) where
+  abbrev F : FactSet
+  F = held_facts P
+
+  -- ---- the status by the slot at the handle's dot
+
+  pub here_held : (b : Body) → map.get P.slots h.id.dot ≡ Some (Held b) → status_here P now h ≡ status_in F now h
+  here_held b at = ap (λ (o : Option Slot). cond (is_skipped_slot o) Wrong (status_in F now h)) at
+
+  pub here_skipped : map.get P.slots h.id.dot ≡ Some Skipped → status_here P now h ≡ Wrong
+  here_skipped at = ap (λ (o : Option Slot). cond (is_skipped_slot o) Wrong (status_in F now h)) at
+
+  pub here_unknown : map.get P.slots h.id.dot ≡ None → status_here P now h ≡ Unseen
+  here_unknown at =
+      ap (λ (o : Option Slot). cond (is_skipped_slot o) Wrong (status_in F now h)) at
+      ∙ ap (λ (o : Option Body). status_by F now h.id o (minted_as (map.get F) h) (root_in (map.get F) h.id.dot)) (get_held P.slots h.id.dot ∙ ap held_slot at)
+
+  by_test : (R : Status → Type 0) → (map.get P.slots h.id.dot ≡ Some Skipped → R Wrong) → (is_skipped P.slots h.id.dot ≡ false → R (status_in F now h)) → R (status_here P now h)
+  by_test R gone here =
+      elim (is_skipped P.slots h.id.dot) as (λ t. is_skipped P.slots h.id.dot ≡ t → R (cond t Wrong (status_in F now h))) [
+        | true ↦ λ is. gone (skipped_slot (map.get P.slots h.id.dot) is)
+        | false ↦ here
+      ] refl
+
+  -- ---- what the status means
+
+  -- no token was minted at a skipped dot, as far as the facts that are held go
+  none_minted : (m : MintedFields) → map.get P.slots h.id.dot ≡ Some Skipped → minted_in (map.get F) h.id ≡ Some m → ⊥
+  none_minted m at mints = none_is_not_some m (sym (ap (option_and_then (λ (b : Body). minted_of b h.id.kind)) (get_held P.slots h.id.dot ∙ ap held_slot at)) ∙ mints)
+
+  from_says : (x : Status) → is_skipped P.slots h.id.dot ≡ false → Says (map.get F) h x → SaysHere P h x
+  from_says Unseen whole s = whole_free P.slots h.id.dot whole s
+  from_says Wrong whole s = (λ none. s.0 (get_held P.slots h.id.dot ∙ ap held_slot none), s.1)
+  from_says (Broken expiry) whole s = s
+  from_says (Known standing) whole s = s
+
+  pub says_here : SaysHere P h (status_here P now h)
+  says_here = by_test (SaysHere P h)
+      (λ at. (λ none. none_is_not_some Skipped (sym none ∙ at), λ t. none_minted t.minted at t.mints))
+      (λ whole. from_says (status_in F now h) whole (says F now h))
+
+  pub known_here : IsKnown (status_here P now h) ↔ IsKnownToken (map.get F) h
+  known_here = by_test (λ x. IsKnown x ↔ IsKnownToken (map.get F) h)
+      (λ at. (λ known. absurd known, λ t. none_minted t.0.minted at t.0.mints))
+      (λ _. known_exactly F now h)
+
+  pub live_here : h.id.kind ≢ kind.Code → IsLive (status_here P now h) ↔ IsActive (map.get F) now h
+  live_here no_code = by_test (λ x. IsLive x ↔ IsActive (map.get F) now h)
+      (λ at. (λ live. absurd live, λ a. none_minted a.minted at a.mints))
+      (λ _. live_exactly F now h no_code)
+
+  pub sound_here : IsFactSet F → IsSound now (status_here P now h)
+  sound_here sound = by_test (IsSound now) (λ _. tt) (λ _. sound_status F now h sound)
