@@ -23,19 +23,19 @@ ghost use Rattle.tk_store.specs.FactSet.{FactSet, IsFactSet, AllIn, IsSubset};
 ghost use Rattle.tk_bundle.specs.Bundle.{bundle};
 ghost use Rattle.tk_region.specs.Taking as spec;
 
+use crate::whole::WholeLedger;
 use std::alloc::{AllocError, Global};
 use tk_bundle::Bundle;
 use tk_fact::Fact;
 use tk_format::ReadError;
 use tk_handle::Dot;
-use tk_ledger::Ledger;
 use tk_store::{AddError, Added};
 
 // Takes in the bundle that the bytes spell. `next` is the dot of the region's next fact.
 pub(crate) fn take_bytes(
     alloc: Global,
     next: Dot,
-    ledger: &mut Ledger,
+    ledger: &mut WholeLedger,
     bytes: &[u8],
 ) -> Result<u16, TakeError>
     ensures { spec.TakesIn ledger.old next (whole bundle bytes.now) result ledger.new }
@@ -60,7 +60,7 @@ fn unread(error: ReadError) -> TakeError
 fn take_bundle(
     alloc: Global,
     next: Dot,
-    ledger: &mut Ledger,
+    ledger: &mut WholeLedger,
     facts: &[Fact],
 ) -> Result<u16, TakeError>
     requires { bundle.Fits facts.now }
@@ -91,7 +91,7 @@ fn is_unmade(next: Dot, fact: &Fact) -> bool
 }
 
 // Returns whether no fact has another body at a dot that is held. Recurses over at most 128 facts.
-fn agree(ledger: &Ledger, facts: &[Fact]) -> bool
+fn agree(ledger: &WholeLedger, facts: &[Fact]) -> bool
     ensures { IsTrue result ↔ spec.AgreesWith ledger.now facts.now }
 {
     match facts {
@@ -101,7 +101,7 @@ fn agree(ledger: &Ledger, facts: &[Fact]) -> bool
 }
 
 // Returns whether no other body is held at the fact's dot.
-fn agrees(ledger: &Ledger, fact: &Fact) -> bool
+fn agrees(ledger: &WholeLedger, fact: &Fact) -> bool
     ensures { IsTrue result ↔ spec.AgreesAt ledger.now fact.now }
 {
     match ledger.store().get(fact.dot) {
@@ -111,7 +111,7 @@ fn agrees(ledger: &Ledger, fact: &Fact) -> bool
 }
 
 // Adds copies of the facts, one after another, and returns the number of new ones.
-fn take_facts(alloc: Global, ledger: &mut Ledger, facts: &[Fact]) -> Result<u16, TakeError>
+fn take_facts(alloc: Global, ledger: &mut WholeLedger, facts: &[Fact]) -> Result<u16, TakeError>
     requires agree { (U : FactSet) × IsFactSet U × IsSubset ledger.old U × AllIn U facts.now }
     requires few { length facts.now ≤ 128 }
     ensures { spec.Takes ledger.old facts.now result ledger.new }
@@ -127,7 +127,7 @@ fn take_facts(alloc: Global, ledger: &mut Ledger, facts: &[Fact]) -> Result<u16,
 }
 
 // Adds a copy of the fact, and returns 1 if it was new, otherwise 0.
-fn take_fact(alloc: Global, ledger: &mut Ledger, fact: &Fact) -> Result<u16, AllocError>
+fn take_fact(alloc: Global, ledger: &mut WholeLedger, fact: &Fact) -> Result<u16, AllocError>
     requires agree { (b : Body) → sets.get ledger.old fact.now.0 ≡ Some b → b ≡ fact.now.1 }
     requires passes { refusal_of fact.now.1 ≡ None }
     ensures ok { IfOk result (λ new. (ledger.new ≡ sets.insert ledger.old fact.now.0 fact.now.1)
