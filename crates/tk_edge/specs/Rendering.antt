@@ -15,10 +15,9 @@ use Rattle.std.specs.Prelude.{
   codes,
   decimal,
   Option,
-  Some,
-  None,
 }
 use Rattle.std.specs.List.{concat}
+use Rattle.tk_put.specs.Put.{field_line}
 use Rattle.tk_message.specs.ReplyFields.{ReplyFields, Content, Nothing, JsonText, OtherBytes}
 use Rattle.tk_message.specs.Status.{status_number}
 use Rattle.tk_message.specs.declared.status.Status.{Status}
@@ -72,24 +71,12 @@ abbrev pub challenge_line : Bool → List ℕ
 challenge_line true = codes "WWW-Authenticate: Basic realm=\"tokend\"\r\n"
 challenge_line false = []
 
--- the line of a field, if the field has a value
-abbrev pub field_line : List ℕ → Option (List ℕ) → List ℕ
-field_line name None = []
-field_line name (Some value) = concat (name ∷ value ∷ codes "\r\n" ∷ [])
-
--- the parts of a reply, joined in their order
-abbrev pub assembly : List ℕ → List ℕ → List ℕ → List ℕ → List ℕ → List ℕ → List ℕ → List ℕ → List ℕ
-assembly number reason type_of_body len challenge location allow body = concat (
-    codes "HTTP/1.1 " ∷ number ∷ codes " " ∷ reason ∷ codes "\r\n" ∷ type_of_body
-    ∷ codes "Content-Length: " ∷ len
-    ∷ codes "\r\nCache-Control: no-store\r\nPragma: no-cache\r\nConnection: close\r\n"
-    ∷ challenge ∷ location ∷ allow ∷ codes "\r\n" ∷ body ∷ [])
-
 -- the whole reply, with the methods allowed, if it names them
 abbrev pub reply_bytes : ReplyFields → Option (List ℕ) → List ℕ
-reply_bytes reply allowed =
-    let body = body_of reply.content in
-    assembly (decimal (status_number reply.status)) (reason_of reply.status)
-    (type_line reply.content) (decimal (length body))
-    (challenge_line reply.www) (field_line (codes "Location: ") reply.location)
-    (field_line (codes "Allow: ") allowed) body
+reply_bytes reply allowed = let body = body_of reply.content in concat (
+    codes "HTTP/1.1 " ∷ decimal (status_number reply.status) ∷ codes " "
+    ∷ reason_of reply.status ∷ codes "\r\n" ∷ type_line reply.content
+    ∷ codes "Content-Length: " ∷ decimal (length body)
+    ∷ codes "\r\nCache-Control: no-store\r\nPragma: no-cache\r\nConnection: close\r\n"
+    ∷ challenge_line reply.www ∷ field_line (codes "Location: ") reply.location
+    ∷ field_line (codes "Allow: ") allowed ∷ codes "\r\n" ∷ body ∷ [])

@@ -96,42 +96,35 @@ pub(crate) fn split_target(target: &[u8]) -> (&[u8], &[u8])
     (&target[..at], &target[at + 1..])
 }
 
-// Returns whether a text is this name, byte for byte.
-fn is(text: &[u8], name: &[u8]) -> bool
-    ensures { result ≡ bytes_eq text.now name.now }
-{
-    text == name
-}
-
 // Returns the path of this name. The paths of `/sync/` exist only if `sync` is true.
 pub(crate) fn path_named(sync: bool, path: &[u8]) -> Option<Path>
     ensures { result ≡ spec.path_named sync path.now }
 {
-    if is(path, b"/authorize") {
+    if path == b"/authorize" {
         return Some(Path::Authorize);
     }
-    if is(path, b"/token") {
+    if path == b"/token" {
         return Some(Path::Token);
     }
-    if is(path, b"/introspect") {
+    if path == b"/introspect" {
         return Some(Path::Introspect);
     }
-    if is(path, b"/revoke") {
+    if path == b"/revoke" {
         return Some(Path::Revoke);
     }
-    if is(path, b"/admin/client") {
+    if path == b"/admin/client" {
         return Some(Path::Client);
     }
-    if is(path, b"/admin/retire") {
+    if path == b"/admin/retire" {
         return Some(Path::Retire);
     }
-    if is(path, b"/admin/consent") {
+    if path == b"/admin/consent" {
         return Some(Path::Consent);
     }
-    if is(path, b"/admin/withdraw") {
+    if path == b"/admin/withdraw" {
         return Some(Path::Withdraw);
     }
-    if is(path, b"/admin/signout") {
+    if path == b"/admin/signout" {
         return Some(Path::SignOut);
     }
     if sync { sync_named(path) } else { None }
@@ -141,13 +134,13 @@ pub(crate) fn path_named(sync: bool, path: &[u8]) -> Option<Path>
 fn sync_named(path: &[u8]) -> Option<Path>
     ensures { result ≡ spec.sync_named path.now }
 {
-    if is(path, b"/sync/vector") {
+    if path == b"/sync/vector" {
         return Some(Path::Vector);
     }
-    if is(path, b"/sync/pull") {
+    if path == b"/sync/pull" {
         return Some(Path::Pull);
     }
-    if is(path, b"/sync/push") {
+    if path == b"/sync/push" {
         return Some(Path::Push);
     }
     None
@@ -157,10 +150,10 @@ fn sync_named(path: &[u8]) -> Option<Path>
 pub(crate) fn method_named(name: &[u8]) -> Option<Method>
     ensures { result ≡ spec.method_named name.now }
 {
-    if is(name, b"GET") {
+    if name == b"GET" {
         return Some(Method::Get);
     }
-    if is(name, b"POST") {
+    if name == b"POST" {
         return Some(Method::Post);
     }
     None

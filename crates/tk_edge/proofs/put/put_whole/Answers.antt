@@ -2,7 +2,7 @@ use Rattle.std.proofs.Common.{rules}
 use Rattle.std.proofs.Math.Seq.{take-add}
 use Rattle.std.proofs.lemmas.List.{take_rest}
 use Rattle.std.proofs.KnownBytes.{Appends-trans}
-use Rattle.tk_edge.proofs.put.put_all.Goals as goal
+use Rattle.tk_edge.proofs.put.put_whole.Goals as goal
 
 pub pieces-preserved : goal.pieces-preserved
 pieces-preserved g c = record {
