@@ -1,4 +1,4 @@
-use Rattle.std.proofs.Common.{rules, sym, ◌∙◌, ap, ◌++◌}
+use Rattle.std.proofs.Common.{rules}
 use Rattle.tk_put.proofs.Pieces.{pieces_to}
 use Rattle.tk_put.proofs.join.joined.Goals as goal
 
