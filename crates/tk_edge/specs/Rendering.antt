@@ -71,12 +71,19 @@ abbrev pub challenge_line : Bool → List ℕ
 challenge_line true = codes "WWW-Authenticate: Basic realm=\"tokend\"\r\n"
 challenge_line false = []
 
+-- the parts of a reply, joined in their order
+abbrev pub assembly : List ℕ → List ℕ → List ℕ → List ℕ → List ℕ → List ℕ → List ℕ → List ℕ → List ℕ
+assembly number reason type_of_body len challenge location allow body = concat (
+    codes "HTTP/1.1 " ∷ number ∷ codes " " ∷ reason ∷ codes "\r\n" ∷ type_of_body
+    ∷ codes "Content-Length: " ∷ len
+    ∷ codes "\r\nCache-Control: no-store\r\nPragma: no-cache\r\nConnection: close\r\n"
+    ∷ challenge ∷ location ∷ allow ∷ codes "\r\n" ∷ body ∷ [])
+
 -- the whole reply, with the methods allowed, if it names them
 abbrev pub reply_bytes : ReplyFields → Option (List ℕ) → List ℕ
-reply_bytes reply allowed = let body = body_of reply.content in concat (
-    codes "HTTP/1.1 " ∷ decimal (status_number reply.status) ∷ codes " "
-    ∷ reason_of reply.status ∷ codes "\r\n" ∷ type_line reply.content
-    ∷ codes "Content-Length: " ∷ decimal (length body)
-    ∷ codes "\r\nCache-Control: no-store\r\nPragma: no-cache\r\nConnection: close\r\n"
-    ∷ challenge_line reply.www ∷ field_line (codes "Location: ") reply.location
-    ∷ field_line (codes "Allow: ") allowed ∷ codes "\r\n" ∷ body ∷ [])
+reply_bytes reply allowed =
+    let body = body_of reply.content in
+    assembly (decimal (status_number reply.status)) (reason_of reply.status)
+    (type_line reply.content) (decimal (length body))
+    (challenge_line reply.www) (field_line (codes "Location: ") reply.location)
+    (field_line (codes "Allow: ") allowed) body

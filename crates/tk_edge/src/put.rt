@@ -12,7 +12,10 @@ pub(crate) fn put_whole<S: Sink>(sink: &mut S, bytes: &[u8]) -> Result<(), Faile
 {
     let mut at = 0;
     'pieces: while at < bytes.len() {
-        at += sink.put(&bytes[at..])?;
+        match sink.put(&bytes[at..]) {
+            Ok(count) => at += count,
+            Err(failed) => return Err(failed),
+        }
     }
     Ok(())
 }

@@ -24,24 +24,16 @@ pub(crate) fn render(
     let location = location_of(reply);
     let location = field_line(alloc, b"Location: ", location)?;
     let allow = field_line(alloc, b"Allow: ", allowed)?;
-    joined(
+    assembled(
         alloc,
-        &[
-            b"HTTP/1.1 ",
-            number.format(reply.status.number()).as_bytes(),
-            b" ",
-            reason_of(reply.status),
-            b"\r\n",
-            type_line(&reply.body),
-            b"Content-Length: ",
-            len.format(body.len()).as_bytes(),
-            b"\r\nCache-Control: no-store\r\nPragma: no-cache\r\nConnection: close\r\n",
-            challenge_line(reply.www),
-            &location,
-            &allow,
-            b"\r\n",
-            body,
-        ],
+        number.format(reply.status.number()).as_bytes(),
+        reason_of(reply.status),
+        type_line(&reply.body),
+        len.format(body.len()).as_bytes(),
+        challenge_line(reply.www),
+        &location,
+        &allow,
+        body,
     )
 }
 
@@ -106,4 +98,41 @@ fn challenge_line(www: bool) -> &'static [u8]
     } else {
         b""
     }
+}
+
+// Joins the parts of a reply, which live equally long.
+fn assembled<'a>(
+    alloc: Global,
+    number: &'a [u8],
+    reason: &'a [u8],
+    type_line: &'a [u8],
+    len: &'a [u8],
+    challenge: &'a [u8],
+    location: &'a [u8],
+    allow: &'a [u8],
+    body: &'a [u8],
+) -> Result<Vec<u8>, AllocError>
+    ensures { IfOk result (λ bytes. bytes.items
+        ≡ spec.assembly number.now reason.now type_line.now len.now challenge.now location.now
+        allow.now body.now) }
+{
+    joined(
+        alloc,
+        &[
+            b"HTTP/1.1 ",
+            number,
+            b" ",
+            reason,
+            b"\r\n",
+            type_line,
+            b"Content-Length: ",
+            len,
+            b"\r\nCache-Control: no-store\r\nPragma: no-cache\r\nConnection: close\r\n",
+            challenge,
+            location,
+            allow,
+            b"\r\n",
+            body,
+        ],
+    )
 }
