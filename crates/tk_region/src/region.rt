@@ -31,7 +31,7 @@ impl Model for Region {
     }) };
 }
 
-ghost use Rattle.std.specs.Prelude.{◌≡◌, ◌≤◌, IfOk, IfSome, None, OnErr, OnOk};
+ghost use Rattle.std.specs.Prelude.{◌≡◌, ◌≤◌, IfOk, IfSome, None, OnErr, OnOk, Some};
 ghost use Rattle.std.specs.FinMap as map;
 ghost use Rattle.tk_format.specs.Format.{whole};
 ghost use Rattle.tk_handle.specs.Ranges.{greatest_serial};
@@ -49,9 +49,9 @@ ghost use Rattle.tk_region.specs.Taking.{TakesIn};
 
 use crate::decision::decide_endpoint;
 use crate::step::{Handled, Prepared, prepare};
-use crate::take::{TakeError, take_bytes};
+use crate::take::{TakeError, take_bundle, unread};
 use std::alloc::{AllocError, Global};
-use tk_bundle::{Page, make};
+use tk_bundle::{Bundle, Page, make};
 use tk_fact::Fact;
 use tk_handle::{Dot, Moment};
 use tk_message::{Place, Request};
@@ -210,8 +210,24 @@ impl Region {
         ensures takes { TakesIn (facts_of self.old.facts) (next_in (place_in self.old))
             (whole bundle bytes.now) result (facts_of self.new.facts) }
     {
+        match Bundle::read(alloc, bytes) {
+            Ok(sent) => self.take_bundle(sent),
+            Err(error) => Err(unread(error)),
+        }
+    }
+
+    /// Takes in a bundle that was read, as [`Region::take_in`] takes in its bytes.
+    ///
+    /// Returns the number of facts that were new. The facts move into the region.
+    pub fn take_bundle(&mut self, sent: Bundle) -> Result<u16, TakeError>
+        requires { bundle.Fits sent }
+        ensures number { self.new.number ≡ self.old.number }
+        ensures settings { self.new.settings ≡ self.old.settings }
+        ensures takes { TakesIn (facts_of self.old.facts) (next_in (place_in self.old)) (Some sent)
+            result (facts_of self.new.facts) }
+    {
         let next = self.next_dot();
-        take_bytes(alloc, next, &mut self.ledger, bytes)
+        take_bundle(next, &mut self.ledger, sent)
     }
 }
 
