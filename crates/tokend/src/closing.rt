@@ -1,6 +1,7 @@
 //! Connections that are closing: their sockets, and what is done to a set of them.
 
 ghost use Rattle.std.specs.Prelude.{◌≡◌, ◌≤◌, [], length};
+ghost use Rattle.tokend.specs.Closing.{LooksAtAll, MaySetAside};
 
 use crate::timed::{TimedSource, millis};
 use std::io::{ErrorKind, Read};
@@ -59,7 +60,9 @@ pub(crate) fn look_at_closing<C: Clock>(
     clock: &C,
     closing: &mut ClosingSet<ClosingStream>,
     piece: &mut [u8],
-) {
+)
+    ensures { LooksAtAll closing.old closing.new }
+{
     // If the clock fails, no connection's time is over.
     let now = millis(clock).unwrap_or(0);
     closing.drop_arrived(now, piece);
@@ -73,7 +76,9 @@ pub(crate) fn set_aside<C: Clock>(
     stream: TcpStream,
     since: u64,
     piece: &mut [u8],
-) {
+)
+    ensures { MaySetAside closing.old closing.new }
+{
     if stream.shutdown(Shutdown::Write).is_err() {
         return;
     }

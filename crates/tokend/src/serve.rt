@@ -8,6 +8,7 @@ ghost use Rattle.tk_handle.specs.Ranges.{IsRegion};
 ghost use Rattle.tk_region.specs.RegionFields.{Gains};
 ghost use Rattle.tk_region.specs.SettingsFields.{IsSettings};
 ghost use Rattle.tk_store.specs.FactSet.{Facts};
+ghost use Rattle.tokend.specs.Closing.{LooksAndAdds, MaySetAside};
 ghost use Rattle.tokend.specs.CommandLine.{settings_of};
 ghost use Rattle.tokend.specs.Connection.{IsConnection, ServesAll, ServesWithLog, Told};
 ghost use Rattle.tk_put.specs.Put.{Prints};
@@ -220,6 +221,7 @@ fn serve_next<R: AllocGlobal + Clock, L: Sink>(
         × IsConnection now words.now edge.old edge.new
         (record { before = L.holds log.old; after = L.holds log.new }) result }
     ensures log_fault { result ≡ Err EdgeFault.Log → Rose (L.failed log.old) (L.failed log.new) }
+    ensures looked { LooksAndAdds closing.old closing.new }
 {
     look_at_closing(rt, closing, buf);
     match listener.accept() {
@@ -242,6 +244,7 @@ fn serve_stream<R: AllocGlobal + Clock, L: Sink>(
         × IsConnection now words.now edge.old edge.new
         (record { before = L.holds log.old; after = L.holds log.new }) result }
     ensures log_fault { result ≡ Err EdgeFault.Log → Rose (L.failed log.old) (L.failed log.new) }
+    ensures added { MaySetAside closing.old closing.new }
 {
     let (Ok(now), Ok(since)) = (moment(rt), millis(rt)) else {
         return Err(EdgeFault::Read);
