@@ -45,7 +45,7 @@ pub none_some : {A : Type 0} (o : Option A) (a : A) → o ≡ None → o ≡ Som
 none_some o a n s = none_is_not_some a (sym n ∙ s)
 
 -- what makes a link is kept for a token of its own
-kept_linked : (d : Dot) (b : Body) (l : Link) (k : TokenId) → link_of b ≡ Some l → kept_for d b ≡ Some k → k.dot ≡ d
+pub kept_linked : (d : Dot) (b : Body) (l : Link) (k : TokenId) → link_of b ≡ Some l → kept_for d b ≡ Some k → k.dot ≡ d
 kept_linked d (body.CodeIssued c) l k h e = ap (λ (x : TokenId). x.dot) (sym (some_injective _ k e))
 kept_linked d (body.CodeRedeemed r) l k h e = ap (λ (x : TokenId). x.dot) (sym (some_injective _ k e))
 kept_linked d (body.RefreshRotated r) l k h e = ap (λ (x : TokenId). x.dot) (sym (some_injective _ k e))
