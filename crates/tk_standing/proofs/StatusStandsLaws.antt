@@ -1,6 +1,5 @@
 -- From the horizon on, a handle's status by a store is that by the facts for which the store stands,
 -- or both are lost. Key results:
---   any_lasting, at_lasting   what facts that last determine
 --   state_same                the state of a token whose family is not over
 --   status_stands             the statuses
 use Rattle.std.proofs.Common.{◌≡◌, ◌≢◌, ◌⊎◌, inl, inr, ℕ, ◌≤◌, ◌<◌, Bool, true, false, ◌&&◌, not, nat_le, cond, if◌then◌else◌, List, Option, None, Some, is_some, refl, sym, ap, subst, ◌∙◌, arith}
@@ -40,8 +39,9 @@ use Rattle.tk_ledger.specs.declared.status.Status.TheVariants.{Unseen, Wrong, Br
 use Rattle.tk_ledger.proofs.HereLaws.{here_held, here_skipped, here_unknown}
 use Rattle.tk_ledger.proofs.KeyLaws.{same_tests}
 use Rattle.tk_ledger.proofs.TokenLaws.{from_some, links-below, minted-below, root-sound, root-complete, is_dead-sound, is_dead-complete, is_used-sound, is_used-complete, is_ended-sound, is_ended-complete, IsDead-below, IsEnded-below}
-use Rattle.tk_standing.specs.Alike.{is_closed, IsLost, AnsweredAlike}
+use Rattle.tk_ledger.specs.Alike.{is_closed, IsLost, AnsweredAlike}
 use Rattle.tk_standing.specs.StandsFor.{StandsFor, AreSound}
+use Rattle.tk_standing.proofs.LastingLaws.{live_client_same, consent_same, withdrawn_same}
 use Rattle.tk_standing.proofs.StandingLaws.{IsOver, none_some, kept_linked, all_made, at_skipped, at_held, apart, may_skip, held_made, held_part, lasting_held, skipped_over, under_held, code_held, ended_held, used_held, dead_held, code_under}
 
 later : (a b c : ℕ) → a ≤ b → b ≤ c → a ≤ c
@@ -122,63 +122,11 @@ issued_below F G w c code is = (let x = from_some issued_in (map.get F c) code i
 under_below : (F G : FactSet) → IsSubset F G → (d c : Dot) → IsUnder (links_in (map.get F)) d c → IsUnder (links_in (map.get G)) d c
 under_below F G w d c u = IsUnder-within (links_in (map.get F)) (links_in (map.get G)) (links-below F G w) d c u
 
--- ---- what facts that last determine
+-- ---- a family that is not over
 
 module _ (P : StoreFields) (U F : FactSet) (S : StandsFor P U F) where
   abbrev H : FactSet
   H = held_facts P
-
-  -- a test that only facts that last pass
-  pub any_lasting : (p : Dot × Body → Bool) → ((d : Dot) (b : Body) → p (d, b) ≡ true → kept_for d b ≡ None) → any_fact p H ≡ any_fact p F
-  any_lasting p lasts = same_tests (any_fact p H) (any_fact p F)
-      (λ h. (let x : Passing p H = any_fact-held p H h in any_fact-of p F x.dot x.body (held_part P U F S x.dot x.body x.held) x.passes))
-      (λ h. (let x : Passing p F = any_fact-held p F h in any_fact-of p H x.dot x.body (lasting_held P U F S x.dot x.body (lasts x.dot x.body x.passes) x.held) x.passes))
-
-  none_of : {A : Type 0} (f : Body → Option A) (o : Option A) (b : Body) → f b ≡ o → ((y : A) → f b ≡ Some y → ⊥) → f b ≡ None
-  none_of f None b h never = h
-  none_of f (Some y) b h never = absurd (never y h)
-
-  -- what a fact that lasts has
-  pub at_lasting : {A : Type 0} (f : Body → Option A) → ((d : Dot) (b : Body) (y : A) → f b ≡ Some y → kept_for d b ≡ None) → (d : Dot) → option_and_then f (map.get H d) ≡ option_and_then f (map.get F d)
-  at_lasting f lasts d = elim (cases_Bool (is_skipped P.slots d)) [
-    | inl skipped ↦
-        let may = may_skip P U F S d skipped in
-        let none : f may.fact ≡ None = none_of f (f may.fact) may.fact refl (λ y h. none_some (kept_for d may.fact) may.token (lasts d may.fact y h) may.kept) in
-        ap (option_and_then f) (apart P U F S d skipped) ∙ sym (ap (option_and_then f) (at_skipped P U F S d skipped ∙ may.here) ∙ none)
-    | inr held ↦ ap (option_and_then f) (sym (at_held P U F S d held))
-  ]
-
-  -- ---- clients and consents
-
-  pub client_same : (d : Dot) → client_at H d ≡ client_at F d
-  client_same d = at_lasting added_in lasts d
-    where
-      lasts : (d : Dot) (b : Body) (y : _) → added_in b ≡ Some y → kept_for d b ≡ None
-      lasts d (body.ClientAdded c) y h = refl
-      lasts d b y h = absurd (none_is_not_some y h)
-
-  pub retired_same : (d : Dot) → is_retired H d ≡ is_retired F d
-  retired_same d = any_lasting (retires d) lasts
-    where
-      lasts : (q : Dot) (b : Body) → retires d (q, b) ≡ true → kept_for q b ≡ None
-      lasts q (body.ClientRetired c) h = refl
-      lasts q b h = absurd (cc)
-
-  pub consent_same : (d : Dot) → consent_at H d ≡ consent_at F d
-  consent_same d = at_lasting given_in lasts d
-    where
-      lasts : (d : Dot) (b : Body) (y : _) → given_in b ≡ Some y → kept_for d b ≡ None
-      lasts d (body.ConsentGiven c) y h = refl
-      lasts d b y h = absurd (none_is_not_some y h)
-
-  pub withdrawn_same : (d : Dot) → is_withdrawn H d ≡ is_withdrawn F d
-  withdrawn_same d = any_lasting (withdraws d) lasts
-    where
-      lasts : (q : Dot) (b : Body) → withdraws d (q, b) ≡ true → kept_for q b ≡ None
-      lasts q (body.ConsentWithdrawn c) h = refl
-      lasts q b h = absurd (cc)
-
-  -- ---- a family that is not over
 
   module _ (now : ℕ) (soon : P.horizon ≤ now) (root : Root) (issues : issued_at (map.get F) root.code ≡ Some root.issued) (early : now < root.issued.family_end) where
     never_over : IsOver U P.horizon root.code → ⊥
@@ -212,15 +160,12 @@ module _ (P : StoreFields) (U F : FactSet) (S : StandsFor P U F) where
           (λ h. is_ended-complete F k (IsEnded-below H F (held_part P U F S) k (is_ended-sound H k h)))
           (λ h. elim (ended_held P U F S root.code k (is_ended-sound F k h) made) [ inl ended ↦ is_ended-complete H k ended | inr over ↦ absurd (never_over over) ])
 
-      live_client_same : is_live_client H root.issued.client ≡ is_live_client F root.issued.client
-      live_client_same = λ i. is_some (client_same root.issued.client i) && not (retired_same root.issued.client i)
-
       live_consent_same : is_live_consent H root.issued ≡ is_live_consent F root.issued
-      live_consent_same = λ i. gives root.issued.client root.issued.subject (consent_same root.issued.consent i) && not (withdrawn_same root.issued.consent i)
+      live_consent_same = λ i. gives root.issued.client root.issued.subject (consent_same P U F S root.issued.consent i) && not (withdrawn_same P U F S root.issued.consent i)
 
       -- the state of a token whose family is not over
       pub state_same : (m : MintedFields) → state_in H now k m root ≡ state_in F now k m root
-      state_same m = λ i. state_by (dead_same i) (live_client_same i) (live_consent_same i) (used_same i) (ended_same i) now k m root
+      state_same m = λ i. state_by (dead_same i) (live_client_same P U F S root.issued.client i) (live_consent_same i) (used_same i) (ended_same i) now k m root
 
       pub standing_same : (b : Body) (m : MintedFields) → standing_in H now k b m root ≡ standing_in F now k b m root
       standing_same b m = (let state = state_same m in λ i. record {
