@@ -2,14 +2,8 @@
 
 ghost use Rattle.std.specs.Prelude.{◌≡◌, ◌&&◌, OnOk, IfErr, IsTrue, None, Some, true};
 ghost use Rattle.std.specs.List.{list_all};
-ghost use Rattle.tk_fact.specs.Check.{
-  first_broken,
-  refusal_of,
-  ends_after,
-  is_challenge,
-  is_revocable,
-  is_used_once,
-};
+ghost use Rattle.tk_fact.specs.Check.{first_broken, refusal_of, ends_after, is_challenge};
+ghost use Rattle.tk_fact.specs.Check.{is_revocable, is_used_once};
 ghost use Rattle.tk_fact.specs.Subject.{is_subject};
 ghost use Rattle.tk_match.specs.Redirects.{is_uri};
 
