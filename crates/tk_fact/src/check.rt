@@ -29,8 +29,8 @@ pub enum FactError {
     Range,
 }
 
-/// The greatest number of generations of a family. This limit is our own.
-const MOST_GENERATIONS: u16 = 10_000;
+/// The greatest number of generations of a family, the last of which isn't rotated (own).
+pub const MOST_GENERATIONS: u16 = 10_000;
 
 // Returns the first rule that a body breaks, if any.
 pub(crate) fn check_body(body: &Body) -> Result<(), FactError>
