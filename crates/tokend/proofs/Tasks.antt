@@ -1,4 +1,5 @@
 -- The task that the arguments request, by what clap reports of them. Key results:
+--   is_service      a service is the task
 --   found_by        clap finds the subcommand of the arguments
 --   fails_by        clap names its fault in the arguments
 --   refused_by      the reason why clap refused the arguments
@@ -75,6 +76,21 @@ no_service found rows named at none (Loopback numbers) h = not_loopback (other_n
 no_service found rows named at none (Serve service) h =
     none service (subst (λ r. HasService r service) (sym (one_rows found rows h.0 _ at h.1)) h.2)
 
+-- the subcommand with this name and these rows
+found_is : (found : Option (Text × List Row)) (name : Text) (rows : List Row) → option_map (λ p. p.0) found ≡ Some name
+    → option_map (λ p. p.1) found ≡ Some rows → found ≡ Some (name, rows)
+found_is None name rows named at = absurd (cc)
+found_is (Some (n, r)) name rows named at = cc
+
+-- a service is the task
+pub is_service : {E : Type 0} (found : Option (Text × List Row)) (rows : List Row) (r : Result (Option Task) E)
+    → option_map (λ p. p.0) found ≡ Some (codes "serve") → option_map (λ p. p.1) found ≡ Some rows
+    → IfOk r (λ read. IfSome read (λ t. (s : Service) × (t ≡ Serve s) × HasService rows s)) → IfOk r (λ read. IfSome read (IsTask found))
+is_service found rows (Ok (Some task)) named at h =
+    subst (λ t. IsTask found t) (sym h.1) (rows, found_is found _ rows named at, h.2)
+is_service found rows (Ok None) named at h = tt
+is_service found rows (Err e) named at h = tt
+
 -- without a service there is no task
 pub is_no_service : {E : Type 0} (found : Option (Text × List Row)) (rows : List Row) (r : Result (Option Task) E)
     → option_map (λ p. p.0) found ≡ Some (codes "serve") → option_map (λ p. p.1) found ≡ Some rows
@@ -107,11 +123,20 @@ module _ {T : Type 0} (rows : List Row) (r : Option T) where
   pub without_cap : ((n : ℕ) → ¬ (HasNumber rows (codes "cap") 1 greatest_cap n)) → IfNone r ((n : Numbers) → ¬ (HasNumbers rows n))
   without_cap none = unless (λ n h. none n.cap h.cap)
 
+-- if the rows have no settings, they have no service
+pub without_settings : (rows : List Row) → ((n : Numbers) → ¬ (HasNumbers rows n)) → IsNoService rows
+without_settings rows none service h = none service.numbers h.numbers
+
 pub without_region : (rows : List Row) → ((n : ℕ) → ¬ (HasNumber rows (codes "region") 1 greatest_region n)) → IsNoService rows
 without_region rows none service h = none service.region h.region
 
 pub without_port : (rows : List Row) → ((n : ℕ) → ¬ (HasNumber rows (codes "port") 0 greatest_port n)) → IsNoService rows
 without_port rows none service h = none service.port h.port
+
+pub without_seed : (rows : List Row) → first_of (codes "seed") rows ≡ None → IsNoService rows
+without_seed rows none service h =
+    let both : None ≡ Some (string_bytes service.seed) = sym none ∙ h.seed in
+    absurd (cc)
 
 -- clap finds the subcommand of the program's arguments
 pub found_by : (app : App) (words : List Text) (m : ArgMatches) → app ≡ tokend_app → HasMatchesOf app words m
