@@ -24,5 +24,3 @@ module _ {X : Type 0} where
           ∙ sym (get_or_past xs j None (omega (arith, len, ge))) ∙ sym (cond-false _ _ _ apart)
     ]
   ]
-
-  ]

@@ -2,7 +2,7 @@
 --   below_itself, below_trans, below_antisymmetric   `Below` is an order
 --   join_of                                          two vectors that agree have a least one above
 --                                                    both
---   raised_more, kept_join              the loop that raises each entry
+--   raised_more, kept_join                           the loop that raises each entry
 --   vector_laws                                      what the law function states
 use Rattle.std.proofs.Common.{◌≡◌, ℕ, zero, suc, ◌+◌, ◌<◌, ◌≤◌, true, false, cond, max, T, List, [], ◌∷◌, length, get_or, Option, Some, None, unwrap_or, refl, sym, ap, subst, ◌∙◌, arith, inl, inr}
 use Rattle.std.proofs.lemmas.Bool.{cases_lt, cases_Bool, cond-true, cond-false}
@@ -130,8 +130,6 @@ module _ (es : List (ℕ × ℕ)) (W : Vector) (seen : (q : ℕ) → map.get W q
 
   pub is_below : (V : Vector) → (AllAtMost es (length es) V → Below W V) × (Below W V → AllAtMost es (length es) V)
   is_below V = (all_below V, each_below V)
-
-]
 
 -- ---- the least vector above two
 
