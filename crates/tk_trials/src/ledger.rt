@@ -3,17 +3,22 @@
 //! These are the tests of tk_ledger and, in `forests`, of tk_family. `plain` is a ledger that walks
 //! its facts, for comparison.
 
+mod alike;
 mod checked;
 mod ends;
 mod facts;
 mod forests;
 mod generated;
+mod histories;
 mod joined;
 mod long;
 mod orders;
 mod plain;
+mod pruned;
 mod refused;
+mod same;
 mod sign_outs;
+mod walks;
 
 use ends::ended_otherwise;
 use facts::{Place, READ_WRITE, Says, Token, Told};
