@@ -32,7 +32,7 @@ pub(crate) struct ShownClient {
 }
 
 ghost use Rattle.std.specs.Prelude.{◌≡◌, IfOk};
-ghost use Rattle.tk_store.specs.Store.{facts_of};
+ghost use Rattle.tk_store.specs.StoreFields.{held_facts};
 ghost use Rattle.tk_authorize.specs.Administered as spec;
 ghost use Rattle.tk_authorize.specs.SoundAdministered.{IsSoundAdministered};
 
@@ -53,7 +53,7 @@ pub(crate) fn administer(
     request: &Request,
 ) -> Result<Administered, AllocError>
     ensures value { IfOk result (λ a.
-        a ≡ spec.administered_of (facts_of ledger.now) now request.now) }
+        a ≡ spec.administered_of (held_facts ledger.now) now request.now) }
     ensures sound { IfOk result IsSoundAdministered }
 {
     match request.endpoint {

@@ -1,7 +1,7 @@
 //! Decisions of administration requests.
 
 ghost use Rattle.std.specs.Prelude.{◌≡◌, IfOk};
-ghost use Rattle.tk_store.specs.Store.{facts_of};
+ghost use Rattle.tk_store.specs.StoreFields.{held_facts};
 ghost use Rattle.tk_message.specs.Decision.{answered, Passes};
 ghost use Rattle.tk_message.specs.Bodies.{subject_body};
 ghost use Rattle.tk_message.specs.Reply.{json_reply};
@@ -30,7 +30,7 @@ pub fn decide_admin(
     now: Moment,
     request: &Request,
 ) -> Result<Decision, AllocError>
-    ensures value { IfOk result (λ d. d ≡ spec.administration_of (facts_of ledger.now) place.now now
+    ensures value { IfOk result (λ d. d ≡ spec.administration_of (held_facts ledger.now) place.now now
         request.now) }
 
     // The fact that the request makes, if any, passes its check.

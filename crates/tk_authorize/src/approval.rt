@@ -2,7 +2,7 @@
 
 ghost use Rattle.std.specs.Prelude.{◌≡◌, IfOk};
 ghost use Rattle.std.specs.Option.{option_copied};
-ghost use Rattle.tk_store.specs.Store.{facts_of};
+ghost use Rattle.tk_store.specs.StoreFields.{held_facts};
 ghost use Rattle.tk_authorize.specs.Approval as spec;
 
 use crate::asked::Asked;
@@ -32,7 +32,7 @@ pub(crate) fn approve(
     subject: Option<&[u8]>,
     asked: Result<Asked, Denial>,
 ) -> Result<Result<Approval, Denial>, AllocError>
-    ensures { IfOk result (λ approval. approval ≡ spec.approval_of (facts_of ledger.now) client
+    ensures { IfOk result (λ approval. approval ≡ spec.approval_of (held_facts ledger.now) client
         (option_copied subject.entry) asked) }
 {
     match asked {
@@ -49,7 +49,7 @@ fn approve_by_subject(
     asked: Asked,
     subject: Option<&[u8]>,
 ) -> Result<Result<Approval, Denial>, AllocError>
-    ensures { IfOk result (λ approval. approval ≡ spec.approval_by_subject (facts_of ledger.now)
+    ensures { IfOk result (λ approval. approval ≡ spec.approval_by_subject (held_facts ledger.now)
         client asked (option_copied subject.entry)) }
 {
     let Some(subject) = subject else {

@@ -4,7 +4,7 @@ ghost use Rattle.std.specs.Prelude.{◌≡◌, ◌≤◌, IfOk, None};
 ghost use Rattle.std.specs.Option.{option_copied};
 ghost use Rattle.tk_handle.specs.Moment.{moment_plus};
 ghost use Rattle.tk_fact.specs.Check.{refusal_of};
-ghost use Rattle.tk_store.specs.Store.{facts_of};
+ghost use Rattle.tk_store.specs.StoreFields.{held_facts};
 ghost use Rattle.tk_message.specs.Decision.{Passes};
 ghost use Rattle.tk_authorize.specs.Authorization as spec;
 ghost use Rattle.tk_authorize.specs.Registered.{LeadsToClient};
@@ -33,14 +33,14 @@ pub fn decide_authorize(
     words: &[u64; 6],
     request: &Request,
 ) -> Result<Decision, AllocError>
-    ensures value { IfOk result (λ d. d ≡ spec.authorization_of (facts_of ledger.now) place.now now
+    ensures value { IfOk result (λ d. d ≡ spec.authorization_of (held_facts ledger.now) place.now now
         words.now request.now) }
     ensures passes { IfOk result (λ d. Passes d.made) }
 
     // The reply sends the browser to a registered URI of the client that the request names, or to
     // no URI.
     ensures leads { IfOk result (λ d.
-        LeadsToClient (facts_of ledger.now) request.now.params d.reply) }
+        LeadsToClient (held_facts ledger.now) request.now.params d.reply) }
 {
     let judged = judge(alloc, ledger, &request.params, request.subject())?;
     let state = kept_state(request.params.value("state"));

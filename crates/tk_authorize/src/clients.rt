@@ -2,7 +2,7 @@
 
 ghost use Rattle.std.specs.Prelude.{◌≡◌, IfOk, Ok as Found};
 ghost use Rattle.std.specs.Option.{option_copied};
-ghost use Rattle.tk_store.specs.Store.{facts_of};
+ghost use Rattle.tk_store.specs.StoreFields.{held_facts};
 ghost use Rattle.tk_params.specs.Params.{has_twice};
 ghost use Rattle.tk_authorize.specs.Administered as spec;
 ghost use Rattle.tk_authorize.specs.SoundAdministered.{IsSoundAdministered};
@@ -20,7 +20,7 @@ pub(crate) fn show(
     ledger: &Ledger,
     params: &Params,
 ) -> Result<Administered, AllocError>
-    ensures value { IfOk result (λ a. a ≡ spec.shown_of (facts_of ledger.now) params.now) }
+    ensures value { IfOk result (λ a. a ≡ spec.shown_of (held_facts ledger.now) params.now) }
     ensures sound { IfOk result IsSoundAdministered }
 {
     match client_named(params) {
@@ -31,7 +31,7 @@ pub(crate) fn show(
 
 // Shows the client that was added at the dot, if one was.
 fn show_at(alloc: Global, ledger: &Ledger, client: Dot) -> Result<Administered, AllocError>
-    ensures value { IfOk result (λ a. a ≡ spec.shown_by (facts_of ledger.now) (Found client)) }
+    ensures value { IfOk result (λ a. a ≡ spec.shown_by (held_facts ledger.now) (Found client)) }
     ensures sound { IfOk result IsSoundAdministered }
 {
     let Some(view) = ledger.client(client) else {
@@ -48,7 +48,7 @@ fn show_at(alloc: Global, ledger: &Ledger, client: Dot) -> Result<Administered, 
 
 // Judges a request to retire a client.
 pub(crate) fn retire(ledger: &Ledger, params: &Params) -> Administered
-    ensures value { result ≡ spec.retired_of (facts_of ledger.now) params.now }
+    ensures value { result ≡ spec.retired_of (held_facts ledger.now) params.now }
     ensures sound { IsSoundAdministered result }
 {
     match client_named(params) {
@@ -59,7 +59,7 @@ pub(crate) fn retire(ledger: &Ledger, params: &Params) -> Administered
 
 // Retires the client that was added at the dot, if one was.
 fn retire_at(ledger: &Ledger, client: Dot) -> Administered
-    ensures value { result ≡ spec.retired_by (facts_of ledger.now) (Found client) }
+    ensures value { result ≡ spec.retired_by (held_facts ledger.now) (Found client) }
     ensures sound { IsSoundAdministered result }
 {
     match ledger.client(client) {

@@ -3,7 +3,7 @@
 ghost use Rattle.std.specs.Prelude.{◌≡◌, IfOk, Some, IsTrue};
 ghost use Rattle.std.specs.Option.{option_copied};
 ghost use Rattle.tk_fact.specs.Subject.{is_subject};
-ghost use Rattle.tk_store.specs.Store.{facts_of};
+ghost use Rattle.tk_store.specs.StoreFields.{held_facts};
 ghost use Rattle.tk_params.specs.Params.{has_twice};
 ghost use Rattle.tk_authorize.specs.Administered as spec;
 ghost use Rattle.tk_authorize.specs.SoundAdministered.{IsSoundAdministered};
@@ -24,7 +24,7 @@ pub(crate) fn consent(
     ledger: &Ledger,
     params: &Params,
 ) -> Result<Administered, AllocError>
-    ensures value { IfOk result (λ a. a ≡ spec.consented_of (facts_of ledger.now) params.now) }
+    ensures value { IfOk result (λ a. a ≡ spec.consented_of (held_facts ledger.now) params.now) }
     ensures sound { IfOk result IsSoundAdministered }
 {
     if has_repeats(params) {
@@ -52,7 +52,7 @@ fn consent_by(
     scope: Option<&str>,
 ) -> Result<Administered, AllocError>
     ensures value { IfOk result (λ a.
-        a ≡ spec.consented_by (facts_of ledger.now) (option_copied id.entry)
+        a ≡ spec.consented_by (held_facts ledger.now) (option_copied id.entry)
         (option_copied subject.entry) (option_copied scope.entry)) }
     ensures sound { IfOk result IsSoundAdministered }
 {
@@ -79,7 +79,7 @@ fn consent_to(
     subject: &str,
     scope: &str,
 ) -> Result<Administered, AllocError>
-    ensures value { IfOk result (λ a. a ≡ spec.consented_to (facts_of ledger.now) subject.now
+    ensures value { IfOk result (λ a. a ≡ spec.consented_to (held_facts ledger.now) subject.now
         scope.now (Some client)) }
     ensures sound { IfOk result IsSoundAdministered }
 {
@@ -134,7 +134,7 @@ fn consent_for(client: Dot, subject: Subject, scope: Option<Scope>) -> Administe
 // ---- withdrawn
 
 pub(crate) fn withdraw(ledger: &Ledger, params: &Params) -> Administered
-    ensures value { result ≡ spec.withdrawn_of (facts_of ledger.now) params.now }
+    ensures value { result ≡ spec.withdrawn_of (held_facts ledger.now) params.now }
     ensures sound { IsSoundAdministered result }
 {
     if is_id_twice(params) {
@@ -153,7 +153,7 @@ fn is_id_twice(params: &Params) -> bool
 
 // Judges a request to withdraw a consent, by its id.
 fn withdraw_by(ledger: &Ledger, id: Option<&str>) -> Administered
-    ensures value { result ≡ spec.withdrawn_by (facts_of ledger.now) (option_copied id.entry) }
+    ensures value { result ≡ spec.withdrawn_by (held_facts ledger.now) (option_copied id.entry) }
     ensures sound { IsSoundAdministered result }
 {
     let Some(id) = id else {
@@ -167,7 +167,7 @@ fn withdraw_by(ledger: &Ledger, id: Option<&str>) -> Administered
 
 // Withdraws the consent that was given at the dot, if one was.
 fn withdraw_at(ledger: &Ledger, consent: Dot) -> Administered
-    ensures value { result ≡ spec.withdrawn_to (facts_of ledger.now) (Some consent) }
+    ensures value { result ≡ spec.withdrawn_to (held_facts ledger.now) (Some consent) }
     ensures sound { IsSoundAdministered result }
 {
     match ledger.consent(consent) {

@@ -6,7 +6,7 @@ ghost use Rattle.std.specs.Option.{option_copied};
 ghost use Rattle.std.specs.Str.{IsUtf8};
 ghost use Rattle.tk_match.specs.Redirects.{is_uri};
 ghost use Rattle.tk_params.specs.Params.{has_twice};
-ghost use Rattle.tk_store.specs.Store.{facts_of};
+ghost use Rattle.tk_store.specs.StoreFields.{held_facts};
 ghost use Rattle.tk_authorize.specs.Judged as spec;
 
 use crate::approval::{Approval, approve};
@@ -43,7 +43,7 @@ pub(crate) fn judge(
     params: &Params,
     subject: Option<&[u8]>,
 ) -> Result<Judged, AllocError>
-    ensures { IfOk result (λ judged. judged ≡ spec.judged_of (facts_of ledger.now) params.now
+    ensures { IfOk result (λ judged. judged ≡ spec.judged_of (held_facts ledger.now) params.now
         (option_copied subject.entry)) }
 {
     if has_duplicate(params) {
@@ -68,7 +68,7 @@ fn judge_by_id(
     subject: Option<&[u8]>,
     id: Option<&str>,
 ) -> Result<Judged, AllocError>
-    ensures { IfOk result (λ judged. judged ≡ spec.judged_by_id (facts_of ledger.now) params.now
+    ensures { IfOk result (λ judged. judged ≡ spec.judged_by_id (held_facts ledger.now) params.now
         (option_copied subject.entry) (option_copied id.entry)) }
 {
     let Some(id) = id else {
@@ -88,7 +88,7 @@ fn judge_client(
     subject: Option<&[u8]>,
     client: Dot,
 ) -> Result<Judged, AllocError>
-    ensures { IfOk result (λ judged. judged ≡ spec.judged_by_client (facts_of ledger.now) params.now
+    ensures { IfOk result (λ judged. judged ≡ spec.judged_by_client (held_facts ledger.now) params.now
         (option_copied subject.entry) (Some client)) }
 {
     let Some(view) = ledger.client(client) else {

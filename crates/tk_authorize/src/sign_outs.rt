@@ -2,7 +2,7 @@
 
 ghost use Rattle.std.specs.Prelude.{◌≡◌, IfOk};
 ghost use Rattle.std.specs.Option.{option_copied};
-ghost use Rattle.tk_store.specs.Store.{facts_of};
+ghost use Rattle.tk_store.specs.StoreFields.{held_facts};
 ghost use Rattle.tk_ledger.specs.SignOuts.{is_signed_out};
 ghost use Rattle.tk_params.specs.Params.{has_twice};
 ghost use Rattle.tk_authorize.specs.Administered as spec;
@@ -23,7 +23,7 @@ pub(crate) fn sign_out(
     now: Moment,
     params: &Params,
 ) -> Result<Administered, AllocError>
-    ensures value { IfOk result (λ a. a ≡ spec.signed_out_of (facts_of ledger.now) now params.now) }
+    ensures value { IfOk result (λ a. a ≡ spec.signed_out_of (held_facts ledger.now) now params.now) }
     ensures sound { IfOk result IsSoundAdministered }
 {
     if is_subject_twice(params) {
@@ -48,7 +48,7 @@ fn sign_out_by(
     subject: Option<&str>,
 ) -> Result<Administered, AllocError>
     ensures value { IfOk result (λ a.
-        a ≡ spec.signed_out_by (facts_of ledger.now) now (option_copied subject.entry)) }
+        a ≡ spec.signed_out_by (held_facts ledger.now) now (option_copied subject.entry)) }
     ensures sound { IfOk result IsSoundAdministered }
 {
     let Some(subject) = subject else {
@@ -65,7 +65,7 @@ fn sign_out_as(
     subject: &str,
 ) -> Result<Administered, AllocError>
     ensures value { IfOk result (λ a.
-        a ≡ spec.signed_out_as (facts_of ledger.now) now subject.now) }
+        a ≡ spec.signed_out_as (held_facts ledger.now) now subject.now) }
     ensures sound { IfOk result IsSoundAdministered }
 {
     match Subject::read(alloc, subject.as_bytes()) {
@@ -77,7 +77,7 @@ fn sign_out_as(
 
 // Signs a subject out, unless the subject is signed out at the moment or later.
 fn sign_out_at(ledger: &Ledger, now: Moment, subject: Subject) -> Administered
-    ensures value { result ≡ spec.signed_out_at (facts_of ledger.now) now subject }
+    ensures value { result ≡ spec.signed_out_at (held_facts ledger.now) now subject }
     ensures sound { IsSoundAdministered result }
 {
     if is_out(ledger, now, &subject) {
@@ -93,7 +93,7 @@ fn sign_out_at(ledger: &Ledger, now: Moment, subject: Subject) -> Administered
 
 // Returns whether the subject was signed out at the moment, or is signed out later.
 fn is_out(ledger: &Ledger, now: Moment, subject: &Subject) -> bool
-    ensures { result ≡ is_signed_out (facts_of ledger.now) subject.now now }
+    ensures { result ≡ is_signed_out (held_facts ledger.now) subject.now now }
 {
     match ledger.signed_out(subject) {
         Some(last) => now.seconds() <= last.seconds(),

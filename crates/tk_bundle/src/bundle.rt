@@ -64,6 +64,14 @@ impl Bundle {
     {
         self.facts.as_slice()
     }
+
+    /// Returns the facts as a vector, ascending by dot.
+    pub fn into_facts(self) -> Vec<Fact>
+        ensures { result.items ≡ self }
+    {
+        let Bundle { facts } = self;
+        facts
+    }
 }
 
 // Reads the magic, and the facts behind it.

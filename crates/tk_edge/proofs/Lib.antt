@@ -2,6 +2,5 @@ pub mod AnswerLaws
 pub mod BodyLaws
 pub mod BoundLaws
 pub mod HeadLaws
-pub mod PieceLaws
 pub mod RecordLaws
 pub mod StreamLaws

@@ -1,14 +1,13 @@
 -- A record that a device holds whole. Key result:
---   whole_front   the whole record is a front of itself, if a later call fails
-use Rattle.std.proofs.Common.{ℕ, List, length, Option, Result, Ok, Err, OnErr, sym, subst, arith}
+--   whole_kept   the whole record stays, or is a beginning of itself if a later call fails
+use Rattle.std.proofs.Common.{ℕ, List, [], Option, Result, Ok, Err, sym, append-nil}
 use Rattle.std.specs.Io.KnownBytes.{Appends, Keeps}
 use Rattle.std.proofs.KnownBytes.{Appends-kept}
-use Rattle.std.proofs.lemmas.List.{take_all}
-use Rattle.tk_edge.specs.Told.{AppendsFront}
+use Rattle.tk_put.specs.Put.{Prints}
 
--- the whole record is a front of itself, if a later call fails
-pub whole_front : {A E : Type 0} (result : Result A E) (old mid new : Option (List ℕ)) (bytes : List ℕ)
-    → Appends old mid bytes → Keeps mid new → OnErr result (AppendsFront old new bytes)
-whole_front (Ok a) old mid new bytes all kept = tt
-whole_front (Err e) old mid new bytes all kept =
-    (length bytes, omega arith, subst (Appends old new) (sym (take_all (length bytes) bytes (omega arith))) (Appends-kept old mid new bytes all kept))
+-- the whole record stays, or is a beginning of itself if a later call fails
+pub whole_kept : {A E : Type 0} (result : Result A E) (old mid new : Option (List ℕ)) (bytes : List ℕ)
+    → Appends old mid bytes → Keeps mid new → Prints result old new bytes
+whole_kept (Ok a) old mid new bytes all kept = Appends-kept old mid new bytes all kept
+whole_kept (Err e) old mid new bytes all kept =
+    record { front = bytes; rest = []; parts = sym (append-nil bytes); appended = Appends-kept old mid new bytes all kept }

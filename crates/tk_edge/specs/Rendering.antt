@@ -15,10 +15,9 @@ use Rattle.std.specs.Prelude.{
   codes,
   decimal,
   Option,
-  Some,
-  None,
 }
 use Rattle.std.specs.List.{concat}
+use Rattle.tk_put.specs.Put.{field_line}
 use Rattle.tk_message.specs.ReplyFields.{ReplyFields, Content, Nothing, JsonText, OtherBytes}
 use Rattle.tk_message.specs.Status.{status_number}
 use Rattle.tk_message.specs.declared.status.Status.{Status}
@@ -71,11 +70,6 @@ type_line (OtherBytes bytes) = where_any bytes (codes "Content-Type: application
 abbrev pub challenge_line : Bool → List ℕ
 challenge_line true = codes "WWW-Authenticate: Basic realm=\"tokend\"\r\n"
 challenge_line false = []
-
--- the line of a field, if the field has a value
-abbrev pub field_line : List ℕ → Option (List ℕ) → List ℕ
-field_line name None = []
-field_line name (Some value) = concat (name ∷ value ∷ codes "\r\n" ∷ [])
 
 -- the parts of a reply, joined in their order
 abbrev pub assembly : List ℕ → List ℕ → List ℕ → List ℕ → List ℕ → List ℕ → List ℕ → List ℕ → List ℕ

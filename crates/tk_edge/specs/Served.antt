@@ -7,13 +7,14 @@
 use Rattle.std.specs.Prelude.{◌≡◌, ◌≢◌, ℕ, ⊤, Bool, false, List, [], Option, Some, Result, Ok, Err}
 use Rattle.std.specs.declared.alloc.AllocError.{AllocError}
 use Rattle.std.specs.Io.KnownBytes.{Appends, Keeps}
+use Rattle.tk_put.specs.Put.{AppendsFront}
 use Rattle.tk_message.specs.declared.status.Status.{Status}
 use Rattle.tk_region.specs.RegionFields.{RegionFields}
 use Rattle.tk_edge.specs.Answers.{refused_by}
 use Rattle.tk_edge.specs.Arrivals.{Answers, IsShort}
 use Rattle.tk_edge.specs.Failures.{Rose}
 use Rattle.tk_edge.specs.Heard.{Arrives}
-use Rattle.tk_edge.specs.Told.{AnswerFields, AppendsFront, Change, IsTold, UsesLog}
+use Rattle.tk_edge.specs.Told.{AnswerFields, Change, IsTold, UsesLog}
 use Rattle.tk_edge.specs.declared.edge.Served.{Served}
 use Rattle.tk_edge.specs.declared.edge.Served.TheVariants.{Nothing, Done}
 use Rattle.tk_edge.specs.declared.hear.Arrival.{Arrival}

@@ -1,5 +1,4 @@
 -- What one connection writes to the log and to its client, in this order (own).
---   AppendsFront     a device gained a beginning of some bytes
 --   Change           what a device held before a call and after it
 --   AnswerFields     what contracts see of an answer
 --   IsTold           the record and then the reply were written
@@ -8,14 +7,11 @@
 use Rattle.std.specs.Prelude.{
   ◌≡◌,
   ℕ,
-  ◌≤◌,
   Bool,
   true,
   false,
   List,
   [],
-  length,
-  take,
   Option,
   Some,
   None,
@@ -25,14 +21,11 @@ use Rattle.std.specs.Prelude.{
   Err,
 }
 use Rattle.std.specs.Io.KnownBytes.{Appends, Keeps}
+use Rattle.tk_put.specs.Put.{AppendsFront}
 use Rattle.tk_message.specs.declared.status.Status.{Status}
 use Rattle.tk_edge.specs.Failures.{Rose}
 use Rattle.tk_edge.specs.declared.tell.Fault.{Fault}
 use Rattle.tk_edge.specs.declared.tell.Fault.TheVariants.{Read, Write, Log, Memory}
-
--- a device gained a beginning of the bytes, or all of them
-abbrev pub AppendsFront : Option (List ℕ) → Option (List ℕ) → List ℕ → Type 0
-AppendsFront old new bytes = (n : ℕ) × (n ≤ length bytes) × Appends old new (take n bytes)
 
 -- what a device held before a call and after it
 pub record Change : Type 0 where

@@ -69,7 +69,7 @@ use crate::device::{Sink, Source};
 use crate::given::Given;
 use crate::head::HEAD_LIMIT;
 use crate::hear::{Arrival, HearError, hear};
-use crate::put::put_all;
+use crate::put::put_whole;
 use crate::refusal::Refusal;
 use crate::tell::{Fault, tell};
 use std::alloc::{AllocError, Global};
@@ -297,7 +297,7 @@ fn turn_away<W: Sink>(alloc: Global, writer: &mut W) -> Result<Served, Fault>
     let Ok(away) = refuse(alloc, Refusal::Sealed) else {
         return Err(Fault::Memory);
     };
-    match put_all(writer, &away.bytes) {
+    match put_whole(writer, &away.bytes) {
         Ok(()) => Ok(Served::Done(away.status)),
         Err(_) => Err(Fault::Write),
     }

@@ -52,6 +52,3 @@ pub use path::Path;
 pub use put::Discard;
 pub use refusal::Refusal;
 pub use tell::Fault;
-
-#[cfg(test)]
-mod tests;

@@ -97,7 +97,7 @@ pub(crate) fn split_target(target: &[u8]) -> (&[u8], &[u8])
 }
 
 // Returns whether a text is this name, byte for byte.
-fn is(text: &[u8], name: &[u8]) -> bool
+fn is_named(text: &[u8], name: &[u8]) -> bool
     ensures { result ≡ bytes_eq text.now name.now }
 {
     text == name
@@ -107,31 +107,31 @@ fn is(text: &[u8], name: &[u8]) -> bool
 pub(crate) fn path_named(sync: bool, path: &[u8]) -> Option<Path>
     ensures { result ≡ spec.path_named sync path.now }
 {
-    if is(path, b"/authorize") {
+    if is_named(path, b"/authorize") {
         return Some(Path::Authorize);
     }
-    if is(path, b"/token") {
+    if is_named(path, b"/token") {
         return Some(Path::Token);
     }
-    if is(path, b"/introspect") {
+    if is_named(path, b"/introspect") {
         return Some(Path::Introspect);
     }
-    if is(path, b"/revoke") {
+    if is_named(path, b"/revoke") {
         return Some(Path::Revoke);
     }
-    if is(path, b"/admin/client") {
+    if is_named(path, b"/admin/client") {
         return Some(Path::Client);
     }
-    if is(path, b"/admin/retire") {
+    if is_named(path, b"/admin/retire") {
         return Some(Path::Retire);
     }
-    if is(path, b"/admin/consent") {
+    if is_named(path, b"/admin/consent") {
         return Some(Path::Consent);
     }
-    if is(path, b"/admin/withdraw") {
+    if is_named(path, b"/admin/withdraw") {
         return Some(Path::Withdraw);
     }
-    if is(path, b"/admin/signout") {
+    if is_named(path, b"/admin/signout") {
         return Some(Path::SignOut);
     }
     if sync { sync_named(path) } else { None }
@@ -141,13 +141,13 @@ pub(crate) fn path_named(sync: bool, path: &[u8]) -> Option<Path>
 fn sync_named(path: &[u8]) -> Option<Path>
     ensures { result ≡ spec.sync_named path.now }
 {
-    if is(path, b"/sync/vector") {
+    if is_named(path, b"/sync/vector") {
         return Some(Path::Vector);
     }
-    if is(path, b"/sync/pull") {
+    if is_named(path, b"/sync/pull") {
         return Some(Path::Pull);
     }
-    if is(path, b"/sync/push") {
+    if is_named(path, b"/sync/push") {
         return Some(Path::Push);
     }
     None
@@ -157,10 +157,10 @@ fn sync_named(path: &[u8]) -> Option<Path>
 pub(crate) fn method_named(name: &[u8]) -> Option<Method>
     ensures { result ≡ spec.method_named name.now }
 {
-    if is(name, b"GET") {
+    if is_named(name, b"GET") {
         return Some(Method::Get);
     }
-    if is(name, b"POST") {
+    if is_named(name, b"POST") {
         return Some(Method::Post);
     }
     None

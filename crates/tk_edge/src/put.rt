@@ -1,21 +1,21 @@
-//! Writes whole pieces into any sink (`put_all`), and has a sink that drops them (`Discard`).
+//! Writes whole pieces into any sink (`put_whole`), and has a sink that drops them (`Discard`).
 
-ghost use Rattle.std.specs.Prelude.{◌≡◌, ℕ, ◌≤◌, length, OnOk, OnErr};
-ghost use Rattle.std.specs.Io.KnownBytes.{Appends};
 ghost use Rattle.tk_edge.specs.Failures.{CountsFailure};
-ghost use Rattle.tk_edge.specs.Told.{AppendsFront};
+ghost use Rattle.tk_put.specs.Put.{Prints};
 
 use crate::device::{Failed, Sink};
 
 // Puts all of the bytes. If the sink fails, it has taken only their beginning.
-pub(crate) fn put_all<S: Sink>(sink: &mut S, bytes: &[u8]) -> Result<(), Failed>
-    ensures all { OnOk result (Appends (S.holds sink.old) (S.holds sink.new) bytes.now) }
-    ensures front { OnErr result (AppendsFront (S.holds sink.old) (S.holds sink.new) bytes.now) }
+pub(crate) fn put_whole<S: Sink>(sink: &mut S, bytes: &[u8]) -> Result<(), Failed>
+    ensures bytes { Prints result (S.holds sink.old) (S.holds sink.new) bytes.now }
     ensures failures { CountsFailure result (S.failed sink.old) (S.failed sink.new) }
 {
     let mut at = 0;
     'pieces: while at < bytes.len() {
-        at += sink.put(&bytes[at..])?;
+        match sink.put(&bytes[at..]) {
+            Ok(count) => at += count,
+            Err(failed) => return Err(failed),
+        }
     }
     Ok(())
 }

@@ -1,7 +1,6 @@
 //! Renders a reply as bytes: `render`.
 
-ghost use Rattle.std.specs.Prelude.{◌≡◌, map, IfOk};
-ghost use Rattle.std.specs.List.{concat};
+ghost use Rattle.std.specs.Prelude.{◌≡◌, IfOk};
 ghost use Rattle.std.specs.Option.{option_copied};
 ghost use Rattle.tk_message.specs.ReplyFields.{content_of};
 ghost use Rattle.tk_edge.specs.Rendering as spec;
@@ -9,6 +8,7 @@ ghost use Rattle.tk_edge.specs.Rendering as spec;
 use itoa::Buffer;
 use std::alloc::{AllocError, Global};
 use tk_message::{Payload, Reply, Status};
+use tk_put::{field_line, joined};
 
 // Renders the whole reply. `allowed` is the value of its `Allow`, if it has one.
 pub(crate) fn render(
@@ -100,22 +100,7 @@ fn challenge_line(www: bool) -> &'static [u8]
     }
 }
 
-// Returns the line of a field, or no bytes without a value. An absent field takes no memory.
-fn field_line(alloc: Global, name: &[u8], value: Option<&[u8]>) -> Result<Vec<u8>, AllocError>
-    ensures { IfOk result (λ line. line.items
-        ≡ spec.field_line name.now (option_copied value.entry)) }
-{
-    match value {
-        Some(value) => joined(
-            alloc,
-            value.len().saturating_add(32),
-            &[name, value, b"\r\n"],
-        ),
-        None => Ok(Vec::new(alloc)),
-    }
-}
-
-// Joins the parts of a reply.
+// Joins the parts of a reply, which live equally long.
 fn assembled<'a>(
     alloc: Global,
     number: &'a [u8],
@@ -131,13 +116,8 @@ fn assembled<'a>(
         ≡ spec.assembly number.now reason.now type_line.now len.now challenge.now location.now
         allow.now body.now) }
 {
-    let room = body
-        .len()
-        .saturating_add(location.len())
-        .saturating_add(256);
     joined(
         alloc,
-        room,
         &[
             b"HTTP/1.1 ",
             number,
@@ -155,15 +135,4 @@ fn assembled<'a>(
             body,
         ],
     )
-}
-
-// Joins the pieces in order. `room` is how many bytes the buffer has room for at first.
-fn joined(alloc: Global, room: usize, pieces: &[&[u8]]) -> Result<Vec<u8>, AllocError>
-    ensures { IfOk result (λ bytes. bytes.items ≡ concat (map (λ p. p.now) pieces.now)) }
-{
-    let mut bytes = Vec::with_capacity(alloc, room)?;
-    for piece in pieces {
-        bytes.extend_from_slice(piece)?;
-    }
-    Ok(bytes)
 }

@@ -1,13 +1,13 @@
 //! Writes the record of a fact, then the reply: `tell`, which may end with a `Fault`.
 
-ghost use Rattle.std.specs.Prelude.{◌≡◌, false, OnOk, OnErr};
-ghost use Rattle.std.specs.Io.KnownBytes.{Appends};
+ghost use Rattle.std.specs.Prelude.{◌≡◌, false};
+ghost use Rattle.tk_put.specs.Put.{Prints};
 ghost use Rattle.tk_edge.specs.Failures.{CountsFailure};
-ghost use Rattle.tk_edge.specs.Told.{AppendsFront, IsFaultOfDevice, IsTold, UsesLog};
+ghost use Rattle.tk_edge.specs.Told.{IsFaultOfDevice, IsTold, UsesLog};
 
 use crate::answer::Answer;
 use crate::device::{Failed, Sink};
-use crate::put::put_all;
+use crate::put::put_whole;
 use tk_message::Status;
 
 /// Why a connection wasn't served.
@@ -45,7 +45,7 @@ pub(crate) fn tell<W: Sink, L: Sink>(
             return Err(Fault::Log);
         }
     }
-    if put_all(writer, &answer.bytes).is_err() {
+    if put_whole(writer, &answer.bytes).is_err() {
         return Err(Fault::Write);
     }
     Ok(answer.status)
@@ -53,10 +53,9 @@ pub(crate) fn tell<W: Sink, L: Sink>(
 
 // Writes a record and flushes it.
 fn write_record<L: Sink>(log: &mut L, bytes: &[u8]) -> Result<(), Failed>
-    ensures all { OnOk result (Appends (L.holds log.old) (L.holds log.new) bytes.now) }
-    ensures front { OnErr result (AppendsFront (L.holds log.old) (L.holds log.new) bytes.now) }
+    ensures bytes { Prints result (L.holds log.old) (L.holds log.new) bytes.now }
     ensures failures { CountsFailure result (L.failed log.old) (L.failed log.new) }
 {
-    put_all(log, bytes)?;
+    put_whole(log, bytes)?;
     log.flush()
 }

@@ -8,10 +8,10 @@ use Rattle.tk_handle.specs.declared.handle.Handle.{Handle}
 use Rattle.tk_handle.specs.declared.token_id.TokenId.{TokenId}
 use Rattle.tk_handle.specs.Handle.{handle_in}
 use Rattle.tk_handle.specs.Kind.{kind_number}
-use Rattle.tk_store.specs.FactSet.{FactSet}
+use Rattle.tk_store.specs.StoreFields.{StoreFields}
 use Rattle.tk_ledger.specs.Bodies.{is_same_dot}
 use Rattle.tk_ledger.specs.StandingFields.{StandingFields}
-use Rattle.tk_ledger.specs.Status.{status_in}
+use Rattle.tk_ledger.specs.Status.{status_here}
 use Rattle.tk_ledger.specs.declared.status.State.{State}
 use Rattle.tk_ledger.specs.declared.status.State.TheVariants as state
 use Rattle.tk_ledger.specs.declared.status.Status.{Status}
@@ -54,18 +54,18 @@ gate_by_status id client (Broken expiry) = Shut UnknownGrant
 gate_by_status id client (Known standing) = gate_by_client id client standing
 
 -- the gate by the handle, which must be of the given kind (RFC 6749, 5.2)
-abbrev pub gate_by_handle : FactSet → ℕ → Dot → Kind → Handle → Gate
-gate_by_handle F now client kind h =
+abbrev pub gate_by_handle : StoreFields → ℕ → Dot → Kind → Handle → Gate
+gate_by_handle P now client kind h =
     if kind_number h.id.kind == kind_number kind
-    then gate_by_status (record { dot = h.id.dot; kind = kind }) client (status_in F now h)
+    then gate_by_status (record { dot = h.id.dot; kind = kind }) client (status_here P now h)
     else Shut UnknownGrant
 
 -- the gate by the handle that the text spells, if it spells one (RFC 6749, 5.2)
-abbrev pub gate_by_text : FactSet → ℕ → Dot → Kind → Option Handle → Gate
-gate_by_text F now client kind None = Shut UnknownGrant
-gate_by_text F now client kind (Some h) = gate_by_handle F now client kind h
+abbrev pub gate_by_text : StoreFields → ℕ → Dot → Kind → Option Handle → Gate
+gate_by_text P now client kind None = Shut UnknownGrant
+gate_by_text P now client kind (Some h) = gate_by_handle P now client kind h
 
 -- the gate by the text that was sent, which is required (RFC 6749, 4.1.3 and 6)
-abbrev pub gate_of : FactSet → ℕ → Dot → Kind → Option (List ℕ) → Gate
-gate_of F now client kind None = Shut MissingGrant
-gate_of F now client kind (Some text) = gate_by_text F now client kind (handle_in text)
+abbrev pub gate_of : StoreFields → ℕ → Dot → Kind → Option (List ℕ) → Gate
+gate_of P now client kind None = Shut MissingGrant
+gate_of P now client kind (Some text) = gate_by_text P now client kind (handle_in text)

@@ -11,7 +11,7 @@ use Rattle.tk_handle.specs.declared.handle.Handle.{Handle}
 use Rattle.tk_handle.specs.Moment.{moment_plus}
 use Rattle.tk_fact.specs.declared.body.Body.TheVariants.{CodeRedeemed, RefreshRotated, ReuseSeen}
 use Rattle.tk_fact.specs.declared.minted_token.MintedToken.{MintedToken}
-use Rattle.tk_store.specs.FactSet.{FactSet}
+use Rattle.tk_store.specs.StoreFields.{StoreFields}
 use Rattle.tk_ledger.specs.Status.{digest_of}
 use Rattle.tk_message.specs.declared.decision.Decision.{Decision}
 use Rattle.tk_message.specs.declared.error_code.ErrorCode.TheVariants.{InvalidGrant}
@@ -102,5 +102,5 @@ granted_by place now words (Rotates generation grant) = record {
 }
 
 -- the decision of a token request
-abbrev pub grant_of : FactSet → Place → ℕ → List ℕ → RequestFields → Decision
-grant_of F place now words request = granted_by place now words (judged_of F now request)
+abbrev pub grant_of : StoreFields → Place → ℕ → List ℕ → RequestFields → Decision
+grant_of P place now words request = granted_by place now words (judged_of P now request)

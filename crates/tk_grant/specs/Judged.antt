@@ -5,7 +5,7 @@ use Rattle.std.specs.Prelude.{ℕ, List, [], ◌∷◌, codes, Option, Some, Non
 use Rattle.std.specs.Str.{bytes_eq}
 use Rattle.tk_handle.specs.declared.dot.Dot.{Dot}
 use Rattle.tk_handle.specs.declared.kind.Kind.TheVariants as kind
-use Rattle.tk_store.specs.FactSet.{FactSet}
+use Rattle.tk_store.specs.StoreFields.{StoreFields, held_facts}
 use Rattle.tk_params.specs.Params.{Pairs, value_of}
 use Rattle.tk_message.specs.Caller.{caller_of}
 use Rattle.tk_message.specs.RequestFields.{RequestFields}
@@ -26,24 +26,24 @@ use Rattle.tk_grant.specs.Rotated.{rotated_of}
 
 -- the judgement by the grant type, which is required (RFC 6749, 4.1.3 and 6) and must be known (RFC
 -- 6749, 5.2)
-abbrev pub judged_by_type : FactSet → ℕ → Pairs → Dot → Option (List ℕ) → Judged
-judged_by_type F now params client None = Refused MissingGrantType
-judged_by_type F now params client (Some name) =
+abbrev pub judged_by_type : StoreFields → ℕ → Pairs → Dot → Option (List ℕ) → Judged
+judged_by_type P now params client None = Refused MissingGrantType
+judged_by_type P now params client (Some name) =
     if bytes_eq name (codes "authorization_code")
-    then redeemed_of params (gate_of F now client kind.Code (value_of (codes "code") params))
+    then redeemed_of params (gate_of P now client kind.Code (value_of (codes "code") params))
     else if bytes_eq name (codes "refresh_token")
-    then rotated_of params (gate_of F now client kind.Refresh
+    then rotated_of params (gate_of P now client kind.Refresh
     (value_of (codes "refresh_token") params))
     else Refused UnsupportedGrantType
 
 -- the judgement by the sender: no parameter that the endpoint knows may occur twice, no credentials
 -- in two places, and a client must be authenticated (RFC 6749, 2.3, 3.2 and 3.2.1)
-abbrev pub judged_by_caller : FactSet → ℕ → Pairs → Caller → Judged
-judged_by_caller F now params caller.DuplicateParameter = Refused DuplicateParameter
-judged_by_caller F now params caller.MixedCredentials = Refused MixedCredentials
-judged_by_caller F now params caller.InvalidClient = Refused InvalidClient
-judged_by_caller F now params (caller.Client client) =
-    judged_by_type F now params client (value_of (codes "grant_type") params)
+abbrev pub judged_by_caller : StoreFields → ℕ → Pairs → Caller → Judged
+judged_by_caller P now params caller.DuplicateParameter = Refused DuplicateParameter
+judged_by_caller P now params caller.MixedCredentials = Refused MixedCredentials
+judged_by_caller P now params caller.InvalidClient = Refused InvalidClient
+judged_by_caller P now params (caller.Client client) =
+    judged_by_type P now params client (value_of (codes "grant_type") params)
 
 -- the names of the parameters that the endpoint knows. Others are ignored (RFC 6749, 3.2)
 abbrev pub known_names : List (List ℕ)
@@ -53,5 +53,5 @@ known_names =
     ∷ codes "refresh_token" ∷ codes "scope" ∷ []
 
 -- the judgement of a token request
-abbrev pub judged_of : FactSet → ℕ → RequestFields → Judged
-judged_of F now request = judged_by_caller F now request.params (caller_of F known_names request)
+abbrev pub judged_of : StoreFields → ℕ → RequestFields → Judged
+judged_of P now request = judged_by_caller P now request.params (caller_of (held_facts P) known_names request)

@@ -3,7 +3,6 @@
 ghost use Rattle.std.specs.Prelude.{◌≡◌, true};
 ghost use Rattle.std.specs.Option.{option_copied};
 ghost use Rattle.tk_fact.specs.Check.{is_used_once};
-ghost use Rattle.tk_store.specs.Store.{facts_of};
 ghost use Rattle.tk_ledger.specs.Standings.{IsSound, IsSoundStanding};
 ghost use Rattle.tk_grant.specs.Gate as spec;
 ghost use Rattle.tk_grant.specs.SoundGate.{IsSoundGate};
@@ -33,7 +32,7 @@ pub(crate) fn find_gate<'a>(
     text: Option<&str>,
 ) -> Gate<'a>
     requires { is_used_once kind ≡ true }
-    ensures value { result ≡ spec.gate_of (facts_of ledger.now) now client kind
+    ensures value { result ≡ spec.gate_of ledger.now now client kind
         (option_copied text.entry) }
     ensures sound { IsSoundGate now result }
 {
@@ -52,7 +51,7 @@ fn gate_by_text<'a>(
     handle: Option<Handle>,
 ) -> Gate<'a>
     requires { is_used_once kind ≡ true }
-    ensures value { result ≡ spec.gate_by_text (facts_of ledger.now) now client kind handle }
+    ensures value { result ≡ spec.gate_by_text ledger.now now client kind handle }
     ensures sound { IsSoundGate now result }
 {
     match handle {
@@ -70,7 +69,7 @@ fn gate_by_handle<'a>(
     handle: &Handle,
 ) -> Gate<'a>
     requires { is_used_once kind ≡ true }
-    ensures value { result ≡ spec.gate_by_handle (facts_of ledger.now) now client kind handle.now }
+    ensures value { result ≡ spec.gate_by_handle ledger.now now client kind handle.now }
     ensures sound { IsSoundGate now result }
 {
     if handle.id.kind.number() != kind.number() {

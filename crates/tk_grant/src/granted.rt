@@ -1,7 +1,6 @@
 //! Decisions of token requests.
 
 ghost use Rattle.std.specs.Prelude.{◌≡◌, ◌<◌, ◌≤◌, IfOk};
-ghost use Rattle.tk_store.specs.Store.{facts_of};
 ghost use Rattle.tk_message.specs.Decision.{Passes};
 ghost use Rattle.tk_grant.specs.Granted as spec;
 ghost use Rattle.tk_grant.specs.SoundJudged.{IsSoundJudged};
@@ -28,7 +27,7 @@ pub fn decide_token(
     request: &Request,
 ) -> Result<Decision, AllocError>
     ensures value { IfOk result (λ d.
-        d ≡ spec.grant_of (facts_of ledger.now) place.now now words.now request.now) }
+        d ≡ spec.grant_of ledger.now place.now now words.now request.now) }
 
     // The fact that the request makes, if any, passes its check.
     ensures passes { IfOk result (λ d. Passes d.made) }

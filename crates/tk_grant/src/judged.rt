@@ -30,7 +30,7 @@ pub(crate) enum Judged {
 
 ghost use Rattle.std.specs.Prelude.{◌≡◌, IfOk};
 ghost use Rattle.std.specs.Option.{option_copied};
-ghost use Rattle.tk_store.specs.Store.{facts_of};
+ghost use Rattle.tk_store.specs.StoreFields.{held_facts};
 ghost use Rattle.tk_message.specs.Caller.{caller_of};
 ghost use Rattle.tk_grant.specs.Judged as spec;
 ghost use Rattle.tk_grant.specs.SoundJudged.{IsSoundJudged};
@@ -52,7 +52,7 @@ pub(crate) fn judge(
     request: &Request,
 ) -> Result<Judged, AllocError>
     ensures value { IfOk result (λ judged.
-        judged ≡ spec.judged_of (facts_of ledger.now) now request.now) }
+        judged ≡ spec.judged_of ledger.now now request.now) }
     ensures sound { IfOk result (IsSoundJudged now) }
 {
     let caller = caller_here(alloc, ledger, request)?;
@@ -61,7 +61,7 @@ pub(crate) fn judge(
 
 // Returns the sender of a token request.
 fn caller_here(alloc: Global, ledger: &Ledger, request: &Request) -> Result<Caller, AllocError>
-    ensures { IfOk result (λ caller. caller ≡ caller_of (facts_of ledger.now) spec.known_names
+    ensures { IfOk result (λ caller. caller ≡ caller_of (held_facts ledger.now) spec.known_names
         request.now) }
 {
     let names = [
@@ -85,7 +85,7 @@ fn judge_by_caller(
     params: &Params,
     caller: Caller,
 ) -> Result<Judged, AllocError>
-    ensures value { IfOk result (λ judged. judged ≡ spec.judged_by_caller (facts_of ledger.now) now
+    ensures value { IfOk result (λ judged. judged ≡ spec.judged_by_caller ledger.now now
         params.now caller) }
     ensures sound { IfOk result (IsSoundJudged now) }
 {
@@ -110,7 +110,7 @@ fn judge_by_type(
     grant_type: Option<&str>,
 ) -> Result<Judged, AllocError>
     ensures value { IfOk result (λ judged.
-        judged ≡ spec.judged_by_type (facts_of ledger.now) now params.now client
+        judged ≡ spec.judged_by_type ledger.now now params.now client
         (option_copied grant_type.entry)) }
     ensures sound { IfOk result (IsSoundJudged now) }
 {

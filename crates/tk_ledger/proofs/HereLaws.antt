@@ -1,5 +1,6 @@
 -- The status of a handle by what a store knows. Key results:
 --   here_held, here_skipped, here_unknown   the status by the slot at the handle's dot
+--   here_known, active_here                 a standing, and the status of an active token
 --   says_here, known_here, live_here, sound_here
 --                                           what the status means
 use Rattle.std.proofs.Common.{◌≡◌, ◌≢◌, ◌↔◌, ℕ, Bool, true, false, cond, Option, Some, None, refl, sym, ap, ◌∙◌}
@@ -15,6 +16,7 @@ use Rattle.tk_store.specs.Slots.{Slot, Held, Skipped, held_slot, is_skipped, is_
 use Rattle.tk_store.specs.StoreFields.{StoreFields, held_facts}
 use Rattle.tk_store.proofs.PutLaws.{none_is_not_some}
 use Rattle.tk_store.proofs.SlotLaws.{get_held, whole_free}
+use Rattle.tk_ledger.specs.StandingFields.{StandingFields}
 use Rattle.tk_ledger.specs.Standings.{IsSound}
 use Rattle.tk_ledger.specs.Status.{status_by, status_in, status_here, minted_as, IsMintedToken, IsKnownToken, IsKnown, IsLive, IsActive, Says, SaysHere}
 use Rattle.tk_ledger.specs.Tokens.{minted_in, root_in}
@@ -79,6 +81,14 @@ module _ (P : StoreFields) (now : ℕ) (h : Handle) where
   live_here no_code = by_test (λ x. IsLive x ↔ IsActive (map.get F) now h)
       (λ at. (λ live. absurd live, λ a. none_minted a.minted at a.mints))
       (λ _. live_exactly F now h no_code)
+
+  -- a standing is that by the facts that are held
+  pub here_known : (s : StandingFields) → status_here P now h ≡ Known s → status_in F now h ≡ Known s
+  here_known s = by_test (λ x. x ≡ Known s → status_in F now h ≡ Known s) (λ at e. absurd (cc)) (λ _ e. e)
+
+  -- the status of an active token is that by the facts that are held
+  pub active_here : IsActive (map.get F) now h → status_here P now h ≡ status_in F now h
+  active_here a = by_test (λ x. x ≡ status_in F now h) (λ at. absurd (none_minted a.minted at a.mints)) (λ _. refl)
 
   pub sound_here : IsFactSet F → IsSound now (status_here P now h)
   sound_here sound = by_test (IsSound now) (λ _. tt) (λ _. sound_status F now h sound)

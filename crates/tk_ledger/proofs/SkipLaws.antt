@@ -4,8 +4,8 @@
 --   skips_none, skips_more, skips_whole
 --                                a loop that skips the dots of a list
 --   may_still, never_refused     a dot that may go is never refused
---   prunes                       the store after a prune
-use Rattle.std.proofs.Common.{◌≡◌, ◌⊎◌, inl, inr, ℕ, ◌+◌, ◌-◌, ◌<◌, ◌≤◌, max, Bool, true, false, ◌||◌, cond, List, get_or, take, length, Option, Some, None, is_some, option_map, Result, Ok, Err, refl, sym, ap, subst, ◌∙◌, arith}
+--   all_may_go                   what may be skipped may go
+use Rattle.std.proofs.Common.{◌≡◌, ◌⊎◌, inl, inr, ℕ, ◌+◌, ◌-◌, ◌<◌, ◌≤◌, Bool, true, false, ◌||◌, cond, List, get_or, take, length, Option, Some, None, is_some, option_map, Result, Ok, Err, refl, sym, ap, subst, ◌∙◌, arith}
 use Rattle.std.proofs.lemmas.Bool.{true≢false, cases_Bool}
 use Rattle.std.proofs.lemmas.List.{take_all}
 use Rattle.std.proofs.lemmas.List.Folds.{list_any_more}
@@ -20,7 +20,7 @@ use Rattle.tk_fact.specs.declared.body.Body.TheVariants.{ClientAdded, ClientReti
 use Rattle.tk_handle.specs.declared.token_id.TokenId.{TokenId}
 use Rattle.tk_store.specs.Skipping.{Skips, MayGo, Lasts}
 use Rattle.tk_store.specs.Slots.{Slot, Slots, Held, Skipped, held_slot}
-use Rattle.tk_store.specs.StoreFields.{StoreFields, held_facts, with_skipped, with_horizon}
+use Rattle.tk_store.specs.StoreFields.{StoreFields, held_facts, with_skipped}
 use Rattle.tk_store.specs.declared.store.Added.{Added}
 use Rattle.tk_store.specs.declared.store.Added.TheVariants as added
 use Rattle.tk_store.specs.declared.store.AddError.{AddError}
@@ -30,7 +30,7 @@ use Rattle.tk_store.proofs.SlotLaws.{get_held, held_skip, remove_free}
 use Rattle.tk_ledger.specs.Changes.{change_in}
 use Rattle.tk_ledger.specs.Index.{IsIndexed}
 use Rattle.tk_ledger.specs.Losses.{passes, WasIndexed}
-use Rattle.tk_ledger.specs.Retention.{MaySkip, Prunes, SkipsAll, AllMayGo}
+use Rattle.tk_ledger.specs.Retention.{MaySkip, SkipsAll, AllMayGo}
 use Rattle.tk_ledger.specs.declared.change.Change.{Change}
 use Rattle.tk_ledger.specs.declared.index.Index.{Index}
 
@@ -178,21 +178,3 @@ pub all_may_go : (P : StoreFields) (horizon : ℕ) (at : Dot → Bool) → ((d :
 all_may_go P horizon at over d h =
     let s = over d h in
     may_go (map.get P.slots d) s.fact (sym (get_held P.slots d) ∙ s.here) (passing_kept d s.fact s.token s.kept)
-
--- exactly what may be skipped was skipped
-pub prunes : (P Q R : StoreFields) (moment horizon n : ℕ) (at : Dot → Bool) → horizon ≡ max P.horizon moment
-    → ((d : Dot) → at d ≡ true → MaySkip (map.get (held_facts P)) horizon d)
-    → ((d : Dot) → MaySkip (map.get (held_facts P)) horizon d → at d ≡ true)
-    → SkipsAll P at Q → R ≡ with_horizon Q moment → map.len (held_facts P) - map.len (held_facts Q) ≡ n → Prunes P moment n R
-prunes P Q R moment horizon n at is over all s raised count =
-    let up : R.horizon ≡ horizon = ap (λ (S : StoreFields). S.horizon) raised ∙ ap (λ h. max h moment) s.horizon ∙ sym is in
-    let same : (d : Dot) → map.get R.slots d ≡ map.get Q.slots d = λ d. ap (λ (S : StoreFields). map.get S.slots d) raised in
-    record {
-      raised = up ∙ is;
-      skips = λ d may. same d ∙ s.here d (all d (subst (λ h. MaySkip (map.get (held_facts P)) h d) up may));
-      keeps = λ d. elim (cases_Bool (at d)) [
-        | inl gone ↦ inr (subst (λ h. MaySkip (map.get (held_facts P)) h d) (sym up) (over d gone))
-        | inr kept ↦ inl (same d ∙ s.there d kept)
-      ];
-      count = (let fewer = s.fewer in let held : map.len (held_facts R) ≡ map.len (held_facts Q) = ap (λ (S : StoreFields). map.len (held_facts S)) raised in omega (arith, fewer, count, held));
-    }

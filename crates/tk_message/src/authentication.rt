@@ -14,7 +14,7 @@ pub enum Auth {
 ghost use Rattle.std.specs.Prelude.{◌≡◌, Some};
 ghost use Rattle.std.specs.Option.{option_copied, option_and_then};
 ghost use Rattle.tk_handle.specs.ClientId.{client_in};
-ghost use Rattle.tk_store.specs.Store.{facts_of};
+ghost use Rattle.tk_store.specs.StoreFields.{held_facts};
 ghost use Rattle.tk_message.specs.Authentication as spec;
 
 use sha2::{Digest, Sha256};
@@ -28,7 +28,7 @@ use tk_params::Credentials;
 /// A public client proves itself by its id, without a secret. Another client proves itself by its
 /// secret, which is compared by SHA-256. No memory is allocated.
 pub fn authenticate(ledger: &Ledger, credentials: &Credentials<'_>) -> Auth
-    ensures { result ≡ spec.authenticated (facts_of ledger.now) credentials.now }
+    ensures { result ≡ spec.authenticated (held_facts ledger.now) credentials.now }
 {
     match client_named(credentials.id()) {
         Some(at) => authenticate_at(ledger, at, credentials.secret()),
@@ -48,7 +48,7 @@ fn client_named(id: Option<&str>) -> Option<Dot>
 
 // Returns the client that was added at the dot, if it is live and the secret is its own.
 fn authenticate_at(ledger: &Ledger, at: Dot, secret: Option<&str>) -> Auth
-    ensures { result ≡ spec.authenticated_at (facts_of ledger.now) (option_copied secret.entry)
+    ensures { result ≡ spec.authenticated_at (held_facts ledger.now) (option_copied secret.entry)
         (Some at) }
 {
     match ledger.client(at) {

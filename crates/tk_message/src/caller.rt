@@ -17,7 +17,7 @@ pub enum Caller {
 }
 
 ghost use Rattle.std.specs.Prelude.{◌≡◌, IfOk, map};
-ghost use Rattle.tk_store.specs.Store.{facts_of};
+ghost use Rattle.tk_store.specs.StoreFields.{held_facts};
 ghost use Rattle.tk_message.specs.Caller as spec;
 
 use crate::authentication::{Auth, authenticate};
@@ -36,7 +36,7 @@ pub fn find_caller(
     request: &Request,
 ) -> Result<Caller, AllocError>
     ensures { IfOk result (λ caller.
-        caller ≡ spec.caller_of (facts_of ledger.now) (map (λ name. name.now) names.now)
+        caller ≡ spec.caller_of (held_facts ledger.now) (map (λ name. name.now) names.now)
         request.now) }
 {
     if request.params.has_twice(names) {

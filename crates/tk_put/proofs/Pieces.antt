@@ -49,7 +49,7 @@ pieces_at (q ∷ ps) (suc i) d lt =
     ap (λ (t : List ℕ). q.now ++ t) (pieces_at ps i d (omega arith))
     ∙ sym (append_assoc q.now (joined_text (take i ps)) ((get_or ps i d).now ++ joined_text (drop (suc i) ps)))
 
-pieces_to : (ps : List (Bor (List ℕ))) (i : ℕ) (d : Bor (List ℕ)) → i < length ps → joined_text (take i ps) ++ (get_or ps i d).now ≡ joined_text (take (suc i) ps)
+pub pieces_to : (ps : List (Bor (List ℕ))) (i : ℕ) (d : Bor (List ℕ)) → i < length ps → joined_text (take i ps) ++ (get_or ps i d).now ≡ joined_text (take (suc i) ps)
 pieces_to [] i d lt = absurd (omega arith)
 pieces_to (q ∷ ps) zero d lt = sym (append-nil q.now)
 pieces_to (q ∷ ps) (suc i) d lt = append_assoc q.now (joined_text (take i ps)) (get_or ps i d).now ∙ ap (λ (t : List ℕ). q.now ++ t) (pieces_to ps i d (omega arith))

@@ -12,7 +12,7 @@ use Rattle.tk_family.proofs.FamilyLaws.{IsUnder-one}
 use Rattle.tk_fact.specs.declared.sort.Sort.{Sort}
 use Rattle.tk_fact.specs.declared.code_issued.CodeIssued as issued
 use Rattle.tk_fact.specs.Tokens.{MintedFields}
-use Rattle.tk_store.specs.FactSet.{FactSet}
+use Rattle.tk_store.specs.StoreFields.{StoreFields, held_facts}
 use Rattle.tk_store.proofs.PutLaws.{some_injective}
 use Rattle.tk_ledger.specs.declared.status.State.{State}
 use Rattle.tk_ledger.specs.declared.status.State.TheVariants as state
@@ -20,7 +20,8 @@ use Rattle.tk_ledger.specs.declared.status.Status.{Status}
 use Rattle.tk_ledger.specs.declared.status.Status.TheVariants.{Unseen, Wrong, Broken, Known}
 use Rattle.tk_ledger.specs.StandingFields.{StandingFields}
 use Rattle.tk_ledger.specs.Tokens.{links_in, issued_at}
-use Rattle.tk_ledger.specs.Status.{status_in, IsActive}
+use Rattle.tk_ledger.specs.Status.{status_here, status_in, IsActive}
+use Rattle.tk_ledger.proofs.HereLaws.{here_known, active_here}
 use Rattle.tk_ledger.proofs.StatusCases.{Knows, known_parts}
 use Rattle.tk_ledger.proofs.StatusLaws.{live_is_active, active_is_live}
 use Rattle.tk_message.specs.Reply.{inactive_reply}
@@ -46,13 +47,13 @@ second_fails true c x y h = ap (λ t. cond (not t) x y) h
 second_fails false c x y h = refl
 
 -- the outcome for a token that is not active
-quiet : (F : FactSet) (now : ℕ) (sort : Sort) (asker : Dot) (h : Handle) (k : Kind) (x : Status) → status_in F now h ≡ x → h.id.kind ≢ kind.Code → ¬ IsActive (map.get F) now h → introspected_by_status sort asker k x ≡ Inactive
-quiet F now sort asker h k Unseen e nc n = refl
-quiet F now sort asker h k Wrong e nc n = refl
-quiet F now sort asker h k (Broken t) e nc n = refl
-quiet F now sort asker h k (Known s) e nc n =
+quiet : (P : StoreFields) (now : ℕ) (sort : Sort) (asker : Dot) (h : Handle) (k : Kind) (x : Status) → status_here P now h ≡ x → h.id.kind ≢ kind.Code → ¬ IsActive (map.get (held_facts P)) now h → introspected_by_status sort asker k x ≡ Inactive
+quiet P now sort asker h k Unseen e nc n = refl
+quiet P now sort asker h k Wrong e nc n = refl
+quiet P now sort asker h k (Broken t) e nc n = refl
+quiet P now sort asker h k (Known s) e nc n =
     second_fails (sees sort asker s.client) (is_live s.state) Inactive (active k s)
-    (false_from_ne_true (is_live s.state) (λ l. n (live_is_active F now h s nc e (live_state s.state l))))
+    (false_from_ne_true (is_live s.state) (λ l. n (live_is_active (held_facts P) now h s nc (here_known P now h s e) (live_state s.state l))))
 
 no_code : (k : Kind) → k ≡ kind.Access → k ≢ kind.Code
 no_code k a c = let e : kind.Access ≡ kind.Code = sym a ∙ c in cc
@@ -60,19 +61,19 @@ no_code k a c = let e : kind.Access ≡ kind.Code = sym a ∙ c in cc
 no_code_either : (k : Kind) → k ≡ kind.Refresh → k ≢ kind.Code
 no_code_either k a c = let e : kind.Refresh ≡ kind.Code = sym a ∙ c in cc
 
-quiet_by_kind : (F : FactSet) (now : ℕ) (sort : Sort) (asker : Dot) (h : Handle) (k : Kind) → h.id.kind ≡ k → ¬ IsActive (map.get F) now h → introspected_by_kind F now sort asker h k ≡ Inactive
-quiet_by_kind F now sort asker h kind.Code e n = refl
-quiet_by_kind F now sort asker h kind.Access e n = quiet F now sort asker h kind.Access (status_in F now h) refl (no_code h.id.kind e) n
-quiet_by_kind F now sort asker h kind.Refresh e n = quiet F now sort asker h kind.Refresh (status_in F now h) refl (no_code_either h.id.kind e) n
+quiet_by_kind : (P : StoreFields) (now : ℕ) (sort : Sort) (asker : Dot) (h : Handle) (k : Kind) → h.id.kind ≡ k → ¬ IsActive (map.get (held_facts P)) now h → introspected_by_kind P now sort asker h k ≡ Inactive
+quiet_by_kind P now sort asker h kind.Code e n = refl
+quiet_by_kind P now sort asker h kind.Access e n = quiet P now sort asker h kind.Access (status_here P now h) refl (no_code h.id.kind e) n
+quiet_by_kind P now sort asker h kind.Refresh e n = quiet P now sort asker h kind.Refresh (status_here P now h) refl (no_code_either h.id.kind e) n
 
-pub says_nothing : (F : FactSet) (now : ℕ) (sort : Sort) (asker : Dot) (h : Handle) → ¬ IsActive (map.get F) now h → told_to F now sort asker h ≡ inactive_reply
-says_nothing F now sort asker h n = ap told (quiet_by_kind F now sort asker h h.id.kind refl n)
+pub says_nothing : (P : StoreFields) (now : ℕ) (sort : Sort) (asker : Dot) (h : Handle) → ¬ IsActive (map.get (held_facts P)) now h → told_to P now sort asker h ≡ inactive_reply
+says_nothing P now sort asker h n = ap told (quiet_by_kind P now sort asker h h.id.kind refl n)
 
 -- ---- the reply for an active token
 
 -- the fields of a standing that the reply for an active token has
-pub record Tells (F : FactSet) (now : ℕ) (h : Handle) (a : IsActive (map.get F) now h) (s : StandingFields) : Type 0 where
-  pub is : status_in F now h ≡ Known s
+pub record Tells (P : StoreFields) (now : ℕ) (h : Handle) (a : IsActive (map.get (held_facts P)) now h) (s : StandingFields) : Type 0 where
+  pub is : status_here P now h ≡ Known s
   pub live : s.state ≡ state.Live
   pub client : s.client ≡ a.issued.client
   pub expiry : s.expiry ≡ a.minted.expiry
@@ -81,16 +82,16 @@ pub record Tells (F : FactSet) (now : ℕ) (h : Handle) (a : IsActive (map.get F
   pub subject : s.subject ≡ a.issued.subject
 
 -- an active token has a standing with the fields that the reply has
-tells : (F : FactSet) (now : ℕ) (h : Handle) (a : IsActive (map.get F) now h) → (s : StandingFields) × Tells F now h a s
-tells F now h a =
-    let y : (s : StandingFields) × (status_in F now h ≡ Known s) × (s.state ≡ state.Live) = active_is_live F now h a in
-    let x : Knows F now h y.0 = known_parts F now h y.0 y.1 in
+tells : (P : StoreFields) (now : ℕ) (h : Handle) (a : IsActive (map.get (held_facts P)) now h) → (s : StandingFields) × Tells P now h a s
+tells P now h a =
+    let y : (s : StandingFields) × (status_in (held_facts P) now h ≡ Known s) × (s.state ≡ state.Live) = active_is_live (held_facts P) now h a in
+    let x : Knows (held_facts P) now h y.0 = known_parts (held_facts P) now h y.0 y.1 in
     let m : x.minted ≡ a.minted = some_injective x.minted a.minted (sym x.mints ∙ a.mints) in
-    let c : x.root.code ≡ a.code = IsUnder-one (links_in (map.get F)) h.id.dot x.root.code a.code x.under a.under in
-    let i : x.root.issued ≡ a.issued = some_injective x.root.issued a.issued (sym x.issues ∙ ap (issued_at (map.get F)) c ∙ a.issues) in (
+    let c : x.root.code ≡ a.code = IsUnder-one (links_in (map.get (held_facts P))) h.id.dot x.root.code a.code x.under a.under in
+    let i : x.root.issued ≡ a.issued = some_injective x.root.issued a.issued (sym x.issues ∙ ap (issued_at (map.get (held_facts P))) c ∙ a.issues) in (
       y.0,
       record {
-        is = y.1;
+        is = active_here P now h a ∙ y.1;
         live = y.2;
         client = sym (ap (λ (z : StandingFields). z.client) x.standing) ∙ ap (λ (z : issued.CodeIssued). z.client) i;
         expiry = sym (ap (λ (z : StandingFields). z.expiry) x.standing) ∙ ap (λ (z : MintedFields). z.expiry) m;
@@ -104,8 +105,8 @@ both_hold : (a b : Bool) (x y : Introspected) → a ≡ true → b ≡ true → 
 both_hold a b x y h i = rw (h, i) refl
 
 -- the outcome for an active token by its standing
-loud_as : (F : FactSet) (now : ℕ) (sort : Sort) (asker : Dot) (h : Handle) (a : IsActive (map.get F) now h) (s : StandingFields) → Tells F now h a s → sees sort asker a.issued.client ≡ true → (k : Kind) → introspected_by_status sort asker k (status_in F now h) ≡ active k s
-loud_as F now sort asker h a s t seen k =
+loud_as : (P : StoreFields) (now : ℕ) (sort : Sort) (asker : Dot) (h : Handle) (a : IsActive (map.get (held_facts P)) now h) (s : StandingFields) → Tells P now h a s → sees sort asker a.issued.client ≡ true → (k : Kind) → introspected_by_status sort asker k (status_here P now h) ≡ active k s
+loud_as P now sort asker h a s t seen k =
     ap (introspected_by_status sort asker k) t.is
     ∙ both_hold (sees sort asker s.client) (is_live s.state) Inactive (active k s) (ap (sees sort asker) t.client ∙ seen) (ap is_live t.live)
 
@@ -115,18 +116,18 @@ told_fields kind.Code s = refl
 told_fields kind.Access s = refl
 told_fields kind.Refresh s = refl
 
-same_fields : (F : FactSet) (now : ℕ) (h : Handle) (a : IsActive (map.get F) now h) (s : StandingFields) → Tells F now h a s → (k : Kind) → told_by_kind k s.client s.expiry s.start s.scope s.subject ≡ told_by_kind k a.issued.client a.minted.expiry a.minted.start a.minted.scope a.issued.subject
-same_fields F now h a s t k = rw (t.client, t.expiry, t.start, t.scope, t.subject) refl
+same_fields : (P : StoreFields) (now : ℕ) (h : Handle) (a : IsActive (map.get (held_facts P)) now h) (s : StandingFields) → Tells P now h a s → (k : Kind) → told_by_kind k s.client s.expiry s.start s.scope s.subject ≡ told_by_kind k a.issued.client a.minted.expiry a.minted.start a.minted.scope a.issued.subject
+same_fields P now h a s t k = rw (t.client, t.expiry, t.start, t.scope, t.subject) refl
 
 -- the outcome for an active token by its kind
-loud_by_kind : (F : FactSet) (now : ℕ) (sort : Sort) (asker : Dot) (h : Handle) (a : IsActive (map.get F) now h) (s : StandingFields) → Tells F now h a s → sees sort asker a.issued.client ≡ true → (k : Kind) → h.id.kind ≡ k → introspected_by_kind F now sort asker h k ≡ active k s
-loud_by_kind F now sort asker h a s t seen kind.Code e = absurd (a.no_code e)
-loud_by_kind F now sort asker h a s t seen kind.Access e = loud_as F now sort asker h a s t seen kind.Access
-loud_by_kind F now sort asker h a s t seen kind.Refresh e = loud_as F now sort asker h a s t seen kind.Refresh
+loud_by_kind : (P : StoreFields) (now : ℕ) (sort : Sort) (asker : Dot) (h : Handle) (a : IsActive (map.get (held_facts P)) now h) (s : StandingFields) → Tells P now h a s → sees sort asker a.issued.client ≡ true → (k : Kind) → h.id.kind ≡ k → introspected_by_kind P now sort asker h k ≡ active k s
+loud_by_kind P now sort asker h a s t seen kind.Code e = absurd (a.no_code e)
+loud_by_kind P now sort asker h a s t seen kind.Access e = loud_as P now sort asker h a s t seen kind.Access
+loud_by_kind P now sort asker h a s t seen kind.Refresh e = loud_as P now sort asker h a s t seen kind.Refresh
 
-pub says_active : (F : FactSet) (now : ℕ) (sort : Sort) (asker : Dot) (h : Handle) (a : IsActive (map.get F) now h) → sees sort asker a.issued.client ≡ true → told_to F now sort asker h ≡ told_by_kind h.id.kind a.issued.client a.minted.expiry a.minted.start a.minted.scope a.issued.subject
-says_active F now sort asker h a seen =
-    let x : (s : StandingFields) × Tells F now h a s = tells F now h a in
-    ap told (loud_by_kind F now sort asker h a x.0 x.1 seen h.id.kind refl)
+pub says_active : (P : StoreFields) (now : ℕ) (sort : Sort) (asker : Dot) (h : Handle) (a : IsActive (map.get (held_facts P)) now h) → sees sort asker a.issued.client ≡ true → told_to P now sort asker h ≡ told_by_kind h.id.kind a.issued.client a.minted.expiry a.minted.start a.minted.scope a.issued.subject
+says_active P now sort asker h a seen =
+    let x : (s : StandingFields) × Tells P now h a s = tells P now h a in
+    ap told (loud_by_kind P now sort asker h a x.0 x.1 seen h.id.kind refl)
     ∙ told_fields h.id.kind x.0
-    ∙ same_fields F now h a x.0 x.1 h.id.kind
+    ∙ same_fields P now h a x.0 x.1 h.id.kind

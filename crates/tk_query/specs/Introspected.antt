@@ -24,11 +24,11 @@ use Rattle.tk_handle.specs.declared.handle.Handle.{Handle}
 use Rattle.tk_handle.specs.Handle.{handle_in}
 use Rattle.tk_fact.specs.declared.sort.Sort.{Sort}
 use Rattle.tk_fact.specs.declared.sort.Sort.TheVariants.{Public, Confidential, Resource}
-use Rattle.tk_store.specs.FactSet.{FactSet}
+use Rattle.tk_store.specs.StoreFields.{StoreFields, held_facts}
 use Rattle.tk_ledger.specs.Bodies.{is_same_dot}
 use Rattle.tk_ledger.specs.Views.{client_view}
 use Rattle.tk_ledger.specs.ViewFields.{ClientFields}
-use Rattle.tk_ledger.specs.Status.{status_in}
+use Rattle.tk_ledger.specs.Status.{status_here}
 use Rattle.tk_ledger.specs.StandingFields.{StandingFields}
 use Rattle.tk_ledger.specs.declared.status.State.{State}
 use Rattle.tk_ledger.specs.declared.status.State.TheVariants as state
@@ -83,44 +83,44 @@ introspected_by_status sort asker k (Broken expiry) = Inactive
 introspected_by_status sort asker k (Known s) = introspected_by_standing sort asker k s
 
 -- the outcome by the kind of the handle: a code is inactive
-abbrev pub introspected_by_kind : FactSet → ℕ → Sort → Dot → Handle → Kind → Introspected
-introspected_by_kind F now sort asker h kind.Code = Inactive
-introspected_by_kind F now sort asker h kind.Access =
-    introspected_by_status sort asker kind.Access (status_in F now h)
-introspected_by_kind F now sort asker h kind.Refresh =
-    introspected_by_status sort asker kind.Refresh (status_in F now h)
+abbrev pub introspected_by_kind : StoreFields → ℕ → Sort → Dot → Handle → Kind → Introspected
+introspected_by_kind P now sort asker h kind.Code = Inactive
+introspected_by_kind P now sort asker h kind.Access =
+    introspected_by_status sort asker kind.Access (status_here P now h)
+introspected_by_kind P now sort asker h kind.Refresh =
+    introspected_by_status sort asker kind.Refresh (status_here P now h)
 
 -- the outcome by the handle: a text that is no handle is inactive (RFC 7662, 2.2)
-abbrev pub introspected_by_handle : FactSet → ℕ → Sort → Dot → Option Handle → Introspected
-introspected_by_handle F now sort asker None = Inactive
-introspected_by_handle F now sort asker (Some h) = introspected_by_kind F now sort asker h h.id.kind
+abbrev pub introspected_by_handle : StoreFields → ℕ → Sort → Dot → Option Handle → Introspected
+introspected_by_handle P now sort asker None = Inactive
+introspected_by_handle P now sort asker (Some h) = introspected_by_kind P now sort asker h h.id.kind
 
 -- the outcome by the token's text, which is required (RFC 7662, 2.1)
-abbrev pub introspected_by_text : FactSet → ℕ → Sort → Dot → Option (List ℕ) → Introspected
-introspected_by_text F now sort asker None = Refused refusal.MissingToken
-introspected_by_text F now sort asker (Some text) =
-    introspected_by_handle F now sort asker (handle_in text)
+abbrev pub introspected_by_text : StoreFields → ℕ → Sort → Dot → Option (List ℕ) → Introspected
+introspected_by_text P now sort asker None = Refused refusal.MissingToken
+introspected_by_text P now sort asker (Some text) =
+    introspected_by_handle P now sort asker (handle_in text)
 
 -- the outcome for a client by its kind: a public client has proved nothing and is refused (RFC
 -- 7662, 2.1)
-abbrev pub introspected_as : FactSet → ℕ → Pairs → Dot → Sort → Introspected
-introspected_as F now params asker Public = Refused refusal.PublicClient
-introspected_as F now params asker (Confidential digest) =
-    introspected_by_text F now (Confidential digest) asker (value_of (codes "token") params)
-introspected_as F now params asker (Resource digest) =
-    introspected_by_text F now (Resource digest) asker (value_of (codes "token") params)
+abbrev pub introspected_as : StoreFields → ℕ → Pairs → Dot → Sort → Introspected
+introspected_as P now params asker Public = Refused refusal.PublicClient
+introspected_as P now params asker (Confidential digest) =
+    introspected_by_text P now (Confidential digest) asker (value_of (codes "token") params)
+introspected_as P now params asker (Resource digest) =
+    introspected_by_text P now (Resource digest) asker (value_of (codes "token") params)
 
 -- the outcome for an authenticated client. Such a client was added: `None` never happens
-abbrev pub introspected_by_client : FactSet → ℕ → Pairs → Dot → Option ClientFields → Introspected
-introspected_by_client F now params asker None = Refused refusal.InvalidClient
-introspected_by_client F now params asker (Some client) =
-    introspected_as F now params asker client.sort
+abbrev pub introspected_by_client : StoreFields → ℕ → Pairs → Dot → Option ClientFields → Introspected
+introspected_by_client P now params asker None = Refused refusal.InvalidClient
+introspected_by_client P now params asker (Some client) =
+    introspected_as P now params asker client.sort
 
 -- the outcome for the sender: no parameter that the endpoint knows may occur twice, no credentials
 -- in two places, and a client must be authenticated (RFC 6749, 2.3 and 3.2; RFC 7662, 2.3)
-abbrev pub introspected_by_caller : FactSet → ℕ → Pairs → Caller → Introspected
-introspected_by_caller F now params caller.DuplicateParameter = Refused refusal.DuplicateParameter
-introspected_by_caller F now params caller.MixedCredentials = Refused refusal.MixedCredentials
-introspected_by_caller F now params caller.InvalidClient = Refused refusal.InvalidClient
-introspected_by_caller F now params (caller.Client asker) =
-    introspected_by_client F now params asker (client_view F asker)
+abbrev pub introspected_by_caller : StoreFields → ℕ → Pairs → Caller → Introspected
+introspected_by_caller P now params caller.DuplicateParameter = Refused refusal.DuplicateParameter
+introspected_by_caller P now params caller.MixedCredentials = Refused refusal.MixedCredentials
+introspected_by_caller P now params caller.InvalidClient = Refused refusal.InvalidClient
+introspected_by_caller P now params (caller.Client asker) =
+    introspected_by_client P now params asker (client_view (held_facts P) asker)

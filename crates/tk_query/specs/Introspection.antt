@@ -3,7 +3,7 @@
 --   told               the reply by the outcome of introspection
 --   introspection_of   the reply to a request
 use Rattle.std.specs.Prelude.{ℕ}
-use Rattle.tk_store.specs.FactSet.{FactSet}
+use Rattle.tk_store.specs.StoreFields.{StoreFields, held_facts}
 use Rattle.tk_message.specs.declared.status.Status.TheVariants.{Ok}
 use Rattle.tk_message.specs.Bodies.{access_body, refresh_body, standing_body}
 use Rattle.tk_message.specs.Caller.{caller_of}
@@ -30,6 +30,6 @@ told (Access s) = json_reply Ok (standing_body access_body s)
 told (Refresh s) = json_reply Ok (standing_body refresh_body s)
 
 -- the reply to an introspection request
-abbrev pub introspection_of : FactSet → ℕ → RequestFields → ReplyFields
-introspection_of F now request =
-    told (introspected_by_caller F now request.params (caller_of F known_names request))
+abbrev pub introspection_of : StoreFields → ℕ → RequestFields → ReplyFields
+introspection_of P now request =
+    told (introspected_by_caller P now request.params (caller_of (held_facts P) known_names request))

@@ -2,7 +2,7 @@
 --   revocation_of   the decision of a request
 use Rattle.std.specs.Prelude.{ℕ, Some}
 use Rattle.tk_fact.specs.declared.body.Body.TheVariants.{TokenRevoked}
-use Rattle.tk_store.specs.FactSet.{FactSet}
+use Rattle.tk_store.specs.StoreFields.{StoreFields, held_facts}
 use Rattle.tk_message.specs.declared.decision.Decision.{Decision}
 use Rattle.tk_message.specs.declared.place.Place.{Place}
 use Rattle.tk_message.specs.declared.status.Status.TheVariants.{Ok}
@@ -24,7 +24,7 @@ revoked_by (Done why) = answered (empty_reply Ok)
 revoked_by (Revokes fact) = record { reply = empty_reply Ok; made = Some (TokenRevoked fact) }
 
 -- the decision of a revocation request. Of the place, only the region's number counts
-abbrev pub revocation_of : FactSet → Place → ℕ → RequestFields → Decision
-revocation_of F place now request =
-    revoked_by (revoked_by_caller F place.number now request.params
-    (caller_of F known_names request))
+abbrev pub revocation_of : StoreFields → Place → ℕ → RequestFields → Decision
+revocation_of P place now request =
+    revoked_by (revoked_by_caller P place.number now request.params
+    (caller_of (held_facts P) known_names request))

@@ -10,8 +10,9 @@ use Rattle.tk_handle.specs.declared.handle.Handle.{Handle}
 use Rattle.tk_handle.specs.Handle.{handle_in}
 use Rattle.tk_fact.specs.declared.token_revoked.TokenRevoked.{TokenRevoked}
 use Rattle.tk_store.specs.FactSet.{FactSet}
+use Rattle.tk_store.specs.StoreFields.{StoreFields, held_facts}
 use Rattle.tk_ledger.specs.Bodies.{is_same_dot}
-use Rattle.tk_ledger.specs.Status.{status_in, digest_of}
+use Rattle.tk_ledger.specs.Status.{status_here, digest_of}
 use Rattle.tk_ledger.specs.Tokens.{is_revoked}
 use Rattle.tk_ledger.specs.declared.status.State.{State}
 use Rattle.tk_ledger.specs.declared.status.State.TheVariants as state
@@ -69,31 +70,31 @@ abbrev pub is_own : ℕ → Handle → Bool
 is_own number h = h.id.dot.region == number
 
 -- the outcome by the kind of the handle: a code can't be revoked (RFC 7009, 2)
-abbrev pub revoked_by_kind : FactSet → ℕ → ℕ → Dot → Handle → Kind → Revocation
-revoked_by_kind F number now client h kind.Code = Done idle.Code
-revoked_by_kind F number now client h kind.Access =
-    revoked_by_status F (is_own number h) now (revocation_of h kind.Access client)
-    (status_in F now h)
-revoked_by_kind F number now client h kind.Refresh =
-    revoked_by_status F (is_own number h) now (revocation_of h kind.Refresh client)
-    (status_in F now h)
+abbrev pub revoked_by_kind : StoreFields → ℕ → ℕ → Dot → Handle → Kind → Revocation
+revoked_by_kind P number now client h kind.Code = Done idle.Code
+revoked_by_kind P number now client h kind.Access =
+    revoked_by_status (held_facts P) (is_own number h) now (revocation_of h kind.Access client)
+    (status_here P now h)
+revoked_by_kind P number now client h kind.Refresh =
+    revoked_by_status (held_facts P) (is_own number h) now (revocation_of h kind.Refresh client)
+    (status_here P now h)
 
 -- the outcome by the handle: a text that is no handle is no token (RFC 7009, 2.2)
-abbrev pub revoked_by_handle : FactSet → ℕ → ℕ → Dot → Option Handle → Revocation
-revoked_by_handle F number now client None = Done idle.NoHandle
-revoked_by_handle F number now client (Some h) = revoked_by_kind F number now client h h.id.kind
+abbrev pub revoked_by_handle : StoreFields → ℕ → ℕ → Dot → Option Handle → Revocation
+revoked_by_handle P number now client None = Done idle.NoHandle
+revoked_by_handle P number now client (Some h) = revoked_by_kind P number now client h h.id.kind
 
 -- the outcome by the token's text, which is required (RFC 7009, 2.1)
-abbrev pub revoked_by_text : FactSet → ℕ → ℕ → Dot → Option (List ℕ) → Revocation
-revoked_by_text F number now client None = Refused refusal.MissingToken
-revoked_by_text F number now client (Some text) =
-    revoked_by_handle F number now client (handle_in text)
+abbrev pub revoked_by_text : StoreFields → ℕ → ℕ → Dot → Option (List ℕ) → Revocation
+revoked_by_text P number now client None = Refused refusal.MissingToken
+revoked_by_text P number now client (Some text) =
+    revoked_by_handle P number now client (handle_in text)
 
 -- the outcome for the sender: no parameter that the endpoint knows may occur twice, no credentials
 -- in two places, and a client must be authenticated (RFC 6749, 2.3 and 3.2; RFC 7009, 2.1)
-abbrev pub revoked_by_caller : FactSet → ℕ → ℕ → Pairs → Caller → Revocation
-revoked_by_caller F number now params caller.DuplicateParameter = Refused refusal.DuplicateParameter
-revoked_by_caller F number now params caller.MixedCredentials = Refused refusal.MixedCredentials
-revoked_by_caller F number now params caller.InvalidClient = Refused refusal.InvalidClient
-revoked_by_caller F number now params (caller.Client client) =
-    revoked_by_text F number now client (value_of (codes "token") params)
+abbrev pub revoked_by_caller : StoreFields → ℕ → ℕ → Pairs → Caller → Revocation
+revoked_by_caller P number now params caller.DuplicateParameter = Refused refusal.DuplicateParameter
+revoked_by_caller P number now params caller.MixedCredentials = Refused refusal.MixedCredentials
+revoked_by_caller P number now params caller.InvalidClient = Refused refusal.InvalidClient
+revoked_by_caller P number now params (caller.Client client) =
+    revoked_by_text P number now client (value_of (codes "token") params)

@@ -1,7 +1,7 @@
 //! The sender of an introspection or revocation request.
 
 ghost use Rattle.std.specs.Prelude.{◌≡◌, IfOk};
-ghost use Rattle.tk_store.specs.Store.{facts_of};
+ghost use Rattle.tk_store.specs.StoreFields.{held_facts};
 ghost use Rattle.tk_message.specs.Caller.{caller_of};
 ghost use Rattle.tk_query.specs.Caller.{known_names};
 
@@ -16,7 +16,7 @@ pub(crate) fn caller_here(
     request: &Request,
 ) -> Result<Caller, AllocError>
     ensures { IfOk result (λ caller.
-        caller ≡ caller_of (facts_of ledger.now) known_names request.now) }
+        caller ≡ caller_of (held_facts ledger.now) known_names request.now) }
 {
     let names = ["token", "token_type_hint", "client_id", "client_secret"];
     find_caller(alloc, ledger, &names, request)

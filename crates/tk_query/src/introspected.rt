@@ -16,7 +16,6 @@ pub(crate) enum Introspected<'a> {
 
 ghost use Rattle.std.specs.Prelude.{◌≡◌};
 ghost use Rattle.std.specs.Option.{option_copied};
-ghost use Rattle.tk_store.specs.Store.{facts_of};
 ghost use Rattle.tk_query.specs.Introspected as spec;
 
 use crate::refusal::Refusal;
@@ -33,7 +32,7 @@ pub(crate) fn introspect<'a>(
     params: &Params,
     caller: Caller,
 ) -> Introspected<'a>
-    ensures { result ≡ spec.introspected_by_caller (facts_of ledger.now) now params.now caller }
+    ensures { result ≡ spec.introspected_by_caller ledger.now now params.now caller }
 {
     match caller {
         Caller::DuplicateParameter => Introspected::Refused(Refusal::DuplicateParameter),
@@ -54,7 +53,7 @@ fn introspect_as<'a>(
     asker: Dot,
     sort: &Sort,
 ) -> Introspected<'a>
-    ensures { result ≡ spec.introspected_as (facts_of ledger.now) now params.now asker sort.now }
+    ensures { result ≡ spec.introspected_as ledger.now now params.now asker sort.now }
 {
     match sort {
         Sort::Public => Introspected::Refused(Refusal::PublicClient),
@@ -71,7 +70,7 @@ fn introspect_token<'a>(
     asker: Dot,
     text: Option<&str>,
 ) -> Introspected<'a>
-    ensures { result ≡ spec.introspected_by_text (facts_of ledger.now) now sort.now asker
+    ensures { result ≡ spec.introspected_by_text ledger.now now sort.now asker
         (option_copied text.entry) }
 {
     let Some(text) = text else {
@@ -91,7 +90,7 @@ fn introspect_handle<'a>(
     asker: Dot,
     handle: &Handle,
 ) -> Introspected<'a>
-    ensures { result ≡ spec.introspected_by_kind (facts_of ledger.now) now sort.now asker handle.now
+    ensures { result ≡ spec.introspected_by_kind ledger.now now sort.now asker handle.now
         handle.now.id.kind }
 {
     match handle.id.kind {

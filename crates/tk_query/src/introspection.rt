@@ -1,7 +1,6 @@
 //! Decisions of introspection requests.
 
 ghost use Rattle.std.specs.Prelude.{◌≡◌, IfOk};
-ghost use Rattle.tk_store.specs.Store.{facts_of};
 ghost use Rattle.tk_message.specs.Decision.{answered};
 ghost use Rattle.tk_query.specs.Introspection as spec;
 
@@ -24,7 +23,7 @@ pub fn decide_introspect(
     now: Moment,
     request: &Request,
 ) -> Result<Decision, AllocError>
-    ensures { IfOk result (λ d. d ≡ answered (spec.introspection_of (facts_of ledger.now) now
+    ensures { IfOk result (λ d. d ≡ answered (spec.introspection_of ledger.now now
         request.now)) }
 {
     let caller = caller_here(alloc, ledger, request)?;

@@ -1,7 +1,6 @@
 //! Decisions of revocation requests.
 
 ghost use Rattle.std.specs.Prelude.{◌≡◌, IfOk};
-ghost use Rattle.tk_store.specs.Store.{facts_of};
 ghost use Rattle.tk_message.specs.Decision.{Passes};
 ghost use Rattle.tk_query.specs.Revocation as spec;
 ghost use Rattle.tk_query.specs.SoundRevocation.{IsSoundRevocation};
@@ -27,7 +26,7 @@ pub fn decide_revoke(
     now: Moment,
     request: &Request,
 ) -> Result<Decision, AllocError>
-    ensures value { IfOk result (λ d. d ≡ spec.revocation_of (facts_of ledger.now) place.now now
+    ensures value { IfOk result (λ d. d ≡ spec.revocation_of ledger.now place.now now
         request.now) }
 
     // The fact that the request makes, if any, passes its check.

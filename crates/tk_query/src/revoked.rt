@@ -15,7 +15,7 @@ pub(crate) enum Revocation {
 ghost use Rattle.std.specs.Prelude.{◌≡◌, true};
 ghost use Rattle.std.specs.Option.{option_copied};
 ghost use Rattle.tk_fact.specs.Check.{is_revocable};
-ghost use Rattle.tk_store.specs.Store.{facts_of};
+ghost use Rattle.tk_store.specs.StoreFields.{held_facts};
 ghost use Rattle.tk_query.specs.Revoked as spec;
 ghost use Rattle.tk_query.specs.SoundRevocation.{IsSoundRevocation};
 
@@ -34,7 +34,7 @@ pub(crate) fn revoke(
     params: &Params,
     caller: Caller,
 ) -> Revocation
-    ensures value { result ≡ spec.revoked_by_caller (facts_of ledger.now) number now params.now
+    ensures value { result ≡ spec.revoked_by_caller ledger.now number now params.now
         caller }
     ensures sound { IsSoundRevocation result }
 {
@@ -54,7 +54,7 @@ fn revoke_text(
     client: Dot,
     text: Option<&str>,
 ) -> Revocation
-    ensures value { result ≡ spec.revoked_by_text (facts_of ledger.now) number now client
+    ensures value { result ≡ spec.revoked_by_text ledger.now number now client
         (option_copied text.entry) }
     ensures sound { IsSoundRevocation result }
 {
@@ -75,7 +75,7 @@ fn revoke_handle(
     client: Dot,
     handle: &Handle,
 ) -> Revocation
-    ensures value { result ≡ spec.revoked_by_kind (facts_of ledger.now) number now client handle.now
+    ensures value { result ≡ spec.revoked_by_kind ledger.now number now client handle.now
         handle.now.id.kind }
     ensures sound { IsSoundRevocation result }
 {
@@ -119,7 +119,7 @@ fn revoke_by_status(
     status: Status<'_>,
 ) -> Revocation
     requires { is_revocable fact.token.kind ≡ true }
-    ensures value { result ≡ spec.revoked_by_status (facts_of ledger.now) is_own now fact
+    ensures value { result ≡ spec.revoked_by_status (held_facts ledger.now) is_own now fact
         status.entry }
     ensures sound { IsSoundRevocation result }
 {
@@ -152,7 +152,7 @@ fn revoke_by_status(
 // Judges a request by the token's standing.
 fn revoke_known(ledger: &Ledger, fact: TokenRevoked, standing: &Standing<'_>) -> Revocation
     requires { is_revocable fact.token.kind ≡ true }
-    ensures value { result ≡ spec.revoked_by_state (facts_of ledger.now) fact standing.now.client
+    ensures value { result ≡ spec.revoked_by_state (held_facts ledger.now) fact standing.now.client
         standing.now.state }
     ensures sound { IsSoundRevocation result }
 {
@@ -162,7 +162,7 @@ fn revoke_known(ledger: &Ledger, fact: TokenRevoked, standing: &Standing<'_>) ->
 // Judges a request by the token's state.
 fn revoke_by_state(ledger: &Ledger, fact: TokenRevoked, client: Dot, state: State) -> Revocation
     requires { is_revocable fact.token.kind ≡ true }
-    ensures value { result ≡ spec.revoked_by_state (facts_of ledger.now) fact client state }
+    ensures value { result ≡ spec.revoked_by_state (held_facts ledger.now) fact client state }
     ensures sound { IsSoundRevocation result }
 {
     match state {
@@ -175,7 +175,7 @@ fn revoke_by_state(ledger: &Ledger, fact: TokenRevoked, client: Dot, state: Stat
 // Judges a request by the token's client, which must be the sender.
 fn revoke_of_client(ledger: &Ledger, fact: TokenRevoked, client: Dot) -> Revocation
     requires { is_revocable fact.token.kind ≡ true }
-    ensures value { result ≡ spec.revoked_of_client (facts_of ledger.now) fact client }
+    ensures value { result ≡ spec.revoked_of_client (held_facts ledger.now) fact client }
     ensures sound { IsSoundRevocation result }
 {
     if client != fact.client {
@@ -187,7 +187,7 @@ fn revoke_of_client(ledger: &Ledger, fact: TokenRevoked, client: Dot) -> Revocat
 // Revokes the token, unless the client revoked it before.
 fn revoke_unless_held(ledger: &Ledger, fact: TokenRevoked) -> Revocation
     requires { is_revocable fact.token.kind ≡ true }
-    ensures value { result ≡ spec.revoked_unless_held (facts_of ledger.now) fact }
+    ensures value { result ≡ spec.revoked_unless_held (held_facts ledger.now) fact }
     ensures sound { IsSoundRevocation result }
 {
     if ledger.revoked(&fact.token, &fact.digest, fact.client) {

@@ -2,7 +2,7 @@
 --   decision_of   the decision by the endpoint
 --   capped        a decision, unless it makes a fact above the cap
 use Rattle.std.specs.Prelude.{ℕ, ◌&&◌, nat_lt, List, is_some, if◌then◌else◌}
-use Rattle.tk_store.specs.FactSet.{FactSet}
+use Rattle.tk_store.specs.StoreFields.{StoreFields, held_facts}
 use Rattle.tk_message.specs.declared.decision.Decision.{Decision}
 use Rattle.tk_message.specs.declared.error_code.ErrorCode.TheVariants.{TemporarilyUnavailable}
 use Rattle.tk_message.specs.declared.place.Place.{Place}
@@ -28,21 +28,21 @@ use Rattle.tk_query.specs.Introspection.{introspection_of}
 use Rattle.tk_query.specs.Revocation.{revocation_of}
 
 -- the decision by the endpoint
-abbrev pub decision_by : Endpoint → FactSet → Place → ℕ → List ℕ → RequestFields → Decision
-decision_by Authorize F place now words request = authorization_of F place now words request
-decision_by Token F place now words request = grant_of F place now words request
-decision_by Introspect F place now words request = answered (introspection_of F now request)
-decision_by Revoke F place now words request = revocation_of F place now request
-decision_by AddClient F place now words request = administration_of F place now request
-decision_by ShowClient F place now words request = administration_of F place now request
-decision_by Retire F place now words request = administration_of F place now request
-decision_by Consent F place now words request = administration_of F place now request
-decision_by Withdraw F place now words request = administration_of F place now request
-decision_by SignOut F place now words request = administration_of F place now request
+abbrev pub decision_by : Endpoint → StoreFields → Place → ℕ → List ℕ → RequestFields → Decision
+decision_by Authorize P place now words request = authorization_of (held_facts P) place now words request
+decision_by Token P place now words request = grant_of P place now words request
+decision_by Introspect P place now words request = answered (introspection_of P now request)
+decision_by Revoke P place now words request = revocation_of P place now request
+decision_by AddClient P place now words request = administration_of (held_facts P) place now request
+decision_by ShowClient P place now words request = administration_of (held_facts P) place now request
+decision_by Retire P place now words request = administration_of (held_facts P) place now request
+decision_by Consent P place now words request = administration_of (held_facts P) place now request
+decision_by Withdraw P place now words request = administration_of (held_facts P) place now request
+decision_by SignOut P place now words request = administration_of (held_facts P) place now request
 
 -- the decision of a request, without regard to the cap
-abbrev pub decision_of : FactSet → Place → ℕ → List ℕ → RequestFields → Decision
-decision_of F place now words request = decision_by request.endpoint F place now words request
+abbrev pub decision_of : StoreFields → Place → ℕ → List ℕ → RequestFields → Decision
+decision_of P place now words request = decision_by request.endpoint P place now words request
 
 -- the decision, or `temporarily_unavailable` without a fact if the decision makes one above the cap
 abbrev pub capped : ℕ → Place → Decision → Decision

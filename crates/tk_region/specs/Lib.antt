@@ -4,11 +4,13 @@
 --   Decision         decision_of, the decision of a request; capped, the serial cap
 --   Step             prepared_of, what a region prepares for a request; Commits, adding the fact
 --   Taking           TakesIn, the outcomes of taking in a bundle
+--   WholeLedger      IsUnpruned, a ledger that skips nothing
 pub mod Decision
 pub mod RegionFields
 pub mod SettingsFields
 pub mod Step
 pub mod Taking
+pub mod WholeLedger
 pub use Rattle.tk_bundle.specs.Bundle
 pub use Rattle.tk_message.specs.ReplyFields
 pub use Rattle.tk_store.specs.FactSet

@@ -13,6 +13,7 @@ use Rattle.tk_fact.specs.Check.{refusal_of}
 use Rattle.tk_fact.specs.declared.body.Body.{Body}
 use Rattle.tk_store.specs.FactSet.{Facts}
 use Rattle.tk_store.specs.Store.{facts_of}
+use Rattle.tk_store.specs.WholeStores.{whole_store}
 use Rattle.tk_bundle.specs.Bundle.{bundle_bytes}
 use Rattle.tk_message.specs.declared.decision.Decision.{Decision}
 use Rattle.tk_message.specs.declared.place.Place.{Place}
@@ -51,7 +52,7 @@ prepared_by cap place d = prepared_at (next_in place) (capped cap place d)
 -- what is prepared for a request to a region
 abbrev pub prepared_of : RegionFields → ℕ → List ℕ → RequestFields → PreparedFields
 prepared_of r now words request =
-    prepared_by r.settings.cap (place_in r) (decision_of (facts_of r.facts) (place_in r) now words
+    prepared_by r.settings.cap (place_in r) (decision_of (whole_store (facts_of r.facts)) (place_in r) now words
     request)
 
 -- the fact is at the next dot, which is not above the cap, and passes its check

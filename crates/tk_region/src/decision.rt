@@ -1,7 +1,6 @@
 //! Decisions of requests, by the endpoint, and the serial cap.
 
 ghost use Rattle.std.specs.Prelude.{◌≡◌, ◌≤◌, IfOk, IfSome};
-ghost use Rattle.tk_store.specs.Store.{facts_of};
 ghost use Rattle.tk_message.specs.Decision.{Passes};
 ghost use Rattle.tk_region.specs.Decision as spec;
 
@@ -22,7 +21,7 @@ pub(crate) fn decide_endpoint(
     words: &[u64; 6],
     request: &Request,
 ) -> Result<Decision, AllocError>
-    ensures value { IfOk result (λ d. d ≡ spec.decision_of (facts_of ledger.now) place.now now
+    ensures value { IfOk result (λ d. d ≡ spec.decision_of ledger.now place.now now
         words.now request.now) }
     ensures passes { IfOk result (λ d. Passes d.made) }
 {

@@ -19,6 +19,7 @@ mod region;
 mod settings;
 mod step;
 mod take;
+mod whole;
 
 pub use region::Region;
 pub use settings::Settings;

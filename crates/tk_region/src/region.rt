@@ -1,6 +1,7 @@
 //! A region: its number, its settings and its ledger.
 
 use crate::settings::Settings;
+use crate::whole::WholeLedger;
 use std::marker::Model;
 use tk_handle::RegionNumber;
 use tk_ledger::Ledger;
@@ -11,7 +12,7 @@ pub struct Region {
     number: RegionNumber,
     settings: Settings,
     // The facts. Those under the region's own number have serials up to the cap.
-    ledger: Ledger,
+    ledger: WholeLedger,
 }
 
 impl Model for Region {
@@ -30,7 +31,7 @@ impl Model for Region {
     }) };
 }
 
-ghost use Rattle.std.specs.Prelude.{◌≡◌, ◌≤◌, IfOk, IfSome, None, OnErr, OnOk};
+ghost use Rattle.std.specs.Prelude.{◌≡◌, ◌≤◌, IfOk, IfSome, None, OnErr, OnOk, Some};
 ghost use Rattle.std.specs.FinMap as map;
 ghost use Rattle.tk_format.specs.Format.{whole};
 ghost use Rattle.tk_handle.specs.Ranges.{greatest_serial};
@@ -38,6 +39,7 @@ ghost use Rattle.tk_fact.specs.Check.{refusal_of};
 ghost use Rattle.tk_store.specs.Front.{IsFront};
 ghost use Rattle.tk_store.specs.NextDot.{next_serial, next_dot};
 ghost use Rattle.tk_store.specs.Store.{facts_of, known_in};
+ghost use Rattle.tk_store.specs.WholeStores.{whole_store};
 ghost use Rattle.tk_bundle.specs.Bundle.{bundle};
 ghost use Rattle.tk_bundle.specs.Page as pages;
 ghost use Rattle.tk_message.specs.Place.{next_in};
@@ -47,9 +49,9 @@ ghost use Rattle.tk_region.specs.Taking.{TakesIn};
 
 use crate::decision::decide_endpoint;
 use crate::step::{Handled, Prepared, prepare};
-use crate::take::{TakeError, take_bytes};
+use crate::take::{TakeError, take_bundle, unread};
 use std::alloc::{AllocError, Global};
-use tk_bundle::{Page, make};
+use tk_bundle::{Bundle, Page, make};
 use tk_fact::Fact;
 use tk_handle::{Dot, Moment};
 use tk_message::{Place, Request};
@@ -66,7 +68,7 @@ impl Region {
         Region {
             number,
             settings,
-            ledger: Ledger::new(alloc),
+            ledger: WholeLedger::new(alloc),
         }
     }
 
@@ -80,9 +82,9 @@ impl Region {
     /// Returns the region's ledger: its facts, and the clients, consents and tokens that they
     /// define.
     pub fn ledger(&self) -> &Ledger
-        ensures { result.now ≡ self.now.facts }
+        ensures { result.now ≡ whole_store (facts_of self.now.facts) }
     {
-        &self.ledger
+        self.ledger.ledger()
     }
 
     /// Returns the number of facts that the region holds.
@@ -152,7 +154,7 @@ impl Region {
         ensures next { IfOk result (λ p. IfSome p.fact (IsNextFact self.now)) }
     {
         let place = self.place();
-        let decision = decide_endpoint(alloc, &self.ledger, &place, now, words, request)?;
+        let decision = decide_endpoint(alloc, self.ledger.ledger(), &place, now, words, request)?;
         prepare(alloc, self.settings.cap(), &place, decision)
     }
 
@@ -208,13 +210,29 @@ impl Region {
         ensures takes { TakesIn (facts_of self.old.facts) (next_in (place_in self.old))
             (whole bundle bytes.now) result (facts_of self.new.facts) }
     {
+        match Bundle::read(alloc, bytes) {
+            Ok(sent) => self.take_bundle(sent),
+            Err(error) => Err(unread(error)),
+        }
+    }
+
+    /// Takes in a bundle that was read, as [`Region::take_in`] takes in its bytes.
+    ///
+    /// Returns the number of facts that were new. The facts move into the region.
+    pub fn take_bundle(&mut self, sent: Bundle) -> Result<u16, TakeError>
+        requires { bundle.Fits sent }
+        ensures number { self.new.number ≡ self.old.number }
+        ensures settings { self.new.settings ≡ self.old.settings }
+        ensures takes { TakesIn (facts_of self.old.facts) (next_in (place_in self.old)) (Some sent)
+            result (facts_of self.new.facts) }
+    {
         let next = self.next_dot();
-        take_bytes(alloc, next, &mut self.ledger, bytes)
+        take_bundle(next, &mut self.ledger, sent)
     }
 }
 
 // Returns the dot of the region's next fact. The facts must leave a serial.
-fn next_in_ledger(ledger: &Ledger, number: RegionNumber) -> Dot
+fn next_in_ledger(ledger: &WholeLedger, number: RegionNumber) -> Dot
     requires { next_serial (known_in ledger.now) number ≤ greatest_serial }
     ensures { result ≡ next_dot (known_in ledger.now) number }
 {
@@ -222,7 +240,7 @@ fn next_in_ledger(ledger: &Ledger, number: RegionNumber) -> Dot
 }
 
 // Adds a fact at a free dot.
-fn add_free(ledger: &mut Ledger, fact: Fact) -> Result<(), AllocError>
+fn add_free(ledger: &mut WholeLedger, fact: Fact) -> Result<(), AllocError>
     requires free { map.get (facts_of ledger.old) fact.0 ≡ None }
     requires passes { refusal_of fact.1 ≡ None }
     ensures ok { OnOk result (facts_of ledger.new ≡ map.insert (facts_of ledger.old) fact.0

@@ -16,38 +16,22 @@ pub enum TakeError {
 
 ghost use Rattle.std.specs.Prelude.{◌≡◌, ◌≤◌, ◌+◌, ◌↔◌, length, IfOk, OnErr, IsTrue, Some, None};
 ghost use Rattle.std.specs.FinMap as sets;
-ghost use Rattle.tk_format.specs.Format.{whole};
 ghost use Rattle.tk_fact.specs.Check.{refusal_of};
 ghost use Rattle.tk_fact.specs.declared.body.Body.{Body};
 ghost use Rattle.tk_store.specs.FactSet.{FactSet, IsFactSet, AllIn, IsSubset};
 ghost use Rattle.tk_bundle.specs.Bundle.{bundle};
 ghost use Rattle.tk_region.specs.Taking as spec;
 
-use std::alloc::{AllocError, Global};
+use crate::whole::WholeLedger;
+use std::alloc::AllocError;
 use tk_bundle::Bundle;
 use tk_fact::Fact;
 use tk_format::ReadError;
 use tk_handle::Dot;
-use tk_ledger::Ledger;
 use tk_store::{AddError, Added};
 
-// Takes in the bundle that the bytes spell. `next` is the dot of the region's next fact.
-pub(crate) fn take_bytes(
-    alloc: Global,
-    next: Dot,
-    ledger: &mut Ledger,
-    bytes: &[u8],
-) -> Result<u16, TakeError>
-    ensures { spec.TakesIn ledger.old next (whole bundle bytes.now) result ledger.new }
-{
-    match Bundle::read(alloc, bytes) {
-        Ok(bundle) => take_bundle(alloc, next, ledger, bundle.facts()),
-        Err(error) => Err(unread(error)),
-    }
-}
-
 // Returns the error for bytes that can't be read as a bundle.
-fn unread(error: ReadError) -> TakeError
+pub(crate) fn unread(error: ReadError) -> TakeError
     ensures { result ≡ spec.unread error }
 {
     match error {
@@ -56,24 +40,23 @@ fn unread(error: ReadError) -> TakeError
     }
 }
 
-// Takes in the facts of a bundle.
-fn take_bundle(
-    alloc: Global,
+// Takes in a bundle that was read. `next` is the dot of the region's next fact.
+pub(crate) fn take_bundle(
     next: Dot,
-    ledger: &mut Ledger,
-    facts: &[Fact],
+    ledger: &mut WholeLedger,
+    sent: Bundle,
 ) -> Result<u16, TakeError>
-    requires { bundle.Fits facts.now }
-    ensures { spec.TakesIn ledger.old next (Some facts.now) result ledger.new }
+    requires { bundle.Fits sent }
+    ensures { spec.TakesIn ledger.old next (Some sent) result ledger.new }
 {
-    if has_unmade(next, facts) {
+    if has_unmade(next, sent.facts()) {
         return Err(TakeError::OwnNumber);
     }
-    if !agree(ledger, facts) {
+    if !agree(ledger, sent.facts()) {
         return Err(TakeError::Conflict);
     }
     ledger.store().known();
-    take_facts(alloc, ledger, facts)
+    take_facts(ledger, sent.into_facts())
 }
 
 // Returns whether a fact is under the region's own number and not made by the region.
@@ -91,7 +74,7 @@ fn is_unmade(next: Dot, fact: &Fact) -> bool
 }
 
 // Returns whether no fact has another body at a dot that is held. Recurses over at most 128 facts.
-fn agree(ledger: &Ledger, facts: &[Fact]) -> bool
+fn agree(ledger: &WholeLedger, facts: &[Fact]) -> bool
     ensures { IsTrue result ↔ spec.AgreesWith ledger.now facts.now }
 {
     match facts {
@@ -101,7 +84,7 @@ fn agree(ledger: &Ledger, facts: &[Fact]) -> bool
 }
 
 // Returns whether no other body is held at the fact's dot.
-fn agrees(ledger: &Ledger, fact: &Fact) -> bool
+fn agrees(ledger: &WholeLedger, fact: &Fact) -> bool
     ensures { IsTrue result ↔ spec.AgreesAt ledger.now fact.now }
 {
     match ledger.store().get(fact.dot) {
@@ -110,15 +93,15 @@ fn agrees(ledger: &Ledger, fact: &Fact) -> bool
     }
 }
 
-// Adds copies of the facts, one after another, and returns the number of new ones.
-fn take_facts(alloc: Global, ledger: &mut Ledger, facts: &[Fact]) -> Result<u16, TakeError>
-    requires agree { (U : FactSet) × IsFactSet U × IsSubset ledger.old U × AllIn U facts.now }
-    requires few { length facts.now ≤ 128 }
-    ensures { spec.Takes ledger.old facts.now result ledger.new }
+// Adds the facts, one after another, and returns the number of new ones.
+fn take_facts(ledger: &mut WholeLedger, facts: Vec<Fact>) -> Result<u16, TakeError>
+    requires agree { (U : FactSet) × IsFactSet U × IsSubset ledger.old U × AllIn U facts.items }
+    requires few { length facts.items ≤ 128 }
+    ensures { spec.Takes ledger.old facts.items result ledger.new }
 {
     let mut taken = 0u16;
     for fact in facts {
-        match take_fact(alloc, ledger, fact) {
+        match take_fact(ledger, fact) {
             Ok(new) => taken += new,
             Err(_) => return Err(TakeError::Memory),
         }
@@ -126,16 +109,15 @@ fn take_facts(alloc: Global, ledger: &mut Ledger, facts: &[Fact]) -> Result<u16,
     Ok(taken)
 }
 
-// Adds a copy of the fact, and returns 1 if it was new, otherwise 0.
-fn take_fact(alloc: Global, ledger: &mut Ledger, fact: &Fact) -> Result<u16, AllocError>
-    requires agree { (b : Body) → sets.get ledger.old fact.now.0 ≡ Some b → b ≡ fact.now.1 }
-    requires passes { refusal_of fact.now.1 ≡ None }
-    ensures ok { IfOk result (λ new. (ledger.new ≡ sets.insert ledger.old fact.now.0 fact.now.1)
+// Adds the fact, and returns 1 if it was new, otherwise 0.
+fn take_fact(ledger: &mut WholeLedger, fact: Fact) -> Result<u16, AllocError>
+    requires agree { (b : Body) → sets.get ledger.old fact.0 ≡ Some b → b ≡ fact.1 }
+    requires passes { refusal_of fact.1 ≡ None }
+    ensures ok { IfOk result (λ new. (ledger.new ≡ sets.insert ledger.old fact.0 fact.1)
         × (sets.len ledger.old + new ≡ sets.len ledger.new) × (new ≤ 1)) }
     ensures err { OnErr result (ledger.new ≡ ledger.old) }
 {
-    let copy = fact.copy(alloc)?;
-    match ledger.add(copy) {
+    match ledger.add(fact) {
         Ok(Added::New) => Ok(1),
         Ok(Added::Held) => Ok(0),
         Err(AddError::Memory) => Err(AllocError),

@@ -16,3 +16,4 @@ pub mod SubsetLaws
 pub mod TableLaws
 pub mod WalkLaws
 pub mod WholeLaws
+pub mod WholeStoreLaws

@@ -4,7 +4,7 @@
 --   StoreFields    StoreFields, what contracts see of a store; held_facts, IsWhole, IsKept
 --   SlotShown      IsShown, what a look-up of a slot returns
 --   SlotOrder      StoreBelow, the order of stores; StoresAgree
---   WholeStores    WholeAgree, stores in which nothing is skipped
+--   WholeStores    WholeAgree, whole_store, stores in which nothing is skipped
 --   Joining        JoinsFacts, the set that results from joining facts to a set; SameFacts
 --   JoiningSteps   Compared, Joins, Sought, the loops over the entries of another set
 --   SlotJoining    Compared, Joins, Sought over the slots of another store

@@ -5,13 +5,14 @@
 //!
 //! - `ledger`: ledgers that run out of memory, ledgers beside a plain one, forests, and how many
 //!   look-ups a reply takes.
+//! - `edge`: connections over devices that fail.
 //! - `region`: a region that runs out of memory.
 //! - `results` and `uris`: results of calls that the program doesn't print.
 //! - `uncalled`: calls that no program makes.
-//!
-//! tk_edge has its own tests: connections over devices that fail.
 #![tactic(auto)]
 
+#[cfg(test)]
+mod edge;
 #[cfg(test)]
 mod ledger;
 #[cfg(test)]

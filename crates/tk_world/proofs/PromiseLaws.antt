@@ -9,7 +9,9 @@ use Rattle.std.specs.FinMap as map
 use Rattle.tk_handle.specs.declared.handle.Handle.{Handle}
 use Rattle.tk_store.specs.FactSet.{FactSet, Facts}
 use Rattle.tk_store.specs.Store.{facts_of}
+use Rattle.tk_store.specs.WholeStores.{whole_store}
 use Rattle.tk_store.proofs.PutLaws.{none_is_not_some, some_injective}
+use Rattle.tk_store.proofs.WholeStoreLaws.{held_whole_store}
 use Rattle.tk_ledger.specs.Status.{IsActive}
 use Rattle.tk_ledger.proofs.FamilyEnds as ends
 use Rattle.tk_message.specs.declared.request.Endpoint.{Endpoint}
@@ -61,9 +63,9 @@ run_at old es os ss new run i e o he ho = absurd run
 
 -- the reply to an introspection request doesn't depend on the cap, since no fact is made
 introspects : (r : RegionFields) (now : ℕ) (words : List ℕ) (request : RequestFields) → request.endpoint ≡ Introspect
-    → answer_by r now words (Asked request) ≡ rendered (introspection_of (facts_of r.facts) now request) None None
+    → answer_by r now words (Asked request) ≡ rendered (introspection_of (whole_store (facts_of r.facts)) now request) None None
 introspects r now words request h =
-    ap (λ (e : Endpoint). let p = prepared_by r.settings.cap (place_in r) (decision_by e (facts_of r.facts) (place_in r) now words request) in rendered p.reply None p.logged) h
+    ap (λ (e : Endpoint). let p = prepared_by r.settings.cap (place_in r) (decision_by e (whole_store (facts_of r.facts)) (place_in r) now words request) in rendered p.reply None p.logged) h
 
 pub tells_of_sets : (old : State) (es : List Event) (os : List Outcome) (ss : List Facts) (new : State) → Run old es os ss new → TellsOfSets old es os ss
 tells_of_sets old es os ss new run i r now request status reply q =
@@ -73,19 +75,22 @@ tells_of_sets old es os ss new run i r now request status reply q =
     let held : F ≡ held_before old es ss i r = ap (λ o. unwrap_or o map.empty) (sym at.step.1.is_open) ∙ joins.joins in
     let one : at.step.2 ≡ Asked request = has_one_meaning false q.bytes.items at.step.2 (Asked request) at.step.3 q.heard in
     let told = ap (answer_by (region_with at.mid r F) now q.words) one ∙ introspects (region_with at.mid r F) now q.words request q.introspects
-    ∙ ap (λ G. rendered (introspection_of G now request) None None) held in
+    ∙ ap (λ G. rendered (introspection_of (whole_store G) now request) None None) held in
     subst (λ a. IsReplied a status reply) told (at.step.4.0, sym q.replied ∙ at.step.4.1)
 
 pub introspect_alike : (old : State) (es : List Event) (os : List Outcome) (ss : List Facts) (new : State) → Run old es os ss new → IntrospectAlike old es os ss
 introspect_alike old es os ss new run i j q r now request s t one two a b same =
     let here = tells_of_sets old es os ss new run i q now request s one a in
-    let there = subst (λ G. IsReplied (rendered (introspection_of G now request) None None) t two) (sym same) (tells_of_sets old es os ss new run j r now request t two b) in
+    let there = subst (λ G. IsReplied (rendered (introspection_of (whole_store G) now request) None None) t two) (sym same) (tells_of_sets old es os ss new run j r now request t two b) in
     (here.0 ∙ sym there.0, here.1 ∙ sym there.1)
 
 -- ---- inactive tokens
 
 inactive : (F : FactSet) (h : Handle) → ((now : ℕ) → ¬ IsActive (map.get F) now h) → IsInactive F h
-inactive F h never now = (never now, λ sort asker. says_nothing F now sort asker h (never now))
+inactive F h never now = (
+  never now,
+  λ sort asker. says_nothing (whole_store F) now sort asker h (subst (λ (G : FactSet). ¬ IsActive (map.get G) now h) (sym (held_whole_store F)) (never now)),
+)
 
 pub revoked_inactive : (s : State) → RevokedInactive s
 revoked_inactive s r F within h ended = inactive (facts_in s r) h (λ now. ends.revoked_inactive F (facts_in s r) within now h ended)

@@ -17,6 +17,7 @@ use Rattle.tk_handle.specs.declared.handle.Handle.{Handle}
 use Rattle.tk_family.specs.Families.{IsUnder, IsBad}
 use Rattle.tk_fact.specs.declared.sort.Sort.{Sort}
 use Rattle.tk_store.specs.FactSet.{FactSet, Facts, IsSubset, set_of, joined}
+use Rattle.tk_store.specs.WholeStores.{whole_store}
 use Rattle.tk_ledger.specs.Status.{IsActive}
 use Rattle.tk_ledger.specs.Tokens.{links_in, IsEnded, IsMarked}
 use Rattle.tk_message.specs.declared.request.Endpoint.TheVariants.{Introspect}
@@ -61,8 +62,8 @@ abbrev pub TellsOfSets : State → List Event → List Outcome → List Facts �
 TellsOfSets old es os ss =
     (i r now : ℕ) (request : RequestFields) (status : Status) (reply : List ℕ)
     → IsIntrospected es os i r now request status reply
-    → IsReplied (rendered (introspection_of (held_before old es ss i r) now request) None None)
-    status reply
+    → IsReplied (rendered (introspection_of (whole_store (held_before old es ss i r)) now request)
+    None None) status reply
 
 -- Two regions that hold equal sets, each when its request arrives, give equal replies to equal
 -- requests at equal moments. The replies are equal byte for byte, whatever the regions' numbers,
@@ -80,7 +81,7 @@ abbrev pub IsInactive : FactSet → Handle → Type 0
 IsInactive F h =
     (now : ℕ)
     → (¬ IsActive (map.get F) now h)
-    × ((sort : Sort) (asker : Dot) → told_to F now sort asker h ≡ inactive_reply)
+    × ((sort : Sort) (asker : Dot) → told_to (whole_store F) now sort asker h ≡ inactive_reply)
 
 -- a token is inactive in each region that holds facts by which its client revoked it
 abbrev pub RevokedInactive : State → Type 0

@@ -22,6 +22,7 @@ use Rattle.std.specs.Prelude.{
 }
 use Rattle.std.specs.List.{concat, list_all}
 use Rattle.std.specs.Str.{bytes_eq}
+use Rattle.tk_put.specs.Put.{field_line}
 
 -- ---- the value of a field, which `-` leaves out
 
@@ -35,39 +36,26 @@ body_in text = if bytes_eq text none_text then [] else text
 
 -- ---- whole lines
 
--- the end of a line of the head
-abbrev pub line_end : List ℕ
-line_end = codes "\r\n"
-
--- the line of a field, unless its value is left out
-abbrev pub field_line : List ℕ → List ℕ → List ℕ
-field_line name value = if bytes_eq value none_text then [] else name ++ (value ++ line_end)
+-- the value of a field, unless it is left out
+abbrev pub value_in : List ℕ → Option (List ℕ)
+value_in text = if bytes_eq text none_text then None else Some text
 
 -- the lines of a POST that describe its body
 abbrev pub post_lines : List ℕ → List ℕ → List ℕ
 post_lines method body =
     if bytes_eq method (codes "POST")
-    then codes "Content-Type: application/x-www-form-urlencoded\r\nContent-Length: "
-    ++ (decimal (length body) ++ line_end)
+    then concat (
+    codes "Content-Type: application/x-www-form-urlencoded\r\nContent-Length: "
+    ∷ decimal (length body) ∷ codes "\r\n" ∷ [])
     else []
-
--- the head, an empty line, and the body
-abbrev pub assembly : List ℕ → List ℕ → List ℕ → List ℕ → List ℕ → List ℕ
-assembly first auth subject post body = first ++ (auth ++ (subject ++ (post ++ (line_end ++ body))))
-
--- the target, the version and the line of `Host`
-abbrev pub with_host : List ℕ → List ℕ
-with_host target = target ++ codes " HTTP/1.1\r\nHost: tokend\r\n"
-
--- the request line and the line of `Host`
-abbrev pub first_lines : List ℕ → List ℕ → List ℕ
-first_lines method target = method ++ (codes " " ++ with_host target)
 
 -- the bytes of a request, by the fields of its line
 abbrev pub request_bytes : List ℕ → List ℕ → List ℕ → List ℕ → List ℕ → List ℕ
-request_bytes method target auth subject body =
-    assembly (first_lines method target) (field_line (codes "Authorization: Basic ") auth)
-    (field_line (codes "X-Subject: ") subject) (post_lines method body) body
+request_bytes method target auth subject body = concat (
+    method ∷ codes " " ∷ target ∷ codes " HTTP/1.1\r\nHost: tokend\r\n"
+    ∷ field_line (codes "Authorization: Basic ") (value_in auth)
+    ∷ field_line (codes "X-Subject: ") (value_in subject) ∷ post_lines method body
+    ∷ codes "\r\n" ∷ body ∷ [])
 
 -- the byte is a capital letter
 abbrev pub is_capital : ℕ → Bool

@@ -3,12 +3,13 @@
 
 ghost use Rattle.std.specs.Prelude.{◌≡◌, IfOk, string_bytes};
 ghost use Rattle.std.specs.List.{list_all};
-ghost use Rattle.std.specs.Str.{bytes_eq};
+ghost use Rattle.std.specs.Option.{option_copied};
 ghost use Rattle.tk_world.specs.Line.{bytes_in, texts};
 ghost use Rattle.tk_world.specs.RequestLine as spec;
 
 use itoa::Buffer;
 use std::alloc::{AllocError, Global};
+use tk_put::{field_line, joined};
 
 /// Returns the request of a line, given its first field and the fields after the moment.
 ///
@@ -22,29 +23,22 @@ use std::alloc::{AllocError, Global};
 pub(crate) fn asked(alloc: Global, name: &str, form: &[&str]) -> Result<Option<Vec<u8>>, AllocError>
     ensures { IfOk result (λ request. bytes_in request ≡ spec.asked_of name.now (texts form.now)) }
 {
-    if is(name, "req") {
+    if name == "req" {
         return whole(alloc, form);
     }
-    if is(name, "client") {
+    if name == "client" {
         return client(alloc, form);
     }
-    if is(name, "retire") {
+    if name == "retire" {
         return retire(alloc, form);
     }
-    if is(name, "signout") {
+    if name == "signout" {
         return sign_out(alloc, form);
     }
-    if is(name, "look") {
+    if name == "look" {
         return look(alloc, form);
     }
     Ok(None)
-}
-
-// Returns whether two texts are equal.
-fn is(text: &str, name: &str) -> bool
-    ensures { result ≡ bytes_eq text.now name.now }
-{
-    text == name
 }
 
 // ---- the forms of requests
@@ -198,64 +192,33 @@ fn request_bytes(
     ensures { IfOk result (λ bytes. bytes.items
         ≡ spec.request_bytes method.now target.now auth.now subject.now body.now) }
 {
-    let first = first_lines(alloc, method.as_bytes(), target.as_bytes())?;
-    let auth = field_line(alloc, "Authorization: Basic ", auth)?;
-    let subject = field_line(alloc, "X-Subject: ", subject)?;
+    let auth = field_line(alloc, b"Authorization: Basic ", value_in(auth))?;
+    let subject = field_line(alloc, b"X-Subject: ", value_in(subject))?;
     let post = post_lines(alloc, method, body)?;
-    assembled(first, &auth, &subject, &post, body)
+    joined(
+        alloc,
+        &[
+            method.as_bytes(),
+            b" ",
+            target.as_bytes(),
+            b" HTTP/1.1\r\nHost: tokend\r\n",
+            &auth,
+            &subject,
+            &post,
+            b"\r\n",
+            body,
+        ],
+    )
 }
 
-// Returns the request line and the line of `Host`.
-fn first_lines(alloc: Global, method: &[u8], target: &[u8]) -> Result<Vec<u8>, AllocError>
-    ensures { IfOk result (λ bytes. bytes.items ≡ spec.first_lines method.now target.now) }
+// Returns the value of a field, which `-` leaves out.
+fn value_in(text: &str) -> Option<&[u8]>
+    ensures { option_copied result ≡ spec.value_in text.now }
 {
-    let rest = with_host(alloc, target)?;
-    let mut bytes = Vec::from_slice(alloc, method)?;
-    bytes.extend_from_slice(b" ")?;
-    bytes.extend_from_slice(&rest)?;
-    Ok(bytes)
-}
-
-// Returns the target, the version and the line of `Host`.
-fn with_host(alloc: Global, target: &[u8]) -> Result<Vec<u8>, AllocError>
-    ensures { IfOk result (λ bytes. bytes.items ≡ spec.with_host target.now) }
-{
-    let mut bytes = Vec::from_slice(alloc, target)?;
-    bytes.extend_from_slice(b" HTTP/1.1\r\nHost: tokend\r\n")?;
-    Ok(bytes)
-}
-
-// Joins the first lines of a request with the rest of the head and the body.
-fn assembled(
-    first: Vec<u8>,
-    auth: &[u8],
-    subject: &[u8],
-    post: &[u8],
-    body: &[u8],
-) -> Result<Vec<u8>, AllocError>
-    ensures { IfOk result (λ bytes. bytes.items
-        ≡ spec.assembly first.items auth.now subject.now post.now body.now) }
-{
-    let mut bytes = first;
-    bytes.extend_from_slice(auth)?;
-    bytes.extend_from_slice(subject)?;
-    bytes.extend_from_slice(post)?;
-    bytes.extend_from_slice(b"\r\n")?;
-    bytes.extend_from_slice(body)?;
-    Ok(bytes)
-}
-
-// Returns the line of a field, or no bytes for the value `-`.
-fn field_line(alloc: Global, name: &str, value: &str) -> Result<Vec<u8>, AllocError>
-    ensures { IfOk result (λ line. line.items ≡ spec.field_line name.now value.now) }
-{
-    if value == "-" {
-        return Ok(Vec::new(alloc));
+    if text == "-" {
+        return None;
     }
-    let mut line = Vec::from_slice(alloc, name.as_bytes())?;
-    line.extend_from_slice(value.as_bytes())?;
-    line.extend_from_slice(b"\r\n")?;
-    Ok(line)
+    Some(text.as_bytes())
 }
 
 // Returns the lines of a POST that describe its body.
@@ -266,9 +229,7 @@ fn post_lines(alloc: Global, method: &str, body: &[u8]) -> Result<Vec<u8>, Alloc
         return Ok(Vec::new(alloc));
     }
     let mut digits = Buffer::new();
-    let fixed = b"Content-Type: application/x-www-form-urlencoded\r\nContent-Length: ";
-    let mut lines = Vec::from_slice(alloc, fixed)?;
-    lines.extend_from_slice(digits.format(body.len()).as_bytes())?;
-    lines.extend_from_slice(b"\r\n")?;
-    Ok(lines)
+    let size = digits.format(body.len()).as_bytes();
+    let kind = b"Content-Type: application/x-www-form-urlencoded\r\nContent-Length: ";
+    joined(alloc, &[kind, size, b"\r\n"])
 }

@@ -13,7 +13,6 @@ use Rattle.std.proofs.lemmas.Grind.{flat_map-append}
 use Rattle.tk_store.specs.FactSet.{Facts}
 use Rattle.tk_store.proofs.JoiningLaws.{joins_nothing, joins_more}
 use Rattle.tk_store.specs.Store.{facts_of}
-use Rattle.tk_format.specs.Format.{whole}
 use Rattle.tk_bundle.specs.Bundle.{bundle, bundle_bytes}
 use Rattle.tk_bundle.specs.Front.{IsCut, IsFrontOf, walk}
 use Rattle.tk_bundle.specs.declared.error.FrontError.{FrontError}
@@ -23,7 +22,6 @@ use Rattle.tk_region.specs.RegionFields.{RegionFields, Gains, place_in}
 use Rattle.tk_region.specs.Taking.{AgreesWith, TakesIn, has_unmade}
 use Rattle.tk_region.specs.declared.take.TakeError.{TakeError}
 use Rattle.tk_region.specs.declared.take.TakeError.TheVariants as refusal
-use Rattle.tk_world.proofs.BundleLaws.{spelled_facts}
 use Rattle.tokend.specs.Loading.{AreBundles, IsRefused, Loads, TakesAs, TakesEach, TakesFront, TakesOne, front_end, log_bytes, take_fault}
 use Rattle.tokend.specs.declared.load.LoadFault.{LoadFault}
 use Rattle.tokend.specs.declared.load.LoadFault.TheVariants.{Bad, Memory, Read}
@@ -115,14 +113,13 @@ parts_taken rest n more fs spells is =
 same_region : (old new : RegionFields) → new.number ≡ old.number → new.settings ≡ old.settings → new.facts ≡ old.facts → new ≡ old
 same_region old new number settings facts = λ i. record { number = number i; settings = settings i; facts = facts i }
 
-pub take_one : (old new : RegionFields) (rest : List ℕ) (x : Facts × ℕ) (bytes : List ℕ) (result : Result ℕ TakeError)
+pub take_one : (old new : RegionFields) (rest : List ℕ) (x : Facts × ℕ) (result : Result ℕ TakeError)
     → new.number ≡ old.number → new.settings ≡ old.settings → ((e : FrontError) → walk rest ≡ Err e → Ok x ≡ Err e)
     → ((fs : Facts) (more : List ℕ) → bundle.Fits fs → rest ≡ bundle_bytes fs ++ more → IsFrontOf (Ok x) fs)
-    → x.1 ≤ length rest → bundle.Fits x.0 → take x.1 rest ≡ bundle_bytes x.0 → bytes ≡ take x.1 rest
-    → TakesIn (facts_of old.facts) (next_in (place_in old)) (whole bundle bytes) result (facts_of new.facts)
+    → x.1 ≤ length rest → bundle.Fits x.0 → take x.1 rest ≡ bundle_bytes x.0
+    → TakesIn (facts_of old.facts) (next_in (place_in old)) (Some x.0) result (facts_of new.facts)
     → TakesOne old rest (loaded x.1 result) new
-take_one old new rest x bytes result number settings walked only within fits spells is takes =
-    of result (subst (λ o. TakesIn (facts_of old.facts) (next_in (place_in old)) o result (facts_of new.facts)) (spelled_facts bytes x.0 fits (is ∙ spells)) takes)
+take_one old new rest x result number settings walked only within fits spells takes = of result takes
   where
     same : facts_of new.facts ≡ facts_of old.facts → new ≡ old
     same e = same_region old new number settings e

@@ -5,6 +5,7 @@ ghost use Rattle.tokend.specs.Loading as spec;
 ghost use Rattle.tokend.specs.Loading.{Loads, TakesOne};
 ghost use Rattle.tokend.specs.declared.load.LoadFault.TheVariants as fault;
 
+use crate::script::READ_AT_ONCE;
 use std::alloc::{AllocError, AllocFailed, Global};
 use std::io::Read;
 use tk_bundle::{FrontError, read_front};
@@ -23,7 +24,7 @@ pub enum LoadFault {
 
 /// Takes in the bundles of a log in order, and returns how many bytes at its end were dropped.
 ///
-/// Each bundle is taken in as [`Region::take_in`] does. The dropped bytes are the beginning of a
+/// Each bundle is read once, and taken in as [`Region::take_in`] does. The dropped bytes are the beginning of a
 /// record that was cut. The log is read whole before its first bundle is taken in.
 pub(crate) fn load<I: Read>(
     alloc: Global,
@@ -47,7 +48,7 @@ fn read_log<I: Read>(alloc: Global, reader: &mut I) -> Result<Vec<u8>, LoadFault
     ensures fault { IfErr result (λ f. (f ≡ fault.Read) ⊎ (f ≡ fault.Memory)) }
 {
     let mut log = Vec::new(alloc);
-    let mut piece = [0u8; 8192];
+    let mut piece = [0u8; READ_AT_ONCE];
     while log.len() < usize::MAX {
         let Ok(count) = reader.read(&mut piece) else {
             return Err(LoadFault::Read);
@@ -79,12 +80,11 @@ fn load_bytes(alloc: Global, region: &mut Region, log: &[u8]) -> Result<u64, Loa
 fn take_front(alloc: Global, region: &mut Region, rest: &[u8]) -> Result<Option<usize>, LoadFault>
     ensures { TakesOne region.old rest.now result region.new }
 {
-    let count = match read_front(alloc, rest) {
-        Ok((_, count)) => count,
+    let (bundle, count) = match read_front(alloc, rest) {
+        Ok(front) => front,
         Err(error) => return front_end(error),
     };
-    let (front, _) = rest.split_at(count);
-    match region.take_in(alloc, front) {
+    match region.take_bundle(bundle) {
         Ok(_) => Ok(Some(count)),
         Err(error) => Err(take_fault(error)),
     }

@@ -14,7 +14,7 @@ use std::alloc::Global;
 use std::io::{self, Read, Write};
 use std::net::{Ipv4Addr, Net, OpenListener, OpenStream, Shutdown, TcpListener, TcpStream};
 use std::time::Clock;
-use tk_edge::{Discard, Edge, Fault as EdgeFault, Served};
+use tk_edge::{Discard, Edge, Fault as EdgeFault, HEAD_LIMIT, Served};
 use tk_handle::Moment;
 use tk_world::{Carrier, Event, Outcome, RunError, Settings, World};
 
@@ -120,7 +120,7 @@ fn serve_client<R: AllocGlobal + Clock>(
     ensures connection { IsConnection now words.now edge.old edge.new unknown result }
     ensures unlogged { result ≢ Err fault.Log }
 {
-    let mut buf = [0u8; 8192];
+    let mut buf = [0u8; HEAD_LIMIT];
     match listener.accept() {
         Ok((stream, _)) => serve_at(rt, &stream, edge, &mut Discard, &mut buf, now, words),
         Err(_) => Err(EdgeFault::Read),

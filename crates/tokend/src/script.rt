@@ -36,6 +36,9 @@ use tk_world::Event;
 /// The greatest length of a script, in bytes.
 pub const LIMIT: usize = 1_048_576;
 
+/// How many bytes of an input or an old log are read at once, at most.
+pub(crate) const READ_AT_ONCE: usize = 8_192;
+
 /// Reads all of the input, up to the limit.
 ///
 /// # Errors
@@ -49,7 +52,7 @@ pub(crate) fn read_script<I: Read>(alloc: Global, input: &mut I) -> Result<Vec<u
     ensures fault { IfErr result (IsInputFault (I.remaining input.old)) }
 {
     let mut script = Vec::new(alloc);
-    let mut piece = [0u8; 8192];
+    let mut piece = [0u8; READ_AT_ONCE];
     while script.len() <= LIMIT {
         let count = input.read(&mut piece)?;
         if count == 0 {

@@ -3,8 +3,8 @@
 use super::frail::{Fails, FrailSink, FrailSource};
 use super::new_edge;
 use super::talks::{EXCHANGE, REGISTRATION, Talk};
-use crate::{Discard, Edge, Fault, HEAD_LIMIT, Served, Sink, Source};
 use std::alloc::Global;
+use tk_edge::{Counted, Discard, Edge, Fault, HEAD_LIMIT, Served, Sink, Source};
 use tk_handle::Moment;
 use tk_message::Status;
 
@@ -284,8 +284,8 @@ fn is_served_by_std(alloc: Global, edge: &mut Edge) -> bool {
         return false;
     };
     let mut log = Discard;
-    let mut reader = crate::Counted::new(REGISTRATION.request);
-    let mut writer = crate::Counted::new(Vec::new(alloc));
+    let mut reader = Counted::new(REGISTRATION.request);
+    let mut writer = Counted::new(Vec::new(alloc));
     let mut buf = [0u8; HEAD_LIMIT];
     let result = edge.serve_one(
         alloc,

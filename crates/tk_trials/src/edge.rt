@@ -1,14 +1,13 @@
 //! Tests of connections over devices that fail, which no row of `check/rows/` can show.
 //!
-//! `serving` has the tests, `frail` the devices, and `talks` the requests. The tests of the crates
-//! below are in tk_trials.
+//! `serving` has the tests, `frail` the devices, and `talks` the requests.
 
 mod frail;
 mod serving;
 mod talks;
 
-use crate::Edge;
 use std::alloc::Global;
+use tk_edge::Edge;
 use tk_handle::RegionNumber;
 use tk_region::{Region, Settings};
 

@@ -3,8 +3,8 @@
 ghost use Rattle.std.specs.Prelude.{◌≡◌, ◌<◌, ◌≤◌, []};
 ghost use Rattle.tk_edge.specs.Failures.{one_more};
 
-use crate::{Failed, Sink, Source};
 use std::alloc::Global;
+use tk_edge::{Failed, Sink, Source};
 
 /// Which calls of a device fail. Calls are numbered from 0.
 #[derive(Clone, Copy)]
