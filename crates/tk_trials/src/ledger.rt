@@ -1,7 +1,8 @@
 //! The standing of a family's tokens, whatever the order in which its facts arrive.
 //!
 //! These are the tests of tk_ledger and, in `forests`, of tk_family. `plain` is a ledger that walks
-//! its facts, for comparison.
+//! its facts, by the functions of `walks`. `generated` and `histories` compare it with the ledger,
+//! the latter with facts skipped and families pruned. In `refused` and `pruned` memory runs out.
 
 mod alike;
 mod checked;
