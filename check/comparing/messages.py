@@ -7,6 +7,7 @@ import re
 from comparing.texts import OPERATING, PAGE, coded, rows, same, text_of
 
 FAULT, SERVE = "crates/tokend/src/fault.rt", "crates/tokend/src/serve.rt"
+LISTEN = "crates/tokend/src/listen.rt"
 LINE = r'Fault::(\w+)(?:\(\w+\))? => (?:put_all|tell_\w+)\(faults, [^"\n]*b"([^"]*)"'
 
 
@@ -20,7 +21,7 @@ def statuses_of_sources(fault):
 
 
 def of_sources():
-    fault, serve = text_of(FAULT), text_of(SERVE)
+    fault, serve, listen = text_of(FAULT), text_of(SERVE), text_of(LISTEN)
     statuses = statuses_of_sources(fault)
     errors = {}
     for name, line in re.findall(LINE, fault):
@@ -30,7 +31,7 @@ def of_sources():
     same(FAULT, "faults without a line of their own", {"Words": 2, "Output": 1}, statuses)
     for name in re.findall(r'EdgeFault::\w+ => put_all\(faults, &\[b"([^"\\]*)\\n"\]\)', serve):
         errors[name] = None
-    both = serve.split("fn put_both", 1)[1].split("\n}\n", 1)[0]
+    both = listen.split("fn put_both", 1)[1].split("\n}\n", 1)[0]
     announced = "".join(re.findall(r'b"([^"]*)"', both)).replace("\\n", "\n").split("\n")
     output = {announced[0].replace("dropped  bytes", "dropped N bytes"), announced[1] + "P"}
     return output, errors

@@ -1,4 +1,4 @@
-"""driver: builds load.c and floor.c with the C compiler, and drives a server with the first."""
+"""driver: builds load.c, many.c and floor.c with the C compiler, and drives a server with them."""
 import contextlib
 import json
 import os
@@ -14,7 +14,7 @@ HERE = os.path.dirname(os.path.abspath(__file__))
 
 
 class Driver:
-    """Both C programs, built into a folder that goes after use."""
+    """The C programs, built into a folder that goes after use."""
 
     def __init__(self):
         if not shutil.which("cc"):
@@ -22,9 +22,9 @@ class Driver:
         self.folder = tempfile.TemporaryDirectory()
 
     def __enter__(self):
-        for name in ("load", "floor"):
-            subprocess.run(["cc", "-O2", "-o", self.path(name), os.path.join(HERE, name + ".c")],
-                           check=True)
+        for name in ("load", "many", "floor"):
+            subprocess.run(["cc", "-O2", "-pthread", "-o", self.path(name),
+                            os.path.join(HERE, name + ".c")], check=True)
         return self
 
     def __exit__(self, *_):
@@ -35,8 +35,16 @@ class Driver:
 
     def load(self, server, count, *words):
         """What a run of load prints, with the requests a second and the processor time of each."""
+        return self.run(server, "load", server.port, count, *words)
+
+    def many(self, server, port, count, clients, how, tokens):
+        """The same of many, whose clients connect to a port: the server's, or that of a proxy."""
+        return self.run(server, "many", port, count, clients, how, server.resource,
+                        self.list_tokens(tokens))
+
+    def run(self, server, name, *words):
         before = server.used()
-        words = [self.path("load"), str(server.port), str(count), *words]
+        words = [self.path(name)] + [str(it) for it in words]
         done = subprocess.run(words, capture_output=True, text=True, check=False)
         if done.returncode:
             raise Broken(done.stderr.strip())
@@ -47,10 +55,14 @@ class Driver:
 
     def work(self, server, count, kind, tokens):
         """Drives an enrolled server: introspect, refresh or code."""
+        return self.load(server, count, kind, server.client, server.resource, server.authorize,
+                         urllib.parse.quote_plus(REDIRECT_TEXT), self.list_tokens(tokens))
+
+    def list_tokens(self, tokens):
+        """A file with a line for each token."""
         with open(self.path("tokens"), "w", encoding="ascii") as file:
             file.writelines(it + "\n" for it in tokens)
-        return self.load(server, count, kind, server.client, server.resource, server.authorize,
-                         urllib.parse.quote_plus(REDIRECT_TEXT), self.path("tokens"))
+        return self.path("tokens")
 
     @contextlib.contextmanager
     def floor(self, how):

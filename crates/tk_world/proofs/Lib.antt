@@ -7,4 +7,5 @@ pub mod PartLaws
 pub mod PromiseLaws
 pub mod Putting
 pub mod RegionLaws
+pub mod RequestLaws
 pub mod RunLaws

@@ -3,23 +3,7 @@
 --   request_bytes   the bytes of a request, by the fields of its line
 --   request_of      the bytes of a request whose METHOD is capital letters
 --   asked_of        the request of any line, by its first field and the fields after the moment
-use Rattle.std.specs.Prelude.{
-  ℕ,
-  Bool,
-  nat_le,
-  ◌&&◌,
-  List,
-  [],
-  ◌∷◌,
-  ◌++◌,
-  length,
-  codes,
-  decimal,
-  Option,
-  Some,
-  None,
-  if◌then◌else◌,
-}
+use Rattle.std.specs.Prelude.{ℕ, Bool, nat_le, ◌&&◌, List, [], ◌∷◌, length, codes, decimal, Option, Some, None, if◌then◌else◌}
 use Rattle.std.specs.List.{concat, list_all}
 use Rattle.std.specs.Str.{bytes_eq}
 use Rattle.tk_put.specs.Put.{field_line}
@@ -49,13 +33,17 @@ post_lines method body =
     ∷ decimal (length body) ∷ codes "\r\n" ∷ [])
     else []
 
+-- the parts of a request, joined in their order
+abbrev pub assembly : List ℕ → List ℕ → List ℕ → List ℕ → List ℕ → List ℕ → List ℕ
+assembly method target auth subject post body = concat (
+    method ∷ codes " " ∷ target ∷ codes " HTTP/1.1\r\nHost: tokend\r\n" ∷ auth ∷ subject ∷ post
+    ∷ codes "\r\n" ∷ body ∷ [])
+
 -- the bytes of a request, by the fields of its line
 abbrev pub request_bytes : List ℕ → List ℕ → List ℕ → List ℕ → List ℕ → List ℕ
-request_bytes method target auth subject body = concat (
-    method ∷ codes " " ∷ target ∷ codes " HTTP/1.1\r\nHost: tokend\r\n"
-    ∷ field_line (codes "Authorization: Basic ") (value_in auth)
-    ∷ field_line (codes "X-Subject: ") (value_in subject) ∷ post_lines method body
-    ∷ codes "\r\n" ∷ body ∷ [])
+request_bytes method target auth subject body =
+    assembly method target (field_line (codes "Authorization: Basic ") (value_in auth))
+    (field_line (codes "X-Subject: ") (value_in subject)) (post_lines method body) body
 
 -- the byte is a capital letter
 abbrev pub is_capital : ℕ → Bool

@@ -4,6 +4,7 @@
 ghost use Rattle.std.specs.Prelude.{◌≡◌, IfOk, string_bytes};
 ghost use Rattle.std.specs.List.{list_all};
 ghost use Rattle.std.specs.Option.{option_copied};
+ghost use Rattle.tk_put.specs.Put.{field_line};
 ghost use Rattle.tk_world.specs.Line.{bytes_in, texts};
 ghost use Rattle.tk_world.specs.RequestLine as spec;
 
@@ -192,23 +193,38 @@ fn request_bytes(
     ensures { IfOk result (λ bytes. bytes.items
         ≡ spec.request_bytes method.now target.now auth.now subject.now body.now) }
 {
-    let auth = field_line(alloc, b"Authorization: Basic ", value_in(auth))?;
-    let subject = field_line(alloc, b"X-Subject: ", value_in(subject))?;
+    let auth = line_of(alloc, b"Authorization: Basic ", auth)?;
+    let subject = line_of(alloc, b"X-Subject: ", subject)?;
     let post = post_lines(alloc, method, body)?;
-    joined(
-        alloc,
-        &[
-            method.as_bytes(),
-            b" ",
-            target.as_bytes(),
-            b" HTTP/1.1\r\nHost: tokend\r\n",
-            &auth,
-            &subject,
-            &post,
-            b"\r\n",
-            body,
-        ],
-    )
+    let (method, target) = (method.as_bytes(), target.as_bytes());
+    joined_request(alloc, method, target, &auth, &subject, &post, body)
+}
+
+// Joins the parts of a request, which live equally long.
+fn joined_request<'a>(
+    alloc: Global,
+    method: &'a [u8],
+    target: &'a [u8],
+    auth: &'a [u8],
+    subject: &'a [u8],
+    post: &'a [u8],
+    body: &'a [u8],
+) -> Result<Vec<u8>, AllocError>
+    ensures { IfOk result (λ bytes. bytes.items
+        ≡ spec.assembly method.now target.now auth.now subject.now post.now body.now) }
+{
+    let host = b" HTTP/1.1\r\nHost: tokend\r\n";
+    let parts = [
+        method, b" ", target, host, auth, subject, post, b"\r\n", body,
+    ];
+    joined(alloc, &parts)
+}
+
+// Returns the line of a field, or no bytes for the value `-`.
+fn line_of(alloc: Global, name: &[u8], value: &str) -> Result<Vec<u8>, AllocError>
+    ensures { IfOk result (λ line. line.items ≡ field_line name.now (spec.value_in value.now)) }
+{
+    field_line(alloc, name, value_in(value))
 }
 
 // Returns the value of a field, which `-` leaves out.

@@ -10,6 +10,7 @@
 --                 may prevent it
 --   Connection    IsConnection, what a connection does to an edge, its log and the lines about
 --                 faults
+--   Closing       LooksAndAdds, what is done to the connections that are set aside
 --   ServiceRun    IsServiceRun, what a service that ended well has done
 --   Status        status_of, the exit status of a fault; LeavesBegun, what a fault leaves of the
 --                 output
@@ -24,6 +25,7 @@ pub mod Loading
 pub mod Starting
 pub mod Serving
 pub mod Connection
+pub mod Closing
 pub mod ServiceRun
 pub mod Status
 pub mod ScriptRun

@@ -22,7 +22,8 @@
 //! - `script`: the input as events.
 //! - `draw`: random words. `timed`: a connection's time limit.
 //! - `log_file`, `load`: logs, new and old.
-//! - `start`: a service before its first connection. `serve`: its connections.
+//! - `start`: a service before its first connection. `listen`: its port.
+//! - `serve`: its connections. `closing`: what is left of them after the reply.
 //! - `loopback`: a script's requests as connections.
 //! - `fault`: what may go wrong, with its line and status.
 //! - `program`: the whole program, in order.
@@ -31,9 +32,11 @@
 //! The definitions are in `specs/`, listed in `Lib`.
 #![tactic(auto)]
 
+mod closing;
 mod command_line;
 mod draw;
 mod fault;
+mod listen;
 mod load;
 mod log_file;
 mod loopback;

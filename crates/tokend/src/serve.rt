@@ -8,19 +8,14 @@ ghost use Rattle.tk_handle.specs.Ranges.{IsRegion};
 ghost use Rattle.tk_region.specs.RegionFields.{Gains};
 ghost use Rattle.tk_region.specs.SettingsFields.{IsSettings};
 ghost use Rattle.tk_store.specs.FactSet.{Facts};
+ghost use Rattle.tokend.specs.Closing.{LooksAndAdds, MaySetAside};
 ghost use Rattle.tokend.specs.CommandLine.{settings_of};
 ghost use Rattle.tokend.specs.Connection.{IsConnection, ServesAll, ServesWithLog, Told};
-ghost use Rattle.tk_put.specs.Put.{Prints, joined_text};
+ghost use Rattle.tk_put.specs.Put.{Prints};
 ghost use Rattle.tokend.specs.ServiceRun.{HasRun, IsServiceRun};
 ghost use Rattle.tokend.specs.Serving.{
-  announced,
-  both_lines,
   connection_fault,
-  listening_line,
   Announces,
-  IsListenedOn,
-};
-ghost use Rattle.tokend.specs.Serving.{
   IsListenFault,
   IsServiceFault,
   IsStartFault,
@@ -28,25 +23,24 @@ ghost use Rattle.tokend.specs.Serving.{
   LeavesService,
 };
 
+use crate::closing::{ClosingStream, close, look_at_closing, set_aside, wait_for_all};
 use crate::draw::draw;
 use crate::fault::Fault;
+use crate::listen::listen;
 use crate::log_file::open_log;
 use crate::options::Service;
 use crate::start::{Start, begin, load_old};
-use crate::timed::{TimedSink, TimedSource};
-use itoa::Buffer;
+use crate::timed::{TimedSink, TimedSource, millis};
 use rand_chacha::ChaCha20Rng;
 use std::alloc::Global;
 use std::io::{self, Write};
-use std::net::{Ipv4Addr, Net, OpenListener, OpenStream, Shutdown, TcpListener, TcpStream};
+use std::net::{Net, OpenListener, TcpListener, TcpStream};
 use std::rt::Files;
 use std::time::Clock;
+use tk_closing::ClosingSet;
 use tk_edge::{Discard, Edge, Fault as EdgeFault, Served, Sink, Source};
 use tk_handle::Moment;
 use tk_put::put_all;
-
-/// How many bytes after its request a client may send, which the server reads and drops.
-const DROPPED: usize = 65_536;
 
 /// Serves a region, for the given number of connections or without end.
 ///
@@ -170,89 +164,6 @@ where
     }
 }
 
-// Listens on the port, or on any free one for 0, and prints the announcement.
-fn listen<R: Net<Listener = TcpListener, Stream = TcpStream>, O: Write>(
-    rt: &R,
-    port: u16,
-    dropped: u64,
-    output: &mut O,
-) -> Result<TcpListener, Fault>
-    ensures done { OnOk result
-        (Announces dropped port (O.contents output.old) (O.contents output.new)) }
-    ensures fault { IfErr result IsListenFault }
-    ensures left { IfErr result
-        (λ fault. LeavesAnnouncement dropped port fault (O.contents output.old)
-        (O.contents output.new)) }
-{
-    let Ok(listener) = TcpListener::bind(rt, (Ipv4Addr::new(127, 0, 0, 1), port)) else {
-        return Err(Fault::CannotListen);
-    };
-    let Ok(address) = listener.local_addr() else {
-        return Err(Fault::CannotListen);
-    };
-    match announce(output, dropped, listened_on(port, address.port())) {
-        Ok(()) => Ok(listener),
-        Err(_) => Err(Fault::Output),
-    }
-}
-
-// Returns the port of the listener: the requested one, or the one found if any free port was
-// requested.
-fn listened_on(asked: u16, found: u16) -> u16
-    ensures { IsListenedOn asked result }
-{
-    if asked == 0 { found } else { asked }
-}
-
-// Prints the lines before the first connection.
-fn announce<O: Write>(output: &mut O, dropped: u64, port: u16) -> io::Result<()>
-    ensures { Prints result (O.contents output.old) (O.contents output.new)
-        (announced dropped port) }
-{
-    if dropped == 0 {
-        return put_port(output, port);
-    }
-    put_both(output, dropped, port)
-}
-
-// Prints the line of the port.
-fn put_port<O: Write>(output: &mut O, port: u16) -> io::Result<()>
-    ensures { Prints result (O.contents output.old) (O.contents output.new) (listening_line port) }
-{
-    let mut digits = Buffer::new();
-    let port = digits.format(port).as_bytes();
-    put_and_flush(output, &[b"listening 127.0.0.1:", port, b"\n"])
-}
-
-// Prints the line of the dropped bytes and the line of the port.
-fn put_both<O: Write>(output: &mut O, dropped: u64, port: u16) -> io::Result<()>
-    ensures { Prints result (O.contents output.old) (O.contents output.new)
-        (both_lines dropped port) }
-{
-    let (mut digits, mut others) = (Buffer::new(), Buffer::new());
-    let dropped = digits.format(dropped).as_bytes();
-    let port = others.format(port).as_bytes();
-    put_and_flush(
-        output,
-        &[
-            b"dropped ",
-            dropped,
-            b" bytes\nlistening 127.0.0.1:",
-            port,
-            b"\n",
-        ],
-    )
-}
-
-// Writes the pieces and flushes.
-fn put_and_flush<O: Write>(output: &mut O, pieces: &[&[u8]]) -> io::Result<()>
-    ensures { Prints result (O.contents output.old) (O.contents output.new)
-        (joined_text pieces.now) }
-{
-    put_all(output, pieces)?;
-    output.flush()
-}
-
 /// Serves the connections of a listener, one after the other, up to the given number or without
 /// end.
 ///
@@ -277,11 +188,13 @@ pub(crate) fn serve_on<R: AllocGlobal + Clock, L: Sink, E: Write>(
         (record { edge = edge.new; log = L.holds log.new; faults = E.contents faults.new }) }
 {
     let mut buf = [0u8; 8192];
+    let mut closing = ClosingSet::new(rt.alloc());
     for _ in 0..requests.unwrap_or(u64::MAX) {
         let words = draw(words);
-        let served = serve_next(rt, listener, edge, log, &mut buf, &words);
+        let served = serve_next(rt, listener, &mut closing, edge, log, &mut buf, &words);
         tell_end(faults, served);
     }
+    wait_for_all(rt, &mut closing, &mut buf);
 }
 
 // Writes the fault of a connection, if any. A writer that fails is ignored, and the next fault is
@@ -294,10 +207,11 @@ fn tell_end<E: Write>(faults: &mut E, end: Result<Served, EdgeFault>)
     }
 }
 
-// Accepts the next connection and serves it.
+// Looks at the connections that are set aside, accepts the next one and serves it.
 fn serve_next<R: AllocGlobal + Clock, L: Sink>(
     rt: &R,
     listener: &TcpListener,
+    closing: &mut ClosingSet<ClosingStream>,
     edge: &mut Edge,
     log: &mut L,
     buf: &mut [u8; 8192],
@@ -307,17 +221,20 @@ fn serve_next<R: AllocGlobal + Clock, L: Sink>(
         × IsConnection now words.now edge.old edge.new
         (record { before = L.holds log.old; after = L.holds log.new }) result }
     ensures log_fault { result ≡ Err EdgeFault.Log → Rose (L.failed log.old) (L.failed log.new) }
+    ensures looked { LooksAndAdds closing.old closing.new }
 {
+    look_at_closing(rt, closing, buf);
     match listener.accept() {
-        Ok((stream, _)) => serve_stream(rt, &stream, edge, log, buf, words),
+        Ok((stream, _)) => serve_stream(rt, stream, closing, edge, log, buf, words),
         Err(_) => Err(EdgeFault::Read),
     }
 }
 
-// Serves one connection, at the clock's moment.
+// Serves one connection, at the clock's moment, and sets it aside.
 fn serve_stream<R: AllocGlobal + Clock, L: Sink>(
     rt: &R,
-    stream: &TcpStream,
+    stream: TcpStream,
+    closing: &mut ClosingSet<ClosingStream>,
     edge: &mut Edge,
     log: &mut L,
     buf: &mut [u8; 8192],
@@ -327,11 +244,14 @@ fn serve_stream<R: AllocGlobal + Clock, L: Sink>(
         × IsConnection now words.now edge.old edge.new
         (record { before = L.holds log.old; after = L.holds log.new }) result }
     ensures log_fault { result ≡ Err EdgeFault.Log → Rose (L.failed log.old) (L.failed log.new) }
+    ensures added { MaySetAside closing.old closing.new }
 {
-    match moment(rt) {
-        Ok(now) => serve_at(rt, stream, edge, log, buf, now, words),
-        Err(_) => Err(EdgeFault::Read),
-    }
+    let (Ok(now), Ok(since)) = (moment(rt), millis(rt)) else {
+        return Err(EdgeFault::Read);
+    };
+    let served = serve_since(rt, &stream, since, edge, log, buf, now, words);
+    set_aside(rt, closing, stream, since, buf);
+    served
 }
 
 /// Serves one connection at a moment, and drops what its client still sends.
@@ -348,15 +268,34 @@ pub(crate) fn serve_at<R: AllocGlobal + Clock, L: Sink>(
         (record { before = L.holds log.old; after = L.holds log.new }) result }
     ensures log_fault { result ≡ Err EdgeFault.Log → Rose (L.failed log.old) (L.failed log.new) }
 {
-    let Ok(mut source) = TimedSource::new(stream, rt) else {
+    let Ok(since) = millis(rt) else {
+        return Err(EdgeFault::Read);
+    };
+    let served = serve_since(rt, stream, since, edge, log, buf, now, words);
+    close(rt, stream, since, buf);
+    served
+}
+
+// Serves one connection that was accepted at `since`, at a moment, and ends its reply.
+fn serve_since<R: AllocGlobal + Clock, L: Sink>(
+    rt: &R,
+    stream: &TcpStream,
+    since: u64,
+    edge: &mut Edge,
+    log: &mut L,
+    buf: &mut [u8; 8192],
+    now: Moment,
+    words: &[u64; 6],
+) -> Result<Served, EdgeFault>
+    ensures connection { IsConnection now words.now edge.old edge.new
+        (record { before = L.holds log.old; after = L.holds log.new }) result }
+    ensures log_fault { result ≡ Err EdgeFault.Log → Rose (L.failed log.old) (L.failed log.new) }
+{
+    let Ok(mut source) = TimedSource::new(stream, rt, since) else {
         return Err(EdgeFault::Read);
     };
     let mut sink = TimedSink::new(&source);
-    let served = edge.serve_one(rt.alloc(), &mut source, &mut sink, log, buf, now, words);
-    if stream.shutdown(Shutdown::Write).is_ok() {
-        drain(&mut source, buf);
-    }
-    served
+    edge.serve_one(rt.alloc(), &mut source, &mut sink, log, buf, now, words)
 }
 
 // Returns the clock's moment in whole seconds, brought into the range of moments.
@@ -365,21 +304,6 @@ fn moment<C: Clock>(clock: &C) -> io::Result<Moment> {
     match Moment::new(seconds) {
         Some(moment) => Ok(moment),
         None => unreachable!("the seconds are at most the greatest moment's"),
-    }
-}
-
-// Drops the bytes that still come until the client closes, up to the limit.
-fn drain<S: Source>(source: &mut S, piece: &mut [u8]) {
-    let mut left = DROPPED;
-    for _ in 0..DROPPED {
-        let room = left.min(piece.len());
-        match source.take(&mut piece[..room]) {
-            Ok(count) if count > 0 => left = left.saturating_sub(count),
-            _ => return,
-        }
-        if left == 0 {
-            return;
-        }
     }
 }
 

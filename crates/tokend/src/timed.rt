@@ -5,11 +5,9 @@ ghost use Rattle.std.specs.Io.{ReadsAtMost, WritesAtMost};
 
 use std::io::{self, Read, Write};
 use std::net::{OpenStream, TcpStream};
-use std::time::{Clock, Duration, Instant};
+use std::time::{Clock, Duration};
+use tk_closing::LONGEST_MILLIS;
 use tk_edge::{Failed, Sink, Source};
-
-/// How many seconds a connection may take, from its acceptance until its client has closed.
-const LIMIT_SECONDS: u64 = 5;
 
 /// How many milliseconds longer a connection may take, which saves setting the wait before each
 /// read.
@@ -19,39 +17,71 @@ const SLACK_MILLIS: u64 = 500;
 /// for it.
 const NEVER_WAITS: usize = 8192;
 
+/// Returns the time in milliseconds, since some moment that stays the same.
+///
+/// # Errors
+///
+/// The failure of the clock.
+pub(crate) fn millis<C: Clock>(clock: &C) -> io::Result<u64> {
+    let millis = clock.monotonic()?.as_millis();
+    Ok(u64::try_from(millis).unwrap_or(u64::MAX))
+}
+
+// Returns how many milliseconds a connection has left that was accepted at `since`.
+fn left_millis<C: Clock>(clock: &C, since: u64) -> io::Result<u64> {
+    let taken = millis(clock)?.saturating_sub(since);
+    Ok(LONGEST_MILLIS.saturating_sub(taken))
+}
+
 /// The bytes of a connection's client. A read after the time limit fails.
 #[derive(Drop)]
 pub(crate) struct TimedSource<'a, C> {
     stream: &'a TcpStream,
     clock: &'a C,
-    start: Instant,
-    wait: Duration,
+    // When the connection was accepted, in milliseconds.
+    since: u64,
+    // The longest that a read waits, in milliseconds.
+    wait: u64,
     is_fresh: bool,
     /// How many reads have failed. The count saturates at `u64::MAX`.
     pub failures: u64,
 }
 
 impl<'a, C: Clock> TimedSource<'a, C> {
-    /// Returns the source of a connection that was just accepted.
+    /// Returns the source of a connection that was just accepted, at `since`.
     ///
     /// # Errors
     ///
-    /// The failure of the clock, or of setting the time limit.
-    pub(crate) fn new(stream: &'a TcpStream, clock: &'a C) -> io::Result<TimedSource<'a, C>>
-        ensures { IfOk result (λ source. source.failures ≡ 0) }
+    /// The failure of setting the time limit.
+    pub(crate) fn new(
+        stream: &'a TcpStream,
+        clock: &'a C,
+        since: u64,
+    ) -> io::Result<TimedSource<'a, C>>
+        ensures start { IfOk result (λ source. source.since ≡ since) }
+        ensures failures { IfOk result (λ source. source.failures ≡ 0) }
     {
-        let start = Instant::now(clock)?;
-        let wait = Duration::from_secs(LIMIT_SECONDS);
-        stream.set_read_timeout(Some(wait))?;
-        let (is_fresh, failures) = (true, 0);
-        Ok(TimedSource {
+        stream.set_read_timeout(Some(Duration::from_millis(LONGEST_MILLIS)))?;
+        let mut source = TimedSource::later(stream, clock, since);
+        source.is_fresh = true;
+        Ok(source)
+    }
+
+    /// Returns the source of a connection whose first bytes were read, and which was accepted at
+    /// `since`.
+    pub(crate) fn later(stream: &'a TcpStream, clock: &'a C, since: u64) -> TimedSource<'a, C>
+        ensures start { result.since ≡ since }
+        ensures failures { result.failures ≡ 0 }
+        ensures stale { result.is_fresh ≡ false }
+    {
+        TimedSource {
             stream,
             clock,
-            start,
-            wait,
-            is_fresh,
-            failures,
-        })
+            since,
+            wait: LONGEST_MILLIS,
+            is_fresh: false,
+            failures: 0,
+        }
     }
 
     // Reads bytes. The first read waits up to the whole limit, each later one up to the end of the
@@ -60,7 +90,7 @@ impl<'a, C: Clock> TimedSource<'a, C> {
         ensures within { ReadsAtMost result piece.new }
         ensures failures { self.new.failures ≡ self.old.failures }
         // The time began when the connection was accepted. No later read waits for the whole limit.
-        ensures start { self.new.start ≡ self.old.start }
+        ensures start { self.new.since ≡ self.old.since }
         ensures stale { self.new.is_fresh ≡ false }
     {
         if self.is_fresh {
@@ -75,16 +105,16 @@ impl<'a, C: Clock> TimedSource<'a, C> {
     // Shortens the wait to the time that is left, if it is too long by more than the slack.
     fn shorten_wait(&mut self) -> io::Result<()>
         ensures failures { self.new.failures ≡ self.old.failures }
-        ensures start { self.new.start ≡ self.old.start }
+        ensures start { self.new.since ≡ self.old.since }
         ensures fresh { self.new.is_fresh ≡ self.old.is_fresh }
     {
-        let taken = self.start.elapsed(self.clock)?;
-        let left = Duration::from_secs(LIMIT_SECONDS).saturating_sub(taken);
-        if left.is_zero() {
+        let left = left_millis(self.clock, self.since)?;
+        if left == 0 {
             return Err(io::Error::from(io::ErrorKind::TimedOut));
         }
-        if left.saturating_add(Duration::from_millis(SLACK_MILLIS)) < self.wait {
-            self.stream.set_read_timeout(Some(left))?;
+        if left.saturating_add(SLACK_MILLIS) < self.wait {
+            self.stream
+                .set_read_timeout(Some(Duration::from_millis(left)))?;
             self.wait = left;
         }
         Ok(())
@@ -117,7 +147,8 @@ impl<'a, C: Clock> Source for TimedSource<'a, C> {
 pub(crate) struct TimedSink<'a, C> {
     stream: &'a TcpStream,
     clock: &'a C,
-    start: Instant,
+    // When the connection was accepted, in milliseconds.
+    since: u64,
     is_fresh: bool,
     /// How many writes have failed. The count saturates at `u64::MAX`.
     pub failures: u64,
@@ -131,7 +162,7 @@ impl<'a, C: Clock> TimedSink<'a, C> {
         TimedSink {
             stream: source.stream,
             clock: source.clock,
-            start: source.start,
+            since: source.since,
             is_fresh: true,
             failures: 0,
         }
@@ -142,12 +173,12 @@ impl<'a, C: Clock> TimedSink<'a, C> {
     fn write_in_time(&mut self, piece: &[u8]) -> io::Result<usize>
         ensures within { WritesAtMost result piece.now }
         ensures failures { self.new.failures ≡ self.old.failures }
-        ensures start { self.new.start ≡ self.old.start }
+        ensures start { self.new.since ≡ self.old.since }
     {
         if !self.is_fresh || piece.len() > NEVER_WAITS {
-            let taken = self.start.elapsed(self.clock)?;
-            let left = Duration::from_secs(LIMIT_SECONDS).saturating_sub(taken);
-            self.stream.set_write_timeout(Some(left))?;
+            let left = left_millis(self.clock, self.since)?;
+            self.stream
+                .set_write_timeout(Some(Duration::from_millis(left)))?;
         }
         self.is_fresh = false;
         let mut stream = self.stream;

@@ -1,29 +1,5 @@
-use Rattle.std.proofs.Common.{◌≡◌, None, ap, inl}
-use Rattle.tokend.specs.Connection.{unknown}
-use Rattle.tokend.proofs.Connections.{served_less, unread}
+use Rattle.tokend.proofs.Connections.{unread}
 use Rattle.tokend.proofs.serve.serve_at.Goals as goal
 
 pub returns-in_default-clause-connection : goal.returns-in_default-clause-connection
 returns-in_default-clause-connection g c = unread c.args.now c.args.words.now c.args.edge.now (g.L.Sink.holds c.args.log.now)
-
-pub returns-then-is_ok-clause-connection : goal.returns-then-is_ok-clause-connection
-returns-then-is_ok-clause-connection g c = record {
-  served = λ unsealed. served_less (c.serve_one-served.new.log ≡ c.args.log.now) (g.L.Sink.holds c.serve_one-served.new.log ≡ g.L.Sink.holds c.args.log.now)
-      (record { sync = c.args.edge.now.sync; known = None; now = c.args.now; words = c.args.words.now })
-      (record { before = c.args.edge.now.region; after = c.serve_one-served.new.self.region })
-      (record { before = g.L.Sink.holds c.args.log.now; after = g.L.Sink.holds c.serve_one-served.new.log }) unknown c.serve_one-served.new.self.sealed
-      c.serve_one-served.result (ap g.L.Sink.holds) (c.serve_one-served.ensures.served unsealed);
-  shut = λ e. ((c.serve_one-served.ensures.untouched e).0, ap g.L.Sink.holds (c.serve_one-served.ensures.untouched e).2, inl (c.serve_one-served.ensures.turned_away e));
-  sync = c.serve_one-served.ensures.sync;
-}
-
-pub returns-else-is_ok-clause-connection : goal.returns-else-is_ok-clause-connection
-returns-else-is_ok-clause-connection g c = record {
-  served = λ unsealed. served_less (c.serve_one-served.new.log ≡ c.args.log.now) (g.L.Sink.holds c.serve_one-served.new.log ≡ g.L.Sink.holds c.args.log.now)
-      (record { sync = c.args.edge.now.sync; known = None; now = c.args.now; words = c.args.words.now })
-      (record { before = c.args.edge.now.region; after = c.serve_one-served.new.self.region })
-      (record { before = g.L.Sink.holds c.args.log.now; after = g.L.Sink.holds c.serve_one-served.new.log }) unknown c.serve_one-served.new.self.sealed
-      c.serve_one-served.result (ap g.L.Sink.holds) (c.serve_one-served.ensures.served unsealed);
-  shut = λ e. ((c.serve_one-served.ensures.untouched e).0, ap g.L.Sink.holds (c.serve_one-served.ensures.untouched e).2, inl (c.serve_one-served.ensures.turned_away e));
-  sync = c.serve_one-served.ensures.sync;
-}

@@ -1,5 +1,5 @@
 use Rattle.std.proofs.Common.{◌∙◌}
-use Rattle.tokend.proofs.serve.put_both.Goals as goal
+use Rattle.tokend.proofs.listen.put_both.Goals as goal
 
 pub returns : goal.returns
 returns g c =

@@ -1,0 +1,3 @@
+-- The lemmas of this crate:
+--   Looks   looks at connections, one after the other
+mod Looks

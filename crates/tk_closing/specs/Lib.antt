@@ -1,0 +1,3 @@
+-- The definitions of this crate:
+--   Closing   what is done to connections that are set aside
+pub mod Closing

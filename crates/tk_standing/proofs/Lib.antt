@@ -1,0 +1,3 @@
+pub mod StandingLaws
+pub mod KeepingLaws
+pub mod StatusStandsLaws

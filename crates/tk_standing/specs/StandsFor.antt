@@ -1,0 +1,40 @@
+-- What a store that skipped facts stands for (own).
+--   SlotStands   what one slot stands for
+--   StandsFor    a store stands for a set of facts
+--   AreSound     no token outlives its family, and what a fact uses was minted
+use Rattle.std.specs.Prelude.{◌≡◌, ◌≢◌, ◌≤◌, ℕ, Option, Some, None}
+use Rattle.std.specs.FinMap as map
+use Rattle.tk_handle.specs.declared.dot.Dot.{Dot}
+use Rattle.tk_handle.specs.declared.kind.Kind.TheVariants as kind
+use Rattle.tk_handle.specs.declared.token_id.TokenId.{TokenId}
+use Rattle.tk_family.specs.Families.{IsUnder, use_of}
+use Rattle.tk_fact.specs.declared.body.Body.{Body}
+use Rattle.tk_fact.specs.declared.code_issued.CodeIssued as issued
+use Rattle.tk_fact.specs.Tokens.{MintedFields}
+use Rattle.tk_store.specs.FactSet.{FactSet}
+use Rattle.tk_store.specs.Slots.{Slot, Held, Skipped}
+use Rattle.tk_store.specs.StoreFields.{StoreFields}
+use Rattle.tk_ledger.specs.Retention.{MaySkip}
+use Rattle.tk_ledger.specs.Tokens.{links_in, minted_in, issued_at}
+
+-- where U is the set of all facts made, a slot stands for the fact at its dot, if there is one: for
+-- none, for the fact that it holds, or for the fact of U, which may be skipped at the horizon
+abbrev pub SlotStands : FactSet → ℕ → Dot → Option Slot → Option Body → Type 0
+SlotStands U horizon d None fact = fact ≡ None
+SlotStands U horizon d (Some (Held b)) fact = (fact ≡ Some b) × (map.get U d ≡ Some b)
+SlotStands U horizon d (Some Skipped) fact =
+    (fact ≡ map.get U d) × MaySkip (map.get U) horizon d
+
+-- where U is the set of all facts made, the store P stands for the facts F
+abbrev pub StandsFor : StoreFields → FactSet → FactSet → Type 0
+StandsFor P U F =
+    (d : Dot) → SlotStands U P.horizon d (map.get P.slots d) (map.get F d)
+
+-- no access or refresh token outlives its family, and what a fact uses was minted
+pub record AreSound (U : FactSet) : Type 0 where
+  pub ends : (k : TokenId) (minted : MintedFields) (c : Dot) (code : issued.CodeIssued)
+      → k.kind ≢ kind.Code → minted_in (map.get U) k ≡ Some minted
+      → IsUnder (links_in (map.get U)) k.dot c → issued_at (map.get U) c ≡ Some code
+      → minted.expiry ≤ code.family_end
+  pub names : (d : Dot) (k : TokenId) → use_of (links_in (map.get U) d) ≡ Some k
+      → minted_in (map.get U) k ≢ None
