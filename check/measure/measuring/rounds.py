@@ -56,9 +56,9 @@ def end(*_):
     raise SystemExit(143)
 
 
-def run(measure, about, rounds):
+def run(measure, about, rounds, read=arguments):
     """The whole command: returns its status."""
-    given = arguments(about, rounds)
+    given = read(about, rounds)
     name = os.path.basename(sys.argv[0])
     signal.signal(signal.SIGTERM, end)
     machine = tables.about_machine()

@@ -70,7 +70,8 @@ def cells(row):
 
 
 def programs(found):
-    return ["%(name)s (%(version)s, %(digest)s)" % it for it in found["programs"]]
+    return ["%s (%s)" % (it["name"], ", ".join(filter(None, (it["version"], it["digest"]))))
+            for it in found["programs"]]
 
 
 def columns(found):

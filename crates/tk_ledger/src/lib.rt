@@ -1,19 +1,22 @@
-//! A set of facts, and what follows from it for clients, consents and tokens.
+//! What is known of facts, and what follows from it for clients, consents and tokens.
 //!
 //! A `Ledger` holds the facts of one region, in a `FactStore`.
 //!
-//! - `add` joins a fact to the set or refuses it. `Join` joins two ledgers, as their stores are.
+//! - `add` adds a fact or refuses it. `Join` joins two ledgers, as their stores are.
+//! - `skip` drops a fact for good and keeps its dot known. `prune` skips all facts of families that
+//!   are over at a moment, and raises the `horizon` to it.
 //! - `client` and `consent` return what was added and given at a dot. `consent_for` finds the
 //!   consent for a scope.
 //! - `revoked` returns whether a client revoked a token, `signed_out` when a subject last signed
 //!   out.
 //! - `status` returns the status of a handle at a moment, by one to eight look-ups.
 //!
-//! No look-up allocates memory. Facts may be from anyone and arrive in any order: each look-up
-//! returns what the whole set determines.
+//! No look-up allocates memory. Facts may be from anyone and arrive in any order, and be skipped in
+//! any order: each look-up returns what the facts that are held determine. At a skipped dot each
+//! status is wrong.
 //!
-//! Contracts see a ledger as its set of facts alone. Beside the facts, the ledger keeps an `Index`,
-//! which no crate above sees:
+//! Contracts see a ledger as its store alone: the facts that are held, the dots that are skipped,
+//! and the horizon. Beside the store, the ledger keeps an `Index`, which no crate above sees:
 //!
 //! - tables by key: clients (`client_rows`), consents (`consent_keys`), revocations
 //!   (`revocations`), the codes and sign-outs of subjects (`subject_keys`), and reuses (`reuses`)
@@ -23,7 +26,7 @@
 //! undoes it for a fact that is lost. `wake` writes the marks at a dot anew: of refresh tokens that
 //! their client revoked, codes whose subject signed out, and tokens whose reuse was seen, whichever
 //! fact arrives first. `looks`, `clients`, `consents`, `sign_outs` and `standing` look facts up.
-//! `retention` lists the facts of families that are over.
+//! `retention` lists the facts of families that are over, and `prune` skips them.
 //!
 //! In reading order: `Ledger`, `ClientView`, `ConsentView`, `Status`, `Standing`, `State`. The
 //! definitions are in `specs/`: `Clients`, `SignOuts`, `Tokens`, `Status`, `Standings`, `Ends`; for

@@ -1,19 +1,25 @@
 //! The standing of a family's tokens, whatever the order in which its facts arrive.
 //!
 //! These are the tests of tk_ledger and, in `forests`, of tk_family. `plain` is a ledger that walks
-//! its facts, for comparison.
+//! its facts, by the functions of `walks`. `generated` and `histories` compare it with the ledger,
+//! the latter with facts skipped and families pruned. In `refused` and `pruned` memory runs out.
 
+mod alike;
 mod checked;
 mod ends;
 mod facts;
 mod forests;
 mod generated;
+mod histories;
 mod joined;
 mod long;
 mod orders;
 mod plain;
+mod pruned;
 mod refused;
+mod same;
 mod sign_outs;
+mod walks;
 
 use ends::ended_otherwise;
 use facts::{Place, READ_WRITE, Says, Token, Told};

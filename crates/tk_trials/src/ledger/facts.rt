@@ -25,6 +25,8 @@ pub(super) enum Says {
     ConsentWithdrawn(Place),
     /// A code with these random words, to the client, by the consent.
     CodeIssued(u64, Place, Place),
+    /// Such a code, whose family ends at the moment.
+    CodeUntil(u64, Place, Place, u64),
     CodeRedeemed(Place, (u64, u64)),
     /// A rotation of the token minted there, to the tokens of the generation.
     RefreshRotated(Place, u16, (u64, u64)),
@@ -77,9 +79,13 @@ pub(super) const READ_WRITE: &[u8] = b"\x00\x0aread write";
 
 const ADDED: &[u8] = b"\x01\x00\x00\x0aread write\x01\x00\x16https://app.example/cb";
 
-// The moments of a code, and the bytes after them.
-const CODE_END: &[u8] = b"\x00\x00\x00\x00\x00\x00\x03\xe8\x00\x00\x00\x00\x00\x00\x04\x24\
-    \x00\x00\x00\x00\x00\x01\x5f\x90\x00\x03ann\x00\x0aread write\x00\x16https://app.example/cb\x00\x00";
+// The moments of a code.
+const CODE_TIMES: &[u8] = b"\x00\x00\x00\x00\x00\x00\x03\xe8\x00\x00\x00\x00\x00\x00\x04\x24";
+
+// The bytes of a code after the end of its family.
+const CODE_END: &[u8] = b"\x00\x03ann\x00\x0aread write\x00\x16https://app.example/cb\x00\x00";
+
+const FAMILY_END: u64 = 90_000;
 
 // The moments of tokens, with the scopes after their ends.
 const START: &[u8] = b"\x00\x00\x00\x00\x00\x00\x03\xf2";
@@ -88,10 +94,25 @@ const ACCESS_END: &[u8] = b"\x00\x00\x00\x00\x00\x00\x12\x02\x00\x0aread write";
 
 const REFRESH_END: &[u8] = b"\x00\x00\x00\x00\x00\x01\x55\x72\x00\x0aread write";
 
-fn issued(alloc: Global, at: Place, word: u64, by: (Place, Place)) -> Option<Vec<u8>> {
+fn issued(
+    alloc: Global,
+    at: Place,
+    word: u64,
+    (client, consent): (Place, Place),
+    family_end: u64,
+) -> Option<Vec<u8>> {
     let digest = digest((at, Kind::Code, word))?;
-    let (at, client, consent) = (spelled(at), spelled(by.0), spelled(by.1));
-    joined(alloc, &[&at, b"\x05", &client, &consent, &digest, CODE_END])
+    let parts: [&[u8]; 8] = [
+        &spelled(at),
+        b"\x05",
+        &spelled(client),
+        &spelled(consent),
+        &digest,
+        CODE_TIMES,
+        &family_end.to_be_bytes(),
+        CODE_END,
+    ];
+    joined(alloc, &parts)
 }
 
 // Returns a fact of the kind of this number that uses the token minted at a dot, with the bytes
@@ -151,7 +172,12 @@ fn bytes_of(alloc: Global, told: &Told) -> Option<Vec<u8>> {
         Says::ClientRetired(client) => naming(alloc, place, b"\x02", client, b""),
         Says::ConsentGiven(client, scope) => given(alloc, place, client, scope),
         Says::ConsentWithdrawn(consent) => naming(alloc, place, b"\x04", consent, b""),
-        Says::CodeIssued(word, client, consent) => issued(alloc, place, word, (client, consent)),
+        Says::CodeIssued(word, client, consent) => {
+            issued(alloc, place, word, (client, consent), FAMILY_END)
+        }
+        Says::CodeUntil(word, client, consent, end) => {
+            issued(alloc, place, word, (client, consent), end)
+        }
         Says::CodeRedeemed(code, words) => minted(alloc, place, b"\x06", (code, b""), words),
         Says::RefreshRotated(parent, generation, words) => {
             let generation = generation.to_be_bytes();

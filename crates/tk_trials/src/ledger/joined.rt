@@ -2,13 +2,16 @@
 //!
 //! Two regions redeemed one code while they were cut off from each other. Their ledgers and stores
 //! are joined in both directions. Sets that hold two facts at one dot aren't joined, and the second
-//! fact isn't added.
+//! fact isn't added. A join takes over skipped dots and the horizon, unless a fact that lasts is held
+//! at a skipped dot.
 
-use super::facts::{Says, Told, fact};
+use super::facts::{Place, Says, Told, dot, fact};
 use super::orders::{Addition, add_to_ledger};
 use super::refused::fresh;
 use super::{ADDED, GIVEN, ISSUED, REDEEMED, REDEEMED_AGAIN, TWO_REDEMPTIONS};
 use std::alloc::Global;
+use tk_handle::Moment;
+use tk_ledger::Ledger;
 use tk_store::{AddError, FactStore};
 use tk_vector::{Join, JoinError};
 
@@ -135,4 +138,57 @@ fn stores_clash(alloc: Global) -> Option<bool> {
 fn sets_with_two_facts_at_a_dot_are_apart(rt: HostRuntime) {
     assert!(rt; ledgers_clash(rt.alloc()) == Some(true), "ledgers");
     assert!(rt; stores_clash(rt.alloc()) == Some(true), "stores");
+}
+
+// Returns a ledger of the facts, with a dot skipped and the horizon at 5,000.
+fn marked(alloc: Global, facts: &[Told], at: Place) -> Option<Ledger> {
+    let (at, horizon) = (dot(at)?, Moment::new(5_000)?);
+    let mut ledger = fresh(alloc, facts)?;
+    ledger.raise_horizon(horizon);
+    if ledger.skip(at).is_ok() {
+        Some(ledger)
+    } else {
+        drop(ledger);
+        None
+    }
+}
+
+// Returns whether the dot is skipped and the horizon raised, whichever ledger is joined to the other.
+fn marks_join(alloc: Global) -> Option<bool> {
+    let mut one = fresh(alloc, FIRST)?;
+    let mut other = marked(alloc, FIRST, (1, 4))?;
+    let all = marked(alloc, FIRST, (1, 4))?;
+    let whole = fresh(alloc, FIRST)?;
+    let is_so = joins(&mut one, &other, &all) && joins(&mut other, &whole, &all);
+    let is_skipped = one.skipped(dot((1, 4))?) && one.store().len() == 3;
+    let is_raised = one.horizon().seconds() == 5_000;
+    drop(one);
+    drop(other);
+    drop(all);
+    drop(whole);
+    Some(is_so && is_skipped && is_raised)
+}
+
+#[test]
+fn skipped_dots_and_horizons_are_joined_in_both_directions(rt: HostRuntime) {
+    assert!(rt; marks_join(rt.alloc()) == Some(true));
+}
+
+// Returns whether ledgers are apart if one skips a dot at which the other holds a fact that lasts.
+fn marks_clash(alloc: Global) -> Option<bool> {
+    let mut one = fresh(alloc, &[ADDED])?;
+    let before = fresh(alloc, &[ADDED])?;
+    let mut other = marked(alloc, &[], (1, 1))?;
+    let same = marked(alloc, &[], (1, 1))?;
+    let is_so = is_apart(&mut one, &other, &before) && is_apart(&mut other, &before, &same);
+    drop(one);
+    drop(before);
+    drop(other);
+    drop(same);
+    Some(is_so)
+}
+
+#[test]
+fn a_skipped_dot_and_a_fact_that_lasts_are_apart(rt: HostRuntime) {
+    assert!(rt; marks_clash(rt.alloc()) == Some(true));
 }

@@ -5,6 +5,7 @@
 
 use super::facts::{ANN, Place, Says, Token, Told, dot, handle};
 use super::orders::{Case, Row, add_to_ledger, copied};
+use super::same::{same_clients, same_consents, same_statuses};
 use super::{ADDED, AT_ONCE, CUT_OFF, GIVEN, ISSUED, REVOKED_BY};
 use std::alloc::Global;
 use std::process::Abort;
@@ -12,7 +13,7 @@ use std::test::Fail;
 use tk_fact::Subject;
 use tk_family::Steps;
 use tk_handle::{Dot, Handle, Kind, Moment};
-use tk_ledger::{ClientView, ConsentView, Ledger, Standing, Status};
+use tk_ledger::Ledger;
 use tk_scope::Scope;
 use tk_store::AddError;
 
@@ -40,7 +41,7 @@ const FACTS: &[Told] = &[
 ];
 
 // The tokens that any of the dots may have minted.
-const TOKENS: &[Token] = &[
+pub(super) const TOKENS: &[Token] = &[
     ((1, 1), Kind::Code, 24),
     ((1, 1), Kind::Access, 7),
     ((1, 1), Kind::Refresh, 8),
@@ -66,80 +67,11 @@ const TOKENS: &[Token] = &[
 // The questions that two ledgers are compared by: about these tokens and all dots. They are made
 // before an addition runs out of memory.
 #[derive(Drop)]
-struct Asked<'a> {
-    now: Moment,
-    tokens: &'a [Token],
-    subject: &'a Subject,
-    scope: &'a Scope,
-}
-
-fn same_subjects(left: &Subject, right: &Subject) -> bool {
-    left.as_bytes() == right.as_bytes()
-}
-
-fn same_standings(left: &Standing<'_>, right: &Standing<'_>) -> bool {
-    left.client == right.client
-        && same_subjects(left.subject, right.subject)
-        && left.code == right.code
-        && left.scope.same(right.scope)
-        && same_ends(left, right)
-        && left.state == right.state
-}
-
-fn same_ends(left: &Standing<'_>, right: &Standing<'_>) -> bool {
-    left.start == right.start
-        && left.expiry == right.expiry
-        && left.family_end == right.family_end
-        && left.generation == right.generation
-}
-
-fn same_statuses(left: &Status<'_>, right: &Status<'_>) -> bool {
-    match left {
-        Status::Unseen => matches!(right, Status::Unseen),
-        Status::Wrong => matches!(right, Status::Wrong),
-        Status::Broken(left) => match right {
-            Status::Broken(right) => left == right,
-            _ => false,
-        },
-        Status::Known(left) => match right {
-            Status::Known(right) => same_standings(left, right),
-            _ => false,
-        },
-    }
-}
-
-fn same_views(left: &ClientView<'_>, right: &ClientView<'_>) -> bool {
-    left.sort == right.sort
-        && left.scope.same(right.scope)
-        && left.redirects.same(right.redirects)
-        && left.live == right.live
-}
-
-fn same_clients(left: &Option<ClientView<'_>>, right: &Option<ClientView<'_>>) -> bool {
-    match left {
-        Some(left) => match right {
-            Some(right) => same_views(left, right),
-            None => false,
-        },
-        None => right.is_none(),
-    }
-}
-
-fn same_grants(left: &ConsentView<'_>, right: &ConsentView<'_>) -> bool {
-    left.client == right.client
-        && same_subjects(left.subject, right.subject)
-        && left.scope.same(right.scope)
-        && left.live == right.live
-}
-
-fn same_consents(left: &Option<ConsentView<'_>>, right: &Option<ConsentView<'_>>) -> bool {
-    match left {
-        Some(left) => match right {
-            Some(right) => same_grants(left, right),
-            None => false,
-        },
-        None => right.is_none(),
-    }
+pub(super) struct Asked<'a> {
+    pub(super) now: Moment,
+    pub(super) tokens: &'a [Token],
+    pub(super) subject: &'a Subject,
+    pub(super) scope: &'a Scope,
 }
 
 fn revocations_agree(left: &Ledger, right: &Ledger, token: &Handle, client: Dot) -> bool {
@@ -173,6 +105,7 @@ fn place_agrees(left: &Ledger, right: &Ledger, asked: &Asked<'_>, dot: Dot) -> b
     found == right.consent_for(dot, asked.subject, asked.scope)
         && same_clients(&left.client(dot), &right.client(dot))
         && same_consents(&left.consent(dot), &right.consent(dot))
+        && left.skipped(dot) == right.skipped(dot)
 }
 
 fn places_agree(left: &Ledger, right: &Ledger, asked: &Asked<'_>) -> bool {
@@ -185,8 +118,9 @@ fn places_agree(left: &Ledger, right: &Ledger, asked: &Asked<'_>) -> bool {
     true
 }
 
-fn agree(left: &Ledger, right: &Ledger, asked: &Asked<'_>) -> bool {
+pub(super) fn agree(left: &Ledger, right: &Ledger, asked: &Asked<'_>) -> bool {
     left.store().len() == right.store().len()
+        && left.horizon() == right.horizon()
         && left.signed_out(asked.subject) == right.signed_out(asked.subject)
         && tokens_agree(left, right, asked)
         && places_agree(left, right, asked)
@@ -340,7 +274,7 @@ fn row_changes_no_answer(alloc: Global, facts: &[Told], rows: &[Row]) -> Option<
 
 // Asserts that the comparison holds, which isn't known if memory ran out outside the ledger that is
 // tested.
-fn is_told(rt: &impl Abort, name: &str, told: Option<bool>) -> Result<(), Fail> {
+pub(super) fn is_told(rt: &impl Abort, name: &str, told: Option<bool>) -> Result<(), Fail> {
     let is_so = told.ok_or("no memory")?;
     assert!(rt; is_so, "{name}");
     Ok(())
