@@ -91,7 +91,7 @@ mark_stands P U F G horizon d may here others S =
     slot_put U (max P.horizon horizon) P.slots d Skipped G
     (here, may_more U U (itself U) horizon (max P.horizon horizon) (omega arith) d may)
     (λ q ne. subst (λ (f : Option Body). SlotStands U (max P.horizon horizon) q (map.get P.slots q) f) (sym (others q ne))
-        (slot_more U U (itself U) P.horizon (max P.horizon horizon) (omega arith) q (map.get P.slots q) (map.get F q) (S q)))
+    (slot_more U U (itself U) P.horizon (max P.horizon horizon) (omega arith) q (map.get P.slots q) (map.get F q) (S q)))
 
 -- a fact that is made, or taken in at an unknown dot
 pub fact_stands : (P : StoreFields) (U F G : FactSet) (d : Dot) (b : Body) → map.get U d ≡ Some b → map.get G d ≡ Some b → ((q : Dot) → q ≢ d → map.get G q ≡ map.get F q) → StandsFor P U F → StandsFor (with_fact P d b) U G

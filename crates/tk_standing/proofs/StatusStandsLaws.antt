@@ -240,12 +240,12 @@ module _ (P : StoreFields) (U F : FactSet) (S : StandsFor P U F) where
         → AnsweredAlike now h (status_by H now h.id (Some b) (Some m) (root_in (map.get H) h.id.dot)) (status_by F now h.id (Some b) (Some m) r)
     by_root b m mints held None is = inl (broken_same b m (root_in (map.get H) h.id.dot) is refl)
     by_root b m mints held (Some root) is = elim (cases_lt now root.issued.family_end) [
-        | inl early ↦ inl (open_root early)
-        | inr over ↦ inr (
-            lost_by H (held_made P U F S) b m root.code root.issued (minted-below F U (all_made P U F S) h.id m mints) made issued over (root_in (map.get H) h.id.dot) refl (rooted H m held (root_in (map.get H) h.id.dot) refl),
-            lost_by F (all_made P U F S) b m root.code root.issued (minted-below F U (all_made P U F S) h.id m mints) made issued over (Some root) is (λ code none. some_none root none),
-          )
-      ]
+      | inl early ↦ inl (open_root early)
+      | inr over ↦ inr (
+        lost_by H (held_made P U F S) b m root.code root.issued (minted-below F U (all_made P U F S) h.id m mints) made issued over (root_in (map.get H) h.id.dot) refl (rooted H m held (root_in (map.get H) h.id.dot) refl),
+        lost_by F (all_made P U F S) b m root.code root.issued (minted-below F U (all_made P U F S) h.id m mints) made issued over (Some root) is (λ code none. some_none root none),
+      )
+    ]
       where
         some_none : (x : Root) → Some x ≡ None → ⊥
         some_none x e = cc
