@@ -3,8 +3,8 @@
 //! The crate has no function of its own. A crate with tests is proved once more for them, so these
 //! tests are not in the crates that they test.
 //!
-//! - `ledger`: ledgers that run out of memory, ledgers beside a plain one, forests, and how many
-//!   look-ups a reply takes.
+//! - `ledger`: ledgers that run out of memory, ledgers beside a plain one, with facts skipped and
+//!   families pruned too, forests, and how many look-ups a reply takes.
 //! - `edge`: connections over devices that fail.
 //! - `region`: a region that runs out of memory.
 //! - `results` and `uris`: results of calls that the program doesn't print.

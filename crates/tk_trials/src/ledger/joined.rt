@@ -2,8 +2,8 @@
 //!
 //! Two regions redeemed one code while they were cut off from each other. Their ledgers and stores
 //! are joined in both directions. Sets that hold two facts at one dot aren't joined, and the second
-//! fact isn't added. A join takes over skipped dots and the horizon, unless a fact that lasts is held
-//! at a skipped dot.
+//! fact isn't added. A join takes over skipped dots and the horizon, unless a fact that lasts is
+//! held at a skipped dot.
 
 use super::facts::{Place, Says, Told, dot, fact};
 use super::orders::{Addition, add_to_ledger};
@@ -153,7 +153,8 @@ fn marked(alloc: Global, facts: &[Told], at: Place) -> Option<Ledger> {
     }
 }
 
-// Returns whether the dot is skipped and the horizon raised, whichever ledger is joined to the other.
+// Returns whether the dot is skipped and the horizon raised, whichever ledger is joined to the
+// other.
 fn marks_join(alloc: Global) -> Option<bool> {
     let mut one = fresh(alloc, FIRST)?;
     let mut other = marked(alloc, FIRST, (1, 4))?;

@@ -1,7 +1,7 @@
 //! A ledger computed afresh for each answer: `PlainLedger`.
 //!
-//! The ledger keeps facts in a list, and the dots of skipped facts in another. Each answer is made by
-//! the walks of `walks`. Tests compare the ledger of tk_ledger with it.
+//! The ledger keeps facts in a list, and the dots of skipped facts in another. The walks of `walks`
+//! make each answer. Tests compare the ledger of tk_ledger with it.
 
 use super::walks::{
     Sought, client_at, code_above, consent_at, consents, held, holds, is_dead, is_ended,
@@ -34,11 +34,11 @@ fn place_of(facts: &[Fact], dot: Dot) -> Option<usize> {
     None
 }
 
-// Returns whether the dot is below another, or there is no other.
-fn is_below(dot: Dot, other: Option<Dot>) -> bool {
+// Returns the lower of two dots, or the first if there is no other.
+fn lower(dot: Dot, other: Option<Dot>) -> Dot {
     match other {
-        Some(other) => dot < other,
-        None => true,
+        Some(other) if other < dot => other,
+        _ => dot,
     }
 }
 
@@ -199,10 +199,10 @@ impl PlainLedger {
     // Returns the lowest dot of a live consent of the client and subject for the scope.
     pub(super) fn consent_for(&self, client: Dot, subject: &Subject, scope: &Scope) -> Option<Dot> {
         let facts = self.facts.as_slice();
-        let mut least = None;
+        let mut least: Option<Dot> = None;
         for fact in facts {
-            if consents(facts, fact, client, subject, scope) && is_below(fact.dot, least) {
-                least = Some(fact.dot);
+            if consents(facts, fact, client, subject, scope) {
+                least = Some(lower(fact.dot, least));
             }
         }
         least
