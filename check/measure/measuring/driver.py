@@ -7,8 +7,9 @@ import subprocess
 import tempfile
 import urllib.parse
 
+from measuring.asking import REDIRECT_TEXT
 from measuring.rounds import Absent, Broken
-from measuring.server import REDIRECT_TEXT, Process
+from measuring.server import Process
 
 HERE = os.path.dirname(os.path.abspath(__file__))
 
@@ -54,9 +55,10 @@ class Driver:
         return found
 
     def work(self, server, count, kind, tokens):
-        """Drives an enrolled server: introspect, refresh or code."""
+        """Drives an enrolled server, or a peer: introspect, refresh or code."""
         return self.load(server, count, kind, server.client, server.resource, server.authorize,
-                         urllib.parse.quote_plus(REDIRECT_TEXT), self.list_tokens(tokens))
+                         urllib.parse.quote_plus(REDIRECT_TEXT), self.list_tokens(tokens),
+                         server.introspect, server.token, server.subject)
 
     def list_tokens(self, tokens):
         """A file with a line for each token."""

@@ -2,7 +2,7 @@
  * and prints a line of JSON: how many were counted and how many sent, the seconds of those that
  * were counted, and of one the median and the 99th of a hundred in microseconds.
  *
- *   load PORT COUNT KIND [CLIENT RESOURCE AUTHORIZE REDIRECT TOKENS]
+ *   load PORT COUNT KIND [CLIENT RESOURCE AUTHORIZE REDIRECT TOKENS INTROSPECT TOKEN SUBJECT]
  *
  * KIND is one of these:
  *   get         GET /, as the C server beside it replies to
@@ -11,8 +11,9 @@
  *               next line of TOKENS
  *   code        GET AUTHORIZE as ann, then the code is redeemed: two requests
  *
- * CLIENT and RESOURCE are the credentials of Basic, REDIRECT the URI as a form has it. The first
- * 20 aren't counted. The first reply that isn't as it should be ends the run with status 1. */
+ * CLIENT and RESOURCE are the credentials of Basic, REDIRECT the URI as a form has it. INTROSPECT
+ * and TOKEN are the targets of requests, SUBJECT is the header line that ann's browser sends. The
+ * first 20 aren't counted. The first reply that isn't as it should be ends the run with status 1. */
 #define _GNU_SOURCE
 #include <arpa/inet.h>
 #include <netinet/in.h>
@@ -27,9 +28,11 @@
 #define ROOM 65536
 #define WARM 20
 #define CHAIN 30
+#define TOKEN 4096
 
 static int port;
 static const char *client, *resource, *authorize, *redirect;
+static const char *introspect_at, *token_at, *subject;
 static char **tokens;
 static long token_count, next_token;
 static char request[ROOM], reply[ROOM];
@@ -91,15 +94,20 @@ static int post(const char *target, const char *credentials, const char *body) {
 
 static int get(const char *target, const char *header) {
     return ask(snprintf(request, ROOM,
-                        "GET %s HTTP/1.1\r\nHost: 127.0.0.1\r\nConnection: close\r\n%s\r\n",
-                        target, header));
+                        "GET %s HTTP/1.1\r\nHost: 127.0.0.1\r\nConnection: close\r\n%s%s\r\n",
+                        target, header, header[0] ? "\r\n" : ""));
 }
 
-/* Copies from the reply what stands between a mark and the first of the ends. */
-static void cut(char *out, size_t size, const char *mark, const char *ends) {
+/* What is behind a mark in the reply; spaces between are passed over. */
+static const char *behind(const char *mark) {
     char *at = strstr(reply, mark);
     if (!at) give_up(mark);
     at += strlen(mark);
+    return at + strspn(at, " ");
+}
+
+/* Copies a text up to the first of the ends. */
+static void cut(char *out, size_t size, const char *at, const char *ends) {
     snprintf(out, size, "%.*s", (int)strcspn(at, ends), at);
 }
 
@@ -109,38 +117,38 @@ static void plain(void) {
 
 static void introspect(void) {
     static unsigned long drawn = 88172645463325252;
-    char body[256];
+    char body[TOKEN + 16];
     drawn ^= drawn << 13, drawn ^= drawn >> 7, drawn ^= drawn << 17;
     snprintf(body, sizeof body, "token=%s", tokens[drawn % token_count]);
-    if (post("/introspect", resource, body) != 200) give_up("introspect");
-    if (!strstr(reply, "\"active\":true")) give_up("introspect");
+    if (post(introspect_at, resource, body) != 200) give_up("introspect");
+    if (strncmp(behind("\"active\":"), "true", 4)) give_up("introspect");
 }
 
 static void refresh(void) {
-    static char token[128];
+    static char token[TOKEN];
     static int generation = CHAIN;
-    char body[256];
+    char body[TOKEN + 64];
     if (generation++ == CHAIN) {
         if (next_token == token_count) give_up("the tokens are used up");
         snprintf(token, sizeof token, "%s", tokens[next_token++]);
         generation = 1;
     }
     snprintf(body, sizeof body, "grant_type=refresh_token&refresh_token=%s", token);
-    if (post("/token", client, body) != 200) give_up("refresh");
-    cut(token, sizeof token, "\"refresh_token\":\"", "\"");
+    if (post(token_at, client, body) != 200) give_up("refresh");
+    cut(token, sizeof token, behind("\"refresh_token\":") + 1, "\"");
 }
 
 static void code(void) {
-    char given[128], body[1024];
-    if (get(authorize, "X-Subject: ann\r\n") != 302) give_up("authorize");
-    cut(given, sizeof given, "code=", "&\r");
+    char given[TOKEN], body[TOKEN + 1024];
+    if (get(authorize, subject) != 302) give_up("authorize");
+    cut(given, sizeof given, behind("code="), "&\r");
     snprintf(body, sizeof body, "grant_type=authorization_code&code=%s&redirect_uri=%s", given,
              redirect);
-    if (post("/token", client, body) != 200) give_up("code");
+    if (post(token_at, client, body) != 200) give_up("code");
 }
 
 static void read_tokens(const char *name) {
-    char line[256];
+    char line[TOKEN];
     long room = 0;
     FILE *file = fopen(name, "r");
     while (file && fgets(line, sizeof line, file)) {
@@ -171,12 +179,13 @@ static void (*work_of(const char *kind))(void) {
 }
 
 int main(int count, char **words) {
-    if (count != 4 && count != 9) return 2;
+    if (count != 4 && count != 12) return 2;
     port = atoi(words[1]);
     long requests = atol(words[2]);
     void (*work)(void) = work_of(words[3]);
-    if (count == 9) {
+    if (count == 12) {
         client = words[4], resource = words[5], authorize = words[6], redirect = words[7];
+        introspect_at = words[9], token_at = words[10], subject = words[11];
         read_tokens(words[8]);
     }
     times = calloc(requests, sizeof *times);

@@ -1,39 +1,23 @@
 """server: a program that serves on a free port, in a folder of its own."""
-import base64
 import contextlib
-import json
 import os
 import re
 import select
-import socket
 import subprocess
 import tempfile
-import urllib.parse
 
-from measuring.facts import REDIRECT
+from measuring.asking import REDIRECT_TEXT, Asked, authorize, basic, request
 from measuring.rounds import Absent, Broken
 
 PATIENCE = 600  # seconds that a start with a long history may take
 SECRET, WORD = "s3cret", "res0urce"
-REDIRECT_TEXT = REDIRECT.decode()
-
-
-def basic(name, secret):
-    return base64.b64encode(("%s:%s" % (name, secret)).encode()).decode()
-
-
-def request(method, target, body=b"", *headers):
-    lines = ["%s %s HTTP/1.1" % (method, target), "Host: tokend", *headers]
-    if method == "POST":
-        lines.append("Content-Length: %d" % len(body))
-    return "\r\n".join(lines + ["", ""]).encode() + body
 
 
 def push(bundle):
     return request("POST", "/sync/push", bundle)
 
 
-class Process:
+class Process(Asked):
     """A child that prints where it listens."""
 
     def __init__(self, words, folder):
@@ -91,34 +75,6 @@ class Server(Process):
         words = [program, "serve", "--region", str(region), "--port", "0", "--seed", seed]
         super().__init__(words + list(options), folder)
 
-    def ask(self, sent, patience=60):
-        """The status of the reply to a request, and the reply."""
-        said = b""
-        with socket.create_connection(("127.0.0.1", self.port), patience) as peer:
-            peer.sendall(sent)
-            while piece := peer.recv(65536):
-                said += piece
-        head, _, body = said.partition(b"\r\n\r\n")
-        length = re.search(rb"\r\nContent-Length: (\d+)", head)
-        if not length or len(body) < int(length[1]):
-            raise ConnectionError("no whole reply")
-        return int(said[9:12]), said
-
-    def wanted(self, status, sent):
-        got, said = self.ask(sent)
-        if got != status:
-            raise Broken("%r is answered %r" % (sent[:60], said[:300]))
-        return said
-
-    def form(self, target, fields, credentials=None, status=200):
-        """The members of the reply to a form, if it has any."""
-        headers = ["Content-Type: application/x-www-form-urlencoded"]
-        if credentials:
-            headers.append("Authorization: Basic " + credentials)
-        sent = request("POST", target, urllib.parse.urlencode(fields).encode(), *headers)
-        body = self.wanted(status, sent).partition(b"\r\n\r\n")[2]
-        return json.loads(body) if body else {}
-
     def enrol(self):
         """Adds a client, a resource server, and ann's consent to the client."""
         rights = {"scope": "read write", "redirects": REDIRECT_TEXT}
@@ -130,22 +86,13 @@ class Server(Process):
         self.consent_id = self.form("/admin/consent", given, status=201)["consent_id"]
         self.client = basic(self.client_id, SECRET)
         self.resource = basic(self.resource_id, WORD)
-        self.authorize = "/authorize?" + urllib.parse.urlencode({
-            "response_type": "code", "client_id": self.client_id, "scope": "read write",
-            "redirect_uri": REDIRECT_TEXT, "state": "xyz"})
+        self.authorize = authorize("/authorize", self.client_id)
         return self
 
     def enrol_as(self, other):
         """Goes on with the clients of another server, whose facts this one has."""
         self.client, self.resource = other.client, other.resource
         self.authorize = other.authorize
-
-    def log_in(self):
-        """The tokens of a code that ann's browser got and the client redeemed."""
-        said = self.wanted(302, request("GET", self.authorize, b"", "X-Subject: ann"))
-        code = re.search(rb"[?&]code=([\w-]+)", said)[1].decode()
-        fields = {"grant_type": "authorization_code", "code": code, "redirect_uri": REDIRECT_TEXT}
-        return self.form("/token", fields, self.client)
 
     def push(self, bundles):
         for bundle in bundles:

@@ -43,6 +43,11 @@ def machine(about):
             "load %(load).2f" % about)
 
 
+def part_of(ascending, part):
+    """What a part of the values, such as 0.99, isn't above."""
+    return ascending[min(int(len(ascending) * part), len(ascending) - 1)]
+
+
 def number(value):
     """A number with two or three digits that count, or more if it is great or whole."""
     if value >= 100 or value == int(value):
