@@ -13,7 +13,8 @@
  *
  * CLIENT and RESOURCE are the credentials of Basic, REDIRECT the URI as a form has it. INTROSPECT
  * and TOKEN are the targets of requests, SUBJECT is the header line that ann's browser sends. The
- * first 20 aren't counted. The first reply that isn't as it should be ends the run with status 1. */
+ * first 20 aren't counted, or as many as half of COUNT if that is fewer. The first reply that isn't
+ * as it should be ends the run with status 1. */
 #define _GNU_SOURCE
 #include <arpa/inet.h>
 #include <netinet/in.h>
@@ -189,7 +190,7 @@ int main(int count, char **words) {
         read_tokens(words[8]);
     }
     times = calloc(requests, sizeof *times);
-    for (int i = 0; i < WARM; i++) work();
+    for (long i = 0; i < WARM && i < requests / 2; i++) work();
     wanted = requests;
     double start = now();
     while (timed < wanted) work();

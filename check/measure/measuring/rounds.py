@@ -27,12 +27,14 @@ class Broken(Exception):
 def arguments(about, rounds):
     """What a command of check/measure was given. Ends with status 2 if that is wrong."""
     parser = argparse.ArgumentParser(description=about.split("\n")[0])
-    parser.add_argument("--rounds", type=int, default=rounds, metavar="N")
-    parser.add_argument("--small", action="store_true", help="small sizes, to see it work")
+    parser.add_argument("--rounds", type=int, metavar="N")
+    parser.add_argument("--small", action="store_true", help="small sizes, and one round")
     parser.add_argument("--json", metavar="FILE", help="writes the data of the table too")
     parser.add_argument("program", nargs="*", default=[os.environ.get("TOKEND") or BUILT])
     given = parser.parse_args()
-    if given.rounds is not None and given.rounds < 1:
+    if given.rounds is None:
+        given.rounds = 1 if given.small and rounds else rounds
+    elif given.rounds < 1:
         parser.error("at least one round")
     given.program = [os.path.abspath(it) for it in given.program]
     for program in given.program:
