@@ -68,11 +68,12 @@ class Process(Asked):
 class Server(Process):
     """A running `tokend serve`, with a client, a resource server and a consent once enrolled."""
 
-    def __init__(self, program, folder, *options, region=1):
+    def __init__(self, program, folder, *options, region=1, before=()):
+        """Words may stand before the program, of a command that starts it."""
         seed = os.path.join(folder, "seed")
         with open(seed, "wb") as file:
             file.write(os.urandom(32))
-        words = [program, "serve", "--region", str(region), "--port", "0", "--seed", seed]
+        words = [*before, program, "serve", "--region", str(region), "--port", "0", "--seed", seed]
         super().__init__(words + list(options), folder)
 
     def enrol(self):
