@@ -1,7 +1,8 @@
 """facts: what a region made, as bytes of docs/FORMATS.md, and the handles of its tokens.
 
-All of it is of one region, whose serials begin with 3: the two before belong to a client and to a
-consent. It is made here, and not by a server, so that a million families can be pushed to one.
+All of it is of one region, whose serials begin with 1 and have no gap: a vector covers facts up to
+the first one that is missing. It is made here, and not by a server, so that a million families can
+be pushed to one. The client and the consent are facts of another region.
 """
 import base64
 import hashlib
@@ -50,7 +51,7 @@ class Maker:
 
     def __init__(self, region, client="c1-1", consent="g1-2", subject=None):
         self.region, self.client, self.consent = region, read_dot(client), read_dot(consent)
-        self.serials, self.now, self.subject = itertools.count(3), int(time.time()), subject
+        self.serials, self.now, self.subject = itertools.count(1), int(time.time()), subject
 
     def new_dot(self):
         return self.region, next(self.serials)
@@ -62,7 +63,7 @@ class Maker:
     def login(self):
         """A code and its redemption: the redemption's dot, and both facts."""
         code, redemption = self.new_dot(), self.new_dot()
-        subject = self.subject or b"subject-%d" % (code[1] // 2 - 1)
+        subject = self.subject or b"subject-%d" % (code[1] // 2)
         times = struct.pack(">QQQ", self.now, self.now + 60, self.now + FAMILY)
         given = (dot(code) + b"\5" + dot(self.client) + dot(self.consent) + digest(CODE, code)
                  + times + text(subject) + text(SCOPE) + text(REDIRECT) + b"\1\0")

@@ -1,0 +1,177 @@
+"""blocks: the tables of docs/MEASURED.md, each made from the results of one measurement."""
+from measuring.results import part, text_of
+from measuring import paper, tables
+
+BEHIND = ", requests a second"
+
+
+def speed_rows(it, names, beside):
+    """A line for each kind of request, and its part of the rate of each C server."""
+    return [[name, it.cell(name + BEHIND), it.both(name), it.number(name + ", processor in µs")]
+            + [it.number("%s, of the %s" % (name, floor)) if floor else "1" for floor in beside]
+            for name in names]
+
+
+HEAD = ["request", "a second", "median, 99th in µs", "processor in µs"]
+
+
+def speed(parts):
+    it, floor = part(parts, "speed"), "C server"
+    rows = speed_rows(it, [floor], [None])
+    rows += speed_rows(it, ["introspect", "refresh", "code"], [floor])
+    return it, text_of(HEAD + ["of its rate"], rows)
+
+
+def logged(parts):
+    it, floors = part(parts, "speed"), ["C server that appends", "C server that syncs"]
+    rows = [speed_rows(it, [name], [])[0] + ["", ""] for name in floors]
+    rows += speed_rows(it, ["refresh with --log", "code with --log"], floors)
+    return it, text_of(HEAD + ["of the first's", "of the second's"], rows)
+
+
+def calls(parts):
+    it = part(parts, "calls")
+    kinds = list(dict.fromkeys(kind for kind, _ in it.found("(.*): (.*)")))
+    names = dict.fromkeys(name for _, name in it.found("(.*): (.*)"))
+    rows = [[name] + [it.number("%s: %s" % (kind, name)) if "%s: %s" % (kind, name) in it.rows
+                      else "" for kind in kinds] for name in names]
+    return it, text_of(["of one"] + kinds, rows)
+
+
+def many_rows(it, names):
+    return [[name.rpartition(" ")[2] if "clients" in name else name, it.cell(name + mark[0]),
+             "%s, %s" % (it.number(name + mark[1]), it.number(name + mark[2])),
+             it.number(name + mark[3])]
+            for name in names for mark in [marks(it, name)]]
+
+
+def marks(it, name):
+    """How the four numbers of a line are named behind its own name."""
+    between = ", " if name + BEHIND in it.rows else ": "
+    return [between + what for what in ("requests a second", "median in µs", "99th of 100 in µs",
+                                        "processor in µs")]
+
+
+def proxied(parts):
+    it = part(parts, "proxied")
+    names = [name for name, in it.found("(.*), requests a second")]
+    return it, text_of(["introspections"] + HEAD[1:], many_rows(it, names))
+
+
+def clients(parts):
+    it = part(parts, "clients")
+    names = ["clients %d" % many for many in it.numbers(r"clients (\d+): requests a second")]
+    return it, text_of(["clients"] + HEAD[1:], many_rows(it, names))
+
+
+def growth(parts):
+    it, rows = part(parts, "growth"), []
+    for size in it.numbers("families (.*): memory in KiB"):
+        name = "families %s: " % format(size, ",")
+        rows.append([format(size, ","), it.cell(name + "introspections a second"),
+                     "%s, %s" % (it.number(name + "median in µs"),
+                                 it.number(name + "99th of 100 in µs")),
+                     it.number(name + "processor in µs"), it.number(name + "memory in KiB"),
+                     it.number(name + "push of the new ones in s")])
+    return it, text_of(["families", "a second", "median, 99th in µs", "processor in µs",
+                        "memory in KiB", "push in s"], rows)
+
+
+def generations(parts):
+    it, rows = part(parts, "growth"), []
+    for size in it.numbers("generation (.*): refreshes a second"):
+        name = "generation %s: " % format(size, ",")
+        rows.append([format(size, ","), it.cell(name + "introspections a second"),
+                     it.cell(name + "refreshes a second"),
+                     it.number(name + "processor of a refresh in µs")])
+    return it, text_of(["generation", "introspections a second", "refreshes a second",
+                        "processor of a refresh in µs"], rows)
+
+
+def memory(parts):
+    it = part(parts, "memory")
+    places = "memory", "on the wire", "in a log"
+    rows = [["a " + kind] + [it.number("bytes of a %s, %s" % (kind, place)) for place in places]
+            for kind in ("login", "refresh")]
+    return it, text_of(["bytes of", *places], rows)
+
+
+def start(parts):
+    it, rows = part(parts, "start"), []
+    for size in it.numbers("families (.*): memory in KiB"):
+        name = "families %s: " % format(size, ",")
+        rows.append([format(size, ","), it.cell(name + "ms until it listens"),
+                     it.number(name + "processor in ms"), it.number(name + "memory in KiB")])
+    return it, text_of(["families", "ms until it listens", "processor in ms", "memory in KiB"],
+                       rows)
+
+
+def push(parts):
+    it = part(parts, "push")
+    rows = [[str(size), it.cell("bundles of %d: facts a second" % size),
+             it.number("bundles of %d: processor of a fact in µs" % size)]
+            for size in it.numbers(r"bundles of (\d+): facts a second")]
+    return it, text_of(["facts in a bundle", "facts a second", "processor of a fact in µs"], rows)
+
+
+def plain(name, head):
+    """A table of a line for each number of a measurement."""
+    def make(parts):
+        it = part(parts, name)
+        return it, text_of(head, [[row, it.cell(row)] for row in it.rows])
+    return make
+
+
+def revoked(parts):
+    it, what = part(parts, "revoked"), ("median", "90th of 100", "99th of 100")
+    rows = [[way] + [it.cell("%s: %s in ms" % (way, one)) for one in what]
+            for way, in it.found("(.*): median in ms")]
+    return it, text_of(["way", *(one + ", ms" for one in what)], rows)
+
+
+def held_of(it):
+    """How much servers held, as the names have it: fresh first, then by number."""
+    sizes = {where for where, in it.found("tokend, (.*): memory in KiB")}
+    return sorted(sizes, key=lambda where: 0 if where == "fresh" else
+                  int(where.split()[0].replace(",", "")))
+
+
+def servers_of(it):
+    return [name for name, in it.found("(.*): active after a reuse")]
+
+
+def peers(parts):
+    """A line for each server, kind of request and state that was asked for it."""
+    it, rows = part(parts, "peers"), []
+    for kind in "introspect", "refresh", "code":
+        for where in held_of(it):
+            for server in servers_of(it):
+                name = "%s, %s: %s" % (server, where, kind)
+                if name + BEHIND in it.rows:
+                    rows.append([kind, where, server, it.cell(name + BEHIND), it.both(name),
+                                 it.number(name + ", processor in µs")])
+    return it, text_of(["request", "logins", "server", "a second", "median, 99th in µs",
+                        "processor in µs"], rows)
+
+
+def beside(parts):
+    """What is no speed: memory, a reuse, and regions."""
+    it, rows = part(parts, "peers"), []
+    for server in servers_of(it):
+        memory_of = [it.median("%s, %s: memory in KiB" % (server, where)) / 1024
+                     for where in (held_of(it)[0], held_of(it)[-1])]
+        lives = it.median(server + ": active after a reuse")
+        rows.append([server, *map(tables.number, memory_of), "no" if lives else "yes",
+                     "each has all facts" if server == "tokend" else "one shared database"])
+    return it, text_of(["server", "MiB, fresh", "MiB, " + held_of(it)[-1],
+                        "a reuse ends the family", "two regions"], rows)
+
+
+ALL = {
+    "speed": speed, "logged": logged, "calls": calls, "proxied": proxied, "clients": clients,
+    "growth": growth, "generations": generations, "memory": memory, "start": start, "push": push,
+    "carried": plain("carried", ["`carry` to an empty server", ""]), "revoked": revoked,
+    "peers": peers, "beside": beside,
+    "idle": plain("idle", ["behind a client that is", "the next one waited"]),
+    "killed": plain("killed", ["SIGKILL under load", ""]),
+    "day": paper.day, "breaks": paper.breaks}
