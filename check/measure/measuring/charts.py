@@ -1,0 +1,117 @@
+"""charts: pictures of measured data, as SVG by gnuplot. They have no background, and colours that can
+be read on a light page and on a dark one.
+"""
+import collections
+import re
+import subprocess
+
+from measuring.results import part, whole
+from measuring.rounds import Broken
+
+INK = "#808080"
+COLOURS = "#3d87d8", "#d97f26", "#3f9e6a", "#b65fae"
+FORM = """
+set terminal svg size 760,420 font "sans-serif,14" enhanced
+set output "%(path)s"
+set encoding utf8
+set border 3 linecolor rgb "%(ink)s"
+set tics nomirror textcolor rgb "%(ink)s"
+set xlabel "%(across)s" textcolor rgb "%(ink)s"
+set ylabel "%(up)s" textcolor rgb "%(ink)s"
+set key outside top center horizontal textcolor rgb "%(ink)s"
+set grid ytics linecolor rgb "%(ink)s" linewidth 0.3
+set style fill solid noborder
+set format y "%%.0f"
+%(settings)s
+plot %(curves)s
+"""
+
+# A curve is a name and its points; a chart has its settings for gnuplot and how it plots a curve.
+Chart = collections.namedtuple("Chart", "title across up settings how curves")
+LINES = "using 1:2 with linespoints pointtype 7 pointsize 0.7 linewidth 2"
+
+
+def held_of(it, server, what):
+    """A server's number in each state: how much it holds, 100 in place of a fresh one."""
+    points = []
+    for where, in it.found(re.escape(server) + r", (.*?): " + re.escape(what)):
+        size = 100 if where == "fresh" else whole(where.split()[0])
+        points.append((size, it.median("%s, %s: %s" % (server, where, what))))
+    return sorted(points)
+
+
+def servers_of(it):
+    return [name for name, in it.found("(.*): active after a reuse")]
+
+
+HELD = """
+set logscale xy
+set xrange [80:130000]
+set xtics ("fresh" 100, "1,000" 1000, "10,000" 10000, "100,000" 100000)
+"""
+
+
+def growth(parts):
+    """How fast each server introspects as it holds more."""
+    it = part(parts, "peers")
+    curves = [(name, held_of(it, name, "introspect, requests a second"))
+              for name in servers_of(it)]
+    return Chart("Introspections a second, by the logins that a server holds", "logins held",
+                 "introspections a second", HELD, LINES, curves)
+
+
+def memory(parts):
+    """The memory of each server as it holds more."""
+    it = part(parts, "peers")
+    curves = [(name, [(size, kib / 1024) for size, kib in held_of(it, name, "memory in KiB")])
+              for name in servers_of(it)]
+    return Chart("Memory in MiB, by the logins that a server holds", "logins held", "memory in MiB",
+                 HELD, LINES, curves)
+
+
+def delay(parts):
+    """How long a revocation takes to another region, each way."""
+    it = part(parts, "revoked")
+    ways = [way for way, in it.found("(.*): median in ms")]
+    curves = [(one, [(way.replace(", ", "\\n"), it.median("%s: %s in ms" % (way, one)))
+                     for way in ways]) for one in ("median", "99th of 100")]
+    return Chart("From a revocation until another region knows it, in ms", "", "ms",
+                 "set logscale y\nset yrange [0.1:*]\nset style data histogram\n"
+                 "set style histogram clustered gap 1\nset format y \"%g\"\n"
+                 "set bmargin 4",
+                 "using 2:xtic(1)", curves)
+
+
+def clients(parts):
+    """How many introspections a second, by the number of clients."""
+    it, form = part(parts, "clients"), "clients %d: requests a second"
+    sizes = it.numbers(r"clients (\d+): requests a second")
+    curves = [("tokend", [(size, it.median(form % size)) for size in sizes])]
+    return Chart("Introspections a second, by the clients at the same time", "clients",
+                 "introspections a second", "set logscale x 2\nset yrange [0:*]", LINES, curves)
+
+
+ALL = {"growth": growth, "memory": memory, "delay": delay, "clients": clients}
+
+
+def block(number, points):
+    """Points as data of gnuplot."""
+    lines = ['"%s" %s' % it if isinstance(it[0], str) else "%s %s" % it for it in points]
+    return "$curve%d << EOD\n%s\nEOD\n" % (number, "\n".join(lines))
+
+
+def draw(chart, path):
+    """Writes a chart to a file."""
+    blocks = "".join(block(at, points) for at, (_, points) in enumerate(chart.curves))
+    curves = ", ".join('$curve%d %s linecolor rgb "%s" title "%s"'
+                       % (at, chart.how, COLOURS[at % len(COLOURS)], name)
+                       for at, (name, _) in enumerate(chart.curves))
+    text = blocks + FORM % {"path": path, "ink": INK, "across": chart.across, "up": chart.up,
+                            "settings": chart.settings, "curves": curves}
+    done = subprocess.run(["gnuplot"], input=text, capture_output=True, text=True, check=False)
+    if done.returncode:
+        raise Broken("gnuplot: %s" % done.stderr.strip())
+    with open(path, encoding="utf-8") as file:
+        drawn = file.read()
+    with open(path, "w", encoding="utf-8") as file:
+        file.write(drawn.replace("<title>Gnuplot</title>", "<title>%s</title>" % chart.title))
