@@ -1,6 +1,6 @@
 """blocks: the tables of docs/MEASURED.md, each made from the results of one measurement."""
-from measuring.results import part, text_of
 from measuring import paper, tables
+from measuring.results import part, servers_of, states_of, text_of
 
 BEHIND = ", requests a second"
 
@@ -129,22 +129,11 @@ def revoked(parts):
     return it, text_of(["way", *(one + ", ms" for one in what)], rows)
 
 
-def held_of(it):
-    """How much servers held, as the names have it: fresh first, then by number."""
-    sizes = {where for where, in it.found("tokend, (.*): memory in KiB")}
-    return sorted(sizes, key=lambda where: 0 if where == "fresh" else
-                  int(where.split()[0].replace(",", "")))
-
-
-def servers_of(it):
-    return [name for name, in it.found("(.*): active after a reuse")]
-
-
 def peers(parts):
     """A line for each server, kind of request and state that was asked for it."""
     it, rows = part(parts, "peers"), []
     for kind in "introspect", "refresh", "code":
-        for where in held_of(it):
+        for where, _ in states_of(it):
             for server in servers_of(it):
                 name = "%s, %s: %s" % (server, where, kind)
                 if name + BEHIND in it.rows:
@@ -157,21 +146,41 @@ def peers(parts):
 def beside(parts):
     """What is no speed: memory, a reuse, and regions."""
     it, rows = part(parts, "peers"), []
+    states = [where for where, _ in states_of(it)]
     for server in servers_of(it):
         memory_of = [it.median("%s, %s: memory in KiB" % (server, where)) / 1024
-                     for where in (held_of(it)[0], held_of(it)[-1])]
+                     for where in (states[0], states[-1])]
         lives = it.median(server + ": active after a reuse")
         rows.append([server, *map(tables.number, memory_of), "no" if lives else "yes",
                      "each has all facts" if server == "tokend" else "one shared database"])
-    return it, text_of(["server", "MiB, fresh", "MiB, " + held_of(it)[-1],
+    return it, text_of(["server", "MiB, fresh", "MiB, " + states[-1],
                         "a reuse ends the family", "two regions"], rows)
+
+
+def ledger(parts):
+    it, rows = part(parts, "ledger"), []
+    for size in it.numbers("statuses a second, (.*) families"):
+        of = ", %s families" % format(size, ",")
+        rows.append([format(size, ","), it.cell("facts added a second" + of),
+                     it.cell("statuses a second" + of), it.number("look-ups of a status" + of),
+                     it.number("bytes of memory a family" + of)])
+    return it, text_of(["families", "facts added a second", "statuses a second", "look-ups of one",
+                        "memory a family, bytes"], rows)
+
+
+def pruned(parts):
+    it = part(parts, "ledger")
+    rows = [[what, it.cell("%s, %s facts" % (what, size))]
+            for what, size in it.found("(.*), (.*) facts")]
+    return it, text_of(["a prune of %s facts" % it.found(".*, (.*) facts")[0][0] if rows
+                        else "a prune", ""], rows)
 
 
 ALL = {
     "speed": speed, "logged": logged, "calls": calls, "proxied": proxied, "clients": clients,
     "growth": growth, "generations": generations, "memory": memory, "start": start, "push": push,
     "carried": plain("carried", ["`carry` to an empty server", ""]), "revoked": revoked,
-    "peers": peers, "beside": beside,
+    "peers": peers, "beside": beside, "ledger": ledger, "pruned": pruned,
     "idle": plain("idle", ["behind a client that is", "the next one waited"]),
     "killed": plain("killed", ["SIGKILL under load", ""]),
-    "day": paper.day, "breaks": paper.breaks}
+    "day": paper.day, "breaks": paper.breaks, "left": paper.left}

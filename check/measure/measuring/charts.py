@@ -1,11 +1,12 @@
-"""charts: pictures of measured data, as SVG by gnuplot. They have no background, and colours that can
-be read on a light page and on a dark one.
+"""charts: pictures of measured data, as SVG by gnuplot.
+
+They have no background, and colours that can be read on a light page and on a dark one.
 """
 import collections
-import re
 import subprocess
 
-from measuring.results import part, whole
+from measuring import paper
+from measuring.results import part, servers_of, states_of
 from measuring.rounds import Broken
 
 INK = "#808080"
@@ -32,16 +33,9 @@ LINES = "using 1:2 with linespoints pointtype 7 pointsize 0.7 linewidth 2"
 
 
 def held_of(it, server, what):
-    """A server's number in each state: how much it holds, 100 in place of a fresh one."""
-    points = []
-    for where, in it.found(re.escape(server) + r", (.*?): " + re.escape(what)):
-        size = 100 if where == "fresh" else whole(where.split()[0])
-        points.append((size, it.median("%s, %s: %s" % (server, where, what))))
-    return sorted(points)
-
-
-def servers_of(it):
-    return [name for name, in it.found("(.*): active after a reuse")]
+    """A server's number in each state, by how much it holds: 100 in place of a fresh one."""
+    return [(size or 100, it.median(name)) for where, size in states_of(it)
+            for name in ["%s, %s: %s" % (server, where, what)]]
 
 
 HELD = """
@@ -91,7 +85,18 @@ def clients(parts):
                  "introspections a second", "set logscale x 2\nset yrange [0:*]", LINES, curves)
 
 
-ALL = {"growth": growth, "memory": memory, "delay": delay, "clients": clients}
+def sites(parts):
+    """How long `carry` is at work for a day of a million logins, by the number of sites."""
+    costs, most = paper.Costs(parts), paper.SITES[-1]
+    curves = [("%s refreshes of each login" % (many or "no"),
+               [(size, paper.Day(costs, size, many).carry / 3600) for size in range(1, most + 1)])
+              for many in paper.REFRESHES]
+    curves.append(("a day", [(1, 24), (most, 24)]))
+    return Chart("Hours that carry is at work for a day of a million logins, by sites", "sites",
+                 "hours of carry", "set yrange [0:*]\nset xtics 1, 1", LINES, curves)
+
+
+ALL = {"growth": growth, "memory": memory, "delay": delay, "clients": clients, "sites": sites}
 
 
 def block(number, points):

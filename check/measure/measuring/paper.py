@@ -2,7 +2,7 @@
 measured itself: docs/MEASURED.md has the rule of each column.
 """
 from measuring import tables
-from measuring.results import part, text_of
+from measuring.results import Missing, part, text_of
 
 LOGINS, REFRESHES, SITES = 1_000_000, (0, 8, 24), (1, 4, 16)
 MOST_MEMORY, MOST_START, DAY = 16 * 2**30, 60, 86_400  # what a site bears: bytes, seconds
@@ -78,6 +78,16 @@ def day(parts):
             for it in found]
     return costs.used, text_of(["sites", "refreshes", "facts", "memory", "log", "traffic",
                                 "start", "`carry`", "processor"], rows)
+
+
+def left(parts):
+    """What the logins of a day leave once they are over, if a region prunes."""
+    it = part(parts, "ledger")
+    for size, in it.found("bytes left of a family, (.*) facts"):
+        of = it.median("bytes left of a family, %s facts" % size)
+        return [it], text_of(["a pruned family leaves", "a million logins leave"],
+                             [[tables.number(of) + " bytes", tables.number(of / 1e3) + " GB"]])
+    raise Missing("ledger has no prunes")
 
 
 def when(number):

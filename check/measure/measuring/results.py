@@ -77,6 +77,17 @@ def part(parts, name):
     return parts[name]
 
 
+def servers_of(it):
+    """The servers that check/measure/peers measured, tokend first."""
+    return [name for name, in it.found("(.*): active after a reuse")]
+
+
+def states_of(it):
+    """How much they held, as the names have it, least first, each with its number of logins."""
+    found = [where for where, in it.found("tokend, (.*): memory in KiB")]
+    return [(where, 0 if where == "fresh" else whole(where.split()[0])) for where in found]
+
+
 def text_of(head, rows):
     """A Markdown table."""
     lines = [head, ["---"] * len(head), *rows]
