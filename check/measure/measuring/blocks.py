@@ -38,6 +38,22 @@ def calls(parts):
     return it, text_of(["of one"] + kinds, rows)
 
 
+def profile(parts):
+    """A line for each crate, with its part of all instructions of each kind of request."""
+    it, kinds = part(parts, "profile"), ("introspect", "refresh", "code")
+    groups = dict.fromkeys(group for _, group in it.found("([^,]*): (.*)") if group != "all")
+
+    def cell(kind, group):
+        name = "%s: %s" % (kind, group)
+        if name not in it.rows:
+            return ""
+        return "%s (%.0f %%)" % (it.number(name), 100 * it.median(name) / it.median(kind + ": all"))
+
+    rows = [[group] + [cell(kind, group) for kind in kinds] for group in groups]
+    rows.append(["all"] + [it.number(kind + ": all") for kind in kinds])
+    return it, text_of(["instructions of", *kinds], rows)
+
+
 def many_rows(it, names):
     return [[name.rpartition(" ")[2] if "clients" in name else name, it.cell(name + mark[0]),
              "%s, %s" % (it.number(name + mark[1]), it.number(name + mark[2])),
@@ -177,8 +193,9 @@ def pruned(parts):
 
 
 ALL = {
-    "speed": speed, "logged": logged, "calls": calls, "proxied": proxied, "clients": clients,
-    "growth": growth, "generations": generations, "memory": memory, "start": start, "push": push,
+    "speed": speed, "logged": logged, "calls": calls, "profile": profile, "proxied": proxied,
+    "clients": clients, "growth": growth, "generations": generations, "memory": memory,
+    "start": start, "push": push,
     "carried": plain("carried", ["`carry` to an empty server", ""]), "revoked": revoked,
     "peers": peers, "beside": beside, "ledger": ledger, "pruned": pruned,
     "idle": plain("idle", ["behind a client that is", "the next one waited"]),

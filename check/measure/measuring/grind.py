@@ -1,0 +1,47 @@
+"""grind: a server that works under valgrind, and is sent requests of one kind."""
+import os
+import shutil
+import signal
+
+from measuring.rounds import Absent
+from measuring.server import Server
+
+PATIENCE = 30
+
+
+def introspect(server, tokens):
+    server.is_active(tokens[-1]["access_token"])
+
+
+def refresh(server, tokens):
+    tokens.append(server.refresh(tokens[-1]["refresh_token"]))
+
+
+def code(server, _):
+    server.log_in()
+
+
+KINDS = {"introspect": introspect, "refresh": refresh, "code": code}
+
+
+def need():
+    if not shutil.which("valgrind"):
+        raise Absent("no valgrind")
+
+
+def run(program, folder, tool, kind, count):
+    """Has a server with a log work on N requests of a kind, and end. What the tool prints is then
+    in the file `said` of the folder, and what callgrind counted in the file `counted`.
+    """
+    words = ["valgrind", "--tool=" + tool, "--log-file=" + os.path.join(folder, "said")]
+    if tool == "callgrind":
+        words.append("--callgrind-out-file=" + os.path.join(folder, "counted"))
+    server = Server(program, folder, "--log", os.path.join(folder, "log"), before=words)
+    try:
+        tokens = [server.enrol().log_in()]
+        for _ in range(count):
+            KINDS[kind](server, tokens)
+        server.child.send_signal(signal.SIGTERM)
+        server.child.wait(PATIENCE)
+    finally:
+        server.stop()
