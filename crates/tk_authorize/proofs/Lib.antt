@@ -1,2 +1,3 @@
 pub mod RedirectLaws
 mod RegistrationLaws
+pub mod SameLaws

@@ -89,10 +89,6 @@ page_more fs limit = ap (nat_lt limit) (length-take (limit + 1) (map dot_of fs) 
     same : (m n : ℕ) → nat_lt m (min (m + 1) n) ≡ nat_lt m n
     same m n = grind (arith, nat_tests)
 
--- the dots of a page are few
-pub short_dots : (dots : List Dot) (limit : ℕ) → limit ≤ most_facts → length (take limit dots) ≤ most_facts
-short_dots dots limit low = omega (arith, length-take limit dots)
-
 -- ---- a page in bytes
 
 pub page_is : (made : Page) (F : FactSet) (v : Vector) (after : Option Dot) (limit : ℕ) (dots : List Dot) (more : Bool) → dots ≡ map dot_of (take limit (beyond F v after)) → more ≡ nat_lt limit (length (beyond F v after)) → IsPageAt made F dots more → IsPageOf made (page_within limit F v after)

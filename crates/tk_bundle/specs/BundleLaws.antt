@@ -2,24 +2,8 @@
 --   bundle_exact     a bundle has one spelling
 --   one_front        no bundle's bytes begin those of another bundle
 --   sign_outs_tell   a bundle's first four bytes show whether one of its facts is a sign-out
-use Rattle.std.proofs.Common.{
-  ◌≡◌,
-  ℕ,
-  cond,
-  eqb,
-  nat_le,
-  List,
-  [],
-  ◌∷◌,
-  ◌++◌,
-  Some,
-  None,
-  refl,
-  sym,
-  ap,
-  subst,
-  ◌∙◌,
-}
+use Rattle.std.proofs.Common.{◌≡◌, ℕ, cond, eqb, nat_le, List, [], ◌∷◌, ◌++◌, Some, None, refl, sym}
+use Rattle.std.proofs.Common.{ap, subst, ◌∙◌}
 use Rattle.std.proofs.lemmas.Bool.{eqb-true, eq-eqb}
 use Rattle.std.proofs.lemmas.List.{append-nil}
 use Rattle.std.proofs.lemmas.Option.{cond_some}
@@ -31,17 +15,8 @@ use Rattle.tk_fact.specs.FactBytes.{framed}
 use Rattle.tk_fact.specs.FactLaws.{framed_exact}
 use Rattle.tk_bundle.specs.Versions.{version_of}
 use Rattle.tk_bundle.specs.VersionLaws.{version_tells}
-use Rattle.tk_bundle.specs.Bundle.{
-  ascends,
-  magic,
-  most_facts,
-  marked,
-  counted_facts,
-  versioned,
-  listed,
-  bundle,
-  SignOutsTold,
-}
+use Rattle.tk_bundle.specs.Bundle.{ascends, magic, most_facts, marked, counted_facts, versioned}
+use Rattle.tk_bundle.specs.Bundle.{listed, bundle, SignOutsTold}
 
 -- a value that is read behind its mark is spelled with that mark
 marked_takes : {A : Type 0} (mark : A → ℕ) (f : Format A) → IsExact f

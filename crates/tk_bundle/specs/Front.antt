@@ -6,24 +6,8 @@
 --   Walks        how a walk of the code meets `walk`
 --   IsFrontOf    a bundle was read with the length of its spelling
 --   unread       the error of a front that has the lengths of a bundle but can't be read
-use Rattle.std.specs.Prelude.{
-  ◌≡◌,
-  ℕ,
-  zero,
-  suc,
-  Bool,
-  not,
-  nat_lt,
-  List,
-  length,
-  Option,
-  Some,
-  None,
-  Result,
-  Ok,
-  Err,
-  if◌then◌else◌,
-}
+use Rattle.std.specs.Prelude.{◌≡◌, ℕ, zero, suc, Bool, not, nat_lt, List, length, Option, Some}
+use Rattle.std.specs.Prelude.{None, Result, Ok, Err, if◌then◌else◌}
 use Rattle.std.specs.Str.{bytes_eq}
 use Rattle.std.specs.Int.{w16}
 use Rattle.tk_format.specs.declared.error.ReadError.{ReadError}

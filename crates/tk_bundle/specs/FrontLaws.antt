@@ -5,75 +5,20 @@
 --   walk_torn      the beginning of a bundle, unless it is the whole bundle, is cut
 --   front_split    the bytes before the end that the walk leaves are the bundle's
 --   front_is       the bundle that is read there is the one at the front
-use Rattle.std.proofs.Common.{
-  ◌≡◌,
-  ◌≢◌,
-  ℕ,
-  zero,
-  suc,
-  ◌+◌,
-  ◌-◌,
-  ◌<◌,
-  ◌≤◌,
-  Bool,
-  true,
-  false,
-  cond,
-  not,
-  ltb,
-  List,
-  [],
-  ◌∷◌,
-  ◌++◌,
-  length,
-  take,
-  drop,
-  Option,
-  Some,
-  None,
-  Result,
-  Ok,
-  Err,
-  refl,
-  sym,
-  ap,
-  subst,
-  ◌∙◌,
-  append_assoc,
-  arith,
-}
+use Rattle.std.proofs.Common.{◌≡◌, ◌≢◌, ℕ, zero, suc, ◌+◌, ◌-◌, ◌<◌, ◌≤◌, Bool, true, false, cond}
+use Rattle.std.proofs.Common.{not, ltb, List, [], ◌∷◌, ◌++◌, length, take, drop, Option, Some, None}
+use Rattle.std.proofs.Common.{Result, Ok, Err, refl, sym, ap, subst, ◌∙◌, append_assoc, arith}
 use Rattle.std.specs.Str.{bytes_eq}
 use Rattle.std.specs.Int.{w16, from_be_bytes}
 use Rattle.std.specs.List.{flat_map, AllByRecursion}
-use Rattle.std.proofs.lemmas.List.{
-  take_at,
-  take-append-le,
-  drop-append-le,
-  length-append,
-  append-nil,
-}
+use Rattle.std.proofs.lemmas.List.{take_at, take-append-le, drop-append-le, length-append}
+use Rattle.std.proofs.lemmas.List.{append-nil}
 use Rattle.std.proofs.lemmas.Bool.{le-ltb, ltb-false}
-use Rattle.tk_format.specs.Format.{
-  ◌⊗◌,
-  number,
-  byte,
-  number_at,
-  number_spelling,
-  bytes_at,
-  bytes_of,
-  text_spelling,
-}
+use Rattle.tk_format.specs.Format.{◌⊗◌, number, byte, number_at, number_spelling, bytes_at}
+use Rattle.tk_format.specs.Format.{bytes_of, text_spelling}
 use Rattle.tk_format.specs.Laws.{byte_exact, u16_exact, bytes_exact, both_exact}
-use Rattle.tk_format.specs.Exact.{
-  IsBytes,
-  IsExact,
-  Takes,
-  Takes-then,
-  bind_some,
-  guard_some,
-  some_is,
-  prefix_free,
-}
+use Rattle.tk_format.specs.Exact.{IsBytes, IsExact, Takes, Takes-then, bind_some, guard_some}
+use Rattle.tk_format.specs.Exact.{some_is, prefix_free}
 use Rattle.tk_bundle.specs.BundleLaws.{bundle_exact}
 use Rattle.tk_bundle.specs.declared.error.FrontError.{FrontError}
 use Rattle.tk_bundle.specs.declared.error.FrontError.TheVariants.{Malformed, Memory, Cut}

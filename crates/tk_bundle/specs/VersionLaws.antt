@@ -1,27 +1,8 @@
 -- The version of facts is in the table, and shows whether a sign-out is among them. Key results:
 --   version_known   the version of facts is in the table: every kind has a version
 --   version_tells   the digit is 2 if one of the facts is a sign-out, otherwise 1
-use Rattle.std.proofs.Common.{
-  ◌≡◌,
-  ℕ,
-  ◌≤◌,
-  Bool,
-  true,
-  false,
-  ◌&&◌,
-  ◌||◌,
-  not,
-  cond,
-  max,
-  nat_le,
-  [],
-  ◌∷◌,
-  refl,
-  sym,
-  ap,
-  ◌∙◌,
-  arith,
-}
+use Rattle.std.proofs.Common.{◌≡◌, ℕ, ◌≤◌, Bool, true, false, ◌&&◌, ◌||◌, not, cond, max, nat_le}
+use Rattle.std.proofs.Common.{[], ◌∷◌, refl, sym, ap, ◌∙◌, arith}
 use Rattle.std.specs.List.{list_any}
 use Rattle.std.proofs.lemmas.Bool.Decides.{nat_tests}
 use Rattle.std.proofs.Math.Bool.{and-true}
@@ -30,14 +11,8 @@ use Rattle.tk_fact.specs.declared.body.Body.{Body}
 use Rattle.tk_fact.specs.declared.body.Body.TheVariants as bodies
 use Rattle.tk_fact.specs.FactBytes.{kinds}
 use Rattle.tk_store.specs.FactSet.{Facts}
-use Rattle.tk_bundle.specs.Versions.{
-  kind_of,
-  newest_kind,
-  version_with,
-  version_of,
-  is_version,
-  is_sign_out,
-}
+use Rattle.tk_bundle.specs.Versions.{kind_of, newest_kind, version_with, version_of, is_version}
+use Rattle.tk_bundle.specs.Versions.{is_sign_out}
 
 -- the second version has all kinds, the first all kinds but the sign-out
 kind_told : (f : Dot × Body) → (kind_of f.1 ≤ 10) × (nat_le (kind_of f.1) 9 ≡ not (is_sign_out f))

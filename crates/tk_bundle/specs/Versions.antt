@@ -6,20 +6,8 @@
 --   version_of     the digit of the first version that has all kinds of facts
 --   is_version     a digit is that of a version
 --   is_sign_out    a fact is a sign-out
-use Rattle.std.specs.Prelude.{
-  ℕ,
-  max,
-  Bool,
-  true,
-  false,
-  nat_le,
-  ◌==◌,
-  List,
-  [],
-  ◌∷◌,
-  get_or,
-  if◌then◌else◌,
-}
+use Rattle.std.specs.Prelude.{ℕ, max, Bool, true, false, nat_le, ◌==◌, List, [], ◌∷◌, get_or}
+use Rattle.std.specs.Prelude.{if◌then◌else◌}
 use Rattle.std.specs.List.{list_any}
 use Rattle.tk_handle.specs.declared.dot.Dot.{Dot}
 use Rattle.tk_fact.specs.declared.body.Body.{Body}

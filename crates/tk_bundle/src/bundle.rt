@@ -28,14 +28,8 @@ impl Model for Bundle {
 ghost use Rattle.std.specs.Prelude.{◌≡◌, ◌≢◌, ◌++◌, [], List, ℕ, IfOk, IsErrOf};
 ghost use Rattle.tk_format.specs.Reading.{Gets, GetsAll};
 ghost use Rattle.tk_store.specs.FactSet.{Facts};
-ghost use Rattle.tk_bundle.specs.Bundle.{
-  counted_facts,
-  versioned,
-  listed,
-  bundle,
-  bundle_bytes,
-  SignOutsTold,
-};
+ghost use Rattle.tk_bundle.specs.Bundle.{counted_facts, versioned, listed, bundle, bundle_bytes};
+ghost use Rattle.tk_bundle.specs.Bundle.{SignOutsTold};
 
 use crate::order::is_ascending;
 use crate::version::version_of;

@@ -1,19 +1,7 @@
 //! Reading the first bundle of many bytes.
 
-ghost use Rattle.std.specs.Prelude.{
-  ◌≡◌,
-  ◌≢◌,
-  ◌≤◌,
-  ◌++◌,
-  [],
-  List,
-  ℕ,
-  length,
-  take,
-  IfOk,
-  IsErrOf,
-  Err,
-};
+ghost use Rattle.std.specs.Prelude.{◌≡◌, ◌≢◌, ◌≤◌, ◌++◌, [], List, ℕ, length, take, IfOk, IsErrOf};
+ghost use Rattle.std.specs.Prelude.{Err};
 ghost use Rattle.tk_store.specs.FactSet.{Facts};
 ghost use Rattle.tk_bundle.specs.Bundle.{bundle, bundle_bytes};
 ghost use Rattle.tk_bundle.specs.Front as spec;

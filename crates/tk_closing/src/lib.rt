@@ -1,8 +1,9 @@
 //! Connections whose replies are written, kept until their clients close: [`ClosingSet`].
 //!
-//! A reply is lost if its connection is closed while bytes of the client are unread, since the
-//! system then resets it. A server that waits for the client to close serves nobody meanwhile. So
-//! it sets such a connection aside, goes on, and looks at the set before each accept.
+//! The system resets a connection that is closed while bytes of its client are unread, and what the
+//! client hasn't read of its reply is lost. A server that waits for each client to close serves
+//! nobody meanwhile. With a `ClosingSet` the server sets the connection aside, serves others, and
+//! looks at the set from time to time.
 //!
 //! - `peer`: `Peer`, what the set needs of a connection. It is a trait, so that this crate reads
 //!   no socket and no clock.

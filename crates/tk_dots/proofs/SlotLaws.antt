@@ -24,11 +24,3 @@ module _ {X : Type 0} where
           ∙ sym (get_or_past xs j None (omega (arith, len, ge))) ∙ sym (cond-false _ _ _ apart)
     ]
   ]
-
-  pub set_slot : (xs : List (Option X)) (i : ℕ) (o : Option X) (j : ℕ) → i < length xs → get_or (set xs i o) j None ≡ cond (j == i) o (get_or xs j None)
-  set_slot xs i o j lt = elim (cases_Bool (j == i)) [
-    | inl same ↦
-        let is : j ≡ i = nat_same j i same in
-        ap (λ (k : ℕ). get_or (set xs i o) k None) is ∙ get_or-set_same xs i o None lt ∙ sym (cond-true _ _ _ same)
-    | inr apart ↦ get_or-set_other xs i j o None (λ e. absurd (false≢true (sym apart ∙ nat_is j i e))) ∙ sym (cond-false _ _ _ apart)
-  ]

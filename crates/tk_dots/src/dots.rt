@@ -28,17 +28,8 @@ impl<V> Model for DotMap<V> {
     ghost invariant = { λ m. IsPaged m.pages m.len };
 }
 
-ghost use Rattle.std.specs.Prelude.{
-  ◌≡◌,
-  ◌≤◌,
-  OnOk,
-  OnErr,
-  IsSome,
-  if◌then◌else◌,
-  option_copied,
-  option_map,
-  is_some,
-};
+ghost use Rattle.std.specs.Prelude.{◌≡◌, ◌≤◌, OnOk, OnErr, IsSome, if◌then◌else◌, option_copied};
+ghost use Rattle.std.specs.Prelude.{option_map, is_some};
 ghost use Rattle.std.specs.FinMap as maps;
 ghost use Rattle.std.specs.Ordering.{eq_by_cmp};
 ghost use Rattle.tk_dots.specs.Pages.{IsNext, IsLast};

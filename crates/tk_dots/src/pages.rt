@@ -1,38 +1,12 @@
 //! The pages of a map, by their numbers.
 
-ghost use Rattle.std.specs.Prelude.{
-  ◌≡◌,
-  ◌<◌,
-  ◌≤◌,
-  ◌+◌,
-  ◌-◌,
-  ◌*◌,
-  ◌==◌,
-  ◌&&◌,
-  ◌%◌,
-  ℕ,
-  None,
-  Some,
-  is_some,
-  if◌then◌else◌,
-  option_copied,
-  option_map,
-  OnOk,
-  OnErr,
-  IfOk,
-};
+ghost use Rattle.std.specs.Prelude.{◌≡◌, ◌<◌, ◌≤◌, ◌+◌, ◌-◌, ◌*◌, ◌==◌, ◌&&◌, ◌%◌, ℕ, None, Some};
+ghost use Rattle.std.specs.Prelude.{is_some, if◌then◌else◌, option_copied, option_map, OnOk, OnErr};
+ghost use Rattle.std.specs.Prelude.{IfOk};
 ghost use Rattle.std.specs.BTreeMap.{get};
 ghost use Rattle.std.specs.Ordering.{eq_by_cmp};
-ghost use Rattle.tk_dots.specs.Pages.{
-  cell,
-  page_of,
-  span,
-  FirstIn,
-  FirstOn,
-  FirstOfPages,
-  IsPage,
-  IsPages,
-};
+ghost use Rattle.tk_dots.specs.Pages.{cell, page_of, span, FirstIn, FirstOn, FirstOfPages, IsPage};
+ghost use Rattle.tk_dots.specs.Pages.{IsPages};
 ghost use Rattle.tk_handle.specs.declared.dot.Dot.{Dot as the_dot};
 ghost use Rattle.tk_handle.specs.Dot.{dot_cmp};
 ghost use Rattle.tk_handle.specs.Ranges.{greatest_serial};

@@ -1,5 +1,4 @@
 -- How much of a source a request takes. Key results:
---   takes_nothing   no byte is within any number
 --   takes_then      bytes taken after others add up
 --   takes_piece     one more piece
 --   takes_kept      a failed read takes nothing
@@ -13,9 +12,6 @@ use Rattle.tk_edge.specs.Bounds.{TakesAtMost, body_limit}
 use Rattle.tk_edge.specs.Judged.{MayPost, limit_of}
 use Rattle.tk_edge.specs.declared.path.Posted.{Posted}
 use Rattle.tk_edge.specs.declared.path.Posted.TheVariants.{Form, Pull, Push}
-
-pub takes_nothing : (most : ℕ) (known : Option (List ℕ)) → TakesAtMost most known known
-takes_nothing most known = ([], omega arith, Consumes-nil known)
 
 pub takes_then : (m n : ℕ) (old mid new : Option (List ℕ)) → TakesAtMost m old mid → TakesAtMost n mid new → TakesAtMost (m + n) old new
 takes_then m n old mid new h k = (

@@ -1,5 +1,4 @@
 -- The bytes read are the whole of the bytes sent. Key results:
---   IfOk-kept         a property of an answer holds of the equal answer under another error type
 --   filled            a body that was read whole, and a body that wasn't
 --   form_in_front     a form that came whole with its head
 --   judged_same       the meaning of a head, by what was judged of its parts
@@ -47,10 +46,6 @@ use Rattle.tk_edge.specs.declared.path.Posted.TheVariants.{Form, Pull, Push}
 use Rattle.tk_edge.specs.declared.path.Service.{Service}
 use Rattle.tk_edge.specs.declared.path.Service.TheVariants as service
 use Rattle.tk_edge.specs.declared.refusal.Refusal.TheVariants.{ShortBody}
-
-pub IfOk-kept : {A E F : Type 0} (P : A → Type 0) (r : Result A E) (s : Result A F) → IfOk s (λ a. r ≡ Ok a) → IfOk r P → IfOk s P
-IfOk-kept P r (Ok a) same holds = subst (λ x. IfOk x P) same holds
-IfOk-kept P r (Err f) same holds = tt
 
 -- count bytes were read into a body that has room for size: all of the bytes, or as many as fit
 pub filled : (count size : ℕ) (body all : List ℕ) → length body ≡ size → count ≤ size → take count body ≡ take size all

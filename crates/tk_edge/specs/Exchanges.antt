@@ -29,12 +29,8 @@ use Rattle.tk_message.specs.declared.status.Status.TheVariants as status
 use Rattle.tk_region.specs.RegionFields.{RegionFields, place_in}
 use Rattle.tk_region.specs.Taking.{TakesIn}
 use Rattle.tk_region.specs.declared.take.TakeError.{TakeError}
-use Rattle.tk_region.specs.declared.take.TakeError.TheVariants.{
-  Malformed,
-  OwnNumber,
-  Conflict,
-  Memory,
-}
+use Rattle.tk_region.specs.declared.take.TakeError.TheVariants.{Malformed, OwnNumber, Conflict}
+use Rattle.tk_region.specs.declared.take.TakeError.TheVariants.{Memory}
 use Rattle.tk_edge.specs.Answers.{rendered}
 use Rattle.tk_edge.specs.Pulls.{wanted}
 use Rattle.tk_edge.specs.Told.{AnswerFields}

@@ -4,21 +4,8 @@
 --   IsField        a field is absent, has one value, or is repeated
 --   AreFields      the five fields, among names and values
 --   has_repeats    one of the four fields is repeated that may be given only once
-use Rattle.std.specs.Prelude.{
-  ◌≡◌,
-  ℕ,
-  ◌≤◌,
-  ◌||◌,
-  Bool,
-  nat_le,
-  List,
-  [],
-  ◌∷◌,
-  length,
-  map,
-  filter,
-  codes,
-}
+use Rattle.std.specs.Prelude.{◌≡◌, ℕ, ◌≤◌, ◌||◌, Bool, nat_le, List, [], ◌∷◌, length, map, filter}
+use Rattle.std.specs.Prelude.{codes}
 use Rattle.std.specs.Str.{str_eq_ignore_ascii_case}
 use Rattle.tk_params.specs.Params.{Pairs}
 use Rattle.tk_edge.specs.declared.field.Field.{Field}

@@ -6,25 +6,8 @@
 --   IsHeard      the meaning of a stream if regions don't exchange facts
 --   Arrives      what may arrive from a source, whose bytes may be unknown
 --   MayArrive    what may arrive whatever the bytes are
-use Rattle.std.specs.Prelude.{
-  ◌≡◌,
-  ◌⊎◌,
-  ⊤,
-  ℕ,
-  Bool,
-  true,
-  false,
-  nat_le,
-  List,
-  [],
-  ◌∷◌,
-  length,
-  take,
-  map,
-  Option,
-  Some,
-  if◌then◌else◌,
-}
+use Rattle.std.specs.Prelude.{◌≡◌, ◌⊎◌, ⊤, ℕ, Bool, true, false, nat_le, List, [], ◌∷◌, length}
+use Rattle.std.specs.Prelude.{take, map, Option, Some, if◌then◌else◌}
 use Rattle.httparse.specs.Grammar.{RequestHead, ReadsRequest}
 use Rattle.httparse.specs.Spans.{name_and_value}
 use Rattle.tk_params.specs.Params.{Pairs, only, params_of}

@@ -8,21 +8,8 @@
 --   WrongType        the type of a form's body isn't a form's (RFC 6749, 4.1.3)
 --   ShortBody        the stream ends before the body does (RFC 9112, 8); specs/Heard has this case
 -- The key definition is judged_of.
-use Rattle.std.specs.Prelude.{
-  ◌≡◌,
-  ⊤,
-  ℕ,
-  ◌≤◌,
-  Bool,
-  true,
-  List,
-  [],
-  ◌∷◌,
-  Option,
-  None,
-  Some,
-  if◌then◌else◌,
-}
+use Rattle.std.specs.Prelude.{◌≡◌, ⊤, ℕ, ◌≤◌, Bool, true, List, [], ◌∷◌, Option, None, Some}
+use Rattle.std.specs.Prelude.{if◌then◌else◌}
 use Rattle.tk_format.specs.Numerals.{numeral_up_to}
 use Rattle.tk_format.specs.declared.numeral.Numeral.{Numeral}
 use Rattle.tk_format.specs.declared.numeral.Numeral.TheVariants.{Malformed, Above, Within}
@@ -39,16 +26,9 @@ use Rattle.tk_edge.specs.declared.path.Posted.TheVariants.{Form, Pull, Push}
 use Rattle.tk_edge.specs.declared.path.Service.{Service}
 use Rattle.tk_edge.specs.declared.path.Service.TheVariants as service
 use Rattle.tk_edge.specs.declared.refusal.Refusal.{Refusal}
-use Rattle.tk_edge.specs.declared.refusal.Refusal.TheVariants.{
-  Sealed,
-  UnknownPath,
-  WrongMethod,
-  DuplicateField,
-  LengthRequired,
-  BadLength,
-  TooLarge,
-  WrongType,
-}
+use Rattle.tk_edge.specs.declared.refusal.Refusal.TheVariants.{Sealed, UnknownPath, WrongMethod}
+use Rattle.tk_edge.specs.declared.refusal.Refusal.TheVariants.{DuplicateField, LengthRequired}
+use Rattle.tk_edge.specs.declared.refusal.Refusal.TheVariants.{BadLength, TooLarge, WrongType}
 use Rattle.tk_edge.specs.declared.judge.Judged.{Judged}
 use Rattle.tk_edge.specs.declared.judge.Judged.TheVariants.{Refused, Query, Vector, Body}
 

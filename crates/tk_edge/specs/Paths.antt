@@ -7,39 +7,16 @@
 --   method_named   the method of a name, which is case-sensitive (RFC 9110, 9.1)
 --   service_at     what a path serves under a method
 --   allowed_at     the methods of a path, as `Allow` names them (RFC 9110, 10.2.1)
-use Rattle.std.specs.Prelude.{
-  ℕ,
-  ◌+◌,
-  ◌==◌,
-  Bool,
-  List,
-  take,
-  drop,
-  Option,
-  None,
-  Some,
-  codes,
-  if◌then◌else◌,
-}
+use Rattle.std.specs.Prelude.{ℕ, ◌+◌, ◌==◌, Bool, List, take, drop, Option, None, Some, codes}
+use Rattle.std.specs.Prelude.{if◌then◌else◌}
 use Rattle.std.specs.List.{position_or_len}
 use Rattle.std.specs.Str.{bytes_eq}
 use Rattle.tk_message.specs.declared.request.Endpoint.{Endpoint}
 use Rattle.tk_message.specs.declared.request.Endpoint.TheVariants as endpoint
 use Rattle.tk_edge.specs.declared.path.Path.{Path}
-use Rattle.tk_edge.specs.declared.path.Path.TheVariants.{
-  Authorize,
-  Token,
-  Introspect,
-  Revoke,
-  Client,
-  Retire,
-  Consent,
-  Withdraw,
-  SignOut,
-  Vector,
-  Pull,
-  Push,
-}
+use Rattle.tk_edge.specs.declared.path.Path.TheVariants.{Authorize, Token, Introspect, Revoke}
+use Rattle.tk_edge.specs.declared.path.Path.TheVariants.{Client, Retire, Consent, Withdraw, SignOut}
+use Rattle.tk_edge.specs.declared.path.Path.TheVariants.{Vector, Pull, Push}
 use Rattle.tk_edge.specs.declared.path.Method.{Method}
 use Rattle.tk_edge.specs.declared.path.Method.TheVariants.{Get, Post}
 use Rattle.tk_edge.specs.declared.path.Posted.TheVariants as posted

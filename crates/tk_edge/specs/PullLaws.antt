@@ -1,24 +1,8 @@
 -- A pull is read from its spelling, and from no other bytes. Key results:
 --   cursor_exact   a cursor has exactly one spelling
 --   wanted_exact   a pull has exactly one spelling
-use Rattle.std.proofs.Common.{
-  ◌≡◌,
-  ℕ,
-  Bool,
-  true,
-  false,
-  ◌&&◌,
-  ◌==◌,
-  cond,
-  Option,
-  Some,
-  None,
-  refl,
-  sym,
-  ap,
-  ◌∙◌,
-  arith,
-}
+use Rattle.std.proofs.Common.{◌≡◌, ℕ, Bool, true, false, ◌&&◌, ◌==◌, cond, Option, Some, None, refl}
+use Rattle.std.proofs.Common.{sym, ap, ◌∙◌, arith}
 use Rattle.std.proofs.lemmas.Bool.Decides.{nat_tests}
 use Rattle.tk_format.specs.Exact.{IsExact}
 use Rattle.tk_format.specs.Laws.{u16_exact, u64_exact, both_exact, partly_exact, shaped_exact}

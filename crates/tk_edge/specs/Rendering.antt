@@ -3,19 +3,7 @@
 --   reason_of     the reason phrase of a status
 --   body_of       the bytes of a reply's body
 --   reply_bytes   the whole reply, with the methods allowed, if it names them
-use Rattle.std.specs.Prelude.{
-  ℕ,
-  Bool,
-  true,
-  false,
-  List,
-  [],
-  ◌∷◌,
-  length,
-  codes,
-  decimal,
-  Option,
-}
+use Rattle.std.specs.Prelude.{ℕ, Bool, true, false, List, [], ◌∷◌, length, codes, decimal, Option}
 use Rattle.std.specs.List.{concat}
 use Rattle.tk_put.specs.Put.{field_line}
 use Rattle.tk_message.specs.ReplyFields.{ReplyFields, Content, Nothing, JsonText, OtherBytes}

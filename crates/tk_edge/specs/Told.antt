@@ -4,22 +4,8 @@
 --   IsTold           the record and then the reply were written
 --   UsesLog          the log is called only for a record
 --   IsFaultOfDevice  each fault is returned only if its device failed
-use Rattle.std.specs.Prelude.{
-  ◌≡◌,
-  ℕ,
-  Bool,
-  true,
-  false,
-  List,
-  [],
-  Option,
-  Some,
-  None,
-  IsSome,
-  Result,
-  Ok,
-  Err,
-}
+use Rattle.std.specs.Prelude.{◌≡◌, ℕ, Bool, true, false, List, [], Option, Some, None, IsSome}
+use Rattle.std.specs.Prelude.{Result, Ok, Err}
 use Rattle.std.specs.Io.KnownBytes.{Appends, Keeps}
 use Rattle.tk_put.specs.Put.{AppendsFront}
 use Rattle.tk_message.specs.declared.status.Status.{Status}

@@ -35,22 +35,8 @@ pub enum Served {
     Done(Status),
 }
 
-ghost use Rattle.std.specs.Prelude.{
-  ◌≡◌,
-  ◌≢◌,
-  ℕ,
-  Bool,
-  true,
-  false,
-  List,
-  length,
-  Option,
-  Some,
-  Err,
-  IfOk,
-  OnOk,
-  OnErr,
-};
+ghost use Rattle.std.specs.Prelude.{◌≡◌, ◌≢◌, ℕ, Bool, true, false, List, length, Option, Some};
+ghost use Rattle.std.specs.Prelude.{Err, IfOk, OnOk, OnErr};
 ghost use Rattle.std.specs.Borrow.{Lends, sem};
 ghost use Rattle.tk_region.specs.contracts.region.Region.{the_row as region_row};
 ghost use Rattle.tk_edge.specs.contracts.edge.Edge.{the_row as edge_row};

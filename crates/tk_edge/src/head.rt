@@ -2,21 +2,8 @@
 //!
 //! `read_head` reads until a head is complete or impossible.
 
-ghost use Rattle.std.specs.Prelude.{
-  ◌≡◌,
-  ℕ,
-  ◌+◌,
-  ◌<◌,
-  ◌≤◌,
-  List,
-  [],
-  length,
-  take,
-  Option,
-  Some,
-  IfOk,
-  OnErr,
-};
+ghost use Rattle.std.specs.Prelude.{◌≡◌, ℕ, ◌+◌, ◌<◌, ◌≤◌, List, [], length, take, Option, Some};
+ghost use Rattle.std.specs.Prelude.{IfOk, OnErr};
 ghost use Rattle.std.specs.Io.KnownBytes.{Consumes, IsAtEnd, Keeps};
 ghost use Rattle.tk_edge.specs.Bounds.{TakesAtMost};
 ghost use Rattle.tk_edge.specs.Failures.{CountsFailure};

@@ -26,22 +26,8 @@ pub(crate) enum HearError {
     Memory,
 }
 
-ghost use Rattle.std.specs.Prelude.{
-  ◌≡◌,
-  ℕ,
-  Bool,
-  ◌++◌,
-  List,
-  length,
-  drop,
-  take,
-  nat_le,
-  map,
-  All,
-  Some,
-  true,
-  IfOk,
-};
+ghost use Rattle.std.specs.Prelude.{◌≡◌, ℕ, Bool, ◌++◌, List, length, drop, take, nat_le, map, All};
+ghost use Rattle.std.specs.Prelude.{Some, true, IfOk};
 ghost use Rattle.std.specs.Option.{option_copied, option_map};
 ghost use Rattle.httparse.specs.Grammar.{RequestHead};
 ghost use Rattle.httparse.specs.Spans.{IsRequestAt, IsRequestWithin};

@@ -1,35 +1,8 @@
 -- The law of each field (`.._exact`): a value that is read is spelled by the bytes taken, and a
 -- spelling is read as its value. The laws `.._fits` and `.._fit` show which values have a spelling.
-use Rattle.std.proofs.Common.{
-  ◌≡◌,
-  ℕ,
-  Bool,
-  true,
-  false,
-  cond,
-  eqb,
-  ◌==◌,
-  List,
-  [],
-  ◌∷◌,
-  ◌++◌,
-  length,
-  Option,
-  Some,
-  None,
-  refl,
-  sym,
-  ap,
-  subst,
-  ◌∙◌,
-  ◌&&◌,
-  nat_le,
-  nat_lt,
-  ◌≤◌,
-  codes,
-  is_none,
-  arith,
-}
+use Rattle.std.proofs.Common.{◌≡◌, ℕ, Bool, true, false, cond, eqb, ◌==◌, List, [], ◌∷◌, ◌++◌}
+use Rattle.std.proofs.Common.{length, Option, Some, None, refl, sym, ap, subst, ◌∙◌, ◌&&◌, nat_le}
+use Rattle.std.proofs.Common.{nat_lt, ◌≤◌, codes, is_none, arith}
 use Rattle.std.specs.List.{list_all, AllByRecursion}
 use Rattle.std.specs.Str.{bytes_eq}
 use Rattle.std.proofs.lemmas.Slice.Eq.{bytes_eq-Decides}
@@ -37,67 +10,25 @@ use borrow.Author.Tests.{leb-true}
 use Rattle.std.proofs.lemmas.Bool.{ltb-false}
 use Rattle.tk_format.specs.Format.{Format, via, text, ◌and_then◌}
 use Rattle.tk_format.specs.Exact.{IsBytes, Takes, IsExact, bind_some, chosen_some, some_is}
-use Rattle.tk_format.specs.Laws.{
-  Follows,
-  byte_exact,
-  bytes_exact,
-  text_exact,
-  both_exact,
-  only_exact,
-  shaped_exact,
-  partly_exact,
-  counted_exact,
-  coded_exact,
-  choice_exact,
-  via_takes,
-  via_again,
-  case_takes,
-  nothing_exact,
-}
+use Rattle.tk_format.specs.Laws.{Follows, byte_exact, bytes_exact, text_exact, both_exact}
+use Rattle.tk_format.specs.Laws.{only_exact, shaped_exact, partly_exact, counted_exact, coded_exact}
+use Rattle.tk_format.specs.Laws.{choice_exact, via_takes, via_again, case_takes, nothing_exact}
 use Rattle.tk_format.specs.KindLaws.{kind_exact, no_kind_exact, its, not_its}
 use Rattle.tk_handle.proofs.FormatLaws.{moment_exact}
 use Rattle.tk_scope.specs.Scope.{scope_of}
-use Rattle.tk_match.specs.Redirects.{
-  most_uri_bytes,
-  is_uri,
-  is_uri_byte,
-  most_uris,
-  redirects_of,
-  redirects_refusal,
-}
+use Rattle.tk_match.specs.Redirects.{most_uri_bytes, is_uri, is_uri_byte, most_uris, redirects_of}
+use Rattle.tk_match.specs.Redirects.{redirects_refusal}
 use Rattle.tk_match.specs.declared.redirects.RedirectError.{RedirectError}
 use Rattle.tk_match.specs.declared.challenge.ChallengeError.{ChallengeError}
-use Rattle.tk_match.specs.Challenge.{
-  ChallengeFields,
-  challenge_of,
-  fewest_verifier_bytes,
-  most_verifier_bytes,
-  is_verifier,
-  is_unreserved,
-}
+use Rattle.tk_match.specs.Challenge.{ChallengeFields, challenge_of, fewest_verifier_bytes}
+use Rattle.tk_match.specs.Challenge.{most_verifier_bytes, is_verifier, is_unreserved}
 use Rattle.tk_fact.specs.declared.sort.Sort.TheVariants.{Public, Confidential, Resource}
 use Rattle.tk_fact.specs.Subject.{is_visible, most_subject_bytes, is_subject}
-use Rattle.tk_fact.specs.Fields.{
-  digest_field,
-  sorts,
-  sort_field,
-  printed_scope_of,
-  scope_field,
-  subject_field,
-  uri_field,
-  redirects_field,
-  flag_code,
-  flag_of,
-  flag_field,
-  challenge_tag,
-  challenge_bytes,
-  challenge_rest,
-  ChallengeFits,
-  challenge_with,
-  challenge_cases,
-  challenge_field,
-  minted_field,
-}
+use Rattle.tk_fact.specs.Fields.{digest_field, sorts, sort_field, printed_scope_of, scope_field}
+use Rattle.tk_fact.specs.Fields.{subject_field, uri_field, redirects_field, flag_code, flag_of}
+use Rattle.tk_fact.specs.Fields.{flag_field, challenge_tag, challenge_bytes, challenge_rest}
+use Rattle.tk_fact.specs.Fields.{ChallengeFits, challenge_with, challenge_cases, challenge_field}
+use Rattle.tk_fact.specs.Fields.{minted_field}
 
 -- both of two tests that hold together hold
 pub both_true : (a b : Bool) → (a && b) ≡ true → (a ≡ true) × (b ≡ true)

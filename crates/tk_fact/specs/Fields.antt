@@ -8,41 +8,12 @@
 --   flag_field        a yes or no
 --   challenge_field   an optional challenge
 --   minted_field      an access or refresh token that a fact mints
-use Rattle.std.specs.Prelude.{
-  ℕ,
-  Bool,
-  true,
-  false,
-  ◌==◌,
-  List,
-  [],
-  Option,
-  Some,
-  None,
-  if◌then◌else◌,
-}
+use Rattle.std.specs.Prelude.{ℕ, Bool, true, false, ◌==◌, List, [], Option, Some, None}
+use Rattle.std.specs.Prelude.{if◌then◌else◌}
 use Rattle.std.specs.Str.{bytes_eq}
-use Rattle.tk_format.specs.Format.{
-  ◌>>=◌,
-  Format,
-  ◌⊗◌,
-  byte,
-  bytes_of,
-  text,
-  only,
-  shaped,
-  partly,
-  counted,
-  coded,
-  choice,
-  via,
-  nothing,
-  Kinds,
-  kind,
-  no_kind,
-  ◌and_then◌,
-  one_of,
-}
+use Rattle.tk_format.specs.Format.{◌>>=◌, Format, ◌⊗◌, byte, bytes_of, text, only, shaped, partly}
+use Rattle.tk_format.specs.Format.{counted, coded, choice, via, nothing, Kinds, kind, no_kind}
+use Rattle.tk_format.specs.Format.{◌and_then◌, one_of}
 use Rattle.tk_scope.specs.Scope.{scope_of}
 use Rattle.tk_match.specs.Redirects.{is_uri, redirects_of}
 use Rattle.tk_match.specs.Challenge.{ChallengeFields, is_verifier}

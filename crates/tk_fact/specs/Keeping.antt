@@ -6,12 +6,8 @@ use Rattle.tk_handle.specs.declared.dot.Dot.{Dot}
 use Rattle.tk_handle.specs.declared.kind.Kind.TheVariants.{Code, Refresh}
 use Rattle.tk_handle.specs.declared.token_id.TokenId.{TokenId}
 use Rattle.tk_fact.specs.declared.body.Body.{Body}
-use Rattle.tk_fact.specs.declared.body.Body.TheVariants.{
-  CodeIssued,
-  CodeRedeemed,
-  RefreshRotated,
-  ReuseSeen,
-}
+use Rattle.tk_fact.specs.declared.body.Body.TheVariants.{CodeIssued, CodeRedeemed, RefreshRotated}
+use Rattle.tk_fact.specs.declared.body.Body.TheVariants.{ReuseSeen}
 
 -- the token for which the fact is kept: a code or refresh token that it mints, or the token that it
 -- saw used again

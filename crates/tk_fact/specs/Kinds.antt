@@ -8,17 +8,8 @@ use Rattle.tk_handle.specs.Moment.{moment}
 use Rattle.tk_handle.specs.DotBytes.{dot_field}
 use Rattle.tk_handle.specs.TokenId.{token}
 use Rattle.tk_match.specs.Challenge.{ChallengeFields}
-use Rattle.tk_fact.specs.Fields.{
-  digest_field,
-  sort_field,
-  scope_field,
-  subject_field,
-  uri_field,
-  redirects_field,
-  flag_field,
-  challenge_field,
-  minted_field,
-}
+use Rattle.tk_fact.specs.Fields.{digest_field, sort_field, scope_field, subject_field, uri_field}
+use Rattle.tk_fact.specs.Fields.{redirects_field, flag_field, challenge_field, minted_field}
 use Rattle.tk_fact.specs.declared.client_added.ClientAdded.{ClientAdded}
 use Rattle.tk_fact.specs.declared.client_retired.ClientRetired.{ClientRetired}
 use Rattle.tk_fact.specs.declared.consent_given.ConsentGiven.{ConsentGiven}

@@ -1,28 +1,7 @@
 -- A fact that has a spelling has at most 8,192 bytes (`fact_short`), and has a spelling behind its
 -- length too (`framed_fits`).
-use Rattle.std.proofs.Common.{
-  ◌≡◌,
-  ℕ,
-  ◌*◌,
-  ◌≤◌,
-  Bool,
-  true,
-  false,
-  cond,
-  not,
-  nat_lt,
-  List,
-  [],
-  ◌∷◌,
-  ◌++◌,
-  length,
-  Option,
-  Some,
-  None,
-  refl,
-  ap,
-  arith,
-}
+use Rattle.std.proofs.Common.{◌≡◌, ℕ, ◌*◌, ◌≤◌, Bool, true, false, cond, not, nat_lt, List, [], ◌∷◌}
+use Rattle.std.proofs.Common.{◌++◌, length, Option, Some, None, refl, ap, arith}
 use Rattle.std.specs.Prelude.{is_some}
 use Rattle.std.specs.Int.{w16, w64}
 use Rattle.std.specs.List.{list_all, flat_map}
@@ -34,14 +13,8 @@ use borrow.Author.Tests.{le-leb}
 use Rattle.tk_format.specs.Format.{text, number_spelling}
 use Rattle.tk_format.specs.Exact.{bind_some}
 use Rattle.tk_format.specs.Spellings.{number_length, both_short, text_short}
-use Rattle.tk_scope.specs.Scope.{
-  greatest_length,
-  is_token,
-  most_tokens,
-  scope_of,
-  scope_text,
-  tokens_of,
-}
+use Rattle.tk_scope.specs.Scope.{greatest_length, is_token, most_tokens, scope_of, scope_text}
+use Rattle.tk_scope.specs.Scope.{tokens_of}
 use Rattle.tk_scope.specs.declared.error.ScopeError.{ScopeError}
 use Rattle.tk_match.specs.Redirects.{most_uri_bytes, is_uri}
 use Rattle.tk_match.specs.Challenge.{ChallengeFields, most_verifier_bytes}
@@ -54,25 +27,11 @@ use Rattle.tk_fact.specs.declared.minted_token.MintedToken.{MintedToken}
 use Rattle.tk_fact.specs.declared.body.Body.{Body}
 use Rattle.tk_fact.specs.declared.body.Body.TheVariants as bodies
 use Rattle.tk_fact.specs.Subject.{most_subject_bytes}
-use Rattle.tk_fact.specs.Fields.{
-  sorts,
-  sort_field,
-  scope_field,
-  redirects_field,
-  ChallengeFits,
-  challenge_field,
-  minted_field,
-}
+use Rattle.tk_fact.specs.Fields.{sorts, sort_field, scope_field, redirects_field, ChallengeFits}
+use Rattle.tk_fact.specs.Fields.{challenge_field, minted_field}
 use Rattle.tk_fact.specs.FactBytes.{kinds, body, fact, most_bytes, framed}
-use Rattle.tk_fact.specs.FieldLaws.{
-  both_true,
-  kept_list,
-  few,
-  subject_short,
-  uri_short,
-  redirects_keep,
-  verifier_short,
-}
+use Rattle.tk_fact.specs.FieldLaws.{both_true, kept_list, few, subject_short, uri_short}
+use Rattle.tk_fact.specs.FieldLaws.{redirects_keep, verifier_short}
 
 -- ---- lengths of the fields
 

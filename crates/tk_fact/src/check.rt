@@ -2,14 +2,8 @@
 
 ghost use Rattle.std.specs.Prelude.{◌≡◌, ◌&&◌, OnOk, IfErr, IsTrue, None, Some, true};
 ghost use Rattle.std.specs.List.{list_all};
-ghost use Rattle.tk_fact.specs.Check.{
-  first_broken,
-  refusal_of,
-  ends_after,
-  is_challenge,
-  is_revocable,
-  is_used_once,
-};
+ghost use Rattle.tk_fact.specs.Check.{first_broken, refusal_of, ends_after, is_challenge};
+ghost use Rattle.tk_fact.specs.Check.{is_revocable, is_used_once};
 ghost use Rattle.tk_fact.specs.Subject.{is_subject};
 ghost use Rattle.tk_match.specs.Redirects.{is_uri};
 
@@ -35,8 +29,8 @@ pub enum FactError {
     Range,
 }
 
-/// The greatest number of generations of a family. This limit is our own.
-const MOST_GENERATIONS: u16 = 10_000;
+/// The greatest number of generations of a family, the last of which isn't rotated (own).
+pub const MOST_GENERATIONS: u16 = 10_000;
 
 // Returns the first rule that a body breaks, if any.
 pub(crate) fn check_body(body: &Body) -> Result<(), FactError>

@@ -24,23 +24,8 @@ impl Model for Fact {
     ghost inverse = { λ p. record { dot = p.0; body = p.1 } };
 }
 
-ghost use Rattle.std.specs.Prelude.{
-  ◌≡◌,
-  ◌≢◌,
-  ◌≤◌,
-  ◌++◌,
-  ◌↔◌,
-  length,
-  false,
-  None,
-  Some,
-  IfOk,
-  IfErr,
-  IsErrOf,
-  IsTrue,
-  OnErr,
-  OnOk,
-};
+ghost use Rattle.std.specs.Prelude.{◌≡◌, ◌≢◌, ◌≤◌, ◌++◌, ◌↔◌, length, false, None, Some, IfOk};
+ghost use Rattle.std.specs.Prelude.{IfErr, IsErrOf, IsTrue, OnErr, OnOk};
 ghost use Rattle.tk_fact.specs.FactBytes.{passes};
 ghost use Rattle.tk_format.specs.Reading.{Gets, GetsAll};
 

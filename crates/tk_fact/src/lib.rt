@@ -49,7 +49,7 @@ mod tokens;
 mod uri_field;
 
 pub use body::Body;
-pub use check::FactError;
+pub use check::{FactError, MOST_GENERATIONS};
 pub use client_added::ClientAdded;
 pub use client_retired::ClientRetired;
 pub use code_issued::CodeIssued;

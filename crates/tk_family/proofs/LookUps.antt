@@ -1,7 +1,6 @@
 -- What the calls of a forest do to look-ups, for the crates above: from a finite map and a finite
 -- set to the link at each dot and the marked tokens.
 --   link_put, mark_put    look-ups after `put` and `mark`
---   IsTop-marks           marks of the same tokens give the same tops
 use Rattle.std.proofs.Common.{◌≡◌, ◌||◌, cond, Some, ap, ◌∙◌}
 use Rattle.std.specs.FinMap as map
 use Rattle.std.specs.FinSet as set
@@ -26,10 +25,3 @@ link_put m n d l h q = ap (λ (x : map.FinMap dot_cmp Link). map.get x q) h ∙ 
 -- the token that was marked is marked, and so is each token that was marked before
 pub mark_put : (s t : set.FinSet token_cmp) (j : TokenId) → t ≡ set.insert s j → (k : TokenId) → set.contains t k ≡ (eq_by_cmp token_cmp k j || set.contains s k)
 mark_put s t j h k = ap (λ (x : set.FinSet token_cmp). set.contains x k) h ∙ set.contains-insert tokens_total s j k
-
--- two relations that mark the same tokens give the same tops
-pub IsTop-marks : (f : Links) (m n : Marks) → MarksWithin m n → MarksWithin n m → (d : Dot) (t : Top) → IsTop f m d t → IsTop f n d t
-IsTop-marks f m n there back d Absent h = h
-IsTop-marks f m n there back d Broken h = h
-IsTop-marks f m n there back d (Code c) h = (h.0, λ dead. h.1 (IsDead-within f f n m (λ q l at. at) back c dead))
-IsTop-marks f m n there back d (Dead c) h = (h.0, IsDead-within f f m n (λ q l at. at) there c h.1)

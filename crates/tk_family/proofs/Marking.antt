@@ -162,9 +162,3 @@ MarksOne-seen T M N k seen p = record {
 
 pub top-broken : (T : Rows) (q : Dot) (l : Link) → IsForest T → link_in (T q) ≡ Some l → code_in (T q) ≡ None → IsTop (links_of T) (passing (marks_of T)) q top.Broken
 top-broken T q l t at none = (λ clash. (let e : Some l ≡ None = sym at ∙ clash in cc), λ c u. (let e : Some c ≡ None = sym (t.memo q c u) ∙ none in cc))
-
-pub top-dead : (T : Rows) (q c : Dot) → IsForest T → code_in (T q) ≡ Some c → dead_in (T c) ≡ true → IsTop (links_of T) (passing (marks_of T)) q (top.Dead c)
-top-dead T q c t at dead = (t.under q c at, t.dead c dead)
-
-pub top-code : (T : Rows) (q c : Dot) → IsForest T → code_in (T q) ≡ Some c → dead_in (T c) ≡ false → IsTop (links_of T) (passing (marks_of T)) q (top.Code c)
-top-code T q c t at alive = (t.under q c at, λ dead. true≢false (sym (t.tomb c dead) ∙ alive))

@@ -607,9 +607,6 @@ not_dead A at c said alive = Revives-none A at (λ o is. (let both : Some c ≡ 
 pub none_dead : (A : Rows) (at : Dot) → code_in (A at) ≡ None → Revives A A at
 none_dead A at none = Revives-none A at (λ o is. absurd (let clash : None ≡ Some o = sym none ∙ is in cc))
 
-pub IsSettled-forest : (T : Rows) → IsForest T → IsSettled T
-IsSettled-forest T t = record { under = t.under; memo = t.memo; hangs = t.hangs }
-
 -- with one mark less each row has the code of its dot
 pub IsSettled-unmarked : (T S : Rows) (k : TokenId) → IsForest T → Unmarked T S k → IsSettled S
 IsSettled-unmarked T S k t x = record {

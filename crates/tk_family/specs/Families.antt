@@ -14,23 +14,8 @@
 --   IsUsed, IsTwice            the uses of a code or refresh token
 --   IsBad, IsDead              bad grants, and the dead families that they make
 --   LinksWithin, MarksWithin   links and marks that are part of more
-use Rattle.std.specs.Prelude.{
-  ◌≡◌,
-  ◌≢◌,
-  ◌⊎◌,
-  ◌==◌,
-  ℕ,
-  ◌+◌,
-  Bool,
-  true,
-  false,
-  Option,
-  None,
-  Some,
-  List,
-  [],
-  ◌∷◌,
-}
+use Rattle.std.specs.Prelude.{◌≡◌, ◌≢◌, ◌⊎◌, ◌==◌, ℕ, ◌+◌, Bool, true, false, Option, None, Some}
+use Rattle.std.specs.Prelude.{List, [], ◌∷◌}
 use Rattle.tk_handle.specs.declared.dot.Dot.{Dot}
 use Rattle.tk_handle.specs.declared.kind.Kind.TheVariants as kind
 use Rattle.tk_handle.specs.declared.token_id.TokenId.{TokenId}

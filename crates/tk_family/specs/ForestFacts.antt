@@ -71,12 +71,6 @@ kind_back None = kind.Code
 kind_back (Some false) = kind.Access
 kind_back (Some true) = kind.Refresh
 
--- a kind is the kind of its plain data
-pub kind_undo : (k : Kind) → kind_back (kind_out k) ≡ k
-kind_undo kind.Code = refl
-kind_undo kind.Access = refl
-kind_undo kind.Refresh = refl
-
 -- a token with its kind as plain data, and back, is the token
 token_by : (d : Dot) (k : Kind)
     → ◌≡◌ {A = TokenId} (record { dot = d; kind = kind_back (kind_out k) })

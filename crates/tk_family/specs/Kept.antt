@@ -8,18 +8,8 @@ use Rattle.tk_handle.specs.declared.token_id.TokenId.{TokenId}
 use Rattle.tk_family.specs.Dots.{dot_eq, has}
 use Rattle.tk_family.specs.Families.{Links, IsUnder, IsUsed, IsTwice, IsDead}
 use Rattle.tk_family.specs.Laws.{passing}
-use Rattle.tk_family.specs.Rows.{
-  Rows,
-  code_in,
-  dead_in,
-  first_in,
-  next_in,
-  used_in,
-  again_in,
-  links_of,
-  marks_of,
-  named_of,
-}
+use Rattle.tk_family.specs.Rows.{Rows, code_in, dead_in, first_in, next_in, used_in, again_in}
+use Rattle.tk_family.specs.Rows.{links_of, marks_of, named_of}
 
 -- the list is read off by going on from the cursor
 abbrev pub IsChain : (Dot → Option Dot) → Option Dot → List Dot → Type 0

@@ -3,19 +3,8 @@
 use Rattle.std.specs.Prelude.{◌≡◌, ◌↔◌, ◌+◌, Bool, IsTrue, Some, List, ◌∷◌, length}
 use Rattle.tk_handle.specs.declared.dot.Dot.{Dot}
 use Rattle.tk_handle.specs.declared.token_id.TokenId.{TokenId}
-use Rattle.tk_family.specs.Families.{
-  Links,
-  Marks,
-  IsParent,
-  IsPath,
-  IsUnder,
-  IsTrail,
-  rank_of,
-  IsTwice,
-  IsDead,
-  LinksWithin,
-  MarksWithin,
-}
+use Rattle.tk_family.specs.Families.{Links, Marks, IsParent, IsPath, IsUnder, IsTrail, rank_of}
+use Rattle.tk_family.specs.Families.{IsTwice, IsDead, LinksWithin, MarksWithin}
 use Rattle.tk_family.specs.Walks.{code_of}
 
 -- a dot is under at most one code

@@ -5,19 +5,8 @@
 --   Gathers            all that hangs below a dot
 --   NothingSeen        rows may have become more, but only by blank ones
 --   Puts, MarksOne     a link is put, a token is marked
-use Rattle.std.specs.Prelude.{
-  ◌≡◌,
-  ◌⊎◌,
-  Bool,
-  true,
-  false,
-  if◌then◌else◌,
-  List,
-  ◌++◌,
-  Option,
-  Some,
-  None,
-}
+use Rattle.std.specs.Prelude.{◌≡◌, ◌⊎◌, Bool, true, false, if◌then◌else◌, List, ◌++◌, Option, Some}
+use Rattle.std.specs.Prelude.{None}
 use Rattle.std.specs.List.{IsDistinct}
 use Rattle.tk_handle.specs.declared.dot.Dot.{Dot}
 use Rattle.tk_handle.specs.declared.token_id.TokenId.{TokenId}

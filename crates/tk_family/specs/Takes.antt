@@ -9,23 +9,8 @@
 --   Clears             a dot and what hung below it are under no code
 --   Revives            the tombstone of a dot's family stays only if a token of the family is bad
 --   Takes, Unmarks     a link is removed, or a mark
-use Rattle.std.specs.Prelude.{
-  ◌≡◌,
-  ◌≢◌,
-  ◌<◌,
-  ℕ,
-  Bool,
-  true,
-  false,
-  if◌then◌else◌,
-  ◌&&◌,
-  List,
-  ◌++◌,
-  length,
-  Some,
-  None,
-  IsSome,
-}
+use Rattle.std.specs.Prelude.{◌≡◌, ◌≢◌, ◌<◌, ℕ, Bool, true, false, if◌then◌else◌, ◌&&◌, List, ◌++◌}
+use Rattle.std.specs.Prelude.{length, Some, None, IsSome}
 use Rattle.std.specs.List.{IsDistinct}
 use Rattle.tk_handle.specs.declared.dot.Dot.{Dot}
 use Rattle.tk_handle.specs.declared.kind.Kind.{Kind}
@@ -35,21 +20,8 @@ use Rattle.tk_family.specs.Dots.{dot_eq, has}
 use Rattle.tk_family.specs.Families.{Links, IsUnder, IsUsed, IsTwice}
 use Rattle.tk_family.specs.Kept.{IsChain, Hangs, IsForest}
 use Rattle.tk_family.specs.Puts.{FitsAll, Gathers}
-use Rattle.tk_family.specs.Rows.{
-  Rows,
-  link_in,
-  code_in,
-  dead_in,
-  first_in,
-  next_in,
-  marked_in,
-  used_in,
-  again_in,
-  bad_in,
-  links_of,
-  marks_of,
-  named_of,
-}
+use Rattle.tk_family.specs.Rows.{Rows, link_in, code_in, dead_in, first_in, next_in, marked_in}
+use Rattle.tk_family.specs.Rows.{used_in, again_in, bad_in, links_of, marks_of, named_of}
 use Rattle.tk_family.specs.Uses.{uses_some, uses_two}
 use Rattle.tk_family.specs.Writes.{without_dead, cleared}
 

@@ -58,25 +58,8 @@ impl Forest {
     ghost use Rattle.std.specs.FinMap as map;
     ghost use Rattle.std.specs.FinSet as set;
     ghost use Rattle.std.specs.List.{IsDistinct};
-    ghost use Rattle.std.specs.Prelude.{
-      ◌≡◌,
-      ◌+◌,
-      ◌^◌,
-      ◌<◌,
-      ◌≤◌,
-      ◌↔◌,
-      None,
-      true,
-      OnOk,
-      OnErr,
-      IfOk,
-      IsOk,
-      IsSome,
-      IsTrue,
-      IsSorted,
-      if◌then◌else◌,
-      false,
-    };
+    ghost use Rattle.std.specs.Prelude.{◌≡◌, ◌+◌, ◌^◌, ◌<◌, ◌≤◌, ◌↔◌, None, true, OnOk, OnErr};
+    ghost use Rattle.std.specs.Prelude.{IfOk, IsOk, IsSome, IsTrue, IsSorted, if◌then◌else◌, false};
     ghost use Rattle.tk_family.specs.Dots.{dot_eq, has};
     ghost use Rattle.tk_family.specs.Families.{IsUsed};
     ghost use Rattle.tk_family.specs.ForestFacts.{links_at, marks_at};

@@ -1,18 +1,8 @@
 //! Gathering all that hangs below a dot, in a list that is its own queue.
 
 ghost use Rattle.std.specs.FinMap as map;
-ghost use Rattle.std.specs.Prelude.{
-  ◌≡◌,
-  ◌<◌,
-  ◌≤◌,
-  [],
-  None,
-  OnOk,
-  OnErr,
-  IfOk,
-  IsSome,
-  vec_capacity,
-};
+ghost use Rattle.std.specs.Prelude.{◌≡◌, ◌<◌, ◌≤◌, [], None, OnOk, OnErr, IfOk, IsSome};
+ghost use Rattle.std.specs.Prelude.{vec_capacity};
 ghost use Rattle.tk_family.specs.declared.link.Link.{Link as the_link};
 ghost use Rattle.tk_family.specs.Kept.{Hangs};
 ghost use Rattle.tk_family.specs.Puts.{with_link, Pushes, Gathers};

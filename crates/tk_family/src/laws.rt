@@ -1,16 +1,7 @@
 //! The laws of families: functions with empty bodies, whose contracts hold of all links and marks.
 
-ghost use Rattle.tk_family.specs.Laws.{
-  OneCode,
-  RankFalls,
-  ChainLength,
-  WalkEnds,
-  NoRing,
-  WalkFinds,
-  UnderStays,
-  TwiceStays,
-  DeathStays,
-};
+ghost use Rattle.tk_family.specs.Laws.{OneCode, RankFalls, ChainLength, WalkEnds, NoRing};
+ghost use Rattle.tk_family.specs.Laws.{WalkFinds, UnderStays, TwiceStays, DeathStays};
 
 /// States a law: a dot is under at most one code.
 pub fn one_code()

@@ -60,14 +60,8 @@ impl Model for PackedRow {
 }
 
 ghost use Rattle.std.specs.Prelude.{◌≡◌};
-ghost use Rattle.tk_family.specs.Packed.{
-  dot_from,
-  link_from,
-  named_in,
-  form_of,
-  generation_in,
-  IsDotFrom,
-};
+ghost use Rattle.tk_family.specs.Packed.{dot_from, link_from, named_in, form_of, generation_in};
+ghost use Rattle.tk_family.specs.Packed.{IsDotFrom};
 
 use crate::link::Link;
 use crate::row::Row;

@@ -1,21 +1,8 @@
 //! Putting a link.
 
 ghost use Rattle.std.specs.FinMap as map;
-ghost use Rattle.std.specs.Prelude.{
-  ◌≡◌,
-  ◌≤◌,
-  ◌+◌,
-  vec_capacity,
-  true,
-  false,
-  None,
-  OnOk,
-  OnErr,
-  IfOk,
-  IsSome,
-  [],
-  IsSorted,
-};
+ghost use Rattle.std.specs.Prelude.{◌≡◌, ◌≤◌, ◌+◌, vec_capacity, true, false, None, OnOk, OnErr};
+ghost use Rattle.std.specs.Prelude.{IfOk, IsSome, [], IsSorted};
 ghost use Rattle.tk_family.specs.Families.{named_by};
 ghost use Rattle.tk_family.specs.Kept.{IsForest};
 ghost use Rattle.tk_family.specs.Puts.{Gathers, Puts, NothingSeen};

@@ -101,21 +101,10 @@ pub(crate) struct Row {
 }
 
 impl Row {
-    ghost use Rattle.tk_family.specs.Writes.{
-      blank,
-      is_blank,
-      with_code,
-      with_dead,
-      with_put,
-      with_redeemer,
-      with_rotator,
-      with_marked,
-      without_code,
-      without_dead,
-      without_users,
-      without_link,
-      without_mark,
-    };
+    ghost use Rattle.tk_family.specs.Writes.{blank, is_blank, with_code, with_dead, with_put};
+    ghost use Rattle.tk_family.specs.Writes.{with_redeemer, with_rotator, with_marked};
+    ghost use Rattle.tk_family.specs.Writes.{without_code, without_dead, without_users};
+    ghost use Rattle.tk_family.specs.Writes.{without_link, without_mark};
 
     /// Returns a row that is blank but for the link at its dot, if there is one.
     pub(crate) fn new(link: Option<Link>) -> Row

@@ -9,15 +9,8 @@ ghost use Rattle.tk_family.specs.Dots.{dot_eq};
 ghost use Rattle.tk_family.specs.Kept.{Hangs, IsForest};
 ghost use Rattle.tk_family.specs.Puts.{NothingSeen};
 ghost use Rattle.tk_family.specs.Rows.{table, link_in, links_of, marks_of};
-ghost use Rattle.tk_family.specs.Takes.{
-  IsSettled,
-  Unhangs,
-  Unlinks,
-  Clears,
-  Revives,
-  Takes,
-  Unmarks,
-};
+ghost use Rattle.tk_family.specs.Takes.{IsSettled, Unhangs, Unlinks, Clears, Revives, Takes};
+ghost use Rattle.tk_family.specs.Takes.{Unmarks};
 ghost use Rattle.tk_family.specs.Writes.{hung};
 ghost use Rattle.tk_handle.specs.declared.dot.Dot.{Dot as the_dot};
 

@@ -1,39 +1,14 @@
 //! Writes of rows. Only `add_row` takes memory.
 
 ghost use Rattle.std.specs.FinMap as map;
-ghost use Rattle.std.specs.Prelude.{
-  ◌≡◌,
-  ◌≤◌,
-  ◌+◌,
-  None,
-  OnOk,
-  OnErr,
-  IsOk,
-  IsSome,
-  if◌then◌else◌,
-  option_map,
-};
+ghost use Rattle.std.specs.Prelude.{◌≡◌, ◌≤◌, ◌+◌, None, OnOk, OnErr, IsOk, IsSome, if◌then◌else◌};
+ghost use Rattle.std.specs.Prelude.{option_map};
 ghost use Rattle.tk_family.specs.Dots.{dot_eq};
 ghost use Rattle.tk_family.specs.Rows.{table};
-ghost use Rattle.tk_family.specs.Writes.{
-  or_blank,
-  with_code,
-  with_dead,
-  with_put,
-  with_redeemer,
-  with_rotator,
-  with_marked,
-  without_code,
-  without_dead,
-  without_users,
-  without_link,
-  without_mark,
-  hung,
-  settled,
-  cleared,
-  raised,
-  buried,
-};
+ghost use Rattle.tk_family.specs.Writes.{or_blank, with_code, with_dead, with_put, with_redeemer};
+ghost use Rattle.tk_family.specs.Writes.{with_rotator, with_marked, without_code, without_dead};
+ghost use Rattle.tk_family.specs.Writes.{without_users, without_link, without_mark, hung, settled};
+ghost use Rattle.tk_family.specs.Writes.{cleared, raised, buried};
 ghost use Rattle.tk_handle.specs.declared.dot.Dot.{Dot as the_dot};
 
 use crate::link::Link;

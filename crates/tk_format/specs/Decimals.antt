@@ -2,20 +2,8 @@
 --   IsDecimalOf    a text is the decimal of a number that fits 64 bits
 --   IsNoDecimal    a text is the decimal of no such number
 --   decimal_in     the number whose decimal a text is
-use Rattle.std.specs.Prelude.{
-  ◌≡◌,
-  ℕ,
-  ◌^◌,
-  ◌<◌,
-  ◌&&◌,
-  nat_lt,
-  if◌then◌else◌,
-  List,
-  decimal,
-  Option,
-  Some,
-  None,
-}
+use Rattle.std.specs.Prelude.{◌≡◌, ℕ, ◌^◌, ◌<◌, ◌&&◌, nat_lt, if◌then◌else◌, List, decimal, Option}
+use Rattle.std.specs.Prelude.{Some, None}
 use Rattle.std.specs.Str.{bytes_eq}
 use Rattle.std.specs.Str.Parse.{digits_value}
 

@@ -2,19 +2,8 @@
 --   Reads, ReadsMagic           of a reader that allocates no memory
 --   Gets, GetsBy, GetsManyBy    of a reader that may run out of memory
 --   GetsAll                     of a reader of all of the bytes
-use Rattle.std.specs.Prelude.{
-  ◌≡◌,
-  ℕ,
-  List,
-  length,
-  Option,
-  Some,
-  None,
-  Result,
-  Ok,
-  Err,
-  if◌then◌else◌,
-}
+use Rattle.std.specs.Prelude.{◌≡◌, ℕ, List, length, Option, Some, None, Result, Ok, Err}
+use Rattle.std.specs.Prelude.{if◌then◌else◌}
 use Rattle.std.specs.Global.{Vec}
 use Rattle.std.specs.Str.{bytes_eq}
 use Rattle.tk_format.specs.declared.error.ReadError.{ReadError}

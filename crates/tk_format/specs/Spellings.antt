@@ -1,24 +1,8 @@
 -- Spellings are lists of bytes, and how long they are.
 --   number_bytes, IsBytes-append             spellings are lists of bytes
 --   number_length, text_short, both_short    lengths of spellings
-use Rattle.std.proofs.Common.{
-  ◌≡◌,
-  ℕ,
-  zero,
-  suc,
-  ◌+◌,
-  ◌<◌,
-  ◌≤◌,
-  List,
-  [],
-  ◌∷◌,
-  ◌++◌,
-  length,
-  refl,
-  ap,
-  arith,
-  lit<,
-}
+use Rattle.std.proofs.Common.{◌≡◌, ℕ, zero, suc, ◌+◌, ◌<◌, ◌≤◌, List, [], ◌∷◌, ◌++◌, length, refl}
+use Rattle.std.proofs.Common.{ap, arith, lit<}
 use Rattle.std.specs.Int.{Width, w16, byte_at, byte_len, bytes_high_first}
 use Rattle.std.proofs.lemmas.List.{length-append}
 use Rattle.tk_format.specs.Format.{number_spelling, text_spelling, text}

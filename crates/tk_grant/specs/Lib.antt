@@ -5,11 +5,13 @@
 --   Rotated       rotated_of, the judgement of a refresh token
 --   Judged        judged_of, the cases of a token request in their order
 --   Granted       grant_of, the decision of a token request
+--   Laws          GrantsAlike, two stores that answer each handle alike
 --   SoundGate     IsSoundGate, what holds of every gate
 --   SoundJudged   IsSoundJudged, what holds of every judgement
 pub mod Gate
 pub mod Granted
 pub mod Judged
+pub mod Laws
 pub mod Redeemed
 pub mod Refusal
 pub mod Rotated

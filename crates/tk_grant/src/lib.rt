@@ -10,16 +10,18 @@
 //! Then the judgement becomes the reply, and the fact if one is made. Both grants go through one
 //! `Gate`: whether the code or refresh token that was sent can be redeemed.
 //!
-//! In reading order: `Refusal`, `Gate`, `Grant`, `Judged`, `redeem`, `rotate`, `decide_token`. The
-//! definitions are in `specs/`: `Refusal`, `Gate`, `Redeemed`, `Rotated`, `Judged`, `Granted`.
+//! In reading order: `Refusal`, `Gate`, `Grant`, `Judged`, `redeem`, `rotate`, `decide_token`,
+//! `grants_alike`. The definitions are in `specs/`: `Refusal`, `Gate`, `Redeemed`, `Rotated`, `Judged`, `Granted`.
 //! `SoundGate` and `SoundJudged` define what makes each fact pass its check.
 #![tactic(auto)]
 
 mod gate;
 mod granted;
 mod judged;
+mod laws;
 mod redeem;
 mod refusal;
 mod rotate;
 
 pub use granted::decide_token;
+pub use laws::grants_alike;

@@ -10,13 +10,11 @@ use crate::gate::Gate;
 use crate::judged::{Grant, Judged};
 use crate::refusal::Refusal;
 use std::alloc::{AllocError, Global};
+use tk_fact::MOST_GENERATIONS;
 use tk_handle::{Dot, Moment};
 use tk_ledger::Standing;
 use tk_message::{Params, scope_asked};
 use tk_scope::Scope;
-
-/// The last generation of a family, which is not rotated (own).
-const LAST_GENERATION: u16 = 10_000;
 
 // Judges the rotation of the refresh token at the gate, by the parameters.
 pub(crate) fn rotate(
@@ -33,7 +31,7 @@ pub(crate) fn rotate(
         Gate::Shut(why) => Ok(Judged::Refused(why)),
         Gate::Reuse(id) => Ok(Judged::Reused(id)),
         Gate::Open(id, standing) => {
-            if standing.generation >= LAST_GENERATION {
+            if standing.generation >= MOST_GENERATIONS {
                 return Ok(Judged::Refused(Refusal::LastGeneration));
             }
             let scope = scope_asked(alloc, standing.scope, params.value("scope"))?;

@@ -1,7 +1,5 @@
 -- The texts of dots and ids are read back, and nothing else is read. Key results:
 --   parted_back, parted_found   `parted_in` finds the dot of a text, and nothing in any other text
---   reads_parted                a reader that agrees with `parted_in` reads exactly the texts of
---                               dots
 --   reads_id                    a reader that agrees with `id_in` reads exactly the ids of dots
 --   parted_injective            two dots with one text are equal
 use Rattle.std.proofs.Common.{◌≡◌, ◌≢◌, ℕ, ◌+◌, ◌<◌, ◌≤◌, ◌^◌, true, false, ◌&&◌, ◌==◌, cond, List, [], ◌∷◌, ◌++◌, length, get_or, take, drop, Option, Some, None, IfSome, IfNone, MatchOption, suc, refl, sym, ap, subst, ◌∙◌, arith, decimal, inl, inr}
@@ -150,13 +148,6 @@ parted_found mark text d h =
       }
       | inr absent ↦ absurd (nothing_behind mark text d.serial absent n.1)
     ]
-
-pub reads_parted : (mark : ℕ) → ¬ (IsInRange 48 57 mark) → (text : List ℕ) → MatchOption (parted_in mark text) ((d : Dot) → ¬ (IsPartedText mark text d)) (IsPartedText mark text)
-reads_parted mark parts text = go (parted_in mark text) refl
-  where
-    go : (o : Option Dot) → parted_in mark text ≡ o → MatchOption o ((d : Dot) → ¬ (IsPartedText mark text d)) (IsPartedText mark text)
-    go (Some d) e = parted_found mark text d e
-    go None e = λ d h. none_is_not_some d (sym e ∙ ap (parted_in mark) h.spelled ∙ parted_back mark parts d h.range)
 
 -- ---- dots
 

@@ -19,20 +19,6 @@ use Rattle.tk_handle.specs.Handle.{version, handle}
 pub dot_field_exact : IsExact dot_field
 dot_field_exact = shaped_exact _ _ _ (both_exact _ _ (only_exact is_region _ u16_exact) (only_exact is_serial _ u64_exact)) (λ _. refl) (λ _. refl)
 
--- a dot that a program can hold has a spelling
-pub dot_field_fits : (d : Dot) → IsDot d → dot_field.Fits d
-dot_field_fits d h =
-    let region : is_region d.region ≡ true = grind (arith, nat_tests) in
-    let serial : is_serial d.serial ≡ true = grind (arith, nat_tests) in
-    ((omega arith, region), (omega arith, serial))
-
--- a dot that has a spelling is one that a program can hold
-pub dot_field_in_range : (d : Dot) → dot_field.Fits d → IsDot d
-dot_field_in_range d fits =
-    let region : IsRegion d.region = grind (arith, nat_tests) in
-    let serial : IsSerial d.serial = grind (arith, nat_tests) in
-    (region, serial)
-
 -- the law of the format of moments
 pub moment_exact : IsExact moment
 moment_exact = only_exact is_moment _ u64_exact

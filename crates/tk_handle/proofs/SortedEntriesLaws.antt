@@ -168,7 +168,3 @@ module _ {K X : Type 0} {R : K → K → Ordering} (total : IsTotalOrder R) (es 
 -- the empty list makes the empty map
 pub from_sorted_nil : {K X : Type 0} (R : K → K → Ordering) → from_sorted {X = X} {R = R} [] ≡ map.empty
 from_sorted_nil R = map.empty_of_len _ (map.len-entries _ ∙ ap length (entries-from_sorted R [] tt))
-
--- the entry at the key's place has the key
-pub entry_at_place : {K X : Type 0} {R : K → K → Ordering} → map.IsAntisymmetric R → (es : List (K × X)) (k : K) (i : ℕ) → IsAt R es k i → (d : K × X) → get_or es i d ≡ (k, (get_or es i d).1)
-entry_at_place exact es k i at d = ap (λ key. (key, (get_or es i d).1)) (exact _ k (at.tied d))

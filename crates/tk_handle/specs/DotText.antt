@@ -6,21 +6,8 @@
 --   IsIdText      a text is the id of a dot behind a letter; IsNoIdText, of no dot
 --   ReadsId       a reading gives the dot of an id, and nothing for any other text
 --   id_in         the dot whose id a text is
-use Rattle.std.specs.Prelude.{
-  ◌≡◌,
-  ℕ,
-  ◌&&◌,
-  ◌==◌,
-  if◌then◌else◌,
-  List,
-  [],
-  ◌∷◌,
-  ◌++◌,
-  decimal,
-  Option,
-  Some,
-  None,
-}
+use Rattle.std.specs.Prelude.{◌≡◌, ℕ, ◌&&◌, ◌==◌, if◌then◌else◌, List, [], ◌∷◌, ◌++◌, decimal}
+use Rattle.std.specs.Prelude.{Option, Some, None}
 use Rattle.std.specs.List.{before_first, after_first}
 use Rattle.tk_format.specs.Decimals.{decimal_in}
 use Rattle.tk_handle.specs.declared.dot.Dot.{Dot}

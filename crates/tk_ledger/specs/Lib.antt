@@ -9,12 +9,14 @@
 --   StandingFields   StandingFields, what contracts see of a standing
 --   Standings        IsSound, what holds of every standing
 --   Ends             FamilyEnds, the end of a whole family
+--   Alike            AnsweredAlike, statuses that every endpoint answers alike
 --   Laws             the laws, which hold of all sets of facts
 --   Changes          change_in, the change that one fact makes in the tables
 --   Index            IsIndexed, the tables beside the facts
 --   Losses           WasIndexed, the tables after the loss of a fact
 --   Retention        MaySkip, the facts of families that are over
 --   ByTop            by_top, the status of a token by the top of its dot
+pub mod Alike
 pub mod Bodies
 pub mod ByTop
 pub mod Changes

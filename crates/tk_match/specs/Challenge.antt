@@ -4,28 +4,9 @@
 --   challenge_refusal   the first rule of a challenge that a method and a text break
 --   challenge_of        the challenge of a method and a text that break no rule
 --   Meets               a verifier meets a challenge; is_met is its test
-use Rattle.std.specs.Prelude.{
-  ◌≡◌,
-  ℕ,
-  Bool,
-  true,
-  false,
-  ◌&&◌,
-  ◌||◌,
-  ◌==◌,
-  not,
-  nat_le,
-  is_none,
-  IsTrue,
-  if◌then◌else◌,
-  List,
-  length,
-  codes,
-  bytes_eq,
-  Option,
-  None,
-  Some,
-}
+use Rattle.std.specs.Prelude.{◌≡◌, ℕ, Bool, true, false, ◌&&◌, ◌||◌, ◌==◌, not, nat_le, is_none}
+use Rattle.std.specs.Prelude.{IsTrue, if◌then◌else◌, List, length, codes, bytes_eq, Option, None}
+use Rattle.std.specs.Prelude.{Some}
 use Rattle.std.specs.Char.{is_ascii_alphanumeric}
 use Rattle.std.specs.List.{list_all}
 use Rattle.base64.specs.Engines.{url_safe_no_pad}

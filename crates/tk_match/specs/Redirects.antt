@@ -5,27 +5,8 @@
 --   redirects_of           the list, if it breaks no rule
 --   ReadsAsUrl, Refuses    the crate `url` reads a text as a URL, or refuses it
 --   registration_refusal   the first rule that a list breaks if its URIs must be URLs too
-use Rattle.std.specs.Prelude.{
-  ◌≡◌,
-  ℕ,
-  Bool,
-  ◌&&◌,
-  ◌==◌,
-  not,
-  nat_lt,
-  nat_le,
-  is_none,
-  is_some,
-  is_ok,
-  if◌then◌else◌,
-  List,
-  length,
-  Option,
-  None,
-  Some,
-  Ok,
-  Err,
-}
+use Rattle.std.specs.Prelude.{◌≡◌, ℕ, Bool, ◌&&◌, ◌==◌, not, nat_lt, nat_le, is_none, is_some}
+use Rattle.std.specs.Prelude.{is_ok, if◌then◌else◌, List, length, Option, None, Some, Ok, Err}
 use Rattle.std.specs.List.{list_all}
 use Rattle.url.specs.Parser.{parse_url, IsOutOfRoom}
 use Rattle.url.specs.Parts.{Parts}

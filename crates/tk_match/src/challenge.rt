@@ -48,15 +48,8 @@ impl From<AllocError> for ChallengeError {
 
 ghost use Rattle.std.specs.Prelude.{◌≡◌, ◌↔◌, IfOk, IsErrOf, IsTrue, Some, None, true};
 ghost use Rattle.std.specs.List.{list_all};
-ghost use Rattle.tk_match.specs.Challenge.{
-  is_unreserved,
-  is_verifier,
-  challenge_refusal,
-  challenge_of,
-  challenge_text,
-  Meets,
-  is_met,
-};
+ghost use Rattle.tk_match.specs.Challenge.{is_unreserved, is_verifier, challenge_refusal};
+ghost use Rattle.tk_match.specs.Challenge.{challenge_of, challenge_text, Meets, is_met};
 
 use base64::engine::general_purpose::URL_SAFE_NO_PAD;
 use sha2::{Digest, Sha256};

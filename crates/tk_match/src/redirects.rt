@@ -50,39 +50,14 @@ impl From<AllocError> for RedirectError {
     }
 }
 
-ghost use Rattle.std.specs.Prelude.{
-  ◌≡◌,
-  ◌↔◌,
-  ◌⊎◌,
-  ◌++◌,
-  ◌∷◌,
-  [],
-  All,
-  Any,
-  IfOk,
-  IfErr,
-  OnOk,
-  IsErrOf,
-  IsTrue,
-  None,
-  Some,
-  true,
-  false,
-  map,
-};
+ghost use Rattle.std.specs.Prelude.{◌≡◌, ◌↔◌, ◌⊎◌, ◌++◌, ◌∷◌, [], All, Any, IfOk, IfErr, OnOk};
+ghost use Rattle.std.specs.Prelude.{IsErrOf, IsTrue, None, Some, true, false, map};
 ghost use Rattle.std.specs.List.{list_all};
 ghost use Rattle.std.specs.Option.{option_copied};
 ghost use Rattle.std.specs.Str.{IsUtf8};
 ghost use Rattle.tk_match.specs.Pick.{picked, shown_pick, IfUri};
-ghost use Rattle.tk_match.specs.Redirects.{
-  is_uri,
-  redirects_refusal,
-  redirects_of,
-  registration_refusal,
-  is_absolute,
-  ReadsAsUrl,
-  Refuses,
-};
+ghost use Rattle.tk_match.specs.Redirects.{is_uri, redirects_refusal, redirects_of};
+ghost use Rattle.tk_match.specs.Redirects.{registration_refusal, is_absolute, ReadsAsUrl, Refuses};
 
 use crate::pick::{Pick, only_uri, registered_uri};
 use std::alloc::{AllocError, Global};

@@ -3,22 +3,8 @@
 --   encoded_in     the base64 text of a header with the Basic scheme
 --   halves_of      the id and the secret in decoded bytes
 --   basic_of       the id and the secret of a header
-use Rattle.std.specs.Prelude.{
-  ℕ,
-  Bool,
-  ◌==◌,
-  ◌+◌,
-  position,
-  List,
-  map,
-  take,
-  drop,
-  codes,
-  Option,
-  Some,
-  None,
-  if◌then◌else◌,
-}
+use Rattle.std.specs.Prelude.{ℕ, Bool, ◌==◌, ◌+◌, position, List, map, take, drop, codes, Option}
+use Rattle.std.specs.Prelude.{Some, None, if◌then◌else◌}
 use Rattle.std.specs.Char.{to_ascii_lowercase}
 use Rattle.std.specs.List.{prefix_len}
 use Rattle.std.specs.Option.{option_and_then, option_map}

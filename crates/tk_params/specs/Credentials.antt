@@ -2,18 +2,8 @@
 --   CredentialsFields   an id and a secret, either of which may be absent
 --   Presented           credentials, or credentials in two places, or an unreadable header
 --   presented_in        what a header and parameters present
-use Rattle.std.specs.Prelude.{
-  ℕ,
-  List,
-  length,
-  codes,
-  Option,
-  Some,
-  None,
-  is_some,
-  if◌then◌else◌,
-  ◌==◌,
-}
+use Rattle.std.specs.Prelude.{ℕ, List, length, codes, Option, Some, None, is_some, if◌then◌else◌}
+use Rattle.std.specs.Prelude.{◌==◌}
 use Rattle.std.specs.Str.{bytes_eq}
 use Rattle.tk_params.specs.Basic.{basic_of}
 use Rattle.tk_params.specs.Params.{Pairs, value_of}

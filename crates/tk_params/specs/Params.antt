@@ -7,22 +7,8 @@
 --   is_twice      a name occurs twice or more
 --   has_twice     one of several names occurs twice or more
 --   owned_texts   the bytes of pairs of texts
-use Rattle.std.specs.Prelude.{
-  ℕ,
-  Bool,
-  nat_le,
-  List,
-  [],
-  ◌∷◌,
-  length,
-  map,
-  filter,
-  Option,
-  Some,
-  None,
-  String,
-  string_bytes,
-}
+use Rattle.std.specs.Prelude.{ℕ, Bool, nat_le, List, [], ◌∷◌, length, map, filter, Option, Some}
+use Rattle.std.specs.Prelude.{None, String, string_bytes}
 use Rattle.std.specs.declared.alloc.Global.{Global}
 use Rattle.std.specs.List.{list_any}
 use Rattle.std.specs.Str.{bytes_eq}

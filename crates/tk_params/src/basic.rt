@@ -17,18 +17,8 @@ impl Model for Basic {
     ghost view = { λ b. (string_bytes b.id, string_bytes b.secret) };
 }
 
-ghost use Rattle.std.specs.Prelude.{
-  ◌≡◌,
-  ◌==◌,
-  ◌<◌,
-  ◌+◌,
-  IfOk,
-  IfSome,
-  length,
-  position,
-  drop,
-  string_bytes,
-};
+ghost use Rattle.std.specs.Prelude.{◌≡◌, ◌==◌, ◌<◌, ◌+◌, IfOk, IfSome, length, position, drop};
+ghost use Rattle.std.specs.Prelude.{string_bytes};
 ghost use Rattle.std.specs.Option.{option_copied, option_map};
 ghost use Rattle.form_urlencoded.specs.Form.{pair_text};
 ghost use Rattle.tk_params.specs.Params.{text_of};

@@ -34,14 +34,8 @@ pub enum One<'a> {
 ghost use Rattle.std.specs.Prelude.{◌≡◌, IfOk, map};
 ghost use Rattle.std.specs.List.{list_any};
 ghost use Rattle.std.specs.Option.{option_copied};
-ghost use Rattle.tk_params.specs.Params.{
-  owned_texts,
-  params_of,
-  values_of,
-  value_of,
-  is_twice,
-  has_twice,
-};
+ghost use Rattle.tk_params.specs.Params.{owned_texts, params_of, values_of, value_of, is_twice};
+ghost use Rattle.tk_params.specs.Params.{has_twice};
 ghost use Rattle.tk_params.specs.One.{IsOne};
 
 use form_urlencoded::parse;

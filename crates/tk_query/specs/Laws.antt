@@ -2,21 +2,33 @@
 -- `says_active` are:
 --   SaysActive     the reply reports an active token that the sender may see
 --   SaysNothing    the reply to any sender reports no other token
+-- The clauses of `queries_alike`, of two stores that answer each handle alike:
+--   IntrospectionsAlike   they give equal replies to introspection requests
+--   RevocationsAlike      they decide revocation requests alike
 use Rattle.std.specs.Prelude.{◌≡◌, ℕ, List, Some, true}
 use Rattle.std.specs.FinMap as map
 use Rattle.tk_handle.specs.declared.dot.Dot.{Dot}
 use Rattle.tk_handle.specs.declared.kind.Kind.{Kind}
 use Rattle.tk_handle.specs.declared.kind.Kind.TheVariants as kind
 use Rattle.tk_handle.specs.declared.handle.Handle.{Handle}
+use Rattle.tk_handle.specs.declared.token_id.TokenId.{TokenId}
 use Rattle.tk_fact.specs.declared.sort.Sort.{Sort}
 use Rattle.tk_store.specs.StoreFields.{StoreFields, held_facts}
-use Rattle.tk_ledger.specs.Status.{IsActive}
+use Rattle.tk_ledger.specs.Alike.{AnsweredAlike}
+use Rattle.tk_ledger.specs.Status.{status_here, IsActive}
+use Rattle.tk_ledger.specs.Tokens.{is_revoked}
+use Rattle.tk_ledger.specs.Views.{client_view}
 use Rattle.tk_message.specs.declared.status.Status.TheVariants.{Ok}
 use Rattle.tk_message.specs.Bodies.{access_body, refresh_body}
 use Rattle.tk_message.specs.Reply.{inactive_reply, json_reply}
+use Rattle.tk_message.specs.Caller.{caller_of}
 use Rattle.tk_message.specs.ReplyFields.{ReplyFields}
+use Rattle.tk_message.specs.RequestFields.{RequestFields}
+use Rattle.tk_message.specs.declared.place.Place.{Place}
+use Rattle.tk_query.specs.Caller.{known_names}
+use Rattle.tk_query.specs.Revocation.{revocation_of}
 use Rattle.tk_query.specs.Introspected.{introspected_by_handle, sees}
-use Rattle.tk_query.specs.Introspection.{told}
+use Rattle.tk_query.specs.Introspection.{told, introspection_of}
 
 -- the reply for an active token of the kind: a code is never active
 abbrev pub told_by_kind : Kind → Dot → ℕ → ℕ → List ℕ → List ℕ → ReplyFields
@@ -43,3 +55,24 @@ SaysActive =
 abbrev pub SaysNothing : Type 0
 SaysNothing = (P : StoreFields) (now : ℕ) (sort : Sort) (asker : Dot) (h : Handle)
     → ¬ IsActive (map.get (held_facts P)) now h → told_to P now sort asker h ≡ inactive_reply
+
+-- ---- two stores that answer each handle alike
+
+-- two stores that answer each handle alike, and have the same clients, give equal replies to an
+-- introspection request
+abbrev pub IntrospectionsAlike : Type 0
+IntrospectionsAlike = (P Q : StoreFields) (now : ℕ) (request : RequestFields)
+    → ((h : Handle) → AnsweredAlike now h (status_here P now h) (status_here Q now h))
+    → ((d : Dot) → client_view (held_facts P) d ≡ client_view (held_facts Q) d)
+    → caller_of (held_facts P) known_names request ≡ caller_of (held_facts Q) known_names request
+    → introspection_of P now request ≡ introspection_of Q now request
+
+-- two stores that answer each handle alike, and have the same revocations, decide a revocation
+-- request alike
+abbrev pub RevocationsAlike : Type 0
+RevocationsAlike = (P Q : StoreFields) (place : Place) (now : ℕ) (request : RequestFields)
+    → ((h : Handle) → AnsweredAlike now h (status_here P now h) (status_here Q now h))
+    → ((k : TokenId) (digest : List ℕ) (client : Dot) → is_revoked (held_facts P) k digest client
+    ≡ is_revoked (held_facts Q) k digest client)
+    → caller_of (held_facts P) known_names request ≡ caller_of (held_facts Q) known_names request
+    → revocation_of P place now request ≡ revocation_of Q place now request

@@ -1,6 +1,11 @@
-//! The law of introspection.
+//! The laws of introspection and revocation.
 
-ghost use Rattle.tk_query.specs.Laws.{SaysActive, SaysNothing};
+ghost use Rattle.tk_query.specs.Laws.{
+  IntrospectionsAlike,
+  RevocationsAlike,
+  SaysActive,
+  SaysNothing,
+};
 
 /// States a law: introspection reports exactly the active tokens (RFC 7662, 2.2).
 ///
@@ -9,4 +14,11 @@ ghost use Rattle.tk_query.specs.Laws.{SaysActive, SaysNothing};
 pub fn says_active()
     ensures active { SaysActive }
     ensures nothing { SaysNothing }
+{}
+
+/// States a law: two stores that answer each handle alike answer introspection and revocation
+/// requests alike.
+pub fn queries_alike()
+    ensures introspections { IntrospectionsAlike }
+    ensures revocations { RevocationsAlike }
 {}

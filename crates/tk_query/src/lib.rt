@@ -10,7 +10,7 @@
 //! `Idle` if nothing is left to revoke, or the fact.
 //!
 //! In reading order: `Refusal`, `Introspected`, `decide_introspect`, `Idle`, `Revocation`,
-//! `decide_revoke`, `says_active`. The definitions are in `specs/`, by the name of the file.
+//! `decide_revoke`, `says_active`, `queries_alike`. The definitions are in `specs/`, by the name of the file.
 //! `Caller` has the names of the parameters that both endpoints know.
 #![tactic(auto)]
 
@@ -24,5 +24,5 @@ mod revocation;
 mod revoked;
 
 pub use introspection::decide_introspect;
-pub use laws::says_active;
+pub use laws::{queries_alike, says_active};
 pub use revocation::decide_revoke;

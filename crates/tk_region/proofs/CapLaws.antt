@@ -27,11 +27,6 @@ use Rattle.tk_region.specs.SettingsFields.{SettingsFields, greatest_cap}
 use Rattle.tk_region.specs.Step.{IsNextFact}
 use Rattle.tk_region.specs.Taking.{has_unmade, TakesIn}
 
--- each fact of the list under the number has a serial up to the cap
-abbrev UpTo : ℕ → ℕ → Facts → Type 0
-UpTo number cap [] = Unit {0}
-UpTo number cap (f ∷ fs) = (f.0.region ≡ number → f.0.serial ≤ cap) × UpTo number cap fs
-
 one_under : (region r serial rest cap : ℕ) → (region ≡ r → serial ≤ cap) → rest ≤ cap → max (if region == r then serial else 0) rest ≤ cap
 one_under region r serial rest cap p q = grind (arith, nat_tests)
 

@@ -1,5 +1,5 @@
 -- Taking in one more fact of a bundle. Key results:
---   taken_new, taken_held, no_conflict, taken_passes   one more fact
+--   taken_new, no_conflict, taken_passes   one more fact
 --   taken_all, taken_first, at_end                     all facts are joined, or the first of them
 use Rattle.std.proofs.Common.{◌≡◌, ℕ, zero, suc, ◌+◌, ◌<◌, ◌≤◌, [], ◌∷◌, length, take, get_or, Some, None, refl, sym, ap, subst, ◌∙◌, arith}
 use Rattle.std.specs.FinMap as map
@@ -22,9 +22,6 @@ module _ (F : FactSet) (fs : Facts) (i : ℕ) (f : Dot × Body) (is : f ≡ get_
   module _ (G : FactSet) (so_far : G ≡ with_facts F (take i fs)) where
     pub taken_new : (new : FactSet) → new ≡ map.insert G f.0 f.1 → new ≡ with_facts F (take (i + 1) fs)
     taken_new new e = e ∙ ap (λ H. map.insert H f.0 f.1) so_far ∙ one_more
-
-    pub taken_held : (new : FactSet) → new ≡ G → map.get G f.0 ≡ Some f.1 → new ≡ with_facts F (take (i + 1) fs)
-    taken_held new e held = e ∙ sym (insert_held G f.0 f.1 held) ∙ ap (λ H. map.insert H f.0 f.1) so_far ∙ one_more
 
     -- no other body is at the dot of the next fact
     pub no_conflict : (U : FactSet) → IsSubset F U → AllIn U fs → (b : Body) → map.get G f.0 ≡ Some b → b ≡ f.1

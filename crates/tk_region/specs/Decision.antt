@@ -7,18 +7,10 @@ use Rattle.tk_message.specs.declared.decision.Decision.{Decision}
 use Rattle.tk_message.specs.declared.error_code.ErrorCode.TheVariants.{TemporarilyUnavailable}
 use Rattle.tk_message.specs.declared.place.Place.{Place}
 use Rattle.tk_message.specs.declared.request.Endpoint.{Endpoint}
-use Rattle.tk_message.specs.declared.request.Endpoint.TheVariants.{
-  Authorize,
-  Token,
-  Introspect,
-  Revoke,
-  AddClient,
-  ShowClient,
-  Retire,
-  Consent,
-  Withdraw,
-  SignOut,
-}
+use Rattle.tk_message.specs.declared.request.Endpoint.TheVariants.{Authorize, Token, Introspect}
+use Rattle.tk_message.specs.declared.request.Endpoint.TheVariants.{Revoke, AddClient, ShowClient}
+use Rattle.tk_message.specs.declared.request.Endpoint.TheVariants.{Retire, Consent, Withdraw}
+use Rattle.tk_message.specs.declared.request.Endpoint.TheVariants.{SignOut}
 use Rattle.tk_message.specs.RequestFields.{RequestFields}
 use Rattle.tk_message.specs.Decision.{answered, refused}
 use Rattle.tk_authorize.specs.Administration.{administration_of}

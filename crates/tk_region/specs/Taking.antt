@@ -4,27 +4,8 @@
 --   Takes        the facts are joined to the set
 --   unread       the refusal of bytes that can't be read
 --   TakesIn      the outcomes, by the bundle that the bytes spell
-use Rattle.std.specs.Prelude.{
-  ◌≡◌,
-  ◌⊎◌,
-  ℕ,
-  ◌+◌,
-  Bool,
-  true,
-  false,
-  ◌&&◌,
-  ◌==◌,
-  nat_le,
-  [],
-  ◌∷◌,
-  take,
-  Option,
-  Some,
-  None,
-  Result,
-  Ok,
-  Err,
-}
+use Rattle.std.specs.Prelude.{◌≡◌, ◌⊎◌, ℕ, ◌+◌, Bool, true, false, ◌&&◌, ◌==◌, nat_le, [], ◌∷◌}
+use Rattle.std.specs.Prelude.{take, Option, Some, None, Result, Ok, Err}
 use Rattle.std.specs.List.{list_any}
 use Rattle.std.specs.FinMap as map
 use Rattle.tk_handle.specs.declared.dot.Dot.{Dot}
@@ -34,12 +15,8 @@ use Rattle.tk_store.specs.Joining.{JoinsFacts}
 use Rattle.tk_format.specs.declared.error.ReadError.{ReadError}
 use Rattle.tk_format.specs.declared.error.ReadError.TheVariants as read
 use Rattle.tk_region.specs.declared.take.TakeError.{TakeError}
-use Rattle.tk_region.specs.declared.take.TakeError.TheVariants.{
-  Malformed,
-  OwnNumber,
-  Conflict,
-  Memory,
-}
+use Rattle.tk_region.specs.declared.take.TakeError.TheVariants.{Malformed, OwnNumber, Conflict}
+use Rattle.tk_region.specs.declared.take.TakeError.TheVariants.{Memory}
 
 -- the fact is under the number of the region, at its next dot or above
 abbrev pub is_unmade : Dot → Dot × Body → Bool

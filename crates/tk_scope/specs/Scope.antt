@@ -4,27 +4,8 @@
 --   scope_text         the printed form of tokens
 --   IsWithin           each token of one scope is a token of the other; is_within is its test
 --   HasSameTokens      two scopes have the same tokens
-use Rattle.std.specs.Prelude.{
-  ℕ,
-  Bool,
-  ◌&&◌,
-  ◌||◌,
-  ◌==◌,
-  not,
-  nat_le,
-  nat_lt,
-  List,
-  [],
-  ◌∷◌,
-  length,
-  All,
-  Contains,
-  Option,
-  Some,
-  None,
-  is_some,
-  if◌then◌else◌,
-}
+use Rattle.std.specs.Prelude.{ℕ, Bool, ◌&&◌, ◌||◌, ◌==◌, not, nat_le, nat_lt, List, [], ◌∷◌, length}
+use Rattle.std.specs.Prelude.{All, Contains, Option, Some, None, is_some, if◌then◌else◌}
 use Rattle.std.specs.Cmp.Lexicographic.{slice_cmp}
 use Rattle.std.specs.List.{join_with_byte, list_all, list_any, slice_split}
 use Rattle.std.specs.Ordering.{is_lt, nat_cmp}

@@ -21,31 +21,13 @@ impl Model for Scope {
     ghost invariant = { λ s. scope_of (string_bytes s.text) ≡ Some (string_bytes s.text) };
 }
 
-ghost use Rattle.std.specs.Prelude.{
-  ◌≡◌,
-  ◌≤◌,
-  ◌↔◌,
-  ◌⊎◌,
-  length,
-  IfOk,
-  IfErr,
-  IsErrOf,
-  IsTrue,
-  None,
-  Some,
-};
+ghost use Rattle.std.specs.Prelude.{◌≡◌, ◌≤◌, ◌↔◌, ◌⊎◌, length, IfOk, IfErr, IsErrOf, IsTrue, None};
+ghost use Rattle.std.specs.Prelude.{Some};
 ghost use Rattle.std.specs.Cmp.Lexicographic.{slice_cmp};
 ghost use Rattle.std.specs.List.Sorted.{IsStrictlySortedBy};
 ghost use Rattle.std.specs.Ordering.{nat_cmp};
-ghost use Rattle.tk_scope.specs.Scope.{
-  greatest_length,
-  scope_of,
-  scope_refusal,
-  HasSameTokens,
-  IsWithin,
-  is_within,
-  tokens_of,
-};
+ghost use Rattle.tk_scope.specs.Scope.{greatest_length, scope_of, scope_refusal, HasSameTokens};
+ghost use Rattle.tk_scope.specs.Scope.{IsWithin, is_within, tokens_of};
 
 use crate::ScopeError;
 use crate::grammar::is_list_of_tokens;

@@ -1,3 +1,6 @@
-pub mod StandingLaws
+pub mod DecisionLaws
 pub mod KeepingLaws
+pub mod LastingLaws
+pub mod StandingLaws
 pub mod StatusStandsLaws
+pub mod WholeStatus

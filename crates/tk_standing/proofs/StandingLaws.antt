@@ -45,7 +45,7 @@ pub none_some : {A : Type 0} (o : Option A) (a : A) → o ≡ None → o ≡ Som
 none_some o a n s = none_is_not_some a (sym n ∙ s)
 
 -- what makes a link is kept for a token of its own
-kept_linked : (d : Dot) (b : Body) (l : Link) (k : TokenId) → link_of b ≡ Some l → kept_for d b ≡ Some k → k.dot ≡ d
+pub kept_linked : (d : Dot) (b : Body) (l : Link) (k : TokenId) → link_of b ≡ Some l → kept_for d b ≡ Some k → k.dot ≡ d
 kept_linked d (body.CodeIssued c) l k h e = ap (λ (x : TokenId). x.dot) (sym (some_injective _ k e))
 kept_linked d (body.CodeRedeemed r) l k h e = ap (λ (x : TokenId). x.dot) (sym (some_injective _ k e))
 kept_linked d (body.RefreshRotated r) l k h e = ap (λ (x : TokenId). x.dot) (sym (some_injective _ k e))
@@ -178,9 +178,9 @@ module _ (P : StoreFields) (U F : FactSet) (S : StandsFor P U F) where
   parent_held e p c a low high = elim (link_held e c a.link a.here low) [
     | inr over ↦ inr over
     | inl here ↦ elim (link_held p c a.above a.there high) [
-        | inr over ↦ inr over
-        | inl there ↦ inl (record { link = a.link; above = a.above; here = here; names = a.names; there = there; fitting = a.fitting })
-      ]
+      | inr over ↦ inr over
+      | inl there ↦ inl (record { link = a.link; above = a.above; here = here; names = a.names; there = there; fitting = a.fitting })
+    ]
   ]
 
   made_under : (d : Dot) (ps : List Dot) (c : Dot) → IsPath (links_in (map.get F)) d ps c → IsUnder (links_in (map.get U)) d c
@@ -222,9 +222,9 @@ module _ (P : StoreFields) (U F : FactSet) (S : StandsFor P U F) where
   twice_held c k t under = elim (use_held t.one c k t.by_one under) [
     | inr over ↦ inr over
     | inl one ↦ elim (use_held t.two c k t.by_two under) [
-        | inr over ↦ inr over
-        | inl two ↦ inl (record { one = t.one; two = t.two; apart = t.apart; by_one = one; by_two = two })
-      ]
+      | inr over ↦ inr over
+      | inl two ↦ inl (record { one = t.one; two = t.two; apart = t.apart; by_one = one; by_two = two })
+    ]
   ]
 
   reuse_held : (c : Dot) (k : TokenId) → IsReused (map.get F) k → IsUnder (links_in (map.get U)) k.dot c → IsReused (map.get H) k ⊎ IsOver U P.horizon c
@@ -276,20 +276,20 @@ module _ (P : StoreFields) (U F : FactSet) (S : StandsFor P U F) where
       elim (mint_held c k e.minted e.mints under) [
         | inr over ↦ inr over
         | inl mints ↦ elim (under_held k.dot e.code e.under) [
+          | inr over ↦ inr (subst (λ (q : Dot). IsOver U P.horizon q) same over)
+          | inl above ↦ elim (code_held e.code e.issued e.issues) [
             | inr over ↦ inr (subst (λ (q : Dot). IsOver U P.horizon q) same over)
-            | inl above ↦ elim (code_held e.code e.issued e.issues) [
-                | inr over ↦ inr (subst (λ (q : Dot). IsOver U P.horizon q) same over)
-                | inl is ↦ inl (record {
-                    minted = e.minted;
-                    code = e.code;
-                    issued = e.issued;
-                    mints = mints;
-                    under = above;
-                    issues = is;
-                    by_client = revoked_held k e.minted.digest e.issued.client e.by_client;
-                  })
-              ]
+            | inl is ↦ inl (record {
+              minted = e.minted;
+              code = e.code;
+              issued = e.issued;
+              mints = mints;
+              under = above;
+              issues = is;
+              by_client = revoked_held k e.minted.digest e.issued.client e.by_client;
+            })
           ]
+        ]
       ]
 
   out_held : (c d : Dot) → IsOut (map.get F) d → IsUnder (links_in (map.get U)) d c → IsOut (map.get H) d ⊎ IsOver U P.horizon c
@@ -316,12 +316,12 @@ module _ (P : StoreFields) (U F : FactSet) (S : StandsFor P U F) where
       elim (under_held x.member c x.under) [
         | inr over ↦ inr over
         | inl under ↦ elim (link_held x.member c x.bad.link x.bad.here made) [
+          | inr over ↦ inr over
+          | inl here ↦ elim (why_held c (grant_at x.member x.bad.link) x.bad.why (under_at (links_in (map.get U)) x.member (grant_at x.member x.bad.link).dot c (sym (grant_dot x.member x.bad.link)) made)) [
             | inr over ↦ inr over
-            | inl here ↦ elim (why_held c (grant_at x.member x.bad.link) x.bad.why (under_at (links_in (map.get U)) x.member (grant_at x.member x.bad.link).dot c (sym (grant_dot x.member x.bad.link)) made)) [
-                | inr over ↦ inr over
-                | inl why ↦ inl (record { member = x.member; under = under; bad = record { link = x.bad.link; here = here; why = why } })
-              ]
+            | inl why ↦ inl (record { member = x.member; under = under; bad = record { link = x.bad.link; here = here; why = why } })
           ]
+        ]
       ]
 
   pub used_held : (c : Dot) (k : TokenId) → IsUsed (links_in (map.get F)) k → IsUnder (links_in (map.get U)) k.dot c → IsUsed (links_in (map.get H)) k ⊎ IsOver U P.horizon c

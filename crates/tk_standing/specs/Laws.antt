@@ -1,16 +1,28 @@
 -- The laws of standing for (own): each is a clause of a function of `laws`. U is the set of all
 -- facts made, and the store P stands for the facts F.
 --   StatusStands    from the horizon on, a status by the store is answered as that by the facts
+--   DecisionStands  from the horizon on, a request is decided by the store as by the facts
 --   PruneStands     a store that was pruned stands for the same facts
 --   MoreStands      a store stands for the same facts when more were made
-use Rattle.std.specs.Prelude.{◌≤◌, ℕ}
+--   MarkStands, FactStands, DropStands
+--                   what a store stands for once a dot was skipped, and once a fact came
+--   SoundStays      all facts made stay sound with one more
+use Rattle.std.specs.Prelude.{◌≡◌, ◌≢◌, ◌≤◌, ℕ, true, List, Some}
+use Rattle.std.specs.FinMap as map
+use Rattle.tk_handle.specs.declared.dot.Dot.{Dot}
 use Rattle.tk_handle.specs.declared.handle.Handle.{Handle}
+use Rattle.tk_fact.specs.declared.body.Body.{Body}
 use Rattle.tk_store.specs.FactSet.{FactSet, IsSubset}
-use Rattle.tk_store.specs.StoreFields.{StoreFields}
-use Rattle.tk_ledger.specs.Retention.{Prunes}
+use Rattle.tk_store.specs.Slots.{is_skipped}
+use Rattle.tk_store.specs.StoreFields.{StoreFields, with_fact, with_skipped, with_horizon}
+use Rattle.tk_store.specs.WholeStores.{whole_store}
+use Rattle.tk_ledger.specs.Retention.{MaySkip, Prunes}
 use Rattle.tk_ledger.specs.Status.{status_here, status_in}
-use Rattle.tk_standing.specs.Alike.{AnsweredAlike}
-use Rattle.tk_standing.specs.StandsFor.{StandsFor, AreSound}
+use Rattle.tk_ledger.specs.Alike.{AnsweredAlike}
+use Rattle.tk_message.specs.RequestFields.{RequestFields}
+use Rattle.tk_message.specs.declared.place.Place.{Place}
+use Rattle.tk_region.specs.Decision.{decision_of}
+use Rattle.tk_standing.specs.StandsFor.{StandsFor, AreSound, AddsOne, MeetsFamily}
 
 -- from the horizon on, every endpoint answers a handle of its status by the store as it answers one
 -- of its status by the facts
@@ -18,6 +30,13 @@ abbrev pub StatusStands : Type 0
 StatusStands = (P : StoreFields) (U F : FactSet) → StandsFor P U F → AreSound U → (now : ℕ)
     → P.horizon ≤ now → (h : Handle)
     → AnsweredAlike now h (status_here P now h) (status_in F now h)
+
+-- from the horizon on, a request is decided by the store as by the facts: the reply and the fact
+-- that is made are equal
+abbrev pub DecisionStands : Type 0
+DecisionStands = (P : StoreFields) (U F : FactSet) → StandsFor P U F → AreSound U
+    → (place : Place) (now : ℕ) → P.horizon ≤ now → (words : List ℕ) (request : RequestFields)
+    → decision_of P place now words request ≡ decision_of (whole_store F) place now words request
 
 -- a store that was pruned stands for the facts that it stood for
 abbrev pub PruneStands : Type 0
@@ -28,3 +47,31 @@ PruneStands = (old new : StoreFields) (moment n : ℕ) (U F : FactSet) → Prune
 abbrev pub MoreStands : Type 0
 MoreStands = (P : StoreFields) (U V F : FactSet) → IsSubset U V → StandsFor P U F
     → StandsFor P V F
+
+-- G has the fact of U at the dot d, and is F elsewhere
+pub record GainsMade (U F : FactSet) (d : Dot) (G : FactSet) : Type 0 where
+  pub here : map.get G d ≡ map.get U d
+  pub others : (q : Dot) → q ≢ d → map.get G q ≡ map.get F q
+
+-- a store that skips a dot, and raises its horizon to one at which that may be skipped, stands for
+-- the fact there too
+abbrev pub MarkStands : Type 0
+MarkStands = (P : StoreFields) (U F G : FactSet) (horizon : ℕ) (d : Dot)
+    → MaySkip (map.get U) horizon d → GainsMade U F d G → StandsFor P U F
+    → StandsFor (with_skipped (with_horizon P horizon) d) U G
+
+-- a store with one more fact that was made stands for that fact too
+abbrev pub FactStands : Type 0
+FactStands = (P : StoreFields) (U F G : FactSet) (d : Dot) (b : Body) → map.get U d ≡ Some b
+    → GainsMade U F d G → StandsFor P U F → StandsFor (with_fact P d b) U G
+
+-- a store that drops a fact at a skipped dot stands for that fact too
+abbrev pub DropStands : Type 0
+DropStands = (P : StoreFields) (U F G : FactSet) (d : Dot) → is_skipped P.slots d ≡ true
+    → GainsMade U F d G → StandsFor P U F → StandsFor P U G
+
+-- all facts made stay sound with one more whose tokens end with their family, and which uses a
+-- token that was minted
+abbrev pub SoundStays : Type 0
+SoundStays = (U V : FactSet) (d : Dot) (b : Body) → AddsOne U d b V → AreSound U
+    → MeetsFamily U d V → AreSound V

@@ -1,10 +1,9 @@
 -- The definitions of this crate, by file:
 --   StandsFor   StandsFor, what a store that skipped facts stands for
---   Alike       AnsweredAlike, statuses that every endpoint answers alike
 --   Laws        the laws
-pub mod Alike
 pub mod Laws
 pub mod StandsFor
+pub use Rattle.tk_ledger.specs.Alike
 pub use Rattle.tk_ledger.specs.Retention
 pub use Rattle.tk_ledger.specs.Status
 pub use Rattle.tk_store.specs.FactSet

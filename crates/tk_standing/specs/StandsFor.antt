@@ -2,6 +2,8 @@
 --   SlotStands   what one slot stands for
 --   StandsFor    a store stands for a set of facts
 --   AreSound     no token outlives its family, and what a fact uses was minted
+--   AddsOne      a set with one fact more
+--   MeetsFamily  the tokens of a new fact end with their family, and what it uses was minted
 use Rattle.std.specs.Prelude.{◌≡◌, ◌≢◌, ◌≤◌, ℕ, Option, Some, None}
 use Rattle.std.specs.FinMap as map
 use Rattle.tk_handle.specs.declared.dot.Dot.{Dot}
@@ -37,4 +39,20 @@ pub record AreSound (U : FactSet) : Type 0 where
       → IsUnder (links_in (map.get U)) k.dot c → issued_at (map.get U) c ≡ Some code
       → minted.expiry ≤ code.family_end
   pub names : (d : Dot) (k : TokenId) → use_of (links_in (map.get U) d) ≡ Some k
+      → minted_in (map.get U) k ≢ None
+
+-- V is U with the fact of the body b at the free dot d
+pub record AddsOne (U : FactSet) (d : Dot) (b : Body) (V : FactSet) : Type 0 where
+  pub free : map.get U d ≡ None
+  pub here : map.get V d ≡ Some b
+  pub others : (q : Dot) → q ≢ d → map.get V q ≡ map.get U q
+
+-- the access and refresh tokens that are minted at d end with their family at the latest, and the
+-- token that the fact at d uses was minted before
+pub record MeetsFamily (U : FactSet) (d : Dot) (V : FactSet) : Type 0 where
+  pub cut : (k : TokenId) (minted : MintedFields) (c : Dot) (code : issued.CodeIssued)
+      → k.dot ≡ d → k.kind ≢ kind.Code → minted_in (map.get V) k ≡ Some minted
+      → IsUnder (links_in (map.get V)) k.dot c → issued_at (map.get V) c ≡ Some code
+      → minted.expiry ≤ code.family_end
+  pub named : (k : TokenId) → use_of (links_in (map.get V) d) ≡ Some k
       → minted_in (map.get U) k ≢ None

@@ -1,6 +1,15 @@
 //! The laws of standing for: functions with empty bodies.
 
-ghost use Rattle.tk_standing.specs.Laws.{MoreStands, PruneStands, StatusStands};
+ghost use Rattle.tk_standing.specs.Laws.{
+  DecisionStands,
+  DropStands,
+  FactStands,
+  MarkStands,
+  MoreStands,
+  PruneStands,
+  SoundStays,
+  StatusStands,
+};
 
 /// States a law: from its horizon on, a store answers a handle as the facts for which it stands do.
 ///
@@ -10,12 +19,28 @@ pub fn status_stands()
     ensures { StatusStands }
 {}
 
+/// States a law: from its horizon on, a store decides each request as the facts for which it stands
+/// do. The replies are equal, and so are the facts that are made.
+pub fn decision_stands()
+    ensures { DecisionStands }
+{}
+
 /// States a law: a store that was pruned stands for the facts that it stood for.
 pub fn prune_stands()
     ensures { PruneStands }
 {}
 
-/// States a law: a store stands for the facts that it stood for when more facts were made.
-pub fn facts_made()
-    ensures { MoreStands }
+/// States a law: what a store stands for is kept when more facts are made, when a dot is skipped,
+/// when a fact comes, and when a fact is dropped at a skipped dot.
+pub fn standing_kept()
+    ensures made { MoreStands }
+    ensures mark { MarkStands }
+    ensures fact { FactStands }
+    ensures dropped { DropStands }
+{}
+
+/// States a law: all facts made stay sound with one more that ends with its family and uses a token
+/// that was minted.
+pub fn soundness_stays()
+    ensures { SoundStays }
 {}

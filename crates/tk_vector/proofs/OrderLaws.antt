@@ -2,7 +2,7 @@
 --   below_itself, below_trans, below_antisymmetric   `Below` is an order
 --   join_of                                          two vectors that agree have a least one above
 --                                                    both
---   raised_none, raised_more, kept_join              the loop that raises each entry
+--   raised_more, kept_join                           the loop that raises each entry
 --   vector_laws                                      what the law function states
 use Rattle.std.proofs.Common.{◌≡◌, ℕ, zero, suc, ◌+◌, ◌<◌, ◌≤◌, true, false, cond, max, T, List, [], ◌∷◌, length, get_or, Option, Some, None, unwrap_or, refl, sym, ap, subst, ◌∙◌, arith, inl, inr}
 use Rattle.std.proofs.lemmas.Bool.{cases_lt, cases_Bool, cond-true, cond-false}
@@ -92,9 +92,6 @@ raised_below v w r n low high q = elim (cases_lt (entry v r) n) [
 
 -- ---- raising each of some entries
 
-pub raised_none : (V : Vector) (es : List (ℕ × ℕ)) → RaisedBy V es V 0
-raised_none V es = record { above = below_itself V; least = λ c low _. low; has = λ k d lt. absurd (omega arith) }
-
 pub raised_more : (V : Vector) (es : List (ℕ × ℕ)) (N M : Vector) (i r n : ℕ) → RaisedBy V es N i → i < length es → ((d : ℕ × ℕ) → get_or es i d ≡ (r, n)) → 0 < n → M ≡ raised N r n → RaisedBy V es M (i + 1)
 raised_more V es N M i r n so within here some is = record {
   above = subst (Below V) (sym is) (below_trans V N (raised N r n) so.above (raised_keeps N r n));
@@ -133,26 +130,6 @@ module _ (es : List (ℕ × ℕ)) (W : Vector) (seen : (q : ℕ) → map.get W q
 
   pub is_below : (V : Vector) → (AllAtMost es (length es) V → Below W V) × (Below W V → AllAtMost es (length es) V)
   is_below V = (all_below V, each_below V)
-
--- an entry is at most a vector's if its number is at most the entry there
-pub at_most_entry : (w : Vector) (r n : ℕ) → 0 < n → n ≤ entry w r → AtMost (Some n) (map.get w r)
-at_most_entry w r n some le = entry_high (map.get w r) n some le
-
-pub entry_at_most : (w : Vector) (r n : ℕ) → AtMost (Some n) (map.get w r) → n ≤ entry w r
-entry_at_most w r n h = low (map.get w r) h
-  where
-    low : (o : Option ℕ) → AtMost (Some n) o → n ≤ unwrap_or o 0
-    low None k = absurd k
-    low (Some m) k = k
-
-pub within_none : (es : List (ℕ × ℕ)) (w : Vector) → AllAtMost es 0 w
-within_none es w k d lt = absurd (omega arith)
-
-pub within_more : (es : List (ℕ × ℕ)) (w : Vector) (i r n : ℕ) → AllAtMost es i w → ((d : ℕ × ℕ) → get_or es i d ≡ (r, n)) → AtMost (Some n) (map.get w r) → AllAtMost es (i + 1) w
-within_more es w i r n so here at k d lt = elim (cases_lt k i) [
-  | inl before ↦ so k d before
-  | inr last ↦ subst (λ (e : ℕ × ℕ). AtMost (Some e.1) (map.get w e.0)) (sym (ap (λ j. get_or es j d) (omega arith) ∙ here d)) at
-]
 
 -- ---- the least vector above two
 

@@ -1,13 +1,8 @@
 //! The text of a version vector.
 
 ghost use Rattle.std.specs.Prelude.{◌≡◌, IfOk, IsErrOf, OnOk};
-ghost use Rattle.tk_vector.specs.VectorText.{
-  AreNoDots,
-  IsDotsText,
-  IsNoVectorText,
-  IsVectorText,
-  vector_of,
-};
+ghost use Rattle.tk_vector.specs.VectorText.{AreNoDots, IsDotsText, IsNoVectorText, IsVectorText};
+ghost use Rattle.tk_vector.specs.VectorText.{vector_of};
 
 use crate::VersionVector;
 use std::alloc::{AllocError, Global};

@@ -25,20 +25,8 @@ impl Model for VersionVector {
     ghost invariant = { λ v. T (map.is_sorted nat_cmp v.entries.items) };
 }
 
-ghost use Rattle.std.specs.Prelude.{
-  ◌≡◌,
-  ℕ,
-  ◌≤◌,
-  ◌↔◌,
-  T,
-  IsTrue,
-  length,
-  ⊤,
-  IfOk,
-  OnOk,
-  OnErr,
-  MatchResult,
-};
+ghost use Rattle.std.specs.Prelude.{◌≡◌, ℕ, ◌≤◌, ◌↔◌, T, IsTrue, length, ⊤, IfOk, OnOk, OnErr};
+ghost use Rattle.std.specs.Prelude.{MatchResult};
 ghost use Rattle.std.specs.Ordering.{nat_cmp};
 ghost use Rattle.std.specs.FinMap as map;
 ghost use Rattle.tk_handle.specs.Ranges.{greatest_serial};

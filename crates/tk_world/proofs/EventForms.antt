@@ -1,7 +1,6 @@
 -- The forms of events' fields: which event some fields have, given by their number and texts, and
 -- which fields have no event. Key results:
 --   text_at        the text at an index
---   request_made   the event of a request's fields
 --   no_form        fewer than three fields are those of `open` or of no event
 --   line_bad       a line with an empty field has no event
 use Rattle.std.proofs.Common.{◌≡◌, ◌≢◌, ℕ, ◌<◌, ◌≤◌, ◌^◌, ◌-◌, List, [], ◌∷◌, length, get_or, slice_index_or, take, drop, codes, decimal, Option, Some, None, Bor, refl, sym, ap, ◌∙◌, subst, arith}
@@ -60,9 +59,6 @@ count (x ∷ fs) (a ∷ l) e = let rest : texts fs ≡ l = cc in let n = count f
 
 -- ---- names
 
-first_letter : {a b : ℕ} {s t : List ℕ} → a ∷ s ≡ b ∷ t → a ≡ b
-first_letter e = cc
-
 -- the first field of a request is not that of another event
 no_request_named : (name other : List ℕ) (form : List (List ℕ)) (request : List ℕ) → asked_of name form ≡ Some request → asked_of other form ≡ None → name ≢ other
 no_request_named name other form request h none same = some_is_not_none request (sym h ∙ ap (λ n. asked_of n form) same ∙ none)
@@ -90,14 +86,6 @@ module _ (fs : List (Bor (List ℕ))) where
       let at_region = region_found (text_at fs 1) region at in
       (text_at fs 2, text_at fs 3, rw (four fs long, name, at_region.1) refl, at_region.0, is, place)
 
--- the event of a request's fields
-pub request_made : (name at then : List ℕ) (form : List (List ℕ)) (region now : ℕ) (words : List ℕ) (request : Vec ℕ Global)
-    → region_in at ≡ Some region → moment_in then ≡ Some now → asked_of name form ≡ Some request.items → IsEventForm (name ∷ at ∷ then ∷ form) (Request region now words request)
-request_made name at then form region now words request at_is then_is is =
-    let at_region = region_found at region at_is in
-    let at_moment = moment_found then now then_is in
-    (name, form, rw (at_region.1, at_moment.1) refl, at_region.0, at_moment.0, is)
-
 -- ---- the fields of no event
 
 module _ (fs : List (Bor (List ℕ))) where
@@ -123,9 +111,6 @@ module _ (fs : List (Bor (List ℕ))) where
       let parts = sym (three fs long) ∙ h.0 in
       none bundle region (cc) h.1 (cc) h.2
 
-  pub deliver_bad_bundle : length fs ≡ 3 → text_at fs 0 ≡ codes "deliver" → decimal_in (text_at fs 1) ≡ None → IsNoEventForm (texts fs)
-  deliver_bad_bundle long name none = deliver_only long name (λ bundle region same high at is. no_decimal (text_at fs 1) bundle none high same)
-
   pub deliver_bad_region : length fs ≡ 3 → text_at fs 0 ≡ codes "deliver" → region_in (text_at fs 2) ≡ None → IsNoEventForm (texts fs)
   deliver_bad_region long name none = deliver_only long name (λ bundle region same high at is. no_region (text_at fs 2) region none is at)
 
@@ -148,9 +133,6 @@ module _ (fs : List (Bor (List ℕ))) where
 
   pub pull_bad_vector : length fs ≡ 4 → text_at fs 0 ≡ codes "pull" → IsNoVectorText (text_at fs 2) → IsNoEventForm (texts fs)
   pull_bad_vector long name none = pull_only long name (λ region vector after at is entries place. none vector entries)
-
-  pub pull_bad_cursor : length fs ≡ 4 → text_at fs 0 ≡ codes "pull" → IsNoCursorText (text_at fs 3) → IsNoEventForm (texts fs)
-  pull_bad_cursor long name none = pull_only long name (λ region vector after at is entries place. none after place)
 
   -- three or more fields with another name are those of a request or of no event
   pub record IsOther : Type 0 where

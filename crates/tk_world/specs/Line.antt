@@ -2,24 +2,8 @@
 --   IsEventForm     the event of a line's fields
 --   IsEventLine     the event of a line
 --   HasWords        the random words of a request
-use Rattle.std.specs.Prelude.{
-  ◌≡◌,
-  ◌≤◌,
-  ◌<◌,
-  ◌^◌,
-  ⊤,
-  ℕ,
-  List,
-  [],
-  ◌∷◌,
-  map,
-  length,
-  codes,
-  decimal,
-  Vec,
-  Option,
-  Some,
-}
+use Rattle.std.specs.Prelude.{◌≡◌, ◌≤◌, ◌<◌, ◌^◌, ⊤, ℕ, List, [], ◌∷◌, map, length, codes, decimal}
+use Rattle.std.specs.Prelude.{Vec, Option, Some}
 use Rattle.std.specs.declared.alloc.Global.{Global}
 use Rattle.std.specs.Option.{option_map}
 use Rattle.std.specs.Borrow.{Bor}

@@ -4,27 +4,8 @@
 --   outcome_line   the line of an outcome, for an event of a region
 --   line_text      the line of an event and its outcome
 --   lines_text     a line for each event, as far as there are outcomes
-use Rattle.std.specs.Prelude.{
-  ℕ,
-  ◌+◌,
-  Bool,
-  nat_eq,
-  nat_lt,
-  if◌then◌else◌,
-  List,
-  [],
-  ◌∷◌,
-  ◌++◌,
-  length,
-  take,
-  drop,
-  codes,
-  decimal,
-  Option,
-  Some,
-  None,
-  unwrap_or,
-}
+use Rattle.std.specs.Prelude.{ℕ, ◌+◌, Bool, nat_eq, nat_lt, if◌then◌else◌, List, [], ◌∷◌, ◌++◌}
+use Rattle.std.specs.Prelude.{length, take, drop, codes, decimal, Option, Some, None, unwrap_or}
 use Rattle.std.specs.List.{flat_map, starts_with, zip}
 use Rattle.std.specs.Option.{option_map}
 use Rattle.tk_handle.specs.declared.dot.Dot.{Dot}
@@ -33,16 +14,8 @@ use Rattle.tk_message.specs.Status.{status_number}
 use Rattle.tk_world.specs.declared.event.Event.{Event}
 use Rattle.tk_world.specs.World.{region_of}
 use Rattle.tk_world.specs.declared.event.Outcome.{Outcome}
-use Rattle.tk_world.specs.declared.event.Outcome.TheVariants.{
-  Opened,
-  NumberTaken,
-  NoRegion,
-  NoBundle,
-  Reply,
-  Bundle,
-  Took,
-  Memory,
-}
+use Rattle.tk_world.specs.declared.event.Outcome.TheVariants.{Opened, NumberTaken, NoRegion}
+use Rattle.tk_world.specs.declared.event.Outcome.TheVariants.{NoBundle, Reply, Bundle, Took, Memory}
 
 -- the line feed that ends a line
 abbrev pub newline : List ℕ

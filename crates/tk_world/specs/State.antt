@@ -4,20 +4,8 @@
 --   region_with   the region of a number with a set of facts
 --   Consists      all facts that regions hold or bundles carry are in one set, that of the facts
 --                 made
-use Rattle.std.specs.Prelude.{
-  ◌≡◌,
-  ℕ,
-  ◌≤◌,
-  List,
-  [],
-  ◌∷◌,
-  ◌++◌,
-  length,
-  slice_get,
-  Some,
-  unwrap_or,
-  refl,
-}
+use Rattle.std.specs.Prelude.{◌≡◌, ℕ, ◌≤◌, List, [], ◌∷◌, ◌++◌, length, slice_get, Some, unwrap_or}
+use Rattle.std.specs.Prelude.{refl}
 use Rattle.std.specs.Ordering.{nat_cmp}
 use Rattle.std.specs.FinMap as map
 use Rattle.std.specs.Coded.{Coded, code_by, coded×, coded_ℕ, coded_list}

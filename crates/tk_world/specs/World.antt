@@ -10,24 +10,8 @@
 --   RunBy         one step after another, if requests go this way
 --   Step, Run     the same without a device between
 --   seen_by       what a region has seen: the facts that it made and took in
-use Rattle.std.specs.Prelude.{
-  ◌≡◌,
-  ℕ,
-  ◌+◌,
-  ◌==◌,
-  if◌then◌else◌,
-  List,
-  [],
-  ◌∷◌,
-  ◌++◌,
-  length,
-  take,
-  slice_get,
-  Option,
-  Some,
-  None,
-  IsSome,
-}
+use Rattle.std.specs.Prelude.{◌≡◌, ℕ, ◌+◌, ◌==◌, if◌then◌else◌, List, [], ◌∷◌, ◌++◌, length, take}
+use Rattle.std.specs.Prelude.{slice_get, Option, Some, None, IsSome}
 use Rattle.std.specs.FinMap as map
 use Rattle.tk_handle.specs.declared.dot.Dot.{Dot}
 use Rattle.tk_vector.specs.VersionVector.{Vector}
@@ -41,16 +25,8 @@ use Rattle.tk_edge.specs.declared.hear.Arrival.{Arrival}
 use Rattle.tk_world.specs.declared.event.Event.{Event}
 use Rattle.tk_world.specs.declared.event.Event.TheVariants.{Open, Request, Pull, Deliver}
 use Rattle.tk_world.specs.declared.event.Outcome.{Outcome}
-use Rattle.tk_world.specs.declared.event.Outcome.TheVariants.{
-  Opened,
-  NumberTaken,
-  NoRegion,
-  NoBundle,
-  Reply,
-  Bundle,
-  Took,
-  Memory,
-}
+use Rattle.tk_world.specs.declared.event.Outcome.TheVariants.{Opened, NumberTaken, NoRegion}
+use Rattle.tk_world.specs.declared.event.Outcome.TheVariants.{NoBundle, Reply, Bundle, Took, Memory}
 use Rattle.tk_world.specs.AskedFields.{AskedFields}
 use Rattle.tk_world.specs.Carrying.{Way, in_place}
 use Rattle.tk_world.specs.State.{State, with_region, with_bundle, region_with}

@@ -2,13 +2,8 @@
 
 ghost use Rattle.std.specs.Prelude.{◌≡◌, IfOk, IfSome, IfNone, map};
 ghost use Rattle.std.specs.List.{slice_split};
-ghost use Rattle.tk_world.specs.Fields.{
-  is_space,
-  region_in,
-  moment_in,
-  IsCursorText,
-  IsNoCursorText,
-};
+ghost use Rattle.tk_world.specs.Fields.{is_space, region_in, moment_in, IsCursorText};
+ghost use Rattle.tk_world.specs.Fields.{IsNoCursorText};
 
 use std::alloc::{AllocError, Global};
 use tk_format::read_decimal;

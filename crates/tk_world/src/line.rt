@@ -1,28 +1,10 @@
 //! Events as lines of text: `Event::read_line` reads one.
 
-ghost use Rattle.std.specs.Prelude.{
-  ◌≡◌,
-  ◌↔◌,
-  ℕ,
-  List,
-  ◌∷◌,
-  decimal,
-  Some,
-  IfOk,
-  IfSome,
-  IsErrOf,
-  IsSome,
-};
+ghost use Rattle.std.specs.Prelude.{◌≡◌, ◌↔◌, ℕ, List, ◌∷◌, decimal, Some, IfOk, IfSome, IsErrOf};
+ghost use Rattle.std.specs.Prelude.{IsSome};
 ghost use Rattle.tk_handle.specs.Ranges.{IsMoment, IsRegion};
-ghost use Rattle.tk_world.specs.Line.{
-  IsPrintable,
-  texts,
-  IsEventForm,
-  IsNoEventForm,
-  IsEventLine,
-  IsNoEventLine,
-  HasWords,
-};
+ghost use Rattle.tk_world.specs.Line.{IsPrintable, texts, IsEventForm, IsNoEventForm, IsEventLine};
+ghost use Rattle.tk_world.specs.Line.{IsNoEventLine, HasWords};
 ghost use Rattle.tk_world.specs.RequestLine.{asked_of};
 
 use crate::event::Event;

@@ -45,28 +45,9 @@ impl Model for World {
         }) };
 }
 
-ghost use Rattle.std.specs.Prelude.{
-  ◌≡◌,
-  ◌≤◌,
-  ◌<◌,
-  ◌+◌,
-  T,
-  ℕ,
-  List,
-  IfOk,
-  IfErr,
-  OnOk,
-  OnErr,
-  MatchResult,
-  length,
-  insert,
-  [],
-  slice_get,
-  vec_len,
-  vec_capacity,
-  ◌++◌,
-  ◌∷◌,
-};
+ghost use Rattle.std.specs.Prelude.{◌≡◌, ◌≤◌, ◌<◌, ◌+◌, T, ℕ, List, IfOk, IfErr, OnOk, OnErr};
+ghost use Rattle.std.specs.Prelude.{MatchResult, length, insert, [], slice_get, vec_len};
+ghost use Rattle.std.specs.Prelude.{vec_capacity, ◌++◌, ◌∷◌};
 ghost use Rattle.std.specs.Option.{option_copied, option_map};
 ghost use Rattle.std.specs.Ordering.{nat_cmp};
 ghost use Rattle.std.specs.FinMap as map;
@@ -80,12 +61,8 @@ ghost use Rattle.tk_world.specs.State.{facts_in, new_state, region_with, IsConsi
 ghost use Rattle.tk_world.specs.Broken.{BreaksOff, Requests, Steps};
 ghost use Rattle.tk_world.specs.World.{IsDelivery, IsOpening, IsPull, Run, RunBy, seen_by};
 ghost use Rattle.tk_world.specs.Parts.{Opens, Pages};
-ghost use Rattle.tk_world.specs.Promises.{
-  TellsOfSets,
-  IntrospectAlike,
-  RevokedInactive,
-  FamiliesInactive,
-};
+ghost use Rattle.tk_world.specs.Promises.{TellsOfSets, IntrospectAlike, RevokedInactive};
+ghost use Rattle.tk_world.specs.Promises.{FamiliesInactive};
 ghost use Rattle.tk_world.specs.Regions.{entries_of};
 
 use crate::carrier::{Carrier, InPlace, RunError};

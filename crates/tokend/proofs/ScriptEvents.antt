@@ -23,28 +23,11 @@ told_pushed lines events line event all told one =
     let grown : filter is_told (lines ++ line ∷ []) ≡ filter is_told lines ++ line ∷ [] = filter-append is_told lines (line ∷ []) ∙ ap (λ b. filter is_told lines ++ cond b (line ∷ []) []) told in
     subst (λ ls. AllZip IsEventLine ls (events ++ event ∷ [])) (sym grown) (all_zip_pushed IsEventLine (filter is_told lines) events line event all one)
 
-append_nil : {A : Type 0} (xs : List A) → xs ++ [] ≡ xs
-append_nil [] = refl
-append_nil (x ∷ xs) = ap (λ l. x ∷ l) (append_nil xs)
-
-pub untold_pushed : (lines : List (List ℕ)) (events : List Event) (line : List ℕ) → AreEvents lines events → is_told line ≡ false → AreEvents (lines ++ line ∷ []) events
-untold_pushed lines events line all untold =
-    let grown : filter is_told (lines ++ line ∷ []) ≡ filter is_told lines = filter-append is_told lines (line ∷ []) ∙ ap (λ b. filter is_told lines ++ cond b (line ∷ []) []) untold ∙ append_nil (filter is_told lines) in
-    subst (λ ls. AllZip IsEventLine ls events) (sym grown) all
-
 -- ---- which lines should be events
 
 pub told_line : (line : List ℕ) → 0 < length line → get_or line 0 0 ≢ 35 → is_told line ≡ true
 told_line [] long other = absurd (omega (arith, long))
 told_line (b ∷ rest) long other = grind (arith, nat_tests)
-
-pub empty_line : (line : List ℕ) → length line < 1 → is_told line ≡ false
-empty_line [] short = refl
-empty_line (b ∷ rest) short = absurd (omega (arith, short))
-
-pub comment_line : (line : List ℕ) → get_or line 0 0 ≡ 35 → is_told line ≡ false
-comment_line [] first = refl
-comment_line (b ∷ rest) first = grind (arith, nat_tests)
 
 -- ---- the lines of an enumeration
 

@@ -17,7 +17,7 @@ unknown_peer _ _ _ _ = Unit {0}
 abbrev pub LooksAtAll : List (Held ClosingStream) → List (Held ClosingStream) → Type 0
 LooksAtAll old new = (now : ℕ) × AreLookedAt unknown_peer now old new
 
--- one more connection was set aside, or none
+-- one more connection was set aside, or nothing changed
 abbrev pub MaySetAside : List (Held ClosingStream) → List (Held ClosingStream) → Type 0
 MaySetAside old new = (new ≡ old)
     ⊎ ((stream : ClosingStream) × (since : ℕ) × (now : ℕ) × (roomy : List (Held ClosingStream))

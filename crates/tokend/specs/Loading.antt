@@ -10,26 +10,8 @@
 --   Loads        how loading a log may end
 --   front_end    the outcome for a front that can't be read
 --   take_fault   the fault of a bundle that isn't taken in
-use Rattle.std.specs.Prelude.{
-  ◌≡◌,
-  ◌⊎◌,
-  ℕ,
-  ◌<◌,
-  ◌≤◌,
-  true,
-  List,
-  [],
-  ◌∷◌,
-  ◌++◌,
-  length,
-  take as take_bytes,
-  Option,
-  Some,
-  None,
-  Result,
-  Ok,
-  Err,
-}
+use Rattle.std.specs.Prelude.{◌≡◌, ◌⊎◌, ℕ, ◌<◌, ◌≤◌, true, List, [], ◌∷◌, ◌++◌, length}
+use Rattle.std.specs.Prelude.{take as take_bytes, Option, Some, None, Result, Ok, Err}
 use Rattle.std.specs.List.{flat_map}
 use Rattle.tk_store.specs.FactSet.{Facts}
 use Rattle.tk_store.specs.Store.{facts_of}

@@ -8,42 +8,15 @@
 --   IsFirstBad     the number of the first bad line
 --   IsInputFault   the faults of an input that gives no script
 --   IsFaultOf      the faults of a script that gives no events
-use Rattle.std.specs.Prelude.{
-  ◌≡◌,
-  ◌<◌,
-  ◌⊎◌,
-  ℕ,
-  ◌+◌,
-  ◌*◌,
-  ◌==◌,
-  ⊤,
-  Bool,
-  false,
-  true,
-  not,
-  List,
-  [],
-  ◌∷◌,
-  ◌++◌,
-  length,
-  filter,
-  slice_get,
-  vec_len,
-  Option,
-  Some,
-  IfSome,
-}
+use Rattle.std.specs.Prelude.{◌≡◌, ◌<◌, ◌⊎◌, ℕ, ◌+◌, ◌*◌, ◌==◌, ⊤, Bool, false, true, not, List, []}
+use Rattle.std.specs.Prelude.{◌∷◌, ◌++◌, length, filter, slice_get, vec_len, Option, Some, IfSome}
 use Rattle.std.specs.List.{AllZip, slice_split}
 use Rattle.tk_world.specs.declared.event.Event.{Event}
 use Rattle.tk_world.specs.declared.event.Event.TheVariants.{Request}
 use Rattle.tk_world.specs.Line.{IsEventLine, IsNoEventLine}
 use Rattle.tokend.specs.declared.fault.Fault.{Fault}
-use Rattle.tokend.specs.declared.fault.Fault.TheVariants.{
-  BadLine,
-  CannotRead,
-  Memory,
-  ScriptTooLong,
-}
+use Rattle.tokend.specs.declared.fault.Fault.TheVariants.{BadLine, CannotRead, Memory}
+use Rattle.tokend.specs.declared.fault.Fault.TheVariants.{ScriptTooLong}
 
 -- the byte is LF, the end of a line
 abbrev pub is_newline : ℕ → Bool

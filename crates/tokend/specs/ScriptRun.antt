@@ -8,18 +8,7 @@
 --   IsReadFault      the faults of an input that gives no events
 --   IsScriptFault    the faults of a script that is run
 --   LeavesScript     what a fault of a script leaves of the output
-use Rattle.std.specs.Prelude.{
-  ◌≡◌,
-  ◌≤◌,
-  ◌⊎◌,
-  ℕ,
-  List,
-  Option,
-  None,
-  IfSome,
-  length,
-  slice_get,
-}
+use Rattle.std.specs.Prelude.{◌≡◌, ◌≤◌, ◌⊎◌, ℕ, List, Option, None, IfSome, length, slice_get}
 use Rattle.std.specs.Io.KnownBytes.{Appends}
 use Rattle.tk_region.specs.SettingsFields.{SettingsFields}
 use Rattle.tk_world.specs.State.{State, new_state}
@@ -27,15 +16,8 @@ use Rattle.tk_world.specs.World.{Facts, Run}
 use Rattle.tk_world.specs.declared.event.Event.{Event}
 use Rattle.tk_world.specs.declared.event.Outcome.{Outcome}
 use Rattle.tk_world.specs.Line.{HasWords}
-use Rattle.tokend.specs.Script.{
-  greatest_length,
-  lines_of,
-  AreEvents,
-  AreShort,
-  IsFirstBad,
-  IsInputFault,
-  words_at,
-}
+use Rattle.tokend.specs.Script.{greatest_length, lines_of, AreEvents, AreShort, IsFirstBad}
+use Rattle.tokend.specs.Script.{IsInputFault, words_at}
 use Rattle.tk_world.specs.Printed.{lines_text}
 use Rattle.tk_put.specs.Put.{AppendsFront}
 use Rattle.tokend.specs.Status.{LeavesBegun}

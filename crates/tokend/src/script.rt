@@ -1,31 +1,10 @@
 //! The script: `read_script` reads the input, and `read_events` makes its lines events.
 
-ghost use Rattle.std.specs.Prelude.{
-  ◌≡◌,
-  ◌≤◌,
-  ◌<◌,
-  ◌^◌,
-  ◌↔◌,
-  ℕ,
-  IfOk,
-  IfErr,
-  IfSome,
-  length,
-  slice_get,
-  vec_len,
-  IsTrue,
-};
+ghost use Rattle.std.specs.Prelude.{◌≡◌, ◌≤◌, ◌<◌, ◌^◌, ◌↔◌, ℕ, IfOk, IfErr, IfSome, length};
+ghost use Rattle.std.specs.Prelude.{slice_get, vec_len, IsTrue};
 ghost use Rattle.tk_world.specs.Line.{HasWords};
-ghost use Rattle.tokend.specs.Script.{
-  greatest_length,
-  lines_of,
-  AreEvents,
-  AreShort,
-  IsFaultOf,
-  IsInputFault,
-  IsTooLong,
-  words_at,
-};
+ghost use Rattle.tokend.specs.Script.{greatest_length, lines_of, AreEvents, AreShort, IsFaultOf};
+ghost use Rattle.tokend.specs.Script.{IsInputFault, IsTooLong, words_at};
 
 use crate::fault::Fault;
 use std::alloc::Global;

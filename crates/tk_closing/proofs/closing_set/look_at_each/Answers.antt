@@ -1,6 +1,5 @@
-use Rattle.std.proofs.Common.{rules, ◌≡◌, ◌≤◌, List, [], ◌∷◌, length, vec_capacity, vec_len, ◌<◌, ℕ, ◌+◌, ◌-◌, ◌++◌, slice_index_or, slice_set, true, false, refl}
+use Rattle.std.proofs.Common.{rules, refl}
 use Rattle.tk_closing.proofs.Looks.{all_looked, kept_at, over_at}
-use Rattle.tk_closing.specs.Closing.{AreLookedAt}
 use Rattle.tk_closing.proofs.closing_set.look_at_each.Goals as goal
 
 pub loop-at-init : goal.loop-at-init

@@ -1,0 +1,127 @@
+-- Authorisation and administration requests are decided alike by two sets that say the same of
+-- clients, consents and sign-outs. Key results:
+--   authorizations_same    the decisions of authorisation requests
+--   administrations_same   the decisions of administration requests
+use Rattle.std.proofs.Common.{◌≡◌, ℕ, Bool, cond, List, codes, Option, None, Some, Result, Ok, Err, refl, ap, ◌∙◌}
+use Rattle.tk_handle.specs.ClientId.{client_in}
+use Rattle.tk_handle.specs.ConsentId.{consent_in}
+use Rattle.tk_handle.specs.declared.dot.Dot.{Dot}
+use Rattle.tk_fact.specs.Subject.{is_subject}
+use Rattle.tk_match.specs.Pick.{Picked, Uri, Missing, Unknown, picked}
+use Rattle.tk_store.specs.FactSet.{FactSet}
+use Rattle.tk_ledger.specs.Clients.{consent_for}
+use Rattle.tk_ledger.specs.SignOuts.{is_signed_out}
+use Rattle.tk_ledger.specs.ViewFields.{ClientFields, ConsentFields}
+use Rattle.tk_ledger.specs.Views.{client_view, consent_view}
+use Rattle.tk_params.specs.Params.{Pairs, value_of, has_twice}
+use Rattle.tk_message.specs.RequestFields.{RequestFields}
+use Rattle.tk_message.specs.declared.place.Place.{Place}
+use Rattle.tk_message.specs.declared.request.Endpoint.{Endpoint}
+use Rattle.tk_message.specs.declared.request.Endpoint.TheVariants as endpoint
+use Rattle.tk_authorize.specs.Administered.{shown_at, shown_by, shown_of, retired_at, retired_by, retired_of, client_named, consented_at, consented_to, consented_by, consented_of, consent_names, withdrawn_at, withdrawn_to, withdrawn_by, withdrawn_of, withdrawal_names, signed_out_at, signed_out_as, signed_out_by, signed_out_of, sign_out_names, administered_at, administered_of}
+use Rattle.tk_authorize.specs.Administration.{administered_by, administration_of}
+use Rattle.tk_authorize.specs.Approval.{approval_by_consent, approval_by_subject, approval_of}
+use Rattle.tk_authorize.specs.Asked.{asked_of}
+use Rattle.tk_authorize.specs.Authorization.{decided_by, authorization_of, kept_state}
+use Rattle.tk_authorize.specs.Judged.{judged_at, target_of, judged_by_redirect, judged_by_view, judged_by_client, judged_by_id, judged_of, target_names}
+use Rattle.tk_authorize.specs.declared.admin_refusal.AdminRefusal.{AdminRefusal}
+use Rattle.tk_authorize.specs.declared.admin_refusal.AdminRefusal.TheVariants.{DuplicateParameter, BadSubject}
+use Rattle.tk_authorize.specs.declared.administered.Administered.{Administered}
+use Rattle.tk_authorize.specs.declared.administered.Administered.TheVariants as administered
+use Rattle.tk_authorize.specs.declared.approval.Approval.{Approval}
+use Rattle.tk_authorize.specs.declared.asked.Asked.{Asked}
+use Rattle.tk_authorize.specs.declared.denial.Denial.{Denial}
+use Rattle.tk_authorize.specs.declared.denial.Denial.TheVariants as denial
+use Rattle.tk_authorize.specs.declared.judged.Judged.{Judged}
+use Rattle.tk_authorize.specs.declared.judged.Judged.TheVariants.{Refused}
+use Rattle.tk_authorize.specs.declared.refusal.Refusal.TheVariants as refusal
+
+-- ---- authorisation requests
+
+module _ (F G : FactSet) (views : (d : Dot) → client_view F d ≡ client_view G d) (grants : (client : Dot) (subject scope : List ℕ) → consent_for F client subject scope ≡ consent_for G client subject scope) where
+  approval_same : (client : Dot) (subject : Option (List ℕ)) (r : Result Asked Denial) → approval_of F client subject r ≡ approval_of G client subject r
+  approval_same client subject (Err why) = refl
+  approval_same client None (Ok asked) = refl
+  approval_same client (Some subject) (Ok asked) =
+      ap (λ (o : Option Dot). cond (is_subject subject) (approval_by_consent subject asked o) (Err denial.MalformedSubject)) (grants client subject asked.scope)
+
+  redirect_same : (params : Pairs) (subject : Option (List ℕ)) (client : Dot) (view : ClientFields) (x : Picked) → judged_by_redirect F params subject client view x ≡ judged_by_redirect G params subject client view x
+  redirect_same params subject client view Missing = refl
+  redirect_same params subject client view Unknown = refl
+  redirect_same params subject client view (Uri uri) = ap (judged_at (target_of client uri params)) (approval_same client subject (asked_of view.sort view.scope params))
+
+  view_same : (params : Pairs) (subject : Option (List ℕ)) (client : Dot) (o : Option ClientFields) → judged_by_view F params subject client o ≡ judged_by_view G params subject client o
+  view_same params subject client None = refl
+  view_same params subject client (Some view) =
+      ap (λ (x : Judged). cond view.live x (Refused refusal.RetiredClient)) (redirect_same params subject client view (picked view.redirects (value_of (codes "redirect_uri") params)))
+
+  client_same : (params : Pairs) (subject : Option (List ℕ)) (o : Option Dot) → judged_by_client F params subject o ≡ judged_by_client G params subject o
+  client_same params subject None = refl
+  client_same params subject (Some client) = ap (judged_by_view F params subject client) (views client) ∙ view_same params subject client (client_view G client)
+
+  id_same : (params : Pairs) (subject : Option (List ℕ)) (o : Option (List ℕ)) → judged_by_id F params subject o ≡ judged_by_id G params subject o
+  id_same params subject None = refl
+  id_same params subject (Some id) = client_same params subject (client_in id)
+
+pub authorizations_same : (F G : FactSet) (place : Place) (now : ℕ) (words : List ℕ) (request : RequestFields)
+    → ((d : Dot) → client_view F d ≡ client_view G d)
+    → ((client : Dot) (subject scope : List ℕ) → consent_for F client subject scope ≡ consent_for G client subject scope)
+    → authorization_of F place now words request ≡ authorization_of G place now words request
+authorizations_same F G place now words request views grants =
+    ap (λ (x : Judged). decided_by place now words (kept_state (value_of (codes "state") request.params)) (cond (has_twice target_names request.params) (Refused refusal.DuplicateClientOrRedirect) x))
+    (id_same F G views grants request.params request.subject (value_of (codes "client_id") request.params))
+
+-- ---- administration requests
+
+module _ (F G : FactSet) (now : ℕ) (views : (d : Dot) → client_view F d ≡ client_view G d) (consents : (d : Dot) → consent_view F d ≡ consent_view G d) (outs : (subject : List ℕ) (moment : ℕ) → is_signed_out F subject moment ≡ is_signed_out G subject moment) where
+  shown_same : (r : Result Dot AdminRefusal) → shown_by F r ≡ shown_by G r
+  shown_same (Err why) = refl
+  shown_same (Ok d) = ap (shown_at d) (views d)
+
+  retired_same : (r : Result Dot AdminRefusal) → retired_by F r ≡ retired_by G r
+  retired_same (Err why) = refl
+  retired_same (Ok d) = ap (retired_at d) (views d)
+
+  consented_to_same : (subject scope : List ℕ) (o : Option Dot) → consented_to F subject scope o ≡ consented_to G subject scope o
+  consented_to_same subject scope None = refl
+  consented_to_same subject scope (Some client) = ap (consented_at client subject scope) (views client)
+
+  consented_same : (id subject scope : Option (List ℕ)) → consented_by F id subject scope ≡ consented_by G id subject scope
+  consented_same None subject scope = refl
+  consented_same (Some id) None scope = refl
+  consented_same (Some id) (Some subject) None = refl
+  consented_same (Some id) (Some subject) (Some scope) = consented_to_same subject scope (client_in id)
+
+  withdrawn_to_same : (o : Option Dot) → withdrawn_to F o ≡ withdrawn_to G o
+  withdrawn_to_same None = refl
+  withdrawn_to_same (Some d) = ap (withdrawn_at d) (consents d)
+
+  withdrawn_same : (o : Option (List ℕ)) → withdrawn_by F o ≡ withdrawn_by G o
+  withdrawn_same None = refl
+  withdrawn_same (Some id) = withdrawn_to_same (consent_in id)
+
+  signed_out_same : (o : Option (List ℕ)) → signed_out_by F now o ≡ signed_out_by G now o
+  signed_out_same None = refl
+  signed_out_same (Some subject) =
+      ap (λ t. cond (is_subject subject) (cond t (administered.AlreadyOut subject) (administered.SignsOut (record { subject = subject; moment = now }))) (administered.Refused BadSubject)) (outs subject now)
+
+  administered_same : (e : Endpoint) (params : Pairs) → administered_at e F now params ≡ administered_at e G now params
+  administered_same endpoint.Authorize params = refl
+  administered_same endpoint.Token params = refl
+  administered_same endpoint.Introspect params = refl
+  administered_same endpoint.Revoke params = refl
+  administered_same endpoint.AddClient params = refl
+  administered_same endpoint.ShowClient params = shown_same (client_named params)
+  administered_same endpoint.Retire params = retired_same (client_named params)
+  administered_same endpoint.Consent params =
+      ap (λ (x : Administered). cond (has_twice consent_names params) (administered.Refused DuplicateParameter) x)
+      (consented_same (value_of (codes "client_id") params) (value_of (codes "subject") params) (value_of (codes "scope") params))
+  administered_same endpoint.Withdraw params = ap (λ (x : Administered). cond (has_twice withdrawal_names params) (administered.Refused DuplicateParameter) x) (withdrawn_same (value_of (codes "consent_id") params))
+  administered_same endpoint.SignOut params = ap (λ (x : Administered). cond (has_twice sign_out_names params) (administered.Refused DuplicateParameter) x) (signed_out_same (value_of (codes "subject") params))
+
+pub administrations_same : (F G : FactSet) (place : Place) (now : ℕ) (request : RequestFields)
+    → ((d : Dot) → client_view F d ≡ client_view G d)
+    → ((d : Dot) → consent_view F d ≡ consent_view G d)
+    → ((subject : List ℕ) (moment : ℕ) → is_signed_out F subject moment ≡ is_signed_out G subject moment)
+    → administration_of F place now request ≡ administration_of G place now request
+administrations_same F G place now request views consents outs = ap (administered_by place) (administered_same F G now views consents outs request.endpoint request.params)

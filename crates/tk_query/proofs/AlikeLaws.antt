@@ -1,0 +1,181 @@
+-- Introspection and revocation requests are decided alike by two stores whose statuses are answered
+-- alike. Key results:
+--   introspections_alike   the replies to introspection requests
+--   revocations_alike      the decisions of revocation requests
+use Rattle.std.proofs.Common.{◌≡◌, ◌≢◌, inl, inr, ℕ, ◌≤◌, Bool, true, false, ◌||◌, not, nat_le, cond, List, codes, Option, None, Some, refl, sym, ap, subst, ◌∙◌}
+use borrow.Author.Tests.{le-leb}
+use Rattle.std.proofs.lemmas.Bool.{true≢false}
+use Rattle.tk_handle.specs.Handle.{handle_in}
+use Rattle.tk_handle.specs.declared.dot.Dot.{Dot}
+use Rattle.tk_handle.specs.declared.handle.Handle.{Handle}
+use Rattle.tk_handle.specs.declared.kind.Kind.{Kind}
+use Rattle.tk_handle.specs.declared.kind.Kind.TheVariants as kind
+use Rattle.tk_handle.specs.declared.token_id.TokenId.{TokenId}
+use Rattle.tk_fact.specs.declared.sort.Sort.{Sort}
+use Rattle.tk_fact.specs.declared.sort.Sort.TheVariants.{Public, Confidential, Resource}
+use Rattle.tk_fact.specs.declared.token_revoked.TokenRevoked.{TokenRevoked}
+use Rattle.tk_store.specs.FactSet.{FactSet}
+use Rattle.tk_store.specs.StoreFields.{StoreFields, held_facts}
+use Rattle.tk_ledger.specs.Alike.{is_closed, IsLost, AnsweredAlike}
+use Rattle.tk_ledger.specs.Bodies.{is_same_dot}
+use Rattle.tk_ledger.specs.StandingFields.{StandingFields}
+use Rattle.tk_ledger.specs.Status.{status_here}
+use Rattle.tk_ledger.specs.Tokens.{is_revoked}
+use Rattle.tk_ledger.specs.ViewFields.{ClientFields}
+use Rattle.tk_ledger.specs.Views.{client_view}
+use Rattle.tk_ledger.specs.declared.status.State.{State}
+use Rattle.tk_ledger.specs.declared.status.State.TheVariants as state
+use Rattle.tk_ledger.specs.declared.status.Status.{Status}
+use Rattle.tk_ledger.specs.declared.status.Status.TheVariants.{Unseen, Wrong, Broken, Known}
+use Rattle.tk_params.specs.Params.{Pairs, value_of}
+use Rattle.tk_message.specs.Caller.{caller_of}
+use Rattle.tk_message.specs.Decision.{answered}
+use Rattle.tk_message.specs.Reply.{empty_reply}
+use Rattle.tk_message.specs.RequestFields.{RequestFields}
+use Rattle.tk_message.specs.declared.caller.Caller.{Caller}
+use Rattle.tk_message.specs.declared.caller.Caller.TheVariants as caller
+use Rattle.tk_message.specs.declared.decision.Decision.{Decision}
+use Rattle.tk_message.specs.declared.place.Place.{Place}
+use Rattle.tk_message.specs.declared.status.Status.TheVariants.{Ok}
+use Rattle.tk_query.specs.Caller.{known_names}
+use Rattle.tk_query.specs.Introspected.{sees, is_live, active, introspected_by_standing, introspected_by_status, introspected_by_kind, introspected_by_handle, introspected_by_text, introspected_as, introspected_by_client, introspected_by_caller}
+use Rattle.tk_query.specs.Introspection.{told, introspection_of}
+use Rattle.tk_query.specs.Revocation as whole
+use Rattle.tk_query.specs.Revoked.{revocation_of, revoked_unless_held, revoked_of_client, revoked_by_state, revoked_by_status, is_own, revoked_by_kind, revoked_by_handle, revoked_by_text, revoked_by_caller}
+use Rattle.tk_query.specs.declared.idle.Idle.TheVariants as idle
+use Rattle.tk_query.specs.declared.introspected.Introspected.{Introspected}
+use Rattle.tk_query.specs.declared.introspected.Introspected.TheVariants.{Inactive}
+use Rattle.tk_query.specs.declared.refusal.Refusal.TheVariants as refusal
+use Rattle.tk_query.specs.declared.revoked.Revocation.{Revocation}
+use Rattle.tk_query.specs.declared.revoked.Revocation.TheVariants.{Refused, Done, Revokes}
+
+-- ---- introspection
+
+closed_asleep : (x : State) → is_closed x ≡ true → is_live x ≡ false
+closed_asleep state.Dead h = refl
+closed_asleep state.Withdrawn h = refl
+closed_asleep state.Over h = refl
+closed_asleep x h = absurd (true≢false (sym h))
+
+second_fails : (b c : Bool) (x y : Introspected) → c ≡ false → cond (not b || not c) x y ≡ x
+second_fails true c x y h = ap (λ t. cond (not t) x y) h
+second_fails false c x y h = refl
+
+-- a lost token is inactive
+lost_inactive : (sort : Sort) (asker : Dot) (k : Kind) (now : ℕ) (h : Handle) (s : Status) → IsLost now h s → introspected_by_status sort asker k s ≡ Inactive
+lost_inactive sort asker k now h Unseen lost = absurd lost
+lost_inactive sort asker k now h Wrong lost = refl
+lost_inactive sort asker k now h (Broken expiry) lost = refl
+lost_inactive sort asker k now h (Known s) lost = second_fails (sees sort asker s.client) (is_live s.state) Inactive (active k s) (closed_asleep s.state lost.0)
+
+alike_told : (sort : Sort) (asker : Dot) (k : Kind) (now : ℕ) (h : Handle) (s r : Status) → AnsweredAlike now h s r → introspected_by_status sort asker k s ≡ introspected_by_status sort asker k r
+alike_told sort asker k now h s r (inl same) = ap (introspected_by_status sort asker k) same
+alike_told sort asker k now h s r (inr lost) = lost_inactive sort asker k now h s lost.0 ∙ sym (lost_inactive sort asker k now h r lost.1)
+
+module _ (P Q : StoreFields) (now : ℕ) (alike : (h : Handle) → AnsweredAlike now h (status_here P now h) (status_here Q now h)) where
+  told_by_kind : (sort : Sort) (asker : Dot) (h : Handle) (k : Kind) → introspected_by_kind P now sort asker h k ≡ introspected_by_kind Q now sort asker h k
+  told_by_kind sort asker h kind.Code = refl
+  told_by_kind sort asker h kind.Access = alike_told sort asker kind.Access now h (status_here P now h) (status_here Q now h) (alike h)
+  told_by_kind sort asker h kind.Refresh = alike_told sort asker kind.Refresh now h (status_here P now h) (status_here Q now h) (alike h)
+
+  told_by_handle : (sort : Sort) (asker : Dot) (o : Option Handle) → introspected_by_handle P now sort asker o ≡ introspected_by_handle Q now sort asker o
+  told_by_handle sort asker None = refl
+  told_by_handle sort asker (Some h) = told_by_kind sort asker h h.id.kind
+
+  told_by_text : (sort : Sort) (asker : Dot) (o : Option (List ℕ)) → introspected_by_text P now sort asker o ≡ introspected_by_text Q now sort asker o
+  told_by_text sort asker None = refl
+  told_by_text sort asker (Some text) = told_by_handle sort asker (handle_in text)
+
+  told_as : (params : Pairs) (asker : Dot) (sort : Sort) → introspected_as P now params asker sort ≡ introspected_as Q now params asker sort
+  told_as params asker Public = refl
+  told_as params asker (Confidential digest) = told_by_text (Confidential digest) asker (value_of (codes "token") params)
+  told_as params asker (Resource digest) = told_by_text (Resource digest) asker (value_of (codes "token") params)
+
+  told_by_client : (params : Pairs) (asker : Dot) (o : Option ClientFields) → introspected_by_client P now params asker o ≡ introspected_by_client Q now params asker o
+  told_by_client params asker None = refl
+  told_by_client params asker (Some client) = told_as params asker client.sort
+
+  told_by_caller : ((d : Dot) → client_view (held_facts P) d ≡ client_view (held_facts Q) d) → (params : Pairs) (c : Caller) → introspected_by_caller P now params c ≡ introspected_by_caller Q now params c
+  told_by_caller views params caller.DuplicateParameter = refl
+  told_by_caller views params caller.MixedCredentials = refl
+  told_by_caller views params caller.InvalidClient = refl
+  told_by_caller views params (caller.Client asker) = told_by_client params asker (client_view (held_facts P) asker) ∙ ap (introspected_by_client Q now params asker) (views asker)
+
+pub introspections_alike : (P Q : StoreFields) (now : ℕ) (request : RequestFields)
+    → ((h : Handle) → AnsweredAlike now h (status_here P now h) (status_here Q now h))
+    → ((d : Dot) → client_view (held_facts P) d ≡ client_view (held_facts Q) d)
+    → caller_of (held_facts P) known_names request ≡ caller_of (held_facts Q) known_names request
+    → introspection_of P now request ≡ introspection_of Q now request
+introspections_alike P Q now request alike views same =
+    ap (λ (c : Caller). told (introspected_by_caller P now request.params c)) same
+    ∙ ap told (told_by_caller P Q now alike views request.params (caller_of (held_facts Q) known_names request))
+
+-- ---- revocation
+
+-- the decision by an outcome
+abbrev decides : Revocation → Decision
+decides = whole.revoked_by
+
+past_done : (F : FactSet) (own : Bool) (now : ℕ) (fact : TokenRevoked) (h : Handle) (s : Status) → h.id.kind ≢ kind.Code → IsLost now h s → decides (revoked_by_status F own now fact s) ≡ answered (empty_reply Ok)
+past_done F own now fact h Unseen other lost = absurd lost
+past_done F own now fact h Wrong other lost = refl
+past_done F own now fact h (Broken expiry) other lost = ap (λ t. decides (cond t (Done idle.Past) (revoked_unless_held F fact))) (le-leb expiry now lost.1)
+past_done F own now fact h (Known s) other lost = ap (λ t. decides (cond t (Done idle.Past) (revoked_by_state F fact s.client s.state))) (le-leb s.expiry now (lost.1 other))
+
+module _ (F G : FactSet) (fact : TokenRevoked) (held : is_revoked F fact.token fact.digest fact.client ≡ is_revoked G fact.token fact.digest fact.client) where
+  unless_same : revoked_unless_held F fact ≡ revoked_unless_held G fact
+  unless_same = ap (λ t. cond t (Done idle.Revoked) (Revokes fact)) held
+
+  of_client_same : (client : Dot) → revoked_of_client F fact client ≡ revoked_of_client G fact client
+  of_client_same client = ap (λ (x : Revocation). cond (is_same_dot client fact.client) x (Refused refusal.ForeignToken)) unless_same
+
+  by_state_same : (client : Dot) (x : State) → revoked_by_state F fact client x ≡ revoked_by_state G fact client x
+  by_state_same client state.Dead = refl
+  by_state_same client state.Withdrawn = of_client_same client
+  by_state_same client state.Over = of_client_same client
+  by_state_same client state.Used = of_client_same client
+  by_state_same client state.Past = of_client_same client
+  by_state_same client state.Ended = of_client_same client
+  by_state_same client state.Live = of_client_same client
+
+  by_status_same : (own : Bool) (now : ℕ) (s : Status) → revoked_by_status F own now fact s ≡ revoked_by_status G own now fact s
+  by_status_same own now Wrong = refl
+  by_status_same own now Unseen = ap (λ (x : Revocation). cond own (Done idle.NeverMinted) x) unless_same
+  by_status_same own now (Broken expiry) = ap (λ (x : Revocation). cond (nat_le expiry now) (Done idle.Past) x) unless_same
+  by_status_same own now (Known s) = ap (λ (x : Revocation). cond (nat_le s.expiry now) (Done idle.Past) x) (by_state_same s.client s.state)
+
+module _ (P Q : StoreFields) (number now : ℕ) (alike : (h : Handle) → AnsweredAlike now h (status_here P now h) (status_here Q now h))
+    (held : (k : TokenId) (digest : List ℕ) (client : Dot) → is_revoked (held_facts P) k digest client ≡ is_revoked (held_facts Q) k digest client) where
+  by_status : (own : Bool) (fact : TokenRevoked) (h : Handle) → h.id.kind ≢ kind.Code → (s r : Status) → AnsweredAlike now h s r → decides (revoked_by_status (held_facts P) own now fact s) ≡ decides (revoked_by_status (held_facts Q) own now fact r)
+  by_status own fact h other s r (inl same) =
+      ap decides (by_status_same (held_facts P) (held_facts Q) fact (held fact.token fact.digest fact.client) own now s)
+      ∙ ap (λ (x : Status). decides (revoked_by_status (held_facts Q) own now fact x)) same
+  by_status own fact h other s r (inr lost) = past_done (held_facts P) own now fact h s other lost.0 ∙ sym (past_done (held_facts Q) own now fact h r other lost.1)
+
+  by_kind : (client : Dot) (h : Handle) (k : Kind) → h.id.kind ≡ k → decides (revoked_by_kind P number now client h k) ≡ decides (revoked_by_kind Q number now client h k)
+  by_kind client h kind.Code is = refl
+  by_kind client h kind.Access is = by_status (is_own number h) (revocation_of h kind.Access client) h (λ code. (let e : kind.Access ≡ kind.Code = sym is ∙ code in cc)) (status_here P now h) (status_here Q now h) (alike h)
+  by_kind client h kind.Refresh is = by_status (is_own number h) (revocation_of h kind.Refresh client) h (λ code. (let e : kind.Refresh ≡ kind.Code = sym is ∙ code in cc)) (status_here P now h) (status_here Q now h) (alike h)
+
+  by_handle : (client : Dot) (o : Option Handle) → decides (revoked_by_handle P number now client o) ≡ decides (revoked_by_handle Q number now client o)
+  by_handle client None = refl
+  by_handle client (Some h) = by_kind client h h.id.kind refl
+
+  by_text : (client : Dot) (o : Option (List ℕ)) → decides (revoked_by_text P number now client o) ≡ decides (revoked_by_text Q number now client o)
+  by_text client None = refl
+  by_text client (Some text) = by_handle client (handle_in text)
+
+  by_caller : (params : Pairs) (c : Caller) → decides (revoked_by_caller P number now params c) ≡ decides (revoked_by_caller Q number now params c)
+  by_caller params caller.DuplicateParameter = refl
+  by_caller params caller.MixedCredentials = refl
+  by_caller params caller.InvalidClient = refl
+  by_caller params (caller.Client client) = by_text client (value_of (codes "token") params)
+
+pub revocations_alike : (P Q : StoreFields) (place : Place) (now : ℕ) (request : RequestFields)
+    → ((h : Handle) → AnsweredAlike now h (status_here P now h) (status_here Q now h))
+    → ((k : TokenId) (digest : List ℕ) (client : Dot) → is_revoked (held_facts P) k digest client ≡ is_revoked (held_facts Q) k digest client)
+    → caller_of (held_facts P) known_names request ≡ caller_of (held_facts Q) known_names request
+    → whole.revocation_of P place now request ≡ whole.revocation_of Q place now request
+revocations_alike P Q place now request alike held same =
+    ap (λ (c : Caller). decides (revoked_by_caller P place.number now request.params c)) same
+    ∙ by_caller P Q place.number now alike held request.params (caller_of (held_facts Q) known_names request)
