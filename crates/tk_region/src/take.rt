@@ -56,7 +56,8 @@ pub(crate) fn take_bundle(
         return Err(TakeError::Conflict);
     }
     ledger.store().known();
-    take_facts(ledger, sent.into_facts())
+    let facts = sent.into_facts();
+    take_facts(ledger, facts)
 }
 
 // Returns whether a fact is under the region's own number and not made by the region.
