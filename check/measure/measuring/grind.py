@@ -2,6 +2,7 @@
 import os
 import shutil
 import signal
+import subprocess
 
 from measuring.rounds import Absent
 from measuring.server import Server
@@ -24,9 +25,13 @@ def code(server, _):
 KINDS = {"introspect": introspect, "refresh": refresh, "code": code}
 
 
-def need():
-    if not shutil.which("valgrind"):
-        raise Absent("no valgrind")
+def need(program):
+    for command in "valgrind", "callgrind_annotate":
+        if not shutil.which(command):
+            raise Absent("no " + command)
+    words = ["valgrind", "--tool=none", program, "--version"]
+    if subprocess.run(words, capture_output=True, check=False).returncode:
+        raise Absent("valgrind doesn't run %s" % program)
 
 
 def run(program, folder, tool, kind, count):
