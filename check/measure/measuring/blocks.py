@@ -54,30 +54,29 @@ def profile(parts):
     return it, text_of(["instructions of", *kinds], rows)
 
 
-def many_rows(it, names):
-    return [[name.rpartition(" ")[2] if "clients" in name else name, it.cell(name + mark[0]),
-             "%s, %s" % (it.number(name + mark[1]), it.number(name + mark[2])),
-             it.number(name + mark[3])]
-            for name in names for mark in [marks(it, name)]]
+PROXIED = {"direct": "direct, a connection for each request",
+           "proxied, new": "by HAProxy, a connection for each request",
+           "proxied, kept": "by HAProxy, kept connections"}
 
 
-def marks(it, name):
-    """How the four numbers of a line are named behind its own name."""
-    between = ", " if name + BEHIND in it.rows else ": "
-    return [between + what for what in ("requests a second", "median in µs", "99th of 100 in µs",
-                                        "processor in µs")]
+def many_row(it, label, name):
+    """A line of clients at the same time; the numbers' names begin with a text."""
+    return [label, it.cell(name + "requests a second"),
+            "%s, %s" % (it.number(name + "median in µs"), it.number(name + "99th of 100 in µs")),
+            it.number(name + "processor in µs")]
 
 
 def proxied(parts):
     it = part(parts, "proxied")
-    names = [name for name, in it.found("(.*), requests a second")]
-    return it, text_of(["introspections"] + HEAD[1:], many_rows(it, names))
+    rows = [many_row(it, label, name + ", ") for name, label in PROXIED.items()]
+    return it, text_of(["introspections"] + HEAD[1:], rows)
 
 
 def clients(parts):
     it = part(parts, "clients")
-    names = ["clients %d" % many for many in it.numbers(r"clients (\d+): requests a second")]
-    return it, text_of(["clients"] + HEAD[1:], many_rows(it, names))
+    rows = [many_row(it, str(many), "clients %d: " % many)
+            for many in it.numbers(r"clients (\d+): requests a second")]
+    return it, text_of(["clients"] + HEAD[1:], rows)
 
 
 def growth(parts):

@@ -9,7 +9,7 @@ from measuring import paper
 from measuring.results import part, servers_of, states_of
 from measuring.rounds import Broken
 
-INK = "#808080"
+FILE, INK = "measured-%s.svg", "#808080"
 COLOURS = "#3d87d8", "#d97f26", "#3f9e6a", "#b65fae"
 FORM = """
 set terminal svg size 760,420 font "sans-serif,14" enhanced
@@ -28,7 +28,7 @@ plot %(curves)s
 """
 
 # A curve is a name and its points; a chart has its settings for gnuplot and how it plots a curve.
-Chart = collections.namedtuple("Chart", "title across up settings how curves")
+Chart = collections.namedtuple("Chart", "across up settings how curves")
 LINES = "using 1:2 with linespoints pointtype 7 pointsize 0.7 linewidth 2"
 
 
@@ -43,6 +43,14 @@ set logscale xy
 set xrange [80:130000]
 set xtics ("fresh" 100, "1,000" 1000, "10,000" 10000, "100,000" 100000)
 """
+BARS = """
+set logscale y
+set yrange [0.1:*]
+set format y "%g"
+set style data histogram
+set style histogram clustered gap 1
+set bmargin 4
+"""
 
 
 def growth(parts):
@@ -50,8 +58,7 @@ def growth(parts):
     it = part(parts, "peers")
     curves = [(name, held_of(it, name, "introspect, requests a second"))
               for name in servers_of(it)]
-    return Chart("Introspections a second, by the logins that a server holds", "logins held",
-                 "introspections a second", HELD, LINES, curves)
+    return Chart("logins held", "introspections a second", HELD, LINES, curves)
 
 
 def memory(parts):
@@ -59,8 +66,7 @@ def memory(parts):
     it = part(parts, "peers")
     curves = [(name, [(size, kib / 1024) for size, kib in held_of(it, name, "memory in KiB")])
               for name in servers_of(it)]
-    return Chart("Memory in MiB, by the logins that a server holds", "logins held", "memory in MiB",
-                 HELD, LINES, curves)
+    return Chart("logins held", "memory in MiB", HELD, LINES, curves)
 
 
 def delay(parts):
@@ -69,11 +75,7 @@ def delay(parts):
     ways = [way for way, in it.found("(.*): median in ms")]
     curves = [(one, [(way.replace(", ", "\\n"), it.median("%s: %s in ms" % (way, one)))
                      for way in ways]) for one in ("median", "99th of 100")]
-    return Chart("From a revocation until another region knows it, in ms", "", "ms",
-                 "set logscale y\nset yrange [0.1:*]\nset style data histogram\n"
-                 "set style histogram clustered gap 1\nset format y \"%g\"\n"
-                 "set bmargin 4",
-                 "using 2:xtic(1)", curves)
+    return Chart("", "ms", BARS, "using 2:xtic(1)", curves)
 
 
 def clients(parts):
@@ -81,8 +83,8 @@ def clients(parts):
     it, form = part(parts, "clients"), "clients %d: requests a second"
     sizes = it.numbers(r"clients (\d+): requests a second")
     curves = [("tokend", [(size, it.median(form % size)) for size in sizes])]
-    return Chart("Introspections a second, by the clients at the same time", "clients",
-                 "introspections a second", "set logscale x 2\nset yrange [0:*]", LINES, curves)
+    settings = "set logscale x 2\nset yrange [0:*]"
+    return Chart("clients", "introspections a second", settings, LINES, curves)
 
 
 def sites(parts):
@@ -92,11 +94,16 @@ def sites(parts):
                [(size, paper.Day(costs, size, many).carry / 3600) for size in range(1, most + 1)])
               for many in paper.REFRESHES]
     curves.append(("a day", [(1, 24), (most, 24)]))
-    return Chart("Hours that carry is at work for a day of a million logins, by sites", "sites",
-                 "hours of carry", "set yrange [0:*]\nset xtics 1, 1", LINES, curves)
+    return Chart("sites", "hours of carry", "set yrange [0:*]\nset xtics 1, 1", LINES, curves)
 
 
 ALL = {"growth": growth, "memory": memory, "delay": delay, "clients": clients, "sites": sites}
+TITLES = {
+    "growth": "Introspections a second, by the logins that a server holds",
+    "memory": "Memory in MiB, by the logins that a server holds",
+    "delay": "From a revocation until another region knows it, in ms",
+    "clients": "Introspections a second, by the clients at the same time",
+    "sites": "Hours that carry is at work for a day of a million logins, by sites"}
 
 
 def block(number, points):
@@ -105,7 +112,7 @@ def block(number, points):
     return "$curve%d << EOD\n%s\nEOD\n" % (number, "\n".join(lines))
 
 
-def draw(chart, path):
+def draw(chart, title, path):
     """Writes a chart to a file."""
     blocks = "".join(block(at, points) for at, (_, points) in enumerate(chart.curves))
     curves = ", ".join('$curve%d %s linecolor rgb "%s" title "%s"'
@@ -119,4 +126,4 @@ def draw(chart, path):
     with open(path, encoding="utf-8") as file:
         drawn = file.read()
     with open(path, "w", encoding="utf-8") as file:
-        file.write(drawn.replace("<title>Gnuplot</title>", "<title>%s</title>" % chart.title))
+        file.write(drawn.replace("<title>Gnuplot</title>", "<title>%s</title>" % title))
