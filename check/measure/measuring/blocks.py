@@ -144,6 +144,13 @@ def revoked(parts):
     return it, text_of(["way", *(one + ", ms" for one in what)], rows)
 
 
+def fanned(parts):
+    it, what = part(parts, "fanned"), ("median", "longest of 20")
+    rows = [[way] + [it.cell("%s: %s in ms" % (way, one)) for one in what]
+            for way, in it.found("(.*): median in ms")]
+    return it, text_of(["way", *(one + ", ms" for one in what)], rows)
+
+
 def peers(parts):
     """A line for each server, kind of request and state that was asked for it."""
     it, rows = part(parts, "peers"), []
@@ -196,7 +203,7 @@ ALL = {
     "clients": clients, "growth": growth, "generations": generations, "memory": memory,
     "start": start, "push": push,
     "carried": plain("carried", ["`carry` to an empty server", ""]), "revoked": revoked,
-    "peers": peers, "beside": beside, "ledger": ledger, "pruned": pruned,
+    "fanned": fanned, "peers": peers, "beside": beside, "ledger": ledger, "pruned": pruned,
     "idle": plain("idle", ["behind a client that is", "the next one waited"]),
     "killed": plain("killed", ["SIGKILL under load", ""]),
     "day": paper.day, "breaks": paper.breaks, "left": paper.left}

@@ -17,17 +17,11 @@ import time
 from measuring import glewlwyd
 from measuring.asking import REDIRECT_TEXT, Asked, authorize, basic
 from measuring.rounds import Absent, Broken
+from measuring.server import PYTHON, free_port
 
 HERE = os.path.dirname(os.path.abspath(__file__))
-PYTHON = "/usr/bin/python3"  # the distribution's, which its packages are for
 CLIENT, SECRET, PATIENCE = "measured", "s3cret", 30
 TICKS = os.sysconf("SC_CLK_TCK")
-
-
-def free_port():
-    with socket.socket() as it:
-        it.bind(("127.0.0.1", 0))
-        return it.getsockname()[1]
 
 
 def members(group):

@@ -3,6 +3,7 @@ import contextlib
 import os
 import re
 import select
+import socket
 import subprocess
 import tempfile
 
@@ -11,6 +12,13 @@ from measuring.rounds import Absent, Broken
 
 PATIENCE = 600  # seconds that a start with a long history may take
 SECRET, WORD = "s3cret", "res0urce"
+PYTHON = "/usr/bin/python3"  # the distribution's, which its packages are for
+
+
+def free_port():
+    with socket.socket() as it:
+        it.bind(("127.0.0.1", 0))
+        return it.getsockname()[1]
 
 
 def push(bundle):
