@@ -1,4 +1,4 @@
-"""measured: the marks of tables in docs/MEASURED.md and its list of commands, beside check/measure."""
+"""measured: the marks and commands in docs/MEASURED.md, beside those of check/measure."""
 import os
 import re
 import sys
