@@ -1,5 +1,6 @@
 -- The definitions of this crate, by file:
 --   Versions      versions, the table of the versions of a bundle; version_of, the version of facts
+--   BundleFields  BundleFields, what contracts see of a bundle: a horizon and items
 --   Bundle        bundle, how a list of facts is spelled; bundle_bytes
 --   Page          page_of, the first facts above a cursor that a vector does not cover
 --   Paging        PagesComplete, what a receiver of all pages holds
@@ -8,6 +9,7 @@
 --   FrontLaws     walk_bundle, a bundle at the front is walked over; walk_torn
 --   VersionLaws   version_known, facts have a version; version_tells
 pub mod Bundle
+pub mod BundleFields
 pub mod BundleLaws
 pub mod Front
 pub mod FrontLaws
