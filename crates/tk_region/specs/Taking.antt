@@ -3,17 +3,23 @@
 --   AgreesWith    each item agrees with what is known of its dot
 --   raised        a store with its horizon raised to that of a bundle
 --   items_taken   a store with the items of a bundle
+--   Puts          the outcomes of taking in one item
 --   Takes         the horizon is raised, and the items are taken in
 --   unread        the refusal of bytes that can't be read
 --   TakesIn       the outcomes, by the bundle that the bytes spell
 use Rattle.std.specs.Prelude.{◌≡◌, ◌⊎◌, ℕ, ◌+◌, Bool, true, false, ◌&&◌, ◌==◌, nat_le, [], ◌∷◌}
-use Rattle.std.specs.Prelude.{take, Option, Some, None, Result, Ok, Err}
+use Rattle.std.specs.Prelude.{take, Option, Some, None, IsSome, Result, Ok, Err}
 use Rattle.std.specs.List.{list_any}
 use Rattle.std.specs.FinMap as map
 use Rattle.tk_handle.specs.declared.dot.Dot.{Dot}
+use Rattle.tk_store.specs.SlotJoining.{AllFit}
 use Rattle.tk_store.specs.SlotOrder.{SlotAgrees}
 use Rattle.tk_store.specs.Slots.{Slot, Slots, with_slots}
 use Rattle.tk_store.specs.StoreFields.{StoreFields, with_horizon}
+use Rattle.tk_store.specs.declared.store.Added.{Added}
+use Rattle.tk_store.specs.declared.store.Added.TheVariants as added
+use Rattle.tk_store.specs.declared.store.AddError.{AddError}
+use Rattle.tk_store.specs.declared.store.AddError.TheVariants as error
 use Rattle.tk_bundle.specs.BundleFields.{BundleFields, Items}
 use Rattle.tk_format.specs.declared.error.ReadError.{ReadError}
 use Rattle.tk_format.specs.declared.error.ReadError.TheVariants as read
@@ -33,8 +39,7 @@ has_unmade next items = list_any (λ i. is_unmade next i.0) items
 -- each item agrees with what is known of its dot: it is no other fact, and no mark where a fact
 -- lasts
 abbrev pub AgreesWith : Slots → Items → Type 0
-AgreesWith S [] = Unit {0}
-AgreesWith S (i ∷ items) = SlotAgrees (map.get S i.0) (Some i.1) × AgreesWith S items
+AgreesWith S items = AllFit S items
 
 -- a store with its horizon raised to that of a bundle, if the bundle has one
 abbrev pub raised : StoreFields → Option ℕ → StoreFields
@@ -44,6 +49,14 @@ raised P (Some moment) = with_horizon P moment
 -- a store with the items: the facts, unless their dots are skipped, and the marks
 abbrev pub items_taken : StoreFields → Items → StoreFields
 items_taken P items = record { slots = with_slots P.slots items; horizon = P.horizon }
+
+-- the result and the new store, when the fact of an item is added, or its dot is skipped: the item is
+-- in and its dot was unknown or known, or the item contradicts what is known, or memory ran out
+abbrev pub Puts : StoreFields → Dot × Slot → Result Added AddError → StoreFields → Type 0
+Puts P i (Ok added.New) Q = (map.get P.slots i.0 ≡ None) × (Q ≡ items_taken P (i ∷ []))
+Puts P i (Ok added.Held) Q = IsSome (map.get P.slots i.0) × (Q ≡ items_taken P (i ∷ []))
+Puts P i (Err error.Conflict) Q = ¬ SlotAgrees (map.get P.slots i.0) (Some i.1)
+Puts P i (Err error.Memory) Q = Q ≡ P
 
 -- The horizon is raised, and the items are taken in, of which n were at unknown dots. If memory runs
 -- out, the first of them are
