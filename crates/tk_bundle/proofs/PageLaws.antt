@@ -1,10 +1,10 @@
--- A page has the facts of a set at the first dots that a vector does not cover. Key results:
---   facts_at-more   the facts at one dot more
---   dots_are        the first dots that a vector does not cover are those of the page's facts
---   page_is         a page made at these dots is the page of the set
+-- A page has what a store knows of the first dots that a vector does not cover. Key results:
+--   items_at-more   the items at one dot more
+--   dots_are        the first dots that a vector does not cover are those of the page's items
+--   page_is         a page made at these dots is the page of the store
 --   page_fits       a page has a spelling
-use Rattle.std.proofs.Common.{◌≡◌, ℕ, ◌+◌, ◌<◌, ◌≤◌, ◌^◌, ◌-◌, Bool, true, false, ◌&&◌, cond, T, nat_lt, nat_le, List, [], ◌∷◌, ◌++◌, get_or, length, map, max, min, filter, take, zero, suc, Option, Some, None, slice_get, refl, sym, ap, subst, ◌∙◌, append_assoc, arith}
-use Rattle.std.specs.List.{AllByRecursion, cons_option, flat_map}
+use Rattle.std.proofs.Common.{◌≡◌, ℕ, ◌+◌, ◌<◌, ◌≤◌, ◌^◌, ◌-◌, Bool, true, false, ◌&&◌, cond, T, nat_lt, nat_le, eqb, List, [], ◌∷◌, ◌++◌, get_or, length, map, max, min, filter, take, zero, suc, Option, Some, None, slice_get, refl, sym, ap, subst, ◌∙◌, append_assoc, arith}
+use Rattle.std.specs.List.{AllByRecursion, cons_option, flat_map, list_any}
 use Rattle.std.specs.Option.{option_map}
 use Rattle.std.specs.FinMap as sets
 use Rattle.std.specs.FinMap.Entries.{below_all}
@@ -15,93 +15,87 @@ use Rattle.std.proofs.lemmas.List.Concat.{flat_map-append}
 use Rattle.std.proofs.lemmas.List.Elements.{filter_map-append}
 use Rattle.tk_handle.specs.declared.dot.Dot.{Dot}
 use Rattle.tk_handle.specs.Dot.{dot_cmp}
-use Rattle.tk_fact.specs.declared.body.Body.{Body}
-use Rattle.tk_fact.specs.FactBytes.{framed}
 use Rattle.tk_vector.specs.VersionVector.{Vector}
-use Rattle.tk_store.specs.FactSet.{FactSet, Facts, AllIn, dot_of}
+use Rattle.tk_store.specs.FactSet.{AllIn, dot_of}
 use Rattle.tk_store.specs.Beyond.{beyond, is_beyond}
+use Rattle.tk_store.specs.Slots.{Slot, Slots}
+use Rattle.tk_store.specs.StoreFields.{StoreFields}
 use Rattle.tk_store.specs.Walk.{above, is_above}
+use Rattle.tk_handle.specs.Moment.{moment}
 use Rattle.tk_store.proofs.EntryLaws.{AllIn-beyond}
-use Rattle.tk_store.proofs.SubsetLaws.{AllIn-take}
 use Rattle.tk_bundle.specs.declared.page.Page.{Page}
-use Rattle.tk_bundle.specs.Versions.{kind_of, newest_kind}
-use Rattle.tk_bundle.specs.Bundle.{ascends, most_facts, bundle}
-use Rattle.tk_bundle.specs.Page.{fact_at, facts_at, last_of, page_within, IsPageAt, IsPageOf}
+use Rattle.tk_bundle.specs.BundleFields.{Items, is_mark}
+use Rattle.tk_bundle.specs.Items.{item}
+use Rattle.tk_bundle.specs.Versions.{mark_kind, kind_in, newest_kind, version_of, has_horizon}
+use Rattle.tk_bundle.specs.VersionLaws.{mark_told, horizon_told}
+use Rattle.tk_bundle.specs.Bundle.{ascends, most_items, bundle, HorizonFits}
+use Rattle.tk_bundle.specs.Page.{item_at, items_at, last_of, horizon_by, horizon_with, page_within, IsPageAt, IsPageOf}
 
--- ---- the facts of a set at given dots
+-- ---- what slots have at given dots
 
--- facts in the set are those that it has at their dots
-facts_at-dots : (F : FactSet) (fs : Facts) → AllIn F fs → facts_at F (map dot_of fs) ≡ fs
-facts_at-dots F [] all = refl
-facts_at-dots F (f ∷ fs) all =
-    ap (λ o. cons_option (option_map (λ body. (f.0, body)) o) (facts_at F (map dot_of fs))) all.0
-    ∙ ap (λ l. f ∷ l) (facts_at-dots F fs all.1)
+-- items among the slots are those that they have at their dots
+items_at-dots : (S : Slots) (fs : Items) → AllIn S fs → items_at S (map dot_of fs) ≡ fs
+items_at-dots S [] all = refl
+items_at-dots S (f ∷ fs) all =
+    ap (λ o. cons_option (option_map (λ slot. (f.0, slot)) o) (items_at S (map dot_of fs))) all.0
+    ∙ ap (λ l. f ∷ l) (items_at-dots S fs all.1)
 
--- the facts at the first i dots and at the next one are those at the first i + 1
-pub facts_at-more : (F : FactSet) (dots : List Dot) (i : ℕ) (dot : Dot) → i < length dots → dot ≡ get_or dots i dot → facts_at F (take i dots) ++ facts_at F (dot ∷ []) ≡ facts_at F (take (i + 1) dots)
-facts_at-more F dots i dot within is =
-    sym (filter_map-append (fact_at F) (take i dots) (dot ∷ []))
-    ∙ ap (facts_at F) (ap (λ d. take i dots ++ d ∷ []) is ∙ sym (take_at_read dots i dot within).1)
+-- the items at the first i dots and at the next one are those at the first i + 1
+pub items_at-more : (S : Slots) (dots : List Dot) (i : ℕ) (dot : Dot) → i < length dots → dot ≡ get_or dots i dot → items_at S (take i dots) ++ items_at S (dot ∷ []) ≡ items_at S (take (i + 1) dots)
+items_at-more S dots i dot within is =
+    sym (filter_map-append (item_at S) (take i dots) (dot ∷ []))
+    ∙ ap (items_at S) (ap (λ d. take i dots ++ d ∷ []) is ∙ sym (take_at_read dots i dot within).1)
 
 -- the newest kind of two lists, one after the other
-newest_append : (last : ℕ) (fs gs : Facts) → newest_kind last (fs ++ gs) ≡ newest_kind (newest_kind last fs) gs
+newest_append : (last : ℕ) (fs gs : Items) → newest_kind last (fs ++ gs) ≡ newest_kind (newest_kind last fs) gs
 newest_append last [] gs = refl
-newest_append last (f ∷ fs) gs = newest_append (max last (kind_of f.1)) fs gs
+newest_append last (f ∷ fs) gs = newest_append (max last (kind_in f.1)) fs gs
 
--- the newest kind with the fact at one dot more
-pub more_newest : (F : FactSet) (dots : List Dot) (i : ℕ) (dot : Dot) (before after : ℕ) → i < length dots → dot ≡ get_or dots i dot
-    → before ≡ newest_kind 0 (facts_at F (take i dots)) → after ≡ newest_kind before (facts_at F (dot ∷ [])) → after ≡ newest_kind 0 (facts_at F (take (i + 1) dots))
-more_newest F dots i dot before after within is so_far one =
-    one ∙ ap (λ last. newest_kind last (facts_at F (dot ∷ []))) so_far
-    ∙ sym (newest_append 0 (facts_at F (take i dots)) (facts_at F (dot ∷ []))) ∙ ap (newest_kind 0) (facts_at-more F dots i dot within is)
+-- the newest kind with the item at one dot more
+pub more_newest : (S : Slots) (dots : List Dot) (i : ℕ) (dot : Dot) (before after : ℕ) → i < length dots → dot ≡ get_or dots i dot
+    → before ≡ newest_kind 0 (items_at S (take i dots)) → after ≡ newest_kind before (items_at S (dot ∷ [])) → after ≡ newest_kind 0 (items_at S (take (i + 1) dots))
+more_newest S dots i dot before after within is so_far one =
+    one ∙ ap (λ last. newest_kind last (items_at S (dot ∷ []))) so_far
+    ∙ sym (newest_append 0 (items_at S (take i dots)) (items_at S (dot ∷ []))) ∙ ap (newest_kind 0) (items_at-more S dots i dot within is)
 
--- the bytes with the fact at one dot more
-pub more_written : (F : FactSet) (dots : List Dot) (i : ℕ) (dot : Dot) (old before after : List ℕ) → i < length dots → dot ≡ get_or dots i dot
-    → before ≡ old ++ flat_map framed.spell (facts_at F (take i dots)) → after ≡ before ++ flat_map framed.spell (facts_at F (dot ∷ []))
-    → after ≡ old ++ flat_map framed.spell (facts_at F (take (i + 1) dots))
-more_written F dots i dot old before after within is so_far one =
-    one ∙ ap (λ bytes. bytes ++ flat_map framed.spell (facts_at F (dot ∷ []))) so_far
-    ∙ append_assoc old (flat_map framed.spell (facts_at F (take i dots))) (flat_map framed.spell (facts_at F (dot ∷ [])))
-    ∙ ap (λ bytes. old ++ bytes) (sym (flat_map-append framed.spell (facts_at F (take i dots)) (facts_at F (dot ∷ []))) ∙ ap (flat_map framed.spell) (facts_at-more F dots i dot within is))
+-- the bytes with the item at one dot more
+pub more_written : (S : Slots) (dots : List Dot) (i : ℕ) (dot : Dot) (old before after : List ℕ) → i < length dots → dot ≡ get_or dots i dot
+    → before ≡ old ++ flat_map item.spell (items_at S (take i dots)) → after ≡ before ++ flat_map item.spell (items_at S (dot ∷ []))
+    → after ≡ old ++ flat_map item.spell (items_at S (take (i + 1) dots))
+more_written S dots i dot old before after within is so_far one =
+    one ∙ ap (λ bytes. bytes ++ flat_map item.spell (items_at S (dot ∷ []))) so_far
+    ∙ append_assoc old (flat_map item.spell (items_at S (take i dots))) (flat_map item.spell (items_at S (dot ∷ [])))
+    ∙ ap (λ bytes. old ++ bytes) (sym (flat_map-append item.spell (items_at S (take i dots)) (items_at S (dot ∷ []))) ∙ ap (flat_map item.spell) (items_at-more S dots i dot within is))
 
--- facts of two lists that each have a spelling
-all_append : (fs gs : Facts) → AllByRecursion framed.Fits fs → AllByRecursion framed.Fits gs → AllByRecursion framed.Fits (fs ++ gs)
+-- items of two lists that each have a spelling
+all_append : (fs gs : Items) → AllByRecursion item.Fits fs → AllByRecursion item.Fits gs → AllByRecursion item.Fits (fs ++ gs)
 all_append [] gs a b = b
 all_append (f ∷ fs) gs a b = (a.0, all_append fs gs a.1 b)
 
--- the fact at one dot more has a spelling
-pub more_fits : (F : FactSet) (dots : List Dot) (i : ℕ) (dot : Dot) → i < length dots → dot ≡ get_or dots i dot
-    → AllByRecursion framed.Fits (facts_at F (take i dots)) → AllByRecursion framed.Fits (facts_at F (dot ∷ [])) → AllByRecursion framed.Fits (facts_at F (take (i + 1) dots))
-more_fits F dots i dot within is so_far one = subst (AllByRecursion framed.Fits) (facts_at-more F dots i dot within is) (all_append (facts_at F (take i dots)) (facts_at F (dot ∷ [])) so_far one)
+-- the item at one dot more has a spelling
+pub more_fits : (S : Slots) (dots : List Dot) (i : ℕ) (dot : Dot) → i < length dots → dot ≡ get_or dots i dot
+    → AllByRecursion item.Fits (items_at S (take i dots)) → AllByRecursion item.Fits (items_at S (dot ∷ [])) → AllByRecursion item.Fits (items_at S (take (i + 1) dots))
+more_fits S dots i dot within is so_far one = subst (AllByRecursion item.Fits) (items_at-more S dots i dot within is) (all_append (items_at S (take i dots)) (items_at S (dot ∷ [])) so_far one)
 
--- the first dots that a vector does not cover are those of the first facts
-pub dots_are : (F : FactSet) (v : Vector) (after : Option Dot) (limit : ℕ) → take limit (take (limit + 1) (map dot_of (beyond F v after))) ≡ map dot_of (take limit (beyond F v after))
-dots_are F v after limit = take-take limit (limit + 1) (map dot_of (beyond F v after)) (omega arith) ∙ take-map dot_of limit (beyond F v after)
+-- the first dots that a vector does not cover are those of the first slots
+pub dots_are : (S : Slots) (v : Vector) (after : Option Dot) (limit : ℕ) → take limit (take (limit + 1) (map dot_of (beyond S v after))) ≡ map dot_of (take limit (beyond S v after))
+dots_are S v after limit = take-take limit (limit + 1) (map dot_of (beyond S v after)) (omega arith) ∙ take-map dot_of limit (beyond S v after)
 
--- the facts at the dots of a page are the page's
-page_facts : (F : FactSet) (v : Vector) (after : Option Dot) (limit : ℕ) → facts_at F (map dot_of (take limit (beyond F v after))) ≡ take limit (beyond F v after)
-page_facts F v after limit = facts_at-dots F (take limit (beyond F v after)) (AllIn-take F limit (beyond F v after) (AllIn-beyond F v after))
+all_take : (S : Slots) (n : ℕ) (items : Items) → AllIn S items → AllIn S (take n items)
+all_take S zero items all = tt
+all_take S (suc n) [] all = tt
+all_take S (suc n) (i ∷ more) all = (all.0, all_take S n more all.1)
 
--- one dot more than there is room for shows whether more facts follow
-pub page_more : (fs : Facts) (limit : ℕ) → nat_lt limit (length (take (limit + 1) (map dot_of fs))) ≡ nat_lt limit (length fs)
+-- the items at the dots of a page are the page's
+page_items : (S : Slots) (v : Vector) (after : Option Dot) (limit : ℕ) → items_at S (map dot_of (take limit (beyond S v after))) ≡ take limit (beyond S v after)
+page_items S v after limit = items_at-dots S (take limit (beyond S v after)) (all_take S limit (beyond S v after) (AllIn-beyond S v after))
+
+-- one dot more than there is room for shows whether more follow
+pub page_more : (fs : Items) (limit : ℕ) → nat_lt limit (length (take (limit + 1) (map dot_of fs))) ≡ nat_lt limit (length fs)
 page_more fs limit = ap (nat_lt limit) (length-take (limit + 1) (map dot_of fs) ∙ ap (min (limit + 1)) (length-map fs dot_of)) ∙ same limit (length fs)
   where
     same : (m n : ℕ) → nat_lt m (min (m + 1) n) ≡ nat_lt m n
     same m n = grind (arith, nat_tests)
-
--- ---- a page in bytes
-
-pub page_is : (made : Page) (F : FactSet) (v : Vector) (after : Option Dot) (limit : ℕ) (dots : List Dot) (more : Bool) → dots ≡ map dot_of (take limit (beyond F v after)) → more ≡ nat_lt limit (length (beyond F v after)) → IsPageAt made F dots more → IsPageOf made (page_within limit F v after)
-page_is made F v after limit dots more same follows at =
-    let fs = take limit (beyond F v after) in
-    let count : length dots ≡ length fs = ap length same ∙ length-map fs dot_of in
-    let facts : facts_at F dots ≡ fs = ap (facts_at F) same ∙ page_facts F v after limit in
-    record {
-      bytes = at.bytes ∙ rw (count, facts) refl;
-      count = at.count ∙ count;
-      last = at.last ∙ ap last_of same ∙ ap (λ n. slice_get (map dot_of fs) (n - 1)) (length-map fs dot_of);
-      more = at.more ∙ follows;
-    }
 
 -- ---- the dots of a page rise
 
@@ -117,49 +111,78 @@ pair : (a b : Bool) → T a → T b → T (a && b)
 pair true b p q = q
 pair false b p q = absurd p
 
-below-take : (d : Dot) (n : ℕ) (es : Facts) → T (below_all dot_cmp d es) → T (below_all dot_cmp d (take n es))
+below-take : (d : Dot) (n : ℕ) (es : Items) → T (below_all dot_cmp d es) → T (below_all dot_cmp d (take n es))
 below-take d zero es h = tt
 below-take d (suc n) [] h = tt
 below-take d (suc n) (e ∷ es) h = let p = both _ _ h in pair _ _ p.0 (below-take d n es p.1)
 
-below-filter : (p : Dot × Body → Bool) (d : Dot) (es : Facts) → T (below_all dot_cmp d es) → T (below_all dot_cmp d (filter p es))
+below-filter : (p : Dot × Slot → Bool) (d : Dot) (es : Items) → T (below_all dot_cmp d es) → T (below_all dot_cmp d (filter p es))
 below-filter p d [] h = tt
 below-filter p d (e ∷ es) h =
     let l = both _ _ h in
     elim (p e) as (λ t. T (below_all dot_cmp d (cond t (e ∷ filter p es) (filter p es)))) [ true ↦ pair _ _ l.0 (below-filter p d es l.1) | false ↦ below-filter p d es l.1 ]
 
-sorted-take : (n : ℕ) (es : Facts) → T (sets.is_sorted dot_cmp es) → T (sets.is_sorted dot_cmp (take n es))
+sorted-take : (n : ℕ) (es : Items) → T (sets.is_sorted dot_cmp es) → T (sets.is_sorted dot_cmp (take n es))
 sorted-take zero es h = tt
 sorted-take (suc n) [] h = tt
 sorted-take (suc n) (e ∷ es) h = let p = both _ _ h in pair _ _ (below-take e.0 n es p.0) (sorted-take n es p.1)
 
-sorted-filter : (p : Dot × Body → Bool) (es : Facts) → T (sets.is_sorted dot_cmp es) → T (sets.is_sorted dot_cmp (filter p es))
+sorted-filter : (p : Dot × Slot → Bool) (es : Items) → T (sets.is_sorted dot_cmp es) → T (sets.is_sorted dot_cmp (filter p es))
 sorted-filter p [] h = tt
 sorted-filter p (e ∷ es) h =
     let l = both _ _ h in
     elim (p e) as (λ t. T (sets.is_sorted dot_cmp (cond t (e ∷ filter p es) (filter p es)))) [ true ↦ pair _ _ (below-filter p e.0 es l.0) (sorted-filter p es l.1) | false ↦ sorted-filter p es l.1 ]
 
-ascends_above : (d : Dot) (es : Facts) → T (below_all dot_cmp d es) → T (sets.is_sorted dot_cmp es) → ascends (Some d) es ≡ true
+ascends_above : (d : Dot) (es : Items) → T (below_all dot_cmp d es) → T (sets.is_sorted dot_cmp es) → ascends (Some d) es ≡ true
 ascends_above d [] low sorted = refl
 ascends_above d (e ∷ es) low sorted =
     let l = both _ _ low in
     let s = both _ _ sorted in
     ap (λ t. t && ascends (Some e.0) es) (is_true _ l.0) ∙ ascends_above e.0 es s.0 s.1
 
-ascends_sorted : (es : Facts) → T (sets.is_sorted dot_cmp es) → ascends None es ≡ true
+ascends_sorted : (es : Items) → T (sets.is_sorted dot_cmp es) → ascends None es ≡ true
 ascends_sorted [] sorted = refl
 ascends_sorted (e ∷ es) sorted = let s = both _ _ sorted in ascends_above e.0 es s.0 s.1
 
--- a page has a spelling
-pub page_fits : (F : FactSet) (v : Vector) (after : Option Dot) (limit : ℕ) (dots : List Dot) → limit ≤ most_facts → dots ≡ map dot_of (take limit (beyond F v after)) → AllByRecursion framed.Fits (facts_at F dots) → bundle.Fits (take limit (beyond F v after))
-page_fits F v after limit dots low same fits =
-    let fs = take limit (beyond F v after) in
-    let facts : facts_at F dots ≡ fs = ap (facts_at F) same ∙ page_facts F v after limit in
-    let short : length fs ≤ most_facts = omega (arith, length-take limit (beyond F v after)) in
-    (((small (length fs) short, few (length fs) short), subst (AllByRecursion framed.Fits) facts fits), ascends_sorted fs (sorted-take limit (beyond F v after) (sorted-filter (is_beyond v) (above F after) (sorted-filter (is_above after) (sets.entries F) (sets.entries_sorted F)))))
+-- ---- a page in bytes
+
+-- the newest kind tells whether a mark is among the items
+horizon_is : (horizon : ℕ) (items : Items) → horizon_by (newest_kind 0 items) horizon ≡ horizon_with horizon items
+horizon_is horizon items = ap (λ t. cond t (Some horizon) None) (mark_told items)
+
+pub page_is : (made : Page) (P : StoreFields) (v : Vector) (after : Option Dot) (limit : ℕ) (dots : List Dot) (more : Bool) → dots ≡ map dot_of (take limit (beyond P.slots v after)) → more ≡ nat_lt limit (length (beyond P.slots v after)) → IsPageAt made P dots more → IsPageOf made (page_within limit P v after)
+page_is made P v after limit dots more same follows at =
+    let found = take limit (beyond P.slots v after) in
+    let count : length dots ≡ length found = ap length same ∙ length-map found dot_of in
+    let items : items_at P.slots dots ≡ found = ap (items_at P.slots) same ∙ page_items P.slots v after limit in
+    record {
+      bytes = at.bytes ∙ rw (count, items) (rw (horizon_is P.horizon found) refl);
+      count = at.count ∙ count;
+      last = at.last ∙ ap last_of same ∙ ap (λ n. slice_get (map dot_of found) (n - 1)) (length-map found dot_of);
+      more = at.more ∙ follows;
+    }
+
+-- a page has a horizon exactly if its version has one
+horizon_fits : (horizon : ℕ) (items : Items) → moment.Fits horizon → HorizonFits (version_of items) (horizon_with horizon items)
+horizon_fits horizon items fits = by_mark (list_any is_mark items) (horizon_told items)
   where
-    small : (n : ℕ) → n ≤ most_facts → n < 2 ^ 16
+    by_mark : (t : Bool) → has_horizon (version_of items) ≡ t → HorizonFits (version_of items) (cond t (Some horizon) None)
+    by_mark true is = (fits, is)
+    by_mark false is = is
+
+-- a page has a spelling
+pub page_fits : (P : StoreFields) (v : Vector) (after : Option Dot) (limit : ℕ) (dots : List Dot) → limit ≤ most_items → dots ≡ map dot_of (take limit (beyond P.slots v after)) → moment.Fits P.horizon → AllByRecursion item.Fits (items_at P.slots dots) → bundle.Fits (page_within limit P v after).bundle
+page_fits P v after limit dots low same horizon fits =
+    let found = take limit (beyond P.slots v after) in
+    let items : items_at P.slots dots ≡ found = ap (items_at P.slots) same ∙ page_items P.slots v after limit in
+    let short : length found ≤ most_items = omega (arith, length-take limit (beyond P.slots v after)) in
+    (
+      (horizon_fits P.horizon found horizon, ((small (length found) short, few (length found) short), subst (AllByRecursion item.Fits) items fits)),
+      ascends_sorted found (sorted-take limit (beyond P.slots v after) (sorted-filter (is_beyond v) (above P.slots after) (sorted-filter (is_above after) (sets.entries P.slots) (sets.entries_sorted P.slots)))),
+    )
+  where
+    small : (n : ℕ) → n ≤ most_items → n < 2 ^ 16
     small n h = omega arith
 
-    few : (n : ℕ) → n ≤ most_facts → nat_le n most_facts ≡ true
+    few : (n : ℕ) → n ≤ most_items → nat_le n most_items ≡ true
     few n h = grind (arith, nat_tests)

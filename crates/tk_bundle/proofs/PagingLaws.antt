@@ -1,13 +1,14 @@
 -- Paging by the flag `more` is the paging of tk_store. Key result: complete, paging loses nothing.
-use Rattle.std.proofs.Common.{◌≡◌, ℕ, ◌<◌, ◌≤◌, true, false, nat_lt, List, [], ◌∷◌, Option, None, arith}
+use Rattle.std.proofs.Common.{◌≡◌, ℕ, ◌<◌, ◌≤◌, true, false, nat_lt, List, [], ◌∷◌, Option, None, map, arith}
 use Rattle.std.proofs.lemmas.Bool.Decides.{nat_tests}
 use Rattle.tk_handle.specs.declared.dot.Dot.{Dot}
 use Rattle.tk_vector.specs.VersionVector.{Vector}
-use Rattle.tk_store.specs.FactSet.{FactSet}
 use Rattle.tk_store.specs.Paging.{TookPages}
+use Rattle.tk_store.specs.Slots.{Slots}
+use Rattle.tk_store.specs.StoreFields.{StoreFields}
 use Rattle.tk_store.proofs.PagingLaws as store
-use Rattle.tk_bundle.specs.Bundle.{most_facts}
-use Rattle.tk_bundle.specs.Paging.{HoldsPages, PagesComplete}
+use Rattle.tk_bundle.specs.Bundle.{most_items}
+use Rattle.tk_bundle.specs.Paging.{HasPages, PagesComplete}
 
 ended : (limit n : ℕ) → nat_lt limit n ≡ false → n ≤ limit
 ended limit n h = grind (arith, nat_tests)
@@ -15,9 +16,12 @@ ended limit n h = grind (arith, nat_tests)
 follows : (limit n : ℕ) → nat_lt limit n ≡ true → limit < n
 follows limit n h = grind (arith, nat_tests)
 
-took : (v : Vector) (R : FactSet) (later : List FactSet) (after : Option Dot) (F : FactSet) → HoldsPages v R after F later → TookPages most_facts v R after F later
-took v R [] after F h = (h.0, ended _ _ h.1)
-took v R (G ∷ later) after F h = (h.0, follows _ _ h.1, h.2, took v R later _ G h.3)
+abbrev slots_of : StoreFields → Slots
+slots_of P = P.slots
+
+took : (v : Vector) (R : Slots) (later : List StoreFields) (after : Option Dot) (P : StoreFields) → HasPages v R after P later → TookPages most_items v R after P.slots (map slots_of later)
+took v R [] after P h = (h.0, ended _ _ h.1)
+took v R (Q ∷ later) after P h = (h.0, follows _ _ h.1, h.2, took v R later _ Q h.3)
 
 pub complete : PagesComplete
-complete v F R later held pages = store.complete most_facts v F R later (omega arith) held (took v R later None F pages)
+complete v P R later known pages = store.complete most_items v P.slots R.slots (map slots_of later) (omega arith) known (took v R.slots later None P pages)

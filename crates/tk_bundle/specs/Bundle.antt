@@ -1,69 +1,96 @@
--- A bundle's bytes (own): the magic, a digit for the version, a count, and the facts behind their
--- lengths, strictly ascending by dot.
+-- A bundle's bytes (own): the magic, a digit for the version, the horizon if the version has one, a
+-- count, and the items behind their lengths, strictly ascending by dot.
 --   magic           the bytes with which a bundle begins
---   most_facts      the greatest number of facts in a bundle
+--   most_items      the greatest number of items in a bundle
 --   ascends         the dots of a list rise
 --   marked          a value behind a byte that the value determines
---   bundle          the spelling of a list of facts
+--   bundle          the spelling of a bundle
 --   bundle_bytes    the bytes of a bundle
---   SignOutsTold    a bundle's first four bytes show whether one of its facts is a sign-out
-use Rattle.std.specs.Prelude.{◌≡◌, ℕ, Bool, true, ◌&&◌, nat_le, ◌==◌, List, [], ◌∷◌, ◌++◌, take}
+--   VersionsTold    a bundle's first four bytes show whether marks and sign-outs are among its items
+use Rattle.std.specs.Prelude.{◌≡◌, ℕ, Bool, true, false, ◌&&◌, nat_le, ◌==◌, List, [], ◌∷◌, ◌++◌, take}
 use Rattle.std.specs.Prelude.{Option, Some, None, if◌then◌else◌}
 use Rattle.std.specs.Int.{w16}
 use Rattle.std.specs.List.{list_any}
+use Rattle.std.specs.Option.{option_map_or}
 use Rattle.std.specs.Ordering.{is_lt}
-use Rattle.tk_format.specs.Format.{◌>>=◌, Format, number, byte, only, after, counted}
+use Rattle.tk_format.specs.Format.{◌>>=◌, ◌⊗◌, Format, number, byte, only, after, counted, shaped}
 use Rattle.tk_handle.specs.declared.dot.Dot.{Dot}
 use Rattle.tk_handle.specs.Dot.{dot_cmp}
-use Rattle.tk_fact.specs.FactBytes.{framed}
-use Rattle.tk_store.specs.FactSet.{Facts}
-use Rattle.tk_bundle.specs.Versions.{version_of, is_sign_out}
+use Rattle.tk_handle.specs.Moment.{moment}
+use Rattle.tk_bundle.specs.BundleFields.{BundleFields, Items, is_mark}
+use Rattle.tk_bundle.specs.Items.{item}
+use Rattle.tk_bundle.specs.Versions.{version_of, has_horizon, is_sign_out}
 
 -- the dots of the list rise, and are above the given dot, if one is given
-abbrev pub ascends : Option Dot → Facts → Bool
+abbrev pub ascends : Option Dot → Items → Bool
 ascends last [] = true
-ascends None (f ∷ fs) = ascends (Some f.0) fs
-ascends (Some d) (f ∷ fs) = is_lt (dot_cmp d f.0) && ascends (Some f.0) fs
+ascends None (i ∷ more) = ascends (Some i.0) more
+ascends (Some d) (i ∷ more) = is_lt (dot_cmp d i.0) && ascends (Some i.0) more
 
 -- the letters OTB
 abbrev pub magic : List ℕ
 magic = 79 ∷ 84 ∷ 66 ∷ []
 
--- the greatest number of facts in a bundle
-abbrev pub most_facts : ℕ
-most_facts = 128
+-- the greatest number of items in a bundle
+abbrev pub most_items : ℕ
+most_items = 128
 
--- a value behind a byte that the value determines by `mark`
-abbrev pub marked : {A : Type 0} → (A → ℕ) → Format A → Format A
+-- a value behind a byte that the value determines by `mark`; the byte determines the format
+abbrev pub marked : {A : Type 0} → (A → ℕ) → (ℕ → Format A) → Format A
 marked mark f = record {
-  spell = λ a. mark a ∷ f.spell a;
-  Fits = f.Fits;
-  read = λ bytes. byte.read bytes >>= λ m. f.read m.1 >>= λ a. if m.0 == mark a.0 then Some a
-      else None;
+  spell = λ a. mark a ∷ (f (mark a)).spell a;
+  Fits = λ a. (f (mark a)).Fits a;
+  read = λ bytes. byte.read bytes >>= λ m. (f m.0).read m.1 >>= λ a. if m.0 == mark a.0
+      then Some a else None;
 }
 
--- a count of at most 128, and that many facts, each behind its length
-abbrev pub counted_facts : Format Facts
-counted_facts = counted (only (λ n. nat_le n most_facts) (number w16)) framed
+-- a count of at most 128, and that many items, each behind its length
+abbrev pub counted_items : Format Items
+counted_items = counted (only (λ n. nat_le n most_items) (number w16)) item
 
--- the digit of the version of the facts, and the facts behind their count
-abbrev pub versioned : Format Facts
-versioned = marked version_of counted_facts
+-- the bytes of a horizon, if there is one
+abbrev pub horizon_bytes : Option ℕ → List ℕ
+horizon_bytes horizon = option_map_or moment.spell horizon []
 
--- the magic, and the facts behind their version
-abbrev pub listed : Format Facts
+-- a horizon is there exactly if the version has one
+abbrev pub HorizonFits : ℕ → Option ℕ → Type 0
+HorizonFits digit None = has_horizon digit ≡ false
+HorizonFits digit (Some horizon) = moment.Fits horizon × (has_horizon digit ≡ true)
+
+-- the horizon of a bundle, a moment, if the version has one
+abbrev pub horizon_field : ℕ → Format (Option ℕ)
+horizon_field digit = record {
+  spell = horizon_bytes;
+  Fits = HorizonFits digit;
+  read = λ bytes. if has_horizon digit then (moment.read bytes >>= λ m. Some (Some m.0, m.1))
+      else Some (None, bytes);
+}
+
+-- the horizon and the items of a bundle of this version
+abbrev pub contents : ℕ → Format BundleFields
+contents digit = shaped (λ p. record { horizon = p.0; items = p.1 }) (λ b. (b.horizon, b.items))
+    (horizon_field digit ⊗ counted_items)
+
+-- the digit of the version of the items, and what follows it
+abbrev pub versioned : Format BundleFields
+versioned = marked (λ b. version_of b.items) contents
+
+-- the magic, and what is behind it
+abbrev pub listed : Format BundleFields
 listed = after magic versioned
 
--- the spelling of a bundle: facts that rise by dot, behind the magic
-abbrev pub bundle : Format Facts
-bundle = only (ascends None) listed
+-- the spelling of a bundle: items that rise by dot, behind the magic
+abbrev pub bundle : Format BundleFields
+bundle = only (λ b. ascends None b.items) listed
 
 -- the bytes of a bundle
-abbrev pub bundle_bytes : Facts → List ℕ
-bundle_bytes fs = bundle.spell fs
+abbrev pub bundle_bytes : BundleFields → List ℕ
+bundle_bytes b = bundle.spell b
 
--- a bundle begins with OTB2 if one of its facts is a sign-out, otherwise with OTB1
-abbrev pub SignOutsTold : Type 0
-SignOutsTold =
-    (fs : Facts) → take 4 (bundle_bytes fs) ≡ magic ++ (if list_any is_sign_out fs then 50 else 49)
+-- a bundle begins with OTB3 if one of its items is a mark, otherwise with OTB2 if one is a sign-out,
+-- otherwise with OTB1
+abbrev pub VersionsTold : Type 0
+VersionsTold =
+    (b : BundleFields) → take 4 (bundle_bytes b) ≡ magic
+    ++ (if list_any is_mark b.items then 51 else if list_any is_sign_out b.items then 50 else 49)
     ∷ []

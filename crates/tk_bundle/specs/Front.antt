@@ -1,6 +1,7 @@
 -- The walk over the lengths of the bundle at the front of bytes (own).
---   header       the bytes of a bundle before its facts
---   skipped      the bytes behind one fact
+--   opening      the magic and the digit with which a bundle begins
+--   header       the bytes behind the digit, before the items
+--   skipped      the bytes behind one item
 --   walk         the bytes behind the bundle, or the error of the walk
 --   IsCut        the walk runs out of bytes
 --   Walks        how a walk of the code meets `walk`
@@ -14,9 +15,9 @@ use Rattle.tk_format.specs.declared.error.ReadError.{ReadError}
 use Rattle.tk_format.specs.declared.error.ReadError.TheVariants as read
 use Rattle.tk_format.specs.Format.{Format, ◌⊗◌, number, byte, bytes_of}
 use Rattle.tk_fact.specs.FactBytes.{most_bytes}
-use Rattle.tk_bundle.specs.Versions.{is_version}
-use Rattle.tk_bundle.specs.Bundle.{magic, most_facts, bundle}
-use Rattle.tk_store.specs.FactSet.{Facts}
+use Rattle.tk_bundle.specs.BundleFields.{BundleFields}
+use Rattle.tk_bundle.specs.Versions.{is_version, has_horizon}
+use Rattle.tk_bundle.specs.Bundle.{magic, most_items, bundle}
 use Rattle.tk_bundle.specs.declared.error.FrontError.{FrontError}
 use Rattle.tk_bundle.specs.declared.error.FrontError.TheVariants.{Malformed, Memory, Cut}
 
@@ -36,11 +37,27 @@ or_cut (Some x) = Ok x
 abbrev pub malformed_if : {A : Type 0} → Bool → Result A FrontError → Result A FrontError
 malformed_if test others = if test then Err Malformed else others
 
--- the bytes of a bundle before its facts: the magic, a digit, and a count
-abbrev pub header : Format (List ℕ × (ℕ × ℕ))
-header = bytes_of (length magic) ⊗ (byte ⊗ number w16)
+-- Cut if the test holds, otherwise the given walk
+abbrev pub cut_if : {A : Type 0} → Bool → Result A FrontError → Result A FrontError
+cut_if test others = if test then Err Cut else others
 
--- the bytes behind one fact and its length
+-- the magic and the digit of a version
+abbrev pub opening : Format (List ℕ × ℕ)
+opening = bytes_of (length magic) ⊗ byte
+
+-- the least number of bytes before the items: the magic, a digit, and a count
+abbrev pub least_header : ℕ
+least_header = 6
+
+-- the number of bytes of the horizon, if the version has one
+abbrev pub horizon_size : ℕ → ℕ
+horizon_size digit = if has_horizon digit then 8 else 0
+
+-- the bytes of a horizon, if the version has one, and a count
+abbrev pub header : ℕ → Format (List ℕ × ℕ)
+header digit = bytes_of (horizon_size digit) ⊗ number w16
+
+-- the bytes behind one item and its length
 abbrev pub skipped : List ℕ → Result (List ℕ) FrontError
 skipped bytes =
     -- no whole length is left: Cut
@@ -50,24 +67,27 @@ skipped bytes =
     -- fewer bytes than the length are left: Cut
     (or_cut ((bytes_of size.0).read size.1) >>= λ skip. Ok skip.1)
 
--- the bytes behind n facts
+-- the bytes behind n items
 unfoldable pub skipped_many : ℕ → List ℕ → Result (List ℕ) FrontError
 skipped_many zero bytes = Ok bytes
 skipped_many (suc n) bytes = skipped bytes >>= λ rest. skipped_many n rest
 
--- the walk over a bundle: the header, and as many facts as it counts
+-- the walk over a bundle: the opening, the header, and as many items as it counts
 abbrev pub walk : List ℕ → Result (List ℕ) FrontError
 walk bytes =
     -- fewer than six bytes: Cut
-    or_cut (header.read bytes) >>= λ front.
+    cut_if (nat_lt (length bytes) least_header)
+    (or_cut (opening.read bytes) >>= λ front.
     -- another magic: Malformed
     malformed_if (not (bytes_eq front.0.0 magic))
     -- the digit of no version: Malformed
-    (malformed_if (not (is_version front.0.1.0))
+    (malformed_if (not (is_version front.0.1))
+    -- fewer bytes than the horizon and a count have: Cut
+    (or_cut ((header front.0.1).read front.1) >>= λ head.
     -- a count above 128: Malformed
-    (malformed_if (nat_lt most_facts front.0.1.1)
-    -- otherwise the walk over the facts
-    (skipped_many front.0.1.1 front.1)))
+    malformed_if (nat_lt most_items head.0.1)
+    -- otherwise the walk over the items
+    (skipped_many head.0.1 head.1))))
 
 -- the walk runs out of bytes
 abbrev pub IsCut : List ℕ → Type 0
@@ -78,12 +98,12 @@ abbrev pub Walks : {X : Type 0} → Result X FrontError → Result (List ℕ) Fr
 Walks (Ok x) walked new = walked ≡ Ok new
 Walks (Err e) walked new = walked ≡ Err e
 
--- the facts, and the length of their spelling, were read, unless memory ran out
-abbrev pub IsFrontOf : Result (Facts × ℕ) FrontError → Facts → Type 0
-IsFrontOf (Ok x) fs = (x.0 ≡ fs) × (x.1 ≡ length (bundle.spell fs))
-IsFrontOf (Err Memory) fs = Unit {0}
-IsFrontOf (Err Malformed) fs = ⊥
-IsFrontOf (Err Cut) fs = ⊥
+-- the bundle, and the length of its spelling, was read, unless memory ran out
+abbrev pub IsFrontOf : Result (BundleFields × ℕ) FrontError → BundleFields → Type 0
+IsFrontOf (Ok x) b = (x.0 ≡ b) × (x.1 ≡ length (bundle.spell b))
+IsFrontOf (Err Memory) b = Unit {0}
+IsFrontOf (Err Malformed) b = ⊥
+IsFrontOf (Err Cut) b = ⊥
 
 -- the error of a front that has the lengths of a bundle but can't be read
 abbrev pub unread : ReadError → FrontError

@@ -1,5 +1,5 @@
 -- The walk over the lengths of a bundle at the front of bytes. Key results:
---   walk_more, walk_fail, walk_done   one step of the walk over facts
+--   walk_more, walk_fail, walk_done   one step of the walk over items
 --   walk_ends      the walk leaves the end of the bytes
 --   walk_bundle    a bundle at the front is walked over
 --   walk_torn      the beginning of a bundle, unless it is the whole bundle, is cut
@@ -9,7 +9,7 @@ use Rattle.std.proofs.Common.{◌≡◌, ◌≢◌, ℕ, zero, suc, ◌+◌, ◌
 use Rattle.std.proofs.Common.{not, ltb, List, [], ◌∷◌, ◌++◌, length, take, drop, Option, Some, None}
 use Rattle.std.proofs.Common.{Result, Ok, Err, refl, sym, ap, subst, ◌∙◌, append_assoc, arith}
 use Rattle.std.specs.Str.{bytes_eq}
-use Rattle.std.specs.Int.{w16, from_be_bytes}
+use Rattle.std.specs.Int.{w16, w64, from_be_bytes}
 use Rattle.std.specs.List.{flat_map, AllByRecursion}
 use Rattle.std.proofs.lemmas.List.{take_at, take-append-le, drop-append-le, length-append}
 use Rattle.std.proofs.lemmas.List.{append-nil}
@@ -19,19 +19,23 @@ use Rattle.tk_format.specs.Format.{bytes_of, text_spelling}
 use Rattle.tk_format.specs.Laws.{byte_exact, u16_exact, bytes_exact, both_exact}
 use Rattle.tk_format.specs.Exact.{IsBytes, IsExact, Takes, Takes-then, bind_some, guard_some}
 use Rattle.tk_format.specs.Exact.{some_is, prefix_free}
+use Rattle.tk_format.specs.Spellings.{number_length}
 use Rattle.tk_bundle.specs.BundleLaws.{bundle_exact}
 use Rattle.tk_bundle.specs.declared.error.FrontError.{FrontError}
 use Rattle.tk_bundle.specs.declared.error.FrontError.TheVariants.{Malformed, Memory, Cut}
 use Rattle.std.proofs.lemmas.List.Concat.{flat_map-cons}
 use borrow.Author.Tests.{leb-true}
 use Rattle.tk_handle.specs.declared.dot.Dot.{Dot}
-use Rattle.tk_fact.specs.declared.body.Body.{Body}
-use Rattle.tk_store.specs.FactSet.{Facts}
-use Rattle.tk_fact.specs.FactBytes.{fact, most_bytes, framed}
-use Rattle.tk_bundle.specs.Versions.{version_of, is_version}
+use Rattle.tk_handle.specs.Moment.{moment}
+use Rattle.tk_fact.specs.FactBytes.{most_bytes}
+use Rattle.tk_store.specs.Slots.{Slot}
+use Rattle.tk_bundle.specs.BundleFields.{BundleFields, Items}
+use Rattle.tk_bundle.specs.Items.{item_bytes, item}
+use Rattle.tk_bundle.specs.Versions.{version_of, is_version, has_horizon}
 use Rattle.tk_bundle.specs.VersionLaws.{version_known}
-use Rattle.tk_bundle.specs.Bundle.{magic, most_facts, bundle}
-use Rattle.tk_bundle.specs.Front.{◌>>=◌, or_cut, malformed_if, header, skipped, skipped_many, walk}
+use Rattle.tk_bundle.specs.Bundle.{magic, most_items, bundle, horizon_bytes, HorizonFits}
+use Rattle.tk_bundle.specs.Front.{◌>>=◌, or_cut, malformed_if, cut_if, opening, least_header}
+use Rattle.tk_bundle.specs.Front.{horizon_size, header, skipped, skipped_many, walk}
 
 pub walk_more : (count i : ℕ) (now next : List ℕ) (total : Result (List ℕ) FrontError) → i < count
     → skipped now ≡ Ok next → skipped_many (count - i) now ≡ total
@@ -116,32 +120,45 @@ many_end (suc n) bytes rest fits e =
     let first = skipped_ends bytes a.0 fits a.1 in
     Ends-then bytes first.0 a.0 rest first.1 (many_end n a.0 rest first.1.rest_fits a.2)
 
-header_exact : IsExact header
-header_exact = both_exact _ _ (bytes_exact (length magic)) (both_exact _ _ byte_exact u16_exact)
+-- the walk behind the header, and behind the opening
+abbrev counted_rest : (List ℕ × ℕ) × List ℕ → Result (List ℕ) FrontError
+counted_rest h = malformed_if (ltb most_items h.0.1) (skipped_many h.0.1 h.1)
+
+abbrev opened : (List ℕ × ℕ) × List ℕ → Result (List ℕ) FrontError
+opened f = malformed_if (not (bytes_eq f.0.0 magic)) (malformed_if (not (is_version f.0.1))
+    (or_cut ((header f.0.1).read f.1) >>= counted_rest))
+
+opening_exact : IsExact opening
+opening_exact = both_exact _ _ (bytes_exact (length magic)) byte_exact
+
+header_exact : (digit : ℕ) → IsExact (header digit)
+header_exact digit = both_exact _ _ (bytes_exact (horizon_size digit)) u16_exact
 
 pub walk_ends : (bytes rest : List ℕ) → IsBytes bytes → walk bytes ≡ Ok rest → Ends bytes rest
 walk_ends bytes rest fits e =
-    let h = bind_ok (or_cut (header.read bytes)) (λ h.
-    malformed_if (not (bytes_eq h.0.0 magic)) (malformed_if (not (is_version h.0.1.0))
-    (malformed_if (ltb most_facts h.0.1.1) (skipped_many h.0.1.1 h.1)))) rest e in
-    let first = header_exact.takes bytes h.0 fits (cut_ok _ h.0 h.1) in
-    let count = h.0.0.1.1 in
-    let p = test_ok (not (bytes_eq h.0.0.0 magic)) Malformed
-    (malformed_if (not (is_version h.0.0.1.0))
-    (malformed_if (ltb most_facts count) (skipped_many count h.0.1))) rest h.2 in
-    let v = test_ok (not (is_version h.0.0.1.0)) Malformed
-    (malformed_if (ltb most_facts count) (skipped_many count h.0.1)) rest p.1 in
-    let t = test_ok (ltb most_facts count) Malformed (skipped_many count h.0.1) rest v.1 in
-    Ends-then bytes (header.spell h.0.0) h.0.1 rest first.0
-    (many_end count h.0.1 rest first.0.rest_fits t.1)
+    let s = test_ok (ltb (length bytes) least_header) Cut (or_cut (opening.read bytes) >>= opened) rest
+    e in
+    let f = bind_ok (or_cut (opening.read bytes)) opened rest s.1 in
+    let first = opening_exact.takes bytes f.0 fits (cut_ok _ f.0 f.1) in
+    let digit = f.0.0.1 in
+    let p = test_ok (not (bytes_eq f.0.0.0 magic)) Malformed (malformed_if (not (is_version digit))
+    (or_cut ((header digit).read f.0.1) >>= counted_rest)) rest f.2 in
+    let v = test_ok (not (is_version digit)) Malformed
+    (or_cut ((header digit).read f.0.1) >>= counted_rest) rest p.1 in
+    let h = bind_ok (or_cut ((header digit).read f.0.1)) counted_rest rest v.1 in
+    let second = (header_exact digit).takes f.0.1 h.0 first.0.rest_fits (cut_ok _ h.0 h.1) in
+    let count = h.0.0.1 in
+    let t = test_ok (ltb most_items count) Malformed (skipped_many count h.0.1) rest h.2 in
+    Ends-then bytes (opening.spell f.0.0) f.0.1 rest first.0
+    (Ends-then f.0.1 ((header digit).spell h.0.0) h.0.1 rest second.0
+    (many_end count h.0.1 rest second.0.rest_fits t.1))
 
 -- ---- a bundle at the front is walked over
 
-skipped_framed : (f : Dot × Body) (rest : List ℕ) → framed.Fits f → skipped (framed.spell f ++ rest)
-    ≡ Ok rest
+skipped_item : (i : Dot × Slot) (rest : List ℕ) → item.Fits i → skipped (item.spell i ++ rest) ≡ Ok rest
 unfolding text_spelling
-skipped_framed f rest fits =
-    let s = fact.spell f in
+skipped_item i rest fits =
+    let s = item_bytes i in
     let small : ltb most_bytes (length s) ≡ false =
     le-ltb most_bytes (length s) (leb-true (length s) most_bytes fits.1.1) in
     ap skipped (append_assoc (number_spelling w16 (length s)) s rest)
@@ -151,34 +168,54 @@ skipped_framed f rest fits =
       (bytes_exact (length s)).again s rest refl,
     ) refl
 
-many_framed : (fs : Facts) (rest : List ℕ) → AllByRecursion framed.Fits fs
-    → skipped_many (length fs) (flat_map framed.spell fs ++ rest) ≡ Ok rest
+many_items : (items : Items) (rest : List ℕ) → AllByRecursion item.Fits items
+    → skipped_many (length items) (flat_map item.spell items ++ rest) ≡ Ok rest
 unfolding skipped_many
-many_framed [] rest fits = refl
-many_framed (f ∷ fs) rest fits =
-    let regrouped : flat_map framed.spell (f ∷ fs) ++ rest ≡ framed.spell f
-    ++ (flat_map framed.spell fs ++ rest) =
-    ap (λ (t : List ℕ). t ++ rest) (flat_map-cons framed.spell f fs)
-    ∙ append_assoc (framed.spell f) (flat_map framed.spell fs) rest in
-    ap (skipped_many (suc (length fs))) regrouped
-    ∙ rw (skipped_framed f (flat_map framed.spell fs ++ rest) fits.0)
-    (many_framed fs rest fits.1)
+many_items [] rest fits = refl
+many_items (i ∷ more) rest fits =
+    let regrouped : flat_map item.spell (i ∷ more) ++ rest ≡ item.spell i
+    ++ (flat_map item.spell more ++ rest) =
+    ap (λ (t : List ℕ). t ++ rest) (flat_map-cons item.spell i more)
+    ∙ append_assoc (item.spell i) (flat_map item.spell more) rest in
+    ap (skipped_many (suc (length more))) regrouped
+    ∙ rw (skipped_item i (flat_map item.spell more ++ rest) fits.0)
+    (many_items more rest fits.1)
 
-pub walk_bundle : (fs : Facts) (rest : List ℕ) → bundle.Fits fs
-    → walk (bundle.spell fs ++ rest) ≡ Ok rest
-walk_bundle fs rest fits =
-    let count = number_spelling w16 (length fs) in
-    let facts = flat_map framed.spell fs in
-    let small : ltb most_facts (length fs) ≡ false =
-    le-ltb most_facts (length fs) (leb-true (length fs) most_facts fits.0.0.1) in
-    let behind = version_of fs ∷ count ++ (facts ++ rest) in
-    ap walk (ap (λ (t : List ℕ). magic ++ (version_of fs ∷ t)) (append_assoc count facts rest))
+horizon_length : (digit : ℕ) (o : Option ℕ) → HorizonFits digit o
+    → length (horizon_bytes o) ≡ horizon_size digit
+horizon_length digit None fits = rw fits refl
+horizon_length digit (Some h) fits = rw fits.1 (number_length w64 h)
+
+pub walk_bundle : (b : BundleFields) (rest : List ℕ) → bundle.Fits b
+    → walk (bundle.spell b ++ rest) ≡ Ok rest
+walk_bundle b rest fits =
+    let digit = version_of b.items in
+    let horizon = horizon_bytes b.horizon in
+    let count = number_spelling w16 (length b.items) in
+    let items = flat_map item.spell b.items in
+    let regrouped : (horizon ++ (count ++ items)) ++ rest ≡ horizon ++ (count ++ (items ++ rest)) =
+    append_assoc horizon (count ++ items) rest
+    ∙ ap (λ (t : List ℕ). horizon ++ t) (append_assoc count items rest) in
+    let few : ltb most_items (length b.items) ≡ false =
+    le-ltb most_items (length b.items) (leb-true (length b.items) most_items fits.0.1.0.1) in
+    let behind = digit ∷ horizon ++ (count ++ (items ++ rest)) in
+    let long : ltb (length (magic ++ behind)) least_header ≡ false =
+    le-ltb (length (magic ++ behind)) least_header (omega (
+      arith,
+      length-append horizon (count ++ (items ++ rest)),
+      length-append count (items ++ rest),
+      number_length w16 (length b.items),
+    )) in
+    ap walk (ap (λ (t : List ℕ). magic ++ (digit ∷ t)) regrouped)
     ∙ rw (
+      long,
       (bytes_exact 3).again magic behind refl,
-      u16_exact.again (length fs) (facts ++ rest) fits.0.0.0,
-      version_known fs,
-      small,
-    ) (many_framed fs rest fits.0.1)
+      version_known b.items,
+      (bytes_exact (horizon_size digit)).again horizon (count ++ (items ++ rest))
+          (horizon_length digit b.horizon fits.0.0),
+      u16_exact.again (length b.items) (items ++ rest) fits.0.1.0.0,
+      few,
+    ) (many_items b.items rest fits.0.1.1)
 
 -- ---- a walk over more bytes, and the walk over the beginning of a bundle
 
@@ -254,27 +291,39 @@ byte_on [] more x e = absurd cc
 byte_on (b ∷ bytes) more x e =
     ap (λ (y : ℕ × List ℕ). Some (y.0, y.1 ++ more)) (some_is (b, bytes) x e)
 
-counting_on : (bytes more : List ℕ) (x : (ℕ × ℕ) × List ℕ) → (byte ⊗ number w16).read bytes ≡ Some x
-    → (byte ⊗ number w16).read (bytes ++ more) ≡ Some (x.0, x.1 ++ more)
-counting_on bytes more x e =
-    let v = bind_some (byte.read bytes) _ x e in
-    let n = bind_some ((number w16).read v.0.1) _ x v.2 in
-    rw (byte_on bytes more v.0 v.1, number_on v.0.1 more n.0 n.1) (ap (λ (y : (ℕ × ℕ) × List ℕ).
-    Some (y.0, y.1 ++ more)) (some_is _ x n.2))
-
-header_on : (bytes more : List ℕ) (x : (List ℕ × (ℕ × ℕ)) × List ℕ) → header.read bytes ≡ Some x
-    → header.read (bytes ++ more) ≡ Some (x.0, x.1 ++ more)
-header_on bytes more x e =
+opening_on : (bytes more : List ℕ) (x : (List ℕ × ℕ) × List ℕ) → opening.read bytes ≡ Some x
+    → opening.read (bytes ++ more) ≡ Some (x.0, x.1 ++ more)
+opening_on bytes more x e =
     let m = bind_some ((bytes_of 3).read bytes) _ x e in
-    let n = bind_some ((byte ⊗ number w16).read m.0.1) _ x m.2 in
-    rw (bytes_on 3 bytes more m.0 m.1, counting_on m.0.1 more n.0 n.1)
-    (ap (λ (y : (List ℕ × (ℕ × ℕ)) × List ℕ). Some (y.0, y.1 ++ more)) (some_is _ x n.2))
+    let v = bind_some (byte.read m.0.1) _ x m.2 in
+    rw (bytes_on 3 bytes more m.0 m.1, byte_on m.0.1 more v.0 v.1)
+    (ap (λ (y : (List ℕ × ℕ) × List ℕ). Some (y.0, y.1 ++ more)) (some_is _ x v.2))
+
+header_on : (digit : ℕ) (bytes more : List ℕ) (x : (List ℕ × ℕ) × List ℕ)
+    → (header digit).read bytes ≡ Some x → (header digit).read (bytes ++ more) ≡ Some (x.0, x.1 ++ more)
+header_on digit bytes more x e =
+    let h = bind_some ((bytes_of (horizon_size digit)).read bytes) _ x e in
+    let n = bind_some ((number w16).read h.0.1) _ x h.2 in
+    rw (bytes_on (horizon_size digit) bytes more h.0 h.1, number_on h.0.1 more n.0 n.1)
+    (ap (λ (y : (List ℕ × ℕ) × List ℕ). Some (y.0, y.1 ++ more)) (some_is _ x n.2))
+
+-- a walk that is cut at once may go on in any way over more bytes
+short_on : (more : List ℕ) (short still : Bool) (r longer : Result (List ℕ) FrontError)
+    → (short ≡ false → still ≡ false) → GoesOn more r longer
+    → GoesOn more (cut_if short r) (cut_if still longer)
+short_on more true still r longer h on = tt
+short_on more false true r longer h on = let e = h refl in absurd cc
+short_on more false false r longer h on = on
 
 walk_goes_on : (bytes more : List ℕ) → GoesOn more (walk bytes) (walk (bytes ++ more))
 walk_goes_on bytes more =
-    read_on more _ _ _ (header_on bytes more) (λ h.
-    unless more (not (bytes_eq h.0.0 magic)) _ _ (unless more (not (is_version h.0.1.0)) _ _
-    (unless more (ltb most_facts h.0.1.1) _ _ (many_on h.0.1.1 h.1 more))))
+    short_on more (ltb (length bytes) least_header) (ltb (length (bytes ++ more)) least_header) _ _
+    (λ long. le-ltb (length (bytes ++ more)) least_header
+    (omega (arith, length-append bytes more, ltb-false (length bytes) least_header long)))
+    (read_on more _ _ opened (opening_on bytes more) (λ f.
+    unless more (not (bytes_eq f.0.0 magic)) _ _ (unless more (not (is_version f.0.1)) _ _
+    (read_on more _ _ counted_rest (header_on f.0.1 f.1 more) (λ h.
+    unless more (ltb most_items h.0.1) _ _ (many_on h.0.1 h.1 more))))))
 
 -- if a walk ends well, the walk over the beginning of the bytes is cut
 cut_before : (more : List ℕ) (r longer : Result (List ℕ) FrontError) → GoesOn more r longer
@@ -289,15 +338,15 @@ cut_before more (Err Malformed) longer h whole some = absurd cc
 cut_before more (Err Cut) longer h whole some = refl
 cut_before more (Err Memory) longer h whole some = absurd h
 
-pub walk_torn : (bytes : List ℕ) (fs : Facts) (rest : List ℕ) → bundle.Fits fs
-    → bytes ++ rest ≡ bundle.spell fs → rest ≢ [] → walk bytes ≡ Err Cut
-walk_torn bytes fs rest fits e some =
+pub walk_torn : (bytes : List ℕ) (b : BundleFields) (rest : List ℕ) → bundle.Fits b
+    → bytes ++ rest ≡ bundle.spell b → rest ≢ [] → walk bytes ≡ Err Cut
+walk_torn bytes b rest fits e some =
     cut_before rest (walk bytes) (walk (bytes ++ rest)) (walk_goes_on bytes rest)
-    (ap walk (e ∙ sym (append-nil (bundle.spell fs))) ∙ walk_bundle fs [] fits) some
+    (ap walk (e ∙ sym (append-nil (bundle.spell b))) ∙ walk_bundle b [] fits) some
 
-pub torn_walked : (bytes left : List ℕ) (fs : Facts) (rest : List ℕ) → walk bytes ≡ Ok left
-    → bundle.Fits fs → bytes ++ rest ≡ bundle.spell fs → rest ≢ [] → ⊥
-torn_walked bytes left fs rest ok fits e some = let t = walk_torn bytes fs rest fits e some in cc
+pub torn_walked : (bytes left : List ℕ) (b : BundleFields) (rest : List ℕ) → walk bytes ≡ Ok left
+    → bundle.Fits b → bytes ++ rest ≡ bundle.spell b → rest ≢ [] → ⊥
+torn_walked bytes left b rest ok fits e some = let t = walk_torn bytes b rest fits e some in cc
 
 -- ---- the bytes before the rest
 
@@ -313,32 +362,32 @@ Ends-take bytes rest p =
     ∙ take_at front rest (length bytes - length rest) (sym n) in
     (ap (λ (t : List ℕ). t ++ rest) taken ∙ sym p.1.parts, omega arith)
 
-pub front_refused : (bytes : List ℕ) (d : FrontError) (fs : Facts) (rest : List ℕ)
-    → walk bytes ≡ Err d → bundle.Fits fs → bytes ≡ bundle.spell fs ++ rest → ⊥
-front_refused bytes d fs rest refused fits e = let t = ap walk e ∙ walk_bundle fs rest fits in cc
+pub front_refused : (bytes : List ℕ) (d : FrontError) (b : BundleFields) (rest : List ℕ)
+    → walk bytes ≡ Err d → bundle.Fits b → bytes ≡ bundle.spell b ++ rest → ⊥
+front_refused bytes d b rest refused fits e = let t = ap walk e ∙ walk_bundle b rest fits in cc
 
-pub front_split : (bytes left : List ℕ) (fs : Facts) (rest : List ℕ) → walk bytes ≡ Ok left
-    → bundle.Fits fs → bytes ≡ bundle.spell fs ++ rest
-    → (take (length bytes - length left) bytes ≡ bundle.spell fs)
-    × (length bytes - length left ≡ length (bundle.spell fs))
-front_split bytes left fs rest ok fits e =
-    let same : left ≡ rest = ok_is left rest (sym ok ∙ ap walk e ∙ walk_bundle fs rest fits) in
-    let sizes : length bytes ≡ length (bundle.spell fs) + length rest =
-    ap length e ∙ length-append (bundle.spell fs) rest in
-    let n : length bytes - length left ≡ length (bundle.spell fs) =
+pub front_split : (bytes left : List ℕ) (b : BundleFields) (rest : List ℕ) → walk bytes ≡ Ok left
+    → bundle.Fits b → bytes ≡ bundle.spell b ++ rest
+    → (take (length bytes - length left) bytes ≡ bundle.spell b)
+    × (length bytes - length left ≡ length (bundle.spell b))
+front_split bytes left b rest ok fits e =
+    let same : left ≡ rest = ok_is left rest (sym ok ∙ ap walk e ∙ walk_bundle b rest fits) in
+    let sizes : length bytes ≡ length (bundle.spell b) + length rest =
+    ap length e ∙ length-append (bundle.spell b) rest in
+    let n : length bytes - length left ≡ length (bundle.spell b) =
     omega (arith, ap length same) in (
       ap (take (length bytes - length left)) e
-          ∙ take_at (bundle.spell fs) rest (length bytes - length left) (sym n),
+          ∙ take_at (bundle.spell b) rest (length bytes - length left) (sym n),
       n,
     )
 
-pub front_is : (bytes left : List ℕ) (b fs : Facts) (rest : List ℕ) → walk bytes ≡ Ok left
-    → bundle.Fits b → take (length bytes - length left) bytes ≡ bundle.spell b → bundle.Fits fs
-    → bytes ≡ bundle.spell fs ++ rest
-    → (b ≡ fs) × (length bytes - length left ≡ length (bundle.spell fs))
-front_is bytes left b fs rest ok fb taken fits e =
-    let s = front_split bytes left fs rest ok fits e in (
-      (prefix_free bundle bundle_exact b fs [] [] fb fits (ap (λ (t : List ℕ). t ++ []) (sym taken
+pub front_is : (bytes left : List ℕ) (a b : BundleFields) (rest : List ℕ) → walk bytes ≡ Ok left
+    → bundle.Fits a → take (length bytes - length left) bytes ≡ bundle.spell a → bundle.Fits b
+    → bytes ≡ bundle.spell b ++ rest
+    → (a ≡ b) × (length bytes - length left ≡ length (bundle.spell b))
+front_is bytes left a b rest ok fa taken fits e =
+    let s = front_split bytes left b rest ok fits e in (
+      (prefix_free bundle bundle_exact a b [] [] fa fits (ap (λ (t : List ℕ). t ++ []) (sym taken
           ∙ s.0))).0,
       s.1,
     )

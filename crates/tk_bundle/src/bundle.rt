@@ -1,38 +1,39 @@
-//! Bundles: facts, ascending by dot, and how they are read.
+//! Bundles: facts and the marks of skipped facts, ascending by dot, and how they are read.
 
+use crate::item::Item;
 use std::marker::Model;
-use tk_fact::Fact;
+use tk_handle::Moment;
 
 /// The bytes with which a bundle begins, before the digit of its version (own).
 pub(crate) const MAGIC: &[u8] = b"OTB";
 
-/// The greatest number of facts in a bundle (own).
-pub(crate) const MOST_FACTS: u16 = 128;
+/// The greatest number of items in a bundle (own).
+pub(crate) const MOST_ITEMS: u16 = 128;
 
-/// Facts, strictly ascending by dot, at most 128 of them.
+/// Items, strictly ascending by dot, at most 128 of them; if a mark is among them, the horizon up to
+/// which the sender skipped facts.
 #[derive(Drop)]
 pub struct Bundle {
-    facts: Vec<Fact>,
+    horizon: Option<Moment>,
+    items: Vec<Item>,
 }
 
 impl Model for Bundle {
-    ghost use Rattle.std.specs.Prelude.{List};
-    ghost use Rattle.tk_handle.specs.declared.dot.Dot.{Dot};
-    ghost use Rattle.tk_fact.specs.declared.body.Body.{Body};
+    ghost use Rattle.tk_bundle.specs.BundleFields.{BundleFields};
 
-    ghost Value = { List (Dot × Body) };
+    ghost Value = { BundleFields };
 
-    ghost view = { λ b. b.facts.items };
+    ghost view = { λ b. record { horizon = b.horizon; items = b.items.items } };
 }
 
 ghost use Rattle.std.specs.Prelude.{◌≡◌, ◌≢◌, ◌++◌, [], List, ℕ, IfOk, IsErrOf};
 ghost use Rattle.tk_format.specs.Reading.{Gets, GetsAll};
-ghost use Rattle.tk_store.specs.FactSet.{Facts};
-ghost use Rattle.tk_bundle.specs.Bundle.{counted_facts, versioned, listed, bundle, bundle_bytes};
-ghost use Rattle.tk_bundle.specs.Bundle.{SignOutsTold};
+ghost use Rattle.tk_bundle.specs.BundleFields.{BundleFields};
+ghost use Rattle.tk_bundle.specs.Bundle.{counted_items, versioned, listed, bundle, bundle_bytes};
+ghost use Rattle.tk_bundle.specs.Bundle.{contents, horizon_field, VersionsTold};
 
 use crate::order::is_ascending;
-use crate::version::version_of;
+use crate::version::{has_horizon, version_of};
 use std::alloc::Global;
 use tk_format::{ReadError, Reader, Spelled, read_all, read_many};
 
@@ -43,8 +44,8 @@ impl Bundle {
     /// `Malformed` if the bytes spell no bundle, `Memory` if memory runs out.
     pub fn read(alloc: Global, bytes: &[u8]) -> Result<Bundle, ReadError>
         ensures found { IfOk result (λ b. bundle.Fits b × (bytes.now ≡ bundle_bytes b)) }
-        ensures malformed { IsErrOf result ReadError.Malformed → (fs : Facts) → bundle.Fits fs
-            → bytes.now ≢ bundle_bytes fs }
+        ensures malformed { IsErrOf result ReadError.Malformed → (b : BundleFields)
+            → bundle.Fits b → bytes.now ≢ bundle_bytes b }
 
         // The result as the format `bundle` reads the bytes.
         ensures exact { GetsAll (λ b. b) bundle result bytes.now }
@@ -52,49 +53,82 @@ impl Bundle {
         read_all(alloc, bytes)
     }
 
-    /// Returns the facts, ascending by dot.
-    pub fn facts(&self) -> &[Fact]
-        ensures { result.now ≡ self.now }
+    /// Returns the horizon: of a bundle with a mark, the moment up to which its sender skipped
+    /// facts of families that are over; None of a bundle of facts alone.
+    pub fn horizon(&self) -> Option<Moment>
+        ensures { result ≡ self.now.horizon }
     {
-        self.facts.as_slice()
+        self.horizon
     }
 
-    /// Returns the facts as a vector, ascending by dot.
-    pub fn into_facts(self) -> Vec<Fact>
-        ensures { result.items ≡ self }
+    /// Returns the items, ascending by dot.
+    pub fn items(&self) -> &[Item]
+        ensures { result.now ≡ self.now.items }
     {
-        let Bundle { facts } = self;
-        facts
+        self.items.as_slice()
+    }
+
+    /// Returns the items as a vector, ascending by dot.
+    pub fn into_items(self) -> Vec<Item>
+        ensures { result.items ≡ self.items }
+    {
+        let Bundle { horizon: _, items } = self;
+        items
     }
 }
 
-// Reads the magic, and the facts behind it.
-fn read_listed(alloc: Global, reader: &mut Reader<'_>) -> Result<Vec<Fact>, ReadError>
-    ensures { Gets (λ v. v.items) listed result reader.old reader.new }
+// Reads the magic, and what is behind it.
+fn read_listed(alloc: Global, reader: &mut Reader<'_>) -> Result<Bundle, ReadError>
+    ensures { Gets (λ b. b) listed result reader.old reader.new }
 {
     reader.take_magic(MAGIC).ok_or(ReadError::Malformed)?;
     read_versioned(alloc, reader)
 }
 
-// Reads a digit and facts. The digit must be that of the version of these facts.
-fn read_versioned(alloc: Global, reader: &mut Reader<'_>) -> Result<Vec<Fact>, ReadError>
-    ensures { Gets (λ v. v.items) versioned result reader.old reader.new }
+// Reads a digit, and what follows it. The digit must be that of the version of the items.
+fn read_versioned(alloc: Global, reader: &mut Reader<'_>) -> Result<Bundle, ReadError>
+    ensures { Gets (λ b. b) versioned result reader.old reader.new }
 {
     let version = reader.take_u8().ok_or(ReadError::Malformed)?;
-    let facts = read_counted(alloc, reader)?;
-    if version == version_of(&facts) {
-        Ok(facts)
+    let bundle = read_contents(alloc, version, reader)?;
+    if version == version_of(&bundle.items) {
+        Ok(bundle)
     } else {
         Err(ReadError::Malformed)
     }
 }
 
-// Reads a count of at most 128, and that many facts.
-fn read_counted(alloc: Global, reader: &mut Reader<'_>) -> Result<Vec<Fact>, ReadError>
-    ensures { Gets (λ v. v.items) counted_facts result reader.old reader.new }
+// Reads the horizon, if the version has one, and the items.
+fn read_contents(
+    alloc: Global,
+    version: u8,
+    reader: &mut Reader<'_>,
+) -> Result<Bundle, ReadError>
+    ensures { Gets (λ b. b) (contents version) result reader.old reader.new }
+{
+    let horizon = read_horizon(version, reader)?;
+    let items = read_counted(alloc, reader)?;
+    Ok(Bundle { horizon, items })
+}
+
+// Reads the horizon of a bundle, if the version has one.
+fn read_horizon(version: u8, reader: &mut Reader<'_>) -> Result<Option<Moment>, ReadError>
+    ensures { Gets (λ o. o) (horizon_field version) result reader.old reader.new }
+{
+    if has_horizon(version) {
+        let horizon = Moment::read(reader).ok_or(ReadError::Malformed)?;
+        Ok(Some(horizon))
+    } else {
+        Ok(None)
+    }
+}
+
+// Reads a count of at most 128, and that many items.
+fn read_counted(alloc: Global, reader: &mut Reader<'_>) -> Result<Vec<Item>, ReadError>
+    ensures { Gets (λ v. v.items) counted_items result reader.old reader.new }
 {
     let count = reader.take_u16().ok_or(ReadError::Malformed)?;
-    if count > MOST_FACTS {
+    if count > MOST_ITEMS {
         return Err(ReadError::Malformed);
     }
     read_many(alloc, count, reader)
@@ -107,9 +141,9 @@ impl Spelled for Bundle {
     ghost format = { bundle };
 
     fn read_from(alloc: Global, reader: &mut Reader<'_>) -> Result<Bundle, ReadError> {
-        let facts = read_listed(alloc, reader)?;
-        if is_ascending(&facts) {
-            Ok(Bundle { facts })
+        let bundle = read_listed(alloc, reader)?;
+        if is_ascending(&bundle.items) {
+            Ok(bundle)
         } else {
             Err(ReadError::Malformed)
         }
@@ -120,12 +154,12 @@ impl Spelled for Bundle {
 
 /// States a law: no bundle's bytes begin those of another bundle.
 pub fn none_begins_another()
-    ensures { (a b : Facts) (rest : List ℕ) → bundle.Fits a → bundle.Fits b
+    ensures { (a b : BundleFields) (rest : List ℕ) → bundle.Fits a → bundle.Fits b
         → bundle_bytes a ++ rest ≡ bundle_bytes b → (a ≡ b) × (rest ≡ []) }
 {}
 
-/// States a law: a bundle begins with `OTB2` if one of its facts is a sign-out, otherwise with
-/// `OTB1`.
-pub fn sign_outs_told()
-    ensures { SignOutsTold }
+/// States a law: a bundle begins with `OTB3` if one of its items is a mark, otherwise with `OTB2` if
+/// one is a sign-out, otherwise with `OTB1`.
+pub fn versions_told()
+    ensures { VersionsTold }
 {}

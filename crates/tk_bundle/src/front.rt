@@ -2,23 +2,29 @@
 
 ghost use Rattle.std.specs.Prelude.{◌≡◌, ◌≢◌, ◌≤◌, ◌++◌, [], List, ℕ, length, take, IfOk, IsErrOf};
 ghost use Rattle.std.specs.Prelude.{Err};
-ghost use Rattle.tk_store.specs.FactSet.{Facts};
+ghost use Rattle.tk_bundle.specs.BundleFields.{BundleFields};
 ghost use Rattle.tk_bundle.specs.Bundle.{bundle, bundle_bytes};
 ghost use Rattle.tk_bundle.specs.Front as spec;
 ghost use Rattle.tk_bundle.specs.Front.{Walks, IsCut, skipped, skipped_many, walk, IsFrontOf};
 ghost use Rattle.tk_bundle.specs.declared.error.FrontError.{FrontError as AnyError};
 
-use crate::bundle::{Bundle, MAGIC, MOST_FACTS};
+use crate::bundle::{Bundle, MAGIC, MOST_ITEMS};
 use crate::error::FrontError;
-use crate::version::is_version;
+use crate::version::{has_horizon, is_version};
 use std::alloc::Global;
 use tk_fact::Fact;
 use tk_format::{ReadError, Reader};
 
+// The least number of bytes before the items: the magic, a digit, and a count.
+const LEAST_HEADER: usize = 6;
+
+// The number of bytes of a horizon.
+const HORIZON_BYTES: usize = 8;
+
 /// Reads the bundle at the front of the bytes, and returns it with the number of bytes that it
 /// takes.
 ///
-/// The lengths are walked over before any fact is read. Bytes behind the bundle are not looked at.
+/// The lengths are walked over before any item is read. Bytes behind the bundle are not looked at.
 pub fn read_front(alloc: Global, bytes: &[u8]) -> Result<(Bundle, usize), FrontError>
     // An error of the walk over the lengths is the result. No other bytes are `Cut`.
     ensures walked { (e : AnyError) → walk bytes.now ≡ Err e → result ≡ Err e }
@@ -27,12 +33,12 @@ pub fn read_front(alloc: Global, bytes: &[u8]) -> Result<(Bundle, usize), FrontE
         × (take x.1 bytes.now ≡ bundle_bytes x.0)) }
 
     // A bundle at the front is read, unless memory runs out.
-    ensures only { (fs : Facts) (rest : List ℕ) → bundle.Fits fs
-        → bytes.now ≡ bundle_bytes fs ++ rest → IsFrontOf result fs }
+    ensures only { (b : BundleFields) (rest : List ℕ) → bundle.Fits b
+        → bytes.now ≡ bundle_bytes b ++ rest → IsFrontOf result b }
 
     // The beginning of a bundle is `Cut`, unless it is the whole bundle.
-    ensures torn { (fs : Facts) (rest : List ℕ) → bundle.Fits fs
-        → bytes.now ++ rest ≡ bundle_bytes fs → rest ≢ [] → result ≡ Err FrontError.Cut }
+    ensures torn { (b : BundleFields) (rest : List ℕ) → bundle.Fits b
+        → bytes.now ++ rest ≡ bundle_bytes b → rest ≢ [] → result ≡ Err FrontError.Cut }
 {
     let mut reader = Reader::new(bytes);
     walk(&mut reader)?;
@@ -54,26 +60,40 @@ fn unread(error: ReadError) -> FrontError
     }
 }
 
-// Walks over the magic, the version, the count and that number of facts.
+// Walks over the magic, the version, the horizon if the version has one, the count, and that number
+// of items.
 fn walk(reader: &mut Reader<'_>) -> Result<(), FrontError>
     ensures { Walks result (walk reader.old) reader.new }
 {
+    if reader.len() < LEAST_HEADER {
+        return Err(FrontError::Cut);
+    }
     let front = reader.take_bytes(MAGIC.len()).ok_or(FrontError::Cut)?;
     let version = reader.take_u8().ok_or(FrontError::Cut)?;
-    let count = reader.take_u16().ok_or(FrontError::Cut)?;
     if front != MAGIC {
         return Err(FrontError::Malformed);
     }
     if !is_version(version) {
         return Err(FrontError::Malformed);
     }
-    if count > MOST_FACTS {
+    reader
+        .take_bytes(horizon_size(version))
+        .ok_or(FrontError::Cut)?;
+    let count = reader.take_u16().ok_or(FrontError::Cut)?;
+    if count > MOST_ITEMS {
         return Err(FrontError::Malformed);
     }
     skip_many(count, reader)
 }
 
-// Walks over the given number of facts.
+// Returns the number of bytes of the horizon, if the version has one.
+fn horizon_size(version: u8) -> usize
+    ensures { result ≡ spec.horizon_size version }
+{
+    if has_horizon(version) { HORIZON_BYTES } else { 0 }
+}
+
+// Walks over the given number of items.
 fn skip_many(count: u16, reader: &mut Reader<'_>) -> Result<(), FrontError>
     ensures { Walks result (skipped_many count reader.old) reader.new }
 {
@@ -83,7 +103,7 @@ fn skip_many(count: u16, reader: &mut Reader<'_>) -> Result<(), FrontError>
     Ok(())
 }
 
-// Walks over one fact behind its length.
+// Walks over one item behind its length.
 fn skip(reader: &mut Reader<'_>) -> Result<(), FrontError>
     ensures { Walks result (skipped reader.old) reader.new }
 {

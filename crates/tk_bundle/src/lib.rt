@@ -13,7 +13,7 @@
 //!
 //! The bytes have versions, in one table. A version has the kinds of facts of the versions before
 //! it, and more. A bundle has the first version that has all of its facts: `OTB2` if one of them is
-//! a sign-out, otherwise `OTB1` (`sign_outs_told`). A log may hold bundles of both versions.
+//! a sign-out, otherwise `OTB1` (`versions_told`). A log may hold bundles of both versions.
 //!
 //! In reading order: `Version`, `Page`, `make`, `single`, `Bundle`, `read_front`. The definitions
 //! are in `specs/`: `Versions` for the table of versions, `Bundle` for the bytes, `Page` and
@@ -23,13 +23,15 @@
 mod bundle;
 mod error;
 mod front;
+mod item;
 mod order;
 mod page;
 mod paging;
 mod version;
 
-pub use bundle::{Bundle, none_begins_another, sign_outs_told};
+pub use bundle::{Bundle, none_begins_another, versions_told};
 pub use error::FrontError;
 pub use front::read_front;
+pub use item::Item;
 pub use page::{Page, make, single};
 pub use paging::pages_complete;

@@ -1,25 +1,26 @@
-//! Whether facts rise by dot.
+//! Whether items rise by dot.
 
 ghost use Rattle.std.specs.Prelude.{◌≡◌, None};
 ghost use Rattle.std.specs.Ordering.{is_lt};
 ghost use Rattle.tk_handle.specs.Dot.{dot_cmp};
 ghost use Rattle.tk_bundle.specs.Bundle.{ascends};
 
-use tk_fact::Fact;
+use crate::item::Item;
 use tk_handle::Dot;
 
-// Returns whether the facts rise by dot, no two at one dot.
-pub(crate) fn is_ascending(facts: &[Fact]) -> bool
-    ensures { result ≡ ascends None facts.now }
+// Returns whether the items rise by dot, no two at one dot.
+pub(crate) fn is_ascending(items: &[Item]) -> bool
+    ensures { result ≡ ascends None items.now }
 {
     let mut last: Option<Dot> = None;
-    for fact in facts {
+    for item in items {
+        let dot = item.dot();
         if let Some(before) = last {
-            if !is_below(before, fact.dot) {
+            if !is_below(before, dot) {
                 return false;
             }
         }
-        last = Some(fact.dot);
+        last = Some(dot);
     }
     true
 }

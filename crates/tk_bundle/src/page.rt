@@ -1,17 +1,17 @@
-//! Pages: the facts of a store that a vector does not cover, as bundles.
+//! Pages: what a store knows and a vector does not cover, as bundles.
 
 use tk_handle::Dot;
 
-/// The reply to a pull: a bundle, and whether more facts follow.
+/// The reply to a pull: a bundle, and whether more items follow.
 #[derive(Drop)]
 pub struct Page {
     /// The bundle's bytes.
     pub bytes: Vec<u8>,
-    /// The number of facts in the bundle, 0 to 128.
+    /// The number of items in the bundle, 0 to 128.
     pub count: u16,
-    /// The dot of the bundle's last fact, which is the cursor of the next page.
+    /// The dot of the bundle's last item, which is the cursor of the next page.
     pub last: Option<Dot>,
-    /// Whether the store has more facts for the vector, above the last.
+    /// Whether the store has more items for the vector, above the last.
     pub more: bool,
 }
 
@@ -19,46 +19,47 @@ ghost use Rattle.std.specs.Prelude.{◌≡◌, ◌≤◌, ◌++◌, ◌∷◌, [
 ghost use Rattle.std.specs.Int.{w16};
 ghost use Rattle.std.specs.List.{AllByRecursion, flat_map};
 ghost use Rattle.tk_format.specs.Format.{number};
+ghost use Rattle.tk_handle.specs.Moment.{moment};
 ghost use Rattle.tk_fact.specs.Check.{refusal_of};
-ghost use Rattle.tk_fact.specs.FactBytes.{framed};
-ghost use Rattle.tk_store.specs.StoreFields.{held_facts, IsWhole};
 ghost use Rattle.tk_store.specs.Paging as paging;
+ghost use Rattle.tk_bundle.specs.BundleFields.{of_facts};
+ghost use Rattle.tk_bundle.specs.Items.{item, mark_at};
 ghost use Rattle.tk_bundle.specs.Versions.{newest_kind, version_with};
-ghost use Rattle.tk_bundle.specs.Bundle.{magic, most_facts, bundle, bundle_bytes};
+ghost use Rattle.tk_bundle.specs.Bundle.{magic, most_items, bundle, bundle_bytes, horizon_bytes};
 ghost use Rattle.tk_bundle.specs.Page as spec;
 
-use crate::bundle::{MAGIC, MOST_FACTS};
-use crate::version::{kind_of, version_with};
+use crate::bundle::{MAGIC, MOST_ITEMS};
+use crate::item::DOT_BYTES;
+use crate::version::{MARK_KIND, kind_in, kind_of, version_with};
 use std::alloc::{AllocError, Global};
 use tk_fact::Fact;
 use tk_format::Writer;
-use tk_store::FactStore;
+use tk_handle::Moment;
+use tk_store::{FactStore, SlotRef};
 use tk_vector::VersionVector;
 
-/// Makes the page of a store for a vector: the first 128 facts above the cursor `after` that the
-/// vector does not cover.
+/// Makes the page of a store for a vector: the first 128 facts and marks above the cursor `after`
+/// that the vector does not cover. A page with a mark has the store's horizon.
 ///
-/// If more facts follow, the next page is the one with the last dot as its cursor. Facts that the
-/// vector covers are passed over without a walk. The store has skipped no fact.
+/// If more follow, the next page is the one with the last dot as its cursor. Dots that the vector
+/// covers are passed over without a walk.
 pub fn make(
     alloc: Global,
     store: &FactStore,
     vector: &VersionVector,
     after: Option<Dot>,
 ) -> Result<Page, AllocError>
-    requires { IsWhole store.now }
     ensures page { IfOk result (λ page.
-        spec.IsPageOf page (spec.page_of (held_facts store.now) vector.now after)) }
+        spec.IsPageOf page (spec.page_of store.now vector.now after)) }
 
     // A page can be read.
-    ensures fits { OnOk result (bundle.Fits (spec.page_of (held_facts store.now) vector.now
-        after).facts) }
+    ensures fits { OnOk result (bundle.Fits (spec.page_of store.now vector.now after).bundle) }
 {
-    page_within(alloc, store, vector, after, MOST_FACTS as usize)
+    page_within(alloc, store, vector, after, MOST_ITEMS as usize)
 }
 
-// Makes a page of at most `limit` facts. One dot more than that is sought, to see whether more
-// facts follow.
+// Makes a page of at most `limit` items. One dot more than that is sought, to see whether more
+// follow.
 fn page_within(
     alloc: Global,
     store: &FactStore,
@@ -66,12 +67,11 @@ fn page_within(
     after: Option<Dot>,
     limit: usize,
 ) -> Result<Page, AllocError>
-    requires most { limit ≤ most_facts }
-    requires whole { IsWhole store.now }
+    requires { limit ≤ most_items }
     ensures page { IfOk result (λ page.
-        spec.IsPageOf page (spec.page_within limit (held_facts store.now) vector.now after)) }
-    ensures fits { OnOk result (bundle.Fits (paging.page limit (held_facts store.now) vector.now
-        after)) }
+        spec.IsPageOf page (spec.page_within limit store.now vector.now after)) }
+    ensures fits { OnOk result (bundle.Fits (spec.page_within limit store.now vector.now
+        after).bundle) }
 {
     let mut dots = store.since(alloc, vector, after, limit + 1)?;
     let more = dots.as_slice().len() > limit;
@@ -79,16 +79,20 @@ fn page_within(
     page_at(alloc, store, &dots, more)
 }
 
-// Makes the page of the facts at the dots.
+// Makes the page of what the store knows of the dots.
 fn page_at(alloc: Global, store: &FactStore, dots: &[Dot], more: bool) -> Result<Page, AllocError>
-    requires { length dots.now ≤ most_facts }
-    ensures page { IfOk result (λ page. spec.IsPageAt page (held_facts store.now) dots.now more) }
-    ensures fits { OnOk result (AllByRecursion framed.Fits
-        (spec.facts_at (held_facts store.now) dots.now)) }
+    requires { length dots.now ≤ most_items }
+    ensures page { IfOk result (λ page. spec.IsPageAt page store.now dots.now more) }
+    ensures fits { OnOk result (AllByRecursion item.Fits
+        (spec.items_at store.now.slots dots.now)) }
+    ensures horizon { moment.Fits store.now.horizon }
 {
+    let newest = newest_at(store, dots);
+    let horizon = horizon_with(newest, store.horizon());
+    store.horizon().known();
     let count = dots.len() as u16;
-    let mut writer = begin_bundle(alloc, newest_at(store, dots), count)?;
-    write_facts(alloc, store, dots, &mut writer)?;
+    let mut writer = begin_bundle(alloc, newest, horizon, count)?;
+    write_items(alloc, store, dots, &mut writer)?;
     Ok(Page {
         bytes: writer.into_bytes(),
         count,
@@ -97,9 +101,9 @@ fn page_at(alloc: Global, store: &FactStore, dots: &[Dot], more: bool) -> Result
     })
 }
 
-// Returns the newest kind among the facts at the dots.
+// Returns the newest kind of what the store knows of the dots.
 fn newest_at(store: &FactStore, dots: &[Dot]) -> u8
-    ensures { result ≡ newest_kind 0 (spec.facts_at (held_facts store.now) dots.now) }
+    ensures { result ≡ newest_kind 0 (spec.items_at store.now.slots dots.now) }
 {
     let mut newest = 0;
     for dot in dots {
@@ -108,25 +112,44 @@ fn newest_at(store: &FactStore, dots: &[Dot]) -> u8
     newest
 }
 
-// Returns the greater of a kind and that of the fact at the dot, if there is one.
+// Returns the greater of a kind and that of what the store knows of the dot, if it knows anything.
 fn newest_with(last: u8, store: &FactStore, dot: Dot) -> u8
-    ensures { result ≡ newest_kind last (spec.facts_at (held_facts store.now) (dot ∷ [])) }
+    ensures { result ≡ newest_kind last (spec.items_at store.now.slots (dot ∷ [])) }
 {
-    match store.get(dot) {
-        Some(fact) => last.max(kind_of(&fact.body)),
+    match store.slot(dot) {
+        Some(slot) => last.max(kind_in(&slot)),
         None => last,
     }
 }
 
-// Begins a bundle of `count` facts, the newest of which has the given kind: the magic, the version,
-// the count.
-fn begin_bundle(alloc: Global, newest: u8, count: u16) -> Result<Writer, AllocError>
-    ensures { IfOk result (λ writer.
-        writer ≡ magic ++ (version_with newest ∷ (number w16).spell count)) }
+// Returns the horizon if the newest kind is that of a mark.
+fn horizon_with(newest: u8, horizon: Moment) -> Option<Moment>
+    ensures { result ≡ spec.horizon_by newest horizon }
+{
+    if newest == MARK_KIND {
+        Some(horizon)
+    } else {
+        None
+    }
+}
+
+// Begins a bundle of `count` items, the newest of which has the given kind: the magic, the version,
+// the horizon if there is one, the count.
+fn begin_bundle(
+    alloc: Global,
+    newest: u8,
+    horizon: Option<Moment>,
+    count: u16,
+) -> Result<Writer, AllocError>
+    ensures { IfOk result (λ writer. writer
+        ≡ magic ++ (version_with newest ∷ horizon_bytes horizon ++ (number w16).spell count)) }
 {
     let mut writer = Writer::new(alloc);
     writer.put_bytes(MAGIC)?;
     writer.put_u8(version_with(newest))?;
+    if let Some(horizon) = horizon {
+        horizon.write(&mut writer)?;
+    }
     writer.put_u16(count)?;
     Ok(writer)
 }
@@ -141,57 +164,69 @@ fn last_of(dots: &[Dot]) -> Option<Dot>
     }
 }
 
-// Writes the facts at the dots.
-fn write_facts(
+// Writes what the store knows of the dots.
+fn write_items(
     alloc: Global,
     store: &FactStore,
     dots: &[Dot],
     writer: &mut Writer,
 ) -> Result<(), AllocError>
-    ensures written { OnOk result (writer.new ≡ writer.old ++ flat_map framed.spell
-        (spec.facts_at (held_facts store.now) dots.now)) }
-    ensures fits { OnOk result (AllByRecursion framed.Fits
-        (spec.facts_at (held_facts store.now) dots.now)) }
+    ensures written { OnOk result (writer.new ≡ writer.old ++ flat_map item.spell
+        (spec.items_at store.now.slots dots.now)) }
+    ensures fits { OnOk result (AllByRecursion item.Fits
+        (spec.items_at store.now.slots dots.now)) }
 {
     for dot in dots {
-        write_fact(alloc, store, *dot, writer)?;
+        write_item(alloc, store, *dot, writer)?;
     }
     Ok(())
 }
 
-// Writes the fact at the dot, if there is one.
-fn write_fact(
+// Writes the fact at the dot or its mark, if the store knows the dot.
+fn write_item(
     alloc: Global,
     store: &FactStore,
     dot: Dot,
     writer: &mut Writer,
 ) -> Result<(), AllocError>
-    ensures written { OnOk result (writer.new ≡ writer.old ++ flat_map framed.spell
-        (spec.facts_at (held_facts store.now) (dot ∷ []))) }
-    ensures fits { OnOk result (AllByRecursion framed.Fits
-        (spec.facts_at (held_facts store.now) (dot ∷ []))) }
+    ensures written { OnOk result (writer.new ≡ writer.old ++ flat_map item.spell
+        (spec.items_at store.now.slots (dot ∷ []))) }
+    ensures fits { OnOk result (AllByRecursion item.Fits
+        (spec.items_at store.now.slots (dot ∷ []))) }
 {
     store.known();
-    match store.get(dot) {
-        Some(fact) => {
+    match store.slot(dot) {
+        Some(SlotRef::Held(fact)) => {
             fact.known();
             fact.write_framed(alloc, writer)?;
             Ok(())
         }
+        Some(SlotRef::Skipped) => write_mark(dot, writer),
         None => Ok(()),
     }
+}
+
+// Writes the mark of a dot: the length of a dot, and the dot.
+fn write_mark(dot: Dot, writer: &mut Writer) -> Result<(), AllocError>
+    ensures written { OnOk result (writer.new ≡ writer.old ++ item.spell (mark_at dot)) }
+    ensures fits { item.Fits (mark_at dot) }
+{
+    dot.known();
+    writer.put_u16(DOT_BYTES)?;
+    dot.write(writer)
 }
 
 /// Writes the bundle of one fact that passes its check: a record of a log.
 pub fn single(alloc: Global, fact: &Fact) -> Result<Vec<u8>, AllocError>
     requires { refusal_of fact.now.1 ≡ None }
-    ensures spelled { IfOk result (λ bytes. bytes.items ≡ bundle_bytes (fact.now ∷ [])) }
+    ensures spelled { IfOk result (λ bytes. bytes.items ≡ bundle_bytes (of_facts
+        (fact.now ∷ []))) }
 
     // A record can be read.
-    ensures fits { bundle.Fits (fact.now ∷ []) }
+    ensures fits { bundle.Fits (of_facts (fact.now ∷ [])) }
 {
     fact.known();
-    let mut writer = begin_bundle(alloc, kind_of(&fact.body), 1)?;
+    let mut writer = begin_bundle(alloc, kind_of(&fact.body), None, 1)?;
     fact.write_framed(alloc, &mut writer)?;
     Ok(writer.into_bytes())
 }

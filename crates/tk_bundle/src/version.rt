@@ -11,7 +11,7 @@ pub(crate) struct Version {
 
 // A bundle keeps the version that it was written in: a row never changes, and a later version is
 // one row more.
-const VERSIONS: [Version; 2] = [
+const VERSIONS: [Version; 3] = [
     Version {
         digit: b'1',
         kinds: 9,
@@ -20,12 +20,22 @@ const VERSIONS: [Version; 2] = [
         digit: b'2',
         kinds: 10,
     },
+    Version {
+        digit: b'3',
+        kinds: MARK_KIND,
+    },
 ];
 
+/// The number of the marks of skipped facts, behind the kinds of facts (own).
+pub(crate) const MARK_KIND: u8 = 11;
+
 ghost use Rattle.std.specs.Prelude.{◌≡◌};
+ghost use Rattle.tk_store.specs.SlotShown.{shown_slot};
 ghost use Rattle.tk_bundle.specs.Versions as spec;
 
-use tk_fact::{Body, Fact};
+use crate::item::Item;
+use tk_fact::Body;
+use tk_store::SlotRef;
 
 // Returns the number of a body's kind, with which its bytes begin.
 #[tactic(auto, unfolding(tk_fact::specs::FactBytes::kinds))]
@@ -59,13 +69,23 @@ pub(crate) fn version_with(kind: u8) -> u8
     0
 }
 
-// Returns the digit of the first version that has the kinds of all of the facts.
-pub(crate) fn version_of(facts: &[Fact]) -> u8
-    ensures { result ≡ spec.version_of facts.now }
+// Returns the number of the kind of a fact, or that of a mark.
+pub(crate) fn kind_in(slot: &SlotRef<'_>) -> u8
+    ensures { result ≡ spec.kind_in (shown_slot slot.now) }
+{
+    match slot {
+        SlotRef::Held(fact) => kind_of(&fact.body),
+        SlotRef::Skipped => MARK_KIND,
+    }
+}
+
+// Returns the digit of the first version that has the kinds of all of the items.
+pub(crate) fn version_of(items: &[Item]) -> u8
+    ensures { result ≡ spec.version_of items.now }
 {
     let mut newest: u8 = 0;
-    for fact in facts {
-        newest = newest.max(kind_of(&fact.body));
+    for item in items {
+        newest = newest.max(kind_in(&item.slot()));
     }
     version_with(newest)
 }
@@ -76,4 +96,11 @@ pub(crate) fn is_version(digit: u8) -> bool
     ensures { result ≡ spec.is_version digit }
 {
     VERSIONS.iter().any(|version| version.digit == digit)
+}
+
+// Returns whether a bundle of the version has a horizon.
+pub(crate) fn has_horizon(digit: u8) -> bool
+    ensures { result ≡ spec.has_horizon digit }
+{
+    digit == b'3'
 }

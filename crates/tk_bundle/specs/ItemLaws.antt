@@ -1,0 +1,136 @@
+-- An item's bytes are read as that item alone. Key results:
+--   item_exact     an item has one spelling
+--   mark_fits      the mark of a dot has a spelling
+--   fact_is_item   a fact behind its length is spelled as an item is
+use Rattle.std.proofs.Common.{◌≡◌, ℕ, ◌+◌, ◌<◌, ◌^◌, Bool, true, false, cond, eqb, nat_le, List, [], ◌∷◌, ◌++◌}
+use Rattle.std.proofs.Common.{length, Option, Some, None, refl, sym, ap, subst, ◌∙◌, append_assoc, arith}
+use Rattle.std.specs.Int.{w16, w64}
+use Rattle.std.specs.Option.{option_map}
+use Rattle.std.proofs.lemmas.Bool.Decides.{nat_tests}
+use Rattle.std.proofs.lemmas.List.{length-append, take_at, drop_at}
+use Rattle.tk_format.specs.Format.{◌>>=◌, Format, only, text, text_spelling, whole, number_spelling}
+use Rattle.tk_format.specs.Exact.{IsBytes, IsBytes-drop, IsBytes-take, IsExact, Takes, bind_some, some_is, whole_takes, whole_again}
+use Rattle.tk_format.specs.Laws.{text_exact, only_exact}
+use Rattle.tk_format.specs.Spellings.{number_length}
+use Rattle.tk_handle.specs.declared.dot.Dot.{Dot}
+use Rattle.tk_handle.specs.DotBytes.{dot_field}
+use Rattle.tk_handle.proofs.FormatLaws.{dot_field_exact}
+use Rattle.tk_fact.specs.declared.body.Body.{Body}
+use Rattle.tk_fact.specs.declared.body.Body.TheVariants as bodies
+use Rattle.tk_fact.specs.FactBytes.{kinds, body, fact, most_bytes, framed}
+use Rattle.tk_fact.specs.FactLaws.{fact_exact}
+use Rattle.tk_store.specs.Slots.{Slot, Held, Skipped}
+use Rattle.tk_store.specs.WholeStores.{as_slot}
+use Rattle.tk_bundle.specs.Items.{dot_size, item_bytes, HasBytes, mark_at, item_in, item}
+
+-- ---- a fact is longer than a dot
+
+body_long : (b : Body) → 0 < length (body.spell b)
+unfolding kinds
+body_long (bodies.ClientAdded f) = omega arith
+body_long (bodies.ClientRetired f) = omega arith
+body_long (bodies.ConsentGiven f) = omega arith
+body_long (bodies.ConsentWithdrawn f) = omega arith
+body_long (bodies.CodeIssued f) = omega arith
+body_long (bodies.CodeRedeemed f) = omega arith
+body_long (bodies.RefreshRotated f) = omega arith
+body_long (bodies.TokenRevoked f) = omega arith
+body_long (bodies.ReuseSeen f) = omega arith
+body_long (bodies.SubjectOut f) = omega arith
+
+dot_length : (d : Dot) → length (dot_field.spell d) ≡ dot_size
+dot_length d =
+    length-append (number_spelling w16 d.region) (number_spelling w64 d.serial)
+    ∙ ap (λ n. n + length (number_spelling w64 d.serial)) (number_length w16 d.region)
+    ∙ ap (λ n. 2 + n) (number_length w64 d.serial)
+
+fact_no_dot : (d : Dot) (b : Body) → eqb (length (fact.spell (d, b))) dot_size ≡ false
+fact_no_dot d b =
+    ap (λ n. eqb n dot_size) (length-append (dot_field.spell d) (body.spell b)
+    ∙ ap (λ n. n + length (body.spell b)) (dot_length d))
+    ∙ longer (length (body.spell b)) (body_long b)
+  where
+    longer : (n : ℕ) → 0 < n → eqb (dot_size + n) dot_size ≡ false
+    longer n h = grind (arith, nat_tests)
+
+-- ---- the item that all of some bytes spell
+
+-- an item that is read from all of some bytes is spelled by them
+in_takes : (bytes : List ℕ) (i : Dot × Slot) → IsBytes bytes → item_in bytes ≡ Some i
+    → HasBytes i × (bytes ≡ item_bytes i)
+in_takes bytes i fits e = by_length (eqb (length bytes) dot_size) e
+  where
+    read : (A : Type 0) (f : Format A) → IsExact f → (into : A → Dot × Slot)
+        → option_map into (whole f bytes) ≡ Some i
+        → (a : A) × f.Fits a × (bytes ≡ f.spell a) × (into a ≡ i)
+    read A f exact into h = of (whole f bytes) refl h
+      where
+        of : (o : Option A) → whole f bytes ≡ o → option_map into o ≡ Some i
+            → (a : A) × f.Fits a × (bytes ≡ f.spell a) × (into a ≡ i)
+        of None is h = absurd cc
+        of (Some a) is h =
+            let w = whole_takes f exact bytes a fits is in
+            (a, w.0, w.1, some_is (into a) i h)
+
+    by_length : (t : Bool) → cond t (option_map mark_at (whole dot_field bytes))
+        (option_map as_slot (whole fact bytes)) ≡ Some i → HasBytes i × (bytes ≡ item_bytes i)
+    by_length true h =
+        let r = read Dot dot_field dot_field_exact mark_at h in
+        subst (λ (j : Dot × Slot). HasBytes j × (bytes ≡ item_bytes j)) r.3 (r.1, r.2)
+    by_length false h =
+        let r = read (Dot × Body) fact fact_exact as_slot h in
+        subst (λ (j : Dot × Slot). HasBytes j × (bytes ≡ item_bytes j)) r.3 (r.1, r.2)
+
+-- an item is read from all of its bytes
+in_again : (i : Dot × Slot) → HasBytes i → item_in (item_bytes i) ≡ Some i
+in_again (d, Held b) fits = rw (fact_no_dot d b, whole_again fact fact_exact (d, b) fits) refl
+in_again (d, Skipped) fits =
+    rw (ap (λ n. eqb n dot_size) (dot_length d), whole_again dot_field dot_field_exact d fits) refl
+
+-- ---- behind its length
+
+short_exact : IsExact (only (λ t. nat_le (length t) most_bytes) text)
+short_exact = only_exact (λ t. nat_le (length t) most_bytes) text text_exact
+
+IsBytes-text : (bytes s rest : List ℕ) → IsBytes bytes → Takes bytes (text.spell s) rest → IsBytes s
+unfolding text_spelling
+IsBytes-text bytes s rest fits t =
+    let size = number_spelling w16 (length s) in
+    let all : IsBytes (size ++ (s ++ rest)) = subst IsBytes (t.parts ∙ append_assoc size s rest) fits in
+    let behind : IsBytes (s ++ rest) = subst IsBytes (drop_at size (s ++ rest) (length size) refl)
+    (IsBytes-drop (length size) (size ++ (s ++ rest)) all) in
+    subst IsBytes (take_at s rest (length s) refl) (IsBytes-take (length s) (s ++ rest) behind)
+
+item_takes : (bytes : List ℕ) (x : (Dot × Slot) × List ℕ) → IsBytes bytes → item.read bytes ≡ Some x
+    → Takes bytes (item.spell x.0) x.1 × item.Fits x.0
+item_takes bytes x fits e =
+    let t = bind_some ((only (λ t. nat_le (length t) most_bytes) text).read bytes)
+    (λ t. item_in t.0 >>= λ i. Some (i, t.1)) x e in
+    let w = bind_some (item_in t.0.0) (λ i. Some (i, t.0.1)) x t.2 in
+    let first = short_exact.takes bytes t.0 fits t.1 in
+    let inside = in_takes t.0.0 w.0 (IsBytes-text bytes t.0.0 t.0.1 fits first.0) w.1 in
+    subst (λ (y : (Dot × Slot) × List ℕ). Takes bytes (item.spell y.0) y.1 × item.Fits y.0)
+    (some_is (w.0, t.0.1) x w.2)
+    (subst (λ (s : List ℕ). Takes bytes (text.spell s) t.0.1
+    × (HasBytes w.0 × (text.Fits s × (nat_le (length s) most_bytes ≡ true)))) inside.1
+    (first.0, (inside.0, first.1)))
+
+-- an item has one spelling
+pub item_exact : IsExact item
+item_exact = record {
+  takes = item_takes;
+  again = λ i rest fits.
+      rw (short_exact.again (item_bytes i) rest fits.1, in_again i fits.0) refl;
+}
+
+-- the mark of a dot has a spelling
+pub mark_fits : (d : Dot) → dot_field.Fits d → item.Fits (d, Skipped)
+mark_fits d fits =
+    (fits, (omega (arith, dot_length d), ap (λ n. nat_le n most_bytes) (dot_length d)))
+
+-- a fact behind its length is spelled as an item is, and fits as one
+pub fact_is_item : (f : Dot × Body) → framed.spell f ≡ item.spell (as_slot f)
+fact_is_item f = refl
+
+pub fact_fits : (f : Dot × Body) → framed.Fits f → item.Fits (as_slot f)
+fact_fits f fits = fits
