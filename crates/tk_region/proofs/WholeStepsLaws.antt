@@ -4,15 +4,18 @@
 --   whole_gains      the fact that is added is joined to the facts
 --   whole_len        as many facts are held as dots are known
 --   whole_beyond     what a vector does not cover
-use Rattle.std.proofs.Common.{◌≡◌, ℕ, zero, suc, ◌+◌, Bool, true, false, cond, T, List, [], ◌∷◌, length, map, filter, take, Option, Some, None, IfSome, refl, sym, ap, subst, ◌∙◌}
+--   whole_page       a page is of facts alone
+use Rattle.std.proofs.Common.{◌≡◌, ℕ, zero, suc, ◌+◌, ◌-◌, nat_lt, Bool, true, false, cond, T, List, [], ◌∷◌, length, map, filter, take, slice_get, Option, Some, None, IfSome, refl, sym, ap, subst, ◌∙◌}
 use Rattle.std.proofs.lemmas.Bool.{true≢false}
 use Rattle.std.specs.FinMap as sets
+use Rattle.std.specs.List.{list_any}
 use Rattle.tk_handle.specs.declared.dot.Dot.{Dot}
 use Rattle.tk_fact.specs.declared.body.Body.{Body}
 use Rattle.tk_vector.specs.VersionVector.{Vector}
 use Rattle.tk_store.specs.Beyond.{beyond, is_beyond}
-use Rattle.tk_store.specs.FactSet.{FactSet, Facts, AllIn, IsSubset, with_facts}
+use Rattle.tk_store.specs.FactSet.{FactSet, Facts, AllIn, IsSubset, dot_of, with_facts}
 use Rattle.tk_store.specs.Joining.{JoinsFacts}
+use Rattle.tk_store.specs.Paging.{page, last_dot}
 use Rattle.tk_store.specs.Slots.{Slot, Slots, Held, Skipped, held_slot, held_in, held_entries, is_skipped, is_skipped_slot, joined_slot, with_slots}
 use Rattle.tk_store.specs.StoreFields.{StoreFields, empty_store, held_facts, IsWhole, with_fact}
 use Rattle.tk_store.specs.Walk.{above, is_above}
@@ -24,6 +27,9 @@ use Rattle.tk_store.proofs.SlotLaws.{get_held, held_put, entries_held}
 use Rattle.tk_store.proofs.SubsetLaws.{subset_insert}
 use Rattle.tk_store.proofs.WholeLaws.{empty_whole}
 use Rattle.tk_store.proofs.WholeStoreLaws.{whole_is}
+use Rattle.tk_bundle.specs.Bundle.{most_items}
+use Rattle.tk_bundle.specs.BundleFields.{is_mark, of_facts}
+use Rattle.tk_bundle.specs.Page.{bundle_of, page_of}
 use Rattle.tk_region.specs.RegionFields.{RegionFields, Gains, with_made}
 use Rattle.tk_region.specs.Step.{IsNextFact, listed}
 use Rattle.tk_region.specs.Taking.{items_taken}
@@ -117,13 +123,13 @@ module _ (P : StoreFields) (whole : IsWhole P) where
   entries_are : sets.entries P.slots ≡ map as_slot (sets.entries (held_facts P))
   entries_are = plain_entries (sets.entries P.slots) (AllIn-entries P.slots) ∙ ap (map as_slot) (sym (entries_held P.slots))
 
+  same_length : (fs : Facts) → length (map as_slot fs) ≡ length fs
+  same_length [] = refl
+  same_length (f ∷ fs) = ap suc (same_length fs)
+
   pub whole_len : sets.len P.slots ≡ sets.len (held_facts P)
   whole_len =
       sets.len-entries P.slots ∙ ap length entries_are ∙ same_length (sets.entries (held_facts P)) ∙ sym (sets.len-entries (held_facts P))
-    where
-      same_length : (fs : Facts) → length (map as_slot fs) ≡ length fs
-      same_length [] = refl
-      same_length (f ∷ fs) = ap suc (same_length fs)
 
   filter_slots : (p : Dot × Slot → Bool) (fs : Facts) → filter p (map as_slot fs) ≡ map as_slot (filter (λ f. p (as_slot f)) fs)
   filter_slots p [] = refl
@@ -139,3 +145,30 @@ module _ (P : StoreFields) (whole : IsWhole P) where
 
   pub whole_beyond : (v : Vector) (after : Option Dot) → beyond P.slots v after ≡ map as_slot (beyond (held_facts P) v after)
   whole_beyond v after = ap (filter (is_beyond v)) (above_slots after) ∙ filter_slots (is_beyond v) (above (held_facts P) after)
+
+  -- ---- pages
+
+  no_marks : (fs : Facts) → list_any is_mark (map as_slot fs) ≡ false
+  no_marks [] = refl
+  no_marks (f ∷ fs) = no_marks fs
+
+  pub whole_page : (v : Vector) (after : Option Dot) → (page_of P v after).bundle ≡ of_facts (page most_items (held_facts P) v after)
+  whole_page v after =
+      let items : page most_items P.slots v after ≡ map as_slot (page most_items (held_facts P) v after) = ap (take most_items) (whole_beyond v after) ∙ take_slots most_items (beyond (held_facts P) v after) in
+      ap (bundle_of P.horizon) items
+      ∙ ap (λ t. record { horizon = cond t (Some P.horizon) None; items = map as_slot (page most_items (held_facts P) v after) }) (no_marks (page most_items (held_facts P) v after))
+
+  pub whole_last : (v : Vector) (after : Option Dot) → (page_of P v after).last ≡ last_dot (page most_items (held_facts P) v after)
+  whole_last v after =
+      ap last_dot (ap (take most_items) (whole_beyond v after) ∙ take_slots most_items (beyond (held_facts P) v after))
+      ∙ last_as (page most_items (held_facts P) v after)
+    where
+      dots_as : (fs : Facts) → map dot_of (map as_slot fs) ≡ map dot_of fs
+      dots_as [] = refl
+      dots_as (f ∷ fs) = ap (λ (l : List Dot). f.0 ∷ l) (dots_as fs)
+
+      last_as : (fs : Facts) → last_dot (map as_slot fs) ≡ last_dot fs
+      last_as fs = ap (λ (l : List Dot). slice_get l (length (map as_slot fs) - 1)) (dots_as fs) ∙ ap (λ n. slice_get (map dot_of fs) (n - 1)) (same_length fs)
+
+  pub whole_more : (v : Vector) (after : Option Dot) → (page_of P v after).more ≡ nat_lt most_items (length (beyond (held_facts P) v after))
+  whole_more v after = ap (λ n. nat_lt most_items n) (ap length (whole_beyond v after) ∙ same_length (beyond (held_facts P) v after))

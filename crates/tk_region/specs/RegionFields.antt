@@ -51,7 +51,7 @@ with_made P (Some f) = with_fact P f.0 f.1
 
 -- the fact, if there is one, is added to those of the region, and nothing else changes
 pub record Gains (old : RegionFields) (fact : Option (Dot × Body)) (new : RegionFields) : Type 0
-    where
-  pub number : new.number ≡ old.number
-  pub settings : new.settings ≡ old.settings
-  pub facts : new.facts ≡ with_made old.facts fact
+  where
+    pub number : new.number ≡ old.number
+    pub settings : new.settings ≡ old.settings
+    pub facts : new.facts ≡ with_made old.facts fact

@@ -56,11 +56,7 @@ pub(crate) fn unread(error: ReadError) -> TakeError
 }
 
 // Takes in a bundle that was read. `next` is the dot of the region's next fact.
-pub(crate) fn take_bundle(
-    next: Dot,
-    ledger: &mut Ledger,
-    sent: Bundle,
-) -> Result<u16, TakeError>
+pub(crate) fn take_bundle(next: Dot, ledger: &mut Ledger, sent: Bundle) -> Result<u16, TakeError>
     requires { bundle.Fits sent }
     ensures { spec.TakesIn ledger.old next (Some sent) result ledger.new }
 {
