@@ -1,7 +1,7 @@
 -- An item's bytes are read as that item alone. Key results:
 --   item_exact     an item has one spelling
+--   dot_length     a dot has ten bytes
 --   mark_fits      the mark of a dot has a spelling
---   fact_is_item   a fact behind its length is spelled as an item is
 use Rattle.std.proofs.Common.{◌≡◌, ℕ, ◌+◌, ◌<◌, ◌^◌, Bool, true, false, cond, eqb, nat_le, List, [], ◌∷◌, ◌++◌}
 use Rattle.std.proofs.Common.{length, Option, Some, None, refl, sym, ap, subst, ◌∙◌, append_assoc, arith}
 use Rattle.std.specs.Int.{w16, w64}
@@ -38,7 +38,8 @@ body_long (bodies.TokenRevoked f) = omega arith
 body_long (bodies.ReuseSeen f) = omega arith
 body_long (bodies.SubjectOut f) = omega arith
 
-dot_length : (d : Dot) → length (dot_field.spell d) ≡ dot_size
+-- a dot has ten bytes
+pub dot_length : (d : Dot) → length (dot_field.spell d) ≡ dot_size
 dot_length d =
     length-append (number_spelling w16 d.region) (number_spelling w64 d.serial)
     ∙ ap (λ n. n + length (number_spelling w64 d.serial)) (number_length w16 d.region)
@@ -127,10 +128,3 @@ item_exact = record {
 pub mark_fits : (d : Dot) → dot_field.Fits d → item.Fits (d, Skipped)
 mark_fits d fits =
     (fits, (omega (arith, dot_length d), ap (λ n. nat_le n most_bytes) (dot_length d)))
-
--- a fact behind its length is spelled as an item is, and fits as one
-pub fact_is_item : (f : Dot × Body) → framed.spell f ≡ item.spell (as_slot f)
-fact_is_item f = refl
-
-pub fact_fits : (f : Dot × Body) → framed.Fits f → item.Fits (as_slot f)
-fact_fits f fits = fits

@@ -99,11 +99,7 @@ fn read_versioned(alloc: Global, reader: &mut Reader<'_>) -> Result<Bundle, Read
 }
 
 // Reads the horizon, if the version has one, and the items.
-fn read_contents(
-    alloc: Global,
-    version: u8,
-    reader: &mut Reader<'_>,
-) -> Result<Bundle, ReadError>
+fn read_contents(alloc: Global, version: u8, reader: &mut Reader<'_>) -> Result<Bundle, ReadError>
     ensures { Gets (λ b. b) (contents version) result reader.old reader.new }
 {
     let horizon = read_horizon(version, reader)?;
