@@ -2,14 +2,17 @@
 --   item_exact     an item has one spelling
 --   dot_length     a dot has ten bytes
 --   mark_fits      the mark of a dot has a spelling
-use Rattle.std.proofs.Common.{◌≡◌, ℕ, ◌+◌, ◌<◌, ◌^◌, Bool, true, false, cond, eqb, nat_le, List, [], ◌∷◌, ◌++◌}
-use Rattle.std.proofs.Common.{length, Option, Some, None, refl, sym, ap, subst, ◌∙◌, append_assoc, arith}
+use Rattle.std.proofs.Common.{◌≡◌, ℕ, ◌+◌, ◌<◌, ◌^◌, Bool, true, false, cond, eqb, nat_le, List, []}
+use Rattle.std.proofs.Common.{◌∷◌, ◌++◌}
+use Rattle.std.proofs.Common.{length, Option, Some, None, refl, sym, ap, subst, ◌∙◌, append_assoc}
+use Rattle.std.proofs.Common.{arith}
 use Rattle.std.specs.Int.{w16, w64}
 use Rattle.std.specs.Option.{option_map}
 use Rattle.std.proofs.lemmas.Bool.Decides.{nat_tests}
 use Rattle.std.proofs.lemmas.List.{length-append, take_at, drop_at}
 use Rattle.tk_format.specs.Format.{◌>>=◌, Format, only, text, text_spelling, whole, number_spelling}
-use Rattle.tk_format.specs.Exact.{IsBytes, IsBytes-drop, IsBytes-take, IsExact, Takes, bind_some, some_is, whole_takes, whole_again}
+use Rattle.tk_format.specs.Exact.{IsBytes, IsBytes-drop, IsBytes-take, IsExact, Takes, bind_some}
+use Rattle.tk_format.specs.Exact.{some_is, whole_takes, whole_again}
 use Rattle.tk_format.specs.Laws.{text_exact, only_exact}
 use Rattle.tk_format.specs.Spellings.{number_length}
 use Rattle.tk_handle.specs.declared.dot.Dot.{Dot}
@@ -97,7 +100,8 @@ IsBytes-text : (bytes s rest : List ℕ) → IsBytes bytes → Takes bytes (text
 unfolding text_spelling
 IsBytes-text bytes s rest fits t =
     let size = number_spelling w16 (length s) in
-    let all : IsBytes (size ++ (s ++ rest)) = subst IsBytes (t.parts ∙ append_assoc size s rest) fits in
+    let all : IsBytes (size ++ (s ++ rest)) =
+    subst IsBytes (t.parts ∙ append_assoc size s rest) fits in
     let behind : IsBytes (s ++ rest) = subst IsBytes (drop_at size (s ++ rest) (length size) refl)
     (IsBytes-drop (length size) (size ++ (s ++ rest)) all) in
     subst IsBytes (take_at s rest (length s) refl) (IsBytes-take (length s) (s ++ rest) behind)
