@@ -67,7 +67,8 @@ horizon_exact digit = record {
 }
   where
     taken : (t : Bool) → has_horizon digit ≡ t → (bytes : List ℕ) (x : Option ℕ × List ℕ)
-        → IsBytes bytes → Read t bytes ≡ Some x → Takes bytes (horizon_bytes x.0) x.1 × HorizonFits digit x.0
+        → IsBytes bytes → Read t bytes ≡ Some x
+        → Takes bytes (horizon_bytes x.0) x.1 × HorizonFits digit x.0
     taken true is bytes x fits e =
         let m = bind_some (moment.read bytes) (λ m. Some (Some m.0, m.1)) x e in
         let t = moment_exact.takes bytes m.0 fits m.1 in

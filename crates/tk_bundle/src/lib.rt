@@ -14,8 +14,8 @@
 //!
 //! The bytes have versions, in one table. A version has the kinds of facts of the versions before
 //! it, and more. A bundle has the first version that has all of its items: `OTB3` if one of them is
-//! a mark, otherwise `OTB2` if one is a sign-out, otherwise `OTB1` (`versions_told`). A log may hold
-//! bundles of all versions.
+//! a mark, otherwise `OTB2` if one is a sign-out, otherwise `OTB1` (`versions_told`). A log may
+//! hold bundles of all versions.
 //!
 //! In reading order: `Version`, `Item`, `Page`, `make`, `single`, `Bundle`, `read_front`. The
 //! definitions are in `specs/`: `BundleFields` for what contracts see, `Versions` for the table of
