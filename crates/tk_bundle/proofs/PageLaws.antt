@@ -16,18 +16,27 @@ use Rattle.std.proofs.lemmas.List.Elements.{filter_map-append}
 use Rattle.tk_handle.specs.declared.dot.Dot.{Dot}
 use Rattle.tk_handle.specs.Dot.{dot_cmp}
 use Rattle.tk_vector.specs.VersionVector.{Vector}
-use Rattle.tk_store.specs.FactSet.{AllIn, dot_of}
+use Rattle.tk_store.specs.FactSet.{AllIn, dot_of, IsFactSet}
 use Rattle.tk_store.specs.Beyond.{beyond, is_beyond}
-use Rattle.tk_store.specs.Slots.{Slot, Slots}
-use Rattle.tk_store.specs.StoreFields.{StoreFields}
+use Rattle.tk_store.specs.Slots.{Slot, Slots, Held, held_slot}
+use Rattle.tk_store.specs.StoreFields.{StoreFields, held_facts}
+use Rattle.tk_store.specs.WholeStores.{as_slot}
+use Rattle.tk_store.proofs.SlotLaws.{get_held}
+use Rattle.tk_fact.specs.declared.body.Body.{Body}
+use Rattle.tk_fact.specs.Check.{refusal_of}
+use Rattle.tk_fact.specs.FactBytes.{framed}
+use Rattle.tk_handle.specs.DotBytes.{dot_field}
+use Rattle.tk_format.specs.Format.{number_spelling, text_spelling}
+use Rattle.std.specs.Int.{w16}
 use Rattle.tk_store.specs.Walk.{above, is_above}
 use Rattle.tk_handle.specs.Moment.{moment}
 use Rattle.tk_store.proofs.EntryLaws.{AllIn-beyond}
 use Rattle.tk_bundle.specs.declared.page.Page.{Page}
-use Rattle.tk_bundle.specs.BundleFields.{Items, is_mark}
-use Rattle.tk_bundle.specs.Items.{item}
+use Rattle.tk_bundle.specs.BundleFields.{Items, is_mark, of_facts}
+use Rattle.tk_bundle.specs.Items.{item, mark_at, dot_size}
+use Rattle.tk_bundle.specs.ItemLaws.{dot_length}
 use Rattle.tk_bundle.specs.Versions.{mark_kind, kind_in, newest_kind, version_of, has_horizon}
-use Rattle.tk_bundle.specs.VersionLaws.{mark_told, horizon_told}
+use Rattle.tk_bundle.specs.VersionLaws.{mark_told, horizon_told, facts_told}
 use Rattle.tk_bundle.specs.Bundle.{ascends, most_items, bundle, HorizonFits}
 use Rattle.tk_bundle.specs.Page.{item_at, items_at, last_of, horizon_by, horizon_with, page_within, IsPageAt, IsPageOf}
 
@@ -175,8 +184,7 @@ pub page_fits : (P : StoreFields) (v : Vector) (after : Option Dot) (limit : ℕ
 page_fits P v after limit dots low same horizon fits =
     let found = take limit (beyond P.slots v after) in
     let items : items_at P.slots dots ≡ found = ap (items_at P.slots) same ∙ page_items P.slots v after limit in
-    let short : length found ≤ most_items = omega (arith, length-take limit (beyond P.slots v after)) in
-    (
+    let short : length found ≤ most_items = omega (arith, length-take limit (beyond P.slots v after)) in (
       (horizon_fits P.horizon found horizon, ((small (length found) short, few (length found) short), subst (AllByRecursion item.Fits) items fits)),
       ascends_sorted found (sorted-take limit (beyond P.slots v after) (sorted-filter (is_beyond v) (above P.slots after) (sorted-filter (is_above after) (sets.entries P.slots) (sets.entries_sorted P.slots)))),
     )
@@ -186,3 +194,22 @@ page_fits P v after limit dots low same horizon fits =
 
     few : (n : ℕ) → n ≤ most_items → nat_le n most_items ≡ true
     few n h = grind (arith, nat_tests)
+
+-- ---- single items
+
+-- the length of a dot, and the dot, are the mark of the dot
+pub mark_written : (d : Dot) (old mid new : List ℕ) → mid ≡ old ++ number_spelling w16 dot_size → new ≡ mid ++ dot_field.spell d → new ≡ old ++ item.spell (mark_at d)
+unfolding text_spelling
+mark_written d old mid new size dot =
+    dot ∙ ap (λ bytes. bytes ++ dot_field.spell d) size ∙ append_assoc old (number_spelling w16 dot_size) (dot_field.spell d)
+    ∙ ap (λ n. old ++ (number_spelling w16 n ++ dot_field.spell d)) (sym (dot_length d))
+
+-- the bundle of one fact has a spelling
+pub single_fits : (f : Dot × Body) → framed.Fits f → bundle.Fits (of_facts (f ∷ []))
+single_fits f fits =
+    let none : has_horizon (version_of (map as_slot (f ∷ []))) ≡ false = horizon_told (map as_slot (f ∷ [])) ∙ facts_told (f ∷ []) in
+    ((none, ((omega arith, refl), (fits, tt))), refl)
+
+-- a fact that a store holds at a dot passes its check
+pub held_passes : (P : StoreFields) (d : Dot) (b : Body) → IsFactSet (held_facts P) → sets.get P.slots d ≡ Some (Held b) → refusal_of b ≡ None
+held_passes P d b sound at = sound d b (get_held P.slots d ∙ ap held_slot at)

@@ -6,8 +6,9 @@
 --   marked          a value behind a byte that the value determines
 --   bundle          the spelling of a bundle
 --   bundle_bytes    the bytes of a bundle
---   VersionsTold    a bundle's first four bytes show whether marks and sign-outs are among its items
-use Rattle.std.specs.Prelude.{◌≡◌, ℕ, Bool, true, false, ◌&&◌, nat_le, ◌==◌, List, [], ◌∷◌, ◌++◌, take}
+--   VersionsTold    a bundle's first four bytes show whether marks and sign-outs are inside
+use Rattle.std.specs.Prelude.{◌≡◌, ℕ, Bool, true, false, ◌&&◌, nat_le, ◌==◌, List, [], ◌∷◌, ◌++◌}
+use Rattle.std.specs.Prelude.{take}
 use Rattle.std.specs.Prelude.{Option, Some, None, if◌then◌else◌}
 use Rattle.std.specs.Int.{w16}
 use Rattle.std.specs.List.{list_any}
@@ -87,8 +88,8 @@ bundle = only (λ b. ascends None b.items) listed
 abbrev pub bundle_bytes : BundleFields → List ℕ
 bundle_bytes b = bundle.spell b
 
--- a bundle begins with OTB3 if one of its items is a mark, otherwise with OTB2 if one is a sign-out,
--- otherwise with OTB1
+-- a bundle begins with OTB3 if one of its items is a mark, otherwise with OTB2 if one is a
+-- sign-out, otherwise with OTB1
 abbrev pub VersionsTold : Type 0
 VersionsTold =
     (b : BundleFields) → take 4 (bundle_bytes b) ≡ magic

@@ -1,14 +1,16 @@
 -- A bundle's bytes are read as that bundle alone. Key results:
 --   bundle_exact     a bundle has one spelling
 --   one_front        no bundle's bytes begin those of another bundle
---   versions_tell    a bundle's first four bytes show whether marks and sign-outs are among its items
-use Rattle.std.proofs.Common.{◌≡◌, ℕ, Bool, true, false, cond, eqb, nat_le, List, [], ◌∷◌, ◌++◌, Option, Some, None}
+--   versions_tell    a bundle's first four bytes show whether marks and sign-outs are inside
+use Rattle.std.proofs.Common.{◌≡◌, ℕ, Bool, true, false, cond, eqb, nat_le, List, [], ◌∷◌, ◌++◌}
+use Rattle.std.proofs.Common.{Option, Some, None}
 use Rattle.std.proofs.Common.{refl, sym, ap, subst, ◌∙◌}
 use Rattle.std.proofs.lemmas.Bool.{eqb-true, eq-eqb}
 use Rattle.std.proofs.lemmas.List.{append-nil}
 use Rattle.std.proofs.lemmas.Option.{cond_some}
 use Rattle.tk_format.specs.Format.{◌>>=◌, Format, byte}
-use Rattle.tk_format.specs.Exact.{IsBytes, IsExact, Takes, Takes-then, bind_some, prefix_free, some_is}
+use Rattle.tk_format.specs.Exact.{IsBytes, IsExact, Takes, Takes-then, bind_some, prefix_free}
+use Rattle.tk_format.specs.Exact.{some_is}
 use Rattle.tk_format.specs.Laws.{byte_exact, u16_exact, only_exact, after_exact, counted_exact}
 use Rattle.tk_format.specs.Laws.{both_exact, shaped_exact}
 use Rattle.tk_handle.specs.Moment.{moment}
@@ -29,7 +31,8 @@ marked_takes : {A : Type 0} (mark : A → ℕ) (f : ℕ → Format A) → ((m : 
 marked_takes {A} mark f p bytes x fits e =
     let m = bind_some (byte.read bytes) (λ m. (f m.0).read m.1 >>= λ a.
     cond (eqb m.0 (mark a.0)) (Some a) None) x e in
-    let a = bind_some ((f m.0.0).read m.0.1) (λ a. cond (eqb m.0.0 (mark a.0)) (Some a) None) x m.2 in
+    let a = bind_some ((f m.0.0).read m.0.1) (λ a. cond (eqb m.0.0 (mark a.0)) (Some a) None) x
+    m.2 in
     let g = cond_some (eqb m.0.0 (mark a.0.0)) a.0 x a.2 in
     let first = byte_exact.takes bytes m.0 fits m.1 in
     let second = (p m.0.0).takes m.0.1 a.0 first.0.rest_fits a.1 in
@@ -63,15 +66,18 @@ horizon_exact digit = record {
   again = λ o rest fits. again o rest fits;
 }
   where
-    taken : (t : Bool) → has_horizon digit ≡ t → (bytes : List ℕ) (x : Option ℕ × List ℕ) → IsBytes bytes
-        → Read t bytes ≡ Some x → Takes bytes (horizon_bytes x.0) x.1 × HorizonFits digit x.0
+    taken : (t : Bool) → has_horizon digit ≡ t → (bytes : List ℕ) (x : Option ℕ × List ℕ)
+        → IsBytes bytes → Read t bytes ≡ Some x
+        → Takes bytes (horizon_bytes x.0) x.1 × HorizonFits digit x.0
     taken true is bytes x fits e =
         let m = bind_some (moment.read bytes) (λ m. Some (Some m.0, m.1)) x e in
         let t = moment_exact.takes bytes m.0 fits m.1 in
-        subst (λ (y : Option ℕ × List ℕ). Takes bytes (horizon_bytes y.0) y.1 × HorizonFits digit y.0)
+        subst (λ (y : Option ℕ × List ℕ). Takes bytes (horizon_bytes y.0) y.1
+        × HorizonFits digit y.0)
         (some_is (Some m.0.0, m.0.1) x m.2) (t.0, (t.1, is))
     taken false is bytes x fits e =
-        subst (λ (y : Option ℕ × List ℕ). Takes bytes (horizon_bytes y.0) y.1 × HorizonFits digit y.0)
+        subst (λ (y : Option ℕ × List ℕ). Takes bytes (horizon_bytes y.0) y.1
+        × HorizonFits digit y.0)
         (some_is (None, bytes) x e) (record { parts = refl; rest_fits = fits }, is)
 
     again : (o : Option ℕ) (rest : List ℕ) → HorizonFits digit o
@@ -82,7 +88,8 @@ horizon_exact digit = record {
 -- what follows the digit of a version has one spelling
 contents_exact : (digit : ℕ) → IsExact (contents digit)
 contents_exact digit =
-    shaped_exact _ _ _ (both_exact _ _ (horizon_exact digit) counted_items_exact) (λ _. refl) (λ _. refl)
+    shaped_exact _ _ _ (both_exact _ _ (horizon_exact digit) counted_items_exact) (λ _. refl)
+    (λ _. refl)
 
 -- a bundle has one spelling
 pub bundle_exact : IsExact bundle

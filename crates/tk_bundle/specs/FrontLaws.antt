@@ -136,8 +136,8 @@ header_exact digit = both_exact _ _ (bytes_exact (horizon_size digit)) u16_exact
 
 pub walk_ends : (bytes rest : List ℕ) → IsBytes bytes → walk bytes ≡ Ok rest → Ends bytes rest
 walk_ends bytes rest fits e =
-    let s = test_ok (ltb (length bytes) least_header) Cut (or_cut (opening.read bytes) >>= opened) rest
-    e in
+    let s = test_ok (ltb (length bytes) least_header) Cut (or_cut (opening.read bytes) >>= opened)
+    rest e in
     let f = bind_ok (or_cut (opening.read bytes)) opened rest s.1 in
     let first = opening_exact.takes bytes f.0 fits (cut_ok _ f.0 f.1) in
     let digit = f.0.0.1 in
@@ -155,7 +155,8 @@ walk_ends bytes rest fits e =
 
 -- ---- a bundle at the front is walked over
 
-skipped_item : (i : Dot × Slot) (rest : List ℕ) → item.Fits i → skipped (item.spell i ++ rest) ≡ Ok rest
+skipped_item : (i : Dot × Slot) (rest : List ℕ) → item.Fits i
+    → skipped (item.spell i ++ rest) ≡ Ok rest
 unfolding text_spelling
 skipped_item i rest fits =
     let s = item_bytes i in
@@ -300,7 +301,8 @@ opening_on bytes more x e =
     (ap (λ (y : (List ℕ × ℕ) × List ℕ). Some (y.0, y.1 ++ more)) (some_is _ x v.2))
 
 header_on : (digit : ℕ) (bytes more : List ℕ) (x : (List ℕ × ℕ) × List ℕ)
-    → (header digit).read bytes ≡ Some x → (header digit).read (bytes ++ more) ≡ Some (x.0, x.1 ++ more)
+    → (header digit).read bytes ≡ Some x
+    → (header digit).read (bytes ++ more) ≡ Some (x.0, x.1 ++ more)
 header_on digit bytes more x e =
     let h = bind_some ((bytes_of (horizon_size digit)).read bytes) _ x e in
     let n = bind_some ((number w16).read h.0.1) _ x h.2 in

@@ -1,15 +1,18 @@
 -- An item's bytes are read as that item alone. Key results:
 --   item_exact     an item has one spelling
+--   dot_length     a dot has ten bytes
 --   mark_fits      the mark of a dot has a spelling
---   fact_is_item   a fact behind its length is spelled as an item is
-use Rattle.std.proofs.Common.{◌≡◌, ℕ, ◌+◌, ◌<◌, ◌^◌, Bool, true, false, cond, eqb, nat_le, List, [], ◌∷◌, ◌++◌}
-use Rattle.std.proofs.Common.{length, Option, Some, None, refl, sym, ap, subst, ◌∙◌, append_assoc, arith}
+use Rattle.std.proofs.Common.{◌≡◌, ℕ, ◌+◌, ◌<◌, ◌^◌, Bool, true, false, cond, eqb, nat_le, List, []}
+use Rattle.std.proofs.Common.{◌∷◌, ◌++◌}
+use Rattle.std.proofs.Common.{length, Option, Some, None, refl, sym, ap, subst, ◌∙◌, append_assoc}
+use Rattle.std.proofs.Common.{arith}
 use Rattle.std.specs.Int.{w16, w64}
 use Rattle.std.specs.Option.{option_map}
 use Rattle.std.proofs.lemmas.Bool.Decides.{nat_tests}
 use Rattle.std.proofs.lemmas.List.{length-append, take_at, drop_at}
 use Rattle.tk_format.specs.Format.{◌>>=◌, Format, only, text, text_spelling, whole, number_spelling}
-use Rattle.tk_format.specs.Exact.{IsBytes, IsBytes-drop, IsBytes-take, IsExact, Takes, bind_some, some_is, whole_takes, whole_again}
+use Rattle.tk_format.specs.Exact.{IsBytes, IsBytes-drop, IsBytes-take, IsExact, Takes, bind_some}
+use Rattle.tk_format.specs.Exact.{some_is, whole_takes, whole_again}
 use Rattle.tk_format.specs.Laws.{text_exact, only_exact}
 use Rattle.tk_format.specs.Spellings.{number_length}
 use Rattle.tk_handle.specs.declared.dot.Dot.{Dot}
@@ -38,7 +41,8 @@ body_long (bodies.TokenRevoked f) = omega arith
 body_long (bodies.ReuseSeen f) = omega arith
 body_long (bodies.SubjectOut f) = omega arith
 
-dot_length : (d : Dot) → length (dot_field.spell d) ≡ dot_size
+-- a dot has ten bytes
+pub dot_length : (d : Dot) → length (dot_field.spell d) ≡ dot_size
 dot_length d =
     length-append (number_spelling w16 d.region) (number_spelling w64 d.serial)
     ∙ ap (λ n. n + length (number_spelling w64 d.serial)) (number_length w16 d.region)
@@ -96,7 +100,8 @@ IsBytes-text : (bytes s rest : List ℕ) → IsBytes bytes → Takes bytes (text
 unfolding text_spelling
 IsBytes-text bytes s rest fits t =
     let size = number_spelling w16 (length s) in
-    let all : IsBytes (size ++ (s ++ rest)) = subst IsBytes (t.parts ∙ append_assoc size s rest) fits in
+    let all : IsBytes (size ++ (s ++ rest)) =
+    subst IsBytes (t.parts ∙ append_assoc size s rest) fits in
     let behind : IsBytes (s ++ rest) = subst IsBytes (drop_at size (s ++ rest) (length size) refl)
     (IsBytes-drop (length size) (size ++ (s ++ rest)) all) in
     subst IsBytes (take_at s rest (length s) refl) (IsBytes-take (length s) (s ++ rest) behind)
@@ -127,10 +132,3 @@ item_exact = record {
 pub mark_fits : (d : Dot) → dot_field.Fits d → item.Fits (d, Skipped)
 mark_fits d fits =
     (fits, (omega (arith, dot_length d), ap (λ n. nat_le n most_bytes) (dot_length d)))
-
--- a fact behind its length is spelled as an item is, and fits as one
-pub fact_is_item : (f : Dot × Body) → framed.spell f ≡ item.spell (as_slot f)
-fact_is_item f = refl
-
-pub fact_fits : (f : Dot × Body) → framed.Fits f → item.Fits (as_slot f)
-fact_fits f fits = fits

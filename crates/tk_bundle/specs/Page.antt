@@ -5,7 +5,8 @@
 --   IsPageOf     a page in bytes has these parts
 --   items_at     what a store knows of given dots
 --   IsPageAt     a page in bytes has what a store knows of given dots
-use Rattle.std.specs.Prelude.{◌≡◌, ℕ, ◌-◌, Bool, nat_lt, ◌==◌, List, ◌∷◌, ◌++◌, length, slice_get, Option}
+use Rattle.std.specs.Prelude.{◌≡◌, ℕ, ◌-◌, Bool, nat_lt, ◌==◌, List, ◌∷◌, ◌++◌, length, slice_get}
+use Rattle.std.specs.Prelude.{Option}
 use Rattle.std.specs.Prelude.{Some, None, if◌then◌else◌}
 use Rattle.std.specs.Int.{w16}
 use Rattle.std.specs.List.{filter_map, flat_map, list_any}
@@ -74,9 +75,10 @@ item_at S d = option_map (λ slot. (d, slot)) (sets.get S d)
 abbrev pub items_at : Slots → List Dot → Items
 items_at S dots = filter_map (item_at S) dots
 
--- the page in bytes: what a store knows of the dots, behind the magic, the version, the horizon if a
--- mark is inside, and the number of the dots
-pub record IsPageAt (page : Page) (P : StoreFields) (dots : List Dot) (follows : Bool) : Type 0 where
+-- the page in bytes: what a store knows of the dots, behind the magic, the version, the horizon if
+-- a mark is inside, and the number of the dots
+pub record IsPageAt (page : Page) (P : StoreFields) (dots : List Dot) (follows : Bool)
+    : Type 0 where
   pub bytes : page.bytes.items ≡ magic
       ++ (version_of (items_at P.slots dots) ∷ horizon_bytes
       (horizon_by (newest_kind 0 (items_at P.slots dots)) P.horizon)

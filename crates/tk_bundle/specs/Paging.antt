@@ -12,8 +12,8 @@ use Rattle.tk_store.specs.StoreFields.{StoreFields}
 use Rattle.tk_bundle.specs.Page.{page_of}
 
 -- R has all pages for the vector v from the cursor `after` on: it knows each item, or has skipped
--- that dot since. The first page is made from P. Each later page is made at the last dot of the page
--- before, from a store that may have grown, until no more follow
+-- that dot since. The first page is made from P. Each later page is made at the last dot of the
+-- page before, from a store that may have grown, until no more follow
 abbrev pub HasPages : Vector → Slots → Option Dot → StoreFields → List StoreFields → Type 0
 HasPages v R after P [] =
     AllBelow R (page_of P v after).bundle.items × ((page_of P v after).more ≡ false)

@@ -5,7 +5,8 @@
 --   horizon_told    the version of items has a horizon exactly if one of them is a mark
 --   mark_told       the newest kind is that of a mark exactly if one of the items is a mark
 --   facts_told      no mark is among facts
-use Rattle.std.proofs.Common.{◌≡◌, ℕ, ◌≤◌, Bool, true, false, ◌&&◌, ◌||◌, not, cond, max, nat_le, eqb}
+use Rattle.std.proofs.Common.{◌≡◌, ℕ, ◌≤◌, Bool, true, false, ◌&&◌, ◌||◌, not, cond, max, nat_le}
+use Rattle.std.proofs.Common.{eqb}
 use Rattle.std.proofs.Common.{List, [], ◌∷◌, map, refl, sym, ap, ◌∙◌, arith}
 use Rattle.std.specs.List.{list_any}
 use Rattle.std.proofs.lemmas.Bool.Decides.{nat_tests}

@@ -10,8 +10,8 @@ pub(crate) const MAGIC: &[u8] = b"OTB";
 /// The greatest number of items in a bundle (own).
 pub(crate) const MOST_ITEMS: u16 = 128;
 
-/// Items, strictly ascending by dot, at most 128 of them; if a mark is among them, the horizon up to
-/// which the sender skipped facts.
+/// Items, strictly ascending by dot, at most 128 of them; if a mark is among them, the horizon up
+/// to which the sender skipped facts.
 #[derive(Drop)]
 pub struct Bundle {
     horizon: Option<Moment>,
@@ -99,11 +99,7 @@ fn read_versioned(alloc: Global, reader: &mut Reader<'_>) -> Result<Bundle, Read
 }
 
 // Reads the horizon, if the version has one, and the items.
-fn read_contents(
-    alloc: Global,
-    version: u8,
-    reader: &mut Reader<'_>,
-) -> Result<Bundle, ReadError>
+fn read_contents(alloc: Global, version: u8, reader: &mut Reader<'_>) -> Result<Bundle, ReadError>
     ensures { Gets (λ b. b) (contents version) result reader.old reader.new }
 {
     let horizon = read_horizon(version, reader)?;
@@ -158,8 +154,8 @@ pub fn none_begins_another()
         → bundle_bytes a ++ rest ≡ bundle_bytes b → (a ≡ b) × (rest ≡ []) }
 {}
 
-/// States a law: a bundle begins with `OTB3` if one of its items is a mark, otherwise with `OTB2` if
-/// one is a sign-out, otherwise with `OTB1`.
+/// States a law: a bundle begins with `OTB3` if one of its items is a mark, otherwise with `OTB2`
+/// if one is a sign-out, otherwise with `OTB1`.
 pub fn versions_told()
     ensures { VersionsTold }
 {}

@@ -90,7 +90,11 @@ fn walk(reader: &mut Reader<'_>) -> Result<(), FrontError>
 fn horizon_size(version: u8) -> usize
     ensures { result ≡ spec.horizon_size version }
 {
-    if has_horizon(version) { HORIZON_BYTES } else { 0 }
+    if has_horizon(version) {
+        HORIZON_BYTES
+    } else {
+        0
+    }
 }
 
 // Walks over the given number of items.

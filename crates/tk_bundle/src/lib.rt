@@ -1,10 +1,11 @@
-//! Bundles: facts as bytes, on their way from region to region.
+//! Bundles: facts, and the marks of skipped facts, as bytes on their way from region to region.
 //!
-//! A bundle is a list of at most 128 facts, strictly ascending by dot. A bundle has exactly one
-//! spelling.
+//! A bundle is a list of at most 128 items, strictly ascending by dot. An item is a fact, or the
+//! mark that the fact of a dot was skipped. A bundle with a mark has the horizon up to which its
+//! sender skipped facts. A bundle has exactly one spelling.
 //!
-//! - `make` writes a page: the first facts of a store, above a cursor, that a version vector does
-//!   not cover. `pages_complete` states that a receiver of all pages misses nothing.
+//! - `make` writes a page: what a store knows, above a cursor, and a version vector does not cover.
+//!   `pages_complete` states that a receiver of all pages misses nothing.
 //! - `single` writes a record of a log: the bundle of one fact.
 //! - `Bundle::read` reads bytes that may be hostile, and reserves no memory for a number that they
 //!   only claim.
@@ -12,12 +13,14 @@
 //!   bytes that are no bundle.
 //!
 //! The bytes have versions, in one table. A version has the kinds of facts of the versions before
-//! it, and more. A bundle has the first version that has all of its facts: `OTB2` if one of them is
-//! a sign-out, otherwise `OTB1` (`versions_told`). A log may hold bundles of both versions.
+//! it, and more. A bundle has the first version that has all of its items: `OTB3` if one of them is
+//! a mark, otherwise `OTB2` if one is a sign-out, otherwise `OTB1` (`versions_told`). A log may
+//! hold bundles of all versions.
 //!
-//! In reading order: `Version`, `Page`, `make`, `single`, `Bundle`, `read_front`. The definitions
-//! are in `specs/`: `Versions` for the table of versions, `Bundle` for the bytes, `Page` and
-//! `Paging` for what a vector does not cover, `Front` for the walk over lengths.
+//! In reading order: `Version`, `Item`, `Page`, `make`, `single`, `Bundle`, `read_front`. The
+//! definitions are in `specs/`: `BundleFields` for what contracts see, `Versions` for the table of
+//! versions, `Items` and `Bundle` for the bytes, `Page` and `Paging` for what a vector does not
+//! cover, `Front` for the walk over lengths.
 #![tactic(auto)]
 
 mod bundle;

@@ -16,7 +16,6 @@
 use Rattle.std.proofs.Common.{◌≡◌, ◌≢◌, ℕ, Bool, true, false, List, [], Option, None, Some, Result, Ok, Err, IfOk, OnOk, OnErr, refl, subst, ap, ◌∙◌, inl, inr}
 use Rattle.std.specs.declared.alloc.AllocError.{AllocError}
 use Rattle.tk_format.specs.Format.{whole}
-use Rattle.tk_store.specs.Store.{known_in}
 use Rattle.tk_store.proofs.JoiningLaws.{joins_nothing}
 use Rattle.tk_message.specs.Reply.{error_reply}
 use Rattle.tk_message.specs.ReplyFields.{ReplyFields}
@@ -97,7 +96,7 @@ short_answer sync bytes now words came old new (Err e) is may told = short_of sy
     some_is b same = cc
 
 -- replying to a pull with a page changes nothing
-pub pulls : (r : RegionFields) (sent : List ℕ) (result : Result AnswerFields AllocError) → IfOk result (λ a. a ≡ rendered (page_reply (known_in r.facts) (whole wanted sent)) None None)
+pub pulls : (r : RegionFields) (sent : List ℕ) (result : Result AnswerFields AllocError) → IfOk result (λ a. a ≡ rendered (page_reply r.facts (whole wanted sent)) None None)
     → Exchanges r (Pull sent) result r
 pulls r sent (Ok a) h = (h, refl)
 pulls r sent (Err e) h = refl

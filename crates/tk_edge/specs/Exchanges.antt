@@ -16,7 +16,8 @@ use Rattle.tk_vector.specs.VersionVector.{Vector as AnyVector}
 use Rattle.tk_vector.specs.VectorBytes.{vector, vector_bytes}
 use Rattle.tk_store.specs.FactSet.{FactSet}
 use Rattle.tk_store.specs.Front.{IsFront}
-use Rattle.tk_store.specs.Store.{facts_of, known_in}
+use Rattle.tk_store.specs.Slots.{Slots}
+use Rattle.tk_store.specs.StoreFields.{StoreFields}
 use Rattle.tk_bundle.specs.Bundle.{bundle, bundle_bytes}
 use Rattle.tk_bundle.specs.Page.{page_of}
 use Rattle.tk_message.specs.Place.{next_in}
@@ -38,16 +39,16 @@ use Rattle.tk_edge.specs.declared.exchange.Exchange.{Exchange}
 use Rattle.tk_edge.specs.declared.exchange.Exchange.TheVariants.{Vector, Pull, Push}
 use Rattle.tk_edge.specs.declared.pull.Wanted.{Wanted}
 
--- the answer has the bytes of the front of the facts held, which fits into bytes
-abbrev pub TellsVector : FactSet → AnswerFields → Type 0
-TellsVector F answer =
-    (v : AnyVector) × IsFront F v × vector.Fits v
+-- the answer has the bytes of the front of the dots known, which fits into bytes
+abbrev pub TellsVector : Slots → AnswerFields → Type 0
+TellsVector S answer =
+    (v : AnyVector) × IsFront S v × vector.Fits v
     × (answer ≡ rendered (bytes_reply (vector_bytes v)) None None)
 
 -- the reply to a pull: the bundle of a page, or the error for bytes that are no pull
-abbrev pub page_reply : FactSet → Option Wanted → ReplyFields
-page_reply F None = error_reply code.Malformed
-page_reply F (Some w) = bytes_reply (bundle_bytes (page_of F w.vector w.after).facts)
+abbrev pub page_reply : StoreFields → Option Wanted → ReplyFields
+page_reply P None = error_reply code.Malformed
+page_reply P (Some w) = bytes_reply (bundle_bytes (page_of P w.vector w.after).bundle)
 
 -- The bundle that the bytes spell is taken in or refused. If memory runs out, the first of its
 -- facts are in.
@@ -55,8 +56,8 @@ pub record TakesBundle (old : RegionFields) (bytes : List ℕ) (taken : Result �
     (new : RegionFields) : Type 0 where
   pub number : new.number ≡ old.number
   pub settings : new.settings ≡ old.settings
-  pub takes : TakesIn (facts_of old.facts) (next_in (place_in old)) (whole bundle bytes) taken
-      (facts_of new.facts)
+  pub takes : TakesIn old.facts (next_in (place_in old)) (whole bundle bytes) taken
+      new.facts
 
 -- the name of the error for bytes that can't be read; out of memory has no name and gets no reply
 abbrev pub unread_code : ReadError → Option ErrorCode
@@ -92,10 +93,10 @@ TakesAndTells old bytes (Err e) new = (taken : Result ℕ TakeError) × TakesBun
 -- how a request of another region may end; only a push changes the region
 abbrev pub Exchanges : RegionFields → Exchange → Result AnswerFields AllocError → RegionFields
     → Type 0
-Exchanges old Vector (Ok answer) new = TellsVector (known_in old.facts) answer × (new ≡ old)
+Exchanges old Vector (Ok answer) new = TellsVector old.facts.slots answer × (new ≡ old)
 Exchanges old Vector (Err e) new = new ≡ old
 Exchanges old (Pull bytes) (Ok answer) new =
-    (answer ≡ rendered (page_reply (known_in old.facts) (whole wanted bytes)) None None)
+    (answer ≡ rendered (page_reply old.facts (whole wanted bytes)) None None)
     × (new ≡ old)
 Exchanges old (Pull bytes) (Err e) new = new ≡ old
 Exchanges old (Push bytes) result new = TakesAndTells old bytes result new

@@ -32,7 +32,6 @@ impl Model for Sent {
 
 ghost use Rattle.std.specs.Prelude.{◌≡◌, IfOk, None};
 ghost use Rattle.tk_format.specs.Format.{whole};
-ghost use Rattle.tk_store.specs.Store.{known_in};
 ghost use Rattle.tk_edge.specs.Answers.{rendered};
 ghost use Rattle.tk_edge.specs.Exchanges as spec;
 ghost use Rattle.tk_edge.specs.Pulls.{wanted};
@@ -76,7 +75,7 @@ pub(crate) fn answer_exchange(
 
 // Replies with the region's front, in bytes.
 fn tell_vector(alloc: Global, region: &Region) -> Result<Answer, AllocError>
-    ensures { IfOk result (spec.TellsVector (known_in region.now.facts)) }
+    ensures { IfOk result (spec.TellsVector region.now.facts.slots) }
 {
     let vector = region.vector(alloc)?;
     let bytes = vector.write(alloc)?;
@@ -86,7 +85,7 @@ fn tell_vector(alloc: Global, region: &Region) -> Result<Answer, AllocError>
 // Replies with the page that a pull requests.
 fn send_page(alloc: Global, region: &Region, bytes: &[u8]) -> Result<Answer, AllocError>
     ensures { IfOk result (λ answer. answer
-        ≡ rendered (spec.page_reply (known_in region.now.facts) (whole wanted bytes.now)) None
+        ≡ rendered (spec.page_reply region.now.facts (whole wanted bytes.now)) None
         None) }
 {
     let reply = page_reply(alloc, region, bytes)?;
@@ -96,7 +95,7 @@ fn send_page(alloc: Global, region: &Region, bytes: &[u8]) -> Result<Answer, All
 // Returns the page that a pull requests, or the error for bytes that are no pull.
 fn page_reply(alloc: Global, region: &Region, bytes: &[u8]) -> Result<Reply, AllocError>
     ensures { IfOk result (λ reply. reply
-        ≡ spec.page_reply (known_in region.now.facts) (whole wanted bytes.now)) }
+        ≡ spec.page_reply region.now.facts (whole wanted bytes.now)) }
 {
     match read_wanted(alloc, bytes) {
         Ok(wanted) => {

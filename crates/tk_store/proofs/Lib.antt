@@ -1,5 +1,6 @@
 pub mod EntryLaws
 pub mod FactSetLaws
+pub mod FitLaws
 pub mod FrontLaws
 pub mod JoiningLaws
 pub mod JoiningStepsLaws

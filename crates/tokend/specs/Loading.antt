@@ -1,11 +1,11 @@
 -- What an old log brings to a region (own).
 --   log_bytes    the bytes of bundles, one behind the other
---   AreBundles   lists of facts that bundles may hold
+--   AreBundles   bundles have spellings
 --   TakesAs      a bundle is taken in as `Region::take_in` takes it
 --   TakesEach    bundles are taken in one after the other
 --   TakesFront   bundles at the front of a log are taken in, and the rest is left
 --   IsRefused    the rest of a log is refused
---   TakesPart    memory ran out, and the first facts of the next bundle may be in
+--   TakesPart    memory ran out, and the first items of the next bundle may be in
 --   TakesOne     how taking in the first bundle of a rest may end
 --   Loads        how loading a log may end
 --   front_end    the outcome for a front that can't be read
@@ -13,71 +13,72 @@
 use Rattle.std.specs.Prelude.{◌≡◌, ◌⊎◌, ℕ, ◌<◌, ◌≤◌, true, List, [], ◌∷◌, ◌++◌, length}
 use Rattle.std.specs.Prelude.{take as take_bytes, Option, Some, None, Result, Ok, Err}
 use Rattle.std.specs.List.{flat_map}
-use Rattle.tk_store.specs.FactSet.{Facts}
-use Rattle.tk_store.specs.Store.{facts_of}
+use Rattle.tk_store.specs.SlotJoining.{AllFit}
+use Rattle.tk_bundle.specs.BundleFields.{BundleFields}
 use Rattle.tk_bundle.specs.Bundle.{bundle, bundle_bytes}
 use Rattle.tk_bundle.specs.Front.{IsCut}
 use Rattle.tk_bundle.specs.declared.error.FrontError.{FrontError}
 use Rattle.tk_bundle.specs.declared.error.FrontError.TheVariants as front
 use Rattle.tk_message.specs.Place.{next_in}
 use Rattle.tk_region.specs.RegionFields.{RegionFields, place_in}
-use Rattle.tk_region.specs.Taking.{AgreesWith, TakesFit, has_unmade}
+use Rattle.tk_region.specs.Taking.{TakesFit, has_unmade}
 use Rattle.tk_region.specs.declared.take.TakeError.{TakeError}
 use Rattle.tk_region.specs.declared.take.TakeError.TheVariants as take
 use Rattle.tokend.specs.declared.load.LoadFault.{LoadFault}
 use Rattle.tokend.specs.declared.load.LoadFault.TheVariants.{Bad, Memory, Read}
 
 -- the bytes of bundles, one behind the other
-abbrev pub log_bytes : List Facts → List ℕ
+abbrev pub log_bytes : List BundleFields → List ℕ
 log_bytes bundles = flat_map bundle_bytes bundles
 
--- each list of facts fits into a bundle
-abbrev pub AreBundles : List Facts → Type 0
+-- each bundle has a spelling
+abbrev pub AreBundles : List BundleFields → Type 0
 AreBundles [] = Unit {0}
-AreBundles (fs ∷ more) = bundle.Fits fs × AreBundles more
+AreBundles (b ∷ more) = bundle.Fits b × AreBundles more
 
 -- The bundle is taken in as `Region::take_in` takes it, with this result. If the bundle is taken
--- in, it has no fact of the region's own that isn't made yet, and its facts agree with those held.
-pub record TakesAs (old : RegionFields) (fs : Facts) (result : Result ℕ TakeError)
+-- in, it has no item of the region's own that isn't made yet, and its items agree with what the
+-- region knows.
+pub record TakesAs (old : RegionFields) (b : BundleFields) (result : Result ℕ TakeError)
     (new : RegionFields) : Type 0 where
   pub number : new.number ≡ old.number
   pub settings : new.settings ≡ old.settings
-  pub takes : TakesFit (facts_of old.facts) (next_in (place_in old)) fs result (facts_of new.facts)
+  pub takes : TakesFit old.facts (next_in (place_in old)) b result new.facts
 
 -- the bundles are taken in whole, one after the other
-abbrev pub TakesEach : RegionFields → List Facts → RegionFields → Type 0
+abbrev pub TakesEach : RegionFields → List BundleFields → RegionFields → Type 0
 TakesEach old [] new = new ≡ old
-TakesEach old (fs ∷ more) new =
-    (mid : RegionFields) × ((n : ℕ) × TakesAs old fs (Ok n) mid) × TakesEach mid more new
+TakesEach old (b ∷ more) new =
+    (mid : RegionFields) × ((n : ℕ) × TakesAs old b (Ok n) mid) × TakesEach mid more new
 
 -- bundles at the front of a log are taken in, and this rest of the log is left
 pub record TakesFront (old : RegionFields) (log rest : List ℕ) (new : RegionFields) : Type 0 where
-  pub bundles : List Facts
+  pub bundles : List BundleFields
   pub fit : AreBundles bundles
   pub parts : log ≡ log_bytes bundles ++ rest
   pub each : TakesEach old bundles new
 
 -- The rest of a log is refused. The rest begins with no bundle and isn't cut, or the region refuses
--- its first bundle: some fact is the region's own and isn't made yet, or disagrees with a fact
--- held.
+-- its first bundle: some item is the region's own and isn't made yet, or disagrees with what the
+-- region knows.
 abbrev pub IsRefused : RegionFields → List ℕ → Type 0
 IsRefused region rest =
-    ¬ IsCut rest × ((fs : Facts) (more : List ℕ) → bundle.Fits fs → rest ≡ bundle_bytes fs ++ more
-    → (has_unmade (next_in (place_in region)) fs ≡ true)
-    ⊎ ¬ (AgreesWith (facts_of region.facts) fs))
+    ¬ IsCut rest × ((b : BundleFields) (more : List ℕ) → bundle.Fits b → rest ≡ bundle_bytes b ++ more
+    → (has_unmade (next_in (place_in region)) b.items ≡ true)
+    ⊎ ¬ (AllFit region.facts.slots b.items))
 
--- out of memory: the region is unchanged, or the first facts of the rest's first bundle are in
+-- out of memory: the region is unchanged, or the first items of the rest's first bundle are in
 abbrev pub TakesPart : RegionFields → List ℕ → RegionFields → Type 0
 TakesPart old rest new = (new ≡ old)
-    ⊎ ((fs : Facts) × (more : List ℕ) × bundle.Fits fs × (rest ≡ bundle_bytes fs ++ more)
-    × TakesAs old fs (Err take.Memory) new)
+    ⊎ ((b : BundleFields) × (more : List ℕ) × bundle.Fits b × (rest ≡ bundle_bytes b ++ more)
+    × TakesAs old b (Err take.Memory) new)
 
 -- how taking in the first bundle of a rest may end: with its length in bytes, or None if it is cut
 abbrev pub TakesOne : RegionFields → List ℕ → Result (Option ℕ) LoadFault → RegionFields → Type 0
 TakesOne old rest (Ok (Some n)) new =
-    (0 < n) × ((fs : Facts) × bundle.Fits fs × (n ≤ length rest)
-    × (take_bytes n rest ≡ bundle_bytes fs)
-    × ((m : ℕ) × TakesAs old fs (Ok m) new))
+    (0 < n) × ((b : BundleFields) × bundle.Fits b × (n ≤ length rest)
+    × (take_bytes n rest ≡ bundle_bytes b)
+    × ((m : ℕ) × TakesAs old b (Ok m) new))
 TakesOne old rest (Ok None) new = IsCut rest × (new ≡ old)
 TakesOne old rest (Err Bad) new = IsRefused old rest × (new ≡ old)
 TakesOne old rest (Err Memory) new = TakesPart old rest new
@@ -91,7 +92,7 @@ Loads old log (Ok dropped) new =
     × (dropped ≡ length rest)
 -- the bundles before the first that isn't taken in
 Loads old log (Err Bad) new = (rest : List ℕ) × TakesFront old log rest new × IsRefused new rest
--- some bundles, and perhaps the first facts of the next
+-- some bundles, and perhaps the first items of the next
 Loads old log (Err Memory) new =
     (rest : List ℕ) × (mid : RegionFields) × TakesFront old log rest mid × TakesPart mid rest new
 -- no bundle
