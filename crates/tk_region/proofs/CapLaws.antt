@@ -5,7 +5,7 @@
 --   capped_added   a region that adds its next fact
 --   capped_taken   a region that takes in a bundle
 --   capped_pruned  a region that is pruned
-use Rattle.std.proofs.Common.{◌≡◌, ℕ, zero, suc, ◌+◌, ◌<◌, ◌≤◌, ◌==◌, ◌&&◌, ◌||◌, Bool, true, false, if◌then◌else◌, nat_le, max, List, [], ◌∷◌, take, Option, Some, None, Result, Ok, Err, refl, sym, ap, subst, ◌∙◌, inl, inr, arith}
+use Rattle.std.proofs.Common.{◌≡◌, ℕ, zero, suc, ◌+◌, ◌<◌, ◌≤◌, ◌==◌, ◌&&◌, ◌||◌, Bool, true, false, if◌then◌else◌, nat_le, max, [], ◌∷◌, take, Option, Some, None, Result, Ok, Err, refl, sym, ap, subst, ◌∙◌, inl, inr, arith}
 use mathlib.Core.Bool.{false≢true}
 use Rattle.std.specs.FinMap as map
 use Rattle.std.proofs.lemmas.Bool.Decides.{nat_tests}
@@ -16,7 +16,7 @@ use Rattle.tk_fact.specs.declared.body.Body.{Body}
 use Rattle.tk_store.specs.FactSet.{AllIn}
 use Rattle.tk_store.specs.NextDot.{last_serial, next_serial}
 use Rattle.tk_store.specs.Slots.{Slot, Slots, held_slot, joined_slot, with_slots}
-use Rattle.tk_store.specs.StoreFields.{StoreFields, empty_store, held_facts, with_fact}
+use Rattle.tk_store.specs.StoreFields.{StoreFields, empty_store, with_fact}
 use Rattle.tk_store.proofs.EntryLaws.{AllIn-entries}
 use Rattle.tk_store.proofs.NextDotLaws.{next_is_free}
 use Rattle.tk_store.proofs.PutLaws.{of_dot, none_is_not_some}

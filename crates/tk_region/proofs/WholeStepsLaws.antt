@@ -5,7 +5,7 @@
 --   whole_len        as many facts are held as dots are known
 --   whole_beyond     what a vector does not cover
 --   whole_page       a page is of facts alone
-use Rattle.std.proofs.Common.{◌≡◌, ℕ, zero, suc, ◌+◌, ◌-◌, nat_lt, Bool, true, false, cond, T, List, [], ◌∷◌, length, map, filter, take, slice_get, Option, Some, None, IfSome, refl, sym, ap, subst, ◌∙◌}
+use Rattle.std.proofs.Common.{◌≡◌, ℕ, zero, suc, ◌-◌, nat_lt, Bool, true, false, cond, List, [], ◌∷◌, length, map, filter, take, slice_get, Option, Some, None, IfSome, refl, sym, ap, subst, ◌∙◌}
 use Rattle.std.proofs.lemmas.Bool.{true≢false}
 use Rattle.std.specs.FinMap as sets
 use Rattle.std.specs.List.{list_any}
@@ -17,7 +17,7 @@ use Rattle.tk_store.specs.FactSet.{FactSet, Facts, AllIn, IsSubset, dot_of, with
 use Rattle.tk_store.specs.Joining.{JoinsFacts}
 use Rattle.tk_store.specs.Paging.{page, last_dot}
 use Rattle.tk_store.specs.Slots.{Slot, Slots, Held, Skipped, held_slot, held_in, held_entries, is_skipped, is_skipped_slot, joined_slot, with_slots}
-use Rattle.tk_store.specs.StoreFields.{StoreFields, empty_store, held_facts, IsWhole, with_fact}
+use Rattle.tk_store.specs.StoreFields.{StoreFields, empty_store, held_facts, IsWhole}
 use Rattle.tk_store.specs.Walk.{above, is_above}
 use Rattle.tk_store.specs.WholeStores.{as_slot, whole_store}
 use Rattle.tk_store.proofs.EntryLaws.{AllIn-entries}
@@ -30,7 +30,7 @@ use Rattle.tk_store.proofs.WholeStoreLaws.{whole_is}
 use Rattle.tk_bundle.specs.Bundle.{most_items}
 use Rattle.tk_bundle.specs.BundleFields.{is_mark, of_facts}
 use Rattle.tk_bundle.specs.Page.{bundle_of, page_of}
-use Rattle.tk_region.specs.RegionFields.{RegionFields, Gains, with_made}
+use Rattle.tk_region.specs.RegionFields.{RegionFields, Gains}
 use Rattle.tk_region.specs.Step.{IsNextFact, listed}
 use Rattle.tk_region.specs.Taking.{items_taken}
 use Rattle.tk_region.specs.WholeSteps.{IsUnpruned}
