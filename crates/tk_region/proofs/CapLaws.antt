@@ -30,6 +30,7 @@ use Rattle.tk_region.specs.RegionFields.{RegionFields, IsCapped, place_in}
 use Rattle.tk_region.specs.SettingsFields.{SettingsFields, greatest_cap}
 use Rattle.tk_region.specs.Step.{IsNextFact}
 use Rattle.tk_region.specs.Taking.{has_unmade, is_unmade, raised, items_taken, TakesIn}
+use Rattle.tk_region.proofs.TakeLaws.{raised_slots}
 
 one_under : (region r serial rest cap : ℕ) → (region ≡ r → serial ≤ cap) → rest ≤ cap → max (if region == r then serial else 0) rest ≤ cap
 one_under region r serial rest cap p q = grind (arith, nat_tests)
@@ -88,10 +89,6 @@ made_take next (suc k) (i ∷ items) h = both _ _ (made_take next k items) h
 -- nothing is known of the dot of the next fact
 pub next_unknown : (r : RegionFields) (f : Dot × Body) → IsNextFact r f → map.get r.facts.slots f.0 ≡ None
 next_unknown r f i = ap (map.get r.facts.slots) i.next ∙ next_is_free r.facts.slots r.number
-
-raised_slots : (P : StoreFields) (h : Option ℕ) → (raised P h).slots ≡ P.slots
-raised_slots P None = refl
-raised_slots P (Some moment) = refl
 
 module _ (n : ℕ) (s : SettingsFields) (P Q : StoreFields) (k : IsCapped (record { number = n; settings = s; facts = P })) where
   abbrev r : RegionFields

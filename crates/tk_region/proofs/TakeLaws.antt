@@ -161,7 +161,7 @@ at_end P Q items i past so_far = so_far ∙ ap (items_taken P) (whole i items pa
 
 -- ---- the horizon
 
-raised_slots : (P : StoreFields) (h : Option ℕ) → (raised P h).slots ≡ P.slots
+pub raised_slots : (P : StoreFields) (h : Option ℕ) → (raised P h).slots ≡ P.slots
 raised_slots P None = refl
 raised_slots P (Some moment) = refl
 
