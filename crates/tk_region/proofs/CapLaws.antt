@@ -1,10 +1,11 @@
--- The facts of a region under its own number have serials up to its cap. Key results:
+-- The dots of a region under its own number have serials up to its cap. Key results:
 --   next_under     the region's next serial is one
 --   capped_empty   a region without facts
---   joins_next     the next fact is joined to the others at a free dot
+--   next_unknown   the dot of the next fact is unknown
 --   capped_added   a region that adds its next fact
 --   capped_taken   a region that takes in a bundle
-use Rattle.std.proofs.Common.{◌≡◌, ℕ, zero, suc, ◌+◌, ◌<◌, ◌≤◌, ◌==◌, ◌&&◌, ◌||◌, Bool, true, false, if◌then◌else◌, nat_le, max, [], ◌∷◌, length, get_or, take, Contains, Option, Some, None, Result, Ok, Err, refl, sym, ap, subst, ◌∙◌, inl, inr, arith}
+--   capped_pruned  a region that is pruned
+use Rattle.std.proofs.Common.{◌≡◌, ℕ, zero, suc, ◌+◌, ◌<◌, ◌≤◌, ◌==◌, ◌&&◌, ◌||◌, Bool, true, false, if◌then◌else◌, nat_le, max, List, [], ◌∷◌, take, Option, Some, None, Result, Ok, Err, refl, sym, ap, subst, ◌∙◌, inl, inr, arith}
 use mathlib.Core.Bool.{false≢true}
 use Rattle.std.specs.FinMap as map
 use Rattle.std.proofs.lemmas.Bool.Decides.{nat_tests}
@@ -12,120 +13,131 @@ use Rattle.tk_handle.specs.declared.dot.Dot.{Dot}
 use Rattle.tk_handle.specs.Dot.{dot_cmp}
 use Rattle.tk_handle.specs.Ranges.{greatest_serial}
 use Rattle.tk_fact.specs.declared.body.Body.{Body}
-use Rattle.tk_store.specs.FactSet.{FactSet, Facts, AllIn, IsSubset}
-use Rattle.tk_store.specs.Joining.{JoinsFacts}
+use Rattle.tk_store.specs.FactSet.{AllIn}
 use Rattle.tk_store.specs.NextDot.{last_serial, next_serial}
+use Rattle.tk_store.specs.Slots.{Slot, Slots, held_slot, joined_slot, with_slots}
+use Rattle.tk_store.specs.StoreFields.{StoreFields, empty_store, held_facts, with_fact}
 use Rattle.tk_store.proofs.EntryLaws.{AllIn-entries}
-use Rattle.tk_store.proofs.JoiningLaws.{joins_with_facts}
 use Rattle.tk_store.proofs.NextDotLaws.{next_is_free}
-use Rattle.tk_store.proofs.PutLaws.{by_dot, get_here, none_is_not_some}
+use Rattle.tk_store.proofs.PutLaws.{of_dot, none_is_not_some}
+use Rattle.tk_store.proofs.SlotLaws.{get_held}
+use Rattle.tk_ledger.specs.Retention.{Prunes}
+use Rattle.tk_bundle.specs.BundleFields.{BundleFields, Items}
 use Rattle.tk_message.specs.Place.{next_in}
 use Rattle.tk_region.specs.declared.take.TakeError.{TakeError}
 use Rattle.tk_region.specs.declared.take.TakeError.TheVariants.{Malformed, OwnNumber, Conflict, Memory}
 use Rattle.tk_region.specs.RegionFields.{RegionFields, IsCapped, place_in}
 use Rattle.tk_region.specs.SettingsFields.{SettingsFields, greatest_cap}
 use Rattle.tk_region.specs.Step.{IsNextFact}
-use Rattle.tk_region.specs.Taking.{has_unmade, TakesIn}
+use Rattle.tk_region.specs.Taking.{has_unmade, is_unmade, raised, items_taken, TakesIn}
 
 one_under : (region r serial rest cap : ℕ) → (region ≡ r → serial ≤ cap) → rest ≤ cap → max (if region == r then serial else 0) rest ≤ cap
 one_under region r serial rest cap p q = grind (arith, nat_tests)
 
-all_under : (r : RegionFields) → IsCapped r → (es : Facts) → AllIn r.facts es → last_serial r.number es ≤ r.settings.cap
+all_under : (r : RegionFields) → IsCapped r → (es : Items) → AllIn r.facts.slots es → last_serial r.number es ≤ r.settings.cap
 all_under r k [] a = omega arith
 all_under r k (e ∷ es) a = one_under e.0.region r.number e.0.serial (last_serial r.number es) r.settings.cap (k.own e.0 e.1 a.0) (all_under r k es a.1)
 
-last_under : (r : RegionFields) → IsCapped r → next_serial r.facts r.number ≤ r.settings.cap + 1
-last_under r k = let most = all_under r k (map.entries r.facts) (AllIn-entries r.facts) in omega arith
+last_under : (r : RegionFields) → IsCapped r → next_serial r.facts.slots r.number ≤ r.settings.cap + 1
+last_under r k = let most = all_under r k (map.entries r.facts.slots) (AllIn-entries r.facts.slots) in omega arith
 
-pub next_under : (r : RegionFields) → IsCapped r → next_serial r.facts r.number ≤ greatest_serial
+pub next_under : (r : RegionFields) → IsCapped r → next_serial r.facts.slots r.number ≤ greatest_serial
 next_under r k = let most = last_under r k in omega (arith, k.low)
 
-pub capped_empty : (r : RegionFields) → r.facts ≡ map.empty → r.settings.cap ≤ greatest_cap → IsCapped r
-capped_empty r none low = record { own = λ d b h. absurd (none_is_not_some b (sym (map.get-empty dot_cmp d) ∙ ap (λ F. map.get F d) (sym none) ∙ h)); low = low }
-
--- a region that joins facts with serials up to the cap
-pub capped_joins : (n : ℕ) (s : SettingsFields) (F G : FactSet) (fs : Facts) → IsCapped (record { number = n; settings = s; facts = F }) → JoinsFacts F fs G
-    → ((f : Dot × Body) → Contains fs f → f.0.region ≡ n → f.0.serial ≤ s.cap) → IsCapped (record { number = n; settings = s; facts = G })
-capped_joins n s F G fs k j all = record {
-  own = λ d b h here. elim (j.only d b h) [ inl before ↦ k.own d b before here | inr new ↦ all (d, b) new here ];
-  low = k.low;
+pub capped_empty : (r : RegionFields) → r.facts ≡ empty_store → r.settings.cap ≤ greatest_cap → IsCapped r
+capped_empty r none low = record {
+  own = λ d s h. absurd (none_is_not_some s (sym (map.get-empty dot_cmp d) ∙ ap (λ (P : StoreFields). map.get P.slots d) (sym none) ∙ h));
+  low = low;
 }
 
--- a fact under the region's number, in a bundle that is not refused, is below the next dot
-made_before : (next : Dot) (fs : Facts) (i : ℕ) (d : Dot × Body) → has_unmade next fs ≡ false → i < length fs → (get_or fs i d).0.region ≡ next.region → (get_or fs i d).0.serial < next.serial
-made_before next [] i d h lt here = absurd (omega arith)
-made_before next (f ∷ fs) zero d h lt here = below f.0.region next.region next.serial f.0.serial _ here h
-  where
-    below : (a b m n : ℕ) (rest : Bool) → a ≡ b → ((a == b) && nat_le m n) || rest ≡ false → n < m
-    below a b m n rest e h = grind (arith, nat_tests)
-made_before next (f ∷ fs) (suc i) d h lt here = made_before next fs i d (rest _ _ h) (omega arith) here
-  where
-    rest : (a b : Bool) → a || b ≡ false → b ≡ false
-    rest true b h = absurd (false≢true (sym h))
-    rest false b h = h
+-- the dots of a region among slots have serials up to the cap
+abbrev AreUnder : ℕ → ℕ → Slots → Type 0
+AreUnder n cap S = (d : Dot) (s : Slot) → map.get S d ≡ Some s → d.region ≡ n → d.serial ≤ cap
 
--- the first facts of a bundle that is not refused
-made_take : (next : Dot) (k : ℕ) (fs : Facts) → has_unmade next fs ≡ false → has_unmade next (take k fs) ≡ false
-made_take next zero fs h = refl
+under_put : (n cap : ℕ) (S : Slots) (d : Dot) (s : Slot) → (d.region ≡ n → d.serial ≤ cap) → AreUnder n cap S → AreUnder n cap (map.insert S d s)
+under_put n cap S d s low under q t h here =
+    of_dot S d s q t (q.serial ≤ cap)
+    (λ same _. subst (λ (e : Dot). e.serial ≤ cap) (sym same) (low (ap (λ (e : Dot). e.region) (sym same) ∙ here)))
+    (λ there. under q t there here) h
+
+-- an item under the region's number, in a bundle that is not refused, is below the next dot
+below : (a b m n : ℕ) (rest : Bool) → ((a == b) && nat_le m n) || rest ≡ false → a ≡ b → n < m
+below a b m n rest h e = grind (arith, nat_tests)
+
+others : (a b : Bool) → a || b ≡ false → b ≡ false
+others true b h = absurd (false≢true (sym h))
+others false b h = h
+
+module _ (next : Dot) (cap : ℕ) (low : next.serial ≤ cap + 1) where
+  under_with : (items : Items) (S : Slots) → has_unmade next items ≡ false → AreUnder next.region cap S → AreUnder next.region cap (with_slots S items)
+  under_with [] S h under = under
+  under_with (i ∷ items) S h under =
+      under_with items (map.insert S i.0 (joined_slot (map.get S i.0) i.1)) (others (is_unmade next i.0) (has_unmade next items) h)
+      (under_put next.region cap S i.0 (joined_slot (map.get S i.0) i.1) (λ here. let lt = below i.0.region next.region next.serial i.0.serial (has_unmade next items) h here in omega (arith, lt, low)) under)
+
+-- the first items of a bundle that is not refused
+made_take : (next : Dot) (k : ℕ) (items : Items) → has_unmade next items ≡ false → has_unmade next (take k items) ≡ false
+made_take next zero items h = refl
 made_take next (suc k) [] h = refl
-made_take next (suc k) (f ∷ fs) h = both _ _ (made_take next k fs) h
+made_take next (suc k) (i ∷ items) h = both _ _ (made_take next k items) h
   where
     both : (a b : Bool) {c : Bool} → (b ≡ false → c ≡ false) → a || b ≡ false → a || c ≡ false
     both true b g h = h
     both false b g h = g h
 
--- a fact under the region's number, in a bundle that is not refused, has a serial up to the cap
-taken_under : (r : RegionFields) → IsCapped r → (fs : Facts) → has_unmade (next_in (place_in r)) fs ≡ false → (f : Dot × Body) → Contains fs f → f.0.region ≡ r.number → f.0.serial ≤ r.settings.cap
-taken_under r k fs h f c here =
-    let before = made_before (next_in (place_in r)) fs c.0 f h c.1 (ap (λ g. g.0.region) c.2 ∙ here) in
-    let most = last_under r k in
-    omega (arith, ap (λ g. g.0.serial) c.2)
+-- nothing is known of the dot of the next fact
+pub next_unknown : (r : RegionFields) (f : Dot × Body) → IsNextFact r f → map.get r.facts.slots f.0 ≡ None
+next_unknown r f i = ap (map.get r.facts.slots) i.next ∙ next_is_free r.facts.slots r.number
 
-module _ (n : ℕ) (s : SettingsFields) (F G : FactSet) (k : IsCapped (record { number = n; settings = s; facts = F })) where
+raised_slots : (P : StoreFields) (h : Option ℕ) → (raised P h).slots ≡ P.slots
+raised_slots P None = refl
+raised_slots P (Some moment) = refl
+
+module _ (n : ℕ) (s : SettingsFields) (P Q : StoreFields) (k : IsCapped (record { number = n; settings = s; facts = P })) where
   abbrev r : RegionFields
-  r = record { number = n; settings = s; facts = F }
+  r = record { number = n; settings = s; facts = P }
 
-  abbrev grown : RegionFields
-  grown = record { number = n; settings = s; facts = G }
+  abbrev changed : RegionFields
+  changed = record { number = n; settings = s; facts = Q }
 
   abbrev next : Dot
   next = next_in (place_in r)
 
-  same : G ≡ F → IsCapped grown
-  same e = subst (λ (H : FactSet). IsCapped (record { number = n; settings = s; facts = H })) (sym e) k
+  same : Q ≡ P → IsCapped changed
+  same e = subst (λ (R : StoreFields). IsCapped (record { number = n; settings = s; facts = R })) (sym e) k
 
-  joined : (fs : Facts) → has_unmade next fs ≡ false → JoinsFacts F fs G → IsCapped grown
-  joined fs h j = capped_joins n s F G fs k j (taken_under r k fs h)
+  taken : (h : Option ℕ) (items : Items) → has_unmade next items ≡ false → Q ≡ items_taken (raised P h) items → IsCapped changed
+  taken h items made is =
+      let slots : Q.slots ≡ with_slots P.slots items = ap (λ (R : StoreFields). R.slots) is ∙ ap (λ (S : Slots). with_slots S items) (raised_slots P h) in
+      record { own = subst (AreUnder n s.cap) (sym slots) (under_with next s.cap (last_under r k) items P.slots made k.own); low = k.low }
 
-  pub capped_taken : (o : Option Facts) (result : Result ℕ TakeError) → TakesIn F next o result G → IsCapped grown
+  pub capped_taken : (o : Option BundleFields) (result : Result ℕ TakeError) → TakesIn P next o result Q → IsCapped changed
   capped_taken None (Err Malformed) t = same t
   capped_taken None (Err Memory) t = same t
   capped_taken None (Err OwnNumber) t = absurd t
   capped_taken None (Err Conflict) t = absurd t
   capped_taken None (Ok m) t = absurd t
-  capped_taken (Some fs) (Err OwnNumber) t = same t.1
-  capped_taken (Some fs) (Err Conflict) t = same t.2
-  capped_taken (Some fs) (Err Malformed) t = absurd t
-  capped_taken (Some fs) (Err Memory) t = elim t [ inl e ↦ same e | inr u ↦ joined (take u.2.0 fs) (made_take next u.2.0 fs u.0) u.2.1 ]
-  capped_taken (Some fs) (Ok m) t = joined fs t.0 t.2.0
+  capped_taken (Some b) (Err OwnNumber) t = same t.1
+  capped_taken (Some b) (Err Conflict) t = same t.2
+  capped_taken (Some b) (Err Malformed) t = absurd t
+  capped_taken (Some b) (Err Memory) t = elim t [ inl e ↦ same e | inr u ↦ taken b.horizon (take u.2.0 b.items) (made_take next u.2.0 b.items u.0) u.2.1 ]
+  capped_taken (Some b) (Ok m) t = taken b.horizon b.items t.0 t.2.0
 
-  -- no fact is at the dot of the next fact
-  pub next_free : (f : Dot × Body) → IsNextFact r f → map.get F f.0 ≡ None
-  next_free f i = ap (map.get F) i.next ∙ next_is_free F n
+  pub capped_added : (f : Dot × Body) → IsNextFact r f → Q ≡ with_fact P f.0 f.1 → IsCapped changed
+  capped_added f i is =
+      subst (λ (R : StoreFields). IsCapped (record { number = n; settings = s; facts = R })) (sym is)
+      (record { own = under_put n s.cap P.slots f.0 _ (λ _. i.under) k.own; low = k.low })
 
-  module _ (f : Dot × Body) (i : IsNextFact r f) (is : G ≡ map.insert F f.0 f.1) where
-    pub joins_next : JoinsFacts F (f ∷ []) G
-    joins_next =
-        let free = next_free f i in
-        let more : IsSubset F (map.insert F f.0 f.1) = λ q c h. by_dot (λ o. o ≡ Some c) F f.0 f.1 q (λ e. absurd (none_is_not_some c (sym free ∙ ap (map.get F) (sym e) ∙ h))) h in
-        subst (JoinsFacts F (f ∷ [])) (sym is) (joins_with_facts (map.insert F f.0 f.1) F (f ∷ []) more (get_here F f.0 f.1, tt))
-
-    pub capped_added : IsCapped grown
-    capped_added = capped_joins n s F G (f ∷ []) k joins_next (only f i.under)
-      where
-        only : (f : Dot × Body) → f.0.serial ≤ s.cap → (g : Dot × Body) → Contains (f ∷ []) g → g.0.region ≡ n → g.0.serial ≤ s.cap
-        only f le g c here = at c.0 c.1 c.2
-          where
-            at : (j : ℕ) → j < 1 → get_or (f ∷ []) j g ≡ g → g.0.serial ≤ s.cap
-            at zero lt e = subst (λ (h : Dot × Body). h.0.serial ≤ s.cap) e le
-            at (suc j) lt e = absurd (omega arith)
+  -- a fact that may be skipped was held
+  pub capped_pruned : (moment m : ℕ) → Prunes P moment m Q → IsCapped changed
+  capped_pruned moment m prunes = record {
+    own = λ d t h here. elim (prunes.keeps d) [
+      | inl kept ↦ k.own d t (sym kept ∙ h) here
+      | inr may ↦ was (map.get P.slots d) refl may.fact (sym (get_held P.slots d) ∙ may.here) here
+    ];
+    low = k.low;
+  }
+    where
+      was : {d : Dot} → (o : Option Slot) → map.get P.slots d ≡ o → (b : Body) → held_slot o ≡ Some b → d.region ≡ n → d.serial ≤ s.cap
+      was None at b h here = absurd (none_is_not_some b h)
+      was {d} (Some t) at b h here = k.own d t at here

@@ -1,4 +1,5 @@
 pub mod CapLaws
+pub mod FitsLaws
 pub mod StepLaws
 pub mod TakeLaws
-pub mod UnionLaws
+pub mod WholeStepsLaws

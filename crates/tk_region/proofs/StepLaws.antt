@@ -2,14 +2,12 @@
 --   next_given   the prepared fact is the region's next
 --   gains_next   the region gains the prepared fact
 --   gains_none   the region gains nothing if no fact is prepared
-use Rattle.std.proofs.Common.{◌≡◌, [], ◌∷◌, Option, Some, None, IfSome, refl, sym, subst}
+use Rattle.std.proofs.Common.{◌≡◌, Option, Some, None, IfSome, refl, sym, subst}
 use Rattle.tk_handle.specs.declared.dot.Dot.{Dot}
 use Rattle.tk_fact.specs.declared.body.Body.{Body}
-use Rattle.tk_store.specs.FactSet.{FactSet}
-use Rattle.tk_store.specs.Joining.{JoinsFacts}
-use Rattle.tk_store.proofs.JoiningLaws.{joins_nothing}
+use Rattle.tk_store.specs.StoreFields.{StoreFields, with_fact}
 use Rattle.tk_region.specs.RegionFields.{RegionFields, Gains}
-use Rattle.tk_region.specs.Step.{PreparedFields, IsNextFact, listed}
+use Rattle.tk_region.specs.Step.{PreparedFields, IsNextFact}
 
 module _ (r R : RegionFields) (p P : PreparedFields) (same_region : r ≡ R) (same : p ≡ P) where
   pub next_given : (f : Dot × Body) → p.fact ≡ Some f → IfSome P.fact (IsNextFact R) → IsNextFact r f
@@ -18,17 +16,17 @@ module _ (r R : RegionFields) (p P : PreparedFields) (same_region : r ≡ R) (sa
       let here = subst (λ (P : PreparedFields). IfSome P.fact (IsNextFact r)) (sym same) there in
       subst (λ (o : Option (Dot × Body)). IfSome o (IsNextFact r)) is here
 
-  pub gains_next : (f : Dot × Body) (G : FactSet) → p.fact ≡ Some f → JoinsFacts r.facts (f ∷ []) G
-      → Gains R (listed P.fact) (record { number = r.number; settings = r.settings; facts = G })
-  gains_next f G is joins =
-      let new : RegionFields = record { number = r.number; settings = r.settings; facts = G } in
-      let one : Gains r (f ∷ []) new = record { number = refl; settings = refl; joins = joins } in
-      let made = subst (λ (o : Option (Dot × Body)). Gains r (listed o) new) (sym is) one in
-      let prepared = subst (λ (P : PreparedFields). Gains r (listed P.fact) new) same made in
-      subst (λ (R : RegionFields). Gains R (listed P.fact) new) same_region prepared
+  pub gains_next : (f : Dot × Body) (Q : StoreFields) → p.fact ≡ Some f → Q ≡ with_fact r.facts f.0 f.1
+      → Gains R P.fact (record { number = r.number; settings = r.settings; facts = Q })
+  gains_next f Q is with_it =
+      let new : RegionFields = record { number = r.number; settings = r.settings; facts = Q } in
+      let one : Gains r (Some f) new = record { number = refl; settings = refl; facts = with_it } in
+      let made = subst (λ (o : Option (Dot × Body)). Gains r o new) (sym is) one in
+      let prepared = subst (λ (P : PreparedFields). Gains r P.fact new) same made in
+      subst (λ (R : RegionFields). Gains R P.fact new) same_region prepared
 
-  pub gains_none : p.fact ≡ None → Gains R (listed P.fact) R
+  pub gains_none : p.fact ≡ None → Gains R P.fact R
   gains_none is =
-      let none : Gains R [] R = record { number = refl; settings = refl; joins = joins_nothing R.facts } in
-      let made = subst (λ (o : Option (Dot × Body)). Gains R (listed o) R) (sym is) none in
-      subst (λ (P : PreparedFields). Gains R (listed P.fact) R) same made
+      let none : Gains R None R = record { number = refl; settings = refl; facts = refl } in
+      let made = subst (λ (o : Option (Dot × Body)). Gains R o R) (sym is) none in
+      subst (λ (P : PreparedFields). Gains R P.fact R) same made

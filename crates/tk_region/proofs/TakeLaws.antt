@@ -1,54 +1,181 @@
--- Taking in one more fact of a bundle. Key results:
---   taken_new, no_conflict, taken_passes   one more fact
---   taken_all, taken_first, at_end                     all facts are joined, or the first of them
-use Rattle.std.proofs.Common.{◌≡◌, ℕ, zero, suc, ◌+◌, ◌<◌, ◌≤◌, [], ◌∷◌, length, take, get_or, Some, None, refl, sym, ap, subst, ◌∙◌, arith}
+-- Taking in one more item of a bundle. Key results:
+--   puts_fact, puts_mark      one item, by the outcomes of adding a fact and of skipping a dot
+--   taken_more                the store after one more item
+--   agrees_now                the next item agrees with what is known now
+--   at_end                    after the last item, all are taken in
+--   counted_new, counted_held   the number of known dots after one more item
+--   raised_takes              the horizon was raised before the items were taken in
+use Rattle.std.proofs.Common.{◌≡◌, ◌≢◌, ℕ, zero, suc, ◌+◌, ◌<◌, ◌≤◌, List, [], ◌∷◌, ◌++◌, length, take, get_or, Bool, true, false, cond, Option, Some, None, IsSome, is_some, Result, Ok, Err, refl, sym, ap, subst, ◌∙◌, arith}
+use Rattle.std.proofs.lemmas.Bool.{true≢false}
 use Rattle.std.specs.FinMap as map
 use Rattle.std.proofs.lemmas.Grind.{take_at_read}
 use Rattle.tk_handle.specs.declared.dot.Dot.{Dot}
-use Rattle.tk_fact.specs.Check.{refusal_of}
+use Rattle.tk_handle.specs.Dot.{dot_cmp_total}
 use Rattle.tk_fact.specs.declared.body.Body.{Body}
-use Rattle.tk_store.specs.FactSet.{FactSet, Facts, IsFactSet, AllIn, IsSubset, with_facts}
-use Rattle.tk_store.specs.Joining.{JoinsFacts}
-use Rattle.tk_store.proofs.JoiningLaws.{joins_with_facts}
-use Rattle.tk_store.proofs.FactSetLaws.{with_facts-append}
-use Rattle.tk_store.proofs.PutLaws.{insert_held, some_injective}
-use Rattle.tk_store.proofs.SubsetLaws.{subset_with_facts, AllIn-take, AllIn-at}
+use Rattle.tk_fact.specs.Keeping.{is_passing}
+use Rattle.tk_store.specs.Adding.{AddsTo, HasFact, RefusesFact}
+use Rattle.tk_store.specs.Skipping.{Skips, MayGo, Lasts}
+use Rattle.tk_store.specs.SlotJoining.{Passes}
+use Rattle.tk_store.specs.SlotOrder.{SlotAgrees}
+use Rattle.tk_store.specs.Slots.{Slot, Slots, Held, Skipped, joined_slot, with_slots}
+use Rattle.tk_store.specs.StoreFields.{StoreFields}
+use Rattle.tk_store.specs.declared.store.Added.{Added}
+use Rattle.tk_store.specs.declared.store.Added.TheVariants as added
+use Rattle.tk_store.specs.declared.store.AddError.{AddError}
+use Rattle.tk_store.specs.declared.store.AddError.TheVariants as error
+use Rattle.tk_store.proofs.PutLaws.{by_dot, len_new, none_is_not_some, some_injective}
+use Rattle.tk_store.proofs.SlotOrderLaws.{added_joins, added_horizon, skipped_joins, skipped_horizon}
+use Rattle.tk_bundle.specs.BundleFields.{BundleFields, Items, fact_of}
+use Rattle.tk_region.specs.declared.take.TakeError.{TakeError}
+use Rattle.tk_region.specs.declared.take.TakeError.TheVariants.{Malformed, OwnNumber, Conflict, Memory}
+use Rattle.tk_region.specs.Taking.{AgreesWith, raised, items_taken, Puts, Takes}
 
-module _ (F : FactSet) (fs : Facts) (i : ℕ) (f : Dot × Body) (is : f ≡ get_or fs i f) (within : i < length fs) where
-  -- the facts joined, with the next one, are the first i + 1 of the list
-  one_more : map.insert (with_facts F (take i fs)) f.0 f.1 ≡ with_facts F (take (i + 1) fs)
-  one_more = ap (λ g. map.insert (with_facts F (take i fs)) g.0 g.1) is ∙ sym (ap (with_facts F) (take_at_read fs i f within).1 ∙ with_facts-append F (take i fs) (get_or fs i f ∷ []))
+-- ---- one item
 
-  module _ (G : FactSet) (so_far : G ≡ with_facts F (take i fs)) where
-    pub taken_new : (new : FactSet) → new ≡ map.insert G f.0 f.1 → new ≡ with_facts F (take (i + 1) fs)
-    taken_new new e = e ∙ ap (λ H. map.insert H f.0 f.1) so_far ∙ one_more
+one_item : (P Q : StoreFields) (e : Dot × Slot) → Q.slots ≡ map.insert P.slots e.0 (joined_slot (map.get P.slots e.0) e.1) → Q.horizon ≡ P.horizon → Q ≡ items_taken P (e ∷ [])
+one_item P Q e slots horizon = λ i. record { slots = slots i; horizon = horizon i }
 
-    -- no other body is at the dot of the next fact
-    pub no_conflict : (U : FactSet) → IsSubset F U → AllIn U fs → (b : Body) → map.get G f.0 ≡ Some b → b ≡ f.1
-    no_conflict U within_U all b at =
-        let there = subset_with_facts F U (take i fs) within_U (AllIn-take U i fs all) f.0 b (ap (λ H. map.get H f.0) (sym so_far) ∙ at) in
-        let here : map.get U f.0 ≡ Some f.1 = subst (λ g. map.get U g.0 ≡ Some g.1) (sym is) (AllIn-at U fs i f all within) in
-        some_injective b f.1 (sym there ∙ here)
+added_one : (P Q : StoreFields) (f : Dot × Body) (a : Added) → AddsTo P f (Ok a) Q → Q ≡ items_taken P ((f.0, Held f.1) ∷ [])
+added_one P Q f a adds = one_item P Q (f.0, Held f.1) (added_joins P Q f f a refl adds) (added_horizon P Q f (Ok a) adds)
 
-  -- a fact of the bundle passes its check
-  pub taken_passes : (U : FactSet) → IsFactSet U → AllIn U fs → refusal_of f.1 ≡ None
-  taken_passes U sound all =
-      let here : map.get U f.0 ≡ Some f.1 = subst (λ g. map.get U g.0 ≡ Some g.1) (sym is) (AllIn-at U fs i f all within) in
-      sound f.0 f.1 here
-
--- the facts of a list that is in U are joined, all of them or the first
-pub taken_all : (U F G : FactSet) (fs : Facts) → IsSubset F U → AllIn U fs → G ≡ with_facts F fs → JoinsFacts F fs G
-taken_all U F G fs within all is = subst (JoinsFacts F fs) (sym is) (joins_with_facts U F fs within all)
-
--- after the last fact, all facts of the list are joined
-pub at_end : (F G : FactSet) (fs : Facts) (i : ℕ) → length fs ≤ i → G ≡ with_facts F (take i fs) → G ≡ with_facts F fs
-at_end F G fs i past so_far = so_far ∙ ap (with_facts F) (whole i fs past)
+pub puts_fact : (P Q : StoreFields) (f : Dot × Body) (r : Result Added AddError) → AddsTo P f r Q → Puts P (f.0, Held f.1) r Q
+puts_fact P Q f (Ok added.New) adds = (adds.0, added_one P Q f added.New adds)
+puts_fact P Q f (Ok added.Held) adds = (known (map.get P.slots f.0) adds.0, added_one P Q f added.Held adds)
   where
-    whole : (i : ℕ) (fs : Facts) → length fs ≤ i → take i fs ≡ fs
-    whole zero [] past = refl
-    whole zero (f ∷ fs) past = absurd (omega arith)
-    whole (suc i) [] past = refl
-    whole (suc i) (f ∷ fs) past = ap (λ l. f ∷ l) (whole i fs (omega arith))
+    known : (o : Option Slot) → HasFact f.1 o → IsSome o
+    known None h = absurd h
+    known (Some s) h = refl
+puts_fact P Q f (Err error.Conflict) adds = differs (map.get P.slots f.0) adds.0
+  where
+    differs : (o : Option Slot) → RefusesFact f.1 o → ¬ SlotAgrees o (Some (Held f.1))
+    differs None h agrees = h
+    differs (Some (Held c)) h agrees = h agrees
+    differs (Some Skipped) h agrees = true≢false (sym agrees ∙ h)
+puts_fact P Q f (Err error.Memory) adds = adds.1
 
-pub taken_first : (U F G : FactSet) (fs : Facts) (k : ℕ) → IsSubset F U → AllIn U fs → G ≡ with_facts F (take k fs) → JoinsFacts F (take k fs) G
-taken_first U F G fs k within all is = taken_all U F G (take k fs) within (AllIn-take U k fs all) is
+skipped_one : (P Q : StoreFields) (d : Dot) (a : Added) → Skips P d (Ok a) Q → Q ≡ items_taken P ((d, Skipped) ∷ [])
+skipped_one P Q d a skips = one_item P Q (d, Skipped) (skipped_joins P Q d a skips) (skipped_horizon P Q d (Ok a) skips)
+
+pub puts_mark : (P Q : StoreFields) (d : Dot) (r : Result Added AddError) → Skips P d r Q → Puts P (d, Skipped) r Q
+puts_mark P Q d (Ok added.New) skips = (skips.0, skipped_one P Q d added.New skips)
+puts_mark P Q d (Ok added.Held) skips = (known (map.get P.slots d) skips.0, skipped_one P Q d added.Held skips)
+  where
+    known : (o : Option Slot) → MayGo o → IsSome o
+    known None h = absurd h
+    known (Some s) h = refl
+puts_mark P Q d (Err error.Conflict) skips = differs (map.get P.slots d) skips.0
+  where
+    differs : (o : Option Slot) → Lasts o → ¬ SlotAgrees o (Some Skipped)
+    differs None h agrees = h
+    differs (Some (Held b)) h agrees = true≢false (sym agrees ∙ h)
+    differs (Some Skipped) h agrees = h
+puts_mark P Q d (Err error.Memory) skips = skips.1
+
+-- an item is its fact, or the mark of its dot
+pub item_of_fact : (i : Dot × Slot) (f : Dot × Body) → fact_of i ≡ Some f → i ≡ (f.0, Held f.1)
+item_of_fact (d, Held b) f h = ap (λ (g : Dot × Body). (g.0, Held g.1)) (some_injective (d, b) f h)
+item_of_fact (d, Skipped) f h = absurd (none_is_not_some f h)
+
+pub item_of_mark : (i : Dot × Slot) → fact_of i ≡ None → i ≡ (i.0, Skipped)
+item_of_mark (d, Held b) h = absurd (none_is_not_some (d, b) (sym h))
+item_of_mark (d, Skipped) h = refl
+
+pub counted_new : (P Q : StoreFields) (e : Dot × Slot) → map.get P.slots e.0 ≡ None → Q ≡ items_taken P (e ∷ []) → map.len P.slots + 1 ≡ map.len Q.slots
+counted_new P Q e none is = sym (ap (λ (R : StoreFields). map.len R.slots) is ∙ len_new P.slots e.0 (joined_slot (map.get P.slots e.0) e.1) none)
+
+pub counted_held : (P Q : StoreFields) (e : Dot × Slot) → IsSome (map.get P.slots e.0) → Q ≡ items_taken P (e ∷ []) → map.len P.slots ≡ map.len Q.slots
+counted_held P Q e known is =
+    sym (ap (λ (R : StoreFields). map.len R.slots) is ∙ map.len-insert dot_cmp_total P.slots e.0 (joined_slot (map.get P.slots e.0) e.1)
+    ∙ ap (λ t. cond t (map.len P.slots) (map.len P.slots + 1)) known)
+
+-- ---- the next item of a list
+
+-- the dots of the list differ from the given dot
+abbrev pub Avoids : Dot → Items → Type 0
+Avoids d [] = Unit {0}
+Avoids d (i ∷ items) = (i.0 ≢ d) × Avoids d items
+
+-- the dots of the list differ from each other
+abbrev pub Differs : Items → Type 0
+Differs [] = Unit {0}
+Differs (i ∷ items) = Avoids i.0 items × Differs items
+
+-- each fact of the list passes its check
+abbrev pub AllPass : Items → Type 0
+AllPass [] = Unit {0}
+AllPass (i ∷ items) = Passes i.1 × AllPass items
+
+pub passes_at : (items : Items) (i : ℕ) (e : Dot × Slot) → AllPass items → i < length items → Passes (get_or items i e).1
+passes_at [] i e all lt = absurd (omega arith)
+passes_at (x ∷ items) zero e all lt = all.0
+passes_at (x ∷ items) (suc i) e all lt = passes_at items i e all.1 (omega arith)
+
+-- a slot at one dot keeps the agreement at others
+agrees_after : (S : Slots) (d : Dot) (s : Slot) (items : Items) → Avoids d items → AgreesWith S items → AgreesWith (map.insert S d s) items
+agrees_after S d s [] v a = tt
+agrees_after S d s (i ∷ items) v a = (
+  by_dot (λ o. SlotAgrees o (Some i.1)) S d s i.0 (λ same. absurd (v.0 same)) a.0,
+  agrees_after S d s items v.1 a.1,
+)
+
+agrees_at : (S : Slots) (items : Items) (i : ℕ) (e : Dot × Slot) → Differs items → AgreesWith S items → i < length items
+    → SlotAgrees (map.get (with_slots S (take i items)) (get_or items i e).0) (Some (get_or items i e).1)
+agrees_at S [] i e v a lt = absurd (omega arith)
+agrees_at S (x ∷ items) zero e v a lt = a.0
+agrees_at S (x ∷ items) (suc i) e v a lt =
+    agrees_at (map.insert S x.0 (joined_slot (map.get S x.0) x.1)) items i e v.1
+    (agrees_after S x.0 (joined_slot (map.get S x.0) x.1) items v.0 a.1) (omega arith)
+
+with_slots-append : (S : Slots) (es fs : Items) → with_slots S (es ++ fs) ≡ with_slots (with_slots S es) fs
+with_slots-append S [] fs = refl
+with_slots-append S (e ∷ es) fs = with_slots-append (map.insert S e.0 (joined_slot (map.get S e.0) e.1)) es fs
+
+module _ (P Q : StoreFields) (items : Items) (i : ℕ) (e : Dot × Slot) (is : e ≡ get_or items i e) (within : i < length items) (so_far : Q ≡ items_taken P (take i items)) where
+  one_more : with_slots (with_slots P.slots (take i items)) (e ∷ []) ≡ with_slots P.slots (take (i + 1) items)
+  one_more =
+      ap (λ x. with_slots (with_slots P.slots (take i items)) (x ∷ [])) is
+      ∙ sym (ap (with_slots P.slots) (take_at_read items i e within).1 ∙ with_slots-append P.slots (take i items) (get_or items i e ∷ []))
+
+  pub taken_more : (R : StoreFields) → R ≡ items_taken Q (e ∷ []) → R ≡ items_taken P (take (i + 1) items)
+  taken_more R more =
+      more ∙ ap (λ (X : StoreFields). items_taken X (e ∷ [])) so_far
+      ∙ ap (λ (S : Slots). record { slots = S; horizon = P.horizon }) one_more
+
+  pub agrees_now : Differs items → AgreesWith P.slots items → SlotAgrees (map.get Q.slots e.0) (Some e.1)
+  agrees_now differs agree =
+      subst (λ (x : Dot × Slot). SlotAgrees (map.get Q.slots x.0) (Some x.1)) (sym is)
+      (subst (λ (X : StoreFields). SlotAgrees (map.get X.slots (get_or items i e).0) (Some (get_or items i e).1)) (sym so_far)
+      (agrees_at P.slots items i e differs agree within))
+
+  pub passes_now : AllPass items → Passes e.1
+  passes_now all = subst (λ (x : Dot × Slot). Passes x.1) (sym is) (passes_at items i e all within)
+
+-- after the last item, all items of the list are taken in
+pub at_end : (P Q : StoreFields) (items : Items) (i : ℕ) → length items ≤ i → Q ≡ items_taken P (take i items) → Q ≡ items_taken P items
+at_end P Q items i past so_far = so_far ∙ ap (items_taken P) (whole i items past)
+  where
+    whole : (i : ℕ) (items : Items) → length items ≤ i → take i items ≡ items
+    whole zero [] past = refl
+    whole zero (x ∷ items) past = absurd (omega arith)
+    whole (suc i) [] past = refl
+    whole (suc i) (x ∷ items) past = ap (λ l. x ∷ l) (whole i items (omega arith))
+
+-- ---- the horizon
+
+raised_slots : (P : StoreFields) (h : Option ℕ) → (raised P h).slots ≡ P.slots
+raised_slots P None = refl
+raised_slots P (Some moment) = refl
+
+-- raising the horizon keeps the agreement
+pub raised_agrees : (P Q : StoreFields) (h : Option ℕ) (items : Items) → Q ≡ raised P h → AgreesWith P.slots items → AgreesWith Q.slots items
+raised_agrees P Q h items is agree = subst (λ (S : Slots). AgreesWith S items) (sym (ap (λ (R : StoreFields). R.slots) is ∙ raised_slots P h)) agree
+
+pub raised_takes : (P Q R : StoreFields) (b : BundleFields) (r : Result ℕ TakeError) → Q ≡ raised P b.horizon → Takes Q (record { horizon = None; items = b.items }) r R → Takes P b r R
+raised_takes P Q R b (Ok n) is t = (
+  t.0 ∙ ap (λ (X : StoreFields). items_taken X b.items) is,
+  ap (λ (S : Slots). map.len S + n) (sym (ap (λ (X : StoreFields). X.slots) is ∙ raised_slots P b.horizon)) ∙ t.1,
+)
+raised_takes P Q R b (Err Memory) is t = (t.0, t.1 ∙ ap (λ (X : StoreFields). items_taken X (take t.0 b.items)) is)
+raised_takes P Q R b (Err Malformed) is t = absurd t
+raised_takes P Q R b (Err OwnNumber) is t = absurd t
+raised_takes P Q R b (Err Conflict) is t = absurd t

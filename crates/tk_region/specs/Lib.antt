@@ -1,18 +1,21 @@
 -- The definitions of this crate, by file, in reading order:
 --   SettingsFields   SettingsFields, what contracts see of settings
---   RegionFields     RegionFields, what contracts see of a region; place_in, IsCapped, Gains
+--   RegionFields     RegionFields, what contracts see of a region; place_in, IsCapped,
+--                    with_made, Gains
 --   Decision         decision_of, the decision of a request; capped, the serial cap
 --   Step             prepared_of, what a region prepares for a request; Commits, adding the fact
 --   Taking           TakesIn, the outcomes of taking in a bundle
---   WholeLedger      IsUnpruned, a ledger that skips nothing
+--   WholeSteps       IsUnpruned, a store of which nothing was skipped
 pub mod Decision
 pub mod RegionFields
 pub mod SettingsFields
 pub mod Step
 pub mod Taking
-pub mod WholeLedger
+pub mod WholeSteps
 pub use Rattle.tk_bundle.specs.Bundle
+pub use Rattle.tk_bundle.specs.BundleFields
 pub use Rattle.tk_message.specs.ReplyFields
 pub use Rattle.tk_store.specs.FactSet
 pub use Rattle.tk_store.specs.Joining
-pub use Rattle.tk_store.specs.Store
+pub use Rattle.tk_store.specs.SlotOrder
+pub use Rattle.tk_store.specs.StoreFields

@@ -5,7 +5,10 @@
 //! - `decide` returns the reply to a request, the fact that the request makes, and the record of
 //!   that fact. The region does not change.
 //! - `commit` adds the fact, and returns the reply only then. `handle` does both.
-//! - `take_in` joins a bundle's facts to the ledger, or refuses all of them before it adds any.
+//! - `take_in` takes a bundle's facts and marks into the ledger, or refuses all of them before it
+//!   changes anything.
+//! - `prune` skips the facts of families that are over. Before the `horizon` that `prune` and
+//!   `take_in` raise, the region answers no request.
 //! - `page` makes a bundle for another region, by the `vector` of that region.
 //!
 //! In reading order: `Settings`, `Region`, `Prepared`, `Handled`, `TakeError`. The definitions are
@@ -19,7 +22,6 @@ mod region;
 mod settings;
 mod step;
 mod take;
-mod whole;
 
 pub use region::Region;
 pub use settings::Settings;

@@ -1,18 +1,18 @@
 //! A region: its number, its settings and its ledger.
 
 use crate::settings::Settings;
-use crate::whole::WholeLedger;
 use std::marker::Model;
 use tk_handle::RegionNumber;
 use tk_ledger::Ledger;
 
-/// A region. Contracts see its number, its settings and its facts.
+/// A region. Contracts see its number, its settings and its store: the facts, the marks of skipped
+/// facts, and the horizon.
 #[derive(Drop)]
 pub struct Region {
     number: RegionNumber,
     settings: Settings,
-    // The facts. Those under the region's own number have serials up to the cap.
-    ledger: WholeLedger,
+    // The facts and marks. Those under the region's own number have serials up to the cap.
+    ledger: Ledger,
 }
 
 impl Model for Region {
@@ -38,8 +38,8 @@ ghost use Rattle.tk_handle.specs.Ranges.{greatest_serial};
 ghost use Rattle.tk_fact.specs.Check.{refusal_of};
 ghost use Rattle.tk_store.specs.Front.{IsFront};
 ghost use Rattle.tk_store.specs.NextDot.{next_serial, next_dot};
-ghost use Rattle.tk_store.specs.Store.{facts_of, known_in};
-ghost use Rattle.tk_store.specs.WholeStores.{whole_store};
+ghost use Rattle.tk_store.specs.StoreFields.{empty_store, held_facts, with_fact};
+ghost use Rattle.tk_ledger.specs.Retention.{Prunes};
 ghost use Rattle.tk_bundle.specs.Bundle.{bundle};
 ghost use Rattle.tk_bundle.specs.Page as pages;
 ghost use Rattle.tk_message.specs.Place.{next_in};
@@ -48,7 +48,7 @@ ghost use Rattle.tk_region.specs.Step.{prepared_of, IsNextFact, Commits};
 ghost use Rattle.tk_region.specs.Taking.{TakesIn};
 
 use crate::decision::decide_endpoint;
-use crate::step::{Handled, Prepared, prepare};
+use crate::step::{Handled, Prepared, prepare, refuse_early};
 use crate::take::{TakeError, take_bundle, unread};
 use std::alloc::{AllocError, Global};
 use tk_bundle::{Bundle, Page, make};
@@ -59,16 +59,16 @@ use tk_store::{AddError, Added};
 use tk_vector::VersionVector;
 
 impl Region {
-    /// Returns a region without facts.
+    /// Returns a region without facts, with the horizon 0.
     pub fn new(alloc: Global, number: RegionNumber, settings: Settings) -> Region
-        ensures { result ≡ record { number = number; settings = settings; facts = map.empty } }
+        ensures { result ≡ record { number = number; settings = settings; facts = empty_store } }
     {
         // This call gives the proof that the cap is in its range.
         let _cap = settings.cap();
         Region {
             number,
             settings,
-            ledger: WholeLedger::new(alloc),
+            ledger: Ledger::new(alloc),
         }
     }
 
@@ -82,29 +82,30 @@ impl Region {
     /// Returns the region's ledger: its facts, and the clients, consents and tokens that they
     /// define.
     pub fn ledger(&self) -> &Ledger
-        ensures { result.now ≡ whole_store (facts_of self.now.facts) }
+        ensures { result.now ≡ self.now.facts }
     {
-        self.ledger.ledger()
+        &self.ledger
     }
 
-    /// Returns the number of facts that the region holds.
+    /// Returns the number of facts that the region holds. Skipped facts do not count.
     pub fn len(&self) -> u64
-        ensures { result ≡ map.len (facts_of self.now.facts) }
+        ensures { result ≡ map.len (held_facts self.now.facts) }
     {
         self.ledger.store().len()
     }
 
-    /// Returns the region's vector: to each region, the serial up to which no fact is missing here.
+    /// Returns the region's vector: to each region, the serial up to which each dot is known here,
+    /// by a fact that is held or by a mark.
     ///
     /// Another region that gets this vector makes pages of what is missing.
     pub fn vector(&self, alloc: Global) -> Result<VersionVector, AllocError>
-        ensures { IfOk result (IsFront (known_in self.now.facts)) }
+        ensures { IfOk result (IsFront self.now.facts.slots) }
     {
         self.ledger.store().vector().copy(alloc)
     }
 
-    /// Makes a page for another region: the first 128 facts above the cursor `after` that the
-    /// vector does not cover, as a bundle.
+    /// Makes a page for another region: the first 128 facts and marks above the cursor `after` that
+    /// the vector does not cover, as a bundle. A bundle with a mark has the horizon too.
     pub fn page(
         &self,
         alloc: Global,
@@ -112,11 +113,11 @@ impl Region {
         after: Option<Dot>,
     ) -> Result<Page, AllocError>
         ensures page { IfOk result (λ page.
-            pages.IsPageOf page (pages.page_of (known_in self.now.facts) vector.now after)) }
+            pages.IsPageOf page (pages.page_of self.now.facts vector.now after)) }
 
         // A page can be read.
-        ensures fits { OnOk result (bundle.Fits (pages.page_of (known_in self.now.facts) vector.now
-            after).facts) }
+        ensures fits { OnOk result
+            (bundle.Fits (pages.page_of self.now.facts vector.now after).bundle) }
     {
         make(alloc, self.ledger.store(), vector, after)
     }
@@ -135,12 +136,21 @@ impl Region {
         Place::new(self.next_dot(), self.settings.lives())
     }
 
+    /// Returns the horizon: the moment up to which facts of families that are over may have been
+    /// skipped. Before the horizon the region answers no request.
+    pub fn horizon(&self) -> Moment
+        ensures { result ≡ self.now.facts.horizon }
+    {
+        self.ledger.horizon()
+    }
+
     /// Decides a request at a moment. Returns the reply, the fact that the request makes, and the
     /// record of that fact.
     ///
-    /// The region does not change. If the fact would be above the cap, the reply is 503
-    /// `temporarily_unavailable`, and no fact is made. Handles are made of the six random words.
-    /// Returns an error if memory runs out.
+    /// The region does not change. Before the horizon the reply is 503 `temporarily_unavailable`,
+    /// whatever the request, and no fact is made. The reply and the lack of a fact are the same if
+    /// the fact would be above the cap. Handles are made of the six random words. Returns an error if
+    /// memory runs out.
     pub fn decide(
         &self,
         alloc: Global,
@@ -154,7 +164,10 @@ impl Region {
         ensures next { IfOk result (λ p. IfSome p.fact (IsNextFact self.now)) }
     {
         let place = self.place();
-        let decision = decide_endpoint(alloc, self.ledger.ledger(), &place, now, words, request)?;
+        if now.seconds() < self.horizon().seconds() {
+            return refuse_early(alloc, &place);
+        }
+        let decision = decide_endpoint(alloc, &self.ledger, &place, now, words, request)?;
         prepare(alloc, self.settings.cap(), &place, decision)
     }
 
@@ -199,16 +212,18 @@ impl Region {
         self.commit(prepared)
     }
 
-    /// Takes in the bundle that the bytes spell. Returns the number of facts that were new.
+    /// Takes in the bundle that the bytes spell. Returns the number of its dots that were unknown:
+    /// neither held nor skipped.
     ///
-    /// The whole bundle is examined before any fact is added: for `Malformed`, then for
-    /// `OwnNumber`, then for `Conflict`. If memory runs out, the first of the bundle's facts may
-    /// have been added.
+    /// The whole bundle is examined before anything changes: for `Malformed`, then for `OwnNumber`,
+    /// then for `Conflict`. Then the horizon is raised to that of the bundle, if the bundle has one.
+    /// The facts are added, unless their dots are skipped, and the dots of the marks are skipped. If
+    /// memory runs out, the first of the items may have been taken in.
     pub fn take_in(&mut self, alloc: Global, bytes: &[u8]) -> Result<u16, TakeError>
         ensures number { self.new.number ≡ self.old.number }
         ensures settings { self.new.settings ≡ self.old.settings }
-        ensures takes { TakesIn (facts_of self.old.facts) (next_in (place_in self.old))
-            (whole bundle bytes.now) result (facts_of self.new.facts) }
+        ensures takes { TakesIn self.old.facts (next_in (place_in self.old))
+            (whole bundle bytes.now) result self.new.facts }
     {
         match Bundle::read(alloc, bytes) {
             Ok(sent) => self.take_bundle(sent),
@@ -218,39 +233,51 @@ impl Region {
 
     /// Takes in a bundle that was read, as [`Region::take_in`] takes in its bytes.
     ///
-    /// Returns the number of facts that were new. The facts move into the region.
+    /// Returns the number of its dots that were unknown. The facts move into the region.
     pub fn take_bundle(&mut self, sent: Bundle) -> Result<u16, TakeError>
         requires { bundle.Fits sent }
         ensures number { self.new.number ≡ self.old.number }
         ensures settings { self.new.settings ≡ self.old.settings }
-        ensures takes { TakesIn (facts_of self.old.facts) (next_in (place_in self.old)) (Some sent)
-            result (facts_of self.new.facts) }
+        ensures takes { TakesIn self.old.facts (next_in (place_in self.old)) (Some sent) result
+            self.new.facts }
     {
         let next = self.next_dot();
         take_bundle(next, &mut self.ledger, sent)
     }
+
+    /// Raises the horizon to the moment, and skips all facts that are kept for a token of a family
+    /// that is over then. Returns the number of facts that went.
+    ///
+    /// Costs O(n + k log n) for k of n facts. If memory runs out, the region is unchanged.
+    pub fn prune(&mut self, alloc: Global, moment: Moment) -> Result<u64, AllocError>
+        ensures number { self.new.number ≡ self.old.number }
+        ensures settings { self.new.settings ≡ self.old.settings }
+        ensures prunes { IfOk result (λ n. Prunes self.old.facts moment n self.new.facts) }
+        ensures err { OnErr result (self.new ≡ self.old) }
+    {
+        self.ledger.prune(alloc, moment)
+    }
 }
 
-// Returns the dot of the region's next fact. The facts must leave a serial.
-fn next_in_ledger(ledger: &WholeLedger, number: RegionNumber) -> Dot
-    requires { next_serial (known_in ledger.now) number ≤ greatest_serial }
-    ensures { result ≡ next_dot (known_in ledger.now) number }
+// Returns the dot of the region's next fact. The known dots must leave a serial.
+fn next_in_ledger(ledger: &Ledger, number: RegionNumber) -> Dot
+    requires { next_serial ledger.now.slots number ≤ greatest_serial }
+    ensures { result ≡ next_dot ledger.now.slots number }
 {
     ledger.store().next_dot(number).unwrap()
 }
 
-// Adds a fact at a free dot.
-fn add_free(ledger: &mut WholeLedger, fact: Fact) -> Result<(), AllocError>
-    requires free { map.get (facts_of ledger.old) fact.0 ≡ None }
+// Adds a fact at an unknown dot.
+fn add_free(ledger: &mut Ledger, fact: Fact) -> Result<(), AllocError>
+    requires free { map.get ledger.old.slots fact.0 ≡ None }
     requires passes { refusal_of fact.1 ≡ None }
-    ensures ok { OnOk result (facts_of ledger.new ≡ map.insert (facts_of ledger.old) fact.0
-        fact.1) }
+    ensures ok { OnOk result (ledger.new ≡ with_fact ledger.old fact.0 fact.1) }
     ensures err { OnErr result (ledger.new ≡ ledger.old) }
 {
     match ledger.add(fact) {
         Ok(Added::New) => Ok(()),
-        Ok(Added::Held) => unreachable!("the dot is free"),
+        Ok(Added::Held) => unreachable!("the dot is unknown"),
         Err(AddError::Memory) => Err(AllocError),
-        Err(AddError::Conflict) => unreachable!("the dot is free"),
+        Err(AddError::Conflict) => unreachable!("the dot is unknown"),
     }
 }

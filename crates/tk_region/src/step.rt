@@ -56,7 +56,7 @@ use crate::decision::capped;
 use std::alloc::{AllocError, Global};
 use tk_bundle::single;
 use tk_handle::Dot;
-use tk_message::{Decision, Place};
+use tk_message::{Decision, ErrorCode, Place};
 
 // Prepares a decision, unless it makes a fact above the cap.
 pub(crate) fn prepare(
@@ -70,6 +70,14 @@ pub(crate) fn prepare(
     ensures next { IfOk result (λ p. IfSome p.fact (spec.IsNextAt cap place.now)) }
 {
     let decision = capped(alloc, cap, place, decision)?;
+    with_record(alloc, place.next_dot(), decision)
+}
+
+// Prepares the refusal of any request before the horizon.
+pub(crate) fn refuse_early(alloc: Global, place: &Place) -> Result<Prepared, AllocError>
+    ensures { IfOk result (λ p. p ≡ spec.early_in place.now) }
+{
+    let decision = Decision::refuse(alloc, ErrorCode::TemporarilyUnavailable)?;
     with_record(alloc, place.next_dot(), decision)
 }
 

@@ -1,4 +1,4 @@
--- A ledger that skips nothing (own).
+-- A store of which nothing was skipped (own).
 --   IsUnpruned   no dot is skipped, and the horizon is 0
 use Rattle.std.specs.Prelude.{◌≡◌}
 use Rattle.tk_store.specs.StoreFields.{StoreFields, IsWhole}

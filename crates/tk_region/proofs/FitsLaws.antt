@@ -1,0 +1,75 @@
+-- What holds of the items of a bundle that has a spelling. Key results:
+--   fits_few      they are at most 128
+--   fits_differ   their dots differ from each other
+--   fits_pass     their facts pass the check
+use Rattle.std.proofs.Common.{◌≡◌, ◌≢◌, ◌≤◌, ℕ, Bool, true, false, ◌&&◌, nat_le, List, [], ◌∷◌, length, Option, Some, None, is_none, refl, sym, subst, arith}
+use mathlib.Core.Bool.{false≢true}
+use Rattle.std.proofs.lemmas.Bool.Decides.{nat_tests}
+use Rattle.std.specs.Ordering.{is_lt}
+use Rattle.std.specs.declared.cmp.Ordering.{Ordering}
+use Rattle.std.specs.declared.cmp.Ordering.TheVariants.{Less, Equal, Greater}
+use Rattle.std.specs.List.{AllByRecursion}
+use Rattle.tk_handle.specs.declared.dot.Dot.{Dot}
+use Rattle.tk_handle.specs.Dot.{dot_cmp, dot_cmp_total}
+use Rattle.tk_fact.specs.Check.{refusal_of}
+use Rattle.tk_fact.specs.declared.check.FactError.{FactError}
+use Rattle.tk_store.specs.Slots.{Held, Skipped}
+use Rattle.tk_bundle.specs.Bundle.{ascends, bundle}
+use Rattle.tk_bundle.specs.BundleFields.{BundleFields, Items}
+use Rattle.tk_bundle.specs.Items.{item}
+use Rattle.tk_region.proofs.TakeLaws.{Avoids, Differs, AllPass}
+
+both_true : (a b : Bool) → (a && b) ≡ true → (a ≡ true) × (b ≡ true)
+both_true true b h = (refl, h)
+both_true false b h = absurd (false≢true h)
+
+less : (o : Ordering) → is_lt o ≡ true → o ≡ Less
+less Less h = refl
+less Equal h = absurd (false≢true h)
+less Greater h = absurd (false≢true h)
+
+not_below_itself : (d : Dot) → dot_cmp d d ≡ Less → ⊥
+not_below_itself d h = let e = dot_cmp_total.antisymm d d in cc
+
+above : (d last : Dot) (items : Items) → dot_cmp d last ≡ Less → ascends (Some last) items ≡ true → Avoids d items
+above d last [] l h = tt
+above d last (i ∷ items) l h =
+    let k = both_true _ _ h in
+    let t : dot_cmp d i.0 ≡ Less = dot_cmp_total.trans d last i.0 l (less _ k.0) in
+    (λ same. not_below_itself d (subst (λ (q : Dot). dot_cmp d q ≡ Less) same t), above d i.0 items t k.1)
+
+all_above : (d : Dot) (items : Items) → ascends (Some d) items ≡ true → Avoids d items
+all_above d [] h = tt
+all_above d (i ∷ items) h =
+    let k = both_true _ _ h in
+    let t : dot_cmp d i.0 ≡ Less = less _ k.0 in
+    (λ same. not_below_itself d (subst (λ (q : Dot). dot_cmp d q ≡ Less) same t), above d i.0 items t k.1)
+
+differs_after : (d : Dot) (items : Items) → ascends (Some d) items ≡ true → Differs items
+differs_after d [] h = tt
+differs_after d (i ∷ items) h = let k = both_true _ _ h in (all_above i.0 items k.1, differs_after i.0 items k.1)
+
+differs : (items : Items) → ascends None items ≡ true → Differs items
+differs [] h = tt
+differs (i ∷ items) h = (all_above i.0 items h, differs_after i.0 items h)
+
+none : (o : Option FactError) → is_none o ≡ true → o ≡ None
+none None h = refl
+none (Some e) h = absurd (false≢true h)
+
+all_pass : (items : Items) → AllByRecursion item.Fits items → AllPass items
+all_pass [] h = tt
+all_pass ((d, Held b) ∷ items) h = (none (refusal_of b) h.0.0.1, all_pass items h.1)
+all_pass ((d, Skipped) ∷ items) h = (tt, all_pass items h.1)
+
+at_most : (n : ℕ) → nat_le n 128 ≡ true → n ≤ 128
+at_most n h = grind (arith, nat_tests)
+
+pub fits_few : (b : BundleFields) → bundle.Fits b → length b.items ≤ 128
+fits_few b fits = at_most (length b.items) fits.0.1.0.1
+
+pub fits_differ : (b : BundleFields) → bundle.Fits b → Differs b.items
+fits_differ b fits = differs b.items fits.1
+
+pub fits_pass : (b : BundleFields) → bundle.Fits b → AllPass b.items
+fits_pass b fits = all_pass b.items fits.0.1.1
