@@ -16,7 +16,6 @@
 use Rattle.std.proofs.Common.{◌≡◌, ◌≢◌, ℕ, Bool, true, false, List, [], Option, None, Some, Result, Ok, Err, IfOk, OnOk, OnErr, refl, subst, ap, ◌∙◌, inl, inr}
 use Rattle.std.specs.declared.alloc.AllocError.{AllocError}
 use Rattle.tk_format.specs.Format.{whole}
-use Rattle.tk_store.proofs.JoiningLaws.{joins_nothing}
 use Rattle.tk_message.specs.Reply.{error_reply}
 use Rattle.tk_message.specs.ReplyFields.{ReplyFields}
 use Rattle.tk_message.specs.RequestFields.{RequestFields}
@@ -49,8 +48,8 @@ refused why code reply allowed (Ok a) code_is reply_is allowed_is is =
     ∙ ap (λ (r : ReplyFields). rendered r (allowed_by why) None) (reply_is ∙ ap error_reply code_is)
 refused why code reply allowed (Err e) code_is reply_is allowed_is is = tt
 
-pub gains_nothing : (r : RegionFields) → Gains r [] r
-gains_nothing r = record { number = refl; settings = refl; joins = joins_nothing r.facts }
+pub gains_nothing : (r : RegionFields) → Gains r None r
+gains_nothing r = record { number = refl; settings = refl; facts = refl }
 
 pub answers_nothing : (r : RegionFields) (told : AnswerFields) (result : Result AnswerFields AllocError) → IfOk result (λ a. a ≡ told) → AnswersBy r told None result r
 answers_nothing r told (Ok a) h = (h, gains_nothing r, tt)

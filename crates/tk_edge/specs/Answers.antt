@@ -14,7 +14,7 @@ use Rattle.tk_message.specs.ReplyFields.{ReplyFields}
 use Rattle.tk_message.specs.declared.status.Status.{Status}
 use Rattle.tk_message.specs.declared.status.Status.TheVariants as status
 use Rattle.tk_region.specs.RegionFields.{RegionFields, Gains}
-use Rattle.tk_region.specs.Step.{prepared_of, listed, IsNextFact}
+use Rattle.tk_region.specs.Step.{prepared_of, IsNextFact}
 use Rattle.tk_edge.specs.Judged.{code_of, allowed_by}
 use Rattle.tk_edge.specs.Rendering.{reply_bytes}
 use Rattle.tk_edge.specs.Told.{AnswerFields}
@@ -60,5 +60,5 @@ fact_by r now words (Exchange asked) = None
 abbrev pub AnswersBy : RegionFields → AnswerFields → Option (Dot × Body)
     → Result AnswerFields AllocError → RegionFields → Type 0
 AnswersBy old told fact (Ok answer) new =
-    (answer ≡ told) × Gains old (listed fact) new × IfSome fact (IsNextFact old)
+    (answer ≡ told) × Gains old fact new × IfSome fact (IsNextFact old)
 AnswersBy old told fact (Err e) new = new ≡ old

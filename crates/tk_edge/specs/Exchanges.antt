@@ -14,7 +14,6 @@ use Rattle.tk_format.specs.declared.error.ReadError.{ReadError}
 use Rattle.tk_format.specs.declared.error.ReadError.TheVariants as read
 use Rattle.tk_vector.specs.VersionVector.{Vector as AnyVector}
 use Rattle.tk_vector.specs.VectorBytes.{vector, vector_bytes}
-use Rattle.tk_store.specs.FactSet.{FactSet}
 use Rattle.tk_store.specs.Front.{IsFront}
 use Rattle.tk_store.specs.Slots.{Slots}
 use Rattle.tk_store.specs.StoreFields.{StoreFields}

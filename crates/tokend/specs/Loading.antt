@@ -13,7 +13,6 @@
 use Rattle.std.specs.Prelude.{◌≡◌, ◌⊎◌, ℕ, ◌<◌, ◌≤◌, true, List, [], ◌∷◌, ◌++◌, length}
 use Rattle.std.specs.Prelude.{take as take_bytes, Option, Some, None, Result, Ok, Err}
 use Rattle.std.specs.List.{flat_map}
-use Rattle.tk_store.specs.SlotJoining.{AllFit}
 use Rattle.tk_bundle.specs.BundleFields.{BundleFields}
 use Rattle.tk_bundle.specs.Bundle.{bundle, bundle_bytes}
 use Rattle.tk_bundle.specs.Front.{IsCut}
@@ -21,7 +20,7 @@ use Rattle.tk_bundle.specs.declared.error.FrontError.{FrontError}
 use Rattle.tk_bundle.specs.declared.error.FrontError.TheVariants as front
 use Rattle.tk_message.specs.Place.{next_in}
 use Rattle.tk_region.specs.RegionFields.{RegionFields, place_in}
-use Rattle.tk_region.specs.Taking.{TakesFit, has_unmade}
+use Rattle.tk_region.specs.Taking.{AgreesWith, TakesFit, has_unmade}
 use Rattle.tk_region.specs.declared.take.TakeError.{TakeError}
 use Rattle.tk_region.specs.declared.take.TakeError.TheVariants as take
 use Rattle.tokend.specs.declared.load.LoadFault.{LoadFault}
@@ -65,7 +64,7 @@ abbrev pub IsRefused : RegionFields → List ℕ → Type 0
 IsRefused region rest =
     ¬ IsCut rest × ((b : BundleFields) (more : List ℕ) → bundle.Fits b → rest ≡ bundle_bytes b ++ more
     → (has_unmade (next_in (place_in region)) b.items ≡ true)
-    ⊎ ¬ (AllFit region.facts.slots b.items))
+    ⊎ ¬ (AgreesWith region.facts.slots b.items))
 
 -- out of memory: the region is unchanged, or the first items of the rest's first bundle are in
 abbrev pub TakesPart : RegionFields → List ℕ → RegionFields → Type 0
