@@ -11,6 +11,7 @@ use Rattle.std.specs.declared.alloc.AllocError.{AllocError}
 use Rattle.tk_handle.specs.declared.dot.Dot.{Dot}
 use Rattle.tk_fact.specs.declared.body.Body.{Body}
 use Rattle.tk_bundle.specs.Bundle.{bundle}
+use Rattle.tk_bundle.specs.BundleFields.{of_facts}
 use Rattle.tk_message.specs.Reply.{error_reply}
 use Rattle.tk_message.specs.ReplyFields.{ReplyFields}
 use Rattle.tk_message.specs.declared.status.Status.{Status}
@@ -59,7 +60,7 @@ fact_by r now words (Exchange asked) = None
 
 -- the record of the fact can be read: it is a bundle
 abbrev pub IsRecorded : Dot × Body → Type 0
-IsRecorded f = bundle.Fits (f ∷ [])
+IsRecorded f = bundle.Fits (of_facts (f ∷ []))
 
 -- Success: the answer is the given one, and the fact, if any, is the region's next and is added.
 -- Out of memory: the region is unchanged.

@@ -9,7 +9,7 @@ use Rattle.std.specs.Prelude.{◌≡◌, ◌⊎◌, ℕ, Bool, true, false, nat_
 use Rattle.std.specs.Prelude.{Result, Ok, Err, if◌then◌else◌}
 use Rattle.std.specs.Io.KnownBytes.{Appends, Keeps}
 use Rattle.tk_put.specs.Put.{AppendsFront}
-use Rattle.tk_store.specs.FactSet.{Facts}
+use Rattle.tk_bundle.specs.BundleFields.{BundleFields}
 use Rattle.tk_bundle.specs.Bundle.{bundle, bundle_bytes}
 use Rattle.tk_message.specs.ReplyFields.{ReplyFields}
 use Rattle.tk_message.specs.declared.status.Status.{Status}
@@ -38,7 +38,7 @@ is_news (Err error) = false
 
 -- the bytes are those of a bundle
 abbrev pub IsBundle : List ℕ → Type 0
-IsBundle bytes = (fs : Facts) × bundle.Fits fs × (bytes ≡ bundle_bytes fs)
+IsBundle bytes = (b : BundleFields) × bundle.Fits b × (bytes ≡ bundle_bytes b)
 
 -- whether facts of a pushed bundle may be new; bytes that weren't read as a bundle change nothing
 abbrev pub IsNews : RegionFields → List ℕ → Result ℕ TakeError → Bool → RegionFields → Type 0
