@@ -29,13 +29,14 @@ use Rattle.tk_edge.specs.Exchanges.{Exchanges, page_reply}
 use Rattle.tk_edge.specs.Heard.{Arrives, IsArrival, MayArrive}
 use Rattle.tk_edge.specs.Judged.{code_of, allowed_by}
 use Rattle.tk_edge.specs.Pulls.{wanted}
-use Rattle.tk_edge.specs.Served.{Asked, Step, Replies, IsServed}
+use Rattle.tk_edge.specs.Pushes.{bundle_to_log}
+use Rattle.tk_edge.specs.Served.{Asked, IsServed, IsUntouched, RepliesTo, RunsOut, Step}
 use Rattle.tk_edge.specs.Told.{AnswerFields, Change}
 use Rattle.tk_edge.specs.declared.edge.Served.{Served}
 use Rattle.tk_edge.specs.declared.edge.Served.TheVariants.{Done}
 use Rattle.tk_edge.specs.declared.exchange.Exchange.TheVariants.{Vector, Pull, Push}
 use Rattle.tk_edge.specs.declared.hear.Arrival.{Arrival}
-use Rattle.tk_edge.specs.declared.hear.Arrival.TheVariants.{Silence, Request, Exchange}
+use Rattle.tk_edge.specs.declared.hear.Arrival.TheVariants.{Silence, Refused, Request, Exchange}
 use Rattle.tk_edge.specs.declared.refusal.Refusal.{Refusal}
 use Rattle.tk_edge.specs.declared.tell.Fault.{Fault}
 use Rattle.tk_edge.specs.declared.tell.Fault.TheVariants.{Read, Write, Log, Memory}
@@ -107,30 +108,56 @@ fails fault = Err fault
 abbrev told_fault : Fault → Result Status Fault
 told_fault fault = Err fault
 
-module _ (asked : Asked) (came : Arrival) (old new seen : RegionFields) (same : old ≡ seen) (log : Change) (still : Type 0) (writer : Change) (sealed : Bool) (arrives : Arrives asked.sync asked.known came) (spoke : came ≢ Silence) where
-  -- replying to an arrival, with the region as contracts see it
-  as_seen : (result : Result Status Fault) → Replies asked.now asked.words came (record { before = old; after = new }) log still writer sealed result
-      → Replies asked.now asked.words came (record { before = seen; after = new }) log still writer sealed result
-  as_seen result told = subst (λ r. Replies asked.now asked.words came (record { before = r; after = new }) log still writer sealed result) same told
+-- no arrival is replied to with a read fault
+no_read : (sent : Option (List ℕ)) (now : ℕ) (words : List ℕ) (came : Arrival) (region : Step) (log : Change) (still : Type 0) (writer : Change) (sealed : Bool)
+    → RepliesTo sent now words came region log still writer sealed (Err Read) → ⊥
+no_read None now words came region log still writer sealed told = told
+no_read (Some bytes) now words came region log still writer sealed told = told.4.2
 
-  pub served : (status : Status) → Replies asked.now asked.words came (record { before = old; after = new }) log still writer sealed (Ok status)
-      → IsServed asked (record { before = seen; after = new }) log still writer sealed (Ok (Done status))
-  served status told = (came, arrives, spoke, as_seen (Ok status) told)
+module _ (asked : Asked) (came : Arrival) (old new : RegionFields) (log : Change) (still : Type 0) (writer : Change) (sealed : Bool) (arrives : Arrives asked.sync asked.known came) (spoke : came ≢ Silence) where
+  -- an arrival was replied to, with the pushed bundle that is logged, if any
+  abbrev Told : Option (List ℕ) → Result Status Fault → Type 0
+  Told sent result = RepliesTo sent asked.now asked.words came (record { before = old; after = new }) log still writer sealed result
 
-  pub faulted : (fault : Fault) → Replies asked.now asked.words came (record { before = old; after = new }) log still writer sealed (Err fault)
-      → IsServed asked (record { before = seen; after = new }) log still writer sealed (Err fault)
-  faulted Read told = absurd told
-  faulted Write told = (came, arrives, spoke, as_seen (Err Write) told)
-  faulted Log told = (came, arrives, spoke, as_seen (Err Log) told)
-  faulted Memory told = let short = as_seen (Err Memory) told in (short_of asked.sync asked.known asked.now asked.words came seen new short.0 arrives short.1, short.2)
+  pub served : (status : Status) → Told (bundle_to_log asked.log_taken came) (Ok status)
+      → IsServed asked (record { before = old; after = new }) log still writer sealed (Ok (Done status))
+  served status told = (came, arrives, spoke, told)
+
+  -- running out of memory for an arrival's reply
+  ran_out : (b : Bool) → Told (bundle_to_log b came) (Err Memory) → RunsOut b asked (record { before = old; after = new }) log still writer sealed
+  ran_out b told = by came b arrives told
+    where
+      by : (c : Arrival) (b : Bool) → Arrives asked.sync asked.known c
+          → RepliesTo (bundle_to_log b c) asked.now asked.words c (record { before = old; after = new }) log still writer sealed (Err Memory)
+          → RunsOut b asked (record { before = old; after = new }) log still writer sealed
+      by c false arrives told = (short_of asked.sync asked.known asked.now asked.words c old new told.0 arrives told.1, told.2)
+      by (Exchange (Push sent)) true arrives told = inr (sent, arrives, told)
+      by (Exchange (Pull sent)) true arrives told = inl (told.1, told.2)
+      by (Exchange Vector) true arrives told = inl (told.1, told.2)
+      by Silence true arrives told = inl (told.1, told.2)
+      by (Refused why) true arrives told = inl (told.1, told.2)
+      by (Request request) true arrives told = inl (told.1, told.2)
+
+  pub faulted : (fault : Fault) → Told (bundle_to_log asked.log_taken came) (Err fault)
+      → IsServed asked (record { before = old; after = new }) log still writer sealed (Err fault)
+  faulted Read told = absurd (no_read (bundle_to_log asked.log_taken came) asked.now asked.words came (record { before = old; after = new }) log still writer sealed told)
+  faulted Write told = (came, arrives, spoke, told)
+  faulted Log told = (came, arrives, spoke, told)
+  faulted Memory told = ran_out asked.log_taken told
+
+-- running out of memory before anything arrived
+pub nothing_heard : (b : Bool) (asked : Asked) (region : Step) (log : Change) (still : Type 0) (writer : Change) (sealed : Bool) → IsUntouched region log still writer sealed
+    → RunsOut b asked region log still writer sealed
+nothing_heard false asked region log still writer sealed same = (inl same.0, same.1)
+nothing_heard true asked region log still writer sealed same = inl same
 
 -- a fault while replying isn't a read fault
-pub unread : (now : ℕ) (words : List ℕ) (came : Arrival) (region : Step) (log : Change) (still : Type 0) (writer : Change) (sealed : Bool) (fault : Fault)
-    → Replies now words came region log still writer sealed (Err fault) → fails fault ≢ fails Read
-unread now words came region log still writer sealed Read told = absurd told
-unread now words came region log still writer sealed Write told = λ is. cc
-unread now words came region log still writer sealed Log told = λ is. cc
-unread now words came region log still writer sealed Memory told = λ is. cc
+pub unread : (sent : Option (List ℕ)) (now : ℕ) (words : List ℕ) (came : Arrival) (region : Step) (log : Change) (still : Type 0) (writer : Change) (sealed : Bool) (fault : Fault)
+    → RepliesTo sent now words came region log still writer sealed (Err fault) → fails fault ≢ fails Read
+unread sent now words came region log still writer sealed Read told = absurd (no_read sent now words came region log still writer sealed told)
+unread sent now words came region log still writer sealed Write told = λ is. cc
+unread sent now words came region log still writer sealed Log told = λ is. cc
+unread sent now words came region log still writer sealed Memory told = λ is. cc
 
 -- equal faults of a connection are equal faults of telling
 pub faults_as : (fault other : Fault) → fails fault ≡ fails other → told_fault fault ≡ told_fault other

@@ -4,9 +4,9 @@
 --   takes_kept      a failed read takes nothing
 --   takes_within    bytes within a number are within a greater number
 --   size_within     a body that may be requested is within the limit of all bodies
-use Rattle.std.proofs.Common.{◌≡◌, ℕ, ◌+◌, ◌≤◌, Bool, true, false, List, [], ◌++◌, length, Option, sym, subst, arith}
+use Rattle.std.proofs.Common.{◌≡◌, ℕ, ◌+◌, ◌≤◌, Bool, true, false, List, ◌++◌, length, Option, sym, subst, arith}
 use Rattle.std.specs.Io.KnownBytes.{Consumes, Keeps}
-use Rattle.std.proofs.KnownBytes.{Consumes-kept, Consumes-nil, Consumes-trans}
+use Rattle.std.proofs.KnownBytes.{Consumes-kept, Consumes-trans}
 use Rattle.std.proofs.lemmas.List.{length-append}
 use Rattle.tk_edge.specs.Bounds.{TakesAtMost, body_limit}
 use Rattle.tk_edge.specs.Judged.{MayPost, limit_of}

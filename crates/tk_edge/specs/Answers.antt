@@ -4,11 +4,14 @@
 --   refused_by   the answer to a request that the region doesn't see
 --   answer_by    the answer to an arrival that is no exchange
 --   fact_by      the fact that the region makes for an arrival, if any
+--   IsRecorded   the record of a fact can be read
 --   AnswersBy    how replying with a given answer and fact may end
-use Rattle.std.specs.Prelude.{◌≡◌, ℕ, List, [], Option, None, IfSome, Result, Ok, Err}
+use Rattle.std.specs.Prelude.{◌≡◌, ℕ, List, [], ◌∷◌, Option, None, IfSome, Result, Ok, Err}
 use Rattle.std.specs.declared.alloc.AllocError.{AllocError}
 use Rattle.tk_handle.specs.declared.dot.Dot.{Dot}
 use Rattle.tk_fact.specs.declared.body.Body.{Body}
+use Rattle.tk_bundle.specs.Bundle.{bundle}
+use Rattle.tk_bundle.specs.BundleFields.{of_facts}
 use Rattle.tk_message.specs.Reply.{error_reply}
 use Rattle.tk_message.specs.ReplyFields.{ReplyFields}
 use Rattle.tk_message.specs.declared.status.Status.{Status}
@@ -54,6 +57,10 @@ fact_by r now words Silence = None
 fact_by r now words (Refused why) = None
 fact_by r now words (Request request) = (prepared_of r now words request).fact
 fact_by r now words (Exchange asked) = None
+
+-- the record of the fact can be read: it is a bundle
+abbrev pub IsRecorded : Dot × Body → Type 0
+IsRecorded f = bundle.Fits (of_facts (f ∷ []))
 
 -- Success: the answer is the given one, and the fact, if any, is the region's next and is added.
 -- Out of memory: the region is unchanged.

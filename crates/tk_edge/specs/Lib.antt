@@ -13,6 +13,7 @@
 --   Answers      answer_by, the reply to a request; fact_by, the fact made for it
 --   Exchanges    Exchanges, the reply to another region
 --   Arrivals     Answers, the reply to what arrived
+--   Pushes       TakesAndLogs, a pushed bundle with its log
 --   EdgeFields   EdgeFields, what contracts see of an edge
 --   Served       IsServed, one connection is one step
 --   Laws         HasOneMeaning, the meaning of a stream is unique
@@ -31,6 +32,7 @@ pub mod MediaType
 pub mod Paths
 pub mod PullLaws
 pub mod Pulls
+pub mod Pushes
 pub mod Rendering
 pub mod Served
 pub mod Told

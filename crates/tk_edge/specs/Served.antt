@@ -1,34 +1,40 @@
 -- One connection is one step, and the log is written before the reply (own).
+--   Replies        how serving an arrival may end, unless it is a bundle to log
+--   RepliesTo      how serving an arrival may end
 --   IsServed       what a connection to an edge that isn't sealed does, by its result
 --   IsTurnedAway   what a connection to a sealed edge does
 --   IsReadFault    a read fault is returned only if the source failed
 -- Throughout, `still` is the statement that the log is as it was before, because no call reached
 -- it.
-use Rattle.std.specs.Prelude.{◌≡◌, ◌≢◌, ℕ, ⊤, Bool, false, List, [], Option, Some, Result, Ok, Err}
+use Rattle.std.specs.Prelude.{◌≡◌, ◌≢◌, ◌⊎◌, ℕ, ⊤, Bool, true, false, List, [], Option, None, Some}
+use Rattle.std.specs.Prelude.{IfSome, Result, Ok, Err}
 use Rattle.std.specs.declared.alloc.AllocError.{AllocError}
 use Rattle.std.specs.Io.KnownBytes.{Appends, Keeps}
 use Rattle.tk_put.specs.Put.{AppendsFront}
 use Rattle.tk_message.specs.declared.status.Status.{Status}
 use Rattle.tk_region.specs.RegionFields.{RegionFields}
-use Rattle.tk_edge.specs.Answers.{refused_by}
+use Rattle.tk_edge.specs.Answers.{fact_by, IsRecorded, refused_by}
 use Rattle.tk_edge.specs.Arrivals.{Answers, IsShort}
 use Rattle.tk_edge.specs.Failures.{Rose}
 use Rattle.tk_edge.specs.Heard.{Arrives}
+use Rattle.tk_edge.specs.Pushes.{TakesAndLogs, bundle_to_log}
 use Rattle.tk_edge.specs.Told.{AnswerFields, Change, IsTold, UsesLog}
 use Rattle.tk_edge.specs.declared.edge.Served.{Served}
 use Rattle.tk_edge.specs.declared.edge.Served.TheVariants.{Nothing, Done}
 use Rattle.tk_edge.specs.declared.hear.Arrival.{Arrival}
-use Rattle.tk_edge.specs.declared.hear.Arrival.TheVariants.{Silence}
+use Rattle.tk_edge.specs.declared.exchange.Exchange.TheVariants.{Push}
+use Rattle.tk_edge.specs.declared.hear.Arrival.TheVariants.{Exchange, Silence}
 use Rattle.tk_edge.specs.declared.hear.HearError.{HearError}
 use Rattle.tk_edge.specs.declared.hear.HearError.TheVariants as hear
 use Rattle.tk_edge.specs.declared.refusal.Refusal.TheVariants.{Sealed}
 use Rattle.tk_edge.specs.declared.tell.Fault.{Fault}
 use Rattle.tk_edge.specs.declared.tell.Fault.TheVariants.{Read, Write, Log, Memory}
 
--- a connection: whether regions exchange facts, its bytes, if known, the moment, and the random
--- words
+-- a connection: whether regions exchange facts, whether taken bundles are logged, its bytes, if
+-- known, the moment, and the random words
 pub record Asked : Type 0 where
   pub sync : Bool
+  pub log_taken : Bool
   pub known : Option (List ℕ)
   pub now : ℕ
   pub words : List ℕ
@@ -49,14 +55,16 @@ IsUntouched region log still writer sealed =
     (region.after ≡ region.before) × WritesNothing log still writer sealed
 
 -- the arrival is answered at the moment and with the random words: its facts are added, and the
--- record and the reply are written
+-- record, which can be read, and the reply are written
 abbrev pub AnswersAndTells : ℕ → List ℕ → Arrival → Step → Change → Type 0 → Change → Bool
     → Result Status Fault → Type 0
 AnswersAndTells now words came region log still writer sealed result =
     (answer : AnswerFields) × Answers region.before now words came (Ok answer) region.after
     × IsTold answer log writer sealed result × UsesLog answer still result
+    × IfSome (fact_by region.before now words came) IsRecorded
 
--- how serving an arrival may end; if memory runs out, nothing is written
+-- how serving an arrival may end, unless it is a bundle to log; if memory runs out, nothing is
+-- written
 abbrev pub Replies : ℕ → List ℕ → Arrival → Step → Change → Type 0 → Change → Bool
     → Result Status Fault → Type 0
 Replies now words came region log still writer sealed (Ok status) =
@@ -70,12 +78,32 @@ Replies now words came region log still writer sealed (Err Memory) =
     (e : AllocError) × Answers region.before now words came (Err e) region.after
     × WritesNothing log still writer sealed
 
+-- how serving an arrival may end, with the pushed bundle if taken bundles are logged
+abbrev pub RepliesTo : Option (List ℕ) → ℕ → List ℕ → Arrival → Step → Change → Type 0 → Change
+    → Bool → Result Status Fault → Type 0
+RepliesTo None now words came region log still writer sealed result =
+    Replies now words came region log still writer sealed result
+RepliesTo (Some bytes) now words came region log still writer sealed result =
+    TakesAndLogs bytes region.before region.after log still writer sealed result
+
 -- some arrival that the source may send, which isn't silence, is answered and the reply is written
 abbrev pub IsAnswered : Asked → Step → Change → Type 0 → Change → Bool → Result Status Fault
     → Type 0
 IsAnswered asked region log still writer sealed result =
     (came : Arrival) × Arrives asked.sync asked.known came × (came ≢ Silence)
-    × AnswersAndTells asked.now asked.words came region log still writer sealed result
+    × RepliesTo (bundle_to_log asked.log_taken came) asked.now asked.words came region log still
+    writer sealed result
+
+-- Memory ran out, and nothing is written. If taken bundles are logged, either nothing was changed,
+-- or a bundle was pushed and the log has it if its facts may be new.
+abbrev pub RunsOut : Bool → Asked → Step → Change → Type 0 → Change → Bool → Type 0
+RunsOut false asked region log still writer sealed =
+    IsShort asked.sync asked.known region.before region.after
+    × WritesNothing log still writer sealed
+RunsOut true asked region log still writer sealed =
+    IsUntouched region log still writer sealed
+    ⊎ ((sent : List ℕ) × Arrives asked.sync asked.known (Exchange (Push sent))
+    × TakesAndLogs sent region.before region.after log still writer sealed (Err Memory))
 
 -- what a connection to an edge that isn't sealed does, by its result
 abbrev pub IsServed : Asked → Step → Change → Type 0 → Change → Bool → Result Served Fault → Type 0
@@ -91,8 +119,7 @@ IsServed asked region log still writer sealed (Err Write) =
 IsServed asked region log still writer sealed (Err Read) =
     IsUntouched region log still writer sealed
 IsServed asked region log still writer sealed (Err Memory) =
-    IsShort asked.sync asked.known region.before region.after
-    × WritesNothing log still writer sealed
+    RunsOut asked.log_taken asked region log still writer sealed
 
 -- what a connection to a sealed edge does: the reply is that of `Sealed`, whatever the request
 abbrev pub IsTurnedAway : Change → Result Served Fault → Type 0

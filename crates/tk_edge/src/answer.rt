@@ -31,8 +31,9 @@ impl Model for Answer {
     } };
 }
 
-ghost use Rattle.std.specs.Prelude.{◌≡◌, IfOk, IfSome, None};
+ghost use Rattle.std.specs.Prelude.{◌≡◌, IfOk, IfSome, None, OnOk};
 ghost use Rattle.std.specs.Option.{option_copied};
+ghost use Rattle.tk_fact.specs.Check.{refusal_of};
 ghost use Rattle.tk_region.specs.Step.{IsNextFact};
 ghost use Rattle.tk_edge.specs.Answers as spec;
 ghost use Rattle.tk_edge.specs.Arrivals.{Answers};
@@ -42,6 +43,7 @@ use crate::hear::Arrival;
 use crate::refusal::Refusal;
 use crate::render::render;
 use std::alloc::{AllocError, Global};
+use tk_fact::Fact;
 use tk_handle::Moment;
 use tk_message::{Reply, Request, Told};
 use tk_region::{Prepared, Region};
@@ -56,7 +58,11 @@ pub(crate) fn answer_arrival(
     words: &[u64; 6],
     came: &Arrival,
 ) -> Result<Answer, AllocError>
-    ensures { Answers region.old now words.now came.now result region.new }
+    ensures answers { Answers region.old now words.now came.now result region.new }
+
+    // The record of the fact, if one was made, can be read.
+    ensures recorded { OnOk result
+        (IfSome (spec.fact_by region.old now words.now came.now) spec.IsRecorded) }
 {
     match came {
         Arrival::Silence => Ok(silent(alloc)),
@@ -93,10 +99,25 @@ fn answer_request(
     words: &[u64; 6],
     request: &Request,
 ) -> Result<Answer, AllocError>
-    ensures { Answers region.old now words.now (Arrival.Request request.now) result region.new }
+    ensures answers { Answers region.old now words.now (Arrival.Request request.now) result
+        region.new }
+    ensures recorded { OnOk result (IfSome
+        (spec.fact_by region.old now words.now (Arrival.Request request.now)) spec.IsRecorded) }
 {
     let prepared = region.decide(alloc, now, words, request)?;
+    match &prepared.fact {
+        Some(fact) => has_record(fact),
+        None => {}
+    }
     send(alloc, region, prepared)
+}
+
+// Gives a proof the fact that the record of a fact that passes its check can be read.
+fn has_record(fact: &Fact)
+    requires { refusal_of fact.now.1 ≡ None }
+    ensures { spec.IsRecorded fact.now }
+{
+    fact.known();
 }
 
 // Makes the answer, then adds the fact. No fact is added if memory runs out for its reply.

@@ -47,7 +47,8 @@ ghost use Rattle.tk_edge.specs.Failures.{Rose};
 ghost use Rattle.tk_edge.specs.Told.{IsFaultOfDevice};
 ghost use Rattle.tk_edge.specs.Heard.{Arrives, IsArrival, MayArrive};
 ghost use Rattle.tk_edge.specs.Heads.{head_limit};
-ghost use Rattle.tk_edge.specs.Served.{IsServed, IsTurnedAway, Replies};
+ghost use Rattle.tk_edge.specs.Pushes.{bundle_to_log};
+ghost use Rattle.tk_edge.specs.Served.{IsServed, IsTurnedAway, Replies, RepliesTo};
 ghost use Rattle.tk_edge.specs.declared.hear.Arrival.{Arrival as AnyArrival};
 
 use crate::answer::{Answer, answer_arrival, refuse};
@@ -55,6 +56,7 @@ use crate::device::{Sink, Source};
 use crate::given::Given;
 use crate::head::HEAD_LIMIT;
 use crate::hear::{Arrival, HearError, hear};
+use crate::push::{bundle_to_log, take_and_log};
 use crate::put::put_whole;
 use crate::refusal::Refusal;
 use crate::tell::{Fault, tell};
@@ -142,15 +144,20 @@ impl Edge {
     /// Serves one connection: reads a request, logs its fact and writes the reply, in this order.
     ///
     /// The reply is that of [`Edge::answer`]. The record of the fact is written to the log and
-    /// flushed before the first byte of the reply. The log isn't called without a fact. `buf` holds
-    /// the head while it is read: [`HEAD_LIMIT`] bytes of any value. A sealed edge reads nothing, and writes
-    /// the reply 503 temporarily_unavailable.
+    /// flushed before the first byte of the reply. `buf` holds the head while it is read:
+    /// [`HEAD_LIMIT`] bytes of any value. A sealed edge reads nothing, and writes the reply 503
+    /// temporarily_unavailable.
+    ///
+    /// If `log_taken` is true, a pushed bundle with a new fact is logged too, as it was sent, before
+    /// its reply. If memory runs out, the log has a bundle whose facts may be in. The log isn't
+    /// called without a fact made or a bundle to log.
     pub fn serve_one<S: Source, L: Sink, W: Sink>(
         &mut self,
         alloc: Global,
         reader: &mut S,
         writer: &mut W,
         log: &mut L,
+        log_taken: bool,
         buf: &mut [u8],
         now: Moment,
         words: &[u64; 6],
@@ -164,6 +171,7 @@ impl Edge {
         ensures served { self.old.sealed ≡ false → IsServed
             (record {
               sync = self.old.sync;
+              log_taken = log_taken;
               known = S.coming reader.old;
               now = now;
               words = words.now;
@@ -198,6 +206,7 @@ impl Edge {
                 &mut self.region,
                 &mut self.sealed,
                 log,
+                log_taken,
                 writer,
                 now,
                 words,
@@ -215,6 +224,7 @@ fn serve_arrival<L: Sink, W: Sink>(
     region: &mut Region,
     sealed: &mut bool,
     log: &mut L,
+    log_taken: bool,
     writer: &mut W,
     now: Moment,
     words: &[u64; 6],
@@ -223,7 +233,13 @@ fn serve_arrival<L: Sink, W: Sink>(
     requires { sealed.old ≡ false }
     ensures served { (sync : Bool) (known : Option (List ℕ)) → Arrives sync known came
         → IsServed
-        (record { sync = sync; known = known; now = now; words = words.now })
+        (record {
+          sync = sync;
+          log_taken = log_taken;
+          known = known;
+          now = now;
+          words = words.now;
+        })
         (record { before = region.old; after = region.new })
         (record { before = L.holds log.old; after = L.holds log.new }) (log.new ≡ log.old)
         (record { before = W.holds writer.old; after = W.holds writer.new }) sealed.new result }
@@ -235,7 +251,9 @@ fn serve_arrival<L: Sink, W: Sink>(
     if is_silent(&came) {
         return Ok(Served::Nothing);
     }
-    match reply(alloc, region, sealed, log, writer, now, words, &came) {
+    match reply(
+        alloc, region, sealed, log, log_taken, writer, now, words, &came,
+    ) {
         Ok(status) => Ok(Served::Done(status)),
         Err(fault) => Err(fault),
     }
@@ -248,8 +266,34 @@ fn is_silent(came: &Arrival) -> bool
     matches!(came, Arrival::Silence)
 }
 
-// Answers what arrived, and writes the record to the log and the reply to the client.
+// Replies to what arrived. A pushed bundle is logged, if taken bundles are.
 fn reply<L: Sink, W: Sink>(
+    alloc: Global,
+    region: &mut Region,
+    sealed: &mut bool,
+    log: &mut L,
+    log_taken: bool,
+    writer: &mut W,
+    now: Moment,
+    words: &[u64; 6],
+    came: &Arrival,
+) -> Result<Status, Fault>
+    requires { sealed.old ≡ false }
+    ensures replies { RepliesTo (bundle_to_log log_taken came.now) now words.now came.now
+        (record { before = region.old; after = region.new })
+        (record { before = L.holds log.old; after = L.holds log.new }) (log.new ≡ log.old)
+        (record { before = W.holds writer.old; after = W.holds writer.new }) sealed.new result }
+    ensures faults { IsFaultOfDevice result (L.failed log.old) (L.failed log.new)
+        (W.failed writer.old) (W.failed writer.new) }
+{
+    match bundle_to_log(log_taken, came) {
+        Some(bytes) => take_and_log(alloc, region, sealed, log, writer, bytes),
+        None => answer_and_tell(alloc, region, sealed, log, writer, now, words, came),
+    }
+}
+
+// Answers what arrived, and writes the record to the log and the reply to the client.
+fn answer_and_tell<L: Sink, W: Sink>(
     alloc: Global,
     region: &mut Region,
     sealed: &mut bool,

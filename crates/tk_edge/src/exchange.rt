@@ -51,7 +51,7 @@ impl Sent {
         Sent { bytes }
     }
 
-    fn bytes(&self) -> &[u8]
+    pub(crate) fn bytes(&self) -> &[u8]
         ensures { result.now ≡ self.now }
     {
         &self.bytes
@@ -148,7 +148,10 @@ fn take_bundle(alloc: Global, region: &mut Region, bytes: &[u8]) -> Result<Answe
 }
 
 // Returns the reply to a push, by its result. Memory that ran out while taking in gets no reply.
-fn taken_answer(alloc: Global, taken: Result<u16, TakeError>) -> Result<Reply, AllocError>
+pub(crate) fn taken_answer(
+    alloc: Global,
+    taken: Result<u16, TakeError>,
+) -> Result<Reply, AllocError>
     ensures { IfOk result (spec.IsTakenReply taken) }
 {
     match taken {

@@ -35,6 +35,7 @@ mod laws;
 mod media_type;
 mod path;
 mod pull;
+mod push;
 mod put;
 mod refusal;
 mod render;

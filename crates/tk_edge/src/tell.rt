@@ -52,7 +52,7 @@ pub(crate) fn tell<W: Sink, L: Sink>(
 }
 
 // Writes a record and flushes it.
-fn write_record<L: Sink>(log: &mut L, bytes: &[u8]) -> Result<(), Failed>
+pub(crate) fn write_record<L: Sink>(log: &mut L, bytes: &[u8]) -> Result<(), Failed>
     ensures bytes { Prints result (L.holds log.old) (L.holds log.new) bytes.now }
     ensures failures { CountsFailure result (L.failed log.old) (L.failed log.new) }
 {

@@ -2,7 +2,7 @@
 
 use super::frail::{Fails, FrailSink, FrailSource};
 use super::new_edge;
-use super::talks::{EXCHANGE, REGISTRATION, Talk};
+use super::talks::{EXCHANGE, PUSH, REGISTRATION, Talk};
 use std::alloc::Global;
 use tk_edge::{Counted, Discard, Edge, Fault, HEAD_LIMIT, Served, Sink, Source};
 use tk_handle::Moment;
@@ -63,7 +63,8 @@ fn begins(whole: &[u8], part: &[u8]) -> Option<usize> {
     }
 }
 
-// Returns whether a connection of the client ends as expected, over these devices.
+// Returns whether a connection of the client ends as expected, over these devices. Bundles that
+// are taken in are logged.
 fn ends_at(
     alloc: Global,
     edge: &mut Edge,
@@ -84,6 +85,7 @@ fn ends_at(
         &mut reader,
         &mut writer,
         &mut log,
+        true,
         &mut buf,
         now,
         &[0; 6],
@@ -152,7 +154,7 @@ fn a_request_is_served_in_any_pieces(rt: HostRuntime) {
     }
 }
 
-const TALKS: &[Talk] = &[REGISTRATION, EXCHANGE];
+const TALKS: &[Talk] = &[REGISTRATION, EXCHANGE, PUSH];
 
 // Returns how many calls give or take the bytes. If only later calls fail, the connection ends as
 // over devices that don't fail.
@@ -292,6 +294,7 @@ fn is_served_by_std(alloc: Global, edge: &mut Edge) -> bool {
         &mut reader,
         &mut writer,
         &mut log,
+        true,
         &mut buf,
         now,
         &[0; 6],

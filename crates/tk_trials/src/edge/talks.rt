@@ -29,6 +29,22 @@ pub const REGISTRATION: Talk = Talk {
     status: Status::Created,
 };
 
+/// A bundle of one fact of region 2, that its client 2:1 was retired. The bundle is logged as it was
+/// sent.
+pub const PUSH: Talk = Talk {
+    name: "a push",
+    before: &[],
+    request: b"POST /sync/push HTTP/1.1\r\nContent-Length: 29\r\n\r\n\
+        OTB1\x00\x01\x00\x15\x00\x02\x00\x00\x00\x00\x00\x00\x00\x02\x02\x00\x02\x00\x00\x00\x00\x00\
+        \x00\x00\x01",
+    record: b"OTB1\x00\x01\x00\x15\x00\x02\x00\x00\x00\x00\x00\x00\x00\x02\x02\x00\x02\x00\x00\x00\x00\
+        \x00\x00\x00\x01",
+    reply: b"HTTP/1.1 200 OK\r\nContent-Type: application/json\r\nContent-Length: 10\r\n\
+        Cache-Control: no-store\r\nPragma: no-cache\r\nConnection: close\r\n\r\n\
+        {\"took\":1}",
+    status: Status::Ok,
+};
+
 // A client, a consent, and a code bound to the challenge of RFC 7636, appendix B.
 const BEFORE_TOKENS: &[&[u8]] = &[
     b"POST /admin/client HTTP/1.1\r\nContent-Length: 81\r\n\r\n\

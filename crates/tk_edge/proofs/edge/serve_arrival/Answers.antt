@@ -1,5 +1,6 @@
-use Rattle.std.proofs.Common.{rules, refl}
+use Rattle.std.proofs.Common.{rules}
 use Rattle.tk_edge.proofs.AnswerLaws.{served, faulted, unread, faults_as}
+use Rattle.tk_edge.specs.Pushes.{bundle_to_log}
 use Rattle.tk_edge.proofs.StreamLaws.{hears_nothing}
 use Rattle.tk_edge.specs.declared.tell.Fault.TheVariants.{Write, Log}
 use Rattle.tk_edge.proofs.edge.serve_arrival.Goals as goal
@@ -10,18 +11,18 @@ returns-then-is_silent-clause-served g c = λ sync known arrives.
 
 pub returns-in-Ok-clause-served : goal.returns-in-Ok-clause-served
 returns-in-Ok-clause-served g c = λ sync known arrives.
-    served (record { sync = sync; known = known; now = c.args.now; words = c.args.words.now }) c.args.came
-    c.args.region.now c.reply.new.region c.args.region.now refl _ _ _ c.reply.new.sealed
+    served (record { sync = sync; log_taken = c.args.log_taken; known = known; now = c.args.now; words = c.args.words.now }) c.args.came
+    c.args.region.now c.reply.new.region _ _ _ c.reply.new.sealed
     arrives (c.is_silent.ensures.spoke (search rules)) c.in-Ok.status c.in-Ok.ensures.replies
 
 pub returns-clause-served : goal.returns-clause-served
 returns-clause-served g c = λ sync known arrives.
-    faulted (record { sync = sync; known = known; now = c.args.now; words = c.args.words.now }) c.args.came
-    c.args.region.now c.reply.new.region c.args.region.now refl _ _ _ c.reply.new.sealed
+    faulted (record { sync = sync; log_taken = c.args.log_taken; known = known; now = c.args.now; words = c.args.words.now }) c.args.came
+    c.args.region.now c.reply.new.region _ _ _ c.reply.new.sealed
     arrives (c.is_silent.ensures.spoke (search rules)) c.in-Err.fault c.in-Err.ensures.replies
 
 pub returns-clause-read : goal.returns-clause-read
-returns-clause-read g c = unread c.args.now c.args.words.now c.args.came _ _ _ _ _ c.in-Err.fault c.in-Err.ensures.replies
+returns-clause-read g c = unread (bundle_to_log c.args.log_taken c.args.came) c.args.now c.args.words.now c.args.came _ _ _ _ _ c.in-Err.fault c.in-Err.ensures.replies
 
 pub returns-clause-writer_fault : goal.returns-clause-writer_fault
 returns-clause-writer_fault g c = λ is. c.in-Err.ensures.faults.writer (faults_as c.in-Err.fault Write is)
