@@ -1,7 +1,9 @@
 -- From the horizon on, a request is decided by a store as by the facts for which it stands. Key
 -- results:
 --   decision_stands   every request
-use Rattle.std.proofs.Common.{◌≡◌, ℕ, ◌≤◌, List, sym, ap, subst, ◌∙◌}
+--   region_stands     what a region prepares
+use Rattle.std.proofs.Common.{◌≡◌, ℕ, ◌≤◌, nat_lt, false, cond, List, sym, ap, subst, ◌∙◌, arith}
+use Rattle.std.proofs.lemmas.Bool.Decides.{nat_tests}
 use Rattle.tk_handle.specs.declared.dot.Dot.{Dot}
 use Rattle.tk_handle.specs.declared.handle.Handle.{Handle}
 use Rattle.tk_store.specs.FactSet.{FactSet}
@@ -27,6 +29,8 @@ use Rattle.tk_grant.proofs.AlikeLaws.{grants_alike}
 use Rattle.tk_query.specs.Caller as queries
 use Rattle.tk_query.proofs.AlikeLaws.{introspections_alike, revocations_alike}
 use Rattle.tk_region.specs.Decision.{decision_by, decision_of}
+use Rattle.tk_region.specs.RegionFields.{RegionFields, place_in}
+use Rattle.tk_region.specs.Step.{early_in, prepared_by, prepared_of}
 use Rattle.tk_standing.specs.StandsFor.{StandsFor, AreSound}
 use Rattle.tk_standing.proofs.LastingLaws.{client_view_same, consent_view_same, consent_for_same, signed_out_same, revoked_same, caller_same}
 use Rattle.tk_standing.proofs.StatusStandsLaws.{status_stands}
@@ -72,3 +76,12 @@ module _ (P : StoreFields) (U F : FactSet) (S : StandsFor P U F) (sound : AreSou
 
 pub decision_stands : (P : StoreFields) (U F : FactSet) → StandsFor P U F → AreSound U → (place : Place) (now : ℕ) → P.horizon ≤ now → (words : List ℕ) (request : RequestFields) → decision_of P place now words request ≡ decision_of (whole_store F) place now words request
 decision_stands P U F S sound place now soon words request = by_endpoint P U F S sound place now soon words request.endpoint request
+
+never_before : (now horizon : ℕ) → horizon ≤ now → nat_lt now horizon ≡ false
+never_before now horizon le = grind (arith, nat_tests)
+
+pub region_stands : (r : RegionFields) (U F : FactSet) → StandsFor r.facts U F → AreSound U → (now : ℕ) → r.facts.horizon ≤ now → (words : List ℕ) (request : RequestFields)
+    → prepared_of r now words request ≡ prepared_by r.settings.cap (place_in r) (decision_of (whole_store F) (place_in r) now words request)
+region_stands r U F S sound now soon words request =
+    ap (λ t. cond t (early_in (place_in r)) (prepared_by r.settings.cap (place_in r) (decision_of r.facts (place_in r) now words request))) (never_before now r.facts.horizon soon)
+    ∙ ap (prepared_by r.settings.cap (place_in r)) (decision_stands r.facts U F S sound (place_in r) now soon words request)

@@ -2,6 +2,7 @@
 -- facts made, and the store P stands for the facts F.
 --   StatusStands    from the horizon on, a status by the store is answered as that by the facts
 --   DecisionStands  from the horizon on, a request is decided by the store as by the facts
+--   RegionStands    from the horizon on, a region prepares what the facts determine
 --   PruneStands     a store that was pruned stands for the same facts
 --   MoreStands      a store stands for the same facts when more were made
 --   MarkStands, FactStands, DropStands
@@ -22,6 +23,8 @@ use Rattle.tk_ledger.specs.Alike.{AnsweredAlike}
 use Rattle.tk_message.specs.RequestFields.{RequestFields}
 use Rattle.tk_message.specs.declared.place.Place.{Place}
 use Rattle.tk_region.specs.Decision.{decision_of}
+use Rattle.tk_region.specs.RegionFields.{RegionFields, place_in}
+use Rattle.tk_region.specs.Step.{prepared_by, prepared_of}
 use Rattle.tk_standing.specs.StandsFor.{StandsFor, AreSound, AddsOne, MeetsFamily}
 
 -- from the horizon on, every endpoint answers a handle of its status by the store as it answers one
@@ -37,6 +40,14 @@ abbrev pub DecisionStands : Type 0
 DecisionStands = (P : StoreFields) (U F : FactSet) → StandsFor P U F → AreSound U
     → (place : Place) (now : ℕ) → P.horizon ≤ now → (words : List ℕ) (request : RequestFields)
     → decision_of P place now words request ≡ decision_of (whole_store F) place now words request
+
+-- from the horizon on, a region prepares for a request what the facts for which its store stands
+-- determine: the reply, the fact that is made, and its record
+abbrev pub RegionStands : Type 0
+RegionStands = (r : RegionFields) (U F : FactSet) → StandsFor r.facts U F → AreSound U
+    → (now : ℕ) → r.facts.horizon ≤ now → (words : List ℕ) (request : RequestFields)
+    → prepared_of r now words request ≡ prepared_by r.settings.cap (place_in r)
+    (decision_of (whole_store F) (place_in r) now words request)
 
 -- a store that was pruned stands for the facts that it stood for
 abbrev pub PruneStands : Type 0

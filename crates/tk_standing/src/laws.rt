@@ -7,6 +7,7 @@ ghost use Rattle.tk_standing.specs.Laws.{
   MarkStands,
   MoreStands,
   PruneStands,
+  RegionStands,
   SoundStays,
   StatusStands,
 };
@@ -23,6 +24,12 @@ pub fn status_stands()
 /// do. The replies are equal, and so are the facts that are made.
 pub fn decision_stands()
     ensures { DecisionStands }
+{}
+
+/// States a law: from its horizon on, a region prepares for each request what the facts for which its
+/// store stands determine: the reply, the fact that is made, and the record of that fact.
+pub fn region_stands()
+    ensures { RegionStands }
 {}
 
 /// States a law: a store that was pruned stands for the facts that it stood for.

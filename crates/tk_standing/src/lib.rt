@@ -4,7 +4,7 @@
 //! it would answer over all facts that it made and took in. This crate defines for which facts a
 //! store stands, and states that this is kept by a prune, a mark and a fact, and that from the
 //! horizon on each request is decided by the store as by the facts for which it stands. No program
-//! prunes yet.
+//! calls `Region::prune` yet.
 //!
 //! The definitions are in `specs/`: `StandsFor`, `Laws`. The functions of `laws` have empty bodies:
 //! they state the laws.
@@ -12,4 +12,6 @@
 
 mod laws;
 
-pub use laws::{decision_stands, prune_stands, soundness_stays, standing_kept, status_stands};
+pub use laws::{
+    decision_stands, prune_stands, region_stands, soundness_stays, standing_kept, status_stands,
+};
