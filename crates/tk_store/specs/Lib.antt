@@ -8,7 +8,6 @@
 --   Joining        JoinsFacts, the set that results from joining facts to a set; SameFacts
 --   JoiningSteps   Compared, Joins, Sought, the loops over the entries of another set
 --   SlotJoining    Compared, Joins, Sought over the slots of another store
---   Store          Store, what contracts above see of a set of facts; facts_of, known_in
 --   Adding         Adds and AddsTo, the outcomes of adding a fact to a set and to a store
 --   Skipping       Skips, the outcomes of skipping a dot
 --   Walk           above, the facts above a dot, ascending
@@ -32,7 +31,6 @@ pub mod SlotJoining
 pub mod SlotOrder
 pub mod SlotShown
 pub mod Slots
-pub mod Store
 pub mod StoreFields
 pub mod Table
 pub mod Walk
