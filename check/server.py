@@ -70,14 +70,14 @@ def body_of(reply):
 class Server:
     """A server on a free port, with a table by which its allocations fail."""
 
-    def __init__(self, lab, region, load=b"", **refusal):
+    def __init__(self, lab, region, load=b"", options="", **refusal):
         self.folder = tempfile.TemporaryDirectory(dir=lab.folder)
         self.table = Table(self.folder.name)
         self.table.write(clock=NOW, **refusal)
         for name, content in (("seed", bytes(range(32))), ("old", load), ("errors", b"")):
             with open(self.path(name), "wb") as file:
                 file.write(content)
-        words = "serve --region %d --port 0 --seed seed --log log --load old" % region
+        words = "serve --region %d --port 0 --seed seed --log log --load old" % region + options
         with open(self.path("errors"), "wb") as errors:
             self.process = subprocess.Popen(
                 [lab.program] + words.split(), cwd=self.folder.name, stdin=subprocess.DEVNULL,
@@ -137,7 +137,7 @@ class Server:
         return [self.ask(request) for request in requests]
 
     def made(self):
-        """The log: the records of the facts that this server made."""
+        """The log: the records of the facts that this server made, and the bundles it logs."""
         return self.content("log")
 
     def errors(self):

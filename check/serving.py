@@ -188,6 +188,30 @@ def sweep(scene, request, is_whole, offset, stride):
         at += stride
 
 
+def sweep_taken(scene, is_whole, offset, stride):
+    """Yields what is wrong with a log of bundles when allocations of a push fail.
+
+    A server of another number that loads the log must hold all that the pushed one holds.
+    """
+    at, faults, request = 1 + offset, 0, scene.push()
+    while faults < MOST_FAULTS:
+        scene.lab.count()
+        with Server(scene.lab, REGION, scene.old, " --log-taken") as server:
+            server.refuse(at, FOR_GOOD if is_whole else 1)
+            server.ask(request.sent)
+            refused = server.refused()
+            server.refuse(0, 0)
+            held, log = facts_of(body_of(server.ask(PULL))), server.made()
+        back = facts_of(body_of(scene.read_back(scene.old + log)[1]))
+        if not set(held) <= set(back):
+            faults += 1
+            yield "serve, %s to a log of bundles, allocation %d%s: %d facts are held, %d loaded" % (
+                request.title, at, " on" if is_whole else "", len(held), len(back))
+        if not refused:
+            return
+        at += stride
+
+
 def sweep_start(scene, is_whole, offset, stride):
     """Yields what is wrong when allocations of a start fail. It ends, or it serves as ever."""
     at, faults, nothing = 1 + offset, 0, Request("a start", VECTOR)
