@@ -1,5 +1,5 @@
 -- What connections leave of a region. Key results:
---   served_gains   a connection joins facts to the region
+--   served_grows   a connection leaves what the region knew
 --   unread         a connection that wasn't read changes nothing
 --   behind         the generator after the words of connections
 --   HasServed      a number of connections were served, one after the other
@@ -7,17 +7,9 @@ use Rattle.std.proofs.Common.{◌≡◌, ℕ, Bool, true, false, List, [], ◌�
 use Rattle.std.proofs.KnownBytes.{Keeps-refl}
 use Rattle.std.proofs.lemmas.List.{length-append}
 use Rattle.rand_chacha.specs.ChaCha.{ChaCha}
-use Rattle.tk_format.specs.Format.{whole}
-use Rattle.tk_store.specs.FactSet.{Facts}
-use Rattle.tk_store.specs.Joining.{JoinsFacts}
-use Rattle.tk_store.proofs.JoiningLaws.{joins_nothing}
-use Rattle.tk_bundle.specs.Bundle.{bundle}
-use Rattle.tk_message.specs.Place.{next_in}
-use Rattle.tk_region.specs.RegionFields.{RegionFields, Gains, place_in}
-use Rattle.tk_region.specs.Taking.{TakesIn}
+use Rattle.tk_region.specs.RegionFields.{RegionFields}
 use Rattle.tk_region.specs.declared.take.TakeError.{TakeError}
-use Rattle.tk_region.specs.declared.take.TakeError.TheVariants.{Malformed, OwnNumber, Conflict}
-use Rattle.tk_region.specs.declared.take.TakeError.TheVariants as Take
+use Rattle.tk_edge.specs.Answers.{fact_by}
 use Rattle.tk_edge.specs.Arrivals.{Answers, IsShort}
 use Rattle.tk_edge.specs.EdgeFields.{EdgeFields}
 use Rattle.tk_edge.specs.Exchanges.{TakesBundle}
@@ -34,80 +26,54 @@ use Rattle.tk_edge.specs.declared.tell.Fault.{Fault}
 use Rattle.tk_edge.specs.declared.tell.Fault.TheVariants.{Read, Write, Log, Memory}
 use Rattle.tokend.specs.Connection.{unknown, AreConnections, IsConnection, Running, Serves}
 use Rattle.tokend.specs.Draw.{six, past_six}
-use Rattle.tokend.proofs.Loads.{gains_more, gains_nothing}
+use Rattle.tokend.specs.Growing.{Grows}
+use Rattle.tokend.proofs.Growing.{grows_same, grows_twice, made_grows, taken_grows}
 
-same_gains : (old new : RegionFields) → new ≡ old → (fs : Facts) × Gains old fs new
-same_gains old new e = ([], subst (λ r. Gains old [] r) (sym e) (gains_nothing old))
+answered_grows : (now : ℕ) (words : List ℕ) (came : Arrival) (answer : AnswerFields) (old new : RegionFields) → Answers old now words came (Ok answer) new → Grows old new
+answered_grows now words (Exchange Vector) answer old new h = grows_same old new h.1
+answered_grows now words (Exchange (Pull sent)) answer old new h = grows_same old new h.1
+answered_grows now words (Exchange (Push sent)) answer old new h = taken_grows old new sent h.0 h.1
+answered_grows now words came answer old new h = made_grows old new (fact_by old now words came) h.1 h.2
 
--- a bundle that is taken in, refused or cut short joins facts to the region
-taken_gains : (old new : RegionFields) (bytes : List ℕ) (taken : Result ℕ TakeError) → TakesBundle old bytes taken new → (fs : Facts) × Gains old fs new
-taken_gains old new bytes taken h = by_bundle (whole bundle bytes) taken h.takes
-  where
-    joined : (fs : Facts) → JoinsFacts old.facts fs new.facts → (gs : Facts) × Gains old gs new
-    joined fs joins = (fs, record { number = h.number; settings = h.settings; joins = joins })
+short_grows : (sync : Bool) (known : Option (List ℕ)) (old new : RegionFields) → IsShort sync known old new → Grows old new
+short_grows sync known old new (inl same) = grows_same old new same
+short_grows sync known old new (inr h) = taken_grows old new h.0 h.2 h.3
 
-    kept : new.facts ≡ old.facts → (gs : Facts) × Gains old gs new
-    kept same = joined [] (subst (λ F. JoinsFacts old.facts [] F) (sym same) (joins_nothing old.facts))
+runs_out_grows : (b : Bool) (asked : Asked) (old new : RegionFields) (log : Change) (still : Type 0) (writer : Change) (sealed : Bool)
+    → RunsOut b asked (record { before = old; after = new }) log still writer sealed → Grows old new
+runs_out_grows false asked old new log still writer sealed h = short_grows asked.sync asked.known old new h.0
+runs_out_grows true asked old new log still writer sealed (inl h) = grows_same old new h.0
+runs_out_grows true asked old new log still writer sealed (inr h) = taken_grows old new h.0 h.2.0 h.2.1
 
-    by_bundle : (b : Option Facts) (t : Result ℕ TakeError) → TakesIn old.facts (next_in (place_in old)) b t new.facts → (gs : Facts) × Gains old gs new
-    by_bundle None (Err Malformed) k = kept k
-    by_bundle None (Err Take.Memory) k = kept k
-    by_bundle None (Err OwnNumber) k = absurd k
-    by_bundle None (Err Conflict) k = absurd k
-    by_bundle None (Ok n) k = absurd k
-    by_bundle (Some fs) (Err OwnNumber) k = kept k.1
-    by_bundle (Some fs) (Err Conflict) k = kept k.2
-    by_bundle (Some fs) (Err Malformed) k = absurd k
-    by_bundle (Some fs) (Err Take.Memory) (inl k) = kept k
-    by_bundle (Some fs) (Err Take.Memory) (inr k) = joined (take k.2.0 fs) k.2.1
-    by_bundle (Some fs) (Ok n) k = joined fs k.2.0
-
--- replying to an arrival joins facts to the region
-answered_gains : (now : ℕ) (words : List ℕ) (came : Arrival) (answer : AnswerFields) (old new : RegionFields) → Answers old now words came (Ok answer) new → (fs : Facts) × Gains old fs new
-answered_gains now words (Exchange Vector) answer old new h = same_gains old new h.1
-answered_gains now words (Exchange (Pull sent)) answer old new h = same_gains old new h.1
-answered_gains now words (Exchange (Push sent)) answer old new h = taken_gains old new sent h.0 h.1
-answered_gains now words came answer old new h = (_, h.1)
-
-short_gains : (sync : Bool) (known : Option (List ℕ)) (old new : RegionFields) → IsShort sync known old new → (fs : Facts) × Gains old fs new
-short_gains sync known old new (inl same) = same_gains old new same
-short_gains sync known old new (inr h) = taken_gains old new h.0 h.2 h.3
-
-runs_out_gains : (b : Bool) (asked : Asked) (old new : RegionFields) (log : Change) (still : Type 0) (writer : Change) (sealed : Bool)
-    → RunsOut b asked (record { before = old; after = new }) log still writer sealed → (fs : Facts) × Gains old fs new
-runs_out_gains false asked old new log still writer sealed h = short_gains asked.sync asked.known old new h.0
-runs_out_gains true asked old new log still writer sealed (inl h) = same_gains old new h.0
-runs_out_gains true asked old new log still writer sealed (inr h) = taken_gains old new h.0 h.2.0 h.2.1
-
--- a connection joins facts to the region, perhaps no facts
+-- a connection leaves what the region knew
 module _ (asked : Asked) (old new : RegionFields) (log : Change) (still : Type 0) (writer : Change) (sealed : Bool) where
   abbrev Replied : Option (List ℕ) → Arrival → Result Status Fault → Type 0
   Replied sent came result = RepliesTo sent asked.now asked.words came (record { before = old; after = new }) log still writer sealed result
 
-  replied_gains : (sent : Option (List ℕ)) (came : Arrival) (result : Result Status Fault)
-      → ((h : Replied None came result) → (fs : Facts) × Gains old fs new) → Replied sent came result → (fs : Facts) × Gains old fs new
-  replied_gains None came result f h = f h
-  replied_gains (Some bytes) came result f h = taken_gains old new bytes h.0 h.1
+  replied_grows : (sent : Option (List ℕ)) (came : Arrival) (result : Result Status Fault)
+      → ((h : Replied None came result) → Grows old new) → Replied sent came result → Grows old new
+  replied_grows None came result f h = f h
+  replied_grows (Some bytes) came result f h = taken_grows old new bytes h.0 h.1
 
-  served_gains : (result : Result Served Fault) → IsServed asked (record { before = old; after = new }) log still writer sealed result
-      → (fs : Facts) × Gains old fs new
-  served_gains (Ok (Done status)) h =
-      replied_gains (bundle_to_log asked.log_taken h.0) h.0 (Ok status) (λ k. answered_gains asked.now asked.words h.0 k.0 old new k.1) h.3
-  served_gains (Ok Nothing) h = same_gains old new h.1.0
-  served_gains (Err Log) h =
-      replied_gains (bundle_to_log asked.log_taken h.0) h.0 (Err Log) (λ k. answered_gains asked.now asked.words h.0 k.0 old new k.1) h.3
-  served_gains (Err Write) h =
-      replied_gains (bundle_to_log asked.log_taken h.0) h.0 (Err Write) (λ k. answered_gains asked.now asked.words h.0 k.0 old new k.1) h.3
-  served_gains (Err Read) h = same_gains old new h.0
-  served_gains (Err Memory) h = runs_out_gains asked.log_taken asked old new log still writer sealed h
+  served_grows : (result : Result Served Fault) → IsServed asked (record { before = old; after = new }) log still writer sealed result
+      → Grows old new
+  served_grows (Ok (Done status)) h =
+      replied_grows (bundle_to_log asked.log_taken h.0) h.0 (Ok status) (λ k. answered_grows asked.now asked.words h.0 k.0 old new k.1) h.3
+  served_grows (Ok Nothing) h = grows_same old new h.1.0
+  served_grows (Err Log) h =
+      replied_grows (bundle_to_log asked.log_taken h.0) h.0 (Err Log) (λ k. answered_grows asked.now asked.words h.0 k.0 old new k.1) h.3
+  served_grows (Err Write) h =
+      replied_grows (bundle_to_log asked.log_taken h.0) h.0 (Err Write) (λ k. answered_grows asked.now asked.words h.0 k.0 old new k.1) h.3
+  served_grows (Err Read) h = grows_same old new h.0
+  served_grows (Err Memory) h = runs_out_grows asked.log_taken asked old new log still writer sealed h
 
--- a connection by a socket joins facts to the region
-connected_gains : (now : ℕ) (words : List ℕ) (log_taken : Bool) (old new : EdgeFields) (log : Change) (result : Result Served Fault)
-    → IsConnection now words log_taken old new log result → (fs : Facts) × Gains old.region fs new.region
-connected_gains now words log_taken old new log result h =
-    elim old.sealed as (λ b. old.sealed ≡ b → (fs : Facts) × Gains old.region fs new.region) [
-      | true ↦ λ e. subst (λ n. (fs : Facts) × Gains old.region fs n.region) (sym (h.shut e).0) (same_gains old.region old.region refl)
-      | false ↦ λ e. served_gains (record { sync = old.sync; log_taken = log_taken; known = None; now = now; words = words }) old.region new.region log (log.after ≡ log.before) unknown new.sealed result (h.served e)
+-- a connection by a socket leaves what the region knew
+connected_grows : (now : ℕ) (words : List ℕ) (log_taken : Bool) (old new : EdgeFields) (log : Change) (result : Result Served Fault)
+    → IsConnection now words log_taken old new log result → Grows old.region new.region
+connected_grows now words log_taken old new log result h =
+    elim old.sealed as (λ b. old.sealed ≡ b → Grows old.region new.region) [
+      | true ↦ λ e. subst (λ n. Grows old.region n.region) (sym (h.shut e).0) (grows_same old.region old.region refl)
+      | false ↦ λ e. served_grows (record { sync = old.sync; log_taken = log_taken; known = None; now = now; words = words }) old.region new.region log (log.after ≡ log.before) unknown new.sealed result (h.served e)
     ] refl
 
 -- a connection that wasn't read changes nothing
@@ -166,17 +132,14 @@ served_less P Q asked region log writer sealed (Err Write) f h =
 served_less P Q asked region log writer sealed (Err Read) f h = (h.0, writes_less P Q log writer sealed f h.1)
 served_less P Q asked region log writer sealed (Err Memory) f h = runs_out_less P Q asked.log_taken asked region log writer sealed f h
 
--- two connections, one after the other, join facts to the region
-gains_twice : (old mid new : RegionFields) → ((fs : Facts) × Gains old fs mid) → ((fs : Facts) × Gains mid fs new) → (fs : Facts) × Gains old fs new
-gains_twice old mid new h k = (h.0 ++ k.0, gains_more old mid new h.0 k.0 h.1 k.1)
-
-pub connections_gain : (words : ChaCha) (log_taken : Bool) (old : Running) (ends : List (Result Served Fault)) (new : Running) → AreConnections words log_taken old ends new
-    → (fs : Facts) × Gains old.edge.region fs new.edge.region
-connections_gain words log_taken old [] new same = same_gains old.edge.region new.edge.region (ap (λ r. r.edge.region) same)
-connections_gain words log_taken old (end ∷ ends) new h =
-    gains_twice old.edge.region h.0.edge.region new.edge.region
-    (connected_gains h.1.0.0 (six words) log_taken old.edge h.0.edge (record { before = old.log; after = h.0.log }) end h.1.0.1)
-    (connections_gain (past_six words) log_taken h.0 ends new h.2)
+-- connections one after the other leave what the region knew
+pub connections_grow : (words : ChaCha) (log_taken : Bool) (old : Running) (ends : List (Result Served Fault)) (new : Running) → AreConnections words log_taken old ends new
+    → Grows old.edge.region new.edge.region
+connections_grow words log_taken old [] new same = grows_same old.edge.region new.edge.region (ap (λ r. r.edge.region) same)
+connections_grow words log_taken old (end ∷ ends) new h =
+    grows_twice old.edge.region h.0.edge.region new.edge.region
+    (connected_grows h.1.0.0 (six words) log_taken old.edge h.0.edge (record { before = old.log; after = h.0.log }) end h.1.0.1)
+    (connections_grow (past_six words) log_taken h.0 ends new h.2)
 
 -- the generator after the words of these connections
 abbrev pub behind : ChaCha → List (Result Served Fault) → ChaCha

@@ -1,14 +1,15 @@
 pub mod Commands
 pub mod Connections
 pub mod EventWords
+pub mod Growing
 pub mod KeptLogs
+pub mod KeptSlots
 pub mod Loads
 pub mod OneSet
 pub mod Runs
 pub mod Services
 pub mod ScriptEvents
 pub mod Shows
-pub mod SmallJoins
 pub mod SocketLaws
 pub mod Tasks
 pub mod TypedNumber

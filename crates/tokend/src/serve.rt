@@ -5,12 +5,11 @@ ghost use Rattle.std.specs.Prelude.{◌≡◌, ℕ, IfErr, OnOk, OnErr, Err};
 ghost use Rattle.std.specs.Io.KnownBytes.{Keeps};
 ghost use Rattle.tk_edge.specs.Failures.{Rose};
 ghost use Rattle.tk_handle.specs.Ranges.{IsRegion};
-ghost use Rattle.tk_region.specs.RegionFields.{Gains};
 ghost use Rattle.tk_region.specs.SettingsFields.{IsSettings};
-ghost use Rattle.tk_store.specs.FactSet.{Facts};
 ghost use Rattle.tokend.specs.Closing.{LooksAndAdds, MaySetAside};
 ghost use Rattle.tokend.specs.CommandLine.{settings_of};
 ghost use Rattle.tokend.specs.Connection.{IsConnection, ServesAll, ServesWithLog, Told};
+ghost use Rattle.tokend.specs.Growing.{Grows};
 ghost use Rattle.tk_put.specs.Put.{Prints};
 ghost use Rattle.tokend.specs.ServiceRun.{HasRun, IsServiceRun};
 ghost use Rattle.tokend.specs.Serving.{
@@ -182,8 +181,9 @@ pub(crate) fn serve_on<R: AllocGlobal + Clock, L: Sink, E: Write>(
     words: &mut ChaCha20Rng,
     faults: &mut E,
 )
-    // The region's number and settings are unchanged, and facts were joined to its set.
-    ensures gains { (fs : Facts) × Gains edge.old.region fs edge.new.region }
+    // The region's number and settings are unchanged. What it knew of each dot it still knows, or has
+    // skipped since.
+    ensures grows { Grows edge.old.region edge.new.region }
     // Each connection begins with the state in which the one before ended, and with fresh random
     // words.
     ensures connections { ServesAll words.old requests log_taken
