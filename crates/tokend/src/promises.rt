@@ -126,8 +126,9 @@ pub fn an_error_changes_nothing(
 ///
 /// A region without facts loads an old log whole, and serves connections over an edge whose log
 /// gets the bundles taken in. A new region that loads the old log, and behind it that log as it is
-/// after any connection, holds every fact that the first region held then. The promise leaves out
-/// an edge that is sealed, since its log has failed, and claims nothing of disks.
+/// after any connection, holds every fact that the first region held then, or has skipped it since
+/// its family is over. The promise leaves out an edge that is sealed, since its log has failed, and
+/// claims nothing of disks.
 pub fn a_log_of_bundles_keeps_all()
     ensures { LogKeepsAll }
 {}
