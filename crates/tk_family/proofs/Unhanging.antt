@@ -15,9 +15,10 @@ use Rattle.tk_family.specs.declared.row.Row.{Row}
 use Rattle.tk_family.specs.declared.row.Uses.TheVariants.{Never}
 use Rattle.tk_family.specs.Dots.{dot_eq, has}
 use Rattle.tk_family.specs.Families.{Links, named_by, used_by, use_of, IsUsed, IsTwice, LinksWithin}
-use Rattle.tk_family.specs.Kept.{IsChain, NamesAll, Hangs, IsForest}
-use Rattle.tk_family.specs.Rows.{RowMap, Rows, table, link_in, code_in, dead_in, first_in, next_in, marked_in, used_in, again_in, links_of, named_of}
-use Rattle.tk_family.specs.Takes.{without, KeptBut, token_at, Unhangs, Unlinks}
+use Rattle.tk_family.specs.Counts.{IsCount, IsCounted, IsCountedAs, AlikeButCount}
+use Rattle.tk_family.specs.Kept.{IsChain, NamesAll, Hangs}
+use Rattle.tk_family.specs.Rows.{RowMap, Rows, table, link_in, code_in, count_in, first_in, next_in, marked_in, used_in, again_in, bad_in, blamed_in, links_of, named_of}
+use Rattle.tk_family.specs.Takes.{without, IsHung, KeptBut, token_at, Unhangs, Unlinks}
 use Rattle.tk_family.specs.Uses.{uses_it, uses_by, uses_some, uses_two}
 use Rattle.tk_family.specs.Writes.{without_users, without_link, hung}
 use Rattle.tk_family.proofs.DotLaws.{dot_eq-same, dot_eq-apart, cases_dots, has-cons, has-here, has-there, has-append, has-left, has-right, list_none, IsDistinct-middle}
@@ -26,6 +27,7 @@ use Rattle.tk_family.proofs.Growth.{IsChain-same, all_apart, IsUsed-adds, IsTwic
 use Rattle.tk_family.proofs.Marking.{token_is}
 use Rattle.tk_family.proofs.FamilyLaws.{use_of-within, IsTwice-within}
 use Rattle.tk_family.proofs.Columns.{column}
+use Rattle.tk_family.proofs.Counting.{IsCount-is, IsCount-alike, IsCountedAs-from, bad-same, blamed-same, blamed-none}
 use Rattle.tk_family.proofs.Putting.{HungCols, hung-cols-all, RowAt, row_at}
 use Rattle.tk_family.proofs.Hanging.{Hangs-room}
 use Rattle.tk_family.proofs.UseLaws.{uses_by-true, use_of-uses, uses_it-apart, uses_named, uses_some-sound, uses_some-from, TwoOf, uses_two-sound, uses_two-from}
@@ -52,6 +54,9 @@ row_named : (o : Option Row) (l : Link) → link_in o ≡ Some l → RowAt o
 row_named None l h = absurd (let clash : None ≡ Some l = h in cc)
 row_named (Some r) l h = record { row = r; is = refl }
 
+pub link_row : (o : Option Row) (l : Link) → link_in o ≡ Some l → IsSome o
+link_row o l h = let r : RowAt o = row_named o l h in subst (λ (x : Option Row). IsSome x) (sym r.is) refl
+
 row_first : (o : Option Row) (e : Dot) → first_in o ≡ Some e → RowAt o
 row_first None e h = absurd (let clash : None ≡ Some e = h in cc)
 row_first (Some r) e h = record { row = r; is = refl }
@@ -62,7 +67,7 @@ or_false false = refl
 
 -- ---- the reset
 
-unused_cols : (o : Option Row) → (link_in (without_users o) ≡ link_in o) × (code_in (without_users o) ≡ code_in o) × (dead_in (without_users o) ≡ dead_in o) × (next_in (without_users o) ≡ next_in o) × (first_in (without_users o) ≡ None)
+unused_cols : (o : Option Row) → (link_in (without_users o) ≡ link_in o) × (code_in (without_users o) ≡ code_in o) × (count_in (without_users o) ≡ count_in o) × (next_in (without_users o) ≡ next_in o) × (first_in (without_users o) ≡ None)
 unused_cols None = (refl, refl, refl, refl, refl)
 unused_cols (Some r) = (refl, refl, refl, refl, refl)
 
@@ -81,7 +86,7 @@ kept-reset T M p h =
     record {
       link = λ q. ap link_in (h q) ∙ column link_in (dot_eq p q) (without_users (T q)) (T q) (unused_cols (T q)).0;
       code = λ q. ap code_in (h q) ∙ column code_in (dot_eq p q) (without_users (T q)) (T q) (unused_cols (T q)).1;
-      dead = λ q. ap dead_in (h q) ∙ column dead_in (dot_eq p q) (without_users (T q)) (T q) (unused_cols (T q)).2;
+      count = λ q. ap count_in (h q) ∙ column count_in (dot_eq p q) (without_users (T q)) (T q) (unused_cols (T q)).2;
       marked = λ q k. ap (λ (o : Option Row). marked_in o k) (h q) ∙ column (λ (o : Option Row). marked_in o k) (dot_eq p q) (without_users (T q)) (T q) (unused_flags (T q) k).0;
       first = λ q ne. ap first_in (other q ne);
       next = λ q _. ap next_in (h q) ∙ column next_in (dot_eq p q) (without_users (T q)) (T q) (unused_cols (T q)).3;
@@ -230,7 +235,7 @@ Rehanging-turns T M N p d e left r ne hangs =
           | inr apart ↦ h.link_old q apart ∙ r.kept.link q
         ];
         code = λ q. h.code q ∙ r.kept.code q;
-        dead = λ q. h.dead q ∙ r.kept.dead q;
+        count = λ q. h.count q ∙ r.kept.count q;
         marked = λ q k. h.marked q k ∙ r.kept.marked q k;
         first = λ q apart. h.first_old q apart ∙ r.kept.first q apart;
         next = λ q other. h.next_old q (λ same. other (ap (λ (y : Dot). named_of (links_of T y)) same ∙ n.0.named)) ∙ r.kept.next q other;
@@ -272,7 +277,6 @@ pub record HangsAs (f : Links) (M : Rows) (p : Dot) : Type 0 where
 pub record Loose (T M : Rows) (d : Dot) : Type 0 where
   pub link : (q : Dot) → link_in (M q) ≡ link_in (T q)
   pub code : (q : Dot) → code_in (M q) ≡ code_in (T q)
-  pub dead : (q : Dot) → dead_in (M q) ≡ dead_in (T q)
   pub marked : (q : Dot) (k : Kind) → marked_in (M q) k ≡ marked_in (T q) k
   pub used : (k : TokenId) → used_in (M k.dot) k.kind ≡ true → IsUsed (without (links_of T) d) k
   pub uses : (k : TokenId) → IsUsed (without (links_of T) d) k → used_in (M k.dot) k.kind ≡ true
@@ -289,7 +293,7 @@ without-other f d q ne = cond-false (dot_eq d q) None (f q) (dot_eq-apart d q (�
 pub Adds-without : (f : Links) (d : Dot) (l : Link) → f d ≡ Some l → Adds (without f d) f d l
 Adds-without f d l here = record { free = without-here f d; here = here; others = λ q ne. sym (without-other f d q ne) }
 
-used-within : (f g : Links) → LinksWithin f g → (k : TokenId) → IsUsed f k → IsUsed g k
+pub used-within : (f g : Links) → LinksWithin f g → (k : TokenId) → IsUsed f k → IsUsed g k
 used-within f g w k u = record { user = u.user; by = use_of-within f g w u.user (f u.user) k refl u.by }
 
 -- a dot that names a dot, or uses a token, is not d, since d has no link
@@ -312,14 +316,13 @@ hangs_without T M d p h apart next first = record {
 }
 
 -- a code names no dot
-pub Loose-code : (T : Rows) (d : Dot) → IsForest T → links_of T d ≡ Some Code → Loose T T d
+pub Loose-code : (T : Rows) (d : Dot) → IsHung T → links_of T d ≡ Some Code → Loose T T d
 Loose-code T d t here =
     let a : Adds (without (links_of T) d) (links_of T) d Code = Adds-without (links_of T) d Code here in
     let w : LinksWithin (without (links_of T) d) (links_of T) = Within-adds (without (links_of T) d) (links_of T) d Code a in
     record {
       link = λ q. refl;
       code = λ q. refl;
-      dead = λ q. refl;
       marked = λ q k. refl;
       used = λ k h. elim (IsUsed-adds (without (links_of T) d) (links_of T) d Code a k (t.used k h)) [ inl now ↦ absurd (let clash : None ≡ Some k = now in cc) | inr old ↦ old ];
       uses = λ k u. t.uses k (used-within (without (links_of T) d) (links_of T) w k u);
@@ -359,7 +362,7 @@ here-twice : (T M : Rows) (d p : Dot) → Unhangs T M p d → (k : Kind) → IsT
 here-twice T M d p u k x =
     u.again_here k ∙ uses_two-from (links_of T) (token_at p k) u.list x.one x.two x.apart (user_in T M d p u k x.one x.by_one) (user_in T M d p u k x.two x.by_two) (user_uses T d p k x.one x.by_one) (user_uses T d p k x.two x.by_two)
 
-pub Loose-from : (T M : Rows) (d p : Dot) (l : Link) → IsForest T → links_of T d ≡ Some l → named_by l ≡ Some p → Unhangs T M p d → Loose T M d
+pub Loose-from : (T M : Rows) (d p : Dot) (l : Link) → IsHung T → links_of T d ≡ Some l → named_by l ≡ Some p → Unhangs T M p d → Loose T M d
 Loose-from T M d p l t here names u =
     let f : Links = without (links_of T) d in
     let a : Adds f (links_of T) d l = Adds-without (links_of T) d l here in
@@ -369,7 +372,6 @@ Loose-from T M d p l t here names u =
     record {
       link = u.kept.link;
       code = u.kept.code;
-      dead = u.kept.dead;
       marked = u.kept.marked;
       used = λ k. elim (cases_dots k.dot p) [
         | inl same ↦ subst (λ (j : TokenId). used_in (M j.dot) j.kind ≡ true → IsUsed f j) (at_p k same) (here-used T M d p u k.kind)
@@ -411,12 +413,12 @@ first_there : (T : Rows) (p d : Dot) (list : List Dot) → IsChain (λ q. next_i
 first_there T p d [] chain at = absurd (true≢false (sym at))
 first_there T p d (e ∷ es) chain at = let r : RowAt (T p) = row_first (T p) e chain.0 in subst (λ (o : Option Row). IsSome o) (sym r.is) refl
 
-pub above_there : (T : Rows) (d p : Dot) (l : Link) → IsForest T → links_of T d ≡ Some l → named_by l ≡ Some p → IsSome (T p)
+pub above_there : (T : Rows) (d p : Dot) (l : Link) → IsHung T → links_of T d ≡ Some l → named_by l ≡ Some p → IsSome (T p)
 above_there T d p l t here names = let h : Hangs T p = t.hangs p in first_there T p d h.list h.chain (h.names.all d (ap named_of here ∙ names))
 
 -- ---- the row has no link
 
-bare_cols : (o : Option Row) → (link_in (without_link o) ≡ None) × (code_in (without_link o) ≡ None) × (dead_in (without_link o) ≡ false) × (first_in (without_link o) ≡ first_in o)
+bare_cols : (o : Option Row) → (link_in (without_link o) ≡ None) × (code_in (without_link o) ≡ None) × (count_in (without_link o) ≡ 0) × (first_in (without_link o) ≡ first_in o)
 bare_cols None = (refl, refl, refl, refl)
 bare_cols (Some r) = (refl, refl, refl, refl)
 
@@ -426,11 +428,42 @@ bare_flags (Some r) kind.Code = (refl, refl, refl)
 bare_flags (Some r) kind.Access = (refl, refl, refl)
 bare_flags (Some r) kind.Refresh = (refl, refl, refl)
 
-bare_there : (o : Option Row) → RowAt o → IsSome (without_link o)
-bare_there o r = subst (λ (x : Option Row). IsSome (without_link x)) (sym r.is) refl
+-- with other counts too
+pub Loose-alike : (T M N : Rows) (d : Dot) → Loose T M d → AlikeButCount M N → Loose T N d
+Loose-alike T M N d x a = record {
+  link = λ q. a.link q ∙ x.link q;
+  code = λ q. a.code q ∙ x.code q;
+  marked = λ q k. a.marked q k ∙ x.marked q k;
+  used = λ k h. x.used k (sym (a.used k.dot k.kind) ∙ h);
+  uses = λ k u. a.used k.dot k.kind ∙ x.uses k u;
+  again = λ k h. x.again k (sym (a.again k.dot k.kind) ∙ h);
+  twice = λ k u. a.again k.dot k.kind ∙ x.twice k u;
+  hangs = λ p. record {
+    list = (x.hangs p).list;
+    chain = subst (λ (o : Option Dot). IsChain (λ q. next_in (N q)) o (x.hangs p).list) (sym (a.first p)) (IsChain-same (λ q. next_in (M q)) (λ q. next_in (N q)) (first_in (M p)) (x.hangs p).list (x.hangs p).chain (λ e _. a.next e));
+    names = (x.hangs p).names;
+  };
+}
 
-pub Unlinks-from : (T M N : Rows) (d : Dot) (l : Link) → links_of T d ≡ Some l → Loose T M d → ((q : Dot) → N q ≡ cond (dot_eq d q) (without_link (M q)) (M q)) → Unlinks T N d
-Unlinks-from T M N d l there x h =
+-- the counts are those with p as it was, since no other dot has other uses
+pub IsCountedAs-unhangs : (T M : Rows) (p : Dot) → IsCounted T → KeptBut T M p → IsCountedAs M p (bad_in (T p))
+IsCountedAs-unhangs T M p x k = IsCountedAs-from T M p x k.code k.count (λ q ne. blamed-same (T q) (M q) (bad-same (T q) (M q) (k.link q) (k.marked q) (λ j. k.again q j ne)) (k.code q))
+
+bare_blamed : (o : Option Row) → blamed_in (without_link o) ≡ None
+bare_blamed o = blamed-none (without_link o) (bare_cols o).1
+
+-- the counts of all other codes stay, if the dot was under none
+pub IsCount-bare : (M N : Rows) (d : Dot) → IsCounted M → code_in (M d) ≡ None → ((q : Dot) → N q ≡ cond (dot_eq d q) (without_link (M q)) (M q)) → (c : Dot) → c ≢ d → IsCount (λ q. blamed_in (N q)) c (count_in (N c))
+IsCount-bare M N d x none h c ne =
+    let same : (q : Dot) → blamed_in (N q) ≡ blamed_in (M q) = λ q. elim (cases_dots q d) [
+      | inl one ↦ ap blamed_in (h q ∙ cond-true _ _ _ (ap (dot_eq d) one ∙ dot_eq-same d)) ∙ (bare_blamed (M q) ∙ sym (blamed-none (M q) (ap (λ (y : Dot). code_in (M y)) one ∙ none)))
+      | inr apart ↦ ap blamed_in (h q ∙ cond-false _ _ _ (dot_eq-apart d q (λ e. apart (sym e))))
+    ] in
+    let count : count_in (N c) ≡ count_in (M c) = ap count_in (h c ∙ cond-false _ _ _ (dot_eq-apart d c (λ e. ne (sym e)))) in
+    IsCount-is (λ q. blamed_in (N q)) c (count_in (M c)) (count_in (N c)) count (IsCount-alike (λ q. blamed_in (M q)) (λ q. blamed_in (N q)) c (count_in (M c)) (λ q g. same q ∙ g) (λ q g. sym (same q) ∙ g) (x c))
+
+pub Unlinks-from : (T M N : Rows) (d : Dot) → Loose T M d → ((q : Dot) → N q ≡ cond (dot_eq d q) (without_link (M q)) (M q)) → Unlinks T N d
+Unlinks-from T M N d x h =
     let f : Links = without (links_of T) d in
     let here : N d ≡ without_link (M d) = h d ∙ cond-true _ _ _ (dot_eq-same d) in
     let other : (q : Dot) → q ≢ d → N q ≡ M q = λ q ne. h q ∙ cond-false _ _ _ (dot_eq-apart d q (λ same. ne (sym same))) in
@@ -443,12 +476,10 @@ Unlinks-from T M N d l there x h =
     let used : (q : Dot) (k : Kind) → used_in (N q) k ≡ used_in (M q) k = λ q k. ap (λ (o : Option Row). used_in o k) (h q) ∙ column (λ (o : Option Row). used_in o k) (dot_eq d q) (without_link (M q)) (M q) (bare_flags (M q) k).1 in
     let again : (q : Dot) (k : Kind) → again_in (N q) k ≡ again_in (M q) k = λ q k. ap (λ (o : Option Row). again_in o k) (h q) ∙ column (λ (o : Option Row). again_in o k) (dot_eq d q) (without_link (M q)) (M q) (bare_flags (M q) k).2 in
     record {
-      row = subst (λ (o : Option Row). IsSome o) (sym here) (bare_there (M d) (row_named (M d) l (x.link d ∙ there)));
       links = links;
       code_here = ap code_in here ∙ (bare_cols (M d)).1;
       code = λ q ne. ap code_in (other q ne) ∙ x.code q;
-      dead_here = ap dead_in here ∙ (bare_cols (M d)).2;
-      dead = λ q ne. ap dead_in (other q ne) ∙ x.dead q;
+      count_here = ap count_in here ∙ (bare_cols (M d)).2;
       marked_here = λ k. ap (λ (o : Option Row). marked_in o k) here ∙ (bare_flags (M d) k).0;
       marked = λ q k ne. ap (λ (o : Option Row). marked_in o k) (other q ne) ∙ x.marked q k;
       used = λ k at. used-within f (links_of N) to_N k (x.used k (sym (used k.dot k.kind) ∙ at));

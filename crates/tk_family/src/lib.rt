@@ -11,8 +11,8 @@
 //! A forest has a row for each dot. `IsForest` of `specs/Kept.antt` states what the rows keep:
 //!
 //! - each dot under a code has the name of that code;
-//! - each code of a dead family has a tombstone, and no other dot of the family has one: what comes
-//!   under the code later is dead by the code's tombstone;
+//! - each code has the number of the bad dots of its family, which is dead if there is one: what
+//!   comes under the code later is dead by that number;
 //! - each token has the number of links that use it: none, one, or more;
 //! - the dots whose links name a dot hang in a chain from that dot, whether or not they fit. There
 //!   they wait for a dot that has no link yet.
