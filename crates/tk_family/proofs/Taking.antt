@@ -27,7 +27,7 @@ use Rattle.tk_family.proofs.Putting.{AlikeButCount-count, count-here, count-othe
 use Rattle.tk_family.proofs.Marking.{token_is, AlikeButMarks-then, IsCountedAs-at}
 use Rattle.tk_family.proofs.Assembly.{trail_under, trail_free, IsPath-code, row_with}
 use Rattle.tk_family.proofs.Gathering.{with_link-here, with_link-other}
-use Rattle.tk_family.proofs.Unhanging.{without-here, Adds-without, used-within}
+use Rattle.tk_family.proofs.Unlinking.{without-here, Adds-without, used-within}
 
 -- ---- what hangs below the dot
 

@@ -13,7 +13,7 @@ enum Form {
     Rotates,
 }
 
-/// A row, in 56 bytes; a `Row` has 120. An absent dot has the serial 0. Contracts see the row.
+/// A row, in 56 bytes; a `Row` has 128. An absent dot has the serial 0. Contracts see the row.
 #[derive(Drop)]
 pub(crate) struct PackedRow {
     named_serial: u64,

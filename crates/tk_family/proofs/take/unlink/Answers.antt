@@ -6,7 +6,7 @@ use Rattle.tk_family.specs.Rows.{RowMap, Rows, table}
 use Rattle.tk_family.specs.Dots.{dot_eq}
 use Rattle.tk_family.specs.Writes.{without_link}
 use Rattle.tk_family.proofs.Columns.{no_name}
-use Rattle.tk_family.proofs.Unhanging.{Loose-code, Loose-from, Loose-alike, Unlinks-from, above_there, link_row, IsCountedAs-unhangs, IsCount-bare}
+use Rattle.tk_family.proofs.Unlinking.{Loose-code, Loose-from, Loose-alike, Unlinks-from, above_there, link_row, IsCountedAs-unhangs, IsCount-bare}
 use Rattle.tk_family.proofs.take.unlink.Goals as goal
 use Rattle.tk_family.proofs.take.unlink.Goals.{in-Some, in_default}
 
