@@ -12,10 +12,11 @@ import threading
 import story
 from many import written_out
 from refusal import FOR_GOOD
-from server import NOTHING, PULL, VECTOR, Server
+from server import MARK, NOTHING, PULL, VECTOR, Server
 from server import body_of, facts_of, http, push, request_of, run_story
 
 MOST_FAULTS = 3  # of one sweep
+PASSING = (5, 6, 7, 9)  # the kinds of facts that may be skipped
 REGION, OLD_REGION, OTHER_REGION, READER = 1, 2, 3, 9
 LOOK = "req 1 0 POST /introspect <c2-2:s3cret> - token="
 
@@ -93,6 +94,15 @@ class Scene:
     def push(self):
         fronts = [self.pushed[:count + 1] for count in range(len(self.pushed))]
         return Request("POST /sync/push of %d facts" % len(fronts), push(self.pushed),
+                       [push(front) for front in fronts])
+
+    def push_marks(self):
+        """A push of facts, and of marks in the place of codes and of what was made of them."""
+        items = [fact[:MARK] if fact[MARK] in PASSING else fact for fact in self.pushed]
+        held = [fact[:MARK] for fact in facts_of(self.old) if fact[MARK] in PASSING][:2]
+        items = held + items
+        fronts = [items[:count + 1] for count in range(len(items))]
+        return Request("POST /sync/push of %d facts and marks" % len(items), push(items),
                        [push(front) for front in fronts])
 
     def remembered(self, key, make):
