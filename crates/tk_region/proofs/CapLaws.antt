@@ -5,7 +5,7 @@
 --   capped_added   a region that adds its next fact
 --   capped_taken   a region that takes in a bundle
 --   capped_pruned  a region that is pruned
-use Rattle.std.proofs.Common.{◌≡◌, ℕ, zero, suc, ◌+◌, ◌<◌, ◌≤◌, ◌==◌, ◌&&◌, ◌||◌, Bool, true, false, if◌then◌else◌, nat_le, max, List, [], ◌∷◌, take, Option, Some, None, Result, Ok, Err, refl, sym, ap, subst, ◌∙◌, inl, inr, arith}
+use Rattle.std.proofs.Common.{◌≡◌, ℕ, zero, suc, ◌+◌, ◌<◌, ◌≤◌, ◌==◌, ◌&&◌, ◌||◌, Bool, true, false, if◌then◌else◌, nat_le, max, [], ◌∷◌, take, Option, Some, None, Result, Ok, Err, refl, sym, ap, subst, ◌∙◌, inl, inr, arith}
 use mathlib.Core.Bool.{false≢true}
 use Rattle.std.specs.FinMap as map
 use Rattle.std.proofs.lemmas.Bool.Decides.{nat_tests}
@@ -16,7 +16,7 @@ use Rattle.tk_fact.specs.declared.body.Body.{Body}
 use Rattle.tk_store.specs.FactSet.{AllIn}
 use Rattle.tk_store.specs.NextDot.{last_serial, next_serial}
 use Rattle.tk_store.specs.Slots.{Slot, Slots, held_slot, joined_slot, with_slots}
-use Rattle.tk_store.specs.StoreFields.{StoreFields, empty_store, held_facts, with_fact}
+use Rattle.tk_store.specs.StoreFields.{StoreFields, empty_store, with_fact}
 use Rattle.tk_store.proofs.EntryLaws.{AllIn-entries}
 use Rattle.tk_store.proofs.NextDotLaws.{next_is_free}
 use Rattle.tk_store.proofs.PutLaws.{of_dot, none_is_not_some}
@@ -30,6 +30,7 @@ use Rattle.tk_region.specs.RegionFields.{RegionFields, IsCapped, place_in}
 use Rattle.tk_region.specs.SettingsFields.{SettingsFields, greatest_cap}
 use Rattle.tk_region.specs.Step.{IsNextFact}
 use Rattle.tk_region.specs.Taking.{has_unmade, is_unmade, raised, items_taken, TakesIn}
+use Rattle.tk_region.proofs.TakeLaws.{raised_slots}
 
 one_under : (region r serial rest cap : ℕ) → (region ≡ r → serial ≤ cap) → rest ≤ cap → max (if region == r then serial else 0) rest ≤ cap
 one_under region r serial rest cap p q = grind (arith, nat_tests)
@@ -88,10 +89,6 @@ made_take next (suc k) (i ∷ items) h = both _ _ (made_take next k items) h
 -- nothing is known of the dot of the next fact
 pub next_unknown : (r : RegionFields) (f : Dot × Body) → IsNextFact r f → map.get r.facts.slots f.0 ≡ None
 next_unknown r f i = ap (map.get r.facts.slots) i.next ∙ next_is_free r.facts.slots r.number
-
-raised_slots : (P : StoreFields) (h : Option ℕ) → (raised P h).slots ≡ P.slots
-raised_slots P None = refl
-raised_slots P (Some moment) = refl
 
 module _ (n : ℕ) (s : SettingsFields) (P Q : StoreFields) (k : IsCapped (record { number = n; settings = s; facts = P })) where
   abbrev r : RegionFields

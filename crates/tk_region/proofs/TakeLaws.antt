@@ -5,14 +5,13 @@
 --   at_end                    after the last item, all are taken in
 --   counted_new, counted_held   the number of known dots after one more item
 --   raised_takes              the horizon was raised before the items were taken in
-use Rattle.std.proofs.Common.{◌≡◌, ◌≢◌, ℕ, zero, suc, ◌+◌, ◌<◌, ◌≤◌, List, [], ◌∷◌, ◌++◌, length, take, get_or, Bool, true, false, cond, Option, Some, None, IsSome, is_some, Result, Ok, Err, refl, sym, ap, subst, ◌∙◌, arith}
+use Rattle.std.proofs.Common.{◌≡◌, ◌≢◌, ℕ, zero, suc, ◌+◌, ◌<◌, ◌≤◌, [], ◌∷◌, ◌++◌, length, take, get_or, cond, Option, Some, None, IsSome, Result, Ok, Err, refl, sym, ap, subst, ◌∙◌, arith}
 use Rattle.std.proofs.lemmas.Bool.{true≢false}
 use Rattle.std.specs.FinMap as map
 use Rattle.std.proofs.lemmas.Grind.{take_at_read}
 use Rattle.tk_handle.specs.declared.dot.Dot.{Dot}
 use Rattle.tk_handle.specs.Dot.{dot_cmp_total}
 use Rattle.tk_fact.specs.declared.body.Body.{Body}
-use Rattle.tk_fact.specs.Keeping.{is_passing}
 use Rattle.tk_store.specs.Adding.{AddsTo, HasFact, RefusesFact}
 use Rattle.tk_store.specs.Skipping.{Skips, MayGo, Lasts}
 use Rattle.tk_store.specs.SlotJoining.{Passes}
@@ -162,7 +161,7 @@ at_end P Q items i past so_far = so_far ∙ ap (items_taken P) (whole i items pa
 
 -- ---- the horizon
 
-raised_slots : (P : StoreFields) (h : Option ℕ) → (raised P h).slots ≡ P.slots
+pub raised_slots : (P : StoreFields) (h : Option ℕ) → (raised P h).slots ≡ P.slots
 raised_slots P None = refl
 raised_slots P (Some moment) = refl
 

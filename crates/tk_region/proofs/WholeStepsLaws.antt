@@ -1,11 +1,13 @@
 -- The steps of a region of which nothing was skipped, by its facts. Key results:
 --   empty_unpruned   a region without facts is one
+--   set_unpruned     the store of a set of facts is one
+--   next_of_set      the next serial by the set
 --   whole_takes      the facts of a bundle are joined to the facts
 --   whole_gains      the fact that is added is joined to the facts
 --   whole_len        as many facts are held as dots are known
 --   whole_beyond     what a vector does not cover
 --   whole_page       a page is of facts alone
-use Rattle.std.proofs.Common.{◌≡◌, ℕ, zero, suc, ◌+◌, ◌-◌, nat_lt, Bool, true, false, cond, T, List, [], ◌∷◌, length, map, filter, take, slice_get, Option, Some, None, IfSome, refl, sym, ap, subst, ◌∙◌}
+use Rattle.std.proofs.Common.{◌≡◌, ℕ, zero, suc, ◌-◌, nat_lt, Bool, true, false, cond, List, [], ◌∷◌, length, map, filter, take, slice_get, Option, Some, None, option_map, IfSome, refl, sym, ap, subst, ◌∙◌}
 use Rattle.std.proofs.lemmas.Bool.{true≢false}
 use Rattle.std.specs.FinMap as sets
 use Rattle.std.specs.List.{list_any}
@@ -15,9 +17,10 @@ use Rattle.tk_vector.specs.VersionVector.{Vector}
 use Rattle.tk_store.specs.Beyond.{beyond, is_beyond}
 use Rattle.tk_store.specs.FactSet.{FactSet, Facts, AllIn, IsSubset, dot_of, with_facts}
 use Rattle.tk_store.specs.Joining.{JoinsFacts}
+use Rattle.tk_store.specs.NextDot.{next_serial}
 use Rattle.tk_store.specs.Paging.{page, last_dot}
 use Rattle.tk_store.specs.Slots.{Slot, Slots, Held, Skipped, held_slot, held_in, held_entries, is_skipped, is_skipped_slot, joined_slot, with_slots}
-use Rattle.tk_store.specs.StoreFields.{StoreFields, empty_store, held_facts, IsWhole, with_fact}
+use Rattle.tk_store.specs.StoreFields.{StoreFields, empty_store, held_facts, IsWhole}
 use Rattle.tk_store.specs.Walk.{above, is_above}
 use Rattle.tk_store.specs.WholeStores.{as_slot, whole_store}
 use Rattle.tk_store.proofs.EntryLaws.{AllIn-entries}
@@ -25,12 +28,12 @@ use Rattle.tk_store.proofs.JoiningLaws.{joins_with_facts, joins_nothing}
 use Rattle.tk_store.proofs.PutLaws.{by_dot, get_here, none_is_not_some, some_injective}
 use Rattle.tk_store.proofs.SlotLaws.{get_held, held_put, entries_held}
 use Rattle.tk_store.proofs.SubsetLaws.{subset_insert}
-use Rattle.tk_store.proofs.WholeLaws.{empty_whole}
-use Rattle.tk_store.proofs.WholeStoreLaws.{whole_is}
+use Rattle.tk_store.proofs.WholeLaws.{empty_whole, whole_next}
+use Rattle.tk_store.proofs.WholeStoreLaws.{get_whole_store, held_whole_store, whole_is}
 use Rattle.tk_bundle.specs.Bundle.{most_items}
 use Rattle.tk_bundle.specs.BundleFields.{is_mark, of_facts}
 use Rattle.tk_bundle.specs.Page.{bundle_of, page_of}
-use Rattle.tk_region.specs.RegionFields.{RegionFields, Gains, with_made}
+use Rattle.tk_region.specs.RegionFields.{RegionFields, Gains}
 use Rattle.tk_region.specs.Step.{IsNextFact, listed}
 use Rattle.tk_region.specs.Taking.{items_taken}
 use Rattle.tk_region.specs.WholeSteps.{IsUnpruned}
@@ -42,6 +45,17 @@ empty_unpruned P is = record { whole = empty_whole P is; level = ap (λ (Q : Sto
 -- the store is that of its facts
 pub unpruned_is : (P : StoreFields) → IsUnpruned P → P ≡ whole_store (held_facts P)
 unpruned_is P u = whole_is P u.whole u.level
+
+unskipped : (o : Option Body) → is_skipped_slot (option_map Held o) ≡ false
+unskipped None = refl
+unskipped (Some b) = refl
+
+-- the store of a set of facts
+pub set_unpruned : (F : FactSet) → IsUnpruned (whole_store F)
+set_unpruned F = record { whole = λ d. ap is_skipped_slot (get_whole_store F d) ∙ unskipped (sets.get F d); level = refl }
+
+pub next_of_set : (F : FactSet) (r : ℕ) → next_serial (whole_store F).slots r ≡ next_serial F r
+next_of_set F r = whole_next (whole_store F) (set_unpruned F).whole r ∙ ap (λ (G : FactSet). next_serial G r) (held_whole_store F)
 
 -- no dot of the slots is skipped
 abbrev HaveNoMark : Slots → Type 0

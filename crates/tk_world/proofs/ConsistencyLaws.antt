@@ -19,7 +19,11 @@ use Rattle.tk_store.specs.FactSet.{FactSet, Facts, AllIn, IsSubset, with_facts}
 use Rattle.tk_store.specs.Beyond.{beyond}
 use Rattle.tk_store.proofs.EntryLaws.{AllIn-beyond}
 use Rattle.tk_store.proofs.JoiningLaws.{joins_is_with_facts}
-use Rattle.tk_store.proofs.NextDotLaws.{next_is_free}
+use Rattle.tk_store.specs.Slots.{held_slot}
+use Rattle.tk_store.specs.WholeStores.{whole_store}
+use Rattle.tk_store.proofs.SlotLaws.{get_held}
+use Rattle.tk_store.proofs.WholeStoreLaws.{held_whole_store}
+use Rattle.tk_region.proofs.CapLaws.{next_unknown}
 use Rattle.tk_store.proofs.PutLaws.{by_dot, of_dot, get_here, some_injective, none_is_not_some, IsFactSet-empty, IsFactSet-insert}
 use Rattle.tk_store.proofs.SubsetLaws.{subset_itself, subset_trans, subset_with_facts, keeps_with_facts, AllIn-take, AllIn-subset}
 use Rattle.tk_region.specs.SettingsFields.{SettingsFields, greatest_cap}
@@ -27,7 +31,7 @@ use Rattle.tk_region.specs.Step.{listed, IsNextFact}
 use Rattle.tk_world.specs.State.{State, new_state, with_region, with_bundle, region_with, Consists, IsConsistent}
 use Rattle.tk_world.specs.declared.event.Outcome.{Outcome}
 use Rattle.tk_world.specs.declared.event.Outcome.TheVariants.{Opened, NumberTaken, NoRegion, NoBundle, Bundle, Took, Memory}
-use Rattle.tk_bundle.specs.Page.{page_of}
+use Rattle.tk_world.specs.Pages.{page_of}
 use Rattle.tk_world.specs.World.{Grows, IsDelivery, IsOpening, IsPull}
 
 -- ---- pages
@@ -140,7 +144,8 @@ consists_bundle s U fs k a short = record {
 pub made_keeps : (s : State) (n : ℕ) (F : FactSet) → map.get s.regions n ≡ Some F → (o : Option (Dot × Body)) → IfSome o (IsNextFact (region_with s n F)) → IsConsistent s → IsConsistent (with_region s n (with_facts F (listed o)))
 made_keeps s n F at None x k = (k.0, consists_set s k.0 n F F k.1 at (k.1.held n F at) (subset_itself F))
 made_keeps s n F at (Some f) x k =
-    let free : map.get F f.0 ≡ None = ap (map.get F) x.next ∙ next_is_free F n in
+    let free : map.get F f.0 ≡ None =
+    ap (λ (G : FactSet). map.get G f.0) (sym (held_whole_store F)) ∙ get_held (whole_store F).slots f.0 ∙ ap held_slot (next_unknown (region_with s n F) f x) in
     (map.insert k.0 f.0 f.1, consists_made s k.0 n F f.0 f.1 k.1 at (ap (λ d. d.region) x.next) free x.under x.passes)
 
 -- a region that grows holds its set with these facts

@@ -3,6 +3,7 @@ pub mod ConsistencyLaws
 pub mod EventForms
 pub mod HonestLaws
 pub mod NumberTexts
+pub mod PageLaws
 pub mod PartLaws
 pub mod PromiseLaws
 pub mod Putting

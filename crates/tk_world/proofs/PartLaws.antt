@@ -21,10 +21,14 @@ use Rattle.tk_handle.specs.declared.dot.Dot.{Dot}
 use Rattle.tk_vector.specs.VersionVector.{Vector}
 use Rattle.tk_store.specs.FactSet.{FactSet, Facts}
 use Rattle.tk_store.specs.Joining.{JoinsFacts}
+use Rattle.tk_store.specs.StoreFields.{StoreFields, empty_store, held_facts}
 use Rattle.tk_store.proofs.JoiningLaws.{joins_is_with_facts}
+use Rattle.tk_store.proofs.WholeLaws.{empty_held}
 use Rattle.tk_region.specs.RegionFields.{RegionFields}
 use Rattle.tk_region.specs.SettingsFields.{SettingsFields}
 use Rattle.tk_region.specs.Step.{listed, IsNextFact}
+use Rattle.tk_region.specs.WholeSteps.{IsUnpruned}
+use Rattle.tk_region.proofs.WholeStepsLaws.{empty_unpruned, unpruned_is, whole_gains}
 use Rattle.tk_edge.specs.Answers.{answer_by, fact_by, AnswersBy}
 use Rattle.tk_edge.specs.Told.{AnswerFields}
 use Rattle.tk_edge.specs.EdgeFields.{EdgeFields}
@@ -34,7 +38,7 @@ use Rattle.tk_edge.specs.declared.hear.Arrival.{Arrival}
 use Rattle.tk_world.specs.AskedFields.{AskedFields}
 use Rattle.tk_world.specs.declared.event.Outcome.{Outcome}
 use Rattle.tk_world.specs.declared.event.Outcome.TheVariants.{Opened, Reply, Bundle, Took, Memory}
-use Rattle.tk_bundle.specs.Page.{page_of}
+use Rattle.tk_world.specs.Pages.{page_of}
 use Rattle.tk_world.specs.Regions.{entry_of, entries_of, IsOpen, HaveSettings}
 use Rattle.tk_world.specs.State.{State, with_region, region_with, IsConsistent}
 use Rattle.tk_world.specs.declared.event.Event.TheVariants.{Request}
@@ -47,10 +51,10 @@ use Rattle.tk_edge.proofs.StreamLaws.{all_heard}
 use Rattle.tk_world.proofs.ConsistencyLaws.{made_keeps}
 use Rattle.tk_world.proofs.RegionLaws.{entry_at, entries_set, entries_insert, settings_at, settings_set, settings_insert}
 
--- an edge has the settings of another, is sealed if that one is, and exchanges facts if that one
--- does
+-- an edge has the settings of another, is sealed if that one is, exchanges facts if that one does,
+-- and has skipped nothing
 abbrev IsAsOpen : EdgeFields → EdgeFields → Type 0
-IsAsOpen p q = (q.region.settings ≡ p.region.settings) × (q.sealed ≡ p.sealed) × (q.sync ≡ p.sync)
+IsAsOpen p q = (q.region.settings ≡ p.region.settings) × (q.sealed ≡ p.sealed) × (q.sync ≡ p.sync) × IsUnpruned q.region.facts
 
 abbrev pub state : SettingsFields → List (ℕ × FactSet) → List Facts → State
 state settings rs bs = record { settings = settings; regions = map.from_sorted rs; bundles = bs }
@@ -78,33 +82,39 @@ some_is o x h = ap is_some h
 -- ---- steps of one region
 
 -- the region of this number grows by facts that its set is joined with
-abbrev grows_to : (s : State) (r : ℕ) (F : FactSet) (q : RegionFields) (fs : Facts) → map.get s.regions r ≡ Some F → JoinsFacts F fs q.facts → Grows s r F fs (with_region s r q.facts)
-grows_to s r F q fs at joins = record { is_open = at; grown = q.facts; joins = joins; changes = refl }
+abbrev grows_to : (s : State) (r : ℕ) (F : FactSet) (q : RegionFields) (fs : Facts) → map.get s.regions r ≡ Some F → JoinsFacts F fs (held_facts q.facts) → Grows s r F fs (with_region s r (held_facts q.facts))
+grows_to s r F q fs at joins = record { is_open = at; grown = held_facts q.facts; joins = joins; changes = refl }
 
 -- what was made by an edge's region is made by the world's region
-made_as : (s : State) (r : ℕ) (p q : EdgeFields) (asked : AskedFields) (heard : Arrival) → p.region ≡ region_with s r p.region.facts → Makes p asked heard q
-    → JoinsFacts p.region.facts (listed (fact_by (region_with s r p.region.facts) asked.now asked.words heard)) q.region.facts
-    × IfSome (fact_by (region_with s r p.region.facts) asked.now asked.words heard) (IsNextFact (region_with s r p.region.facts))
-made_as s r p q asked heard is made =
-    subst (λ (x : RegionFields). JoinsFacts p.region.facts (listed (fact_by x asked.now asked.words heard)) q.region.facts
-    × IfSome (fact_by x asked.now asked.words heard) (IsNextFact x)) is (made.gains.joins, made.next)
+made_as : (s : State) (r : ℕ) (p q : EdgeFields) (asked : AskedFields) (heard : Arrival) → p.region ≡ region_with s r (held_facts p.region.facts) → IsUnpruned p.region.facts → Makes p asked heard q
+    → JoinsFacts (held_facts p.region.facts) (listed (fact_by (region_with s r (held_facts p.region.facts)) asked.now asked.words heard)) (held_facts q.region.facts)
+    × IfSome (fact_by (region_with s r (held_facts p.region.facts)) asked.now asked.words heard) (IsNextFact (region_with s r (held_facts p.region.facts)))
+made_as s r p q asked heard is unpruned made =
+    let whole = whole_gains p.region q.region (fact_by p.region asked.now asked.words heard) unpruned made.next made.gains in
+    subst (λ (x : RegionFields). JoinsFacts (held_facts p.region.facts) (listed (fact_by x asked.now asked.words heard)) (held_facts q.region.facts)
+    × IfSome (fact_by x asked.now asked.words heard) (IsNextFact x)) is (whole.1, made.next)
 
 -- an edge that is unchanged leaves the world unchanged
-unchanged : (s : State) (r : ℕ) (p q : EdgeFields) → map.get s.regions r ≡ Some p.region.facts → q ≡ p → with_region s r q.region.facts ≡ s
-unchanged s r p q at same = ap (λ (x : EdgeFields). with_region s r x.region.facts) same ∙ same_region s r p.region.facts at
+unchanged : (s : State) (r : ℕ) (p q : EdgeFields) → map.get s.regions r ≡ Some (held_facts p.region.facts) → q ≡ p → with_region s r (held_facts q.region.facts) ≡ s
+unchanged s r p q at same = ap (λ (x : EdgeFields). with_region s r (held_facts x.region.facts)) same ∙ same_region s r (held_facts p.region.facts) at
 
-module _ (way : Way) (s : State) (r : ℕ) (p q : EdgeFields) (asked : AskedFields) (is : p.region ≡ region_with s r p.region.facts) (at : map.get s.regions r ≡ Some p.region.facts) where
+module _ (way : Way) (s : State) (r : ℕ) (p q : EdgeFields) (asked : AskedFields) (is : p.region ≡ region_with s r (held_facts p.region.facts)) (at : map.get s.regions r ≡ Some (held_facts p.region.facts)) (unpruned : IsUnpruned p.region.facts) where
+  abbrev F : FactSet
+  F = held_facts p.region.facts
+
+  abbrev G : FactSet
+  G = held_facts q.region.facts
+
   -- the fact made for an answer joins the world's region
-  made_grows : (heard : Arrival) → Makes p asked heard q
-      → Grows s r p.region.facts (listed (fact_by (region_with s r p.region.facts) asked.now asked.words heard)) (with_region s r q.region.facts)
+  made_grows : (heard : Arrival) → Makes p asked heard q → Grows s r F (listed (fact_by (region_with s r F) asked.now asked.words heard)) (with_region s r G)
   made_grows heard made =
-      grows_to s r p.region.facts q.region (listed (fact_by (region_with s r p.region.facts) asked.now asked.words heard)) at (made_as s r p q asked heard is made).0
+      grows_to s r F q.region (listed (fact_by (region_with s r F) asked.now asked.words heard)) at (made_as s r p q asked heard is unpruned made).0
 
-  pub request_step : {F : Type 0} (o : Result Outcome F) → Carries way p asked o q → Requests way s r asked o (with_region s r q.region.facts)
+  pub request_step : {E : Type 0} (o : Result Outcome E) → Carries way p asked o q → Requests way s r asked o (with_region s r G)
   request_step (Ok (Reply status bytes)) a = (
-    listed (fact_by (region_with s r p.region.facts) asked.now asked.words a.0),
+    listed (fact_by (region_with s r F) asked.now asked.words a.0),
     (
-      p.region.facts,
+      F,
       made_grows a.0 a.3,
       a.0,
       a.1,
@@ -112,19 +122,19 @@ module _ (way : Way) (s : State) (r : ℕ) (p q : EdgeFields) (asked : AskedFiel
       refl,
     ),
   )
-  request_step (Ok Memory) a = ([], (some_is _ p.region.facts at, (refl, unchanged s r p q at a)))
+  request_step (Ok Memory) a = ([], (some_is _ F at, (refl, unchanged s r p q at a)))
   request_step (Ok o) a = absurd a
   request_step (Err fault) (inl same) = inl (unchanged s r p q at same)
-  request_step (Err fault) (inr (heard, hears, made)) = inr (p.region.facts, heard, hears, made_grows heard made)
+  request_step (Err fault) (inr (heard, hears, made)) = inr (F, heard, hears, made_grows heard made)
 
   -- an answer keeps the world consistent
-  answer_keeps : (heard : Arrival) → Makes p asked heard q → IsConsistent s → IsConsistent (with_region s r q.region.facts)
+  answer_keeps : (heard : Arrival) → Makes p asked heard q → IsConsistent s → IsConsistent (with_region s r G)
   answer_keeps heard made k =
-      let both = made_as s r p q asked heard is made in
-      subst (λ F. IsConsistent (with_region s r F)) (sym (joins_is_with_facts both.0))
-      (made_keeps s r p.region.facts at (fact_by (region_with s r p.region.facts) asked.now asked.words heard) both.1 k)
+      let both = made_as s r p q asked heard is unpruned made in
+      subst (λ (H : FactSet). IsConsistent (with_region s r H)) (sym (joins_is_with_facts both.0))
+      (made_keeps s r F at (fact_by (region_with s r F) asked.now asked.words heard) both.1 k)
 
-  pub request_keeps : {F : Type 0} (o : Result Outcome F) → Carries way p asked o q → IsConsistent s → IsConsistent (with_region s r q.region.facts)
+  pub request_keeps : {E : Type 0} (o : Result Outcome E) → Carries way p asked o q → IsConsistent s → IsConsistent (with_region s r G)
   request_keeps (Ok (Reply status bytes)) a k = answer_keeps a.0 a.3 k
   request_keeps (Ok Memory) a k = subst IsConsistent (sym (unchanged s r p q at a)) k
   request_keeps (Ok o) a k = absurd a
@@ -137,9 +147,9 @@ pub request_steps : {F : Type 0} (way : Way) (old : State) (r now : ℕ) (words 
 request_steps way old r now words bytes (Ok outcome) new h = h
 request_steps way old r now words bytes (Err fault) new h = h
 
-pub deliver_step : (s : State) (i r : ℕ) (p q : RegionFields) (fs : Facts) (o : Outcome) → map.get s.regions r ≡ Some p.facts → slice_get s.bundles i ≡ Some fs → TakesFacts p fs o q → (seen : Facts) × IsDelivery s i r o seen (with_region s r q.facts)
-deliver_step s i r p q fs (Took n) at there t = (fs, (p.facts, grows_to s r p.facts q fs at t.0.joins, there, t.1))
-deliver_step s i r p q fs Memory at there t = (take t.0 fs, (p.facts, grows_to s r p.facts q (take t.0 fs) at t.1.joins, fs, there, t.0, refl))
+pub deliver_step : (s : State) (i r : ℕ) (p q : RegionFields) (fs : Facts) (o : Outcome) → map.get s.regions r ≡ Some (held_facts p.facts) → slice_get s.bundles i ≡ Some fs → TakesFacts p fs o q → (seen : Facts) × IsDelivery s i r o seen (with_region s r (held_facts q.facts))
+deliver_step s i r p q fs (Took n) at there t = (fs, (held_facts p.facts, grows_to s r (held_facts p.facts) q fs at t.0.joins, there, t.1))
+deliver_step s i r p q fs Memory at there t = (take t.0 fs, (held_facts p.facts, grows_to s r (held_facts p.facts) q (take t.0 fs) at t.1.joins, fs, there, t.0, refl))
 deliver_step s i r p q fs o at there t = absurd t
 
 pub pull_step : (s : State) (r : ℕ) (F : FactSet) (v : Vector) (after : Option Dot) (o : Outcome) (bs : List Facts) → map.get s.regions r ≡ Some F → Pages (page_of F v after) s.bundles o bs → (seen : Facts) × IsPull s r v after o seen (record { settings = s.settings; regions = s.regions; bundles = bs })
@@ -156,10 +166,12 @@ module _ (settings : SettingsFields) (rs : List EdgeFields) (bs : List Facts) (s
   pub absent_at : IsGap nat_cmp (entries_of rs) r i → map.get (world settings rs bs).regions r ≡ None
   absent_at gap = get_at_gap nat_cmp_total (entries_of rs) sorted r i gap
 
-  module _ (gap : IsGap nat_cmp (entries_of rs) r i) (p : EdgeFields) (is : p ≡ record { region = record { number = r; settings = settings; facts = map.empty }; sync = false; sealed = false }) where
+  module _ (gap : IsGap nat_cmp (entries_of rs) r i) (p : EdgeFields) (is : p ≡ record { region = record { number = r; settings = settings; facts = empty_store }; sync = false; sealed = false }) where
     -- the entries after a region without facts is inserted
     opened_entries : (new : List EdgeFields) → new ≡ insert rs i p → entries_of new ≡ insert (entries_of rs) i (r, map.empty)
-    opened_entries new h = ap entries_of h ∙ entries_insert rs i p ∙ ap (λ x. insert (entries_of rs) i (entry_of x)) is
+    opened_entries new h =
+        ap entries_of h ∙ entries_insert rs i p ∙ ap (λ x. insert (entries_of rs) i (entry_of x)) is
+        ∙ ap (λ (F : FactSet). insert (entries_of rs) i (r, F)) (empty_held empty_store refl)
 
     pub open_step : (o : Outcome) (new : List EdgeFields) → Opens rs i p o new → (seen : Facts) × IsOpening (world settings rs bs) r o seen (world settings new bs)
     open_step Opened new h =
@@ -173,7 +185,7 @@ module _ (settings : SettingsFields) (rs : List EdgeFields) (bs : List Facts) (s
     sorted_new o new h = absurd h
 
     pub settings_new : (o : Outcome) (new : List EdgeFields) → Opens rs i p o new → HaveSettings settings rs → HaveSettings settings new
-    settings_new Opened new h all = subst (HaveSettings settings) (sym h) (settings_insert settings rs i p (subst (IsOpen settings) (sym is) (refl, refl, refl)) all)
+    settings_new Opened new h all = subst (HaveSettings settings) (sym h) (settings_insert settings rs i p (subst (IsOpen settings) (sym is) (refl, refl, refl, empty_unpruned empty_store refl)) all)
     settings_new Memory new h all = subst (HaveSettings settings) (sym h) all
     settings_new o new h all = absurd h
 
@@ -187,17 +199,22 @@ module _ (settings : SettingsFields) (rs : List EdgeFields) (bs : List Facts) (s
     entry_is : entry_of p ≡ get_or (entries_of rs) i (entry_of p)
     entry_is = entry_at rs i p at.in_range is
 
-    pub held_at : map.get (world settings rs bs).regions r ≡ Some p.region.facts
+    pub held_at : map.get (world settings rs bs).regions r ≡ Some (held_facts p.region.facts)
     held_at = get_at_place nat_cmp_total (entries_of rs) sorted r i at (entry_of p) ∙ ap (λ e. Some e.1) (sym entry_is)
 
     number_at : p.region.number ≡ r
     number_at = ap (λ (e : ℕ × FactSet). e.0) entry_is ∙ map.nat_cmp-IsAntisymmetric _ _ (at.tied (entry_of p))
 
+    -- the region at the index has skipped nothing
+    pub unpruned_at : IsUnpruned p.region.facts
+    unpruned_at = (settings_at settings rs i p at.in_range is all).3
+
     -- the edge at the index has the region of that number, with the world's settings
-    pub region_at : p.region ≡ region_with (world settings rs bs) r p.region.facts
+    pub region_at : p.region ≡ region_with (world settings rs bs) r (held_facts p.region.facts)
     region_at =
         ap (λ (n : ℕ). record { number = n; settings = p.region.settings; facts = p.region.facts }) number_at
         ∙ ap (λ (x : SettingsFields). record { number = r; settings = x; facts = p.region.facts }) (settings_at settings rs i p at.in_range is all).0
+        ∙ ap (λ (P : StoreFields). record { number = r; settings = settings; facts = P }) (unpruned_is p.region.facts unpruned_at)
 
     -- the edge at the index isn't sealed
     pub open_at : p.sealed ≡ false
@@ -207,29 +224,45 @@ module _ (settings : SettingsFields) (rs : List EdgeFields) (bs : List Facts) (s
     alone_at = (settings_at settings rs i p at.in_range is all).2
 
     module _ (q : EdgeFields) (number : q.region.number ≡ p.region.number) (same : IsAsOpen p q) where
-      after : entries_of (set rs i q) ≡ set (entries_of rs) i ((get_or (entries_of rs) i (entry_of p)).0, q.region.facts)
-      after = entries_set rs i q ∙ ap (λ (n : ℕ). set (entries_of rs) i (n, q.region.facts)) (number ∙ ap (λ (e : ℕ × FactSet). e.0) entry_is)
+      after : entries_of (set rs i q) ≡ set (entries_of rs) i ((get_or (entries_of rs) i (entry_of p)).0, held_facts q.region.facts)
+      after = entries_set rs i q ∙ ap (λ (n : ℕ). set (entries_of rs) i (n, held_facts q.region.facts)) (number ∙ ap (λ (e : ℕ × FactSet). e.0) entry_is)
 
       pub sorted_after : T (map.is_sorted nat_cmp (entries_of (set rs i q)))
-      sorted_after = subst (λ es. T (map.is_sorted nat_cmp es)) (sym after) (sorted_at_place nat_cmp_total (entries_of rs) sorted r i at q.region.facts (entry_of p))
+      sorted_after = subst (λ es. T (map.is_sorted nat_cmp es)) (sym after) (sorted_at_place nat_cmp_total (entries_of rs) sorted r i at (held_facts q.region.facts) (entry_of p))
 
       pub settings_after : HaveSettings settings (set rs i q)
-      settings_after = settings_set settings rs i q (same.0 ∙ (settings_at settings rs i p at.in_range is all).0, same.1 ∙ open_at, same.2 ∙ alone_at) all
+      settings_after = settings_set settings rs i q (same.0 ∙ (settings_at settings rs i p at.in_range is all).0, same.1 ∙ open_at, same.2 ∙ alone_at, same.3) all
 
-      pub state_after : world settings (set rs i q) bs ≡ with_region (world settings rs bs) r q.region.facts
+      pub state_after : world settings (set rs i q) bs ≡ with_region (world settings rs bs) r (held_facts q.region.facts)
       state_after =
           ap (λ es. state settings es bs) after
-          ∙ ap (λ m. record { settings = settings; regions = m; bundles = bs }) (insert_at_place nat_cmp_total (entries_of rs) sorted r i at q.region.facts (entry_of p))
+          ∙ ap (λ m. record { settings = settings; regions = m; bundles = bs }) (insert_at_place nat_cmp_total (entries_of rs) sorted r i at (held_facts q.region.facts) (entry_of p))
 
 -- carrying a request leaves the region's number, its settings, and whether the edge is open
-pub carried_number : {F : Type 0} (way : Way) (p q : EdgeFields) (asked : AskedFields) (o : Result Outcome F) → Carries way p asked o q → (q.region.number ≡ p.region.number) × IsAsOpen p q
-carried_number {F = F} way p q asked o a = by o a
+pub carried_number : {F : Type 0} (way : Way) (p q : EdgeFields) (asked : AskedFields) (o : Result Outcome F) → IsUnpruned p.region.facts → Carries way p asked o q → (q.region.number ≡ p.region.number) × IsAsOpen p q
+carried_number {F = F} way p q asked o unpruned a = by o a
   where
     same : q ≡ p → (q.region.number ≡ p.region.number) × IsAsOpen p q
-    same e = (ap (λ (x : EdgeFields). x.region.number) e, (ap (λ (x : EdgeFields). x.region.settings) e, ap (λ (x : EdgeFields). x.sealed) e, ap (λ (x : EdgeFields). x.sync) e))
+    same e = (
+      ap (λ (x : EdgeFields). x.region.number) e,
+      (
+        ap (λ (x : EdgeFields). x.region.settings) e,
+        ap (λ (x : EdgeFields). x.sealed) e,
+        ap (λ (x : EdgeFields). x.sync) e,
+        subst (λ (x : EdgeFields). IsUnpruned x.region.facts) (sym e) unpruned,
+      ),
+    )
 
     made : (heard : Arrival) → Makes p asked heard q → (q.region.number ≡ p.region.number) × IsAsOpen p q
-    made heard m = (m.gains.number, (m.gains.settings, m.sealed, m.sync))
+    made heard m = (
+      m.gains.number,
+      (
+        m.gains.settings,
+        m.sealed,
+        m.sync,
+        (whole_gains p.region q.region (fact_by p.region asked.now asked.words heard) unpruned m.next m.gains).0,
+      ),
+    )
 
     by : (o : Result Outcome F) → Carries way p asked o q → (q.region.number ≡ p.region.number) × IsAsOpen p q
     by (Ok (Reply status bytes)) a = made a.0 a.3
@@ -270,8 +303,8 @@ answered_part p q asked told seen is off sealed sync came =
     )
 
 pub taken_number : (p q : EdgeFields) (fs : Facts) (o : Outcome) → TakesFacts p.region fs o q.region → q.sealed ≡ p.sealed → q.sync ≡ p.sync → (q.region.number ≡ p.region.number) × IsAsOpen p q
-taken_number p q fs (Took n) t sealed sync = (t.0.number, (t.0.settings, sealed, sync))
-taken_number p q fs Memory t sealed sync = (t.1.number, (t.1.settings, sealed, sync))
+taken_number p q fs (Took n) t sealed sync = (t.0.number, (t.0.settings, sealed, sync, t.0.unpruned))
+taken_number p q fs Memory t sealed sync = (t.1.number, (t.1.settings, sealed, sync, t.1.unpruned))
 taken_number p q fs o t sealed sync = absurd t
 
 -- ---- the end of a call

@@ -4,11 +4,11 @@
 --   introspect_alike    regions with equal sets introspect alike
 --   revoked_inactive    a token that its client revoked is inactive
 --   families_inactive   each token of a family with a bad grant is inactive
-use Rattle.std.proofs.Common.{false, ◌≡◌, ℕ, zero, suc, List, [], ◌∷◌, take, slice_get, Some, None, unwrap_or, refl, sym, ap, subst, ◌∙◌}
+use Rattle.std.proofs.lemmas.Bool.Decides.{nat_tests}
+use Rattle.std.proofs.Common.{false, cond, nat_lt, arith, ◌≡◌, ℕ, zero, suc, List, [], ◌∷◌, take, slice_get, Some, None, unwrap_or, refl, sym, ap, subst, ◌∙◌}
 use Rattle.std.specs.FinMap as map
 use Rattle.tk_handle.specs.declared.handle.Handle.{Handle}
 use Rattle.tk_store.specs.FactSet.{FactSet, Facts}
-use Rattle.tk_store.specs.Store.{facts_of}
 use Rattle.tk_store.specs.WholeStores.{whole_store}
 use Rattle.tk_store.proofs.PutLaws.{none_is_not_some, some_injective}
 use Rattle.tk_store.proofs.WholeStoreLaws.{held_whole_store}
@@ -21,7 +21,7 @@ use Rattle.tk_query.specs.Introspection.{introspection_of}
 use Rattle.tk_query.proofs.ActiveLaws.{says_nothing}
 use Rattle.tk_region.specs.Decision.{decision_by}
 use Rattle.tk_region.specs.RegionFields.{RegionFields, place_in}
-use Rattle.tk_region.specs.Step.{prepared_by}
+use Rattle.tk_region.specs.Step.{PreparedFields, early_in, prepared_by}
 use Rattle.tk_edge.specs.Answers.{answer_by, rendered}
 use Rattle.tk_edge.specs.declared.hear.Arrival.TheVariants.{Request as Asked}
 use Rattle.tk_edge.proofs.StreamLaws.{has_one_meaning}
@@ -62,10 +62,16 @@ run_at old es os ss new run i e o he ho = absurd run
 -- ---- regions with equal facts introspect alike
 
 -- the reply to an introspection request doesn't depend on the cap, since no fact is made
-introspects : (r : RegionFields) (now : ℕ) (words : List ℕ) (request : RequestFields) → request.endpoint ≡ Introspect
-    → answer_by r now words (Asked request) ≡ rendered (introspection_of (whole_store (facts_of r.facts)) now request) None None
-introspects r now words request h =
-    ap (λ (e : Endpoint). let p = prepared_by r.settings.cap (place_in r) (decision_by e (whole_store (facts_of r.facts)) (place_in r) now words request) in rendered p.reply None p.logged) h
+introspects : (s : State) (n : ℕ) (F : FactSet) (now : ℕ) (words : List ℕ) (request : RequestFields) → request.endpoint ≡ Introspect
+    → answer_by (region_with s n F) now words (Asked request) ≡ rendered (introspection_of (whole_store F) now request) None None
+introspects s n F now words request h =
+    let r : RegionFields = region_with s n F in
+    let by : Endpoint → PreparedFields = λ e. prepared_by r.settings.cap (place_in r) (decision_by e (whole_store F) (place_in r) now words request) in
+    ap (λ t. let p : PreparedFields = cond t (early_in (place_in r)) (by request.endpoint) in rendered p.reply None p.logged) (never_before now)
+    ∙ ap (λ (e : Endpoint). rendered (by e).reply None (by e).logged) h
+  where
+    never_before : (now : ℕ) → nat_lt now 0 ≡ false
+    never_before now = grind (arith, nat_tests)
 
 pub tells_of_sets : (old : State) (es : List Event) (os : List Outcome) (ss : List Facts) (new : State) → Run old es os ss new → TellsOfSets old es os ss
 tells_of_sets old es os ss new run i r now request status reply q =
@@ -74,7 +80,7 @@ tells_of_sets old es os ss new run i r now request status reply q =
     let F = at.step.0 in
     let held : F ≡ held_before old es ss i r = ap (λ o. unwrap_or o map.empty) (sym at.step.1.is_open) ∙ joins.joins in
     let one : at.step.2 ≡ Asked request = has_one_meaning false q.bytes.items at.step.2 (Asked request) at.step.3 q.heard in
-    let told = ap (answer_by (region_with at.mid r F) now q.words) one ∙ introspects (region_with at.mid r F) now q.words request q.introspects
+    let told = ap (answer_by (region_with at.mid r F) now q.words) one ∙ introspects at.mid r F now q.words request q.introspects
     ∙ ap (λ G. rendered (introspection_of (whole_store G) now request) None None) held in
     subst (λ a. IsReplied a status reply) told (at.step.4.0, sym q.replied ∙ at.step.4.1)
 

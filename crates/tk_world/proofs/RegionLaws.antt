@@ -16,6 +16,8 @@ use Rattle.std.specs.FinMap as map
 use Rattle.tk_handle.specs.SortedEntries.{IsAt, IsGap}
 use Rattle.tk_handle.proofs.SortedEntriesLaws.{searched}
 use Rattle.tk_store.specs.FactSet.{FactSet}
+use Rattle.tk_store.specs.WholeStores.{whole_store}
+use Rattle.tk_store.proofs.WholeStoreLaws.{held_whole_store}
 use Rattle.std.proofs.lemmas.List.{get_or-map, map-set, length-map}
 use Rattle.tk_edge.specs.EdgeFields.{EdgeFields}
 use Rattle.tk_region.specs.SettingsFields.{SettingsFields}
@@ -41,7 +43,7 @@ entries_insert (r ∷ rs) (suc i) q = ap (λ es. entry_of r ∷ es) (entries_ins
 
 -- a region with this entry
 abbrev region_of : ℕ × FactSet → EdgeFields
-region_of e = record { region = record { number = e.0; settings = record { code = 0; access = 0; refresh = 0; family = 0; cap = 0 }; facts = e.1 }; sync = false; sealed = false }
+region_of e = record { region = record { number = e.0; settings = record { code = 0; access = 0; refresh = 0; family = 0; cap = 0 }; facts = whole_store e.1 }; sync = false; sealed = false }
 
 get_entry : (rs : List EdgeFields) (i : ℕ) (d : EdgeFields) → get_or (entries_of rs) i (entry_of d) ≡ entry_of (get_or rs i d)
 get_entry [] i d = refl
@@ -49,7 +51,7 @@ get_entry (r ∷ rs) zero d = refl
 get_entry (r ∷ rs) (suc i) d = get_entry rs i d
 
 at_entry : (rs : List EdgeFields) (i : ℕ) (d : ℕ × FactSet) → get_or (entries_of rs) i d ≡ entry_of (get_or rs i (region_of d))
-at_entry [] i (n, F) = refl
+at_entry [] i (n, F) = ap (λ (G : FactSet). (n, G)) (sym (held_whole_store F))
 at_entry (r ∷ rs) zero (n, F) = refl
 at_entry (r ∷ rs) (suc i) (n, F) = at_entry rs i (n, F)
 

@@ -8,7 +8,7 @@
 use Rattle.std.specs.Prelude.{◌≡◌, ◌⊎◌, ℕ, List, IfSome, Result, Ok, Err}
 use Rattle.tk_message.specs.declared.status.Status.{Status}
 use Rattle.tk_region.specs.RegionFields.{Gains}
-use Rattle.tk_region.specs.Step.{listed, IsNextFact}
+use Rattle.tk_region.specs.Step.{IsNextFact}
 use Rattle.tk_edge.specs.Answers.{answer_by, fact_by}
 use Rattle.tk_edge.specs.EdgeFields.{EdgeFields}
 use Rattle.tk_edge.specs.Heard.{IsHeard}
@@ -37,7 +37,7 @@ in_place = record { Hears = IsHeard; Shows = IsReplied }
 -- changes
 pub record Makes (old : EdgeFields) (asked : AskedFields) (heard : Arrival)
     (new : EdgeFields) : Type 0 where
-  pub gains : Gains old.region (listed (fact_by old.region asked.now asked.words heard)) new.region
+  pub gains : Gains old.region (fact_by old.region asked.now asked.words heard) new.region
   pub next : IfSome (fact_by old.region asked.now asked.words heard) (IsNextFact old.region)
   pub sealed : new.sealed ≡ old.sealed
   pub sync : new.sync ≡ old.sync

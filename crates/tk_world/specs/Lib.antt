@@ -5,6 +5,7 @@
 --   State         State, a world's regions and bundles; Consists, the set of all its facts
 --   Carrying      Way, what a request may be heard as and what its reply shows; Carries, what
 --                 carrying a request does to an edge
+--   Pages         page_of, the page of a set of facts
 --   World         Step, one event; Run, a list of them; StepBy, RunBy, by any way of requests;
 --                 seen_by, what a region has seen
 --   Broken        BreaksOff, what a run leaves that ended with an error
@@ -21,6 +22,7 @@ pub mod Bundles
 pub mod Carrying
 pub mod Fields
 pub mod Line
+pub mod Pages
 pub mod Parts
 pub mod Printed
 pub mod Promises
@@ -29,6 +31,7 @@ pub mod RequestLine
 pub mod State
 pub mod World
 pub use Rattle.tk_bundle.specs.Bundle
+pub use Rattle.tk_bundle.specs.BundleFields
 pub use Rattle.tk_bundle.specs.Page
 pub use Rattle.tk_edge.specs.Answers
 pub use Rattle.tk_edge.specs.Heard
@@ -36,6 +39,8 @@ pub use Rattle.tk_edge.specs.Rendering
 pub use Rattle.tk_message.specs.RequestFields
 pub use Rattle.tk_message.specs.Status
 pub use Rattle.tk_region.specs.SettingsFields
+pub use Rattle.tk_region.specs.Taking
+pub use Rattle.tk_region.specs.WholeSteps
 pub use Rattle.tk_store.specs.FactSet
 pub use Rattle.tk_store.specs.Joining
-pub use Rattle.tk_store.specs.Store
+pub use Rattle.tk_store.specs.StoreFields

@@ -14,6 +14,7 @@ use Rattle.tk_handle.specs.Dot.{coded_dot}
 use Rattle.tk_fact.specs.declared.body.Body.{Body}
 use Rattle.tk_fact.specs.contracts.body.Body.{the_row}
 use Rattle.tk_store.specs.FactSet.{FactSet, Facts, AllIn, IsFactSet, IsSubset, coded_facts}
+use Rattle.tk_store.specs.WholeStores.{whole_store}
 use Rattle.tk_region.specs.SettingsFields.{SettingsFields, coded_settings, greatest_cap}
 use Rattle.tk_region.specs.RegionFields.{RegionFields}
 
@@ -52,9 +53,9 @@ with_bundle s fs =
 abbrev pub facts_in : State → ℕ → FactSet
 facts_in s r = unwrap_or (map.get s.regions r) map.empty
 
--- the region of this number that holds these facts
+-- the region of this number that holds these facts, and has skipped nothing
 abbrev pub region_with : State → ℕ → FactSet → RegionFields
-region_with s r F = record { number = r; settings = s.settings; facts = F }
+region_with s r F = record { number = r; settings = s.settings; facts = whole_store F }
 
 -- U is the set of all facts made: each is in the region of its number, with a serial up to the cap
 pub record Consists (s : State) (U : FactSet) : Type 0 where

@@ -18,7 +18,6 @@ use Rattle.tk_vector.specs.VersionVector.{Vector}
 use Rattle.tk_store.specs.FactSet.{FactSet}
 pub use Rattle.tk_store.specs.FactSet.{Facts}
 use Rattle.tk_store.specs.Joining.{JoinsFacts}
-use Rattle.tk_bundle.specs.Page.{page_of}
 use Rattle.tk_region.specs.Step.{listed}
 use Rattle.tk_edge.specs.Answers.{answer_by, fact_by}
 use Rattle.tk_edge.specs.declared.hear.Arrival.{Arrival}
@@ -29,6 +28,7 @@ use Rattle.tk_world.specs.declared.event.Outcome.TheVariants.{Opened, NumberTake
 use Rattle.tk_world.specs.declared.event.Outcome.TheVariants.{NoBundle, Reply, Bundle, Took, Memory}
 use Rattle.tk_world.specs.AskedFields.{AskedFields}
 use Rattle.tk_world.specs.Carrying.{Way, in_place}
+use Rattle.tk_world.specs.Pages.{page_of}
 use Rattle.tk_world.specs.State.{State, with_region, with_bundle, region_with}
 
 -- no fact was shown to a region, and nothing changed

@@ -2,7 +2,7 @@
 
 use std::marker::Model;
 
-/// A bundle that a region made, in bytes. Contracts see its facts.
+/// A bundle that a region made, in bytes. It has no mark, and contracts see its facts.
 #[derive(Drop)]
 pub struct MadeBundle {
     bytes: Vec<u8>,
@@ -24,22 +24,24 @@ impl Model for MadeBundle {
 ghost use Rattle.std.specs.Prelude.{◌≡◌, Some};
 ghost use Rattle.tk_format.specs.Format.{whole};
 ghost use Rattle.tk_store.specs.FactSet.{Facts};
-ghost use Rattle.tk_bundle.specs.Bundle.{bundle, bundle_bytes};
-ghost use Rattle.tk_world.specs.Bundles.{facts_in_bytes, IsReadable};
+ghost use Rattle.tk_bundle.specs.Bundle.{bundle};
+ghost use Rattle.tk_bundle.specs.BundleFields.{of_facts};
+ghost use Rattle.tk_world.specs.Bundles.{facts_bytes, facts_in_bytes, IsReadable};
 
 impl MadeBundle {
     // Wraps bytes that spell a bundle.
     pub(crate) fn new(bytes: Vec<u8>) -> MadeBundle
-        requires { (fs : Facts) × bundle.Fits fs × (bytes.items ≡ bundle_bytes fs) }
-        ensures { (fs : Facts) → bundle.Fits fs → bytes.items ≡ bundle_bytes fs → result ≡ fs }
+        requires { (fs : Facts) × bundle.Fits (of_facts fs) × (bytes.items ≡ facts_bytes fs) }
+        ensures { (fs : Facts) → bundle.Fits (of_facts fs) → bytes.items ≡ facts_bytes fs
+            → result ≡ fs }
     {
         MadeBundle { bytes }
     }
 
     // Returns the bundle's bytes.
     pub(crate) fn bytes(&self) -> &[u8]
-        ensures spelled { result.now ≡ bundle_bytes self.now }
-        ensures read { whole bundle result.now ≡ Some self.now }
+        ensures spelled { result.now ≡ facts_bytes self.now }
+        ensures read { whole bundle result.now ≡ Some (of_facts self.now) }
     {
         spelling(&self.bytes)
     }
@@ -48,8 +50,8 @@ impl MadeBundle {
 // Returns the bytes unchanged; its contract states that they spell the bundle's facts.
 fn spelling(bytes: &[u8]) -> &[u8]
     requires { IsReadable bytes.now }
-    ensures spelled { result.now ≡ bundle_bytes (facts_in_bytes bytes.now) }
-    ensures read { whole bundle result.now ≡ Some (facts_in_bytes bytes.now) }
+    ensures spelled { result.now ≡ facts_bytes (facts_in_bytes bytes.now) }
+    ensures read { whole bundle result.now ≡ Some (of_facts (facts_in_bytes bytes.now)) }
 {
     bytes
 }

@@ -1,10 +1,13 @@
 //! One region in a world: `deliver` hands it a bundle.
 
 ghost use Rattle.std.specs.Prelude.{◌≡◌, false};
+ghost use Rattle.tk_bundle.specs.BundleFields.{of_facts};
 ghost use Rattle.tk_message.specs.Place.{next_in};
 ghost use Rattle.tk_region.specs.RegionFields.{place_in};
 ghost use Rattle.tk_region.specs.Taking.{AgreesWith, has_unmade};
-ghost use Rattle.tk_store.specs.Store.{facts_of};
+ghost use Rattle.tk_region.specs.WholeSteps.{IsUnpruned};
+ghost use Rattle.tk_store.specs.FactSet.{AllIn, FactSet, IsSubset};
+ghost use Rattle.tk_store.specs.StoreFields.{held_facts};
 ghost use Rattle.tk_world.specs.Parts.{TakesFacts};
 
 use crate::bundle::MadeBundle;
@@ -15,8 +18,12 @@ use tk_region::TakeError;
 
 // Takes a bundle in. The region has no reason to refuse a bundle of its world.
 pub(crate) fn deliver(alloc: Global, edge: &mut Edge, bundle: &MadeBundle) -> Outcome
-    requires agree { AgreesWith (facts_of edge.old.region.facts) bundle.now }
-    requires made { has_unmade (next_in (place_in edge.old.region)) bundle.now ≡ false }
+    requires unpruned { IsUnpruned edge.old.region.facts }
+    requires within { (U : FactSet) × IsSubset (held_facts edge.old.region.facts) U
+        × AllIn U bundle.now }
+    requires agree { AgreesWith edge.old.region.facts.slots (of_facts bundle.now).items }
+    requires made { has_unmade (next_in (place_in edge.old.region)) (of_facts bundle.now).items
+        ≡ false }
     ensures takes { TakesFacts edge.old.region bundle.now result edge.new.region }
     ensures sealed { edge.new.sealed ≡ edge.old.sealed }
     ensures sync { edge.new.sync ≡ edge.old.sync }

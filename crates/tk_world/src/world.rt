@@ -12,8 +12,8 @@ use tk_region::{Region, Settings};
 pub struct World {
     alloc: Global,
     settings: Settings,
-    // The edges, ascending by number. Each has these settings, none is sealed, and none serves
-    // `/sync/`.
+    // The edges, ascending by number. Each has these settings, none is sealed, none serves `/sync/`,
+    // and none has skipped a fact.
     regions: Vec<Edge>,
     // The bundles in the order of making. All facts that regions hold or bundles carry are one set.
     bundles: Vec<MadeBundle>,
@@ -54,9 +54,13 @@ ghost use Rattle.std.specs.FinMap as map;
 ghost use Rattle.tk_handle.specs.SortedEntries.{IsAt, IsGap};
 ghost use Rattle.tk_store.specs.FactSet.{Facts};
 ghost use Rattle.tk_store.specs.Joining.{JoinsFacts, SameFacts};
-ghost use Rattle.tk_store.specs.Store.{known_in};
-ghost use Rattle.tk_bundle.specs.Bundle.{bundle, bundle_bytes};
-ghost use Rattle.tk_bundle.specs.Page as pages;
+ghost use Rattle.tk_store.specs.StoreFields.{held_facts};
+ghost use Rattle.tk_bundle.specs.Bundle.{bundle};
+ghost use Rattle.tk_bundle.specs.BundleFields.{of_facts};
+ghost use Rattle.tk_bundle.specs.Page.{IsPageOf};
+ghost use Rattle.tk_region.specs.WholeSteps.{IsUnpruned};
+ghost use Rattle.tk_world.specs.Bundles.{facts_bytes};
+ghost use Rattle.tk_world.specs.Pages as pages;
 ghost use Rattle.tk_world.specs.State.{facts_in, new_state, region_with, IsConsistent};
 ghost use Rattle.tk_world.specs.Broken.{BreaksOff, Requests, Steps};
 ghost use Rattle.tk_world.specs.World.{IsDelivery, IsOpening, IsPull, Run, RunBy, seen_by};
@@ -198,7 +202,7 @@ impl World {
     /// Returns the bytes of a bundle. Bundles are numbered from 0 in the order of making.
     pub fn bundle(&self, index: u64) -> Option<&[u8]>
         ensures { option_copied result
-            ≡ option_map bundle_bytes (slice_get self.now.bundles index) }
+            ≡ option_map facts_bytes (slice_get self.now.bundles index) }
     {
         match bundle_at(&self.bundles, index) {
             Some(bundle) => Some(bundle.bytes()),
@@ -343,8 +347,9 @@ fn pull_page(
     vector: &VersionVector,
     after: Option<Dot>,
 ) -> Outcome
-    ensures { Pages (pages.page_of (known_in region.now.facts) vector.now after) bundles.old.items
-        result bundles.new.items }
+    requires { IsUnpruned region.now.facts }
+    ensures { Pages (pages.page_of (held_facts region.now.facts) vector.now after)
+        bundles.old.items result bundles.new.items }
 {
     match region.page(alloc, vector, after) {
         Ok(page) => keep_page(bundles, page),
@@ -354,8 +359,10 @@ fn pull_page(
 
 // Adds the bundle of a page, and returns its outcome.
 fn keep_page(bundles: &mut Vec<MadeBundle>, page: Page) -> Outcome
-    requires { (fields : pages.PageFields) × pages.IsPageOf page fields × bundle.Fits fields.facts }
-    ensures { (fields : pages.PageFields) → pages.IsPageOf page fields → bundle.Fits fields.facts
+    requires { (fields : pages.PageFields) × IsPageOf page (pages.as_page fields)
+        × bundle.Fits (of_facts fields.facts) }
+    ensures { (fields : pages.PageFields) → IsPageOf page (pages.as_page fields)
+        → bundle.Fits (of_facts fields.facts)
         → Pages fields bundles.old.items result bundles.new.items }
 {
     let made = Outcome::Bundle {

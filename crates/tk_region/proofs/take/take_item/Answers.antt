@@ -1,4 +1,4 @@
-use Rattle.std.proofs.Common.{ap, sym, ◌∙◌, arith}
+use Rattle.std.proofs.Common.{arith}
 use Rattle.tk_region.proofs.TakeLaws.{counted_new, counted_held}
 use Rattle.tk_region.proofs.take.take_item.Goals as goal
 

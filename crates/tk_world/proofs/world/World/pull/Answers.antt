@@ -1,9 +1,10 @@
 use Rattle.std.proofs.Common.{[], ap, sym, ◌∙◌, refl}
 use Rattle.std.specs.FinMap as map
 use Rattle.tk_store.specs.FactSet.{Facts}
+use Rattle.tk_store.specs.StoreFields.{held_facts}
 use Rattle.tk_world.specs.World.{IsPull}
 use Rattle.tk_world.proofs.ConsistencyLaws.{pull_keeps}
-use Rattle.tk_world.proofs.PartLaws.{world, absent_at, held_at, pull_step, ended}
+use Rattle.tk_world.proofs.PartLaws.{world, absent_at, held_at, unpruned_at, pull_step, ended}
 use Rattle.tk_world.proofs.world.World.pull.Goals as goal
 
 pub returns-in-Err : goal.returns-in-Err
@@ -17,6 +18,13 @@ returns-in-Err c =
       ),
     )
 
+pub pull_page-requires : goal.pull_page-requires
+pull_page-requires c =
+    let w = c.self.inside in
+    let at = rw c.deref.ensures.value at c.in-Ok.ensures in
+    let p = c.index.result.now in
+    rw c.region.ensures (unpruned_at w.settings w.regions.items w.bundles.items c.self.invariant.0 c.args.region c.in-Ok.at at c.self.invariant.1 p c.index.ensures)
+
 pub invariant_of-self : goal.invariant_of-self
 invariant_of-self c =
     let w = c.self.inside in
@@ -25,7 +33,7 @@ invariant_of-self c =
     let is = c.index.ensures in
     let s = world w.settings w.regions.items w.bundles.items in
     let held = held_at w.settings w.regions.items w.bundles.items c.self.invariant.0 c.args.region c.in-Ok.at at c.self.invariant.1 p is in
-    let step = pull_step s c.args.region p.region.facts c.args.vector.now c.args.after c.pull_page.result c.pull_page.new.bundles.items held (rw c.region.ensures at c.pull_page.ensures) in
+    let step = pull_step s c.args.region (held_facts p.region.facts) c.args.vector.now c.args.after c.pull_page.result c.pull_page.new.bundles.items held (rw c.region.ensures at c.pull_page.ensures) in
     (c.self.invariant.0, c.self.invariant.1, pull_keeps s c.args.region c.args.vector.now c.args.after c.pull_page.result step.0 _ step.1 c.self.invariant.2)
 
 pub returns-in-Ok : goal.returns-in-Ok
@@ -36,5 +44,5 @@ returns-in-Ok c =
     let is = c.index.ensures in
     let s = world w.settings w.regions.items w.bundles.items in
     let held = held_at w.settings w.regions.items w.bundles.items c.self.invariant.0 c.args.region c.in-Ok.at at c.self.invariant.1 p is in
-    let step = pull_step s c.args.region p.region.facts c.args.vector.now c.args.after c.pull_page.result c.pull_page.new.bundles.items held (rw c.region.ensures at c.pull_page.ensures) in
+    let step = pull_step s c.args.region (held_facts p.region.facts) c.args.vector.now c.args.after c.pull_page.result c.pull_page.new.bundles.items held (rw c.region.ensures at c.pull_page.ensures) in
     ended (λ x y. (seen : Facts) × IsPull x c.args.region c.args.vector.now c.args.after c.pull_page.result seen y) s _ step _ refl _ c.self.view_is
