@@ -14,6 +14,8 @@ LISTENING = re.compile(rb"listening 127\.0\.0\.1:(\d+)\n")
 NOW = 1_700_000_000  # the time of every server
 ANSWERED = (b"HTTP/1.1 2", b"HTTP/1.1 3", b"HTTP/1.1 400")
 SUBJECT_OUT = 10  # the kind of fact that makes a bundle an OTB2
+MARK = 10  # the length of the mark of a skipped fact, its dot
+HORIZON = 1000  # a moment that is over
 CURSOR, EMPTY_VECTOR = bytes(10), b"OTV1\0\0"
 
 
@@ -40,22 +42,27 @@ PULL = http("POST", "/sync/pull", body=CURSOR + EMPTY_VECTOR)
 NOTHING = http("GET", "/nowhere")  # changes nothing, and takes its random words
 
 
-def push(facts):
-    return http("POST", "/sync/push", body=bundle(facts))
+def push(items):
+    return http("POST", "/sync/push", body=bundle(items))
 
 
-def bundle(facts):
-    """The bundle of facts in the order of their dots."""
-    version = b"OTB2" if any(fact[10] == SUBJECT_OUT for fact in facts) else b"OTB1"
-    return (version + struct.pack(">H", len(facts))
-            + b"".join(struct.pack(">H", len(fact)) + fact for fact in facts))
+def bundle(items):
+    """The bundle of items, facts or marks, in the order of their dots."""
+    version = b"OTB1"
+    if any(len(item) == MARK for item in items):
+        version = b"OTB3" + struct.pack(">Q", HORIZON)
+    elif any(item[10] == SUBJECT_OUT for item in items):
+        version = b"OTB2"
+    return (version + struct.pack(">H", len(items))
+            + b"".join(struct.pack(">H", len(item)) + item for item in items))
 
 
 def facts_of(log):
-    """The facts of bundles that stand one behind the other."""
+    """The items of bundles that stand one behind the other."""
     found = []
     while log:
-        (count,), log = struct.unpack(">H", log[4:6]), log[6:]
+        log = log[12 if log.startswith(b"OTB3") else 4:]
+        (count,), log = struct.unpack(">H", log[:2]), log[2:]
         for _ in range(count):
             (length,) = struct.unpack(">H", log[:2])
             found.append(log[2:2 + length])
@@ -70,14 +77,14 @@ def body_of(reply):
 class Server:
     """A server on a free port, with a table by which its allocations fail."""
 
-    def __init__(self, lab, region, load=b"", **refusal):
+    def __init__(self, lab, region, load=b"", options="", **refusal):
         self.folder = tempfile.TemporaryDirectory(dir=lab.folder)
         self.table = Table(self.folder.name)
         self.table.write(clock=NOW, **refusal)
         for name, content in (("seed", bytes(range(32))), ("old", load), ("errors", b"")):
             with open(self.path(name), "wb") as file:
                 file.write(content)
-        words = "serve --region %d --port 0 --seed seed --log log --load old" % region
+        words = "serve --region %d --port 0 --seed seed --log log --load old" % region + options
         with open(self.path("errors"), "wb") as errors:
             self.process = subprocess.Popen(
                 [lab.program] + words.split(), cwd=self.folder.name, stdin=subprocess.DEVNULL,
@@ -137,7 +144,7 @@ class Server:
         return [self.ask(request) for request in requests]
 
     def made(self):
-        """The log: the records of the facts that this server made."""
+        """The log: the records of the facts that this server made, and the bundles it logs."""
         return self.content("log")
 
     def errors(self):

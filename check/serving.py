@@ -12,10 +12,11 @@ import threading
 import story
 from many import written_out
 from refusal import FOR_GOOD
-from server import NOTHING, PULL, VECTOR, Server
+from server import MARK, NOTHING, PULL, VECTOR, Server
 from server import body_of, facts_of, http, push, request_of, run_story
 
 MOST_FAULTS = 3  # of one sweep
+PASSING = (5, 6, 7, 9)  # the kinds of facts that may be skipped
 REGION, OLD_REGION, OTHER_REGION, READER = 1, 2, 3, 9
 LOOK = "req 1 0 POST /introspect <c2-2:s3cret> - token="
 
@@ -93,6 +94,15 @@ class Scene:
     def push(self):
         fronts = [self.pushed[:count + 1] for count in range(len(self.pushed))]
         return Request("POST /sync/push of %d facts" % len(fronts), push(self.pushed),
+                       [push(front) for front in fronts])
+
+    def push_marks(self):
+        """A push of facts, and of marks in the place of codes and of what was made of them."""
+        items = [fact[:MARK] if fact[MARK] in PASSING else fact for fact in self.pushed]
+        held = [fact[:MARK] for fact in facts_of(self.old) if fact[MARK] in PASSING][:2]
+        items = held + items
+        fronts = [items[:count + 1] for count in range(len(items))]
+        return Request("POST /sync/push of %d facts and marks" % len(items), push(items),
                        [push(front) for front in fronts])
 
     def remembered(self, key, make):
@@ -184,6 +194,30 @@ def sweep(scene, request, is_whole, offset, stride):
             yield "serve, %s, allocation %d%s: %s" % (
                 request.title, at, " on" if is_whole else "", told)
         if not talk.refused:
+            return
+        at += stride
+
+
+def sweep_taken(scene, is_whole, offset, stride):
+    """Yields what is wrong with a log of bundles when allocations of a push fail.
+
+    A server of another number that loads the log must hold all that the pushed one holds.
+    """
+    at, faults, request = 1 + offset, 0, scene.push()
+    while faults < MOST_FAULTS:
+        scene.lab.count()
+        with Server(scene.lab, REGION, scene.old, " --log-taken") as server:
+            server.refuse(at, FOR_GOOD if is_whole else 1)
+            server.ask(request.sent)
+            refused = server.refused()
+            server.refuse(0, 0)
+            held, log = facts_of(body_of(server.ask(PULL))), server.made()
+        back = facts_of(body_of(scene.read_back(scene.old + log)[1]))
+        if not set(held) <= set(back):
+            faults += 1
+            yield "serve, %s to a log of bundles, allocation %d%s: %d facts are held, %d loaded" % (
+                request.title, at, " on" if is_whole else "", len(held), len(back))
+        if not refused:
             return
         at += stride
 

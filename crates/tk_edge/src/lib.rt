@@ -14,10 +14,12 @@
 //! - [`Arrival`]: what a stream means. An [`Exchange`] is with another region.
 //! - `answer` makes the reply to an arrival, and `render` its bytes.
 //! - `tell` writes the record of a fact and only then the reply, or returns a [`Fault`].
+//! - `push` takes a pushed bundle in and logs it before the reply, if bundles are logged.
 //! - [`Edge`]: [`Edge::answer`] over bytes, [`Edge::serve_one`] over devices.
 //!
 //! The definitions are in `specs/`: `Judged` has the cases, `Heard` the meaning of a stream,
-//! `Answers` and `Exchanges` the replies, and `Served` what one connection does.
+//! `Answers` and `Exchanges` the replies, `Pushes` the log of bundles, and `Served` what one
+//! connection does.
 #![tactic(auto)]
 
 mod answer;

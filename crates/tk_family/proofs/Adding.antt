@@ -5,12 +5,7 @@ use Rattle.tk_handle.specs.declared.dot.Dot.{Dot}
 use Rattle.tk_family.specs.declared.link.Link.{Link}
 use Rattle.tk_family.specs.declared.link.Link.TheVariants.{Code}
 use Rattle.tk_family.specs.Families.{Links, IsParent, IsPath, IsUnder, LinksWithin}
-
--- g is f with one more link, l at d
-pub record Adds (f g : Links) (d : Dot) (l : Link) : Type 0 where
-  pub free : f d ≡ None
-  pub here : g d ≡ Some l
-  pub others : (q : Dot) → q ≢ d → g q ≡ f q
+pub use Rattle.tk_family.specs.Puts.{Adds}
 
 pub Within-adds : (f g : Links) (d : Dot) (l : Link) → Adds f g d l → LinksWithin f g
 Within-adds f g d l a q k h = elim (cases_dots q d) [

@@ -1,17 +1,17 @@
 -- The steps of `put`, and what they leave of each column.
-use Rattle.std.proofs.Common.{◌≡◌, ◌≢◌, ◌⊎◌, inl, inr, ◌+◌, ◌<◌, Bool, true, false, not, cond, Option, None, Some, List, [], ◌∷◌, ap, sym, ◌∙◌, refl, arith, subst, IsSome}
+use Rattle.std.proofs.Common.{◌≡◌, ◌≢◌, ◌⊎◌, inl, inr, ℕ, ◌+◌, ◌<◌, ◌==◌, Bool, true, false, not, cond, Option, None, Some, List, [], ◌∷◌, ap, sym, ◌∙◌, refl, arith, subst, IsSome}
 use Rattle.std.proofs.lemmas.Bool.{true≢false, cases_Bool, cond-true, cond-false, and_parts}
+use Rattle.std.proofs.lemmas.Bool.Decides.{nat_tests}
 use Rattle.tk_handle.specs.declared.dot.Dot.{Dot}
 use Rattle.tk_handle.specs.declared.kind.Kind.{Kind}
 use Rattle.tk_handle.specs.declared.kind.Kind.TheVariants as kind
-use Rattle.tk_handle.specs.declared.token_id.TokenId.{TokenId}
-use Rattle.tk_family.specs.Laws.{passing}
 use Rattle.tk_family.specs.declared.link.Link.{Link}
 use Rattle.tk_family.specs.declared.link.Link.TheVariants.{Code, Redeems, Rotates}
 use Rattle.tk_family.specs.declared.row.Row.{Row}
 use Rattle.tk_family.specs.Dots.{dot_eq}
-use Rattle.tk_family.specs.Families.{Links, named_by, fits, grant_at, use_of, IsPath, IsUnder, IsDead, LinksWithin, IsUsed, rank_of}
-use Rattle.tk_family.specs.Rows.{Rows, link_in, code_in, dead_in, first_in, next_in, marked_in, used_in, again_in, links_of, marks_of, named_of}
+use Rattle.tk_family.specs.Families.{Links, named_by, fits, use_of, IsPath, IsUnder, LinksWithin, IsUsed, rank_of}
+use Rattle.tk_family.specs.Counts.{IsCounted}
+use Rattle.tk_family.specs.Rows.{Rows, link_in, code_in, count_in, first_in, next_in, marked_in, used_in, again_in, links_of, named_of}
 use Rattle.tk_family.specs.Kept.{IsChain, Hangs, IsForest}
 use Rattle.tk_family.proofs.Growth.{IsChain-same}
 use Rattle.tk_family.specs.declared.row.Uses.{Uses}
@@ -22,7 +22,8 @@ use Rattle.tk_family.specs.Walks.{fits_over}
 use Rattle.tk_family.specs.Puts.{NothingSeen}
 use Rattle.tk_family.proofs.DotLaws.{dot_eq-same, dot_eq-true}
 use Rattle.tk_family.proofs.Adding.{Adds, Within-adds, alone, below_under}
-use Rattle.tk_family.proofs.FamilyLaws.{IsUnder-within, IsTwice-within, IsDead-within, IsParent-rank}
+use Rattle.tk_family.proofs.Counting.{IsCounted-same, bad-same, blamed-same}
+use Rattle.tk_family.proofs.FamilyLaws.{IsUnder-within, IsTwice-within, IsParent-rank}
 
 -- ---- columns
 
@@ -35,7 +36,7 @@ column π false changed old same = refl
 pub record Alike (T N : Rows) : Type 0 where
   pub link : (q : Dot) → link_in (N q) ≡ link_in (T q)
   pub code : (q : Dot) → code_in (N q) ≡ code_in (T q)
-  pub dead : (q : Dot) → dead_in (N q) ≡ dead_in (T q)
+  pub count : (q : Dot) → count_in (N q) ≡ count_in (T q)
   pub first : (q : Dot) → first_in (N q) ≡ first_in (T q)
   pub next : (q : Dot) → next_in (N q) ≡ next_in (T q)
   pub marked : (q : Dot) (k : Kind) → marked_in (N q) k ≡ marked_in (T q) k
@@ -48,7 +49,7 @@ flag_blank kind.Code None = (refl, refl, refl)
 flag_blank kind.Access None = (refl, refl, refl)
 flag_blank kind.Refresh None = (refl, refl, refl)
 
-same_blank : (o : Option Row) → (link_in (or_blank o) ≡ link_in o) × (code_in (or_blank o) ≡ code_in o) × (dead_in (or_blank o) ≡ dead_in o) × (first_in (or_blank o) ≡ first_in o) × (next_in (or_blank o) ≡ next_in o)
+same_blank : (o : Option Row) → (link_in (or_blank o) ≡ link_in o) × (code_in (or_blank o) ≡ code_in o) × (count_in (or_blank o) ≡ count_in o) × (first_in (or_blank o) ≡ first_in o) × (next_in (or_blank o) ≡ next_in o)
 same_blank None = (refl, refl, refl, refl, refl)
 same_blank (Some r) = (refl, refl, refl, refl, refl)
 
@@ -57,7 +58,7 @@ pub Alike-blank : (T N : Rows) (at : Dot) → ((q : Dot) → N q ≡ cond (dot_e
 Alike-blank T N at h = record {
   link = λ q. ap link_in (h q) ∙ column link_in (dot_eq at q) (or_blank (T q)) (T q) (same_blank (T q)).0;
   code = λ q. ap code_in (h q) ∙ column code_in (dot_eq at q) (or_blank (T q)) (T q) (same_blank (T q)).1;
-  dead = λ q. ap dead_in (h q) ∙ column dead_in (dot_eq at q) (or_blank (T q)) (T q) (same_blank (T q)).2;
+  count = λ q. ap count_in (h q) ∙ column count_in (dot_eq at q) (or_blank (T q)) (T q) (same_blank (T q)).2;
   first = λ q. ap first_in (h q) ∙ column first_in (dot_eq at q) (or_blank (T q)) (T q) (same_blank (T q)).3;
   next = λ q. ap next_in (h q) ∙ column next_in (dot_eq at q) (or_blank (T q)) (T q) (same_blank (T q)).4;
   marked = λ q k. ap (λ (o : Option Row). marked_in o k) (h q) ∙ column (λ (o : Option Row). marked_in o k) (dot_eq at q) (or_blank (T q)) (T q) (flag_blank k (T q)).0;
@@ -69,7 +70,7 @@ pub Alike-same : (T N : Rows) → ((q : Dot) → N q ≡ T q) → Alike T N
 Alike-same T N h = record {
   link = λ q. ap link_in (h q);
   code = λ q. ap code_in (h q);
-  dead = λ q. ap dead_in (h q);
+  count = λ q. ap count_in (h q);
   first = λ q. ap first_in (h q);
   next = λ q. ap next_in (h q);
   marked = λ q k. ap (λ (o : Option Row). marked_in o k) (h q);
@@ -81,7 +82,7 @@ pub Alike-then : (T M N : Rows) → Alike T M → Alike M N → Alike T N
 Alike-then T M N a b = record {
   link = λ q. b.link q ∙ a.link q;
   code = λ q. b.code q ∙ a.code q;
-  dead = λ q. b.dead q ∙ a.dead q;
+  count = λ q. b.count q ∙ a.count q;
   first = λ q. b.first q ∙ a.first q;
   next = λ q. b.next q ∙ a.next q;
   marked = λ q k. b.marked q k ∙ a.marked q k;
@@ -93,7 +94,7 @@ pub Alike-back : (T N : Rows) → Alike T N → Alike N T
 Alike-back T N a = record {
   link = λ q. sym (a.link q);
   code = λ q. sym (a.code q);
-  dead = λ q. sym (a.dead q);
+  count = λ q. sym (a.count q);
   first = λ q. sym (a.first q);
   next = λ q. sym (a.next q);
   marked = λ q k. sym (a.marked q k);
@@ -116,6 +117,9 @@ false_if : (b : Bool) → not b ≡ true → b ≡ false
 false_if true h = absurd (true≢false (sym h))
 false_if false h = refl
 
+zero_if : (n : ℕ) → (n == 0) ≡ true → n ≡ 0
+zero_if n h = grind (arith, nat_tests)
+
 blank_is : (row : Row) → is_blank row ≡ true → row ≡ blank
 blank_is row h =
     let a = and_parts _ _ h in
@@ -130,7 +134,7 @@ blank_is row h =
     λ x. record {
       link = none_if row.link a.0 x;
       code = none_if row.code b.0 x;
-      dead = false_if row.dead c.0 x;
+      bad = zero_if row.bad c.0 x;
       marked_code = false_if row.marked_code d.0 x;
       marked_access = false_if row.marked_access e.0 x;
       marked_refresh = false_if row.marked_refresh f.0 x;
@@ -157,21 +161,15 @@ Alike-dropped T N at h rows = elim (blank_or (T at) h) [
   ]))
 ]
 
--- ---- marking, and adding a blank row as marking no token
+-- ---- rows that differ in marks and counts alone
 
--- N is T with the token k marked, and with the tombstone that the mark of k requires
-pub record MarkRows (T N : Rows) (k : TokenId) : Type 0 where
+pub record AlikeButMarks (T N : Rows) : Type 0 where
   pub link : (q : Dot) → link_in (N q) ≡ link_in (T q)
   pub code : (q : Dot) → code_in (N q) ≡ code_in (T q)
   pub first : (q : Dot) → first_in (N q) ≡ first_in (T q)
   pub next : (q : Dot) → next_in (N q) ≡ next_in (T q)
   pub used : (q : Dot) (j : Kind) → used_in (N q) j ≡ used_in (T q) j
   pub again : (q : Dot) (j : Kind) → again_in (N q) j ≡ again_in (T q) j
-  pub marks_new : (j : TokenId) → marks_of N j ≡ true → (j ≡ k) ⊎ (marks_of T j ≡ true)
-  pub marks_old : (j : TokenId) → marks_of T j ≡ true → marks_of N j ≡ true
-  pub dead_old : (c : Dot) → dead_in (T c) ≡ true → dead_in (N c) ≡ true
-  pub dead_new : (c : Dot) → dead_in (N c) ≡ true → (dead_in (T c) ≡ true) ⊎ IsDead (links_of N) (passing (marks_of N)) c
-  pub dead_mark : (q c : Dot) (l : Link) → links_of T q ≡ Some l → grant_at q l ≡ k → marks_of N k ≡ true → code_in (T q) ≡ Some c → dead_in (N c) ≡ true
 
 within_same : (f g : Links) → ((q : Dot) → g q ≡ f q) → LinksWithin f g
 within_same f g same d l h = same d ∙ h
@@ -190,31 +188,14 @@ Hangs-same T N p link first next h = record {
   };
 }
 
-mark-tomb : (T N : Rows) (k : TokenId) → IsForest T → MarkRows T N k → (c : Dot) → IsDead (links_of N) (passing (marks_of N)) c → dead_in (N c) ≡ true
-mark-tomb T N k t p c x =
-    let back : LinksWithin (links_of N) (links_of T) = within_back (links_of T) (links_of N) p.link in
-    let under : IsUnder (links_of T) x.member c = IsUnder-within (links_of N) (links_of T) back x.member c x.under in
-    let here : links_of T x.member ≡ Some x.bad.link = back x.member x.bad.link x.bad.here in
-    elim x.bad.why [
-      | inl marked ↦ elim (p.marks_new (grant_at x.member x.bad.link) marked) [
-        | inl same ↦ p.dead_mark x.member c x.bad.link here same (subst (λ (j : TokenId). marks_of N j ≡ true) same marked) (t.memo x.member c under)
-        | inr old ↦ p.dead_old c (t.tomb c (record { member = x.member; under = under; bad = record { link = x.bad.link; here = here; why = inl old } }))
-      ]
-      | inr twice ↦ p.dead_old c (t.tomb c (record { member = x.member; under = under; bad = record { link = x.bad.link; here = here; why = inr (IsTwice-within (links_of N) (links_of T) back (grant_at x.member x.bad.link) twice) } }))
-    ]
-
-pub IsForest-mark : (T N : Rows) (k : TokenId) → IsForest T → MarkRows T N k → IsForest N
-IsForest-mark T N k t p =
+pub IsForest-kept : (T N : Rows) → IsForest T → AlikeButMarks T N → IsCounted N → IsForest N
+IsForest-kept T N t p counted =
     let w : LinksWithin (links_of T) (links_of N) = within_same (links_of T) (links_of N) p.link in
     let back : LinksWithin (links_of N) (links_of T) = within_back (links_of T) (links_of N) p.link in
     record {
       under = λ q c h. IsUnder-within (links_of T) (links_of N) w q c (t.under q c (sym (p.code q) ∙ h));
       memo = λ q c u. p.code q ∙ t.memo q c (IsUnder-within (links_of N) (links_of T) back q c u);
-      dead = λ c h. elim (p.dead_new c h) [
-        | inl old ↦ IsDead-within (links_of T) (links_of N) (passing (marks_of T)) (passing (marks_of N)) w p.marks_old c (t.dead c old)
-        | inr now ↦ now
-      ];
-      tomb = mark-tomb T N k t p;
+      bads = counted;
       used = λ j h. let u : IsUsed (links_of T) j = t.used j (sym (p.used j.dot j.kind) ∙ h) in record { user = u.user; by = ap use_of (p.link u.user) ∙ u.by };
       uses = λ j u. p.used j.dot j.kind ∙ t.uses j (record { user = u.user; by = sym (ap use_of (p.link u.user)) ∙ u.by });
       again = λ j h. IsTwice-within (links_of T) (links_of N) w j (t.again j (sym (p.again j.dot j.kind) ∙ h));
@@ -222,28 +203,9 @@ IsForest-mark T N k t p =
       hangs = λ r. Hangs-same T N r p.link p.first p.next (t.hangs r);
     }
 
-no_access : (q : Dot) (l : Link) → grant_at q l ≡ record { dot = record { region = 0; serial = 0 }; kind = kind.Access } → ⊥
-no_access q Code h = let e : kind.Code ≡ kind.Access = ap (λ (t : TokenId). t.kind) h in cc
-no_access q (Redeems c) h = let e : kind.Refresh ≡ kind.Access = ap (λ (t : TokenId). t.kind) h in cc
-no_access q (Rotates p g) h = let e : kind.Refresh ≡ kind.Access = ap (λ (t : TokenId). t.kind) h in cc
-
 pub IsForest-alike : (T N : Rows) → IsForest T → Alike T N → IsForest N
-IsForest-alike T N t a =
-    let none : Dot = record { region = 0; serial = 0 } in
-    let k : TokenId = record { dot = none; kind = kind.Access } in
-    IsForest-mark T N k t (record {
-      link = a.link;
-      code = a.code;
-      first = a.first;
-      next = a.next;
-      used = a.used;
-      again = a.again;
-      marks_new = λ j h. inr (sym (a.marked j.dot j.kind) ∙ h);
-      marks_old = λ j h. a.marked j.dot j.kind ∙ h;
-      dead_old = λ c h. a.dead c ∙ h;
-      dead_new = λ c h. inl (sym (a.dead c) ∙ h);
-      dead_mark = λ q c l here same marked code. absurd (no_access q l same);
-    })
+IsForest-alike T N t a = IsForest-kept T N t (record { link = a.link; code = a.code; first = a.first; next = a.next; used = a.used; again = a.again })
+    (IsCounted-same T N (λ q. blamed-same (T q) (N q) (bad-same (T q) (N q) (a.link q) (a.marked q) (a.again q)) (a.code q)) a.count t.bads)
 
 -- ---- the code of a new link
 

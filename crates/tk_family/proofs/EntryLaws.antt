@@ -1,5 +1,5 @@
 -- What stands among the entries of a map, stands in it.
-use Rattle.std.proofs.Common.{◌≡◌, cond, Option, Some, List, [], ◌∷◌, refl, sym, ap, ◌∙◌}
+use Rattle.std.proofs.Common.{◌≡◌, cond, Some, List, [], ◌∷◌, refl, sym, ap, ◌∙◌}
 use Rattle.std.specs.FinMap as map
 use Rattle.std.specs.Map.{lookup}
 use Rattle.tk_handle.specs.declared.dot.Dot.{Dot}

@@ -15,11 +15,13 @@ use Rattle.tk_family.specs.declared.link.Link.TheVariants.{Code, Redeems, Rotate
 use Rattle.tk_family.specs.Dots.{dot_eq, has}
 use Rattle.tk_family.specs.Families.{Links, used_by, named_by, grant_at, use_of, IsParent, IsPath, IsUnder, IsTwice, IsBad, IsDead, LinksWithin, IsUsed}
 use Rattle.tk_family.specs.Uses.{is_code, is_refresh, uses_it}
-use Rattle.tk_family.specs.Rows.{Rows, code_in, dead_in, first_in, next_in, used_in, again_in, bad_at, bad_in, links_of, marks_of, named_of}
+use Rattle.tk_family.specs.Counts.{IsCounted}
+use Rattle.tk_family.specs.Rows.{Rows, code_in, dead_in, first_in, next_in, used_in, again_in, bad_at, bad_in, blamed_in, links_of, marks_of, named_of}
 use Rattle.tk_family.specs.Kept.{IsChain, NamesAll, Hangs, IsForest}
 use Rattle.tk_family.proofs.DotLaws.{cases_dots, has-cons, has-here, has-there, dot_eq-true, dot_eq-same}
-use Rattle.tk_family.proofs.Adding.{Adds, Within-adds, IsPath-adds, IsPath-here, alone, below_under}
-use Rattle.tk_family.proofs.FamilyLaws.{IsUnder-one, IsUnder-within, IsTwice-within, IsDead-within, use_of-within}
+use Rattle.tk_family.proofs.Adding.{Adds, Within-adds, IsPath-adds, alone, below_under}
+use Rattle.tk_family.proofs.FamilyLaws.{IsUnder-one, IsUnder-within, IsTwice-within, use_of-within}
+use Rattle.tk_family.proofs.Counting.{blamed-bad, blamed-parts, count-some, some-count}
 
 -- ---- what is under a code with one more link
 
@@ -105,19 +107,16 @@ bad-flags T twice d (Rotates p n) why = elim why [ inl marked ↦ or_left _ _ ma
 pub bad-complete : (T : Rows) → ((k : TokenId) → IsTwice (links_of T) k → again_in (T k.dot) k.kind ≡ true) → (d : Dot) → IsBad (links_of T) (passing (marks_of T)) d → bad_in (T d) ≡ true
 bad-complete T twice d b = ap (λ (o : Option Link). bad_at o (T d)) b.here ∙ bad-flags T twice d b.link b.why
 
-abbrev option_map_dot : Option TokenId → Option Dot
-option_map_dot None = None
-option_map_dot (Some k) = Some k.dot
+-- ---- dead families
 
--- a link that uses the grant at q names q
-pub names_grant : (l m : Link) (q : Dot) → used_by l ≡ Some (grant_at q m) → named_by l ≡ Some q
-names_grant Code m q h = absurd (cc)
-names_grant (Redeems c) Code q h = let s : Some c ≡ Some q = ap (option_map_dot) h in s
-names_grant (Redeems c) (Redeems x) q h = ap option_map_dot h
-names_grant (Redeems c) (Rotates x g) q h = ap option_map_dot h
-names_grant (Rotates p n) Code q h = ap option_map_dot h
-names_grant (Rotates p n) (Redeems x) q h = ap option_map_dot h
-names_grant (Rotates p n) (Rotates x g) q h = ap option_map_dot h
+pub IsForest-dead : (T : Rows) → IsForest T → (c : Dot) → dead_in (T c) ≡ true → IsDead (links_of T) (passing (marks_of T)) c
+IsForest-dead T t c h =
+    let some : (q : Dot) × (blamed_in (T q) ≡ Some c) = count-some (λ q. blamed_in (T q)) c _ (t.bads c) h in
+    let parts : (bad_in (T some.0) ≡ true) × (code_in (T some.0) ≡ Some c) = blamed-parts (T some.0) c some.1 in
+    record { member = some.0; under = t.under some.0 c parts.1; bad = bad-sound T t.again some.0 (links_of T some.0) refl parts.0 }
+
+pub IsForest-tomb : (T : Rows) → IsForest T → (c : Dot) → IsDead (links_of T) (passing (marks_of T)) c → dead_in (T c) ≡ true
+IsForest-tomb T t c x = some-count (λ q. blamed_in (T q)) c x.member _ (t.bads c) (blamed-bad (T x.member) c (bad-complete T t.twice x.member x.bad) (t.memo x.member c x.under))
 
 -- ---- a link is put
 
@@ -161,10 +160,7 @@ pub record PutRows (T N : Rows) (d : Dot) (l : Link) (c0 : Dot) (ys : List Dot) 
   pub used_is : (k : TokenId) → used_in (N k.dot) k.kind ≡ (used_in (T k.dot) k.kind || uses_it l k)
   pub again_is : (k : TokenId) → again_in (N k.dot) k.kind ≡ (again_in (T k.dot) k.kind || (uses_it l k && used_in (T k.dot) k.kind))
   pub chains : (p : Dot) → Hangs N p
-  pub dead_old : (c : Dot) → dead_in (T c) ≡ true → dead_in (N c) ≡ true
-  pub dead_new : (c : Dot) → dead_in (N c) ≡ true → (dead_in (T c) ≡ true) ⊎ IsDead (links_of N) (passing (marks_of N)) c
-  pub dead_walk : (q : Dot) → has ys q ≡ true → bad_in (N q) ≡ true → dead_in (N c0) ≡ true
-  pub dead_parent : (p c : Dot) → named_by l ≡ Some p → code_in (T p) ≡ Some c → bad_in (N p) ≡ true → dead_in (N c) ≡ true
+  pub bads : IsCounted N
 
 put-again : (T N : Rows) (d : Dot) (l : Link) (c0 : Dot) (ys : List Dot) → IsForest T → PutRows T N d l c0 ys → (k : TokenId) → again_in (N k.dot) k.kind ≡ true → IsTwice (links_of N) k
 put-again T N d l c0 ys t p k h = elim (or_cases (again_in (T k.dot) k.kind) (uses_it l k && used_in (T k.dot) k.kind) (sym (p.again_is k) ∙ h)) [
@@ -179,27 +175,6 @@ put-twice T N d l c0 ys t p k h = p.again_is k ∙ (elim (IsTwice-adds (links_of
   | inl now ↦ or_right _ _ (and_from _ _ (used_by-uses l k now.0) (t.uses k now.1))
   | inr old ↦ or_left _ _ (t.twice k old)
 ])
-
-put-tomb : (T N : Rows) (d : Dot) (l : Link) (c0 : Dot) (ys : List Dot) → IsForest T → PutRows T N d l c0 ys → (c : Dot) → IsDead (links_of N) (passing (marks_of N)) c → dead_in (N c) ≡ true
-put-tomb T N d l c0 ys t p c x =
-    let flagged : bad_in (N x.member) ≡ true = bad-complete N (put-twice T N d l c0 ys t p) x.member x.bad in
-    elim (p.grown.claim x.member c x.under) [
-      | inl walked ↦
-          let one : c0 ≡ c = IsUnder-one (links_of N) x.member c0 c (p.grown.sound x.member walked) x.under in
-          subst (λ (y : Dot). dead_in (N y) ≡ true) one (p.dead_walk x.member walked flagged)
-      | inr before ↦
-          let link : links_of T x.member ≡ Some x.bad.link = elim (cases_dots x.member d) [
-            | inl same ↦ absurd (IsPath-here (links_of T) x.member before.path c before.leads (ap (links_of T) same ∙ p.adds.free))
-            | inr ne ↦ sym (p.adds.others x.member ne) ∙ x.bad.here
-          ] in
-          elim x.bad.why [
-            | inl marked ↦ p.dead_old c (t.tomb c (record { member = x.member; under = before; bad = record { link = x.bad.link; here = link; why = inl (sym (p.marks (grant_at x.member x.bad.link)) ∙ marked) } }))
-            | inr twice ↦ elim (IsTwice-adds (links_of T) (links_of N) d l p.adds (grant_at x.member x.bad.link) twice) [
-              | inl now ↦ p.dead_parent x.member c (names_grant l x.bad.link x.member now.0) (t.memo x.member c before) flagged
-              | inr old ↦ p.dead_old c (t.tomb c (record { member = x.member; under = before; bad = record { link = x.bad.link; here = link; why = inr old } }))
-            ]
-          ]
-    ]
 
 pub IsForest-put : (T N : Rows) (d : Dot) (l : Link) (c0 : Dot) (ys : List Dot) → IsForest T → PutRows T N d l c0 ys → IsForest N
 IsForest-put T N d l c0 ys t p =
@@ -219,11 +194,7 @@ IsForest-put T N d l c0 ys t p =
           | inr before ↦ t.memo q c before
         ]))
       ];
-      dead = λ c h. elim (p.dead_new c h) [
-        | inl old ↦ IsDead-within (links_of T) (links_of N) (passing (marks_of T)) (passing (marks_of N)) w (λ k marked. p.marks k ∙ marked) c (t.dead c old)
-        | inr now ↦ now
-      ];
-      tomb = put-tomb T N d l c0 ys t p;
+      bads = p.bads;
       used = λ k h. elim (or_cases (used_in (T k.dot) k.kind) (uses_it l k) (sym (p.used_is k) ∙ h)) [
         | inl old ↦ let u : IsUsed (links_of T) k = t.used k old in record { user = u.user; by = use_of-within (links_of T) (links_of N) w u.user (links_of T u.user) k refl u.by }
         | inr now ↦ record { user = d; by = ap use_of p.adds.here ∙ uses_it-true l k now }

@@ -10,12 +10,7 @@ use Rattle.tk_handle.specs.declared.token_id.TokenId.{TokenId}
 use Rattle.tk_handle.specs.Dot.{dot_cmp, dot_cmp_total}
 use Rattle.tk_handle.specs.TokenId.{token_cmp}
 use Rattle.tk_family.specs.declared.link.Link.{Link}
-use Rattle.tk_family.specs.declared.top.Top.{Top}
-use Rattle.tk_family.specs.declared.top.Top.TheVariants.{Absent, Broken, Code, Dead}
 use Rattle.tk_family.specs.Dots.{dot_eq}
-use Rattle.tk_family.specs.Families.{Links, Marks, MarksWithin}
-use Rattle.tk_family.specs.Tops.{IsTop}
-use Rattle.tk_family.proofs.FamilyLaws.{IsDead-within}
 use Rattle.tk_family.proofs.Viewing.{tokens_total}
 
 -- the link that was put is at its dot, and all other links are where they were

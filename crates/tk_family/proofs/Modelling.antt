@@ -17,7 +17,7 @@ use Rattle.tk_family.specs.declared.row.Row.{Row}
 use Rattle.tk_family.specs.Dots.{has}
 use Rattle.tk_family.specs.Families.{Links, use_of, IsUsed}
 use Rattle.tk_family.specs.Tops.{IsTop, IsRaised}
-use Rattle.tk_family.specs.Rows.{RowMap, Rows, table, link_in, code_in, dead_in, first_in, used_in, again_in, links_of, marks_of, named_of}
+use Rattle.tk_family.specs.Rows.{RowMap, Rows, table, link_in, code_in, count_in, blamed_in, first_in, used_in, again_in, links_of, marks_of, named_of}
 use Rattle.tk_family.specs.Kept.{Hangs, IsForest}
 use Rattle.tk_family.specs.Puts.{Puts, MarksOne}
 use Rattle.tk_family.specs.Takes.{Unmarks}
@@ -74,11 +74,17 @@ no_flag : (F : Option Row → Kind → Bool) → ((k : Kind) → F None k ≡ fa
 no_flag F none T h q k yes' = true≢false (sym yes' ∙ (ap (λ (o : Option Row). F o k) (h q) ∙ none k))
 
 pub IsForest-empty : (T : Rows) → ((q : Dot) → T q ≡ None) → IsForest T
+unfolding IsDistinct
 IsForest-empty T h = record {
   under = λ q c e. absurd (let clash : None ≡ Some c = sym (ap code_in (h q)) ∙ e in cc);
   memo = λ q c u. absurd (IsPath-here (links_of T) q u.path c u.leads (ap link_in (h q)));
-  dead = λ c e. absurd (true≢false (sym e ∙ ap dead_in (h c)));
-  tomb = λ c x. absurd (IsPath-here (links_of T) x.member x.under.path c x.under.leads (ap link_in (h x.member)));
+  bads = λ c. record {
+    list = [];
+    sound = λ q e. absurd (true≢false (sym e));
+    all = λ q e. absurd (let clash : None ≡ Some c = sym (ap blamed_in (h q)) ∙ e in cc);
+    distinct = tt;
+    count = ap count_in (h c);
+  };
   used = λ k e. absurd (no_flag used_in (λ j. refl) T h k.dot k.kind e);
   uses = λ k u. absurd (let clash : None ≡ Some k = sym (ap (λ (o : Option Row). use_of (link_in o)) (h u.user)) ∙ u.by in cc);
   again = λ k e. absurd (no_flag again_in (λ j. refl) T h k.dot k.kind e);

@@ -1,10 +1,8 @@
--- The rows after a link was put meet `PutRows`.
---   Hung     the columns after a link was hung
---   Mid      the columns after codes and tombstone were written
---   Last     the columns after the named dot's family was buried
-use Rattle.std.proofs.Common.{◌≡◌, ◌≢◌, ◌⊎◌, inl, inr, ◌||◌, ◌&&◌, Bool, true, false, cond, Option, None, Some, List, [], ◌∷◌, ap, sym, ◌∙◌, refl, subst, IsSome}
-use Rattle.std.proofs.lemmas.Bool.{true≢false, cases_Bool, cond-true, cond-false, or_left, or_right, or_cases, and_parts, and_from}
-use Rattle.std.specs.List.{list_any}
+-- The columns and counts of the rows after the steps of `put`.
+--   Mid      the columns after codes were written
+use Rattle.std.proofs.Common.{◌≡◌, ◌≢◌, inl, inr, ℕ, ◌+◌, ◌-◌, ◌||◌, ◌&&◌, Bool, true, false, cond, Option, None, Some, List, [], ap, sym, ◌∙◌, refl, subst, IsSome}
+use Rattle.std.proofs.lemmas.Bool.{true≢false, cases_Bool, cond-true, cond-false}
+use Rattle.std.specs.List.{IsDistinct}
 use Rattle.tk_handle.specs.declared.dot.Dot.{Dot}
 use Rattle.tk_handle.specs.declared.kind.Kind.{Kind}
 use Rattle.tk_handle.specs.declared.kind.Kind.TheVariants as kind
@@ -16,83 +14,86 @@ use Rattle.tk_family.specs.Dots.{dot_eq, has}
 use Rattle.tk_family.specs.Families.{named_by}
 use Rattle.tk_family.specs.declared.row.Uses.{Uses}
 use Rattle.tk_family.specs.declared.row.Uses.TheVariants.{Never, Once, Often}
-use Rattle.tk_family.specs.Rows.{is_some_use, is_often, Rows, link_in, code_in, dead_in, first_in, next_in, marked_in, used_in, again_in, bad_at, bad_in, grant_kind, links_of}
-use Rattle.tk_family.specs.Kept.{Hangs}
+use Rattle.tk_family.specs.Counts.{IsCount, IsCounted, IsCountedAs, AlikeButCount}
+use Rattle.tk_family.specs.Rows.{is_some_use, is_often, Rows, link_in, code_in, count_in, first_in, next_in, marked_in, used_in, again_in, bad_in, blamed_in, links_of}
 use Rattle.tk_family.specs.Uses.{uses_it, is_code, is_refresh}
 use Rattle.tk_family.proofs.Growth.{Hangs-put, Hangs-code}
-use Rattle.tk_family.specs.Writes.{once_more, with_code, with_dead, with_put, with_redeemer, with_rotator, is_dot, put_at, hung, settled, raised, buried}
-use Rattle.tk_family.proofs.DotLaws.{dot_eq-true, dot_eq-same, dot_eq-apart, has-cons, has-here, has-there}
+use Rattle.tk_family.specs.Puts.{Hung}
+use Rattle.tk_family.specs.Takes.{token_at}
+use Rattle.tk_family.specs.Writes.{once_more, with_code, with_count, with_put, with_redeemer, with_rotator, put_at, hung, bads, settled, raised}
+use Rattle.tk_family.proofs.DotLaws.{dot_eq-true, dot_eq-same, dot_eq-apart, cases_dots}
 use Rattle.tk_family.proofs.Adding.{Adds}
-use Rattle.tk_family.proofs.Columns.{column}
+use Rattle.tk_family.proofs.Columns.{column, Hangs-same}
+use Rattle.tk_family.proofs.Counting.{IsCount-is, IsCount-alike, IsCounted-same, IsCountedAs-from, IsCounted-raised, recount-step, recount-others, bad-same, blamed-same, blamed-none}
+use Rattle.tk_family.proofs.UseLaws.{uses_it-apart}
 
--- ---- the columns that a tombstone does not change
+-- there is a row
+pub record RowAt (o : Option Row) : Type 0 where
+  pub row : Row
+  pub is : o ≡ Some row
 
-pub record AlikeButDeath (A B : Rows) : Type 0 where
-  pub link : (q : Dot) → link_in (B q) ≡ link_in (A q)
-  pub code : (q : Dot) → code_in (B q) ≡ code_in (A q)
-  pub first : (q : Dot) → first_in (B q) ≡ first_in (A q)
-  pub next : (q : Dot) → next_in (B q) ≡ next_in (A q)
-  pub marked : (q : Dot) (k : Kind) → marked_in (B q) k ≡ marked_in (A q) k
-  pub used : (q : Dot) (k : Kind) → used_in (B q) k ≡ used_in (A q) k
-  pub again : (q : Dot) (k : Kind) → again_in (B q) k ≡ again_in (A q) k
+pub row_at : (o : Option Row) → IsSome o → RowAt o
+row_at None h = absurd (true≢false (sym h))
+row_at (Some r) h = record { row = r; is = refl }
 
-dead_cols : (o : Option Row) → (link_in (with_dead o) ≡ link_in o) × (code_in (with_dead o) ≡ code_in o) × (first_in (with_dead o) ≡ first_in o) × (next_in (with_dead o) ≡ next_in o)
-dead_cols None = (refl, refl, refl, refl)
-dead_cols (Some r) = (refl, refl, refl, refl)
+-- ---- a count is written
 
-dead_flags : (o : Option Row) (k : Kind) → (marked_in (with_dead o) k ≡ marked_in o k) × (used_in (with_dead o) k ≡ used_in o k) × (again_in (with_dead o) k ≡ again_in o k)
-dead_flags None k = (refl, refl, refl)
-dead_flags (Some r) kind.Code = (refl, refl, refl)
-dead_flags (Some r) kind.Access = (refl, refl, refl)
-dead_flags (Some r) kind.Refresh = (refl, refl, refl)
+count_cols : (o : Option Row) (n : ℕ) → (link_in (with_count o n) ≡ link_in o) × (code_in (with_count o n) ≡ code_in o) × (first_in (with_count o n) ≡ first_in o) × (next_in (with_count o n) ≡ next_in o)
+count_cols None n = (refl, refl, refl, refl)
+count_cols (Some r) n = (refl, refl, refl, refl)
 
-pub AlikeButDeath-dead : (A B : Rows) (b : Dot → Bool) → ((q : Dot) → B q ≡ cond (b q) (with_dead (A q)) (A q)) → AlikeButDeath A B
-AlikeButDeath-dead A B b h = record {
-  link = λ q. ap link_in (h q) ∙ column link_in (b q) (with_dead (A q)) (A q) (dead_cols (A q)).0;
-  code = λ q. ap code_in (h q) ∙ column code_in (b q) (with_dead (A q)) (A q) (dead_cols (A q)).1;
-  first = λ q. ap first_in (h q) ∙ column first_in (b q) (with_dead (A q)) (A q) (dead_cols (A q)).2;
-  next = λ q. ap next_in (h q) ∙ column next_in (b q) (with_dead (A q)) (A q) (dead_cols (A q)).3;
-  marked = λ q k. ap (λ (o : Option Row). marked_in o k) (h q) ∙ column (λ (o : Option Row). marked_in o k) (b q) (with_dead (A q)) (A q) (dead_flags (A q) k).0;
-  used = λ q k. ap (λ (o : Option Row). used_in o k) (h q) ∙ column (λ (o : Option Row). used_in o k) (b q) (with_dead (A q)) (A q) (dead_flags (A q) k).1;
-  again = λ q k. ap (λ (o : Option Row). again_in o k) (h q) ∙ column (λ (o : Option Row). again_in o k) (b q) (with_dead (A q)) (A q) (dead_flags (A q) k).2;
+count_flags : (o : Option Row) (n : ℕ) (k : Kind) → (marked_in (with_count o n) k ≡ marked_in o k) × (used_in (with_count o n) k ≡ used_in o k) × (again_in (with_count o n) k ≡ again_in o k)
+count_flags None n k = (refl, refl, refl)
+count_flags (Some r) n kind.Code = (refl, refl, refl)
+count_flags (Some r) n kind.Access = (refl, refl, refl)
+count_flags (Some r) n kind.Refresh = (refl, refl, refl)
+
+pub AlikeButCount-count : (A B : Rows) (c : Dot) (n : ℕ) → ((q : Dot) → B q ≡ cond (dot_eq c q) (with_count (A q) n) (A q)) → AlikeButCount A B
+AlikeButCount-count A B c n h = record {
+  link = λ q. ap link_in (h q) ∙ column link_in (dot_eq c q) (with_count (A q) n) (A q) (count_cols (A q) n).0;
+  code = λ q. ap code_in (h q) ∙ column code_in (dot_eq c q) (with_count (A q) n) (A q) (count_cols (A q) n).1;
+  first = λ q. ap first_in (h q) ∙ column first_in (dot_eq c q) (with_count (A q) n) (A q) (count_cols (A q) n).2;
+  next = λ q. ap next_in (h q) ∙ column next_in (dot_eq c q) (with_count (A q) n) (A q) (count_cols (A q) n).3;
+  marked = λ q k. ap (λ (o : Option Row). marked_in o k) (h q) ∙ column (λ (o : Option Row). marked_in o k) (dot_eq c q) (with_count (A q) n) (A q) (count_flags (A q) n k).0;
+  used = λ q k. ap (λ (o : Option Row). used_in o k) (h q) ∙ column (λ (o : Option Row). used_in o k) (dot_eq c q) (with_count (A q) n) (A q) (count_flags (A q) n k).1;
+  again = λ q k. ap (λ (o : Option Row). again_in o k) (h q) ∙ column (λ (o : Option Row). again_in o k) (dot_eq c q) (with_count (A q) n) (A q) (count_flags (A q) n k).2;
 }
 
-pub AlikeButDeath-same : (A B : Rows) → ((q : Dot) → B q ≡ A q) → AlikeButDeath A B
-AlikeButDeath-same A B h = record {
-  link = λ q. ap link_in (h q);
-  code = λ q. ap code_in (h q);
-  first = λ q. ap first_in (h q);
-  next = λ q. ap next_in (h q);
-  marked = λ q k. ap (λ (o : Option Row). marked_in o k) (h q);
-  used = λ q k. ap (λ (o : Option Row). used_in o k) (h q);
-  again = λ q k. ap (λ (o : Option Row). again_in o k) (h q);
-}
+pub AlikeButCount-none : (A : Rows) → AlikeButCount A A
+AlikeButCount-none A = record { link = λ q. refl; code = λ q. refl; first = λ q. refl; next = λ q. refl; marked = λ q k. refl; used = λ q k. refl; again = λ q k. refl }
 
-bad_at-same : (o : Option Link) (x y : Option Row) → ((k : Kind) → marked_in y k ≡ marked_in x k) → ((k : Kind) → again_in y k ≡ again_in x k) → bad_at o y ≡ bad_at o x
-bad_at-same None x y marked again = refl
-bad_at-same (Some l) x y marked again = ap (λ (b : Bool). b || again_in y (grant_kind l)) (marked (grant_kind l)) ∙ ap (λ (b : Bool). marked_in x (grant_kind l) || b) (again (grant_kind l))
+count_there : (o : Option Row) (n : ℕ) → RowAt o → count_in (with_count o n) ≡ n
+count_there o n r = ap (λ (x : Option Row). count_in (with_count x n)) r.is
 
--- whether a token is bad depends on three columns
-pub bad-same : (x y : Option Row) → link_in y ≡ link_in x → ((k : Kind) → marked_in y k ≡ marked_in x k) → ((k : Kind) → again_in y k ≡ again_in x k) → bad_in y ≡ bad_in x
-bad-same x y link marked again = ap (λ (o : Option Link). bad_at o y) link ∙ bad_at-same (link_in x) x y marked again
+pub count-here : (A B : Rows) (c : Dot) (n : ℕ) → RowAt (A c) → ((q : Dot) → B q ≡ cond (dot_eq c q) (with_count (A q) n) (A q)) → count_in (B c) ≡ n
+count-here A B c n row h = ap count_in (h c ∙ cond-true _ _ _ (dot_eq-same c)) ∙ count_there (A c) n row
+
+pub count-other : (A B : Rows) (c : Dot) (n : ℕ) → ((q : Dot) → B q ≡ cond (dot_eq c q) (with_count (A q) n) (A q)) → (q : Dot) → c ≢ q → count_in (B q) ≡ count_in (A q)
+count-other A B c n h q ne = ap count_in (h q ∙ cond-false _ _ _ (dot_eq-apart c q ne))
+
+pub blamed-alike : (A B : Rows) → AlikeButCount A B → (q : Dot) → blamed_in (B q) ≡ blamed_in (A q)
+blamed-alike A B a q = blamed-same (A q) (B q) (bad-same (A q) (B q) (a.link q) (a.marked q) (a.again q)) (a.code q)
+
+-- the dot's code has its count anew, and so all codes have theirs
+pub IsCounted-recount : (M N : Rows) (at code : Dot) (was : Bool) → IsCountedAs M at was → code_in (M at) ≡ Some code → RowAt (M code)
+    → ((q : Dot) → N q ≡ cond (dot_eq code q) (with_count (M q) ((count_in (M code) - cond was 1 0) + cond (bad_in (M at)) 1 0)) (M q)) → IsCounted N
+IsCounted-recount M N at code was x said row h c =
+    let n : ℕ = (count_in (M code) - cond was 1 0) + cond (bad_in (M at)) 1 0 in
+    let a : AlikeButCount M N = AlikeButCount-count M N code n h in
+    let moved : (e : Dot) (i j : ℕ) → j ≡ i → IsCount (λ q. blamed_in (M q)) e i → IsCount (λ q. blamed_in (N q)) e j = λ e i j same y.
+    IsCount-is (λ q. blamed_in (N q)) e i j same (IsCount-alike (λ q. blamed_in (M q)) (λ q. blamed_in (N q)) e i (λ q g. blamed-alike M N a q ∙ g) (λ q g. sym (blamed-alike M N a q) ∙ g) y) in
+    elim (cases_dots code c) [
+      | inl same ↦ subst (λ (y : Dot). IsCount (λ q. blamed_in (N q)) y (count_in (N y))) same (moved code n (count_in (N code)) (count-here M N code n row h) (recount-step M at code was x said).1)
+      | inr ne ↦ moved c (count_in (M c)) (count_in (N c)) (count-other M N code n h c ne) (recount-others M at code was c x said ne)
+    ]
 
 -- ---- a link is hung
-
--- the columns of N after the link l was hung at d in T
-pub record Hung (T N : Rows) (d : Dot) (l : Link) : Type 0 where
-  pub adds : Adds (links_of T) (links_of N) d l
-  pub code : (q : Dot) → code_in (N q) ≡ code_in (T q)
-  pub dead : (q : Dot) → dead_in (N q) ≡ dead_in (T q)
-  pub marked : (q : Dot) (k : Kind) → marked_in (N q) k ≡ marked_in (T q) k
-  pub used : (k : TokenId) → used_in (N k.dot) k.kind ≡ (used_in (T k.dot) k.kind || uses_it l k)
-  pub again : (k : TokenId) → again_in (N k.dot) k.kind ≡ (again_in (T k.dot) k.kind || (uses_it l k && used_in (T k.dot) k.kind))
-  pub hangs : (p : Dot) → Hangs T p → Hangs N p
 
 or_false : (b : Bool) → b ≡ (b || false)
 or_false true = refl
 or_false false = refl
 
-put_cols : (o : Option Row) (l : Link) (n : Option Dot) → (code_in (with_put o l n) ≡ code_in o) × (dead_in (with_put o l n) ≡ dead_in o) × (first_in (with_put o l n) ≡ first_in o)
+put_cols : (o : Option Row) (l : Link) (n : Option Dot) → (code_in (with_put o l n) ≡ code_in o) × (count_in (with_put o l n) ≡ count_in o) × (first_in (with_put o l n) ≡ first_in o)
 put_cols None l n = (refl, refl, refl)
 put_cols (Some r) l n = (refl, refl, refl)
 
@@ -102,11 +103,11 @@ put_flags (Some r) l n kind.Code = (refl, refl, refl)
 put_flags (Some r) l n kind.Access = (refl, refl, refl)
 put_flags (Some r) l n kind.Refresh = (refl, refl, refl)
 
-redeemer_cols : (o : Option Row) (d : Dot) → (code_in (with_redeemer o d) ≡ code_in o) × (dead_in (with_redeemer o d) ≡ dead_in o) × (link_in (with_redeemer o d) ≡ link_in o) × (next_in (with_redeemer o d) ≡ next_in o)
+redeemer_cols : (o : Option Row) (d : Dot) → (code_in (with_redeemer o d) ≡ code_in o) × (count_in (with_redeemer o d) ≡ count_in o) × (link_in (with_redeemer o d) ≡ link_in o) × (next_in (with_redeemer o d) ≡ next_in o)
 redeemer_cols None d = (refl, refl, refl, refl)
 redeemer_cols (Some r) d = (refl, refl, refl, refl)
 
-rotator_cols : (o : Option Row) (d : Dot) → (code_in (with_rotator o d) ≡ code_in o) × (dead_in (with_rotator o d) ≡ dead_in o) × (link_in (with_rotator o d) ≡ link_in o) × (next_in (with_rotator o d) ≡ next_in o)
+rotator_cols : (o : Option Row) (d : Dot) → (code_in (with_rotator o d) ≡ code_in o) × (count_in (with_rotator o d) ≡ count_in o) × (link_in (with_rotator o d) ≡ link_in o) × (next_in (with_rotator o d) ≡ next_in o)
 rotator_cols None d = (refl, refl, refl, refl)
 rotator_cols (Some r) d = (refl, refl, refl, refl)
 
@@ -154,7 +155,7 @@ rotator_again r d kind.Refresh = more_again r.rotated
 
 -- a step F at the named dot that adds one use of the kinds `of`
 record UseStep (F : Option Row → Dot → Option Row) (of : Kind → Bool) : Type 0 where
-  pub cols : (o : Option Row) (d : Dot) → (code_in (F o d) ≡ code_in o) × (dead_in (F o d) ≡ dead_in o) × (link_in (F o d) ≡ link_in o) × (next_in (F o d) ≡ next_in o)
+  pub cols : (o : Option Row) (d : Dot) → (code_in (F o d) ≡ code_in o) × (count_in (F o d) ≡ count_in o) × (link_in (F o d) ≡ link_in o) × (next_in (F o d) ≡ next_in o)
   pub marked : (o : Option Row) (d : Dot) (k : Kind) → marked_in (F o d) k ≡ marked_in o k
   pub used : (r : Row) (d : Dot) (k : Kind) → used_in (F (Some r) d) k ≡ (used_in (Some r) k || of k)
   pub again : (r : Row) (d : Dot) (k : Kind) → again_in (F (Some r) d) k ≡ (again_in (Some r) k || (of k && used_in (Some r) k))
@@ -166,15 +167,6 @@ redeems_step = record { cols = redeemer_cols; marked = redeemer_marked; used = r
 rotates_step : UseStep with_rotator is_refresh
 rotates_step = record { cols = rotator_cols; marked = rotator_marked; used = rotator_used; again = rotator_again; first = λ r d. refl }
 
--- there is a row
-pub record RowAt (o : Option Row) : Type 0 where
-  pub row : Row
-  pub is : o ≡ Some row
-
-pub row_at : (o : Option Row) → IsSome o → RowAt o
-row_at None h = absurd (true≢false (sym h))
-row_at (Some r) h = record { row = r; is = refl }
-
 put_present : (o : Option Row) (b : Bool) (l : Link) (n : Option Dot) → RowAt o → RowAt (cond b (with_put o l n) o)
 put_present o true l n r = record { row = record r.row { link = Some l; next = n }; is = ap (λ (x : Option Row). with_put x l n) r.is }
 put_present o false l n r = r
@@ -184,7 +176,7 @@ pub record HungCols (T N : Rows) (d p : Dot) (l : Link) : Type 0 where
   pub link_here : link_in (N d) ≡ Some l
   pub link_old : (q : Dot) → q ≢ d → link_in (N q) ≡ link_in (T q)
   pub code : (q : Dot) → code_in (N q) ≡ code_in (T q)
-  pub dead : (q : Dot) → dead_in (N q) ≡ dead_in (T q)
+  pub count : (q : Dot) → count_in (N q) ≡ count_in (T q)
   pub marked : (q : Dot) (k : Kind) → marked_in (N q) k ≡ marked_in (T q) k
   pub used : (k : TokenId) → used_in (N k.dot) k.kind ≡ (used_in (T k.dot) k.kind || uses_it l k)
   pub again : (k : TokenId) → again_in (N k.dot) k.kind ≡ (again_in (T k.dot) k.kind || (uses_it l k && used_in (T k.dot) k.kind))
@@ -209,7 +201,7 @@ hung-cols T N d p l F of step uses at_d at_p h =
       link_here = link_M d ∙ (ap link_in (cond-true (dot_eq d d) (with_put (T d) l n) (T d) (dot_eq-same d)) ∙ ap (λ (o : Option Row). link_in (with_put o l n)) here.is);
       link_old = λ q ne. link_M q ∙ ap link_in (cond-false (dot_eq d q) (with_put (T q) l n) (T q) (dot_eq-apart d q (λ same. ne (sym same))));
       code = λ q. ap code_in (h q) ∙ (column code_in (dot_eq p q) (F (M q) d) (M q) (step.cols (M q) d).0 ∙ column code_in (dot_eq d q) (with_put (T q) l n) (T q) (put_cols (T q) l n).0);
-      dead = λ q. ap dead_in (h q) ∙ (column dead_in (dot_eq p q) (F (M q) d) (M q) (step.cols (M q) d).1 ∙ column dead_in (dot_eq d q) (with_put (T q) l n) (T q) (put_cols (T q) l n).1);
+      count = λ q. ap count_in (h q) ∙ (column count_in (dot_eq p q) (F (M q) d) (M q) (step.cols (M q) d).1 ∙ column count_in (dot_eq d q) (with_put (T q) l n) (T q) (put_cols (T q) l n).1);
       marked = λ q k. ap (λ (o : Option Row). marked_in o k) (h q) ∙ (column (λ (o : Option Row). marked_in o k) (dot_eq p q) (F (M q) d) (M q) (step.marked (M q) d k) ∙ column (λ (o : Option Row). marked_in o k) (dot_eq d q) (with_put (T q) l n) (T q) (put_flags (T q) l n k).0);
       used = λ k. elim (cases_Bool (dot_eq p k.dot)) [
         | inl same ↦
@@ -253,7 +245,6 @@ hung-at T N d p l names free c =
     record {
       adds = adds;
       code = c.code;
-      dead = c.dead;
       marked = c.marked;
       used = c.used;
       again = c.again;
@@ -272,21 +263,65 @@ hung-code T N d free at_d h =
     record {
       adds = adds;
       code = λ q. ap code_in (h q) ∙ column code_in (dot_eq d q) (with_put (T q) Code None) (T q) (put_cols (T q) Code None).0;
-      dead = λ q. ap dead_in (h q) ∙ column dead_in (dot_eq d q) (with_put (T q) Code None) (T q) (put_cols (T q) Code None).1;
       marked = λ q k. ap (λ (o : Option Row). marked_in o k) (h q) ∙ column (λ (o : Option Row). marked_in o k) (dot_eq d q) (with_put (T q) Code None) (T q) (put_flags (T q) Code None k).0;
       used = λ k. ap (λ (o : Option Row). used_in o k.kind) (h k.dot) ∙ (column (λ (o : Option Row). used_in o k.kind) (dot_eq d k.dot) (with_put (T k.dot) Code None) (T k.dot) (put_flags (T k.dot) Code None k.kind).1 ∙ or_false (used_in (T k.dot) k.kind));
       again = λ k. ap (λ (o : Option Row). again_in o k.kind) (h k.dot) ∙ (column (λ (o : Option Row). again_in o k.kind) (dot_eq d k.dot) (with_put (T k.dot) Code None) (T k.dot) (put_flags (T k.dot) Code None k.kind).2 ∙ or_false (again_in (T k.dot) k.kind));
       hangs = λ r was. Hangs-code T N d adds apart (λ q. ap first_in (h q) ∙ column first_in (dot_eq d q) (with_put (T q) Code None) (T q) (put_cols (T q) Code None).2) r was;
     }
 
+-- the uses of a dot that the link does not name are as they were
+again_apart : (T N : Rows) (l : Link) (p q : Dot) (k : Kind) → named_by l ≡ Some p → q ≢ p → again_in (N q) k ≡ (again_in (T q) k || (uses_it l (token_at q k) && used_in (T q) k)) → again_in (N q) k ≡ again_in (T q) k
+again_apart T N l p q k names ne h = h ∙ (ap (λ (b : Bool). again_in (T q) k || (b && used_in (T q) k)) (uses_it-apart l p (token_at q k) names ne) ∙ sym (or_false (again_in (T q) k)))
+
+hung_blamed : (T N : Rows) (d p : Dot) (l : Link) → named_by l ≡ Some p → code_in (T d) ≡ None → HungCols T N d p l → (q : Dot) → q ≢ p → blamed_in (N q) ≡ blamed_in (T q)
+hung_blamed T N d p l names none h q ne = elim (cases_dots q d) [
+  | inl same ↦
+      let out : code_in (T q) ≡ None = ap (λ (y : Dot). code_in (T y)) same ∙ none in
+      blamed-none (N q) (h.code q ∙ out) ∙ sym (blamed-none (T q) out)
+  | inr apart ↦ blamed-same (T q) (N q) (bad-same (T q) (N q) (h.link_old q apart) (h.marked q) (λ k. again_apart T N l p q k names ne (h.again (token_at q k)))) (h.code q)
+]
+
+-- after a link that names p was hung, the counts are those with p as it was
+pub IsCountedAs-hung : (T M : Rows) (d p : Dot) (l : Link) → IsCounted T → code_in (T d) ≡ None → named_by l ≡ Some p → IsSome (T d) → IsSome (T p) → ((q : Dot) → M q ≡ hung T d l q) → IsCountedAs M p (bad_in (T p))
+IsCountedAs-hung T M d p l x none names at_d at_p h =
+    let cols : HungCols T M d p l = hung-cols-all T M d p l names (row_at (T d) at_d) (row_at (T p) at_p) h in
+    IsCountedAs-from T M p x cols.code cols.count (hung_blamed T M d p l names none cols)
+
+hung_code_flags : (T N : Rows) (d : Dot) → code_in (T d) ≡ None → ((q : Dot) → N q ≡ put_at T d Code None q) → (q : Dot) → (blamed_in (N q) ≡ blamed_in (T q)) × (count_in (N q) ≡ count_in (T q))
+hung_code_flags T N d none h q = elim (cases_dots q d) [
+  | inl same ↦
+      let out : code_in (T q) ≡ None = ap (λ (y : Dot). code_in (T y)) same ∙ none in
+      let code : code_in (N q) ≡ code_in (T q) = ap code_in (h q) ∙ column code_in (dot_eq d q) (with_put (T q) Code None) (T q) (put_cols (T q) Code None).0 in
+      (blamed-none (N q) (code ∙ out) ∙ sym (blamed-none (T q) out), ap count_in (h q) ∙ column count_in (dot_eq d q) (with_put (T q) Code None) (T q) (put_cols (T q) Code None).1)
+  | inr ne ↦
+      let same : N q ≡ T q = h q ∙ cond-false _ _ _ (dot_eq-apart d q (λ e. ne (sym e))) in
+      (ap blamed_in same, ap count_in same)
+]
+
+-- a link that names no dot changes no count
+pub IsCounted-hung : (T N : Rows) (d : Dot) (l : Link) → IsCounted T → code_in (T d) ≡ None → l ≡ Code → ((q : Dot) → N q ≡ hung T d l q) → IsCounted N
+IsCounted-hung T N d l x none code h =
+    let rows : (q : Dot) → N q ≡ put_at T d Code None q = λ q. h q ∙ ap (λ (k : Link). hung T d k q) code in
+    IsCounted-same T N (λ q. (hung_code_flags T N d none rows q).0) (λ q. (hung_code_flags T N d none rows q).1) x
+
+pub Hung-alike : (T M N : Rows) (d : Dot) (l : Link) → Hung T M d l → AlikeButCount M N → Hung T N d l
+Hung-alike T M N d l h a = record {
+  adds = record { free = h.adds.free; here = a.link d ∙ h.adds.here; others = λ q ne. a.link q ∙ h.adds.others q ne };
+  code = λ q. a.code q ∙ h.code q;
+  marked = λ q k. a.marked q k ∙ h.marked q k;
+  used = λ k. a.used k.dot k.kind ∙ h.used k;
+  again = λ k. a.again k.dot k.kind ∙ h.again k;
+  hangs = λ p was. Hangs-same M N p a.link a.first a.next (h.hangs p was);
+}
+
 pub hung-all : (T N : Rows) (d : Dot) (l : Link) → links_of T d ≡ None → IsSome (T d) → ((p : Dot) → named_by l ≡ Some p → IsSome (T p)) → ((q : Dot) → N q ≡ hung T d l q) → Hung T N d l
 hung-all T N d Code free at_d at_p h = hung-code T N d free (row_at (T d) at_d) h
 hung-all T N d (Redeems p) free at_d at_p h = hung-at T N d p (Redeems p) refl free (hung-cols-all T N d p (Redeems p) refl (row_at (T d) at_d) (row_at (T p) (at_p p refl)) h)
 hung-all T N d (Rotates p g) free at_d at_p h = hung-at T N d p (Rotates p g) refl free (hung-cols-all T N d p (Rotates p g) refl (row_at (T d) at_d) (row_at (T p) (at_p p refl)) h)
 
--- ---- codes and tombstones are written
+-- ---- codes are written
 
--- A is M with the code c0 at each dot of ys, and perhaps a tombstone at c0
+-- A is M with the code c0 at each dot of ys, perhaps with another count at c0
 pub record Mid (M A : Rows) (c0 : Dot) (ys : List Dot) : Type 0 where
   pub link : (q : Dot) → link_in (A q) ≡ link_in (M q)
   pub first : (q : Dot) → first_in (A q) ≡ first_in (M q)
@@ -295,9 +330,6 @@ pub record Mid (M A : Rows) (c0 : Dot) (ys : List Dot) : Type 0 where
   pub used : (q : Dot) (k : Kind) → used_in (A q) k ≡ used_in (M q) k
   pub again : (q : Dot) (k : Kind) → again_in (A q) k ≡ again_in (M q) k
   pub code : (q : Dot) → code_in (A q) ≡ cond (has ys q) (Some c0) (code_in (M q))
-  pub dead_old : (c : Dot) → dead_in (M c) ≡ true → dead_in (A c) ≡ true
-  pub dead_new : (c : Dot) → dead_in (A c) ≡ true → (dead_in (M c) ≡ true) ⊎ ((c0 ≡ c) × ((e : Dot) × (has ys e ≡ true) × (bad_in (M e) ≡ true)))
-  pub dead_walk : (e : Dot) → has ys e ≡ true → bad_in (M e) ≡ true → dead_in (A c0) ≡ true
 
 pub Mid-none : (M A : Rows) (c0 : Dot) → ((q : Dot) → A q ≡ M q) → Mid M A c0 []
 Mid-none M A c0 h = record {
@@ -308,12 +340,9 @@ Mid-none M A c0 h = record {
   used = λ q k. ap (λ (o : Option Row). used_in o k) (h q);
   again = λ q k. ap (λ (o : Option Row). again_in o k) (h q);
   code = λ q. ap code_in (h q);
-  dead_old = λ c d. ap dead_in (h c) ∙ d;
-  dead_new = λ c d. inl (sym (ap dead_in (h c)) ∙ d);
-  dead_walk = λ e e_in. absurd (true≢false (sym e_in));
 }
 
-code_cols : (o : Option Row) (c : Dot) → (link_in (with_code o c) ≡ link_in o) × (first_in (with_code o c) ≡ first_in o) × (next_in (with_code o c) ≡ next_in o) × (dead_in (with_code o c) ≡ dead_in o)
+code_cols : (o : Option Row) (c : Dot) → (link_in (with_code o c) ≡ link_in o) × (first_in (with_code o c) ≡ first_in o) × (next_in (with_code o c) ≡ next_in o) × (count_in (with_code o c) ≡ count_in o)
 code_cols None c = (refl, refl, refl, refl)
 code_cols (Some r) c = (refl, refl, refl, refl)
 
@@ -323,100 +352,35 @@ code_flags (Some r) c kind.Code = (refl, refl, refl)
 code_flags (Some r) c kind.Access = (refl, refl, refl)
 code_flags (Some r) c kind.Refresh = (refl, refl, refl)
 
-pub list_any-some : (p : Dot → Bool) (ys : List Dot) → list_any p ys ≡ true → (e : Dot) × (has ys e ≡ true) × (p e ≡ true)
-list_any-some p [] h = absurd (true≢false (sym h))
-list_any-some p (y ∷ ys) h = elim (or_cases (p y) (list_any p ys) h) [
-  | inl here ↦ (y, has-here y ys, here)
-  | inr more ↦ let r : (e : Dot) × (has ys e ≡ true) × (p e ≡ true) = list_any-some p ys more in (r.0, has-there y ys r.0 r.1, r.2)
-]
-
-pub some-list_any : (p : Dot → Bool) (ys : List Dot) (e : Dot) → has ys e ≡ true → p e ≡ true → list_any p ys ≡ true
-some-list_any p [] e e_in h = absurd (true≢false (sym e_in))
-some-list_any p (y ∷ ys) e e_in h = elim (has-cons y ys e e_in) [
-  | inl same ↦ or_left (p y) (list_any p ys) (sym (ap p same) ∙ h)
-  | inr more ↦ or_right (p y) (list_any p ys) (some-list_any p ys e more h)
-]
-
-dead_there : (o : Option Row) → RowAt o → dead_in (with_dead o) ≡ true
-dead_there o r = ap (λ (x : Option Row). dead_in (with_dead x)) r.is
-
 code_there : (o : Option Row) (c : Dot) → RowAt o → code_in (with_code o c) ≡ Some c
 code_there o c r = ap (λ (x : Option Row). code_in (with_code x c)) r.is
-
-dead_stays : (o : Option Row) (b : Bool) → dead_in o ≡ true → dead_in (cond b (with_dead o) o) ≡ true
-dead_stays None b h = absurd (true≢false (sym h))
-dead_stays (Some r) true h = refl
-dead_stays (Some r) false h = h
 
 with_code_row : (o : Option Row) (b : Bool) (c : Dot) → RowAt o → RowAt (cond b (with_code o c) o)
 with_code_row o true c r = record { row = record r.row { code = Some c }; is = ap (λ (x : Option Row). with_code x c) r.is }
 with_code_row o false c r = r
 
-pub Mid-raised : (M A : Rows) (c0 : Dot) (ys : List Dot) → ((q : Dot) → has ys q ≡ true → RowAt (M q)) → RowAt (M c0) → ((q : Dot) → A q ≡ raised M ys c0 q) → Mid M A c0 ys
-Mid-raised M A c0 ys rows at_code h =
+pub Mid-raised : (M A : Rows) (c0 : Dot) (ys : List Dot) → ((q : Dot) → has ys q ≡ true → RowAt (M q)) → ((q : Dot) → A q ≡ raised M ys c0 q) → Mid M A c0 ys
+Mid-raised M A c0 ys rows h =
     let S : Rows = settled M ys c0 in
-    let bad : Bool = list_any (λ e. bad_in (S e)) ys in
-    let d : AlikeButDeath S A = AlikeButDeath-dead S A (λ q. bad && dot_eq c0 q) h in
-    let link_S : (q : Dot) → link_in (S q) ≡ link_in (M q) = λ q. column link_in (has ys q) (with_code (M q) c0) (M q) (code_cols (M q) c0).0 in
-    let marked_S : (q : Dot) (k : Kind) → marked_in (S q) k ≡ marked_in (M q) k = λ q k. column (λ (o : Option Row). marked_in o k) (has ys q) (with_code (M q) c0) (M q) (code_flags (M q) c0 k).0 in
-    let again_S : (q : Dot) (k : Kind) → again_in (S q) k ≡ again_in (M q) k = λ q k. column (λ (o : Option Row). again_in o k) (has ys q) (with_code (M q) c0) (M q) (code_flags (M q) c0 k).2 in
-    let dead_S : (q : Dot) → dead_in (S q) ≡ dead_in (M q) = λ q. column dead_in (has ys q) (with_code (M q) c0) (M q) (code_cols (M q) c0).3 in
-    let bad_S : (q : Dot) → bad_in (S q) ≡ bad_in (M q) = λ q. bad-same (M q) (S q) (link_S q) (marked_S q) (again_S q) in
+    let d : AlikeButCount S A = AlikeButCount-count S A c0 (count_in (M c0) + bads M ys) h in
     record {
-      link = λ q. d.link q ∙ link_S q;
+      link = λ q. d.link q ∙ column link_in (has ys q) (with_code (M q) c0) (M q) (code_cols (M q) c0).0;
       first = λ q. d.first q ∙ column first_in (has ys q) (with_code (M q) c0) (M q) (code_cols (M q) c0).1;
       next = λ q. d.next q ∙ column next_in (has ys q) (with_code (M q) c0) (M q) (code_cols (M q) c0).2;
-      marked = λ q k. d.marked q k ∙ marked_S q k;
+      marked = λ q k. d.marked q k ∙ column (λ (o : Option Row). marked_in o k) (has ys q) (with_code (M q) c0) (M q) (code_flags (M q) c0 k).0;
       used = λ q k. d.used q k ∙ column (λ (o : Option Row). used_in o k) (has ys q) (with_code (M q) c0) (M q) (code_flags (M q) c0 k).1;
-      again = λ q k. d.again q k ∙ again_S q k;
+      again = λ q k. d.again q k ∙ column (λ (o : Option Row). again_in o k) (has ys q) (with_code (M q) c0) (M q) (code_flags (M q) c0 k).2;
       code = λ q. d.code q ∙ (elim (cases_Bool (has ys q)) [
         | inl walked ↦ ap code_in (cond-true (has ys q) (with_code (M q) c0) (M q) walked) ∙ (code_there (M q) c0 (rows q walked) ∙ sym (cond-true (has ys q) (Some c0) (code_in (M q)) walked))
         | inr passed ↦ ap code_in (cond-false (has ys q) (with_code (M q) c0) (M q) passed) ∙ sym (cond-false (has ys q) (Some c0) (code_in (M q)) passed)
       ]);
-      dead_old = λ c was. ap dead_in (h c) ∙ dead_stays (S c) (bad && dot_eq c0 c) (dead_S c ∙ was);
-      dead_new = λ c now. elim (cases_Bool (bad && dot_eq c0 c)) [
-        | inl killed ↦
-            let parts : (bad ≡ true) × (dot_eq c0 c ≡ true) = and_parts _ _ killed in
-            let some : (e : Dot) × (has ys e ≡ true) × (bad_in (S e) ≡ true) = list_any-some (λ e. bad_in (S e)) ys parts.0 in
-            inr (dot_eq-true c0 c parts.1, (some.0, some.1, sym (bad_S some.0) ∙ some.2))
-        | inr spared ↦ inl (sym (dead_S c) ∙ (sym (ap dead_in (h c ∙ cond-false (bad && dot_eq c0 c) (with_dead (S c)) (S c) spared)) ∙ now))
-      ];
-      dead_walk = λ e e_in is_bad.
-          let killed : (bad && dot_eq c0 c0) ≡ true = and_from _ _ (some-list_any (λ e. bad_in (S e)) ys e e_in (bad_S e ∙ is_bad)) (dot_eq-same c0) in
-          ap dead_in (h c0 ∙ cond-true (bad && dot_eq c0 c0) (with_dead (S c0)) (S c0) killed) ∙ dead_there (S c0) (with_code_row (M c0) (has ys c0) c0 at_code);
     }
 
--- N is A with a tombstone for the family of the named dot, if that dot's token is bad
-pub record Last (A N : Rows) (l : Link) : Type 0 where
-  pub alike : AlikeButDeath A N
-  pub dead_old : (c : Dot) → dead_in (A c) ≡ true → dead_in (N c) ≡ true
-  pub dead_new : (c : Dot) → dead_in (N c) ≡ true → (dead_in (A c) ≡ true) ⊎ ((p : Dot) × (named_by l ≡ Some p) × (bad_in (A p) ≡ true) × (code_in (A p) ≡ Some c))
-  pub dead_parent : (p c : Dot) → named_by l ≡ Some p → bad_in (A p) ≡ true → code_in (A p) ≡ Some c → RowAt (A c) → dead_in (N c) ≡ true
-
-pub Last-none : (A N : Rows) (l : Link) → named_by l ≡ None → ((q : Dot) → N q ≡ A q) → Last A N l
-Last-none A N l none h = record {
-  alike = AlikeButDeath-same A N h;
-  dead_old = λ c d. ap dead_in (h c) ∙ d;
-  dead_new = λ c d. inl (sym (ap dead_in (h c)) ∙ d);
-  dead_parent = λ p c names. absurd (let clash : None ≡ Some p = sym none ∙ names in cc);
-}
-
-is_dot-true : (o : Option Dot) (c : Dot) → is_dot o c ≡ true → o ≡ Some c
-is_dot-true None c h = absurd (true≢false (sym h))
-is_dot-true (Some d) c h = ap (λ (y : Dot). Some y) (dot_eq-true d c h)
-
-pub Last-buried : (A N : Rows) (l : Link) (p : Dot) → named_by l ≡ Some p → ((q : Dot) → N q ≡ buried A p q) → Last A N l
-Last-buried A N l p names h = record {
-  alike = AlikeButDeath-dead A N (λ q. bad_in (A p) && is_dot (code_in (A p)) q) h;
-  dead_old = λ c d. ap dead_in (h c) ∙ dead_stays (A c) (bad_in (A p) && is_dot (code_in (A p)) c) d;
-  dead_new = λ c d. elim (cases_Bool (bad_in (A p) && is_dot (code_in (A p)) c)) [
-    | inl killed ↦ let parts : (bad_in (A p) ≡ true) × (is_dot (code_in (A p)) c ≡ true) = and_parts _ _ killed in inr (p, names, parts.0, is_dot-true (code_in (A p)) c parts.1)
-    | inr spared ↦ inl (sym (ap dead_in (h c ∙ cond-false _ _ _ spared)) ∙ d)
-  ];
-  dead_parent = λ r c named is_bad code at_code.
-      let both : Some p ≡ Some r = sym names ∙ named in
-      let same : p ≡ r = cc in
-      let killed : (bad_in (A p) && is_dot (code_in (A p)) c) ≡ true =
-      and_from _ _ (ap (λ (y : Dot). bad_in (A y)) same ∙ is_bad) (ap (λ (o : Option Dot). is_dot o c) (ap (λ (y : Dot). code_in (A y)) same ∙ code) ∙ dot_eq-same c) in
-      ap dead_in (h c ∙ cond-true _ _ _ killed) ∙ dead_there (A c) at_code;
-}
+pub IsCounted-mid : (M A : Rows) (c0 : Dot) (ys : List Dot) → IsCounted M → IsDistinct dot_eq ys → ((q : Dot) → has ys q ≡ true → code_in (M q) ≡ None) → RowAt (M c0) → Mid M A c0 ys → ((q : Dot) → A q ≡ raised M ys c0 q) → IsCounted A
+IsCounted-mid M A c0 ys x d fresh row mid h =
+    let S : Rows = settled M ys c0 in
+    let n : ℕ = count_in (M c0) + bads M ys in
+    let count_S : (q : Dot) → count_in (S q) ≡ count_in (M q) = λ q. column count_in (has ys q) (with_code (M q) c0) (M q) (code_cols (M q) c0).3 in
+    IsCounted-raised M A c0 ys x d fresh (λ q. bad-same (M q) (A q) (mid.link q) (mid.marked q) (mid.again q)) mid.code
+    (count-here S A c0 n (with_code_row (M c0) (has ys c0) c0 row) h)
+    (λ c ne. count-other S A c0 n h c ne ∙ count_S c)

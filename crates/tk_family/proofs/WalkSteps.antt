@@ -1,12 +1,11 @@
 -- A loop that walks from a token to its code: each step keeps the result of the whole walk.
 --   walk_on    a step that goes on
-use Rattle.std.proofs.Common.{◌≡◌, ℕ, suc, ◌+◌, ◌-◌, ◌<◌, ◌≤◌, true, false, Option, Some, None, sym, ap, ◌∙◌, arith}
+use Rattle.std.proofs.Common.{◌≡◌, ℕ, suc, ◌+◌, ◌-◌, ◌<◌, false, Option, Some, sym, ap, ◌∙◌, arith}
 use Rattle.std.proofs.lemmas.Bool.{cond-false}
 use Rattle.std.specs.Option.{option_and_then}
 use Rattle.tk_handle.specs.declared.dot.Dot.{Dot}
 use Rattle.tk_family.specs.Families.{Links}
 use Rattle.tk_family.specs.Walks.{is_code_link, parent_of, code_by}
-use Rattle.tk_family.proofs.WalkLaws.{code_here}
 
 -- a walk with n - i steps left takes one of them
 left : (f : Links) (n i : ℕ) (d : Dot) → i < n → is_code_link (f d) ≡ false → code_by f (n - i) d ≡ option_and_then (code_by f (n - (i + 1))) (parent_of f d)

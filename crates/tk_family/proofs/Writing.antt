@@ -7,7 +7,7 @@ use Rattle.tk_family.specs.declared.row.Row.{Row}
 use Rattle.tk_family.specs.Dots.{dot_eq, has}
 use Rattle.tk_handle.specs.Dot.{dot_cmp_total, dot_cmp-IsAntisymmetric}
 use Rattle.tk_family.specs.Rows.{Rows, RowMap, table}
-use Rattle.tk_family.specs.Writes.{blank, or_blank, with_code, without_code, settled, cleared}
+use Rattle.tk_family.specs.Writes.{blank, or_blank, with_code, without_code, settled, unsettled}
 use Rattle.tk_family.proofs.DotLaws.{dots_equiv, dot_eq-true, dot_eq-same, has-append, has-left, has-right, has-cons, has-here}
 
 pub changed : (T N : Rows) (at : Dot) (r row : Row) (F : Option Row → Option Row) → T at ≡ Some r → F (Some r) ≡ Some row → ((q : Dot) → N q ≡ cond (dot_eq at q) (option_map (λ _. row) (T q)) (T q)) → (q : Dot) → N q ≡ cond (dot_eq at q) (F (T q)) (T q)
@@ -55,8 +55,8 @@ listed-more F twice T M N list x before now q = elim (cases_Bool (dot_eq x q)) [
 pub settled-more : (T M N : Rows) (list : List Dot) (x c : Dot) → ((q : Dot) → M q ≡ settled T list c q) → ((q : Dot) → N q ≡ cond (dot_eq x q) (with_code (M q) c) (M q)) → (q : Dot) → N q ≡ settled T (list ++ x ∷ []) c q
 settled-more T M N list x c before now q = listed-more (λ o. with_code o c) (λ o. twice_coded o c) T M N list x before now q
 
-pub cleared-more : (T M N : Rows) (list : List Dot) (x : Dot) → ((q : Dot) → M q ≡ cleared T list q) → ((q : Dot) → N q ≡ cond (dot_eq x q) (without_code (M q)) (M q)) → (q : Dot) → N q ≡ cleared T (list ++ x ∷ []) q
-cleared-more T M N list x before now q = listed-more without_code twice_cleared T M N list x before now q
+pub unsettled-more : (T M N : Rows) (list : List Dot) (x : Dot) → ((q : Dot) → M q ≡ unsettled T list q) → ((q : Dot) → N q ≡ cond (dot_eq x q) (without_code (M q)) (M q)) → (q : Dot) → N q ≡ unsettled T (list ++ x ∷ []) q
+unsettled-more T M N list x before now q = listed-more without_code twice_cleared T M N list x before now q
 
 -- a blank row is put at a dot that has none
 pub added : (m n : RowMap) (at : Dot) (r : Row) → n ≡ map.insert m at r → map.get m at ≡ None → r ≡ blank → (q : Dot) → table n q ≡ cond (dot_eq at q) (or_blank (table m q)) (table m q)

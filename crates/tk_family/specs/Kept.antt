@@ -5,11 +5,11 @@ use Rattle.std.specs.Prelude.{◌≡◌, true, List, [], ◌∷◌, Option, Some
 use Rattle.std.specs.List.{IsDistinct}
 use Rattle.tk_handle.specs.declared.dot.Dot.{Dot}
 use Rattle.tk_handle.specs.declared.token_id.TokenId.{TokenId}
+use Rattle.tk_family.specs.Counts.{IsCounted}
 use Rattle.tk_family.specs.Dots.{dot_eq, has}
-use Rattle.tk_family.specs.Families.{Links, IsUnder, IsUsed, IsTwice, IsDead}
-use Rattle.tk_family.specs.Laws.{passing}
-use Rattle.tk_family.specs.Rows.{Rows, code_in, dead_in, first_in, next_in, used_in, again_in}
-use Rattle.tk_family.specs.Rows.{links_of, marks_of, named_of}
+use Rattle.tk_family.specs.Families.{Links, IsUnder, IsUsed, IsTwice}
+use Rattle.tk_family.specs.Rows.{Rows, code_in, first_in, next_in, used_in, again_in}
+use Rattle.tk_family.specs.Rows.{links_of, named_of}
 
 -- the list is read off by going on from the cursor
 abbrev pub IsChain : (Dot → Option Dot) → Option Dot → List Dot → Type 0
@@ -32,8 +32,7 @@ pub record Hangs (T : Rows) (p : Dot) : Type 0 where
 pub record IsForest (T : Rows) : Type 0 where
   pub under : (q c : Dot) → code_in (T q) ≡ Some c → IsUnder (links_of T) q c
   pub memo : (q c : Dot) → IsUnder (links_of T) q c → code_in (T q) ≡ Some c
-  pub dead : (c : Dot) → dead_in (T c) ≡ true → IsDead (links_of T) (passing (marks_of T)) c
-  pub tomb : (c : Dot) → IsDead (links_of T) (passing (marks_of T)) c → dead_in (T c) ≡ true
+  pub bads : IsCounted T
   pub used : (k : TokenId) → used_in (T k.dot) k.kind ≡ true → IsUsed (links_of T) k
   pub uses : (k : TokenId) → IsUsed (links_of T) k → used_in (T k.dot) k.kind ≡ true
   pub again : (k : TokenId) → again_in (T k.dot) k.kind ≡ true → IsTwice (links_of T) k

@@ -9,11 +9,13 @@
 --   View          the links and marks of the rows of a forest
 --   Rows          the rows of a forest, and their columns
 --   Packed        a row in little memory
+--   Counts        how many dots of a family are bad
 --   Kept          what the rows of a forest keep
 --   Writes        what the steps of a forest write
 --   Puts          what they do together
 --   Uses          the uses of a token, counted along a list
 --   Takes         what removing a link or a mark does to the rows of a forest
+pub mod Counts
 pub mod Dots
 pub mod Families
 pub mod ForestFacts

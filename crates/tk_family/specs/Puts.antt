@@ -4,18 +4,22 @@
 --   FitsAll, Pushes    the children of a dot, at the end of a list
 --   Gathers            all that hangs below a dot
 --   NothingSeen        rows may have become more, but only by blank ones
+--   Adds, Hung         a link more; the columns after it was hung below the dot that it names
 --   Puts, MarksOne     a link is put, a token is marked
-use Rattle.std.specs.Prelude.{◌≡◌, ◌⊎◌, Bool, true, false, if◌then◌else◌, List, ◌++◌, Option, Some}
-use Rattle.std.specs.Prelude.{None}
+use Rattle.std.specs.Prelude.{◌≡◌, ◌≢◌, ◌⊎◌, Bool, true, false, ◌&&◌, ◌||◌, if◌then◌else◌, List}
+use Rattle.std.specs.Prelude.{◌++◌, Option, Some, None}
 use Rattle.std.specs.List.{IsDistinct}
 use Rattle.tk_handle.specs.declared.dot.Dot.{Dot}
+use Rattle.tk_handle.specs.declared.kind.Kind.{Kind}
 use Rattle.tk_handle.specs.declared.token_id.TokenId.{TokenId}
 use Rattle.tk_family.specs.declared.link.Link.{Link}
 use Rattle.tk_family.specs.Dots.{dot_eq, has}
 use Rattle.tk_family.specs.Families.{Links, fits, IsParent, IsTrail, IsUnder}
-use Rattle.tk_family.specs.Kept.{IsForest}
-use Rattle.tk_family.specs.Rows.{Rows, links_of, marks_of, named_of}
+use Rattle.tk_family.specs.Kept.{Hangs, IsForest}
+use Rattle.tk_family.specs.Rows.{Rows, code_in, marked_in, used_in, again_in, links_of, marks_of}
+use Rattle.tk_family.specs.Rows.{named_of}
 use Rattle.tk_family.specs.Tops.{IsRaised}
+use Rattle.tk_family.specs.Uses.{uses_it}
 
 -- the links f, with the link l at d
 abbrev pub with_link : Links → Dot → Link → Links
@@ -54,6 +58,24 @@ pub record Gathers (f : Links) (d : Dot) (l : Link) (ys : List Dot) : Type 0 whe
   pub distinct : IsDistinct dot_eq ys
 
 -- ---- what `put` and `mark` do
+
+-- g is f with one more link, l at d
+pub record Adds (f g : Links) (d : Dot) (l : Link) : Type 0 where
+  pub free : f d ≡ None
+  pub here : g d ≡ Some l
+  pub others : (q : Dot) → q ≢ d → g q ≡ f q
+
+-- the columns of N after the link l was hung at d in T
+pub record Hung (T N : Rows) (d : Dot) (l : Link) : Type 0 where
+  pub adds : Adds (links_of T) (links_of N) d l
+  pub code : (q : Dot) → code_in (N q) ≡ code_in (T q)
+  pub marked : (q : Dot) (k : Kind) → marked_in (N q) k ≡ marked_in (T q) k
+  pub used : (k : TokenId)
+      → used_in (N k.dot) k.kind ≡ (used_in (T k.dot) k.kind || uses_it l k)
+  pub again : (k : TokenId)
+      → again_in (N k.dot) k.kind
+      ≡ (again_in (T k.dot) k.kind || (uses_it l k && used_in (T k.dot) k.kind))
+  pub hangs : (p : Dot) → Hangs T p → Hangs N p
 
 -- N is T, but blank rows may have been added
 pub record NothingSeen (T N : Rows) : Type 0 where

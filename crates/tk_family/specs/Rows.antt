@@ -1,13 +1,14 @@
 -- The rows of a forest by their look-up, and their columns (own). A blank row has the same columns
 -- as an absent one.
 --   Rows, RowMap, table            the row at each dot, if there is one; the rows of a map
---   link_in, code_in, dead_in      the link at a dot, the code that it is under, the death of its
---                                  family
+--   link_in, code_in               the link at a dot, the code that it is under
+--   count_in, dead_in              how many dots of a code's family are bad; whether one is
 --   first_in, next_in              the chain of the dots whose links name a dot
 --   marked_in, used_in, again_in   by kind: a token of the dot is marked, is used, is used twice
---   bad_in                         the code or refresh token of the dot is marked, or used twice
+--   bad_in, blamed_in              the code or refresh token of the dot is marked, or used twice;
+--                                  the code of the family that is dead by that
 --   links_of, marks_of, named_of   the links and marks of the rows; the dot that a link names
-use Rattle.std.specs.Prelude.{Bool, true, false, ◌||◌, Option, Some, None}
+use Rattle.std.specs.Prelude.{ℕ, Bool, true, false, ◌||◌, Option, Some, None, nat_lt, if◌then◌else◌}
 use Rattle.std.specs.FinMap as map
 use Rattle.tk_handle.specs.declared.dot.Dot.{Dot}
 use Rattle.tk_handle.specs.declared.kind.Kind.{Kind}
@@ -45,10 +46,14 @@ abbrev pub code_in : Option Row → Option Dot
 code_in None = None
 code_in (Some row) = row.code
 
+-- how many dots of the family of the code at the dot are bad
+abbrev pub count_in : Option Row → ℕ
+count_in None = 0
+count_in (Some row) = row.bad
+
 -- the family of the code at the dot is dead
 abbrev pub dead_in : Option Row → Bool
-dead_in None = false
-dead_in (Some row) = row.dead
+dead_in row = nat_lt 0 (count_in row)
 
 -- the first of the dots whose links name the dot
 abbrev pub first_in : Option Row → Option Dot
@@ -117,6 +122,10 @@ bad_at (Some link) row = marked_in row (grant_kind link) || again_in row (grant_
 -- the code or refresh token at a dot is marked, or used twice
 abbrev pub bad_in : Option Row → Bool
 bad_in row = bad_at (link_in row) row
+
+-- the code that the dot is under, if the dot is bad
+abbrev pub blamed_in : Option Row → Option Dot
+blamed_in row = if bad_in row then code_in row else None
 
 -- ---- links and marks
 

@@ -1,29 +1,27 @@
 -- What removing a link or a mark does to the rows of a forest, and its steps (own).
 --   without            links without the one at a dot
 --   IsShort            a list has no room for all children of a dot
---   IsSettled          each row has the code that its dot is under, and each chain has the children
+--   IsHung             each chain has the children of its dot, and each token its uses
 --   KeptBut, Unhangs   a dot is out of the chain of the dot that it names, whose uses are counted
 --                      anew
---   Unlinks            the link at a dot is gone, with what followed from it; the codes in the rows
---                      below the dot stay
+--   Unlinks            the link at a dot is gone; the codes in the other rows stay
 --   Clears             a dot and what hung below it are under no code
---   Revives            the tombstone of a dot's family stays only if a token of the family is bad
 --   Takes, Unmarks     a link is removed, or a mark
-use Rattle.std.specs.Prelude.{◌≡◌, ◌≢◌, ◌<◌, ℕ, Bool, true, false, if◌then◌else◌, ◌&&◌, List, ◌++◌}
-use Rattle.std.specs.Prelude.{length, Some, None, IsSome}
+use Rattle.std.specs.Prelude.{◌≡◌, ◌≢◌, ◌<◌, ℕ, true, false, if◌then◌else◌, List, ◌++◌, length}
+use Rattle.std.specs.Prelude.{Some, None}
 use Rattle.std.specs.List.{IsDistinct}
 use Rattle.tk_handle.specs.declared.dot.Dot.{Dot}
 use Rattle.tk_handle.specs.declared.kind.Kind.{Kind}
 use Rattle.tk_handle.specs.declared.token_id.TokenId.{TokenId}
 use Rattle.tk_family.specs.declared.link.Link.{Link}
 use Rattle.tk_family.specs.Dots.{dot_eq, has}
-use Rattle.tk_family.specs.Families.{Links, IsUnder, IsUsed, IsTwice}
+use Rattle.tk_family.specs.Families.{Links, IsUsed, IsTwice}
 use Rattle.tk_family.specs.Kept.{IsChain, Hangs, IsForest}
 use Rattle.tk_family.specs.Puts.{FitsAll, Gathers}
-use Rattle.tk_family.specs.Rows.{Rows, link_in, code_in, dead_in, first_in, next_in, marked_in}
-use Rattle.tk_family.specs.Rows.{used_in, again_in, bad_in, links_of, marks_of, named_of}
+use Rattle.tk_family.specs.Rows.{Rows, link_in, code_in, count_in, first_in, next_in, marked_in}
+use Rattle.tk_family.specs.Rows.{used_in, again_in, links_of, marks_of, named_of}
 use Rattle.tk_family.specs.Uses.{uses_some, uses_two}
-use Rattle.tk_family.specs.Writes.{without_dead, cleared}
+use Rattle.tk_family.specs.Writes.{cleared}
 
 -- the links f without the one at d
 abbrev pub without : Links → Dot → Links
@@ -35,17 +33,19 @@ pub record IsShort (f : Links) (x : Dot) (above : Link) (old : List Dot) (room :
   pub fit : FitsAll f x above children
   pub short : room < length (old ++ children)
 
--- each row has the code that its dot is under, and each chain has the children of its dot
-pub record IsSettled (T : Rows) : Type 0 where
-  pub under : (q c : Dot) → code_in (T q) ≡ Some c → IsUnder (links_of T) q c
-  pub memo : (q c : Dot) → IsUnder (links_of T) q c → code_in (T q) ≡ Some c
+-- each token has its uses, and each chain has the children of its dot
+pub record IsHung (T : Rows) : Type 0 where
+  pub used : (k : TokenId) → used_in (T k.dot) k.kind ≡ true → IsUsed (links_of T) k
+  pub uses : (k : TokenId) → IsUsed (links_of T) k → used_in (T k.dot) k.kind ≡ true
+  pub again : (k : TokenId) → again_in (T k.dot) k.kind ≡ true → IsTwice (links_of T) k
+  pub twice : (k : TokenId) → IsTwice (links_of T) k → again_in (T k.dot) k.kind ≡ true
   pub hangs : (p : Dot) → Hangs T p
 
 -- each column is as it was, except those that depend on the links that name p
 pub record KeptBut (T N : Rows) (p : Dot) : Type 0 where
   pub link : (q : Dot) → link_in (N q) ≡ link_in (T q)
   pub code : (q : Dot) → code_in (N q) ≡ code_in (T q)
-  pub dead : (q : Dot) → dead_in (N q) ≡ dead_in (T q)
+  pub count : (q : Dot) → count_in (N q) ≡ count_in (T q)
   pub marked : (q : Dot) (k : Kind) → marked_in (N q) k ≡ marked_in (T q) k
   pub first : (q : Dot) → q ≢ p → first_in (N q) ≡ first_in (T q)
   pub next : (q : Dot) → named_of (link_in (T q)) ≢ Some p → next_in (N q) ≡ next_in (T q)
@@ -67,14 +67,12 @@ pub record Unhangs (T N : Rows) (p d : Dot) : Type 0 where
   pub used_here : (k : Kind) → used_in (N p) k ≡ uses_some (links_of T) (token_at p k) list
   pub again_here : (k : Kind) → again_in (N p) k ≡ uses_two (links_of T) (token_at p k) list
 
--- the link at d is gone, with what followed from it; the codes in the rows below d stay
+-- the link at d is gone; the codes in the other rows stay
 pub record Unlinks (T N : Rows) (d : Dot) : Type 0 where
-  pub row : IsSome (N d)
   pub links : (q : Dot) → links_of N q ≡ without (links_of T) d q
   pub code_here : code_in (N d) ≡ None
   pub code : (q : Dot) → q ≢ d → code_in (N q) ≡ code_in (T q)
-  pub dead_here : dead_in (N d) ≡ false
-  pub dead : (q : Dot) → q ≢ d → dead_in (N q) ≡ dead_in (T q)
+  pub count_here : count_in (N d) ≡ 0
   pub marked_here : (k : Kind) → marked_in (N d) k ≡ false
   pub marked : (q : Dot) (k : Kind) → q ≢ d → marked_in (N q) k ≡ marked_in (T q) k
   pub used : (k : TokenId) → used_in (N k.dot) k.kind ≡ true → IsUsed (links_of N) k
@@ -83,22 +81,11 @@ pub record Unlinks (T N : Rows) (d : Dot) : Type 0 where
   pub twice : (k : TokenId) → IsTwice (links_of N) k → again_in (N k.dot) k.kind ≡ true
   pub hangs : (p : Dot) → Hangs N p
 
--- d and what hung below it are under no code, if l was the link at d
-pub record Clears (T N : Rows) (d : Dot) (l : Link) : Type 0 where
+-- d and what hangs below it, if l is the link at d, are under the code c no more
+pub record Clears (T N : Rows) (d : Dot) (l : Link) (c : Dot) : Type 0 where
   pub list : List Dot
   pub got : Gathers (links_of T) d l list
-  pub rows : (q : Dot) → N q ≡ cleared T list q
-
--- the tombstone of the dot's family is removed if no token of the family is bad; otherwise nothing
--- changes
-pub record Revives (T N : Rows) (at : Dot) : Type 0 where
-  pub spared : Bool
-  pub code : Dot
-  pub rows : (q : Dot) → N q ≡ (if spared && dot_eq code q then without_dead (T q) else T q)
-  pub here : spared ≡ true → code_in (T at) ≡ Some code
-  pub sound : spared ≡ true → (q : Dot) → code_in (T q) ≡ Some code → bad_in (T q) ≡ false
-  pub stays : (c : Dot) → spared ≡ false → code_in (T at) ≡ Some c → dead_in (T c) ≡ true
-      → (q : Dot) × (code_in (T q) ≡ Some c) × (bad_in (T q) ≡ true)
+  pub rows : (q : Dot) → N q ≡ cleared T list c q
 
 -- the link at d is removed, with the marks of its tokens
 pub record Takes (T N : Rows) (d : Dot) : Type 0 where

@@ -1,19 +1,18 @@
 -- What the steps of a forest write into rows, each as a function of the rows before (own).
 --   blank, or_blank, is_blank       a blank row
 --   once_more                       one use more
---   with_code, with_dead, with_put, with_redeemer, with_rotator, with_marked   a row with one thing
---                                                                              written
+--   with_code, with_count, with_put, with_redeemer, with_rotator,
+--   with_marked                     a row with one thing written
 --   put_at, hung                    a link is put, and hung below the dot that it names
---   without_code, without_dead, without_users, without_link, without_mark   a row with one thing
---                                                                           removed
---   settled, raised                 a code is written at dots, with its tombstone if a token of
---                                   theirs is bad
---   cleared                         dots are under no code
---   buried                          the tombstone of a dot's family is written, if the dot's token
---                                   is bad
+--   without_code, without_users, without_link,
+--   without_mark                    a row with one thing removed
+--   bads                            how many dots of a list are bad
+--   settled, raised                 a code is written at dots, and counts the bad ones among them
+--   unsettled, cleared              dots are under no code, and the code that they were under
+--                                   counts the bad ones among them no more
 --   chain_by, chain_code            the code that a link comes under
-use Rattle.std.specs.Prelude.{Bool, true, false, not, ◌&&◌, if◌then◌else◌, List, Option, Some, None}
-use Rattle.std.specs.List.{list_any}
+use Rattle.std.specs.Prelude.{ℕ, ◌+◌, ◌-◌, Bool, true, false, not, ◌&&◌, if◌then◌else◌, ◌==◌, List}
+use Rattle.std.specs.Prelude.{Option, Some, None, count_by}
 use Rattle.std.specs.Option.{is_none}
 use Rattle.tk_handle.specs.declared.dot.Dot.{Dot}
 use Rattle.tk_handle.specs.declared.kind.Kind.{Kind}
@@ -25,7 +24,7 @@ use Rattle.tk_family.specs.declared.row.Uses.{Uses}
 use Rattle.tk_family.specs.declared.row.Uses.TheVariants.{Never, Once, Often}
 use Rattle.tk_family.specs.Dots.{dot_eq, has}
 use Rattle.tk_family.specs.Families.{named_by}
-use Rattle.tk_family.specs.Rows.{Rows, link_in, code_in, first_in, bad_in}
+use Rattle.tk_family.specs.Rows.{Rows, link_in, code_in, count_in, first_in, bad_in}
 use Rattle.tk_family.specs.Walks.{fits_over}
 
 -- ---- rows with one thing written
@@ -35,7 +34,7 @@ abbrev pub blank : Row
 blank = record {
   link = None;
   code = None;
-  dead = false;
+  bad = 0;
   marked_code = false;
   marked_access = false;
   marked_refresh = false;
@@ -59,7 +58,7 @@ is_never Often = false
 -- a row is blank
 abbrev pub is_blank : Row → Bool
 is_blank row =
-    is_none row.link && (is_none row.code && (not row.dead && (not row.marked_code
+    is_none row.link && (is_none row.code && (row.bad == 0 && (not row.marked_code
     && (not row.marked_access && (not row.marked_refresh && (is_never row.redeemed
     && (is_never row.rotated && (is_none row.first && is_none row.next))))))))
 
@@ -79,10 +78,10 @@ abbrev pub with_code : Option Row → Dot → Option Row
 with_code None c = None
 with_code (Some row) c = Some (record row { code = Some c })
 
--- the row with a tombstone
-abbrev pub with_dead : Option Row → Option Row
-with_dead None = None
-with_dead (Some row) = Some (record row { dead = true })
+-- the row of a code with n bad dots in its family
+abbrev pub with_count : Option Row → ℕ → Option Row
+with_count None n = None
+with_count (Some row) n = Some (record row { bad = n })
 
 -- the row with a link, in front of the next dot of its chain
 abbrev pub with_put : Option Row → Link → Option Dot → Option Row
@@ -113,11 +112,6 @@ abbrev pub without_code : Option Row → Option Row
 without_code None = None
 without_code (Some row) = Some (record row { code = None })
 
--- the row without a tombstone
-abbrev pub without_dead : Option Row → Option Row
-without_dead None = None
-without_dead (Some row) = Some (record row { dead = false })
-
 -- the row, as the row of a dot that no link names
 abbrev pub without_users : Option Row → Option Row
 without_users None = None
@@ -139,11 +133,6 @@ without_mark (Some row) kind.Refresh = Some (record row { marked_refresh = false
 
 -- ---- steps
 
--- an optional dot is the dot q
-abbrev pub is_dot : Option Dot → Dot → Bool
-is_dot None q = false
-is_dot (Some d) q = dot_eq d q
-
 -- T with the link l at d, in front of the next dot of its chain
 abbrev pub put_at : Rows → Dot → Link → Option Dot → Rows
 put_at T d l next q = if dot_eq d q then with_put (T q) l next else T q
@@ -158,24 +147,29 @@ hung T d (Rotates p g) q =
     if dot_eq p q then with_rotator (put_at T d (Rotates p g) (first_in (T p)) q) d
     else put_at T d (Rotates p g) (first_in (T p)) q
 
+-- how many dots of the list are bad
+abbrev pub bads : Rows → List Dot → ℕ
+bads T list = count_by (λ e. bad_in (T e)) list
+
 -- T with the code c at each dot of the list
 abbrev pub settled : Rows → List Dot → Dot → Rows
 settled T list c q = if has list q then with_code (T q) c else T q
 
--- T with no code at each dot of the list
-abbrev pub cleared : Rows → List Dot → Rows
-cleared T list q = if has list q then without_code (T q) else T q
-
--- and with the tombstone at c, if a token of the list is bad
+-- and with the bad dots of the list in the count of c
 abbrev pub raised : Rows → List Dot → Dot → Rows
 raised T list c q =
-    if list_any (λ e. bad_in (settled T list c e)) list && dot_eq c q
-    then with_dead (settled T list c q)
+    if dot_eq c q then with_count (settled T list c q) (count_in (T c) + bads T list)
     else settled T list c q
 
--- T with the tombstone of the dot's family, if the dot's token is bad
-abbrev pub buried : Rows → Dot → Rows
-buried T at q = if bad_in (T at) && is_dot (code_in (T at)) q then with_dead (T q) else T q
+-- T with no code at each dot of the list
+abbrev pub unsettled : Rows → List Dot → Rows
+unsettled T list q = if has list q then without_code (T q) else T q
+
+-- and with the bad dots of the list out of the count of c
+abbrev pub cleared : Rows → List Dot → Dot → Rows
+cleared T list c q =
+    if dot_eq c q then with_count (unsettled T list q) (count_in (T c) - bads T list)
+    else unsettled T list q
 
 -- ---- the code that a link comes under
 

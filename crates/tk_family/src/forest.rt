@@ -20,13 +20,11 @@ use tk_handle::{Dot, TokenId};
 ///
 /// Contracts see a finite map from dots to links, and a finite set of marked tokens.
 ///
-/// No look-up walks: each dot keeps the code that it is under, and each code keeps whether its
-/// family is dead. With n links and marks, `mark`, `top` and `used` cost O(log n). `put` costs
-/// O(log n) for each dot that it brings under a code and for each link that names such a dot.
-///
-/// `take` costs O(log n) for each dot that hangs below the taken one, for each dot that names the
-/// same dot, and for each member of the family if the family was dead. `unmark` costs O(log n), and
-/// as much for each member of the family if the family was dead.
+/// No look-up walks: each dot keeps the code that it is under, and each code keeps how many dots of
+/// its family are bad. With n links and marks, `mark`, `unmark`, `top` and `used` cost O(log n).
+/// `put` costs O(log n) for each dot that it brings under a code and for each link that names such
+/// a dot. `take` costs O(log n) for each dot that hangs below the taken one, and for each dot that
+/// names the same dot.
 #[derive(Drop)]
 pub struct Forest {
     alloc: Global,
@@ -133,7 +131,7 @@ impl Forest {
         ensures links { self.new.links ≡ self.old.links }
         ensures marks { self.new.marks ≡ set.remove self.old.marks token }
     {
-        unmark_token(&mut self.rows, &mut self.room, token)
+        unmark_token(&mut self.rows, token)
     }
 
     /// Gives memory back that was kept for links that have been removed since.

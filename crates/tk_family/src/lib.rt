@@ -11,8 +11,8 @@
 //! A forest has a row for each dot. `IsForest` of `specs/Kept.antt` states what the rows keep:
 //!
 //! - each dot under a code has the name of that code;
-//! - each code of a dead family has a tombstone, and no other dot of the family has one: what comes
-//!   under the code later is dead by the code's tombstone;
+//! - each code has the number of the bad dots of its family. A dot is bad if its code or refresh
+//!   token is marked, or used twice. The family is dead if the number is not 0;
 //! - each token has the number of links that use it: none, one, or more;
 //! - the dots whose links name a dot hang in a chain from that dot, whether or not they fit. There
 //!   they wait for a dot that has no link yet.
@@ -26,10 +26,11 @@
 //! 1. `Link`; `specs/Families.antt`, the definitions; `specs/Walks.antt`, the walk;
 //! 2. `laws`, each stated in `specs/Laws.antt` and proved in `proofs/`;
 //! 3. `specs/Tops.antt`, `Top` and `Forest`;
-//! 4. `specs/Rows.antt`, `specs/Kept.antt`, `specs/Writes.antt`, `specs/Puts.antt` and
-//!    `specs/Takes.antt`;
+//! 4. `specs/Rows.antt`, `specs/Counts.antt`, `specs/Kept.antt`, `specs/Writes.antt`,
+//!    `specs/Puts.antt` and `specs/Takes.antt`;
 //! 5. `row`, `packed`, `look`, `write`, `gather`, `put`, `mark`, `take`, `find`;
-//!    `proofs/Growth.antt` has the main lemmas of `put`, `proofs/Taking.antt` those of `take`.
+//!    `proofs/Growth.antt` has the main lemmas of `put`, `proofs/Taking.antt` those of `take`,
+//!    `proofs/Counting.antt` those of the counts.
 #![tactic(auto)]
 
 mod find;

@@ -1,12 +1,11 @@
 //! Look-ups of one row each.
 
 ghost use Rattle.std.specs.Prelude.{◌≡◌};
-ghost use Rattle.std.specs.List.{list_any};
-ghost use Rattle.tk_family.specs.Rows.{table, link_in, code_in, dead_in, first_in, next_in};
-ghost use Rattle.tk_family.specs.Rows.{marked_in, used_in, bad_in};
+ghost use Rattle.tk_family.specs.Rows.{table, link_in, code_in, count_in, dead_in, first_in};
+ghost use Rattle.tk_family.specs.Rows.{next_in, marked_in, used_in, bad_in};
 ghost use Rattle.tk_family.specs.Puts.{fits_at};
 ghost use Rattle.tk_family.specs.Walks.{fits_over};
-ghost use Rattle.tk_family.specs.Writes.{is_blank_row};
+ghost use Rattle.tk_family.specs.Writes.{is_blank_row, bads};
 
 use crate::link::{Link, fits};
 use crate::packed::PackedRow;
@@ -77,14 +76,21 @@ pub(crate) fn is_blank_at(rows: &DotMap<PackedRow>, dot: Dot) -> bool
     }
 }
 
+/// Returns how many dots of the family of the code at a dot are bad.
+pub(crate) fn count_at(rows: &DotMap<PackedRow>, dot: Dot) -> u64
+    ensures { result ≡ count_in (table rows.now dot) }
+{
+    match rows.get(dot) {
+        Some(row) => row.unpack().bad,
+        None => 0,
+    }
+}
+
 /// Returns whether the family of the code at a dot is dead.
 pub(crate) fn dead_at(rows: &DotMap<PackedRow>, dot: Dot) -> bool
     ensures { result ≡ dead_in (table rows.now dot) }
 {
-    match rows.get(dot) {
-        Some(row) => row.unpack().dead,
-        None => false,
-    }
+    count_at(rows, dot) > 0
 }
 
 /// Returns whether a link uses the token of a kind at a dot.
@@ -132,11 +138,11 @@ pub(crate) fn is_bad(rows: &DotMap<PackedRow>, at: Dot) -> bool
     }
 }
 
-/// Returns whether a list has a dot whose code or refresh token is marked, or used twice.
-pub(crate) fn is_any_bad(rows: &DotMap<PackedRow>, list: &[Dot]) -> bool
-    ensures { result ≡ list_any (λ q. bad_in (table rows.now q)) list.now }
+/// Returns how many dots of a list have a code or refresh token that is marked, or used twice.
+pub(crate) fn bad_among(rows: &DotMap<PackedRow>, list: &[Dot]) -> u64
+    ensures { result ≡ bads (table rows.now) list.now }
 {
-    list.iter().any(|at| is_bad(rows, *at))
+    list.iter().filter(|at| is_bad(rows, **at)).count() as u64
 }
 
 /// Returns whether the link at a dot fits the link above it.

@@ -6,9 +6,10 @@ ghost use Rattle.tk_family.specs.Kept.{IsForest};
 ghost use Rattle.tk_family.specs.Puts.{MarksOne, NothingSeen};
 ghost use Rattle.tk_family.specs.Rows.{table, links_of};
 
+use crate::look::is_bad;
 use crate::packed::PackedRow;
 use crate::put::reserve;
-use crate::write::{add_row, bury, set_marked};
+use crate::write::{add_row, recount, set_marked};
 use std::alloc::AllocError;
 use tk_dots::DotMap;
 use tk_handle::{Dot, TokenId};
@@ -23,8 +24,9 @@ fn mark_token(rows: &mut DotMap<PackedRow>, token: TokenId) -> Result<(), AllocE
     ensures same_len { IsSome (table rows.old token.dot) → map.len rows.new ≡ map.len rows.old }
 {
     add_row(rows, token.dot)?;
+    let was = is_bad(rows, token.dot);
     set_marked(rows, token.dot, token.kind);
-    bury(rows, token.dot);
+    recount(rows, token.dot, was);
     Ok(())
 }
 

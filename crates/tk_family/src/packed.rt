@@ -13,20 +13,20 @@ enum Form {
     Rotates,
 }
 
-/// A row, in 56 bytes; a `Row` has 120. An absent dot has the serial 0. Contracts see the row.
+/// A row, in 56 bytes; a `Row` has 128. An absent dot has the serial 0. Contracts see the row.
 #[derive(Drop)]
 pub(crate) struct PackedRow {
     named_serial: u64,
     code_serial: u64,
     first_serial: u64,
     next_serial: u64,
+    bad: u64,
     named_region: u16,
     code_region: u16,
     first_region: u16,
     next_region: u16,
     generation: u16,
     form: Form,
-    dead: bool,
     marked_code: bool,
     marked_access: bool,
     marked_refresh: bool,
@@ -43,7 +43,7 @@ impl Model for PackedRow {
     ghost view = { λ p. record {
       link = link_from p.form (dot_from p.named_region p.named_serial) p.generation;
       code = dot_from p.code_region p.code_serial;
-      dead = p.dead;
+      bad = p.bad;
       marked_code = p.marked_code;
       marked_access = p.marked_access;
       marked_refresh = p.marked_refresh;
@@ -150,13 +150,13 @@ impl PackedRow {
             code_serial,
             first_serial,
             next_serial,
+            bad: row.bad,
             named_region,
             code_region,
             first_region,
             next_region,
             generation: generation_in(&row.link),
             form: form_of(&row.link),
-            dead: row.dead,
             marked_code: row.marked_code,
             marked_access: row.marked_access,
             marked_refresh: row.marked_refresh,
@@ -175,7 +175,7 @@ impl PackedRow {
                 self.generation,
             ),
             code: dot_of(self.code_region, self.code_serial),
-            dead: self.dead,
+            bad: self.bad,
             marked_code: self.marked_code,
             marked_access: self.marked_access,
             marked_refresh: self.marked_refresh,

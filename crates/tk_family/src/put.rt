@@ -3,9 +3,10 @@
 ghost use Rattle.std.specs.FinMap as map;
 ghost use Rattle.std.specs.Prelude.{◌≡◌, ◌≤◌, ◌+◌, vec_capacity, true, false, None, OnOk, OnErr};
 ghost use Rattle.std.specs.Prelude.{IfOk, IsSome, [], IsSorted};
+ghost use Rattle.tk_family.specs.Counts.{IsCounted};
 ghost use Rattle.tk_family.specs.Families.{named_by};
 ghost use Rattle.tk_family.specs.Kept.{IsForest};
-ghost use Rattle.tk_family.specs.Puts.{Gathers, Puts, NothingSeen};
+ghost use Rattle.tk_family.specs.Puts.{Gathers, Hung, Puts, NothingSeen};
 ghost use Rattle.tk_family.specs.Rows.{table, links_of};
 ghost use Rattle.tk_family.specs.Writes.{chain_code};
 ghost use Rattle.tk_handle.specs.Dot.{dot_cmp};
@@ -13,9 +14,9 @@ ghost use Rattle.tk_handle.specs.declared.dot.Dot.{Dot as the_dot};
 
 use crate::gather::gather;
 use crate::link::{Link, named};
-use crate::look::{code_at, fits_above};
+use crate::look::{code_at, fits_above, is_bad};
 use crate::packed::PackedRow;
-use crate::write::{add_row, bury, hang, raise};
+use crate::write::{add_row, countable, hang, raise, recount};
 use std::alloc::{AllocError, Global};
 use tk_dots::DotMap;
 use tk_handle::Dot;
@@ -77,6 +78,27 @@ fn answer(
     Ok(dots)
 }
 
+/// Writes a link, and puts it into the chain of the dot that it names. If that makes the dot bad,
+/// the dot's code counts the dot.
+fn hang_counted(rows: &mut DotMap<PackedRow>, dot: Dot, link: &Link)
+    requires forest { IsForest (table rows.old) }
+    requires free { links_of (table rows.old) dot ≡ None }
+    requires own { IsSome (table rows.old dot) }
+    requires named { (p : the_dot) → named_by link.now ≡ Some p → IsSome (table rows.old p) }
+    ensures hung { Hung (table rows.old) (table rows.new) dot link.now }
+    ensures counted { IsCounted (table rows.new) }
+    ensures len { map.len rows.new ≡ map.len rows.old }
+{
+    match named(link) {
+        Some(above) => {
+            let was = is_bad(rows, above);
+            hang(rows, dot, link);
+            recount(rows, above, was);
+        }
+        None => hang(rows, dot, link),
+    }
+}
+
 /// Writes a link and all that follows from it. Takes no memory.
 fn write_put(rows: &mut DotMap<PackedRow>, dot: Dot, link: &Link, code: Option<Dot>, dots: &[Dot])
     requires forest { IsForest (table rows.old) }
@@ -89,12 +111,10 @@ fn write_put(rows: &mut DotMap<PackedRow>, dot: Dot, link: &Link, code: Option<D
     ensures puts { Puts (table rows.old) (table rows.new) dot link.now dots.now }
     ensures len { map.len rows.new ≡ map.len rows.old }
 {
-    hang(rows, dot, link);
+    hang_counted(rows, dot, link);
     if let Some(code) = code {
+        countable(rows);
         raise(rows, dots, code);
-    }
-    if let Some(above) = named(link) {
-        bury(rows, above);
     }
 }
 

@@ -82,8 +82,9 @@ pub(crate) struct Row {
     pub link: Option<Link>,
     /// The code that the dot is under.
     pub code: Option<Dot>,
-    /// At a code: whether its family is dead.
-    pub dead: bool,
+    /// At a code: how many dots of its family are bad, which means that their code or refresh token
+    /// is marked, or used twice.
+    pub bad: u64,
     /// Whether the code at the dot is marked.
     pub marked_code: bool,
     /// Whether the access token at the dot is marked.
@@ -101,10 +102,10 @@ pub(crate) struct Row {
 }
 
 impl Row {
-    ghost use Rattle.tk_family.specs.Writes.{blank, is_blank, with_code, with_dead, with_put};
+    ghost use Rattle.tk_family.specs.Writes.{blank, is_blank, with_code, with_count, with_put};
     ghost use Rattle.tk_family.specs.Writes.{with_redeemer, with_rotator, with_marked};
-    ghost use Rattle.tk_family.specs.Writes.{without_code, without_dead, without_users};
-    ghost use Rattle.tk_family.specs.Writes.{without_link, without_mark};
+    ghost use Rattle.tk_family.specs.Writes.{without_code, without_users, without_link};
+    ghost use Rattle.tk_family.specs.Writes.{without_mark};
 
     /// Returns a row that is blank but for the link at its dot, if there is one.
     pub(crate) fn new(link: Option<Link>) -> Row
@@ -113,7 +114,7 @@ impl Row {
         Row {
             link,
             code: None,
-            dead: false,
+            bad: 0,
             marked_code: false,
             marked_access: false,
             marked_refresh: false,
@@ -130,7 +131,7 @@ impl Row {
     {
         self.link.is_none()
             && self.code.is_none()
-            && !self.dead
+            && self.bad == 0
             && !self.marked_code
             && !self.marked_access
             && !self.marked_refresh
@@ -149,12 +150,12 @@ impl Row {
         row
     }
 
-    /// Returns the row, as the row of a code whose family is dead.
-    pub(crate) fn with_dead(&self) -> Row
-        ensures { with_dead (Some self.now) ≡ Some result }
+    /// Returns the row, as the row of a code whose family has `count` bad dots.
+    pub(crate) fn with_count(&self, count: u64) -> Row
+        ensures { with_count (Some self.now) count ≡ Some result }
     {
         let mut row = *self;
-        row.dead = true;
+        row.bad = count;
         row
     }
 
@@ -207,15 +208,6 @@ impl Row {
     {
         let mut row = *self;
         row.code = None;
-        row
-    }
-
-    /// Returns the row, as the row of a code whose family is alive.
-    pub(crate) fn without_dead(&self) -> Row
-        ensures { without_dead (Some self.now) ≡ Some result }
-    {
-        let mut row = *self;
-        row.dead = false;
         row
     }
 

@@ -3,24 +3,22 @@
 //! Nothing here takes memory: the caller passes a list that has room for the dots of all rows.
 
 ghost use Rattle.std.specs.FinMap as map;
-ghost use Rattle.std.specs.Prelude.{◌≡◌, ◌≤◌, Some, IsSome, vec_capacity};
+ghost use Rattle.std.specs.Prelude.{◌≡◌, ◌≢◌, ◌≤◌, Some, None, IsSome, vec_capacity};
+ghost use Rattle.tk_family.specs.Counts.{IsCount, IsCounted};
 ghost use Rattle.tk_family.specs.declared.link.Link.{Link as the_link};
 ghost use Rattle.tk_family.specs.Dots.{dot_eq};
 ghost use Rattle.tk_family.specs.Kept.{Hangs, IsForest};
 ghost use Rattle.tk_family.specs.Puts.{NothingSeen};
-ghost use Rattle.tk_family.specs.Rows.{table, link_in, links_of, marks_of};
-ghost use Rattle.tk_family.specs.Takes.{IsSettled, Unhangs, Unlinks, Clears, Revives, Takes};
-ghost use Rattle.tk_family.specs.Takes.{Unmarks};
+ghost use Rattle.tk_family.specs.Rows.{table, link_in, code_in, count_in, blamed_in, links_of};
+ghost use Rattle.tk_family.specs.Takes.{IsHung, Unhangs, Unlinks, Clears, Takes, Unmarks};
 ghost use Rattle.tk_family.specs.Writes.{hung};
 ghost use Rattle.tk_handle.specs.declared.dot.Dot.{Dot as the_dot};
 
 use crate::gather::gather_into;
 use crate::link::{Link, named};
-use crate::look::{
-    code_at, dead_at, first_at, is_any_bad, is_blank_at, link_at, marked_at, next_at,
-};
+use crate::look::{code_at, first_at, is_bad, is_blank_at, link_at, marked_at, next_at};
 use crate::packed::PackedRow;
-use crate::write::{clear, drop_row, hang, set_alive, set_bare, set_unmarked, set_unnamed};
+use crate::write::{clear, drop_row, hang, recount, set_bare, set_unmarked, set_unnamed};
 use tk_dots::DotMap;
 use tk_handle::{Dot, TokenId};
 
@@ -62,67 +60,40 @@ fn unhang(rows: &mut DotMap<PackedRow>, above: Dot, dot: Dot)
     }
 }
 
-/// Removes the link at a dot. The codes that the dots below it are under stay.
+/// Removes the link at a dot that is under no code. The codes in the other rows stay.
 fn unlink(rows: &mut DotMap<PackedRow>, dot: Dot, link: &Link)
-    requires forest { IsForest (table rows.old) }
+    requires hung { IsHung (table rows.old) }
     requires here { links_of (table rows.old) dot ≡ Some link.now }
+    requires alone { code_in (table rows.old dot) ≡ None }
+    requires counted { IsCounted (table rows.old) }
+    requires coded { (q : the_dot) (c : the_dot)
+        → code_in (table rows.old q) ≡ Some c → links_of (table rows.old) c ≡ Some Link.Code }
     ensures unlinks { Unlinks (table rows.old) (table rows.new) dot }
+    ensures counted { (c : the_dot) → c ≢ dot
+        → IsCount (λ q. blamed_in (table rows.new q)) c (count_in (table rows.new c)) }
     ensures len { map.len rows.new ≡ map.len rows.old }
 {
     if let Some(above) = named(link) {
+        let was = is_bad(rows, above);
         unhang(rows, above, dot);
+        recount(rows, above, was);
     }
     set_bare(rows, dot);
 }
 
-/// Writes that a dot, and what hung below it, is under no code.
-fn clear_below(rows: &mut DotMap<PackedRow>, room: &mut Vec<Dot>, dot: Dot, link: &Link)
-    requires hung { (p : the_dot) → Hangs (table rows.old) p }
-    requires row { IsSome (table rows.old dot) }
-    requires other { (k : the_link) → links_of (table rows.old) dot ≡ Some k → k ≡ link.now }
+/// Writes that a dot, and what hangs below it, is under no code. The dot is under `code`.
+fn clear_below(rows: &mut DotMap<PackedRow>, room: &mut Vec<Dot>, dot: Dot, link: &Link, code: Dot)
+    requires forest { IsForest (table rows.old) }
+    requires here { links_of (table rows.old) dot ≡ Some link.now }
+    requires code { code_in (table rows.old dot) ≡ Some code }
     requires room { map.len rows.old ≤ vec_capacity room.old }
-    ensures clears { Clears (table rows.old) (table rows.new) dot link.now }
+    ensures clears { Clears (table rows.old) (table rows.new) dot link.now code }
     ensures len { map.len rows.new ≡ map.len rows.old }
     ensures capacity { vec_capacity room.old ≤ vec_capacity room.new }
 {
     room.clear();
     match gather_into(rows, dot, link, room) {
-        Ok(()) => clear(rows, room.as_slice()),
-        Err(_) => unreachable!(),
-    }
-}
-
-/// Removes the tombstone of a dot's family, if no token of the family is bad.
-fn revive(rows: &mut DotMap<PackedRow>, room: &mut Vec<Dot>, at: Dot)
-    requires settled { IsSettled (table rows.old) }
-    requires room { map.len rows.old ≤ vec_capacity room.old }
-    ensures revives { Revives (table rows.old) (table rows.new) at }
-    ensures len { map.len rows.new ≡ map.len rows.old }
-    ensures capacity { vec_capacity room.old ≤ vec_capacity room.new }
-{
-    if let Some(code) = code_at(rows, at) {
-        if dead_at(rows, code) {
-            revive_family(rows, room, code);
-        }
-    }
-}
-
-/// Removes the tombstone at a code, if no token of its family is bad.
-fn revive_family(rows: &mut DotMap<PackedRow>, room: &mut Vec<Dot>, code: Dot)
-    requires settled { IsSettled (table rows.old) }
-    requires code { links_of (table rows.old) code ≡ Some Link.Code }
-    requires room { map.len rows.old ≤ vec_capacity room.old }
-    ensures revives { Revives (table rows.old) (table rows.new) code }
-    ensures len { map.len rows.new ≡ map.len rows.old }
-    ensures capacity { vec_capacity room.old ≤ vec_capacity room.new }
-{
-    room.clear();
-    match gather_into(rows, code, &Link::Code, room) {
-        Ok(()) => {
-            if !is_any_bad(rows, room.as_slice()) {
-                set_alive(rows, code);
-            }
-        }
+        Ok(()) => clear(rows, room.as_slice(), code),
         Err(_) => unreachable!(),
     }
 }
@@ -137,14 +108,10 @@ fn take_link(rows: &mut DotMap<PackedRow>, room: &mut Vec<Dot>, dot: Dot, link: 
     ensures len { map.len rows.new ≡ map.len rows.old }
     ensures capacity { vec_capacity room.old ≤ vec_capacity room.new }
 {
-    let code = code_at(rows, dot);
+    if let Some(code) = code_at(rows, dot) {
+        clear_below(rows, room, dot, link, code);
+    }
     unlink(rows, dot, link);
-    if code.is_some() {
-        clear_below(rows, room, dot, link);
-    }
-    if let Some(above) = named(link) {
-        revive(rows, room, above);
-    }
 }
 
 /// Removes the row at a dot, if it is blank.
@@ -189,16 +156,15 @@ pub(crate) fn take_at(rows: &mut DotMap<PackedRow>, room: &mut Vec<Dot>, dot: Do
 
 /// Removes a mark. A family that was dead only because of the mark is alive. A token that is not
 /// marked costs one look-up.
-pub(crate) fn unmark_token(rows: &mut DotMap<PackedRow>, room: &mut Vec<Dot>, token: TokenId)
-    requires forest { IsForest (table rows.old) }
-    requires room { map.len rows.old ≤ vec_capacity room.old }
+pub(crate) fn unmark_token(rows: &mut DotMap<PackedRow>, token: TokenId)
+    requires { IsForest (table rows.old) }
     ensures unmarks { Unmarks (table rows.old) (table rows.new) token }
     ensures len { map.len rows.new ≡ map.len rows.old }
-    ensures capacity { vec_capacity room.old ≤ vec_capacity room.new }
 {
     if !marked_at(rows, token.dot, token.kind) {
         return;
     }
+    let was = is_bad(rows, token.dot);
     set_unmarked(rows, token.dot, token.kind);
-    revive(rows, room, token.dot);
+    recount(rows, token.dot, was);
 }

@@ -1,18 +1,19 @@
 //! Writes of rows. Only `add_row` takes memory.
 
 ghost use Rattle.std.specs.FinMap as map;
-ghost use Rattle.std.specs.Prelude.{◌≡◌, ◌≤◌, ◌+◌, None, OnOk, OnErr, IsOk, IsSome, if◌then◌else◌};
-ghost use Rattle.std.specs.Prelude.{option_map};
+ghost use Rattle.std.specs.Prelude.{◌≡◌, ◌<◌, ◌≤◌, ◌+◌, ◌^◌, Some, None, OnOk, OnErr, IsOk, IsSome};
+ghost use Rattle.std.specs.Prelude.{if◌then◌else◌, option_map};
+ghost use Rattle.tk_family.specs.Counts.{IsCounted, IsCountedAs, AlikeButCount};
 ghost use Rattle.tk_family.specs.Dots.{dot_eq};
-ghost use Rattle.tk_family.specs.Rows.{table};
-ghost use Rattle.tk_family.specs.Writes.{or_blank, with_code, with_dead, with_put, with_redeemer};
-ghost use Rattle.tk_family.specs.Writes.{with_rotator, with_marked, without_code, without_dead};
-ghost use Rattle.tk_family.specs.Writes.{without_users, without_link, without_mark, hung, settled};
-ghost use Rattle.tk_family.specs.Writes.{cleared, raised, buried};
+ghost use Rattle.tk_family.specs.Rows.{table, code_in, count_in};
+ghost use Rattle.tk_family.specs.Writes.{or_blank, with_code, with_count, with_put, with_redeemer};
+ghost use Rattle.tk_family.specs.Writes.{with_rotator, with_marked, without_code, without_users};
+ghost use Rattle.tk_family.specs.Writes.{without_link, without_mark, hung, bads, settled, raised};
+ghost use Rattle.tk_family.specs.Writes.{unsettled, cleared};
 ghost use Rattle.tk_handle.specs.declared.dot.Dot.{Dot as the_dot};
 
 use crate::link::Link;
-use crate::look::{code_at, first_at, is_any_bad, is_bad};
+use crate::look::{bad_among, code_at, count_at, first_at, is_bad};
 use crate::packed::PackedRow;
 use crate::row::Row;
 use std::alloc::AllocError;
@@ -58,15 +59,15 @@ fn set_code(rows: &mut DotMap<PackedRow>, at: Dot, code: Dot)
     }
 }
 
-/// Writes a tombstone: the family of the code at a dot is dead.
-fn set_dead(rows: &mut DotMap<PackedRow>, at: Dot)
+/// Writes how many dots of the family of the code at a dot are bad.
+fn set_count(rows: &mut DotMap<PackedRow>, at: Dot, count: u64)
     ensures rows { (q : the_dot)
         → table rows.new q ≡
-        (if dot_eq at q then with_dead (table rows.old q) else table rows.old q) }
+        (if dot_eq at q then with_count (table rows.old q) count else table rows.old q) }
     ensures len { map.len rows.new ≡ map.len rows.old }
 {
     if let Some(row) = rows.get(at) {
-        let changed = row.unpack().with_dead();
+        let changed = row.unpack().with_count(count);
         put_row(rows, at, changed);
     }
 }
@@ -136,19 +137,6 @@ fn set_uncoded(rows: &mut DotMap<PackedRow>, at: Dot)
     }
 }
 
-/// Removes a tombstone.
-pub(crate) fn set_alive(rows: &mut DotMap<PackedRow>, at: Dot)
-    ensures rows { (q : the_dot)
-        → table rows.new q ≡
-        (if dot_eq at q then without_dead (table rows.old q) else table rows.old q) }
-    ensures len { map.len rows.new ≡ map.len rows.old }
-{
-    if let Some(row) = rows.get(at) {
-        let changed = row.unpack().without_dead();
-        put_row(rows, at, changed);
-    }
-}
-
 /// Writes that no link names a dot.
 pub(crate) fn set_unnamed(rows: &mut DotMap<PackedRow>, at: Dot)
     ensures rows { (q : the_dot)
@@ -190,8 +178,8 @@ pub(crate) fn set_unmarked(rows: &mut DotMap<PackedRow>, at: Dot, kind: Kind)
 }
 
 /// Writes that the dots of a list are under no code.
-pub(crate) fn clear(rows: &mut DotMap<PackedRow>, list: &[Dot])
-    ensures rows { (q : the_dot) → table rows.new q ≡ cleared (table rows.old) list.now q }
+fn unsettle(rows: &mut DotMap<PackedRow>, list: &[Dot])
+    ensures rows { (q : the_dot) → table rows.new q ≡ unsettled (table rows.old) list.now q }
     ensures len { map.len rows.new ≡ map.len rows.old }
 {
     for at in list {
@@ -199,20 +187,52 @@ pub(crate) fn clear(rows: &mut DotMap<PackedRow>, list: &[Dot])
     }
 }
 
-/// Writes a tombstone at the code of a dot, if the dot's token is bad.
-pub(crate) fn bury(rows: &mut DotMap<PackedRow>, at: Dot)
-    ensures rows { (q : the_dot) → table rows.new q ≡ buried (table rows.old) at q }
+/// Writes that the dots of a list, which are under a code, are under no code. The code does not
+/// count the bad ones among them any more.
+pub(crate) fn clear(rows: &mut DotMap<PackedRow>, list: &[Dot], code: Dot)
+    requires { bads (table rows.old) list.now ≤ count_in (table rows.old code) }
+    ensures rows { (q : the_dot) → table rows.new q ≡ cleared (table rows.old) list.now code q }
     ensures len { map.len rows.new ≡ map.len rows.old }
 {
-    if is_bad(rows, at) {
-        if let Some(code) = code_at(rows, at) {
-            set_dead(rows, code);
-        }
+    let count = count_at(rows, code) - bad_among(rows, list);
+    unsettle(rows, list);
+    set_count(rows, code, count);
+}
+
+/// States that the number of rows is in range.
+pub(crate) fn countable(rows: &DotMap<PackedRow>)
+    ensures { map.len rows.now < 2 ^ 64 }
+{
+    let _count = rows.len();
+}
+
+/// Returns 1 if something holds, and 0 if not.
+fn one_if(holds: bool) -> u64
+    ensures { result ≡ (if holds then 1 else 0) }
+{
+    if holds { 1 } else { 0 }
+}
+
+/// Counts a dot anew at the code that it is under: whether the dot is bad may have changed since
+/// the counts were right. `was` is whether the dot was bad then.
+pub(crate) fn recount(rows: &mut DotMap<PackedRow>, at: Dot, was: bool)
+    requires counted { IsCountedAs (table rows.old) at was }
+    requires coded { (c : the_dot)
+        → code_in (table rows.old at) ≡ Some c → IsSome (table rows.old c) }
+    ensures alike { AlikeButCount (table rows.old) (table rows.new) }
+    ensures counted { IsCounted (table rows.new) }
+    ensures len { map.len rows.new ≡ map.len rows.old }
+{
+    countable(rows);
+    if let Some(code) = code_at(rows, at) {
+        let others = count_at(rows, code) - one_if(was);
+        let count = others + one_if(is_bad(rows, at));
+        set_count(rows, code, count);
     }
 }
 
 /// Writes the code at each dot of a list.
-pub(crate) fn settle(rows: &mut DotMap<PackedRow>, list: &[Dot], code: Dot)
+fn settle(rows: &mut DotMap<PackedRow>, list: &[Dot], code: Dot)
     ensures rows { (q : the_dot) → table rows.new q ≡ settled (table rows.old) list.now code q }
     ensures len { map.len rows.new ≡ map.len rows.old }
 {
@@ -221,16 +241,15 @@ pub(crate) fn settle(rows: &mut DotMap<PackedRow>, list: &[Dot], code: Dot)
     }
 }
 
-/// Writes the code at each dot of a list, and a tombstone at the code if one of their tokens is
-/// bad.
+/// Writes the code at each dot of a list. The code counts the bad ones among them.
 pub(crate) fn raise(rows: &mut DotMap<PackedRow>, list: &[Dot], code: Dot)
+    requires { count_in (table rows.old code) + bads (table rows.old) list.now < 2 ^ 64 }
     ensures rows { (q : the_dot) → table rows.new q ≡ raised (table rows.old) list.now code q }
     ensures len { map.len rows.new ≡ map.len rows.old }
 {
+    let count = count_at(rows, code) + bad_among(rows, list);
     settle(rows, list, code);
-    if is_any_bad(rows, list) {
-        set_dead(rows, code);
-    }
+    set_count(rows, code, count);
 }
 
 /// Writes a link, and puts it into the chain of the dot that it names.

@@ -1,6 +1,9 @@
 pub mod Commands
 pub mod Connections
 pub mod EventWords
+pub mod Growing
+pub mod KeptLogs
+pub mod KeptSlots
 pub mod Loads
 pub mod OneSet
 pub mod Runs

@@ -3,7 +3,7 @@
 --   with_some_log   connections with a log are connections with some log
 --   has_run         a service has run, from its start on
 --   service_run     a service has run, from its arguments on
-use Rattle.std.proofs.Common.{ℕ, Option, List, Result, Ok, Err}
+use Rattle.std.proofs.Common.{ℕ, Bool, Option, List, Result, Ok, Err}
 use Rattle.std.specs.Prelude.{IfErr, OnOk}
 use Rattle.rand_chacha.specs.ChaCha.{ChaCha}
 use Rattle.tk_edge.specs.EdgeFields.{EdgeFields}
@@ -35,15 +35,15 @@ pub listen_faults : {T : Type 0} (service : Service) (r : Result T Fault) → If
 listen_faults service (Ok x) h = tt
 listen_faults service (Err fault) h = listen_fault service fault h
 
-pub with_some_log : {T : Type 0} (words : ChaCha) (requests : Option ℕ) (edge end : EdgeFields) (log log_after told told_after : Option (List ℕ)) (r : Result T Fault)
-    → OnOk r (ServesAll words requests (record { edge = edge; log = log; faults = told }) (record { edge = end; log = log_after; faults = told_after }))
-    → OnOk r (ServesWithLog words requests edge told end told_after)
-with_some_log words requests edge end log log_after told told_after (Ok x) h = (record { before = log; after = log_after }, h)
-with_some_log words requests edge end log log_after told told_after (Err fault) h = tt
+pub with_some_log : {T : Type 0} (words : ChaCha) (requests : Option ℕ) (log_taken : Bool) (edge end : EdgeFields) (log log_after told told_after : Option (List ℕ)) (r : Result T Fault)
+    → OnOk r (ServesAll words requests log_taken (record { edge = edge; log = log; faults = told }) (record { edge = end; log = log_after; faults = told_after }))
+    → OnOk r (ServesWithLog words requests log_taken edge told end told_after)
+with_some_log words requests log_taken edge end log log_after told told_after (Ok x) h = (record { before = log; after = log_after }, h)
+with_some_log words requests log_taken edge end log log_after told told_after (Err fault) h = tt
 
 pub has_run : {T : Type 0} (service : Service) (start : EdgeFields) (words : ChaCha) (dropped : ℕ) (region : RegionFields) (end : EdgeFields) (output faults : Change) (r : Result T Fault)
     → LoadsOld service.load start.region (Ok dropped) region → OnOk r (Announces dropped service.port output.before output.after)
-    → OnOk r (ServesWithLog words service.requests (with_region start region) faults.before end faults.after)
+    → OnOk r (ServesWithLog words service.requests service.log_taken (with_region start region) faults.before end faults.after)
     → OnOk r (HasRun service start words output faults)
 has_run service start words dropped region end output faults (Ok x) loaded announced served =
     record { dropped = dropped; region = region; loaded = loaded; announced = announced; end = end; served = served }

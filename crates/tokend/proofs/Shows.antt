@@ -1,14 +1,14 @@
 -- What the program does if clap refuses the arguments, by the kind of clap's error.
-use Rattle.std.proofs.Common.{◌≡◌, ℕ, List, Option, Result, Ok, Err, subst, sym, ◌∙◌, inl, inr}
-use Rattle.std.specs.Prelude.{◌⊎◌, ◌≢◌, IfErr, OnOk}
+use Rattle.std.proofs.Common.{◌≡◌, ℕ, true, false, List, Option, Result, Ok, Err, subst, sym, ◌∙◌, inl, inr}
+use Rattle.std.specs.Prelude.{◌⊎◌, ◌≢◌, Bool, IfErr, OnOk, if◌then◌else◌}
 use Rattle.std.specs.Io.KnownBytes.{Keeps}
-use Rattle.clap.specs.Words.{Text, IsAmong, fault_of, kind_of}
+use Rattle.clap.specs.Words.{Text, IsAmong, fault_of, kind_of, subcommand_of}
 use Rattle.clap.specs.declared.error.Error.{Error}
 use Rattle.clap.specs.declared.error.kind.ErrorKind.{ErrorKind}
-use Rattle.clap.specs.declared.error.kind.ErrorKind.TheVariants.{DisplayHelp, DisplayVersion, MissingSubcommand, OutOfMemory}
+use Rattle.clap.specs.declared.error.kind.ErrorKind.TheVariants.{DisplayHelp, DisplayVersion, MissingRequiredArgument, MissingSubcommand, OutOfMemory}
 use Rattle.tokend.specs.CommandLine.{tokend_app}
 use Rattle.tokend.specs.ProgramRun.{IsDone, IsFaultFor, Leaves}
-use Rattle.tokend.specs.Task.{AsksToShow, IsNoShow, IsRefusalOf}
+use Rattle.tokend.specs.Task.{AsksToShow, IsNoShow, IsRefusalOf, lacks_log, missing_kind}
 use Rattle.tokend.specs.declared.fault.Fault.{Fault}
 use Rattle.tokend.specs.declared.fault.Fault.TheVariants.{Memory, Output, Words}
 
@@ -25,24 +25,43 @@ abbrev Refuses : Error → Option (List ℕ) → Option (List ℕ) → Fault →
 Refuses error old new fault = ((fault ≡ Output) × Shows (kind_of error))
     ⊎ (((fault ≡ Memory) ⊎ ((fault ≡ Words error) × (kind_of error ≢ OutOfMemory) × IsNoShow (kind_of error))) × Keeps old new)
 
-among : (words : List Text) (kind k : ErrorKind) → Ends words kind → kind ≡ k → (k ≡ OutOfMemory → ⊥) → (k ≡ MissingSubcommand → ⊥)
+-- the kind of arguments that name no task is neither help nor the version
+missing_else : (b : Bool) (k : ErrorKind) → (if b then MissingRequiredArgument else MissingSubcommand) ≡ k → (k ≡ MissingRequiredArgument) ⊎ (k ≡ MissingSubcommand)
+missing_else true k e = inl (sym e)
+missing_else false k e = inr (sym e)
+
+no_missing : (words : List Text) (k : ErrorKind) → (k ≡ MissingRequiredArgument → ⊥) → (k ≡ MissingSubcommand → ⊥) → missing_kind (subcommand_of tokend_app words) ≡ k → ⊥
+no_missing words k not_argument not_missing e =
+    elim (missing_else (lacks_log (subcommand_of tokend_app words)) k e) [
+      | inl is ↦ not_argument is
+      | inr is ↦ not_missing is
+    ]
+
+among : (words : List Text) (kind k : ErrorKind) → Ends words kind → kind ≡ k → (k ≡ OutOfMemory → ⊥) → (k ≡ MissingRequiredArgument → ⊥) → (k ≡ MissingSubcommand → ⊥)
     → IsAmong k (fault_of tokend_app words)
-among words kind k (inl memory) e not_memory not_missing = absurd (not_memory (sym e ∙ memory))
-among words kind k (inr (inl found)) e not_memory not_missing = subst (λ q. IsAmong q (fault_of tokend_app words)) e found
-among words kind k (inr (inr missing)) e not_memory not_missing = absurd (not_missing (sym e ∙ missing.0))
+among words kind k (inl memory) e not_memory not_argument not_missing = absurd (not_memory (sym e ∙ memory))
+among words kind k (inr (inl found)) e not_memory not_argument not_missing = subst (λ q. IsAmong q (fault_of tokend_app words)) e found
+among words kind k (inr (inr missing)) e not_memory not_argument not_missing =
+    absurd (no_missing words k not_argument not_missing (sym missing.0 ∙ e))
 
 asks_to_show : (words : List Text) (kind : ErrorKind) → Ends words kind → Shows kind → AsksToShow words
-asks_to_show words kind ends (inl help) = inl (among words kind DisplayHelp ends help not_memory not_missing)
+asks_to_show words kind ends (inl help) = inl (among words kind DisplayHelp ends help not_memory not_argument not_missing)
   where
     not_memory : DisplayHelp ≡ OutOfMemory → ⊥
     not_memory e = absurd (cc)
 
+    not_argument : DisplayHelp ≡ MissingRequiredArgument → ⊥
+    not_argument e = absurd (cc)
+
     not_missing : DisplayHelp ≡ MissingSubcommand → ⊥
     not_missing e = absurd (cc)
-asks_to_show words kind ends (inr version) = inr (among words kind DisplayVersion ends version not_memory not_missing)
+asks_to_show words kind ends (inr version) = inr (among words kind DisplayVersion ends version not_memory not_argument not_missing)
   where
     not_memory : DisplayVersion ≡ OutOfMemory → ⊥
     not_memory e = absurd (cc)
+
+    not_argument : DisplayVersion ≡ MissingRequiredArgument → ⊥
+    not_argument e = absurd (cc)
 
     not_missing : DisplayVersion ≡ MissingSubcommand → ⊥
     not_missing e = absurd (cc)

@@ -4,17 +4,21 @@
 --   fails_by        clap names its fault in the arguments
 --   refused_by      the reason why clap refused the arguments
 --   asked_by        the matches' task is that of the arguments
-use Rattle.std.proofs.Common.{◌≡◌, ℕ, true, List, [], Option, Some, None, option_map, Result, Ok, Err, inl, inr, refl, sym, ap, subst, ◌∙◌, codes}
-use Rattle.std.specs.Prelude.{string_bytes}
+use Rattle.std.proofs.Common.{◌≡◌, ℕ, Bool, true, false, List, [], Option, Some, None, option_map, Result, Ok, Err, inl, inr, refl, sym, ap, subst, ◌∙◌, codes}
+use Rattle.std.specs.Prelude.{◌&&◌, IsSome, String, is_some, not, string_bytes}
+use Rattle.std.specs.Borrow.{Bor}
+use Rattle.std.specs.Str.{bytes_eq}
 use Rattle.std.specs.Prelude.{◌⊎◌, IfErr, IfNone, IfOk, IfSome}
-use Rattle.clap.specs.Words.{App, HasMatchesOf, Row, Text, FailsBy, fault_of, first_of, is_simple_and_free, kind_of, subcommand_of, subcommand_rows_of}
+use Rattle.clap.specs.Words.{App, HasMatchesOf, Row, Text, FailsBy, fault_of, first_of, first_value, is_simple_and_free, kind_of, rows_of, subcommand_of, subcommand_rows_of}
+use Rattle.clap.proofs.WalkLemmas.{first_value-rows}
+use Rattle.clap.specs.declared.parser.matches.Found.{Found}
 use Rattle.clap.specs.declared.parser.matches.ArgMatches.{ArgMatches}
 use Rattle.clap.specs.declared.error.Error.{Error}
 use Rattle.clap.specs.declared.error.kind.ErrorKind.TheVariants as kind
 use Rattle.tk_handle.specs.Ranges.{greatest_region}
 use Rattle.tk_region.specs.SettingsFields.{greatest_code, greatest_access, greatest_refresh, greatest_family, greatest_cap}
-use Rattle.tokend.specs.CommandLine.{HasNumber, HasNumbers, HasService, greatest_port, tokend_app}
-use Rattle.tokend.specs.Task.{Asks, IsNoService, IsNoTask, IsRefusalOf, IsTask}
+use Rattle.tokend.specs.CommandLine.{HasFlag, HasNumber, HasNumbers, HasService, greatest_port, is_given, tokend_app}
+use Rattle.tokend.specs.Task.{Asks, IsNoService, IsNoTask, IsRefusalOf, IsTask, lacks_log, missing_kind}
 use Rattle.tokend.specs.declared.options.Numbers.{Numbers}
 use Rattle.tokend.specs.declared.options.Service.{Service}
 use Rattle.tokend.specs.declared.options.Task.{Task}
@@ -138,6 +142,38 @@ without_seed rows none service h =
     let both : None ≡ Some (string_bytes service.seed) = sym none ∙ h.seed in
     absurd (cc)
 
+-- bundles taken in are to be logged without a log
+pub without_log : (rows : List Row) (flag : Bool) (log : Option (List ℕ)) → HasFlag rows (codes "log-taken") flag → flag ≡ true
+    → first_of (codes "log") rows ≡ log → log ≡ None → IsNoService rows
+without_log rows flag log given is text none service h = no_log service.log (h.logged (h.log_taken ∙ sym given ∙ is)) (sym (text ∙ none) ∙ h.log)
+  where
+    no_log : {A : Type 0} (l : Option (String A)) → IsSome l → None ≡ option_map string_bytes l → ⊥
+    no_log None some e = cc
+    no_log (Some file) some e = cc
+
+-- the subcommand has the flag, and its log is the one found
+pub lacks_given : (found : Option (Text × List Row)) (rows : List Row) (none : Bool) → option_map (λ p. p.1) found ≡ Some rows
+    → true ≡ is_given (first_of (codes "log-taken") rows) → none ≡ not (is_some (first_of (codes "log") rows)) → none ≡ lacks_log found
+lacks_given None rows none at given is = absurd (cc)
+lacks_given (Some (name, others)) rows none at given is =
+    is ∙ ap (λ b. b && not (is_some (first_of (codes "log") rows))) given
+    ∙ ap (λ r. is_given (first_of (codes "log-taken") r) && not (is_some (first_of (codes "log") r))) (one_rows (Some (name, others)) rows others name at refl)
+
+-- whether a text was found, by the rows
+pub text_missing : (f : Found) (id : Text) (text : Option (Bor Text)) → option_map (λ s. s.now) text ≡ first_value f id → not (is_some text) ≡ not (is_some (first_of id (rows_of f)))
+text_missing f id text at = same text ∙ ap (λ o. not (is_some o)) (at ∙ first_value-rows f id)
+  where
+    same : (t : Option (Bor Text)) → not (is_some t) ≡ not (is_some (option_map (λ s. s.now) t))
+    same None = refl
+    same (Some s) = refl
+
+-- the flag of an option's text
+pub flag_given : (f : Found) (id text : Text) (flag : Bool) → Some text ≡ first_value f id → flag ≡ bytes_eq text (codes "true") → HasFlag (rows_of f) id flag
+flag_given f id text flag at is = is ∙ ap is_given (at ∙ first_value-rows f id)
+
+pub flag_absent : (f : Found) (id : Text) → None ≡ first_value f id → HasFlag (rows_of f) id false
+flag_absent f id at = ap is_given (at ∙ first_value-rows f id)
+
 -- clap finds the subcommand of the program's arguments
 pub found_by : (app : App) (words : List Text) (m : ArgMatches) → app ≡ tokend_app → HasMatchesOf app words m
     → subcommand_rows_of m ≡ subcommand_of tokend_app words
@@ -167,8 +203,8 @@ asked_by words m (Err e) none same h = tt
 -- if the matches have no task, the arguments have no task
 pub unasked_by : (words : List Text) (m : ArgMatches) (r : Result Task Error) → fault_of tokend_app words ≡ []
     → subcommand_rows_of m ≡ subcommand_of tokend_app words
-    → IfErr r (λ e. (kind_of e ≡ kind.OutOfMemory) ⊎ ((kind_of e ≡ kind.MissingSubcommand) × IsNoTask (subcommand_rows_of m)))
+    → IfErr r (λ e. (kind_of e ≡ kind.OutOfMemory) ⊎ ((kind_of e ≡ missing_kind (subcommand_rows_of m)) × IsNoTask (subcommand_rows_of m)))
     → IfErr r (λ e. (kind_of e ≡ kind.OutOfMemory) ⊎ IsRefusalOf words (kind_of e))
 unasked_by words m (Ok task) none same h = tt
 unasked_by words m (Err e) none same (inl memory) = inl memory
-unasked_by words m (Err e) none same (inr missing) = inr (inr (missing.0, none, subst IsNoTask same missing.1))
+unasked_by words m (Err e) none same (inr missing) = inr (inr (missing.0 ∙ ap missing_kind same, none, subst IsNoTask same missing.1))

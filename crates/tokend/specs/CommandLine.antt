@@ -2,10 +2,12 @@
 --   number_rule     an option with a number and a default
 --   range_rule      an option with a number in a range
 --   file_rule       an option with the name of a file
+--   flag_rule       an option without a value
 --   setting_rules   the five settings of a region
 --   service_rules   the options of a service alone
 --   tokend_app      the whole program for clap
 --   IsDecimal       a text that stands for a number
+--   HasFlag         whether an option without a value was given
 --   HasNumbers      clap's matches have these five settings
 --   HasService      clap's matches have this service
 use Rattle.std.specs.Prelude.{
@@ -18,8 +20,10 @@ use Rattle.std.specs.Prelude.{
   ◌++◌,
   Option,
   Some,
+  None,
   IfSome,
   IfNone,
+  IsSome,
   String,
   codes,
   option_map,
@@ -28,6 +32,7 @@ use Rattle.std.specs.Prelude.{
   true,
   false,
 }
+use Rattle.std.specs.Str.{bytes_eq}
 use Rattle.std.specs.Str.Parse.{IsNumeral, digits_value, without_leading_plus}
 use Rattle.clap.specs.Words.{
   App,
@@ -50,6 +55,7 @@ use Rattle.tk_region.specs.SettingsFields.{
   greatest_cap,
 }
 use Rattle.tk_handle.specs.Ranges.{greatest_region}
+use Rattle.clap.specs.declared.builder.action.ArgAction.TheVariants as action
 use Rattle.clap.specs.declared.builder.value_parser.ValueParser.TheVariants as parser
 use Rattle.tokend.specs.declared.command_line.Takes.{Takes}
 use Rattle.tokend.specs.declared.command_line.Takes.TheVariants as takes
@@ -90,8 +96,13 @@ abbrev pub file_rule : Text → Bool → Rule
 file_rule id is_wanted =
     record (new_rule id) { long = Some id; value_names = 1; required = is_wanted }
 
+-- the option `--id`, without a value
+abbrev pub flag_rule : Text → Rule
+flag_rule id = record (new_rule id) { long = Some id; action = Some action.SetTrue }
+
 -- the option of this name with this value
 abbrev pub choice_rule : Text → Takes → Rule
+choice_rule id takes.Nothing = flag_rule id
 choice_rule id (takes.File is_wanted) = file_rule id is_wanted
 choice_rule id (takes.Range least greatest is_wanted) = range_rule id least greatest is_wanted
 choice_rule id (takes.Number greatest default) = number_rule id default.now greatest
@@ -120,13 +131,14 @@ abbrev pub loopback_app : App
 loopback_app = with_rules (new_app (codes "loopback")) setting_rules
 
 -- the options of a service: the region's number, the port and the seed, which are required; the
--- log, the old log and the number of connections, which aren't
+-- log, whether it gets bundles taken in, the old log and the number of connections, which aren't
 abbrev pub service_rules : List Rule
 service_rules =
     range_rule (codes "region") 1 greatest_region true
     ∷ range_rule (codes "port") 0 greatest_port true
     ∷ file_rule (codes "seed") true
     ∷ file_rule (codes "log") false
+    ∷ flag_rule (codes "log-taken")
     ∷ file_rule (codes "load") false
     ∷ range_rule (codes "requests") 0 greatest_requests false
     ∷ []
@@ -165,6 +177,15 @@ HasNumber rows id least greatest n = ReadsNumber rows id n × (least ≤ n) × (
 abbrev pub HasText : {A : Type 0} → List Row → Text → Option (String A) → Type 0
 HasText rows id text = first_of id rows ≡ option_map string_bytes text
 
+-- the text of an option without a value is that of an option that was given
+abbrev pub is_given : Option Text → Bool
+is_given None = false
+is_given (Some text) = bytes_eq text (codes "true")
+
+-- the flag is whether the option under the id, which has no value, was given
+abbrev pub HasFlag : List Row → Text → Bool → Type 0
+HasFlag rows id flag = flag ≡ is_given (first_of id rows)
+
 -- the rows have these five settings, each in its range
 pub record HasNumbers (rows : List Row) (n : Numbers) : Type 0 where
   pub code : HasNumber rows (codes "code") 1 greatest_code n.code
@@ -173,7 +194,8 @@ pub record HasNumbers (rows : List Row) (n : Numbers) : Type 0 where
   pub family : HasNumber rows (codes "family") 1 greatest_family n.family
   pub cap : HasNumber rows (codes "cap") 1 greatest_cap n.cap
 
--- the rows have this service: the settings, each number in its range, and the names of files
+-- the rows have this service: the settings, each number in its range, the names of files, and
+-- whether the log gets bundles taken in, for which there is a log
 pub record HasService (rows : List Row) (s : Service) : Type 0 where
   pub numbers : HasNumbers rows s.numbers
   pub region : HasNumber rows (codes "region") 1 greatest_region s.region
@@ -184,6 +206,8 @@ pub record HasService (rows : List Row) (s : Service) : Type 0 where
   pub seed : HasText rows (codes "seed") (Some s.seed)
   pub log : HasText rows (codes "log") s.log
   pub load : HasText rows (codes "load") s.load
+  pub log_taken : HasFlag rows (codes "log-taken") s.log_taken
+  pub logged : s.log_taken ≡ true → IsSome s.log
 
 -- the settings of these numbers
 abbrev pub settings_of : Numbers → SettingsFields

@@ -1,7 +1,8 @@
 -- What connections by sockets do to an edge, its log and the lines about faults (own). The bytes
 -- that clients sent and were sent are unknown.
 --   IsShutOut       how a connection to a sealed edge may end
---   IsConnection    a connection, at a moment and with six random words, by its result
+--   IsConnection    a connection, at a moment and with six random words, by its result; throughout,
+--                   `log_taken` is whether bundles taken in are logged
 --   Told            what is written of a connection's result
 --   so_many         how many connections are served
 --   AreConnections  connections one after the other, by their results
@@ -15,6 +16,7 @@ use Rattle.std.specs.Prelude.{
   ◌^◌,
   true,
   false,
+  Bool,
   List,
   [],
   ◌∷◌,
@@ -47,10 +49,16 @@ abbrev pub IsShutOut : Result Served Fault → Type 0
 IsShutOut result = IsTurnedAway unknown result ⊎ (result ≡ Err Read)
 
 -- an edge that isn't sealed serves the connection; a sealed edge stays unchanged, and its log, too
-pub record IsConnection (now : ℕ) (words : List ℕ) (old new : EdgeFields) (log : Change)
-    (result : Result Served Fault) : Type 0 where
+pub record IsConnection (now : ℕ) (words : List ℕ) (log_taken : Bool) (old new : EdgeFields)
+    (log : Change) (result : Result Served Fault) : Type 0 where
   pub served : old.sealed ≡ false
-      → IsServed (record { sync = old.sync; known = None; now = now; words = words })
+      → IsServed (record {
+        sync = old.sync;
+        log_taken = log_taken;
+        known = None;
+        now = now;
+        words = words;
+      })
       (record { before = old.region; after = new.region }) log (log.after ≡ log.before) unknown
       new.sealed result
   pub shut : old.sealed ≡ true → (new ≡ old) × (log.after ≡ log.before) × IsShutOut result
@@ -69,11 +77,11 @@ pub record Running : Type 0 where
   pub faults : Option (List ℕ)
 
 -- a connection was served at some moment
-abbrev pub Serves : List ℕ → Running → Result Served Fault → Running → Type 0
-Serves words old end new =
+abbrev pub Serves : List ℕ → Bool → Running → Result Served Fault → Running → Type 0
+Serves words log_taken old end new =
     ((now : ℕ)
-    × IsConnection now words old.edge new.edge (record { before = old.log; after = new.log })
-    end) × Told end old.faults new.faults
+    × IsConnection now words log_taken old.edge new.edge
+    (record { before = old.log; after = new.log }) end) × Told end old.faults new.faults
 
 -- how many connections are served: as many as requested, or without end, for which the greatest
 -- `u64` stands
@@ -81,20 +89,22 @@ abbrev pub so_many : Option ℕ → ℕ
 so_many requests = unwrap_or requests (2 ^ 64 - 1)
 
 -- connections one after the other, each with the next six random words of the generator
-abbrev pub AreConnections : ChaCha → Running → List (Result Served Fault) → Running → Type 0
-AreConnections words old [] new = new ≡ old
-AreConnections words old (end ∷ ends) new =
-    (mid : Running) × Serves (six words) old end mid × AreConnections (past_six words) mid ends new
+abbrev pub AreConnections : ChaCha → Bool → Running → List (Result Served Fault) → Running → Type 0
+AreConnections words log_taken old [] new = new ≡ old
+AreConnections words log_taken old (end ∷ ends) new =
+    (mid : Running) × Serves (six words) log_taken old end mid
+    × AreConnections (past_six words) log_taken mid ends new
 
 -- as many connections as requested were served, from one state to the other
-abbrev pub ServesAll : ChaCha → Option ℕ → Running → Running → Type 0
-ServesAll words requests old new =
+abbrev pub ServesAll : ChaCha → Option ℕ → Bool → Running → Running → Type 0
+ServesAll words requests log_taken old new =
     (ends : List (Result Served Fault)) × (length ends ≡ so_many requests)
-    × AreConnections words old ends new
+    × AreConnections words log_taken old ends new
 
 -- as many connections as requested were served, with some log
-abbrev pub ServesWithLog : ChaCha → Option ℕ → EdgeFields → Option (List ℕ) → EdgeFields
+abbrev pub ServesWithLog : ChaCha → Option ℕ → Bool → EdgeFields → Option (List ℕ) → EdgeFields
     → Option (List ℕ) → Type 0
-ServesWithLog words requests old told new told_after = (log : Change) × ServesAll words requests
+ServesWithLog words requests log_taken old told new told_after =
+    (log : Change) × ServesAll words requests log_taken
     (record { edge = old; log = log.before; faults = told })
     (record { edge = new; log = log.after; faults = told_after })

@@ -12,6 +12,8 @@
 --                 faults
 --   Closing       LooksAndAdds, what is done to the connections that are set aside
 --   ServiceRun    IsServiceRun, what a service that ended well has done
+--   Growing       Grows, what serving leaves of a region
+--   KeptLog       LogKeepsAll, a log of bundles has all that its region holds
 --   Status        status_of, the exit status of a fault; LeavesBegun, what a fault leaves of the
 --                 output
 --   ScriptRun     IsScriptRun, the lines of a script that is run; in_world, a run in a world
@@ -27,6 +29,8 @@ pub mod Serving
 pub mod Connection
 pub mod Closing
 pub mod ServiceRun
+pub mod Growing
+pub mod KeptLog
 pub mod Status
 pub mod ScriptRun
 pub mod LoopbackRun

@@ -24,8 +24,8 @@ pub record HasRun (service : Service) (start : EdgeFields) (words : ChaCha)
   pub loaded : LoadsOld service.load start.region (Ok dropped) region
   pub announced : Announces dropped service.port output.before output.after
   pub end : EdgeFields
-  pub served : ServesWithLog words service.requests (with_region start region) faults.before end
-      faults.after
+  pub served : ServesWithLog words service.requests service.log_taken (with_region start region)
+      faults.before end faults.after
 
 -- the service has run from some start that its seed gives
 abbrev pub IsServiceRun : Service → Change → Change → Type 0

@@ -4,22 +4,26 @@
 --   IsTask          the subcommand and its values are those of this task
 --   IsNoTask        the subcommand and its values are no task's
 --   IsNoService     the values are no service's
+--   lacks_log       bundles taken in are to be logged without a log
+--   missing_kind    the kind of the fault of arguments that name no task
 --   Asks            the arguments request this task
 --   AsksToServe     the arguments request a service
 --   AsksToShow      the arguments request help or the version
 --   IsRefusalOf     the kind of a fault in the arguments
 --   IsNoText        the fault of arguments that aren't UTF-8
-use Rattle.std.specs.Prelude.{◌≡◌, ◌≢◌, ◌⊎◌, ⊤, List, [], Option, Some, codes}
-use Rattle.clap.specs.Words.{Row, Text, IsAmong, fault_of, kind_of, subcommand_of}
+use Rattle.std.specs.Prelude.{◌≡◌, ◌≢◌, ◌⊎◌, ⊤, Bool, false, ◌&&◌, not, List, [], Option, Some, None}
+use Rattle.std.specs.Prelude.{codes, is_some, if◌then◌else◌}
+use Rattle.clap.specs.Words.{Row, Text, IsAmong, fault_of, first_of, kind_of, subcommand_of}
 use Rattle.clap.specs.declared.error.kind.ErrorKind.{ErrorKind}
 use Rattle.clap.specs.declared.error.kind.ErrorKind.TheVariants.{
   DisplayHelp,
   DisplayVersion,
   InvalidValue,
+  MissingRequiredArgument,
   MissingSubcommand,
 }
 use Rattle.tk_region.specs.SettingsFields.{SettingsFields}
-use Rattle.tokend.specs.CommandLine.{HasNumbers, HasService, tokend_app}
+use Rattle.tokend.specs.CommandLine.{HasNumbers, HasService, is_given, tokend_app}
 use Rattle.tokend.specs.declared.fault.Fault.{Fault}
 use Rattle.tokend.specs.declared.fault.Fault.TheVariants.{Memory, Words}
 use Rattle.tokend.specs.declared.options.Service.{Service}
@@ -48,7 +52,7 @@ loopback_task s =
       cap = s.cap;
     })
 
--- the values are no service's: a required number or the seed is missing
+-- the values are no service's: a required number, the seed or the log is missing
 abbrev pub IsNoService : List Row → Type 0
 IsNoService rows = (service : Service) → ¬ (HasService rows service)
 
@@ -64,6 +68,17 @@ IsTask found (Serve service) =
 -- the subcommand and its values are no task's
 abbrev pub IsNoTask : Option (Text × List Row) → Type 0
 IsNoTask found = (task : Task) → ¬ (IsTask found task)
+
+-- the subcommand has `--log-taken` without `--log`
+abbrev pub lacks_log : Option (Text × List Row) → Bool
+lacks_log None = false
+lacks_log (Some found) =
+    is_given (first_of (codes "log-taken") found.1)
+    && not (is_some (first_of (codes "log") found.1))
+
+-- the kind of the fault of arguments in which clap finds no fault, and which name no task
+abbrev pub missing_kind : Option (Text × List Row) → ErrorKind
+missing_kind found = if lacks_log found then MissingRequiredArgument else MissingSubcommand
 
 -- the arguments request this task: clap finds no fault in them, and they name the task
 abbrev pub Asks : List Text → Task → Type 0
@@ -87,7 +102,7 @@ IsNoShow kind = (kind ≢ DisplayHelp) × (kind ≢ DisplayVersion)
 -- name no task
 abbrev pub IsRefusalOf : List Text → ErrorKind → Type 0
 IsRefusalOf words kind = IsAmong kind (fault_of tokend_app words)
-    ⊎ ((kind ≡ MissingSubcommand) × (fault_of tokend_app words ≡ [])
+    ⊎ ((kind ≡ missing_kind (subcommand_of tokend_app words)) × (fault_of tokend_app words ≡ [])
     × IsNoTask (subcommand_of tokend_app words))
 
 -- the fault of arguments that aren't UTF-8: memory ran out, or clap reports an invalid value

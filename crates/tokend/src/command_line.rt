@@ -18,7 +18,7 @@ ghost use Rattle.tokend.specs.CommandLine.{
 
 use crate::options::Service;
 use clap::builder::ValueParser;
-use clap::{Arg, Command};
+use clap::{Arg, ArgAction, Command};
 use std::alloc::{AllocError, Global};
 use tk_world::Settings;
 
@@ -95,7 +95,7 @@ fn serve_command<'a>(alloc: Global) -> Result<Command<'a>, AllocError>
     let serve = Command::new(alloc, "serve").about(
         "Serves requests over HTTP on 127.0.0.1, one connection after the other",
     );
-    let choices: [Choice<'a>; 6] = [
+    let choices: [Choice<'a>; 7] = [
         ("region", Takes::Range(1, Service::GREATEST_REGION, true),
             "The number of the region that is served, 1 to 65535, like no other's and never used again [required]"),
         ("port", Takes::Range(0, Service::GREATEST_PORT, true),
@@ -104,6 +104,8 @@ fn serve_command<'a>(alloc: Global) -> Result<Command<'a>, AllocError>
             "The file of 32 secret random bytes that handles are made from, another for each start [required]"),
         ("log", Takes::File(false),
             "A new file that each fact made is appended to before its reply [default: none]"),
+        ("log-taken", Takes::Nothing,
+            "Appends each bundle taken in to the log too, before its reply; requires --log"),
         ("load", Takes::File(false),
             "The log of an earlier run, whose facts are taken in first [default: none]"),
         ("requests", Takes::Range(0, Service::GREATEST_REQUESTS, false),
@@ -140,6 +142,8 @@ fn with_settings<'a>(alloc: Global, command: Command<'a>) -> Result<Command<'a>,
 // The value of an option.
 #[derive(Clone, Copy)]
 enum Takes<'a> {
+    // No value: the option is a flag.
+    Nothing,
     // The name of a file. The flag is whether the option is required.
     File(bool),
     // A number from the first bound to the second. The flag is whether the option is required.
@@ -177,6 +181,7 @@ fn arg_of<'a>(alloc: Global, choice: Choice<'a>) -> Arg<'a>
     let (id, takes, help) = choice;
     let arg = Arg::new(alloc, id).long(id).help(help);
     match takes {
+        Takes::Nothing => arg.action(ArgAction::SetTrue),
         Takes::File(is_wanted) => arg.value_name("FILE").required(is_wanted),
         Takes::Range(least, greatest, is_wanted) => arg
             .value_name("N")

@@ -2,7 +2,7 @@
 //!
 //! A world runs the events, as it does without sockets. `Sockets` carries the requests.
 
-ghost use Rattle.std.specs.Prelude.{◌≡◌, ◌≢◌, Err, IfOk, IfErr};
+ghost use Rattle.std.specs.Prelude.{◌≡◌, ◌≢◌, false, Err, IfOk, IfErr};
 ghost use Rattle.tk_edge.specs.declared.tell.Fault.TheVariants as fault;
 ghost use Rattle.tk_world.specs.State.{new_state};
 ghost use Rattle.tokend.specs.Connection.{unknown, IsConnection};
@@ -117,12 +117,12 @@ fn serve_client<R: AllocGlobal + Clock>(
     now: Moment,
     words: &[u64; 6],
 ) -> Result<Served, EdgeFault>
-    ensures connection { IsConnection now words.now edge.old edge.new unknown result }
+    ensures connection { IsConnection now words.now false edge.old edge.new unknown result }
     ensures unlogged { result ≢ Err fault.Log }
 {
     let mut buf = [0u8; HEAD_LIMIT];
     match listener.accept() {
-        Ok((stream, _)) => serve_at(rt, &stream, edge, &mut Discard, &mut buf, now, words),
+        Ok((stream, _)) => serve_at(rt, &stream, edge, &mut Discard, false, &mut buf, now, words),
         Err(_) => Err(EdgeFault::Read),
     }
 }

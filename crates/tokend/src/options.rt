@@ -1,6 +1,7 @@
 //! The task that the arguments request: `options` reads a `Task` from them.
 
 ghost use Rattle.std.specs.Prelude.{◌≡◌, ◌⊎◌, ◌<◌, ◌^◌, ℕ, IfOk, IfErr, IfSome, IfNone, map, false};
+ghost use Rattle.std.specs.Prelude.{if◌then◌else◌};
 ghost use Rattle.clap.specs.Words.{kind_of, rows_of, found_of, subcommand_rows_of};
 ghost use Rattle.clap.specs.declared.error.kind.ErrorKind.TheVariants as kind;
 ghost use Rattle.tokend.specs.declared.options.Service.{Service as ServiceValue};
@@ -9,12 +10,14 @@ ghost use Rattle.tk_region.specs.SettingsFields.{IsSettings};
 ghost use Rattle.tokend.specs.CommandLine.{
   settings_of,
   ReadsNumber,
+  HasFlag,
   HasNumber,
   HasNumbers,
   HasService,
   HasText,
 };
 ghost use Rattle.tokend.specs.Task.{Asks, IsTask, IsNoService, IsNoTask, IsNoText, IsRefusalOf};
+ghost use Rattle.tokend.specs.Task.{lacks_log, missing_kind};
 ghost use Rattle.tokend.specs.declared.options.Numbers.{Numbers as NumbersValue};
 
 use crate::command_line::tokend_command;
@@ -69,6 +72,8 @@ pub struct Service {
     pub seed: String,
     /// The file to which records are written, if any.
     pub log: Option<String>,
+    /// Whether the log also gets the bundles that are taken in. There is a log then.
+    pub log_taken: bool,
     /// The old log to load before the first connection, if any.
     pub load: Option<String>,
 }
@@ -106,22 +111,53 @@ fn read_task(
 ) -> Result<Task, Error>
     ensures task { IfOk result (IsTask (subcommand_rows_of matches.now)) }
     ensures refused { IfErr result (λ e. (kind_of e ≡ kind.OutOfMemory)
-        ⊎ ((kind_of e ≡ kind.MissingSubcommand) × IsNoTask (subcommand_rows_of matches.now))) }
+        ⊎ ((kind_of e ≡ missing_kind (subcommand_rows_of matches.now))
+        × IsNoTask (subcommand_rows_of matches.now))) }
 {
     match read_matches(alloc, matches) {
         Ok(Some(task)) => Ok(task),
-        Ok(None) => Err(no_subcommand(command)),
+        Ok(None) => Err(no_task(command, lacks_log(matches))),
         Err(error) => Err(Error::from(error)),
     }
 }
 
-// Returns the error of arguments without a subcommand, or out of memory.
-fn no_subcommand(command: &mut Command<'_>) -> Error
-    ensures { (kind_of result ≡ kind.OutOfMemory) ⊎ (kind_of result ≡ kind.MissingSubcommand) }
+// Returns the error of arguments that name no task, or out of memory.
+fn no_task(command: &mut Command<'_>, lacks_log: bool) -> Error
+    ensures { (kind_of result ≡ kind.OutOfMemory)
+        ⊎ (kind_of result
+        ≡ (if lacks_log then kind.MissingRequiredArgument else kind.MissingSubcommand)) }
 {
-    match command.error(ErrorKind::MissingSubcommand, "no subcommand was read") {
+    if lacks_log {
+        return own_error(
+            command,
+            ErrorKind::MissingRequiredArgument,
+            "--log-taken requires --log",
+        );
+    }
+    own_error(
+        command,
+        ErrorKind::MissingSubcommand,
+        "no subcommand was read",
+    )
+}
+
+// Returns an error of this kind, which clap doesn't find itself, or out of memory.
+fn own_error(command: &mut Command<'_>, why: ErrorKind, message: &str) -> Error
+    ensures { (kind_of result ≡ kind.OutOfMemory) ⊎ (kind_of result ≡ why) }
+{
+    match command.error(why, message) {
         Ok(error) => error,
         Err(error) => Error::from(error),
+    }
+}
+
+// Returns whether the subcommand has `--log-taken` without `--log`.
+fn lacks_log(matches: &ArgMatches<'_>) -> bool
+    ensures { result ≡ lacks_log (subcommand_rows_of matches.now) }
+{
+    match matches.subcommand() {
+        Some((_, values)) => flag(values, "log-taken") && values.get_str("log").is_none(),
+        None => false,
     }
 }
 
@@ -252,6 +288,10 @@ fn read_service(alloc: Global, matches: &ArgMatches<'_>) -> Result<Option<Servic
         return Ok(None);
     };
     let log = read_text(alloc, matches, "log")?;
+    let log_taken = flag(matches, "log-taken");
+    if log_taken && log.is_none() {
+        return Ok(None);
+    }
     let load = read_text(alloc, matches, "load")?;
     let requests = number(matches, "requests", 0, Service::GREATEST_REQUESTS);
     Ok(Some(Service {
@@ -261,6 +301,7 @@ fn read_service(alloc: Global, matches: &ArgMatches<'_>) -> Result<Option<Servic
         requests,
         seed,
         log,
+        log_taken,
         load,
     }))
 }
@@ -303,6 +344,16 @@ fn given(matches: &ArgMatches<'_>, id: &str) -> Option<u64>
         → ¬ (ReadsNumber (rows_of (found_of matches.now)) id.now n)) }
 {
     matches.get_one::<u64>(id)
+}
+
+// Returns whether an option without a value was given.
+fn flag(matches: &ArgMatches<'_>, id: &str) -> bool
+    ensures { HasFlag (rows_of (found_of matches.now)) id.now result }
+{
+    match matches.get_str(id) {
+        Some(text) => text == "true",
+        None => false,
+    }
 }
 
 // Reads the text of an option, as it was given.

@@ -2,7 +2,8 @@
 //!
 //! The contract of a function is the promise. Its body is one call of `tk_world`, and the promise
 //! is proved from the public contract of that call alone. The program calls none of these
-//! functions.
+//! functions. The last promise is about a service and its log: it has no body, and is proved from
+//! what contracts say of connections and of loading a log.
 //!
 //! Five promises are about a run of events. Each of these names its run, so that a function that
 //! runs no events can't meet the promise. Three promises hold of any world, whatever brought it
@@ -14,6 +15,7 @@ ghost use Rattle.tk_store.specs.Joining.{SameFacts};
 ghost use Rattle.tk_world.specs.Promises.{IntrospectAlike, RevokedInactive, FamiliesInactive};
 ghost use Rattle.tk_world.specs.State.{facts_in};
 ghost use Rattle.tk_world.specs.World.{Run, seen_by};
+ghost use Rattle.tokend.specs.KeptLog.{LogKeepsAll};
 
 use std::alloc::AllocError;
 use tk_world::{Event, Outcome, World};
@@ -119,3 +121,14 @@ pub fn an_error_changes_nothing(
 {
     world.run(events)
 }
+
+/// A log that gets the bundles taken in keeps all that its region holds.
+///
+/// A region without facts loads an old log whole, and serves connections over an edge whose log
+/// gets the bundles taken in. A new region that loads the old log, and behind it that log as it is
+/// after any connection, holds every fact that the first region held then, or has skipped it since
+/// its family is over. The promise leaves out an edge that is sealed, since its log has failed, and
+/// claims nothing of disks.
+pub fn a_log_of_bundles_keeps_all()
+    ensures { LogKeepsAll }
+{}

@@ -5,12 +5,11 @@ ghost use Rattle.std.specs.Prelude.{◌≡◌, ℕ, IfErr, OnOk, OnErr, Err};
 ghost use Rattle.std.specs.Io.KnownBytes.{Keeps};
 ghost use Rattle.tk_edge.specs.Failures.{Rose};
 ghost use Rattle.tk_handle.specs.Ranges.{IsRegion};
-ghost use Rattle.tk_region.specs.RegionFields.{Gains};
 ghost use Rattle.tk_region.specs.SettingsFields.{IsSettings};
-ghost use Rattle.tk_store.specs.FactSet.{Facts};
 ghost use Rattle.tokend.specs.Closing.{LooksAndAdds, MaySetAside};
 ghost use Rattle.tokend.specs.CommandLine.{settings_of};
 ghost use Rattle.tokend.specs.Connection.{IsConnection, ServesAll, ServesWithLog, Told};
+ghost use Rattle.tokend.specs.Growing.{Grows};
 ghost use Rattle.tk_put.specs.Put.{Prints};
 ghost use Rattle.tokend.specs.ServiceRun.{HasRun, IsServiceRun};
 ghost use Rattle.tokend.specs.Serving.{
@@ -114,8 +113,8 @@ where
     ensures done { OnOk result
         (Announces dropped service.now.port (O.contents output.old) (O.contents output.new)) }
     ensures served { OnOk result
-        (ServesWithLog start.old.words service.now.requests start.old.edge (E.contents faults.old)
-        start.new.edge (E.contents faults.new)) }
+        (ServesWithLog start.old.words service.now.requests service.now.log_taken start.old.edge
+        (E.contents faults.old) start.new.edge (E.contents faults.new)) }
     ensures fault { IfErr result (IsStartFault service.now) }
     ensures left { IfErr result
         (λ fault. LeavesAnnouncement dropped service.now.port fault (O.contents output.old)
@@ -145,7 +144,8 @@ where
     R: AllocGlobal + Clock + Net<Listener = TcpListener, Stream = TcpStream>,
     ensures done { OnOk result
         (Announces dropped service.now.port (O.contents output.old) (O.contents output.new)) }
-    ensures served { OnOk result (ServesAll start.old.words service.now.requests
+    ensures served { OnOk result
+        (ServesAll start.old.words service.now.requests service.now.log_taken
         (record { edge = start.old.edge; log = L.holds log.old; faults = E.contents faults.old })
         (record { edge = start.new.edge; log = L.holds log.new; faults = E.contents faults.new })) }
     ensures fault { IfErr result IsListenFault }
@@ -157,7 +157,8 @@ where
     match listen(rt, service.port, dropped, output) {
         Ok(listener) => {
             let Start { edge, words } = start;
-            serve_on(rt, &listener, service.requests, edge, log, words, faults);
+            let (requests, log_taken) = (service.requests, service.log_taken);
+            serve_on(rt, &listener, requests, log_taken, edge, log, words, faults);
             Ok(())
         }
         Err(fault) => Err(fault),
@@ -167,23 +168,25 @@ where
 /// Serves the connections of a listener, one after the other, up to the given number or without
 /// end.
 ///
-/// Six random words are drawn for each connection before it is read. A fault is a line on `faults`,
-/// whose own failures are ignored. If accepting or the clock fails, that counts as a connection
-/// with a read fault.
+/// Six random words are drawn for each connection before it is read. `log_taken` is whether bundles
+/// taken in are logged. A fault is a line on `faults`, whose own failures are ignored. If accepting
+/// or the clock fails, that counts as a connection with a read fault.
 pub(crate) fn serve_on<R: AllocGlobal + Clock, L: Sink, E: Write>(
     rt: &R,
     listener: &TcpListener,
     requests: Option<u64>,
+    log_taken: bool,
     edge: &mut Edge,
     log: &mut L,
     words: &mut ChaCha20Rng,
     faults: &mut E,
 )
-    // The region's number and settings are unchanged, and facts were joined to its set.
-    ensures gains { (fs : Facts) × Gains edge.old.region fs edge.new.region }
+    // The region's number and settings are unchanged. What it knew of each dot it still knows, or has
+    // skipped since.
+    ensures grows { Grows edge.old.region edge.new.region }
     // Each connection begins with the state in which the one before ended, and with fresh random
     // words.
-    ensures connections { ServesAll words.old requests
+    ensures connections { ServesAll words.old requests log_taken
         (record { edge = edge.old; log = L.holds log.old; faults = E.contents faults.old })
         (record { edge = edge.new; log = L.holds log.new; faults = E.contents faults.new }) }
 {
@@ -191,7 +194,16 @@ pub(crate) fn serve_on<R: AllocGlobal + Clock, L: Sink, E: Write>(
     let mut closing = ClosingSet::new(rt.alloc());
     for _ in 0..requests.unwrap_or(u64::MAX) {
         let words = draw(words);
-        let served = serve_next(rt, listener, &mut closing, edge, log, &mut buf, &words);
+        let served = serve_next(
+            rt,
+            listener,
+            &mut closing,
+            edge,
+            log,
+            log_taken,
+            &mut buf,
+            &words,
+        );
         tell_end(faults, served);
     }
     wait_for_all(rt, &mut closing, &mut buf);
@@ -214,18 +226,19 @@ fn serve_next<R: AllocGlobal + Clock, L: Sink>(
     closing: &mut ClosingSet<ClosingStream>,
     edge: &mut Edge,
     log: &mut L,
+    log_taken: bool,
     buf: &mut [u8; 8192],
     words: &[u64; 6],
 ) -> Result<Served, EdgeFault>
     ensures connection { (now : ℕ)
-        × IsConnection now words.now edge.old edge.new
+        × IsConnection now words.now log_taken edge.old edge.new
         (record { before = L.holds log.old; after = L.holds log.new }) result }
     ensures log_fault { result ≡ Err EdgeFault.Log → Rose (L.failed log.old) (L.failed log.new) }
     ensures looked { LooksAndAdds closing.old closing.new }
 {
     look_at_closing(rt, closing, buf);
     match listener.accept() {
-        Ok((stream, _)) => serve_stream(rt, stream, closing, edge, log, buf, words),
+        Ok((stream, _)) => serve_stream(rt, stream, closing, edge, log, log_taken, buf, words),
         Err(_) => Err(EdgeFault::Read),
     }
 }
@@ -237,11 +250,12 @@ fn serve_stream<R: AllocGlobal + Clock, L: Sink>(
     closing: &mut ClosingSet<ClosingStream>,
     edge: &mut Edge,
     log: &mut L,
+    log_taken: bool,
     buf: &mut [u8; 8192],
     words: &[u64; 6],
 ) -> Result<Served, EdgeFault>
     ensures connection { (now : ℕ)
-        × IsConnection now words.now edge.old edge.new
+        × IsConnection now words.now log_taken edge.old edge.new
         (record { before = L.holds log.old; after = L.holds log.new }) result }
     ensures log_fault { result ≡ Err EdgeFault.Log → Rose (L.failed log.old) (L.failed log.new) }
     ensures added { MaySetAside closing.old closing.new }
@@ -249,7 +263,7 @@ fn serve_stream<R: AllocGlobal + Clock, L: Sink>(
     let (Ok(now), Ok(since)) = (moment(rt), millis(rt)) else {
         return Err(EdgeFault::Read);
     };
-    let served = serve_since(rt, &stream, since, edge, log, buf, now, words);
+    let served = serve_since(rt, &stream, since, edge, log, log_taken, buf, now, words);
     set_aside(rt, closing, stream, since, buf);
     served
 }
@@ -260,18 +274,19 @@ pub(crate) fn serve_at<R: AllocGlobal + Clock, L: Sink>(
     stream: &TcpStream,
     edge: &mut Edge,
     log: &mut L,
+    log_taken: bool,
     buf: &mut [u8; 8192],
     now: Moment,
     words: &[u64; 6],
 ) -> Result<Served, EdgeFault>
-    ensures connection { IsConnection now words.now edge.old edge.new
+    ensures connection { IsConnection now words.now log_taken edge.old edge.new
         (record { before = L.holds log.old; after = L.holds log.new }) result }
     ensures log_fault { result ≡ Err EdgeFault.Log → Rose (L.failed log.old) (L.failed log.new) }
 {
     let Ok(since) = millis(rt) else {
         return Err(EdgeFault::Read);
     };
-    let served = serve_since(rt, stream, since, edge, log, buf, now, words);
+    let served = serve_since(rt, stream, since, edge, log, log_taken, buf, now, words);
     close(rt, stream, since, buf);
     served
 }
@@ -283,11 +298,12 @@ fn serve_since<R: AllocGlobal + Clock, L: Sink>(
     since: u64,
     edge: &mut Edge,
     log: &mut L,
+    log_taken: bool,
     buf: &mut [u8; 8192],
     now: Moment,
     words: &[u64; 6],
 ) -> Result<Served, EdgeFault>
-    ensures connection { IsConnection now words.now edge.old edge.new
+    ensures connection { IsConnection now words.now log_taken edge.old edge.new
         (record { before = L.holds log.old; after = L.holds log.new }) result }
     ensures log_fault { result ≡ Err EdgeFault.Log → Rose (L.failed log.old) (L.failed log.new) }
 {
@@ -295,7 +311,16 @@ fn serve_since<R: AllocGlobal + Clock, L: Sink>(
         return Err(EdgeFault::Read);
     };
     let mut sink = TimedSink::new(&source);
-    edge.serve_one(rt.alloc(), &mut source, &mut sink, log, buf, now, words)
+    edge.serve_one(
+        rt.alloc(),
+        &mut source,
+        &mut sink,
+        log,
+        log_taken,
+        buf,
+        now,
+        words,
+    )
 }
 
 // Returns the clock's moment in whole seconds, brought into the range of moments.

@@ -1,38 +1,30 @@
-use Rattle.std.proofs.Common.{ap, sym, ◌∙◌, subst, refl, List, is_some}
+use Rattle.std.proofs.Common.{◌+◌, ◌≤◌, ap, sym, ◌∙◌, subst, List, is_some, arith}
+use Rattle.std.specs.FinMap as map
 use Rattle.tk_handle.specs.declared.dot.Dot.{Dot}
-use Rattle.tk_family.specs.declared.row.Row.{Row}
-use Rattle.tk_family.specs.Rows.{RowMap, Rows, table}
+use Rattle.tk_family.specs.Rows.{Rows, table, count_in}
 use Rattle.tk_family.specs.Puts.{Puts}
-use Rattle.tk_family.proofs.Putting.{Last, Last-none, Last-buried}
-use Rattle.tk_family.proofs.Assembly.{Puts-whole, Puts-waits}
+use Rattle.tk_family.specs.Writes.{bads}
+use Rattle.tk_family.proofs.Assembly.{Puts-whole, Puts-waits, fresh_codes}
+use Rattle.tk_family.proofs.Counting.{raise-fits}
 use Rattle.tk_family.proofs.put.write_put.Goals as goal
-use Rattle.tk_family.proofs.put.write_put.Goals.{in-Some, in_default}
 
-pub returns-in-Some-named-clause-puts : goal.returns-in-Some-named-clause-puts
-returns-in-Some-named-clause-puts c =
+pub raise-requires : goal.raise-requires
+raise-requires c =
     let T : Rows = table c.args.rows.now in
-    let A : Rows = table c.match-code.rows in
-    let N : Rows = table c.bury.new.rows in
-    let last : Last A N c.args.link.now = Last-buried A N c.args.link.now c.in-Some-named.above (sym c.named.ensures ∙ c.in-Some-named.is) c.bury.ensures.rows in
-    elim c.match-code.branch [
-      | in-Some w ↦ Puts-whole T (table c.hang.new.rows) A N c.args.dot c.args.link.now w.in-Some.code c.args.dots.now c.requires.forest c.requires.free c.requires.own c.requires.named c.hang.ensures.rows
-          (sym c.requires.code ∙ w.in-Some.is) (c.requires.whole (ap is_some w.in-Some.is))
-          (λ q. ap (λ (m : RowMap). table m q) w.rows-is ∙ w.raise.ensures.rows q) last
-      | in_default w ↦ subst (λ (ys : List Dot). Puts T N c.args.dot c.args.link.now ys) (sym (c.requires.waits w.in_default.is))
-          (Puts-waits T A N c.args.dot c.args.link.now c.requires.forest c.requires.free c.requires.own c.requires.named
-          (λ q. ap (λ (m : RowMap). table m q) w.rows-is ∙ c.hang.ensures.rows q) (sym c.requires.code ∙ w.in_default.is) last)
-    ]
+    let M : Rows = table c.hang_counted.new.rows in
+    let got = c.requires.whole (ap is_some c.in-Some.is) in
+    let fits : count_in (M c.in-Some.code) + bads M c.args.dots.now ≤ map.len c.hang_counted.new.rows =
+    raise-fits c.hang_counted.new.rows c.in-Some.code c.args.dots.now c.hang_counted.ensures.counted got.distinct (fresh_codes T M c.args.dot c.args.link.now c.args.dots.now c.requires.forest c.requires.free c.hang_counted.ensures.hung.code got) in
+    omega (arith, fits, c.countable.ensures)
 
-pub returns-in_default-named-clause-puts : goal.returns-in_default-named-clause-puts
-returns-in_default-named-clause-puts c =
+pub returns-in-Some-clause-puts : goal.returns-in-Some-clause-puts
+returns-in-Some-clause-puts c =
+    Puts-whole (table c.args.rows.now) (table c.hang_counted.new.rows) (table c.raise.new.rows) c.args.dot c.args.link.now c.in-Some.code c.args.dots.now c.requires.forest c.requires.free c.hang_counted.ensures.hung c.hang_counted.ensures.counted
+    (sym c.requires.code ∙ c.in-Some.is) (c.requires.whole (ap is_some c.in-Some.is)) c.raise.ensures.rows
+
+pub returns-in_default-clause-puts : goal.returns-in_default-clause-puts
+returns-in_default-clause-puts c =
     let T : Rows = table c.args.rows.now in
-    let A : Rows = table c.match-code.rows in
-    let last : Last A A c.args.link.now = Last-none A A c.args.link.now (sym c.named.ensures ∙ c.in_default-named.is) (λ q. refl) in
-    elim c.match-code.branch [
-      | in-Some w ↦ Puts-whole T (table c.hang.new.rows) A A c.args.dot c.args.link.now w.in-Some.code c.args.dots.now c.requires.forest c.requires.free c.requires.own c.requires.named c.hang.ensures.rows
-          (sym c.requires.code ∙ w.in-Some.is) (c.requires.whole (ap is_some w.in-Some.is))
-          (λ q. ap (λ (m : RowMap). table m q) w.rows-is ∙ w.raise.ensures.rows q) last
-      | in_default w ↦ subst (λ (ys : List Dot). Puts T A c.args.dot c.args.link.now ys) (sym (c.requires.waits w.in_default.is))
-          (Puts-waits T A A c.args.dot c.args.link.now c.requires.forest c.requires.free c.requires.own c.requires.named
-          (λ q. ap (λ (m : RowMap). table m q) w.rows-is ∙ c.hang.ensures.rows q) (sym c.requires.code ∙ w.in_default.is) last)
-    ]
+    let M : Rows = table c.hang_counted.new.rows in
+    subst (λ (ys : List Dot). Puts T M c.args.dot c.args.link.now ys) (sym (c.requires.waits c.in_default.is))
+    (Puts-waits T M c.args.dot c.args.link.now c.requires.forest c.requires.free c.hang_counted.ensures.hung c.hang_counted.ensures.counted (sym c.requires.code ∙ c.in_default.is))

@@ -1,47 +1,41 @@
-use Rattle.std.proofs.Common.{sym, ◌∙◌, ap, subst}
-use Rattle.tk_handle.specs.declared.dot.Dot.{Dot}
-use Rattle.tk_family.specs.declared.row.Row.{Row}
+use Rattle.std.proofs.Common.{sym, ◌∙◌, subst}
 use Rattle.tk_family.specs.Rows.{RowMap, Rows, table}
-use Rattle.tk_family.specs.Takes.{Clears}
-use Rattle.tk_family.proofs.Taking.{ClearsWhere, ClearsWhere-said, ClearsWhere-not, Settled-where, Takes-where, After-none, After-revives}
+use Rattle.tk_family.proofs.Taking.{Ready, Ready-whole, Ready-none, IsHung-cleared, codes_links, Takes-from}
 use Rattle.tk_family.proofs.take.take_link.Goals as goal
-use Rattle.tk_family.proofs.take.take_link.Goals.{then-is_some, else-is_some}
+use Rattle.tk_family.proofs.take.take_link.Goals.{in-Some, in_default}
 
-pub revive-requires-clause-settled : goal.revive-requires-clause-settled
-revive-requires-clause-settled c =
+pub unlink-requires-clause-hung : goal.unlink-requires-clause-hung
+unlink-requires-clause-hung c =
     let T : Rows = table c.args.rows.now in
-    let U : Rows = table c.unlink.new.rows in
-    let A : Rows = table c.if-is_some.rows in
-    let clears : ClearsWhere U A c.args.dot c.args.link.now c.code_at-code.result = elim c.if-is_some.branch [
-      | then-is_some w ↦ ClearsWhere-said U A c.args.dot c.args.link.now c.code_at-code.result (sym c.is_some.ensures ∙ w.if-is_some.true)
-          (subst (λ (m : RowMap). Clears U (table m) c.args.dot c.args.link.now) (sym w.rows-is) w.clear_below.ensures.clears)
-      | else-is_some w ↦ ClearsWhere-not U A c.args.dot c.args.link.now c.code_at-code.result (sym c.is_some.ensures ∙ w.if-is_some.false) (λ q. ap (λ (m : RowMap). table m q) w.rows-is)
+    let r : Ready T (table c.match-code_at.rows) c.args.dot c.args.link.now = elim c.match-code_at.branch [
+      | in-Some w ↦ subst (λ (m : RowMap). Ready T (table m) c.args.dot c.args.link.now) (sym w.rows-is) (Ready-whole T (table w.clear_below.new.rows) c.args.dot c.args.link.now w.in-Some.code c.requires.forest c.requires.here (sym c.code_at.ensures ∙ w.in-Some.is) w.clear_below.ensures.clears)
+      | in_default w ↦ subst (λ (m : RowMap). Ready T (table m) c.args.dot c.args.link.now) (sym w.rows-is) (Ready-none T c.args.dot c.args.link.now c.requires.forest c.requires.here (sym c.code_at.ensures ∙ w.in_default.is))
     ] in
-    Settled-where T U A c.args.dot c.args.link.now c.code_at-code.result c.requires.forest c.requires.here c.unlink.ensures.unlinks (sym c.code_at-code.ensures) clears
+    IsHung-cleared T (table c.match-code_at.rows) r.list c.requires.forest r.cleared
 
-pub returns-in-Some-clause-takes : goal.returns-in-Some-clause-takes
-returns-in-Some-clause-takes c =
+pub unlink-requires-clause-counted : goal.unlink-requires-clause-counted
+unlink-requires-clause-counted c =
     let T : Rows = table c.args.rows.now in
-    let U : Rows = table c.unlink.new.rows in
-    let A : Rows = table c.if-is_some.rows in
-    let N : Rows = table c.revive.new.rows in
-    let clears : ClearsWhere U A c.args.dot c.args.link.now c.code_at-code.result = elim c.if-is_some.branch [
-      | then-is_some w ↦ ClearsWhere-said U A c.args.dot c.args.link.now c.code_at-code.result (sym c.is_some.ensures ∙ w.if-is_some.true)
-          (subst (λ (m : RowMap). Clears U (table m) c.args.dot c.args.link.now) (sym w.rows-is) w.clear_below.ensures.clears)
-      | else-is_some w ↦ ClearsWhere-not U A c.args.dot c.args.link.now c.code_at-code.result (sym c.is_some.ensures ∙ w.if-is_some.false) (λ q. ap (λ (m : RowMap). table m q) w.rows-is)
+    let r : Ready T (table c.match-code_at.rows) c.args.dot c.args.link.now = elim c.match-code_at.branch [
+      | in-Some w ↦ subst (λ (m : RowMap). Ready T (table m) c.args.dot c.args.link.now) (sym w.rows-is) (Ready-whole T (table w.clear_below.new.rows) c.args.dot c.args.link.now w.in-Some.code c.requires.forest c.requires.here (sym c.code_at.ensures ∙ w.in-Some.is) w.clear_below.ensures.clears)
+      | in_default w ↦ subst (λ (m : RowMap). Ready T (table m) c.args.dot c.args.link.now) (sym w.rows-is) (Ready-none T c.args.dot c.args.link.now c.requires.forest c.requires.here (sym c.code_at.ensures ∙ w.in_default.is))
     ] in
-    Takes-where T U A N c.args.dot c.args.link.now c.code_at-code.result c.requires.forest c.requires.here c.unlink.ensures.unlinks (sym c.code_at-code.ensures) clears
-    (After-revives A N c.args.link.now c.in-Some.above (sym c.named.ensures ∙ c.in-Some.is) c.revive.ensures.revives)
+    r.counted
 
-pub returns-in_default-clause-takes : goal.returns-in_default-clause-takes
-returns-in_default-clause-takes c =
+pub unlink-requires-clause-coded : goal.unlink-requires-clause-coded
+unlink-requires-clause-coded c =
     let T : Rows = table c.args.rows.now in
-    let U : Rows = table c.unlink.new.rows in
-    let A : Rows = table c.if-is_some.rows in
-    let clears : ClearsWhere U A c.args.dot c.args.link.now c.code_at-code.result = elim c.if-is_some.branch [
-      | then-is_some w ↦ ClearsWhere-said U A c.args.dot c.args.link.now c.code_at-code.result (sym c.is_some.ensures ∙ w.if-is_some.true)
-          (subst (λ (m : RowMap). Clears U (table m) c.args.dot c.args.link.now) (sym w.rows-is) w.clear_below.ensures.clears)
-      | else-is_some w ↦ ClearsWhere-not U A c.args.dot c.args.link.now c.code_at-code.result (sym c.is_some.ensures ∙ w.if-is_some.false) (λ q. ap (λ (m : RowMap). table m q) w.rows-is)
+    let r : Ready T (table c.match-code_at.rows) c.args.dot c.args.link.now = elim c.match-code_at.branch [
+      | in-Some w ↦ subst (λ (m : RowMap). Ready T (table m) c.args.dot c.args.link.now) (sym w.rows-is) (Ready-whole T (table w.clear_below.new.rows) c.args.dot c.args.link.now w.in-Some.code c.requires.forest c.requires.here (sym c.code_at.ensures ∙ w.in-Some.is) w.clear_below.ensures.clears)
+      | in_default w ↦ subst (λ (m : RowMap). Ready T (table m) c.args.dot c.args.link.now) (sym w.rows-is) (Ready-none T c.args.dot c.args.link.now c.requires.forest c.requires.here (sym c.code_at.ensures ∙ w.in_default.is))
     ] in
-    Takes-where T U A A c.args.dot c.args.link.now c.code_at-code.result c.requires.forest c.requires.here c.unlink.ensures.unlinks (sym c.code_at-code.ensures) clears
-    (After-none A c.args.link.now (sym c.named.ensures ∙ c.in_default.is))
+    codes_links T (table c.match-code_at.rows) r.list c.requires.forest r.cleared
+
+pub returns-clause-takes : goal.returns-clause-takes
+returns-clause-takes c =
+    let T : Rows = table c.args.rows.now in
+    let r : Ready T (table c.match-code_at.rows) c.args.dot c.args.link.now = elim c.match-code_at.branch [
+      | in-Some w ↦ subst (λ (m : RowMap). Ready T (table m) c.args.dot c.args.link.now) (sym w.rows-is) (Ready-whole T (table w.clear_below.new.rows) c.args.dot c.args.link.now w.in-Some.code c.requires.forest c.requires.here (sym c.code_at.ensures ∙ w.in-Some.is) w.clear_below.ensures.clears)
+      | in_default w ↦ subst (λ (m : RowMap). Ready T (table m) c.args.dot c.args.link.now) (sym w.rows-is) (Ready-none T c.args.dot c.args.link.now c.requires.forest c.requires.here (sym c.code_at.ensures ∙ w.in_default.is))
+    ] in
+    Takes-from T (table c.match-code_at.rows) (table c.unlink.new.rows) c.args.dot c.args.link.now r.code r.list c.requires.forest c.requires.here r.below r.cleared c.unlink.ensures.unlinks c.unlink.ensures.counted

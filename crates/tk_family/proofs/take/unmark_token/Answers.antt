@@ -1,17 +1,14 @@
-use Rattle.std.proofs.Common.{refl}
-use Rattle.tk_family.specs.declared.link.Link.TheVariants.{Redeems}
-use Rattle.tk_family.specs.Rows.{Rows, table}
-use Rattle.tk_family.proofs.Taking.{Unmarked-from, Unmarks-from, IsSettled-unmarked, After-revives}
+use Rattle.tk_family.specs.Rows.{table}
+use Rattle.tk_family.proofs.Marking.{code_row}
+use Rattle.tk_family.proofs.Taking.{AlikeButMarks-unmarked, IsCountedAs-unmarked, Unmarks-from}
 use Rattle.tk_family.proofs.take.unmark_token.Goals as goal
 
-pub revive-requires-clause-settled : goal.revive-requires-clause-settled
-revive-requires-clause-settled c =
-    IsSettled-unmarked (table c.args.rows.now) (table c.set_unmarked.new.rows) c.args.token c.requires.forest (Unmarked-from (table c.args.rows.now) (table c.set_unmarked.new.rows) c.args.token c.set_unmarked.ensures.rows)
+pub recount-requires-clause-counted : goal.recount-requires-clause-counted
+recount-requires-clause-counted c = rw c.is_bad-was.ensures (IsCountedAs-unmarked (table c.args.rows.now) (table c.set_unmarked.new.rows) c.args.token c.requires c.set_unmarked.ensures.rows)
+
+pub recount-requires-clause-coded : goal.recount-requires-clause-coded
+recount-requires-clause-coded c = λ code h. code_row (table c.args.rows.now) (table c.set_unmarked.new.rows) c.args.token.dot code c.requires (AlikeButMarks-unmarked (table c.args.rows.now) (table c.set_unmarked.new.rows) c.args.token c.set_unmarked.ensures.rows) h
 
 pub returns-clause-unmarks : goal.returns-clause-unmarks
 returns-clause-unmarks c =
-    let T : Rows = table c.args.rows.now in
-    let S : Rows = table c.set_unmarked.new.rows in
-    let N : Rows = table c.revive.new.rows in
-    Unmarks-from T S N c.args.token c.requires.forest (Unmarked-from T S c.args.token c.set_unmarked.ensures.rows)
-    (After-revives S N (Redeems c.args.token.dot) c.args.token.dot refl c.revive.ensures.revives)
+    Unmarks-from (table c.args.rows.now) (table c.set_unmarked.new.rows) (table c.recount.new.rows) c.args.token c.requires c.set_unmarked.ensures.rows c.recount.ensures.alike c.recount.ensures.counted

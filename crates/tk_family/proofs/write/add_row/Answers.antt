@@ -1,4 +1,4 @@
-use Rattle.std.proofs.Common.{sym, ap, ◌∙◌, ◌≡◌, Bool, false, is_some, Option, None, Some, Result, Ok, Err, OnOk, OnErr, refl, ℕ, ◌≤◌, ◌+◌, arith}
+use Rattle.std.proofs.Common.{sym, ap, ◌∙◌, ◌≡◌, false, is_some, Option, None, Some, Result, Ok, Err, OnOk, OnErr, refl, arith}
 use Rattle.std.specs.FinMap as map
 use Rattle.std.specs.Option.{option_copied}
 use Rattle.tk_family.proofs.Writing.{added, longer}

@@ -1,4 +1,3 @@
-use Rattle.std.proofs.Common.{ap, ◌∙◌, sym, None, cond}
 use Rattle.tk_family.proofs.Writing.{dropped, fewer}
 use Rattle.tk_family.proofs.write.drop_row.Goals as goal
 

@@ -1,6 +1,6 @@
-use Rattle.std.proofs.Common.{None}
+use Rattle.std.proofs.Common.{None, false}
 use Rattle.tokend.proofs.Connections.{unread}
 use Rattle.tokend.proofs.loopback.serve_client.Goals as goal
 
 pub returns-in-Err-clause-connection : goal.returns-in-Err-clause-connection
-returns-in-Err-clause-connection g c = unread c.args.now c.args.words.now c.args.edge.now None
+returns-in-Err-clause-connection g c = unread c.args.now c.args.words.now false c.args.edge.now None

@@ -13,6 +13,8 @@ returns-clause-service c = record {
   seed = search rules;
   log = search rules;
   load = search rules;
+  log_taken = search rules;
+  logged = search rules;
 }
 
 pub returns-in_default-number-clause-none : goal.returns-in_default-number-clause-none

@@ -7,7 +7,7 @@ returns-in_default-clause-done g c = c.announce_and_serve.ensures.done
 
 pub returns-in_default-clause-served : goal.returns-in_default-clause-served
 returns-in_default-clause-served g c =
-    with_some_log c.args.start.now.words c.args.service.now.requests c.args.start.now.edge c.announce_and_serve.new.start.edge None None
+    with_some_log c.args.start.now.words c.args.service.now.requests c.args.service.now.log_taken c.args.start.now.edge c.announce_and_serve.new.start.edge None None
     (g.E.Write.contents c.args.faults.now) (g.E.Write.contents c.announce_and_serve.new.faults) c.announce_and_serve.result c.announce_and_serve.ensures.served
 
 pub returns-in_default-clause-fault : goal.returns-in_default-clause-fault
@@ -24,7 +24,7 @@ returns-in-Ok-clause-done g c = c.announce_and_serve-in-Ok.ensures.done
 
 pub returns-in-Ok-clause-served : goal.returns-in-Ok-clause-served
 returns-in-Ok-clause-served g c =
-    with_some_log c.args.start.now.words c.args.service.now.requests c.args.start.now.edge c.announce_and_serve-in-Ok.new.start.edge None None
+    with_some_log c.args.start.now.words c.args.service.now.requests c.args.service.now.log_taken c.args.start.now.edge c.announce_and_serve-in-Ok.new.start.edge None None
     (g.E.Write.contents c.args.faults.now) (g.E.Write.contents c.announce_and_serve-in-Ok.new.faults) c.announce_and_serve-in-Ok.result c.announce_and_serve-in-Ok.ensures.served
 
 pub returns-in-Ok-clause-fault : goal.returns-in-Ok-clause-fault

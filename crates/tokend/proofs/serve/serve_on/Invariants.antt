@@ -4,5 +4,5 @@ use Rattle.tokend.proofs.serve.serve_on.Given as goal
 -- the connections so far are served, each with the next random words
 abbrev pub invariant-loop : goal.invariant-loop
 invariant-loop g l =
-    HasServed l.fn.words (record { edge = l.fn.edge; log = g.L.Sink.holds l.fn.log; faults = g.E.Write.contents l.fn.faults }) l.counter
+    HasServed l.fn.words l.fn.log_taken (record { edge = l.fn.edge; log = g.L.Sink.holds l.fn.log; faults = g.E.Write.contents l.fn.faults }) l.counter
     (record { edge = l.edge; log = g.L.Sink.holds l.log; faults = g.E.Write.contents l.faults }) l.words

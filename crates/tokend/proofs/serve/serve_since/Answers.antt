@@ -4,12 +4,12 @@ use Rattle.tokend.proofs.Connections.{served_less, unread}
 use Rattle.tokend.proofs.serve.serve_since.Goals as goal
 
 pub returns-in_default-clause-connection : goal.returns-in_default-clause-connection
-returns-in_default-clause-connection g c = unread c.args.now c.args.words.now c.args.edge.now (g.L.Sink.holds c.args.log.now)
+returns-in_default-clause-connection g c = unread c.args.now c.args.words.now c.args.log_taken c.args.edge.now (g.L.Sink.holds c.args.log.now)
 
 pub returns-clause-connection : goal.returns-clause-connection
 returns-clause-connection g c = record {
   served = λ unsealed. served_less (c.serve_one.new.log ≡ c.args.log.now) (g.L.Sink.holds c.serve_one.new.log ≡ g.L.Sink.holds c.args.log.now)
-      (record { sync = c.args.edge.now.sync; known = None; now = c.args.now; words = c.args.words.now })
+      (record { sync = c.args.edge.now.sync; log_taken = c.args.log_taken; known = None; now = c.args.now; words = c.args.words.now })
       (record { before = c.args.edge.now.region; after = c.serve_one.new.self.region })
       (record { before = g.L.Sink.holds c.args.log.now; after = g.L.Sink.holds c.serve_one.new.log }) unknown c.serve_one.new.self.sealed
       c.serve_one.result (ap g.L.Sink.holds) (c.serve_one.ensures.served unsealed);
