@@ -50,16 +50,16 @@ raised P (Some moment) = with_horizon P moment
 abbrev pub items_taken : StoreFields → Items → StoreFields
 items_taken P items = record { slots = with_slots P.slots items; horizon = P.horizon }
 
--- the result and the new store, when the fact of an item is added, or its dot is skipped: the item is
--- in and its dot was unknown or known, or the item contradicts what is known, or memory ran out
+-- the result and the new store, when the fact of an item is added, or its dot is skipped: the item
+-- is in and its dot was unknown or known, or the item contradicts what is known, or memory ran out
 abbrev pub Puts : StoreFields → Dot × Slot → Result Added AddError → StoreFields → Type 0
 Puts P i (Ok added.New) Q = (map.get P.slots i.0 ≡ None) × (Q ≡ items_taken P (i ∷ []))
 Puts P i (Ok added.Held) Q = IsSome (map.get P.slots i.0) × (Q ≡ items_taken P (i ∷ []))
 Puts P i (Err error.Conflict) Q = ¬ SlotAgrees (map.get P.slots i.0) (Some i.1)
 Puts P i (Err error.Memory) Q = Q ≡ P
 
--- The horizon is raised, and the items are taken in, of which n were at unknown dots. If memory runs
--- out, the first of them are
+-- The horizon is raised, and the items are taken in, of which n were at unknown dots. If memory
+-- runs out, the first of them are
 abbrev pub Takes : StoreFields → BundleFields → Result ℕ TakeError → StoreFields → Type 0
 Takes P b (Ok n) Q =
     (Q ≡ items_taken (raised P b.horizon) b.items) × (map.len P.slots + n ≡ map.len Q.slots)

@@ -137,7 +137,7 @@ impl Region {
     }
 
     /// Returns the horizon: the moment up to which facts of families that are over may have been
-    /// skipped. Before the horizon the region answers no request.
+    /// skipped. Before the horizon each request gets the reply 503 `temporarily_unavailable`.
     pub fn horizon(&self) -> Moment
         ensures { result ≡ self.now.facts.horizon }
     {
@@ -147,10 +147,9 @@ impl Region {
     /// Decides a request at a moment. Returns the reply, the fact that the request makes, and the
     /// record of that fact.
     ///
-    /// The region does not change. Before the horizon the reply is 503 `temporarily_unavailable`,
-    /// whatever the request, and no fact is made. The reply and the lack of a fact are the same if
-    /// the fact would be above the cap. Handles are made of the six random words. Returns an error if
-    /// memory runs out.
+    /// The region does not change. The reply is 503 `temporarily_unavailable`, and no fact is made,
+    /// at a moment before the horizon, whatever the request, and if the fact would be above the cap.
+    /// Handles are made of the six random words. Returns an error if memory runs out.
     pub fn decide(
         &self,
         alloc: Global,
@@ -215,10 +214,10 @@ impl Region {
     /// Takes in the bundle that the bytes spell. Returns the number of its dots that were unknown:
     /// neither held nor skipped.
     ///
-    /// The whole bundle is examined before anything changes: for `Malformed`, then for `OwnNumber`,
-    /// then for `Conflict`. Then the horizon is raised to that of the bundle, if the bundle has one.
-    /// The facts are added, unless their dots are skipped, and the dots of the marks are skipped. If
-    /// memory runs out, the first of the items may have been taken in.
+    /// The whole bundle is examined before anything changes: for `Malformed`, then for
+    /// `OwnNumber`, then for `Conflict`. Then the horizon is raised to that of the bundle, if the
+    /// bundle has one. The facts are added, unless their dots are skipped, and the dots of the marks
+    /// are skipped. If memory runs out, the first of the items may have been taken in.
     pub fn take_in(&mut self, alloc: Global, bytes: &[u8]) -> Result<u16, TakeError>
         ensures number { self.new.number ≡ self.old.number }
         ensures settings { self.new.settings ≡ self.old.settings }

@@ -8,8 +8,8 @@ pub enum TakeError {
     Malformed,
     /// The bundle has a fact or a mark under the region's own number that the region did not make.
     OwnNumber,
-    /// The bundle contradicts what is known of a dot: it has another fact there, a mark where a fact
-    /// lasts, or a fact that lasts where the dot is skipped.
+    /// The bundle contradicts what is known of a dot: it has another fact there, a mark where a
+    /// fact lasts, or a fact that lasts where the dot is skipped.
     Conflict,
     /// Memory ran out. The horizon may have been raised, and the first of the bundle's items may
     /// have been taken in.

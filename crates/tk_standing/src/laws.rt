@@ -26,8 +26,8 @@ pub fn decision_stands()
     ensures { DecisionStands }
 {}
 
-/// States a law: from its horizon on, a region prepares for each request what the facts for which its
-/// store stands determine: the reply, the fact that is made, and the record of that fact.
+/// States a law: from its horizon on, a region prepares for each request what the facts for which
+/// its store stands determine: the reply, the fact that is made, and the record of that fact.
 pub fn region_stands()
     ensures { RegionStands }
 {}

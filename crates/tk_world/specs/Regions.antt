@@ -1,7 +1,7 @@
 -- The regions of a world behind their edges, as a list whose numbers rise (own).
 --   entries_of    each number with its region's facts
---   HaveSettings  the regions have these settings, none is sealed, none serves `/sync/`, and none has
---                 skipped a fact
+--   HaveSettings  the regions have these settings, none is sealed, none serves `/sync/`, and none
+--                 has skipped a fact
 use Rattle.std.specs.Prelude.{◌≡◌, ℕ, false, List, map}
 use Rattle.std.specs.List.{AllByRecursion}
 use Rattle.tk_store.specs.FactSet.{FactSet}
@@ -24,6 +24,7 @@ IsOpen settings edge =
     (edge.region.settings ≡ settings) × (edge.sealed ≡ false) × (edge.sync ≡ false)
     × IsUnpruned edge.region.facts
 
--- all regions have these settings, none is sealed, none serves `/sync/`, and none has skipped a fact
+-- all regions have these settings, none is sealed, none serves `/sync/`, and none has skipped a
+-- fact
 abbrev pub HaveSettings : SettingsFields → List EdgeFields → Type 0
 HaveSettings settings edges = AllByRecursion (IsOpen settings) edges

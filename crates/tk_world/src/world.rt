@@ -12,8 +12,8 @@ use tk_region::{Region, Settings};
 pub struct World {
     alloc: Global,
     settings: Settings,
-    // The edges, ascending by number. Each has these settings, none is sealed, none serves `/sync/`,
-    // and none has skipped a fact.
+    // The edges, ascending by number. Each has these settings, none is sealed, none serves
+    // `/sync/`, and none has skipped a fact.
     regions: Vec<Edge>,
     // The bundles in the order of making. All facts that regions hold or bundles carry are one set.
     bundles: Vec<MadeBundle>,
