@@ -30,8 +30,8 @@ pub fn decide_admin(
     now: Moment,
     request: &Request,
 ) -> Result<Decision, AllocError>
-    ensures value { IfOk result (λ d. d ≡ spec.administration_of (held_facts ledger.now) place.now now
-        request.now) }
+    ensures value { IfOk result (λ d. d ≡ spec.administration_of (held_facts ledger.now) place.now
+        now request.now) }
 
     // The fact that the request makes, if any, passes its check.
     ensures passes { IfOk result (λ d. Passes d.made) }

@@ -33,8 +33,8 @@ pub fn decide_authorize(
     words: &[u64; 6],
     request: &Request,
 ) -> Result<Decision, AllocError>
-    ensures value { IfOk result (λ d. d ≡ spec.authorization_of (held_facts ledger.now) place.now now
-        words.now request.now) }
+    ensures value { IfOk result (λ d. d ≡ spec.authorization_of (held_facts ledger.now) place.now
+        now words.now request.now) }
     ensures passes { IfOk result (λ d. Passes d.made) }
 
     // The reply sends the browser to a registered URI of the client that the request names, or to

@@ -88,8 +88,8 @@ fn judge_client(
     subject: Option<&[u8]>,
     client: Dot,
 ) -> Result<Judged, AllocError>
-    ensures { IfOk result (λ judged. judged ≡ spec.judged_by_client (held_facts ledger.now) params.now
-        (option_copied subject.entry) (Some client)) }
+    ensures { IfOk result (λ judged. judged ≡ spec.judged_by_client (held_facts ledger.now)
+        params.now (option_copied subject.entry) (Some client)) }
 {
     let Some(view) = ledger.client(client) else {
         return Ok(Judged::Refused(Refusal::UnknownClient));

@@ -23,7 +23,8 @@ pub(crate) fn sign_out(
     now: Moment,
     params: &Params,
 ) -> Result<Administered, AllocError>
-    ensures value { IfOk result (λ a. a ≡ spec.signed_out_of (held_facts ledger.now) now params.now) }
+    ensures value { IfOk result (λ a. a
+        ≡ spec.signed_out_of (held_facts ledger.now) now params.now) }
     ensures sound { IfOk result IsSoundAdministered }
 {
     if is_subject_twice(params) {

@@ -42,8 +42,8 @@ refused_by why = rendered (error_reply (code_of why)) (allowed_by why) None
 abbrev pub silent : AnswerFields
 silent = record { status = status.BadRequest; bytes = []; logged = None }
 
--- The answer to an arrival at the moment and with the random words, if regions don't exchange facts:
--- the path of an exchange is then unknown. specs/Exchanges has the answers to exchanges.
+-- The answer to an arrival at the moment and with the random words, if regions don't exchange
+-- facts: the path of an exchange is then unknown. specs/Exchanges has the answers to exchanges.
 abbrev pub answer_by : RegionFields → ℕ → List ℕ → Arrival → AnswerFields
 answer_by r now words Silence = silent
 answer_by r now words (Refused why) = refused_by why

@@ -148,8 +148,8 @@ impl Edge {
     /// [`HEAD_LIMIT`] bytes of any value. A sealed edge reads nothing, and writes the reply 503
     /// temporarily_unavailable.
     ///
-    /// If `log_taken` is true, a pushed bundle with a new fact is logged too, as it was sent, before
-    /// its reply. If memory runs out, the log has a bundle whose facts may be in. The log isn't
+    /// If `log_taken` is true, a pushed bundle with a new dot is logged too, as it was sent,
+    /// before its reply. If memory runs out, the log has a bundle whose items may be in. The log isn't
     /// called without a fact made or a bundle to log.
     pub fn serve_one<S: Source, L: Sink, W: Sink>(
         &mut self,

@@ -54,4 +54,5 @@ known_names =
 
 -- the judgement of a token request
 abbrev pub judged_of : StoreFields → ℕ → RequestFields → Judged
-judged_of P now request = judged_by_caller P now request.params (caller_of (held_facts P) known_names request)
+judged_of P now request =
+    judged_by_caller P now request.params (caller_of (held_facts P) known_names request)

@@ -14,7 +14,8 @@ use Rattle.tk_grant.specs.Judged.{known_names}
 -- two stores that answer each handle alike, and take the sender for the same client, decide a token
 -- request alike
 abbrev pub GrantsAlike : Type 0
-GrantsAlike = (P Q : StoreFields) (place : Place) (now : ℕ) (words : List ℕ) (request : RequestFields)
+GrantsAlike = (P Q : StoreFields) (place : Place) (now : ℕ) (words : List ℕ)
+    (request : RequestFields)
     → ((h : Handle) → AnsweredAlike now h (status_here P now h) (status_here Q now h))
     → caller_of (held_facts P) known_names request ≡ caller_of (held_facts Q) known_names request
     → grant_of P place now words request ≡ grant_of Q place now words request

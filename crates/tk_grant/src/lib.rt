@@ -11,7 +11,8 @@
 //! `Gate`: whether the code or refresh token that was sent can be redeemed.
 //!
 //! In reading order: `Refusal`, `Gate`, `Grant`, `Judged`, `redeem`, `rotate`, `decide_token`,
-//! `grants_alike`. The definitions are in `specs/`: `Refusal`, `Gate`, `Redeemed`, `Rotated`, `Judged`, `Granted`.
+//! `grants_alike`. The definitions are in `specs/`: `Refusal`, `Gate`, `Redeemed`, `Rotated`,
+//! `Judged`, `Granted`.
 //! `SoundGate` and `SoundJudged` define what makes each fact pass its check.
 #![tactic(auto)]
 

@@ -117,7 +117,8 @@ impl Ledger {
     // Returns the lowest dot of a live consent of this subject to this client that covers the
     // scope.
     pub(crate) fn first_consent(&self, client: Dot, subject: &Subject, scope: &Scope) -> Option<Dot>
-        ensures value { result ≡ spec.consent_for (held_facts self.now) client subject.now scope.now }
+        ensures value { result
+            ≡ spec.consent_for (held_facts self.now) client subject.now scope.now }
         ensures least { spec.IsLeastConsent (map.get (held_facts self.now)) client subject.now
             scope.now result }
     {

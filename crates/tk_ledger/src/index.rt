@@ -150,7 +150,8 @@ fn mark_token(
     requires tied { IsTied (map.remove (held_facts facts.now) dot) forest.old }
     ensures reuses { OnOk result (IsReuses (held_facts facts.now) reuses.new) }
     ensures ok { OnOk result (IsTied (held_facts facts.now) forest.new) }
-    ensures reuses_err { OnErr result (IsReuses (map.remove (held_facts facts.now) dot) reuses.new) }
+    ensures reuses_err { OnErr result
+        (IsReuses (map.remove (held_facts facts.now) dot) reuses.new) }
     ensures err { OnErr result (IsTied (map.remove (held_facts facts.now) dot) forest.new) }
 {
     match list_reuse(reuses, &token, dot) {

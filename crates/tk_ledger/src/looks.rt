@@ -67,7 +67,8 @@ pub(crate) fn code_above(forest: &Forest, dot: Dot) -> Option<Dot>
 
 // Returns the root of the family that the dot is in.
 pub(crate) fn root_above<'a>(facts: &'a FactStore, forest: &Forest, dot: Dot) -> Option<Root<'a>>
-    ensures { result ≡ root_by (map.get (held_facts facts.now)) (code_of (links_at forest.now) dot) }
+    ensures { result
+        ≡ root_by (map.get (held_facts facts.now)) (code_of (links_at forest.now) dot) }
 {
     match code_above(forest, dot) {
         Some(code) => root_of(facts, code),

@@ -104,7 +104,7 @@ impl Ledger {
     /// Raises the horizon to the moment, and skips all facts that are kept for a token of a family
     /// that is over then. Returns the number of facts that went.
     ///
-    /// Costs O(n + k log n) for k of n facts. If memory for the list of their dots runs out, the
+    /// Costs O(n log n) for n facts. If memory for the list of their dots runs out, the
     /// ledger is unchanged.
     pub fn prune(&mut self, alloc: Global, moment: Moment) -> Result<u64, AllocError>
         ensures prunes { IfOk result (λ n. Prunes self.old moment n self.new) }

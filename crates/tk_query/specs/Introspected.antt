@@ -111,7 +111,8 @@ introspected_as P now params asker (Resource digest) =
     introspected_by_text P now (Resource digest) asker (value_of (codes "token") params)
 
 -- the outcome for an authenticated client. Such a client was added: `None` never happens
-abbrev pub introspected_by_client : StoreFields → ℕ → Pairs → Dot → Option ClientFields → Introspected
+abbrev pub introspected_by_client : StoreFields → ℕ → Pairs → Dot → Option ClientFields
+    → Introspected
 introspected_by_client P now params asker None = Refused refusal.InvalidClient
 introspected_by_client P now params asker (Some client) =
     introspected_as P now params asker client.sort

@@ -32,4 +32,5 @@ told (Refresh s) = json_reply Ok (standing_body refresh_body s)
 -- the reply to an introspection request
 abbrev pub introspection_of : StoreFields → ℕ → RequestFields → ReplyFields
 introspection_of P now request =
-    told (introspected_by_caller P now request.params (caller_of (held_facts P) known_names request))
+    told
+    (introspected_by_caller P now request.params (caller_of (held_facts P) known_names request))

@@ -10,7 +10,8 @@
 //! `Idle` if nothing is left to revoke, or the fact.
 //!
 //! In reading order: `Refusal`, `Introspected`, `decide_introspect`, `Idle`, `Revocation`,
-//! `decide_revoke`, `says_active`, `queries_alike`. The definitions are in `specs/`, by the name of the file.
+//! `decide_revoke`, `says_active`, `queries_alike`. The definitions are in `specs/`, by the name of
+//! the file.
 //! `Caller` has the names of the parameters that both endpoints know.
 #![tactic(auto)]
 

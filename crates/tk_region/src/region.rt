@@ -148,7 +148,7 @@ impl Region {
     /// record of that fact.
     ///
     /// The region does not change. The reply is 503 `temporarily_unavailable`, and no fact is made,
-    /// at a moment before the horizon, whatever the request, and if the fact would be above the cap.
+    /// at a moment before the horizon, whatever the request, and if a fact would be above the cap.
     /// Handles are made of the six random words. Returns an error if memory runs out.
     pub fn decide(
         &self,
@@ -216,8 +216,8 @@ impl Region {
     ///
     /// The whole bundle is examined before anything changes: for `Malformed`, then for
     /// `OwnNumber`, then for `Conflict`. Then the horizon is raised to that of the bundle, if the
-    /// bundle has one. The facts are added, unless their dots are skipped, and the dots of the marks
-    /// are skipped. If memory runs out, the first of the items may have been taken in.
+    /// bundle has one. The facts are added, unless their dots are skipped, and the dots of the
+    /// marks are skipped. If memory runs out, the first of the items may have been taken in.
     pub fn take_in(&mut self, alloc: Global, bytes: &[u8]) -> Result<u16, TakeError>
         ensures number { self.new.number ≡ self.old.number }
         ensures settings { self.new.settings ≡ self.old.settings }
@@ -247,7 +247,7 @@ impl Region {
     /// Raises the horizon to the moment, and skips all facts that are kept for a token of a family
     /// that is over then. Returns the number of facts that went.
     ///
-    /// Costs O(n + k log n) for k of n facts. If memory runs out, the region is unchanged.
+    /// Costs O(n log n) for n facts. If memory runs out, the region is unchanged.
     pub fn prune(&mut self, alloc: Global, moment: Moment) -> Result<u64, AllocError>
         ensures number { self.new.number ≡ self.old.number }
         ensures settings { self.new.settings ≡ self.old.settings }

@@ -3,7 +3,8 @@
 --   request_bytes   the bytes of a request, by the fields of its line
 --   request_of      the bytes of a request whose METHOD is capital letters
 --   asked_of        the request of any line, by its first field and the fields after the moment
-use Rattle.std.specs.Prelude.{ℕ, Bool, nat_le, ◌&&◌, List, [], ◌∷◌, length, codes, decimal, Option, Some, None, if◌then◌else◌}
+use Rattle.std.specs.Prelude.{ℕ, Bool, nat_le, ◌&&◌, List, [], ◌∷◌, length, codes, decimal, Option}
+use Rattle.std.specs.Prelude.{Some, None, if◌then◌else◌}
 use Rattle.std.specs.List.{concat, list_all}
 use Rattle.std.specs.Str.{bytes_eq}
 use Rattle.tk_put.specs.Put.{field_line}

@@ -62,8 +62,8 @@ pub record TakesFront (old : RegionFields) (log rest : List ℕ) (new : RegionFi
 -- region knows.
 abbrev pub IsRefused : RegionFields → List ℕ → Type 0
 IsRefused region rest =
-    ¬ IsCut rest × ((b : BundleFields) (more : List ℕ) → bundle.Fits b → rest ≡ bundle_bytes b ++ more
-    → (has_unmade (next_in (place_in region)) b.items ≡ true)
+    ¬ IsCut rest × ((b : BundleFields) (more : List ℕ) → bundle.Fits b
+    → rest ≡ bundle_bytes b ++ more → (has_unmade (next_in (place_in region)) b.items ≡ true)
     ⊎ ¬ (AgreesWith region.facts.slots b.items))
 
 -- out of memory: the region is unchanged, or the first items of the rest's first bundle are in

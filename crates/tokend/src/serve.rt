@@ -37,7 +37,7 @@ use std::net::{Net, OpenListener, TcpListener, TcpStream};
 use std::rt::Files;
 use std::time::Clock;
 use tk_closing::ClosingSet;
-use tk_edge::{Discard, Edge, Fault as EdgeFault, Served, Sink, Source};
+use tk_edge::{Discard, Edge, Fault as EdgeFault, HEAD_LIMIT, Served, Sink, Source};
 use tk_handle::Moment;
 use tk_put::put_all;
 
@@ -181,8 +181,8 @@ pub(crate) fn serve_on<R: AllocGlobal + Clock, L: Sink, E: Write>(
     words: &mut ChaCha20Rng,
     faults: &mut E,
 )
-    // The region's number and settings are unchanged. What it knew of each dot it still knows, or has
-    // skipped since.
+    // The region's number and settings are unchanged. What it knew of each dot it still knows, or
+    // has skipped since.
     ensures grows { Grows edge.old.region edge.new.region }
     // Each connection begins with the state in which the one before ended, and with fresh random
     // words.
@@ -190,7 +190,7 @@ pub(crate) fn serve_on<R: AllocGlobal + Clock, L: Sink, E: Write>(
         (record { edge = edge.old; log = L.holds log.old; faults = E.contents faults.old })
         (record { edge = edge.new; log = L.holds log.new; faults = E.contents faults.new }) }
 {
-    let mut buf = [0u8; 8192];
+    let mut buf = [0u8; HEAD_LIMIT];
     let mut closing = ClosingSet::new(rt.alloc());
     for _ in 0..requests.unwrap_or(u64::MAX) {
         let words = draw(words);
@@ -227,7 +227,7 @@ fn serve_next<R: AllocGlobal + Clock, L: Sink>(
     edge: &mut Edge,
     log: &mut L,
     log_taken: bool,
-    buf: &mut [u8; 8192],
+    buf: &mut [u8; HEAD_LIMIT],
     words: &[u64; 6],
 ) -> Result<Served, EdgeFault>
     ensures connection { (now : ℕ)
@@ -251,7 +251,7 @@ fn serve_stream<R: AllocGlobal + Clock, L: Sink>(
     edge: &mut Edge,
     log: &mut L,
     log_taken: bool,
-    buf: &mut [u8; 8192],
+    buf: &mut [u8; HEAD_LIMIT],
     words: &[u64; 6],
 ) -> Result<Served, EdgeFault>
     ensures connection { (now : ℕ)
@@ -275,7 +275,7 @@ pub(crate) fn serve_at<R: AllocGlobal + Clock, L: Sink>(
     edge: &mut Edge,
     log: &mut L,
     log_taken: bool,
-    buf: &mut [u8; 8192],
+    buf: &mut [u8; HEAD_LIMIT],
     now: Moment,
     words: &[u64; 6],
 ) -> Result<Served, EdgeFault>
@@ -299,7 +299,7 @@ fn serve_since<R: AllocGlobal + Clock, L: Sink>(
     edge: &mut Edge,
     log: &mut L,
     log_taken: bool,
-    buf: &mut [u8; 8192],
+    buf: &mut [u8; HEAD_LIMIT],
     now: Moment,
     words: &[u64; 6],
 ) -> Result<Served, EdgeFault>

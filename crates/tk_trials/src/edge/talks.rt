@@ -29,8 +29,8 @@ pub const REGISTRATION: Talk = Talk {
     status: Status::Created,
 };
 
-/// A bundle of one fact of region 2, that its client 2:1 was retired. The bundle is logged as it was
-/// sent.
+/// A bundle of one fact of region 2, that its client 2:1 was retired. The bundle is logged as it
+/// was sent.
 pub const PUSH: Talk = Talk {
     name: "a push",
     before: &[],
