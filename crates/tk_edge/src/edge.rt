@@ -148,16 +148,14 @@ impl Edge {
     /// [`HEAD_LIMIT`] bytes of any value. A sealed edge reads nothing, and writes the reply 503
     /// temporarily_unavailable.
     ///
-    /// If `log_taken` is true, a pushed bundle with a new dot is logged too, as it was sent,
-    /// before its reply. If memory runs out, the log has a bundle whose items may be in. The log isn't
-    /// called without a fact made or a bundle to log.
+    /// The log isn't called without a fact. Bundles that are taken in aren't logged:
+    /// [`Edge::serve_one_logging`] may log them.
     pub fn serve_one<S: Source, L: Sink, W: Sink>(
         &mut self,
         alloc: Global,
         reader: &mut S,
         writer: &mut W,
         log: &mut L,
-        log_taken: bool,
         buf: &mut [u8],
         now: Moment,
         words: &[u64; 6],
@@ -171,7 +169,7 @@ impl Edge {
         ensures served { self.old.sealed ≡ false → IsServed
             (record {
               sync = self.old.sync;
-              log_taken = log_taken;
+              log_taken = false;
               known = S.coming reader.old;
               now = now;
               words = words.now;
@@ -191,6 +189,57 @@ impl Edge {
             (S.coming reader.new) }
 
         // A fault of a device is returned only if that device failed in this call.
+        ensures reader_fault { result ≡ Err Fault.Read
+            → Rose (S.failed reader.old) (S.failed reader.new) }
+        ensures writer_fault { result ≡ Err Fault.Write
+            → Rose (W.failed writer.old) (W.failed writer.new) }
+        ensures log_fault { result ≡ Err Fault.Log → Rose (L.failed log.old) (L.failed log.new) }
+    {
+        self.serve_one_logging(alloc, reader, writer, log, false, buf, now, words)
+    }
+
+    /// Serves one connection as [`Edge::serve_one`] does, and logs the bundles taken in if
+    /// `log_taken` is true.
+    ///
+    /// A pushed bundle with a new fact is then logged as it was sent, and flushed before the first
+    /// byte of its reply. If memory runs out, the log has a bundle whose facts may be in. The log
+    /// isn't called without a fact made or a bundle to log.
+    pub fn serve_one_logging<S: Source, L: Sink, W: Sink>(
+        &mut self,
+        alloc: Global,
+        reader: &mut S,
+        writer: &mut W,
+        log: &mut L,
+        log_taken: bool,
+        buf: &mut [u8],
+        now: Moment,
+        words: &[u64; 6],
+    ) -> Result<Served, Fault>
+        requires { length buf.old ≡ head_limit }
+        ensures room { length buf.new ≡ length buf.old }
+        ensures sync { self.new.sync ≡ self.old.sync }
+
+        ensures served { self.old.sealed ≡ false → IsServed
+            (record {
+              sync = self.old.sync;
+              log_taken = log_taken;
+              known = S.coming reader.old;
+              now = now;
+              words = words.now;
+            })
+            (record { before = self.old.region; after = self.new.region })
+            (record { before = L.holds log.old; after = L.holds log.new }) (log.new ≡ log.old)
+            (record { before = W.holds writer.old; after = W.holds writer.new }) self.new.sealed
+            result }
+        ensures turned_away { self.old.sealed ≡ true
+            → IsTurnedAway (record { before = W.holds writer.old; after = W.holds writer.new })
+            result }
+        ensures untouched { self.old.sealed ≡ true
+            → (self.new ≡ self.old) × (reader.new ≡ reader.old) × (log.new ≡ log.old) }
+
+        ensures bounded { TakesAtMost (request_limit self.old.sync) (S.coming reader.old)
+            (S.coming reader.new) }
+
         ensures reader_fault { result ≡ Err Fault.Read
             → Rose (S.failed reader.old) (S.failed reader.new) }
         ensures writer_fault { result ≡ Err Fault.Write

@@ -15,13 +15,14 @@ use tk_message::Status;
 pub enum Fault {
     /// The request couldn't be read. The region is unchanged, and nothing was written.
     Read,
-    /// The reply couldn't be written whole. The fact is added, and its record is in the log.
+    /// The reply couldn't be written whole. The fact is added, and its record is in the log, as is a
+    /// bundle that was to be logged.
     Write,
-    /// The record couldn't be written whole. The fact is added, the client got no reply, and the
-    /// edge is sealed.
+    /// The record, or a bundle that was to be logged, couldn't be written whole. The facts are
+    /// added, the client got no reply, and the edge is sealed.
     Log,
-    /// Memory ran out. Nothing was written. The region is unchanged, except that the first facts of
-    /// a pushed bundle may be in.
+    /// Memory ran out. There is no reply. The region is unchanged, except that the first facts of a
+    /// pushed bundle may be in. The log is unchanged, or has that bundle if bundles are logged.
     Memory,
 }
 

@@ -1,8 +1,8 @@
 -- A log that gets the bundles taken in has all that its region holds (own).
 --   IsHeldBy      each fact of one region is held by another, or skipped there
 --   HasLogged     a region has served connections, and what its log has then
---   LogKeepsAll   a region that loads what another loaded, and that one's log, lacks none of its
---                 facts
+--   LogKeepsAll   a region that has loaded what another loaded, and that one's log, lacks none of
+--                 its facts
 use Rattle.std.specs.Prelude.{◌≡◌, ℕ, true, List, [], ◌++◌, Option, Some, Result, Ok}
 use Rattle.std.specs.FinMap as sets
 use Rattle.rand_chacha.specs.ChaCha.{ChaCha}
@@ -39,8 +39,8 @@ pub record HasLogged (old : List ℕ) (region : RegionFields) (log : List ℕ) :
       (record { edge = edge_of start; log = Some []; faults = faults }) ends
       (record { edge = edge_of region; log = Some log; faults = told })
 
--- a region that loads what another loaded, and behind it that one's log, holds each fact that the
--- other held, or has skipped it
+-- a region that has loaded what another loaded, and behind it that one's log, holds each fact that
+-- the other held, or has skipped it
 abbrev pub LogKeepsAll : Type 0
 LogKeepsAll =
     (old : List ℕ) (region : RegionFields) (log : List ℕ) → HasLogged old region log

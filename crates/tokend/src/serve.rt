@@ -311,7 +311,7 @@ fn serve_since<R: AllocGlobal + Clock, L: Sink>(
         return Err(EdgeFault::Read);
     };
     let mut sink = TimedSink::new(&source);
-    edge.serve_one(
+    edge.serve_one_logging(
         rt.alloc(),
         &mut source,
         &mut sink,

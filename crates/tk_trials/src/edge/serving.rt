@@ -80,7 +80,7 @@ fn ends_at(
     let mut reader = FrailSource::new(talk.request, given.max(1), read);
     let mut writer = FrailSink::new(alloc, taken.max(1), write);
     let mut log = FrailSink::new(alloc, taken.max(1), log);
-    let result = edge.serve_one(
+    let result = edge.serve_one_logging(
         alloc,
         &mut reader,
         &mut writer,
@@ -294,7 +294,6 @@ fn is_served_by_std(alloc: Global, edge: &mut Edge) -> bool {
         &mut reader,
         &mut writer,
         &mut log,
-        true,
         &mut buf,
         now,
         &[0; 6],

@@ -2,7 +2,7 @@ use Rattle.std.proofs.Common.{◌≡◌, subst, rules}
 use Rattle.tk_edge.specs.EdgeFields.{EdgeFields}
 use Rattle.tk_edge.specs.Served.{IsServed}
 use Rattle.tk_edge.specs.Told.{Change}
-use Rattle.tk_edge.proofs.edge.Edge.serve_one.Goals as goal
+use Rattle.tk_edge.proofs.edge.Edge.serve_one_logging.Goals as goal
 
 pub returns-in-Ok-clause-served : goal.returns-in-Ok-clause-served
 returns-in-Ok-clause-served g c = λ unsealed.
