@@ -1,0 +1,94 @@
+"""Bundles and vectors, by the lengths and dots of docs/FORMATS.md. Bodies of facts aren't read."""
+import struct
+
+HEADS = {b"OTB1": 6, b"OTB2": 6, b"OTB3": 14}  # bytes before the first item
+ITEM = struct.Struct(">HHQ")  # an item's length and its dot
+DOT = struct.Struct(">HQ")
+MOST_ITEMS, LEAST_BYTES, MOST_BYTES = 128, 10, 8192
+
+
+class NoBundle(Exception):
+    """Bytes that don't begin a bundle, or are no vector."""
+
+
+class Held:
+    """The dots that are held: of each region the serial up to which all are, and those above."""
+
+    def __init__(self):
+        self.fronts, self.above = {}, {}
+
+    def add(self, region, serial):
+        front = self.fronts.setdefault(region, 0)
+        if serial == front + 1:
+            self.fronts[region] = serial
+            if region in self.above:
+                self.close(region)
+        elif serial > front:
+            self.above.setdefault(region, set()).add(serial)
+
+    def close(self, region):
+        """Moves the front over serials above it that have no gap any more."""
+        above, front = self.above[region], self.fronts[region]
+        while front + 1 in above:
+            front += 1
+            above.remove(front)
+        self.fronts[region] = front
+
+    def regions(self):
+        """The numbers that a dot has."""
+        return self.fronts.keys()
+
+    def vector(self):
+        entries = sorted((region, front) for region, front in self.fronts.items() if front)
+        return (b"OTV1" + struct.pack(">H", len(entries))
+                + b"".join(DOT.pack(*entry) for entry in entries))
+
+
+def bundle_at(data, at):
+    """The end of the bundle at a place, and the dots of its items; None if the data ends first."""
+    size = HEADS.get(bytes(data[at:at + 4]))
+    if not size and len(data) - at >= 6:
+        raise NoBundle("no bundle at byte %d" % at)
+    if not size or len(data) - at < size:
+        return None
+    (count,) = struct.unpack_from(">H", data, at + size - 2)
+    end, dots = at + size, []
+    if count > MOST_ITEMS:
+        raise NoBundle("no bundle at byte %d" % at)
+    for _ in range(count):
+        if len(data) - end < ITEM.size:
+            return None
+        length, region, serial = ITEM.unpack_from(data, end)
+        if not LEAST_BYTES <= length <= MOST_BYTES:
+            raise NoBundle("no bundle at byte %d" % at)
+        end += 2 + length
+        dots.append((region, serial))
+    return (end, dots) if end <= len(data) else None
+
+
+def whole_bytes(data, held):
+    """How many bytes the whole bundles at the front take. Adds their dots to those held."""
+    at = 0
+    while found := bundle_at(data, at):
+        at, dots = found
+        for region, serial in dots:
+            held.add(region, serial)
+    return at
+
+
+def page_dots(page):
+    """The dots of a reply that must be one bundle."""
+    found = bundle_at(page, 0)
+    if not found or found[0] != len(page):
+        raise NoBundle("a page is no bundle")
+    return found[1]
+
+
+def vector_regions(vector):
+    """The region numbers of a vector."""
+    if vector[:4] != b"OTV1" or len(vector) < 6:
+        raise NoBundle("no vector")
+    (count,) = struct.unpack_from(">H", vector, 4)
+    if len(vector) != 6 + count * DOT.size:
+        raise NoBundle("no vector")
+    return {DOT.unpack_from(vector, 6 + place * DOT.size)[0] for place in range(count)}

@@ -1,0 +1,89 @@
+"""Other regions, as a start asks them: their vectors, and the facts that the site lacks.
+
+No proxy of the environment is used. Each request has an end of its own, and all of them together
+have one, so a peer that is silent or slow can't hold up a start.
+"""
+import contextlib
+import http.client
+import signal
+import time
+import urllib.parse
+
+from starting.bundles import DOT, MOST_ITEMS, NoBundle, page_dots, vector_regions
+
+SILENCE, LONGEST = 5, 15  # seconds without a byte, and of one request
+MOST_BYTES = 1_100_000  # of a reply: above the longest page and the longest vector
+FAULTS = OSError, http.client.HTTPException, NoBundle, ValueError
+
+
+class Late(OSError):
+    """The time of a request, or of all of them, is over."""
+
+
+@contextlib.contextmanager
+def at_most(seconds):
+    """Raises Late in what goes on after this many seconds."""
+    def late(*_):
+        raise Late("no whole reply in time")
+    if seconds <= 0:
+        late()
+    before = signal.signal(signal.SIGALRM, late)
+    signal.setitimer(signal.ITIMER_REAL, seconds)
+    try:
+        yield
+    finally:
+        signal.setitimer(signal.ITIMER_REAL, 0)
+        signal.signal(signal.SIGALRM, before)
+
+
+def connection_to(url):
+    kinds = {"http": http.client.HTTPConnection, "https": http.client.HTTPSConnection}
+    if url.scheme not in kinds or not url.hostname:
+        raise ValueError("it is no URL that begins with http:// or https://")
+    return kinds[url.scheme](url.hostname, url.port, timeout=SILENCE)
+
+
+def body_of(reply):
+    if reply.status != 200:
+        raise ValueError("status %d" % reply.status)
+    body = b""
+    while piece := reply.read(65_536):
+        body += piece
+        if len(body) > MOST_BYTES:
+            raise ValueError("a reply is too long")
+    if reply.length:
+        raise ValueError("a reply is cut off")
+    return body
+
+
+class Peer:
+    """A region at a base URL, which is asked up to the end of the time for all peers."""
+
+    def __init__(self, url, end):
+        self.url, self.end = url, end
+
+    def ask(self, method, path, body=None):
+        url = urllib.parse.urlsplit(self.url)
+        with (at_most(min(LONGEST, self.end - time.monotonic())),
+              contextlib.closing(connection_to(url)) as connection):
+            connection.request(method, url.path.rstrip("/") + path, body,
+                               {"Content-Type": "application/octet-stream"})
+            return body_of(connection.getresponse())
+
+    def regions(self):
+        """The numbers of which it holds facts."""
+        return vector_regions(self.ask("GET", "/sync/vector"))
+
+    def pages(self, vector):
+        """Each page of what a vector lacks, with its dots."""
+        cursor = bytes(DOT.size)
+        while True:
+            page = self.ask("POST", "/sync/pull", cursor + vector)
+            dots = page_dots(page)
+            if dots:
+                yield page, dots
+            if len(dots) < MOST_ITEMS:
+                return
+            if DOT.pack(*dots[-1]) <= cursor:
+                raise NoBundle("pages go round")
+            cursor = DOT.pack(*dots[-1])

@@ -1,0 +1,111 @@
+"""The program that is started: what it says of a file, of options and of a port."""
+import contextlib
+import os
+import re
+import signal
+import socket
+import subprocess
+import time
+
+from starting.peers import FAULTS, Peer
+from starting.stop import FAILED, NO_LOG, SETTINGS, Stop
+
+NOTHING = "/dev/null"
+PAUSE = 0.2  # seconds between two questions whether it listens
+
+
+@contextlib.contextmanager
+def seed():
+    """The reading end of a pipe with 32 random bytes. No file ever has them."""
+    reader, writer = os.pipe()
+    try:
+        os.write(writer, os.urandom(32))
+        os.close(writer)
+        yield reader
+    finally:
+        os.close(reader)
+
+
+def words(settings, number, port, load, log, secret):
+    return [settings.tokend, "serve", "--region", str(number), "--port", str(port),
+            "--seed", "/dev/fd/%d" % secret, "--load", load, "--log", log, "--log-taken",
+            *settings.options]
+
+
+def tried(settings, number, load):
+    """What the program does with a file and the options, if it serves no connection."""
+    with seed() as secret:
+        line = words(settings, number, 0, load, NOTHING, secret) + ["--requests", "0"]
+        try:
+            return subprocess.run(line, stdin=subprocess.DEVNULL, capture_output=True,
+                                  text=True, errors="replace", pass_fds=[secret], check=False)
+        except OSError as why:
+            raise Stop(SETTINGS, "%s can't be run: %s" % (settings.tokend, why)) from None
+
+
+def check_options(settings):
+    """Stops if the program refuses the options, or would do something else than serve."""
+    done = tried(settings, settings.numbers[0], NOTHING)
+    if done.returncode == 2:
+        raise Stop(SETTINGS, "the options are refused\n" + done.stderr.strip())
+    if done.returncode:
+        raise Stop(FAILED, "the program ends with status %d: %s"
+                   % (done.returncode, done.stderr.strip()))
+    if not done.stdout.startswith("listening "):
+        raise Stop(SETTINGS, "with these options the program doesn't serve")
+
+
+def check_port(port):
+    """Stops if the port can't be listened on."""
+    with socket.socket() as it:
+        it.setsockopt(socket.SOL_SOCKET, socket.SO_REUSEADDR, 1)
+        try:
+            it.bind(("127.0.0.1", port))
+            it.listen(1)
+        except OSError as why:
+            raise Stop(FAILED, "port %d: %s" % (port, why)) from None
+
+
+def cut_bytes(settings, number, path):
+    """How many bytes at the end of a log are a cut record. Stops if it is no log."""
+    done = tried(settings, number, path)
+    if done.returncode == 2:
+        raise Stop(NO_LOG, "%s is no log (%s): see whole-records" % (path, done.stderr.strip()))
+    if done.returncode:
+        raise Stop(FAILED, "%s was not checked: the program ended with status %d: %s"
+                   % (path, done.returncode, done.stderr.strip()))
+    cut = re.match(r"dropped (\d+) bytes\n", done.stdout)
+    return int(cut[1]) if cut else 0
+
+
+def become(settings, number, load, log):
+    """Puts the program in the place of this one, which must hold its lock open by then."""
+    for kind in signal.SIGPIPE, signal.SIGXFSZ:  # Python ignores them, and so would the program
+        signal.signal(kind, signal.SIG_DFL)
+    with seed() as secret:
+        os.set_inheritable(secret, True)
+        line = words(settings, number, settings.port, load, log, secret)
+        os.execv(line[0], line)
+
+
+def is_running(process):
+    try:
+        os.kill(process, 0)
+    except ProcessLookupError:
+        return False
+    except PermissionError:
+        pass
+    return True
+
+
+def wait(port, process):
+    """Returns once a server replies on the port. Stops if the process has ended before."""
+    url = "http://127.0.0.1:%d" % port
+    while True:
+        try:
+            Peer(url, time.monotonic() + 60).regions()
+            return
+        except FAULTS:
+            if process and not is_running(process):
+                raise Stop(FAILED, "the start ended before it replied") from None
+        time.sleep(PAUSE)

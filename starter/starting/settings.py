@@ -1,0 +1,74 @@
+"""What a start is told: by its arguments and by variables of the environment."""
+import os
+import re
+import shutil
+import typing
+
+from starting.stop import SETTINGS, Stop
+
+GREATEST = 65_535  # of region numbers and of ports
+SECONDS = 60  # that all peers together may take
+
+
+class Settings(typing.NamedTuple):
+    """All of it, with names of files that are absolute."""
+    folder: str
+    port: int
+    numbers: range
+    tokend: str
+    options: list
+    peers: list
+    seconds: int
+
+
+def number(text, least, greatest, what):
+    """The number that a text of decimal digits spells, within its bounds."""
+    if not re.fullmatch(r"[0-9]{1,9}", text) or not least <= int(text) <= greatest:
+        raise Stop(SETTINGS, "%s is %r, and not a number from %d to %d"
+                   % (what, text, least, greatest))
+    return int(text)
+
+
+def given(environ, arguments):
+    """The environment, with the three arguments in the places of their variables."""
+    if not arguments:
+        return environ
+    if len(arguments) != 3:
+        raise Stop(SETTINGS, "usage: tokend-start [FOLDER PORT FIRST-LAST]")
+    folder, port, numbers = arguments
+    first, _, last = numbers.partition("-")
+    return {**environ, "STATE_DIRECTORY": folder, "TOKEND_PORT": port, "TOKEND_FIRST": first,
+            "TOKEND_LAST": last}
+
+
+def command(text):
+    """The absolute name of a program, which is a file or a name on the path."""
+    found = shutil.which(text)
+    if not found:
+        raise Stop(SETTINGS, "TOKEND is %r, and no program" % text)
+    return os.path.abspath(found)
+
+
+def port_of(environ):
+    return number(environ.get("TOKEND_PORT", ""), 1, GREATEST, "TOKEND_PORT")
+
+
+def main_process(environ):
+    """The process that a service manager watches; 0 if there is none."""
+    return number(environ.get("MAINPID") or "0", 0, 999_999_999, "MAINPID")
+
+
+def read(environ, arguments):
+    """The settings of a start. Nothing is changed by reading them."""
+    environ = given(environ, arguments)
+    folder = environ.get("STATE_DIRECTORY", "")
+    if not folder:
+        raise Stop(SETTINGS, "STATE_DIRECTORY is not set, and no folder is named")
+    first = number(environ.get("TOKEND_FIRST", ""), 1, GREATEST, "TOKEND_FIRST")
+    last = number(environ.get("TOKEND_LAST", ""), first, GREATEST, "TOKEND_LAST")
+    seconds = environ.get("TOKEND_PEER_SECONDS", str(SECONDS))
+    return Settings(
+        os.path.abspath(folder), port_of(environ), range(first, last + 1),
+        command(environ.get("TOKEND") or "tokend"), environ.get("TOKEND_OPTIONS", "").split(),
+        environ.get("TOKEND_PEERS", "").split(),
+        number(seconds, 0, 86_400, "TOKEND_PEER_SECONDS"))

@@ -1,0 +1,154 @@
+"""The folder of a site: its logs, its history, the numbers that were taken, and its lock.
+
+    number      the number taken last
+    log/        the log of the run that goes on, NUMBER.otb
+    old/        the logs of ended runs; a start loads them
+    history/    segments of whole bundles, by peers and by backup; a start loads them
+    peers.part  what a start fetches now
+    load.otb    all that a start loads, made anew each time
+
+A file has its final name only once it is whole and synced. Two are written in place: a log and
+peers.part, of which a cut end is left out.
+"""
+import contextlib
+import fcntl
+import glob
+import mmap
+import os
+import re
+
+from starting.bundles import Held, NoBundle, whole_bytes
+from starting.stop import HELD, NO_LOG, NO_NUMBER, SETTINGS, Stop
+
+
+def sync_folder(path):
+    """Makes names in a folder last."""
+    folder = os.open(path, os.O_RDONLY | os.O_DIRECTORY)
+    try:
+        os.fsync(folder)
+    finally:
+        os.close(folder)
+
+
+def free_name(folder, name):
+    """A path in the folder at which nothing is: by the name, or with a count behind it."""
+    stem, end = os.path.splitext(name)
+    path, count = os.path.join(folder, name), 0
+    while os.path.lexists(path):
+        count += 1
+        path = os.path.join(folder, "%s-%d%s" % (stem, count, end))
+    return path
+
+
+@contextlib.contextmanager
+def bytes_of(path):
+    """The bytes of a file, which aren't read before they are looked at."""
+    with open(path, "rb") as file:
+        if not os.fstat(file.fileno()).st_size:
+            yield b""
+            return
+        with mmap.mmap(file.fileno(), 0, access=mmap.ACCESS_READ) as data:
+            yield data
+
+
+def copy_front(path, size, out):
+    """Appends so many bytes at the front of a file to another."""
+    with open(path, "rb") as file:
+        at = 0
+        while at < size:
+            at += os.sendfile(out.fileno(), file.fileno(), at, size - at)
+
+
+class Site:
+    """The folder, which nobody else starts a run of as long as this process lives."""
+
+    def __init__(self, folder):
+        self.folder = folder
+        for name in "", "log", "old", "history":
+            os.makedirs(self.path(name), exist_ok=True)
+        self.lock = os.open(self.path("lock"), os.O_RDWR | os.O_CREAT, 0o600)
+        try:
+            fcntl.flock(self.lock, fcntl.LOCK_EX | fcntl.LOCK_NB)
+        except BlockingIOError:
+            raise Stop(HELD, "a run holds %s" % folder) from None
+
+    def path(self, *names):
+        return os.path.join(self.folder, *names)
+
+    def hand_lock_on(self):
+        """Lets the program that takes the place of this one hold the lock."""
+        os.set_inheritable(self.lock, True)
+
+    def segments(self, *folders):
+        """The logs and segments in some folders."""
+        return [path for folder in folders
+                for path in sorted(glob.glob(os.path.join(
+                    glob.escape(self.path(folder)), "*.otb")))]
+
+    def move(self, path, folder, name=None):
+        """Moves a synced file into a folder, where it never takes the place of another."""
+        to = free_name(self.path(folder), name or os.path.basename(path))
+        os.rename(path, to)
+        sync_folder(self.path(folder))
+        sync_folder(os.path.dirname(path))
+        return to
+
+    def history(self):
+        """What is held, and the paths with how many bytes of each are whole bundles."""
+        held, parts = Held(), []
+        for path in self.segments("old", "history"):
+            with bytes_of(path) as data:
+                try:
+                    parts.append((path, whole_bytes(data, held)))
+                except NoBundle as why:
+                    raise Stop(NO_LOG, "%s is no log (%s): see whole-records"
+                               % (path, why)) from None
+        return held, parts
+
+    def write_load(self, parts):
+        """The file of all parts, one behind the other."""
+        path = self.path("load.otb")
+        with open(path, "wb", buffering=0) as out:
+            for part, size in parts:
+                copy_front(part, size, out)
+        return path
+
+    def last_number(self):
+        """The number taken last; 0 if the file that says so is empty or gone."""
+        path = self.path("number")
+        if not os.path.exists(path):
+            return 0
+        with open(path, encoding="ascii", errors="replace") as file:
+            text = file.read().strip()
+        if not re.fullmatch(r"[0-9]{0,5}", text):
+            raise Stop(SETTINGS, "%s has %r, and no region number" % (path, text))
+        return int(text or 0)
+
+    def numbers_of_logs(self):
+        """The numbers that the names of logs have."""
+        names = (os.path.basename(it) for it in self.segments("log", "old"))
+        return {int(it[1]) for name in names if (it := re.match(r"0*([0-9]{1,5})\b", name))}
+
+    def next_number(self, numbers, seen):
+        """The number above all of the site's that were taken, or that facts were seen of."""
+        used = {self.last_number()} | self.numbers_of_logs() | set(seen)
+        number = max((it for it in used if it in numbers), default=numbers[0] - 1) + 1
+        if number not in numbers:
+            raise Stop(NO_NUMBER, "all numbers from %d to %d are used" % (
+                numbers[0], numbers[-1]))
+        return number
+
+    def take(self, number):
+        """Takes a number for good, and makes its log: returns the log's path."""
+        with open(self.path("number.new"), "w", encoding="ascii") as file:
+            file.write("%d\n" % number)
+            file.flush()
+            os.fsync(file.fileno())
+        os.replace(self.path("number.new"), self.path("number"))
+        sync_folder(self.folder)
+        path = self.path("log", "%05d.otb" % number)
+        log = os.open(path, os.O_WRONLY | os.O_CREAT | os.O_EXCL, 0o600)
+        os.fsync(log)
+        os.close(log)
+        sync_folder(self.path("log"))
+        return path

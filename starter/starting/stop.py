@@ -1,0 +1,10 @@
+"""What ends a start, with the exit status that docs/tokend-start.1 lists."""
+FAILED, HELD, NO_LOG, NO_NUMBER, SETTINGS = 1, 3, 4, 5, 6
+
+
+class Stop(Exception):
+    """Ends the start with a status and a message."""
+
+    def __init__(self, status, message):
+        super().__init__(message)
+        self.status = status
