@@ -11,7 +11,7 @@ import urllib.parse
 
 from starting.bundles import DOT, MOST_ITEMS, NoBundle, page_dots, vector_regions
 
-SILENCE, LONGEST = 5, 15  # seconds without a byte, and of one request
+SILENCE, LONGEST = 6, 15  # seconds without a byte, and of one request
 MOST_BYTES = 1_100_000  # of a reply: above the longest page and the longest vector
 FAULTS = OSError, http.client.HTTPException, NoBundle, ValueError
 
