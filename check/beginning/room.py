@@ -70,11 +70,11 @@ class Child:
 
     def __init__(self, room, words, environ=(), folder=None):
         self.room, self.name = room, "child-%d" % len(room.children)
-        room.children.append(self)
         with open(room.path(self.name), "wb") as said:
             self.process = subprocess.Popen(
                 words, cwd=folder or room.folder, env={**room.environ, **dict(environ)},
                 stdin=subprocess.DEVNULL, stdout=subprocess.PIPE, stderr=said, bufsize=0)
+        room.children.append(self)
         self.output, self.port = b"", None
 
     def errors(self):
