@@ -90,6 +90,14 @@ def program_that_fails_is_no_bad_log(room):
     wanted(room.number() == 1, "a start that was refused used a number")
 
 
+def whole_front_of_a_log_is_counted(room):
+    """Of a log that ends in zeros, as some file systems leave it, or in a cut record."""
+    good = bundle(retirements(7, 1, 2)) + bundle([], b"OTB3" + bytes(8))
+    for rest in (b"", bytes(100), good[:9]):
+        run = Child(room, [START, "--whole", room.write("log", good + rest)])
+        wanted(run.ended() == 0 and run.output == b"%d\n" % len(good), "another count", run.output)
+
+
 def history_that_is_bad_is_named(room):
     room.write("site/history/mine.otb", b"nothing of this kind")
     run = room.start()

@@ -1,14 +1,14 @@
 """Options: the program's help against OPERATING.md and the manual page, and each range by trial.
 
-To each option its range, or None for a file, and its default: a number's text, "must be given", or
-"none"."""
+To each option its range, or None for a file, and its default: a number's text, "must be given",
+"none", or "off" if it takes no value."""
 import re
 import subprocess
 
 from comparing.limits import documents
 from comparing.texts import OPERATING, PAGE, differ, rows, same, text_of
 
-OPTION = r"^ +(?:-\w, )?--([\w-]+) <(\w+)>((?:.*\n(?! *(?:-\w, )?--))*.*)"
+OPTION = r"^ +(?:-\w, )?--([\w-]+)(?: <(\w+)>)?((?:.*\n(?! *(?:-\w, )?--))*.*)"
 SPELLINGS = {"no log": "none", "without end": "none"}
 
 
@@ -41,12 +41,16 @@ def of_program(program, command):
     options = {}
     where = "tokend %s --help" % command
     for name, value, told in re.findall(OPTION, help_of(program, command), re.M):
+        if not value:
+            options[name] = (None, "off")
+            continue
         told = " ".join(told.split())
         limits = range_in(told)
         default = re.search(r"\[default: ([^\]]*)\]", told)
         said = value_said("[required]" in told, default, limits)
         same(where, "--%s's value" % name, "N" if limits else "FILE", value)
         options[name] = (limits, said)
+    options.pop("help", None)
     if not options:
         differ(where, "has no options")
     return options
@@ -56,7 +60,7 @@ def of_operating():
     options = {}
     for cells in rows(text_of(OPERATING), "option | range"):
         limits = range_in(cells[1])
-        name = re.match(r"`--(\w+) (\w+)`", cells[0]).group(1)
+        name = re.match(r"`--([\w-]+)(?: \w+)?`", cells[0]).group(1)
         options[name] = (limits, default_in(cells[2], limits))
     return options
 
@@ -67,7 +71,7 @@ def of_page(part):
     text = re.split(r"^\.S[SH] ", text, maxsplit=1, flags=re.M)[0]
     text = text.replace("\\-", "-").replace("\\~", " ")
     options = {}
-    for name, told in re.findall(r"^\.TP\n\.BI --(\w+) +\w+\n((?:[^.].*\n?)*)", text, re.M):
+    for name, told in re.findall(r"^\.TP\n\.BI? --([\w-]+)(?: +\w+)?\n((?:[^.].*\n?)*)", text, re.M):
         limits = range_in(told)
         default = re.search(r"Default: ([^.,]*)", told)
         said = value_said("Must be given" in told, default, limits)

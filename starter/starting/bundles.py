@@ -8,7 +8,15 @@ MOST_ITEMS, LEAST_BYTES, MOST_BYTES = 128, 10, 8192
 
 
 class NoBundle(Exception):
-    """Bytes that don't begin a bundle, or are no vector."""
+    """Bytes that don't begin a bundle, or are no vector; of a file with the place of the first."""
+
+    def __init__(self, message, at=0):
+        super().__init__(message)
+        self.at = at
+
+
+def no_bundle(at):
+    return NoBundle("no bundle at byte %d" % at, at)
 
 
 class Held:
@@ -48,19 +56,19 @@ def bundle_at(data, at):
     """The end of the bundle at a place, and the dots of its items; None if the data ends first."""
     size = HEADS.get(bytes(data[at:at + 4]))
     if not size and len(data) - at >= 6:
-        raise NoBundle("no bundle at byte %d" % at)
+        raise no_bundle(at)
     if not size or len(data) - at < size:
         return None
     (count,) = struct.unpack_from(">H", data, at + size - 2)
     end, dots = at + size, []
     if count > MOST_ITEMS:
-        raise NoBundle("no bundle at byte %d" % at)
+        raise no_bundle(at)
     for _ in range(count):
         if len(data) - end < ITEM.size:
             return None
         length, region, serial = ITEM.unpack_from(data, end)
         if not LEAST_BYTES <= length <= MOST_BYTES:
-            raise NoBundle("no bundle at byte %d" % at)
+            raise no_bundle(at)
         end += 2 + length
         dots.append((region, serial))
     return (end, dots) if end <= len(data) else None

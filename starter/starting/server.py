@@ -8,7 +8,7 @@ import subprocess
 import time
 
 from starting.peers import FAULTS, Peer
-from starting.stop import FAILED, NO_LOG, SETTINGS, Stop
+from starting.stop import FAILED, SETTINGS, Stop, no_log
 
 NOTHING = "/dev/null"
 PAUSE = 0.2  # seconds between two questions whether it listens
@@ -70,7 +70,7 @@ def cut_bytes(settings, number, path):
     """How many bytes at the end of a log are a cut record. Stops if it is no log."""
     done = tried(settings, number, path)
     if done.returncode == 2:
-        raise Stop(NO_LOG, "%s is no log (%s): see whole-records" % (path, done.stderr.strip()))
+        raise no_log(path, done.stderr.strip())
     if done.returncode:
         raise Stop(FAILED, "%s was not checked: the program ended with status %d: %s"
                    % (path, done.returncode, done.stderr.strip()))

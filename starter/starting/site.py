@@ -18,7 +18,7 @@ import os
 import re
 
 from starting.bundles import Held, NoBundle, whole_bytes
-from starting.stop import HELD, NO_LOG, NO_NUMBER, SETTINGS, Stop
+from starting.stop import HELD, NO_NUMBER, SETTINGS, Stop, no_log
 
 
 def sync_folder(path):
@@ -101,8 +101,7 @@ class Site:
                 try:
                     parts.append((path, whole_bytes(data, held)))
                 except NoBundle as why:
-                    raise Stop(NO_LOG, "%s is no log (%s): see whole-records"
-                               % (path, why)) from None
+                    raise no_log(path, why) from None
         return held, parts
 
     def write_load(self, parts):

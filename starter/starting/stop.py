@@ -8,3 +8,8 @@ class Stop(Exception):
     def __init__(self, status, message):
         super().__init__(message)
         self.status = status
+
+
+def no_log(path, why):
+    return Stop(NO_LOG, "%s is no log (%s): tokend-start --whole says how much of it is good"
+                % (path, why))
