@@ -123,8 +123,8 @@ def folders_have_spaces(room):
 
 
 def silent_peer_is_passed_over(room):
-    with Peer() as silent, Peer() as other:
-        room.start(peers=[silent.url, other.url]).listening(SOON)
+    with Peer() as silent:
+        room.start(peers=[silent.url]).listening(SOON)
 
 
 def slow_start_is_waited_for(room):

@@ -8,6 +8,7 @@ from comparing.texts import OPERATING, PAGE, coded, rows, same, text_of
 
 FAULT, SERVE = "crates/tokend/src/fault.rt", "crates/tokend/src/serve.rt"
 LISTEN = "crates/tokend/src/listen.rt"
+START_PAGE = "docs/tokend-start.1"
 LINE = r'Fault::(\w+)(?:\(\w+\))? => (?:put_all|tell_\w+)\(faults, [^"\n]*b"([^"]*)"'
 
 
@@ -69,10 +70,14 @@ def compare_errors(where, wanted, said):
 
 def compare_scripts():
     """Statuses of the examples' scripts, in their sources and on their pages."""
-    start = "examples/two-regions/"
-    wanted = set(re.findall(r"\bdie (\d)", text_of(start + "next-start")))
-    said = text_of(start + "README.md").split("**Status of `next-start`**")[1].split("\n\n")[0]
-    same(start + "README.md", "next-start's statuses", wanted, set(re.findall(r"\b(\d) ", said)))
+    start, page = text_of("starter/starting/stop.py"), text_of(START_PAGE)
+    wanted = set(re.findall(r"\d", re.search(r"^FAILED, .* = (.*)$", start, re.M)[1]))
+    said = page.split('.SH "EXIT STATUS"')[1].split(".SH ")[0]
+    same(START_PAGE, "the statuses", wanted, set(re.findall(r"^\.B (\d)$", said, re.M)))
+    wanted = set(re.findall(r'"(TOKEND\w*|STATE_DIRECTORY|MAINPID)"',
+                            text_of("starter/starting/settings.py")))
+    said = page.split(".SH ENVIRONMENT")[1].split(".SH ")[0]
+    same(START_PAGE, "the variables", wanted, set(re.findall(r"^\.B (\w+)$", said, re.M)))
     carry = text_of("examples/carry/carry").split("# Status 0")[1].split("\n#\n")[0]
     page = "examples/carry/README.md"
     said = {cells[0] for cells in rows(text_of(page), "status | meaning")}
