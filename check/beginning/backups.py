@@ -1,7 +1,6 @@
 """backups: what `backup` keeps of a server, and what it refuses. Each is a function of a room."""
 import glob
 import os
-import re
 import time
 
 from beginning.room import BACKUP, DOT, Child, Peer, bundle, retirements, vector, wanted
@@ -118,5 +117,7 @@ def killed_backup_leaves_nothing_that_counts(room):
     wanted(not glob.glob(room.path("kept", ".backup.*")), "a folder of the killed one is left")
 
 
-CASES = [it for name, it in sorted(globals().items())
-         if re.search(r"backup_|strange|_backup", name) and callable(it)]
+CASES = [
+    backup_keeps_all, backup_ignores_proxies, backup_reads_marks,
+    backup_claims_nothing_that_was_forgotten, backup_refuses_strange_folders,
+    killed_backup_leaves_nothing_that_counts]

@@ -1,10 +1,10 @@
 """cases: what a start does that goes well, and one that doesn't. Each is a function of a room."""
 import os
-import re
+import shutil
 import signal
 import time
 
-from beginning.room import ROOT, START, Child, Peer, Room, bundle, retirements, vector, wanted
+from beginning.room import ROOT, START, Child, Peer, bundle, retirements, vector, wanted
 
 FULL = 128
 SOON = 25  # seconds that no start may be held up for
@@ -227,7 +227,7 @@ def restored_copy_takes_no_used_number(room):
         peer.ask("POST", "/sync/push", run.ask("POST", "/sync/pull", bytes(10) + vector())[1])
         run.stop()
         if not os.path.exists(room.path("copy")):
-            os.system("cp -a %s %s" % (room.path("site"), room.path("copy")))
+            shutil.copytree(room.path("site"), room.path("copy"))
     url = "http://127.0.0.1:%d" % peer.port
     run = room.start(site="copy", peers=[url]).listening()
     wanted(run.add_client() == (4, 1), "a number was used twice", run.vector())
@@ -256,10 +256,11 @@ def proxies_are_ignored(room):
     wanted(run.vector() == {51: 2}, "the proxy was used", run.vector())
 
 
-CASES = [it for name, it in sorted(globals().items())
-         if callable(it) and re.match(r"[a-z]", name) and it.__module__ == __name__]
-
-
-def run(program, case):
-    with Room(program) as room:
-        case(room)
+CASES = [
+    later_start_has_all, cut_record_is_left_out, second_run_is_refused, option_uses_no_number,
+    setting_is_refused, program_that_fails_is_no_bad_log, whole_front_of_a_log_is_counted,
+    history_that_is_bad_is_named, log_may_have_any_name, folders_have_spaces,
+    silent_peer_is_passed_over, slow_start_is_waited_for, unit_kills_no_start,
+    pages_that_came_are_kept, cut_page_of_a_killed_start_is_left_out,
+    second_peer_isnt_asked_for_the_same, bad_page_stops_no_start, signal_leaves_no_seed,
+    restored_copy_takes_no_used_number, numbers_run_out, proxies_are_ignored]

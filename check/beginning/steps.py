@@ -9,14 +9,13 @@ import shutil
 import signal
 import sys
 
-from beginning.room import START, Child, Room, bundle, retirements, wanted
+from beginning.room import START, Child, bundle, retirements, wanted
 
 KILLED = os.path.join(os.path.dirname(os.path.abspath(__file__)), "killed.py")
 KEPT = {1: 2, 2: 1, 50: 3, 60: 3, 61: 2}
 FETCHED = {50: 5, 71: 200}
 LEFT = re.compile(r"lock|number|load\.otb|log/\d{5}\.otb|old/\d{5}\.otb|"
                   r"history/(mine|peers-[0-9TZ]+(-\d+)?)\.otb")
-killed = 0
 
 
 def prepare(room):
@@ -93,17 +92,16 @@ def next_start(room, before):
     return region
 
 
-def run(program):
-    """Kills a start before each of its steps."""
-    global killed
-    with Room(program) as room:
-        peer = prepare(room)
-        steps = all_steps(room, peer)
-        for step in range(1, len(steps) + 1):
-            status = attempt(room, peer, step).ended()
-            wanted(status == -signal.SIGKILL, "not killed before step %d" % step, status)
-            before = steps_of(room)[:-1]
-            taken = room.number("tried")
-            region = next_start(room, before)
-            wanted(region > taken, "a number was taken twice", (steps[step - 1], region))
-            killed += 1
+def killed_start_harms_no_other(room):
+    """A start that is killed before each of its steps, some forty."""
+    peer = prepare(room)
+    steps = all_steps(room, peer)
+    for step in range(1, len(steps) + 1):
+        status = attempt(room, peer, step).ended()
+        wanted(status == -signal.SIGKILL, "not killed before step %d" % step, status)
+        taken, before = room.number("tried"), steps_of(room)[:-1]
+        region = next_start(room, before)
+        wanted(region > taken, "a number was taken twice", (steps[step - 1], region))
+
+
+CASES = [killed_start_harms_no_other]
