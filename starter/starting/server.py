@@ -60,8 +60,7 @@ def check_port(port):
     with socket.socket() as it:
         it.setsockopt(socket.SOL_SOCKET, socket.SO_REUSEADDR, 1)
         try:
-            it.bind(("127.0.0.1", port))
-            it.listen(1)
+            it.bind(("127.0.0.1", port))  # fails if another listens; nobody can connect meanwhile
         except OSError as why:
             raise Stop(FAILED, "port %d: %s" % (port, why)) from None
 

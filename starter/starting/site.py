@@ -56,7 +56,10 @@ def copy_front(path, size, out):
     with open(path, "rb") as file:
         at = 0
         while at < size:
-            at += os.sendfile(out.fileno(), file.fileno(), at, size - at)
+            sent = os.sendfile(out.fileno(), file.fileno(), at, size - at)
+            if not sent:
+                raise OSError("%s became shorter" % path)
+            at += sent
 
 
 class Site:
