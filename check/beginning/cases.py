@@ -238,6 +238,12 @@ def restored_copy_takes_no_used_number(room):
     wanted(run.add_client() == (4, 1), "a number of history was used again")
 
 
+def number_of_a_peer_counts_without_its_pages(room):
+    with Peer(lambda path, _: vector(r4=1, r50=1) if path == "/sync/vector" else None) as peer:
+        room.start(peers=[peer.url]).listening()
+    wanted(room.number() == 5, "a number was taken that a peer has facts of", room.number())
+
+
 def numbers_run_out(room):
     for number in (1, 2):
         run = room.start("1-2").listening()
@@ -263,4 +269,5 @@ CASES = [
     silent_peer_is_passed_over, slow_start_is_waited_for, unit_kills_no_start,
     pages_that_came_are_kept, cut_page_of_a_killed_start_is_left_out,
     second_peer_isnt_asked_for_the_same, bad_page_stops_no_start, signal_leaves_no_seed,
-    restored_copy_takes_no_used_number, numbers_run_out, proxies_are_ignored]
+    restored_copy_takes_no_used_number, number_of_a_peer_counts_without_its_pages,
+    numbers_run_out, proxies_are_ignored]

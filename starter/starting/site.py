@@ -21,13 +21,13 @@ from starting.bundles import Held, NoBundle, whole_bytes
 from starting.stop import HELD, NO_NUMBER, SETTINGS, Stop, no_log
 
 
-def sync_folder(path):
-    """Makes names in a folder last."""
-    folder = os.open(path, os.O_RDONLY | os.O_DIRECTORY)
+def sync(path):
+    """Makes the bytes of a file last, or the names in a folder."""
+    it = os.open(path, os.O_RDONLY)
     try:
-        os.fsync(folder)
+        os.fsync(it)
     finally:
-        os.close(folder)
+        os.close(it)
 
 
 def free_name(folder, name):
@@ -89,11 +89,12 @@ class Site:
                     glob.escape(self.path(folder)), "*.otb")))]
 
     def move(self, path, folder, name=None):
-        """Moves a synced file into a folder, where it never takes the place of another."""
+        """Moves a file into a folder, where it never takes the place of another."""
         to = free_name(self.path(folder), name or os.path.basename(path))
+        sync(path)
         os.rename(path, to)
-        sync_folder(self.path(folder))
-        sync_folder(os.path.dirname(path))
+        sync(self.path(folder))
+        sync(os.path.dirname(path))
         return to
 
     def history(self):
@@ -147,10 +148,10 @@ class Site:
             file.flush()
             os.fsync(file.fileno())
         os.replace(self.path("number.new"), self.path("number"))
-        sync_folder(self.folder)
+        sync(self.folder)
         path = self.path("log", "%05d.otb" % number)
         log = os.open(path, os.O_WRONLY | os.O_CREAT | os.O_EXCL, 0o600)
         os.fsync(log)
         os.close(log)
-        sync_folder(self.path("log"))
+        sync(self.path("log"))
         return path
