@@ -242,7 +242,7 @@ class Server:
         try:
             link.connect()
         except TimeoutError as why:
-            raise Silent("no connection in %g seconds" % self._access.connect_time) from why
+            raise Silent("no connection within %g s" % self._access.connect_time) from why
         link.sock.settimeout(self._access.reply_time)
         return link
 
@@ -263,7 +263,7 @@ class Server:
             except (OSError, http.client.HTTPException, ValueError) as why:
                 self._close()
                 if limit.is_over or isinstance(why, TimeoutError):
-                    raise Silent("no reply in %g seconds" % self._access.reply_time) from why
+                    raise Silent("no reply within %g s" % self._access.reply_time) from why
                 raise http.client.HTTPException(str(why) or type(why).__name__) from why
 
     def _close(self) -> None:
