@@ -124,8 +124,8 @@ class Reply:
         return ""
 
     def __str__(self) -> str:
-        meaning = self.error or MEANINGS.get(self.status, "not a reply of tokend")
-        return "status %d, %s" % (self.status, meaning)
+        said = [it for it in (self.error, MEANINGS.get(self.status)) if it]
+        return "status %d, %s" % (self.status, ": ".join(said) or "not a reply of tokend")
 
 
 class Limit:
