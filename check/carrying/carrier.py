@@ -1,9 +1,14 @@
 """carrier: runs of examples/carry/carry between servers, and with peers that misbehave."""
 import contextlib
+import os
 import re
+import shutil
 import signal
+import ssl
+import subprocess
 import threading
 import time
+import unittest
 
 from carrying.peers import (EMPTY, NO_BUNDLE, TOOK, Case, bundle, client, clients, mark, proxy)
 
@@ -91,6 +96,14 @@ class Servers(Case):
         self.assertEqual(one.vector(), two.vector())
         self.assertEqual(len(before.asked), 1 + 1 + 3)
         self.assertEqual(before.connections, 2)  # one of each way
+
+    def test_a_proxy_that_drops_its_connections(self):
+        one, two = self.tokend(1, *clients(3, *range(1, 301))), self.tokend(2)
+        before = self.peer(proxy(two), drops=True)
+        status, _, errors = self.carry(one.url, before.url)
+        self.assertEqual((status, errors), (0, ""))
+        self.assertEqual((len(before.asked), before.connections), (5, 5))
+        self.assertEqual(one.vector(), two.vector())
 
     def test_a_proxy_with_a_small_limit(self):
         one, two = self.tokend(1, *clients(3, *range(1, 101))), self.tokend(2)
@@ -200,7 +213,7 @@ class Misbehaving(Case):
         peer = self.peer(saying(vector=(503, {}, b'{"error":"temporarily_unavailable"}')))
         status, _, errors = self.carry(self.tokend(1).url, peer.url)
         self.assertEqual(status, 1)
-        self.assertIn("status 503, temporarily_unavailable (tries: 4)", errors)
+        self.assertIn("status 503, temporarily_unavailable: its log has failed", errors)
         self.assertEqual(peer.asked.count("/sync/vector"), 4)
 
 
@@ -279,6 +292,29 @@ class Names(Case):
         self.assertEqual((status, errors), (0, ""))
         self.assertEqual(one.vector(), two.vector())
         self.assertTrue(all(it.startswith("http://") for it in seen))
+
+    @unittest.skipUnless(shutil.which("openssl"), "no openssl")
+    def test_certificates_of_both_sides(self):
+        key, cert = os.path.join(self.folder, "key"), os.path.join(self.folder, "cert")
+        subprocess.run(["openssl", "req", "-x509", "-newkey", "rsa:2048", "-nodes", "-subj", "/CN=a",
+                        "-addext", "subjectAltName=IP:127.0.0.1", "-keyout", key, "-out", cert],
+                       check=True, capture_output=True)
+        tls = ssl.create_default_context(ssl.Purpose.CLIENT_AUTH, cafile=cert)
+        tls.load_cert_chain(cert, key)
+        tls.verify_mode = ssl.CERT_REQUIRED
+        one, two = self.tokend(1, client(3, 1)), self.tokend(2)
+        url, mine = self.peer(proxy(two), tls=tls).url, "--cert %s --key %s" % (cert, key)
+        self.assertEqual(self.carry(one.url, url, options="--cacert %s %s" % (cert, mine))[0], 0)
+        self.assertEqual(one.vector(), two.vector())
+        for options, why in {"": "(tries: 1)", "--cacert " + cert: "(tries: 4)"}.items():
+            status, _, errors = self.carry(one.url, url, options=options)
+            self.assertEqual(status, 1)
+            self.assertIn(why, errors)
+
+    def test_a_silent_peer_behind_tls(self):
+        _, url = self.listener()
+        errors = self.carry(self.tokend(1).url, "https" + url[4:], options="--connect-timeout 1")
+        self.assertIn("no connection within 1 s (tries: 1)", errors[2])
 
     def test_a_path_before_sync(self):
         one, two = self.tokend(1, client(3, 1)), self.tokend(2)

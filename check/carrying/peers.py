@@ -70,11 +70,11 @@ class Tokend:
 class Peer:
     """A peer made here: `reply` takes path and body, and returns status, fields and body.
 
-    Its connections stay open, as those of a proxy. `asked` has all paths, `connections` how many
-    connections there were.
+    Its connections stay open, as those of a proxy, unless it drops each one unannounced. `asked` has
+    all paths, `connections` how many connections there were.
     """
 
-    def __init__(self, reply):
+    def __init__(self, reply, tls=None, drops=False):
         self.asked, self.connections, peer = [], 0, self
 
         class Handler(BaseHTTPRequestHandler):
@@ -94,7 +94,7 @@ class Peer:
                     self.send_header(name, value)
                 self.end_headers()
                 self.wfile.write(said)
-                self.close_connection = int(fields.get("Content-Length", 0)) > len(said)
+                self.close_connection = drops or int(fields.get("Content-Length", 0)) > len(said)
 
             do_POST = do_GET
 
@@ -105,6 +105,9 @@ class Peer:
         self.server.daemon_threads = True
         self.server.block_on_close = False
         self.url = "http://127.0.0.1:%d" % self.server.server_port
+        if tls:
+            self.server.socket = tls.wrap_socket(self.server.socket, server_side=True)
+            self.url = "https" + self.url[4:]
         threading.Thread(target=self.server.serve_forever, args=[0.05], daemon=True).start()
 
     def close(self):
@@ -135,8 +138,8 @@ class Case(unittest.TestCase):
             self.assertEqual(server.push(items[at:at + 128])[0], 200)
         return server
 
-    def peer(self, reply):
-        return self.stack.enter_context(contextlib.closing(Peer(reply)))
+    def peer(self, reply, **options):
+        return self.stack.enter_context(contextlib.closing(Peer(reply, **options)))
 
     def listener(self):
         """A socket that is listened on, whose connections are never served."""

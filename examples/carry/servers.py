@@ -202,7 +202,10 @@ class Server:
         return Lost(self.url, path, why)
 
     def _ask(self, path: str, body: Optional[bytes] = None) -> Reply:
-        """The first reply that isn't passing. A server that is silent isn't tried again."""
+        """The first reply that isn't passing.
+
+        A server that is silent, or whose certificate isn't good, isn't tried again.
+        """
         pauses = list(self._access.pauses)
         for number in range(1, len(pauses) + 2):
             wait = "0"
@@ -211,10 +214,10 @@ class Server:
                 if not reply.is_passing:
                     return reply
                 why, wait = str(reply), reply.retry_after
+            except (Silent, ssl.SSLCertVerificationError) as error:
+                raise self._lost(path, "%s (tries: %d)" % (_text_of(error), number)) from error
             except (OSError, http.client.HTTPException) as error:
-                why = str(error) or type(error).__name__
-            except Silent as error:
-                raise self._lost(path, "%s (tries: %d)" % (error, number)) from error
+                why = _text_of(error)
             if pauses:
                 asked = int(wait) if wait.isdecimal() else 0
                 time.sleep(max(pauses.pop(0), min(asked, LONGEST_PAUSE)))
@@ -264,12 +267,17 @@ class Server:
                 self._close()
                 if limit.is_over or isinstance(why, TimeoutError):
                     raise Silent("no reply within %g s" % self._access.reply_time) from why
-                raise http.client.HTTPException(str(why) or type(why).__name__) from why
+                raise http.client.HTTPException(_text_of(why)) from why
 
     def _close(self) -> None:
         if self._link is not None:
             self._link.close()
             self._link = None
+
+
+def _text_of(error: Exception) -> str:
+    """What an error says, without its number."""
+    return getattr(error, "strerror", None) or str(error) or type(error).__name__
 
 
 def _read_reply(response: http.client.HTTPResponse) -> Reply:
