@@ -100,9 +100,11 @@ class Servers(Case):
     def test_a_proxy_that_drops_its_connections(self):
         one, two = self.tokend(1, *clients(3, *range(1, 301))), self.tokend(2)
         before = self.peer(proxy(two), drops=True)
-        status, _, errors = self.carry(one.url, before.url)
+        status, output, errors = self.carry(one.url, before.url)
         self.assertEqual((status, errors), (0, ""))
         self.assertEqual((len(before.asked), before.connections), (5, 5))
+        pauses = 3  # seconds that it would take if each were a fault
+        self.assertLess(sum(map(float, re.findall(r"([\d.]+) s$", output, re.M))), pauses)
         self.assertEqual(one.vector(), two.vector())
 
     def test_a_proxy_with_a_small_limit(self):
