@@ -153,6 +153,18 @@ class Misbehaving(Case):
         self.assertIn("no reply within 1 s", errors)
         self.assertLess(seconds, 10)
 
+    def test_a_peer_that_says_no_http(self):
+        it, url = self.listener()
+
+        def say():
+            with contextlib.suppress(OSError):  # the listener is closed
+                while True:
+                    with it.accept()[0] as peer:
+                        peer.recv(1000)
+                        peer.send(b"\x1b[31m" + b"x" * 1000 + b"\r\n")
+        threading.Thread(target=say, daemon=True).start()
+        self.assertRegex(self.run_with(url)[0], r"/sync/pull: \?\[31mx{100,196} \(tries: 4\)\n$")
+
     def test_no_peer(self):
         it, url = self.listener()
         it.close()
@@ -269,7 +281,8 @@ class Runs(Case):
         for words in ([], ["http://127.0.0.1:1"], ["http://a.test", "ftp://b.test"],
                       ["http://a.test", "http://b.test?c"], ["http://a.test", "http://x:99999"]):
             self.assertEqual(self.carry(*words)[0], 2)
-        self.assertEqual(self.carry("http://a.test", "http://b.test", options="--fail")[0], 2)
+        for options in "--fail", "'", "-m x", "-x socks5://c.test", "-x d@c.test":
+            self.assertEqual(self.carry("http://a.test", "http://b.test", options=options)[0], 2)
         self.assertEqual(self.carry("https://a.test", "http://b.test",
                                     options="--cert no.pem")[0], 2)
 
@@ -290,7 +303,8 @@ class Names(Case):
             seen.append(path)
             there = one if path.startswith(one.url) else two
             return proxy(there)(path[len(there.url):], body)
-        status, _, errors = self.carry(one.url, two.url, options="-x " + self.peer(reply).url)
+        way = "-x " + self.peer(reply).url.removeprefix("http://")
+        status, _, errors = self.carry(one.url, two.url, options=way)
         self.assertEqual((status, errors), (0, ""))
         self.assertEqual(one.vector(), two.vector())
         self.assertTrue(all(it.startswith("http://") for it in seen))

@@ -1,14 +1,13 @@
-"""servers: asks a running server for its vector and pages, and pushes bundles to it.
+"""servers: requests to a running server, for its vector, its pages, and pushes of bundles.
 
-Each request may be repeated, so one that fails is tried again. What can't be mended by that is
-Lost, and a bundle that the server doesn't take is Refused.
+Each request may be repeated, so a request that fails is tried again. Lost is raised if no try
+helps, and Refused if the server takes requests, but not this bundle.
 """
 from __future__ import annotations
 
 import argparse
 import contextlib
 import http.client
-import json
 import os
 import re
 import shlex
@@ -27,6 +26,7 @@ from bundles import (FROM_THE_START, MARK, MOST_BYTES, MOST_ITEMS, Bundle, Malfo
 PAUSES = 1, 2, 4  # seconds between tries
 LONGEST_PAUSE = 30  # of those that a server asks for
 LONGEST_REPLY = 14 + MOST_ITEMS * (2 + MOST_BYTES)
+MOST_SAID = 200  # letters of an error
 BYTES = {"Content-Type": "application/octet-stream"}
 T = TypeVar("T")
 MEANINGS = {
@@ -69,7 +69,7 @@ class Access:
 
 
 def read_access(command: str, urls: list[str], pauses: tuple[float, ...] = PAUSES) -> Access:
-    """What the options of a curl command say of it. Ends with status 2 if one isn't known."""
+    """Reads the options of a curl command. Ends with status 2 if one isn't known."""
     parser = argparse.ArgumentParser(prog="CARRY_CURL", add_help=False, allow_abbrev=False)
     parser.add_argument("command", type=os.path.basename, choices=["curl"])
     for flag in "-q", "-s", "-S":
@@ -78,19 +78,27 @@ def read_access(command: str, urls: list[str], pauses: tuple[float, ...] = PAUSE
     parser.add_argument("--key")
     parser.add_argument("--cacert")
     parser.add_argument("--noproxy")  # no proxy is taken from the environment anyway
-    parser.add_argument("-x", "--proxy", type=urllib.parse.urlsplit)
+    parser.add_argument("-x", "--proxy", type=_read_proxy)
     parser.add_argument("--connect-timeout", type=float, default=Access.connect_time)
     parser.add_argument("-m", "--max-time", type=float, default=Access.reply_time)
-    it = parser.parse_args(shlex.split(command))
     tls = None
-    if any(url.startswith("https:") for url in urls):
-        try:
+    try:
+        it = parser.parse_args(shlex.split(command))
+        if any(url.startswith("https:") for url in urls):
             tls = ssl.create_default_context(cafile=it.cacert)
             if it.cert:
                 tls.load_cert_chain(it.cert, it.key)
-        except OSError as why:
-            parser.error("a certificate or key: %s" % why)
+    except (OSError, ValueError) as why:  # a certificate or a key, or a quotation without end
+        parser.error(str(why))
     return Access(it.connect_timeout, it.max_time, pauses, it.proxy, tls)
+
+
+def _read_proxy(text: str) -> urllib.parse.SplitResult:
+    """The URL of a proxy, or its host and port alone."""
+    url = text if "://" in text else "http://" + text
+    if not url.startswith("http://") or not is_base_url(url):
+        raise argparse.ArgumentTypeError("not a proxy: " + text)
+    return urllib.parse.urlsplit(url)
 
 
 def is_base_url(text: str) -> bool:
@@ -117,11 +125,14 @@ class Reply:
     @property
     def error(self) -> str:
         """The error that tokend's JSON has, or nothing."""
-        with contextlib.suppress(ValueError, TypeError, KeyError):
-            error = json.loads(self.body)["error"]
-            if re.fullmatch("[a-z_]+", error):
-                return error
-        return ""
+        found = re.match(rb'\{"error":"([a-z_]{1,64})"', self.body)
+        return found[1].decode() if found else ""
+
+    @property
+    def pause(self) -> int:
+        """The seconds that the reply asks for, no more than the longest pause."""
+        is_number = re.fullmatch("[0-9]{1,9}", self.retry_after)
+        return min(int(self.retry_after), LONGEST_PAUSE) if is_number else 0
 
     def __str__(self) -> str:
         said = [it for it in (self.error, MEANINGS.get(self.status)) if it]
@@ -208,19 +219,18 @@ class Server:
         """
         pauses = list(self._access.pauses)
         for number in range(1, len(pauses) + 2):
-            wait = "0"
+            wait = 0
             try:
                 reply = self._request(path, body)
                 if not reply.is_passing:
                     return reply
-                why, wait = str(reply), reply.retry_after
+                why, wait = str(reply), reply.pause
             except (Silent, ssl.SSLCertVerificationError) as error:
                 raise self._lost(path, "%s (tries: %d)" % (_text_of(error), number)) from error
             except (OSError, http.client.HTTPException) as error:
                 why = _text_of(error)
             if pauses:
-                asked = int(wait) if wait.isdecimal() else 0
-                time.sleep(max(pauses.pop(0), min(asked, LONGEST_PAUSE)))
+                time.sleep(max(pauses.pop(0), wait))
         raise self._lost(path, "%s (tries: %d)" % (why, number))
 
     def _request(self, path: str, body: Optional[bytes]) -> Reply:
@@ -276,8 +286,9 @@ class Server:
 
 
 def _text_of(error: Exception) -> str:
-    """What an error says, without its number."""
-    return getattr(error, "strerror", None) or str(error) or type(error).__name__
+    """The text of an error as one printable line, without its number."""
+    said = getattr(error, "strerror", None) or str(error) or type(error).__name__
+    return "".join(it if it.isprintable() else "?" for it in said[:MOST_SAID])
 
 
 def _read_reply(response: http.client.HTTPResponse) -> Reply:
