@@ -70,8 +70,8 @@ class Tokend:
 class Peer:
     """A peer made here: `reply` takes path and body, and returns status, fields and body.
 
-    Its connections stay open, as those of a proxy, unless it drops each one unannounced. `asked` has
-    all paths, `connections` how many connections there were.
+    Its connections stay open, as those of a proxy, unless it drops each one unannounced. `asked`
+    has all paths, `connections` how many connections there were.
     """
 
     def __init__(self, reply, tls=None, drops=False):
