@@ -313,8 +313,8 @@ class Names(Case):
     def test_certificates_of_both_sides(self):
         key, cert = os.path.join(self.folder, "key"), os.path.join(self.folder, "cert")
         subprocess.run(
-            ["openssl", "req", "-x509", "-newkey", "rsa:2048", "-nodes", "-subj", "/CN=a", "-addext",
-             "subjectAltName=IP:127.0.0.1", "-keyout", key, "-out", cert],
+            ["openssl", "req", "-x509", "-newkey", "rsa:2048", "-nodes", "-subj", "/CN=a",
+             "-addext", "subjectAltName=IP:127.0.0.1", "-keyout", key, "-out", cert],
             check=True, capture_output=True)
         tls = ssl.create_default_context(ssl.Purpose.CLIENT_AUTH, cafile=cert)
         tls.load_cert_chain(cert, key)
