@@ -12,7 +12,7 @@ HORIZON = (1000).to_bytes(8, "big")
 def backed(room, url, *options, **environ):
     """A backup into the folder `kept`, without another try."""
     environ = {"BACKUP_TRIES": "0", **environ}
-    return Child(room, ["sh", BACKUP, *options, url, "kept"], environ)
+    return Child(room, [BACKUP, *options, url, "kept"], environ)
 
 
 def segments(room):

@@ -78,7 +78,7 @@ def compare_scripts():
                             text_of("starter/starting/settings.py")))
     said = page.split(".SH ENVIRONMENT")[1].split(".SH ")[0]
     same(START_PAGE, "the variables", wanted, set(re.findall(r"^\.B (\w+)$", said, re.M)))
-    carry = text_of("examples/carry/carry").split("# Status 0")[1].split("\n#\n")[0]
+    carry = text_of("examples/carry/carry").split("Status 0")[1].split("\n\n")[0]
     page = "examples/carry/README.md"
     said = {cells[0] for cells in rows(text_of(page), "status | meaning")}
     same(page, "the statuses", {"0"} | set(re.findall(r"(\d): ", carry)), said)
