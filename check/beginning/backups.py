@@ -107,6 +107,7 @@ def killed_backup_leaves_nothing_that_counts(room):
     with Peer() as silent:
         run = backed(room, silent.url)
         while not glob.glob(room.path("kept", ".backup.*")):
+            wanted(run.process.poll() is None, "it ended", run.errors())
             time.sleep(0.01)
         wanted(backed(room, silent.url).ended() == 1, "two backups write to one folder")
         run.stop()
