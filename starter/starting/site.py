@@ -67,7 +67,10 @@ class Site:
 
     def __init__(self, folder):
         self.folder = folder
-        for name in "", "log", "old", "history":
+        if not os.path.isdir(folder):
+            os.makedirs(folder)
+            sync(os.path.dirname(folder))
+        for name in "log", "old", "history":
             os.makedirs(self.path(name), exist_ok=True)
         self.lock = os.open(self.path("lock"), os.O_RDWR | os.O_CREAT, 0o600)
         try:
