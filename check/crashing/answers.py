@@ -29,6 +29,9 @@ class Token:
         self.by_name[self.name] = self
         family.tokens.append(self)
 
+    def __str__(self):
+        return "%s token %s" % ("access" if self.name[-1] == ACCESS else "refresh", self.text)
+
     def may_end(self):
         return self.is_sent or self.family.may_end
 
@@ -103,7 +106,7 @@ class Answers:
             self.say_used(token)
         elif kind == REVOKED:
             self.say_ended(token)
-        if is_known and kind != ROTATED and token.name[-1] != ACCESS:
+        if is_known and kind != ROTATED and token.name[-1] == REFRESH:
             self.say_family_ended(token.family)
 
     def say_vector(self, vector):
@@ -118,11 +121,11 @@ class Answers:
                 yield token, is_active
 
     def missing_facts(self, held):
-        """A line for each fact that the site said it holds, and that isn't among these."""
-        for dot, fact in sorted(self.facts.items()):
-            if held.get(dot) != fact:
-                yield "the fact %s was acknowledged, and is %s" % (
-                    dot_text(dot), "another" if dot in held else "missing")
+        """A line if facts that the site said it holds aren't among these, or are others."""
+        missing = sorted(dot for dot, fact in self.facts.items() if held.get(dot) != fact)
+        if missing:
+            yield "of %d facts that were acknowledged %d are missing, the first is %s" % (
+                len(self.facts), len(missing), dot_text(missing[0]))
 
     def lower_entries(self, vector):
         """A line for each entry of the site's vector that was greater before."""

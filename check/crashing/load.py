@@ -8,14 +8,31 @@ from crashing.sites import carry
 from measuring.rounds import Broken
 
 LONGEST_PAUSE = 0.06  # seconds between two carries
+LONGEST_WAIT = 1  # seconds for the reply that a kill waits for
 RECENT = 300  # tokens among which a look chooses
 
 
 class Moment:
-    """Whether the workers of a round must stop, and whether a kill has begun."""
+    """When the victims of a round are killed, and whether its workers must stop."""
 
-    def __init__(self):
-        self.stop, self.kill = threading.Event(), threading.Event()
+    def __init__(self, victims):
+        self.victims, self.lock = victims, threading.Lock()
+        self.kill, self.stop = threading.Event(), threading.Event()
+
+    def strike(self):
+        """Sends SIGKILL to the victims, once."""
+        with self.lock:
+            if not self.kill.is_set():
+                self.kill.set()
+                for it in self.victims:
+                    it.server.child.kill()
+
+    def strike_at_reply(self):
+        """Strikes as soon as a victim replies to what makes a fact or brings some."""
+        for it in self.victims:
+            it.server.replied = self.strike
+        self.kill.wait(LONGEST_WAIT)
+        self.strike()
 
 
 class Worker(threading.Thread):

@@ -12,6 +12,22 @@ FULL = 128  # items of a page that isn't the last
 VECTOR = request("GET", "/sync/vector")
 
 
+class Region(Server):
+    """A run of a site. Each reply to what makes facts or brings some is reported to `replied`."""
+
+    makers = b"POST /sync/push", b"POST /token", b"POST /revoke"
+
+    def __init__(self, *words, **names):
+        self.replied = lambda: None
+        super().__init__(*words, **names)
+
+    def ask(self, sent, patience=60):
+        said = super().ask(sent, patience)
+        if sent.startswith(self.makers):
+            self.replied()
+        return said
+
+
 class Site:
     """A region and its earlier runs: their logs, and what their replies have said."""
 
@@ -31,7 +47,7 @@ class Site:
         self.whole += self.last[:whole_records(self.last)]
         self.last = b""
         self.number += 1
-        self.server = Server(self.program, self.folder, "--load", self.path("old"), "--log",
+        self.server = Region(self.program, self.folder, "--load", self.path("old"), "--log",
                              self.path("log"), *self.options, region=self.number)
         if self.enrolled:
             self.server.enrol_as(self.enrolled)
