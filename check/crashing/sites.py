@@ -9,23 +9,22 @@ from measuring.server import Server, push
 from server import CURSOR, EMPTY_VECTOR, MARK, body_of, facts_of
 
 FULL = 128  # items of a page that isn't the last
+LOOKS = b'{"active":', b"\r\nContent-Type: application/octet-stream"  # in replies of look-ups
 VECTOR = request("GET", "/sync/vector")
 
 
 class Region(Server):
-    """A run of a site. Each reply to what makes facts or brings some is reported to `replied`."""
-
-    makers = b"POST /sync/push", b"POST /token", b"POST /revoke"
+    """A run of a site. `replied` is called at each reply after which the log may have more."""
 
     def __init__(self, *words, **names):
         self.replied = lambda: None
         super().__init__(*words, **names)
 
-    def ask(self, sent, patience=60):
-        said = super().ask(sent, patience)
-        if sent.startswith(self.makers):
+    def hear(self, peer):
+        said = peer.recv(65536)
+        if not any(it in said for it in LOOKS):
             self.replied()
-        return said
+        return said + super().hear(peer)
 
 
 class Site:

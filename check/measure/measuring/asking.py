@@ -39,16 +39,21 @@ class Asked:
 
     def ask(self, sent, patience=60):
         """The status of the reply to a request, and the reply."""
-        said = b""
         with socket.create_connection(("127.0.0.1", self.port), patience) as peer:
             peer.sendall(sent)
-            while piece := peer.recv(65536):
-                said += piece
+            said = self.hear(peer)
         head, _, body = said.partition(b"\r\n\r\n")
         length = re.search(rb"\r\nContent-Length: (\d+)", head)
         if not length or len(body) < int(length[1]):
             raise ConnectionError("no whole reply")
         return int(said[9:12]), said
+
+    def hear(self, peer):
+        """All that still comes on a connection."""
+        said = b""
+        while piece := peer.recv(65536):
+            said += piece
+        return said
 
     def wanted(self, status, sent):
         got, said = self.ask(sent)
