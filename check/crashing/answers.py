@@ -6,15 +6,18 @@ from measuring.facts import ACCESS, REFRESH
 from server import facts_of
 
 DOT, NAME = slice(0, 10), slice(11, 22)  # of a fact: its dot, and the token that it names
-ROTATED, REVOKED, REUSED = 7, 8, 9  # the kinds of facts that end tokens
-NO_TOKEN = bytes([0])
+ROTATED, REVOKED, REUSED, SUBJECT_OUT = 7, 8, 9, 10  # the kinds of facts that end tokens
 
 
 class Family:
     """The tokens of one login. It may end once a request was sent that ends all of it."""
 
-    def __init__(self):
-        self.tokens, self.may_end = [], False
+    by_subject = {}  # of logins that are their subject's only one
+
+    def __init__(self, subject=None):
+        self.tokens, self.may_end, self.subject = [], False, subject
+        if subject:
+            self.by_subject[subject.encode()] = self
 
 
 class Token:
@@ -88,25 +91,29 @@ class Answers:
         with self.lock:
             self.facts.update((it[DOT], it) for it in facts_of(page))
 
+    def say_signed_out(self, family):
+        """The site knows that the family's subject is signed out: tokens that arrive have ended."""
+        for it in family.tokens:
+            self.say_ended(it)
+
     def say_taken(self, page):
         """The site replied to a push of this page: its facts end tokens from now on."""
         self.say_held(page)
         for fact in facts_of(page):
             kind, name = fact[10], fact[NAME]
-            if kind == ROTATED:
-                name = name[DOT] + bytes([REFRESH])
-            token = Token.by_name.get(name if kind in (ROTATED, REVOKED, REUSED) else NO_TOKEN)
-            if token:
-                self.end_by(kind, token)
+            if kind == SUBJECT_OUT:
+                self.say_signed_out(Family.by_subject[fact[13:-8]])
+            elif kind == ROTATED:
+                self.say_used(Token.by_name[name[DOT] + bytes([REFRESH])])
+            elif kind in (REVOKED, REUSED):
+                self.end_by(kind, Token.by_name[name])
 
     def end_by(self, kind, token):
-        """A fact of this kind that names the token is held."""
-        is_known = self.knows(token)
-        if kind == ROTATED:
-            self.say_used(token)
-        elif kind == REVOKED:
+        """A fact is held that says that the token was revoked or used twice."""
+        is_family = self.knows(token) and token.name[-1] == REFRESH
+        if kind == REVOKED:
             self.say_ended(token)
-        if is_known and kind != ROTATED and token.name[-1] == REFRESH:
+        if is_family:
             self.say_family_ended(token.family)
 
     def say_vector(self, vector):

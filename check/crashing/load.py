@@ -1,14 +1,15 @@
 """load: clients and a carrier at work between two sites, until one is killed or they must stop."""
+import itertools
 import random
 import threading
 import time
 
 from crashing.answers import Family, Token
 from crashing.sites import carry
-from measuring.rounds import Broken
 
 LONGEST_PAUSE = 0.06  # seconds between two carries
 LONGEST_WAIT = 1  # seconds for the reply that a kill waits for
+SUBJECTS = itertools.count(1)
 RECENT = 300  # tokens among which a look chooses
 
 
@@ -49,8 +50,8 @@ class Worker(threading.Thread):
         except OSError as why:
             if not self.moment.kill.is_set():
                 self.wrong = "no reply, and nothing was killed: %s" % why
-        except Broken as why:
-            self.wrong = str(why)
+        except Exception as why:  # of any kind: a thread that ends of it would go unseen
+            self.wrong = repr(why)
 
     def step(self):
         """Does something, and returns how many replies it noted."""
@@ -88,14 +89,13 @@ class Client(Worker):
         self.pairs, self.recent = pairs, recent
 
     def step(self):
-        ways = [(self.log_in, 25), (self.refresh, 35), (self.revoke, 12),
-                (self.revoke_family, 3), (self.reuse, 3), (self.look, 22)]
-        way, = random.choices(*zip(*ways))
-        pair = None if way in (self.log_in, self.look) else self.take()
-        if pair:
+        way, = random.choices(*zip(
+            (self.log_in, 20), (self.log_in_anew, 5), (self.look, 22), (self.refresh, 35),
+            (self.revoke, 12), (self.revoke_family, 3), (self.reuse, 3), (self.sign_out, 6)))
+        if way in (self.log_in, self.log_in_anew, self.look):
+            way()
+        elif pair := self.take():
             way(pair)
-        elif way == self.look and self.recent:
-            self.look()
         else:
             self.log_in()
         return 1
@@ -113,9 +113,18 @@ class Client(Worker):
         self.recent.extend([pair.access, pair.refresh])
         del self.recent[:-RECENT]
 
-    def log_in(self):
-        site = random.choice(self.sites)
-        self.keep(Pair(site.server.log_in(), Family(), site))
+    def log_in(self, subject=None):
+        """A login of ann, or of another subject, who gives consent first."""
+        site, header = random.choice(self.sites), None
+        if subject:
+            site.server.form("/admin/consent", {
+                "client_id": site.enrolled.client_id, "subject": subject, "scope": "read write",
+            }, status=201)
+            header = "X-Subject: " + subject
+        self.keep(Pair(site.server.log_in(header), Family(subject), site))
+
+    def log_in_anew(self):
+        self.log_in("subject-%d" % next(SUBJECTS))
 
     def refresh(self, pair):
         """Uses the refresh token, at the other site too if it knows the token."""
@@ -144,8 +153,19 @@ class Client(Worker):
         if pair.parent:
             reuse(pair.site, pair.parent)
 
+    def sign_out(self, pair):
+        """Signs out the subject of a login that is their only one, maybe where it isn't known."""
+        if not pair.family.subject:
+            self.refresh(pair)
+            return
+        pair.family.may_end = True
+        site = random.choice(self.sites)
+        site.server.form("/admin/signout", {"subject": pair.family.subject})
+        site.answers.say_signed_out(pair.family)
+
     def look(self):
-        introspect(random.choice(self.sites), random.choice(self.recent))
+        if self.recent:
+            introspect(random.choice(self.sites), random.choice(self.recent))
 
 
 def introspect(site, token):

@@ -70,9 +70,10 @@ class Asked:
         body = self.wanted(status, sent).partition(b"\r\n\r\n")[2]
         return json.loads(body) if body else {}
 
-    def log_in(self):
-        """The tokens of a code that ann's browser got and the client redeemed."""
-        said = self.wanted(302, request("GET", self.authorize, b"", self.subject, *self.closing))
+    def log_in(self, subject=None):
+        """The tokens of a code that ann's browser got, or another's, and the client redeemed."""
+        subject = subject or self.subject
+        said = self.wanted(302, request("GET", self.authorize, b"", subject, *self.closing))
         code = re.search(rb"[?&]code=([\w.~-]+)", said)[1].decode()
         fields = {"grant_type": "authorization_code", "code": code, "redirect_uri": REDIRECT_TEXT}
         return self.form(self.token, fields, self.client)
