@@ -73,7 +73,7 @@ def compare_scripts():
     wanted = set(re.findall(r"\bdie (\d)", text_of(start + "next-start")))
     said = text_of(start + "README.md").split("**Status of `next-start`**")[1].split("\n\n")[0]
     same(start + "README.md", "next-start's statuses", wanted, set(re.findall(r"\b(\d) ", said)))
-    carry = text_of("examples/carry/carry").split("# Status 0")[1].split("\n#\n")[0]
+    carry = text_of("examples/carry/carry").split("Status 0")[1].split("\n\n")[0]
     page = "examples/carry/README.md"
     said = {cells[0] for cells in rows(text_of(page), "status | meaning")}
     same(page, "the statuses", {"0"} | set(re.findall(r"(\d): ", carry)), said)

@@ -1,14 +1,16 @@
 """Options: the program's help against OPERATING.md and the manual page, and each range by trial.
 
-To each option its range, or None for a file, and its default: a number's text, "must be given", or
-"none"."""
+To each option its range, or None for a file or a flag, and its default: a number's text, "must be
+given", "none", or of a flag "off"."""
 import re
 import subprocess
 
 from comparing.limits import documents
 from comparing.texts import OPERATING, PAGE, differ, rows, same, text_of
 
-OPTION = r"^ +(?:-\w, )?--([\w-]+) <(\w+)>((?:.*\n(?! *(?:-\w, )?--))*.*)"
+OPTION = r"^ +(?:-\w, )?--([\w-]+)(?: <(\w+)>)?((?:.*\n(?! *(?:-\w, )?--))*.*)"
+OF_PAGE = r"^\.TP\n\.BI? --([\w-]+)(?: +\w+)?\n((?:(?!\.TP|\.S[SH]).*\n?)*)"
+FLAG = None, "off"  # an option without a value
 SPELLINGS = {"no log": "none", "without end": "none"}
 
 
@@ -42,6 +44,9 @@ def of_program(program, command):
     where = "tokend %s --help" % command
     for name, value, told in re.findall(OPTION, help_of(program, command), re.M):
         told = " ".join(told.split())
+        if not value:
+            options[name] = FLAG
+            continue
         limits = range_in(told)
         default = re.search(r"\[default: ([^\]]*)\]", told)
         said = value_said("[required]" in told, default, limits)
@@ -49,6 +54,7 @@ def of_program(program, command):
         options[name] = (limits, said)
     if not options:
         differ(where, "has no options")
+    options.pop("help", None)
     return options
 
 
@@ -56,7 +62,7 @@ def of_operating():
     options = {}
     for cells in rows(text_of(OPERATING), "option | range"):
         limits = range_in(cells[1])
-        name = re.match(r"`--(\w+) (\w+)`", cells[0]).group(1)
+        name = re.match(r"`--([\w-]+)(?: \w+)?`", cells[0]).group(1)
         options[name] = (limits, default_in(cells[2], limits))
     return options
 
@@ -67,7 +73,7 @@ def of_page(part):
     text = re.split(r"^\.S[SH] ", text, maxsplit=1, flags=re.M)[0]
     text = text.replace("\\-", "-").replace("\\~", " ")
     options = {}
-    for name, told in re.findall(r"^\.TP\n\.BI --(\w+) +\w+\n((?:[^.].*\n?)*)", text, re.M):
+    for name, told in re.findall(OF_PAGE, text, re.M):
         limits = range_in(told)
         default = re.search(r"Default: ([^.,]*)", told)
         said = value_said("Must be given" in told, default, limits)

@@ -1,6 +1,6 @@
 -- A log that gets the bundles taken in has all that its region holds. Key result:
 --   keeps_all   LogKeepsAll
-use Rattle.std.proofs.Common.{◌≡◌, ◌≢◌, ℕ, zero, suc, Bool, true, false, List, [], ◌∷◌, ◌++◌, append-nil, append_assoc, length, take, Option, None, Some, option_map, Result, Ok, Err, inl, inr, refl, sym, ap, subst, arith, ◌∙◌}
+use Rattle.std.proofs.Common.{◌≡◌, ◌≢◌, ℕ, zero, suc, Bool, true, false, List, [], ◌∷◌, ◌++◌, append-nil, append_assoc, length, take, Option, None, Some, option_map, Result, Ok, Err, inl, inr, refl, sym, ap, subst, arith, ◌∙◌, ◌+◌, cond}
 use Rattle.std.specs.Prelude.{◌⊎◌, IfSome, nat_lt}
 use Rattle.std.specs.FinMap as sets
 use Rattle.std.specs.Io.KnownBytes.{Appends, Keeps}
@@ -30,12 +30,14 @@ use Rattle.tk_bundle.specs.FrontLaws.{walk_bundle}
 use Rattle.tk_message.specs.Place.{next_in}
 use Rattle.tk_message.specs.declared.status.Status.{Status}
 use Rattle.tk_region.specs.RegionFields.{RegionFields, Gains, place_in}
-use Rattle.tk_region.specs.Step.{PreparedFields, prepared_of, record_of}
+use Rattle.tk_message.specs.RequestFields.{RequestFields}
+use Rattle.tk_region.specs.Decision.{decision_of}
+use Rattle.tk_region.specs.Step.{early_in, prepared_by, prepared_of, record_of}
 use Rattle.tk_region.specs.Taking.{TakesIn, items_taken, raised}
 use Rattle.tk_region.specs.declared.take.TakeError.{TakeError}
 use Rattle.tk_region.specs.declared.take.TakeError.TheVariants.{Malformed, OwnNumber, Conflict}
 use Rattle.tk_region.specs.declared.take.TakeError.TheVariants as Take
-use Rattle.tk_edge.specs.Answers.{IsRecorded, fact_by}
+use Rattle.tk_edge.specs.Answers.{IsRecorded, answer_by, fact_by}
 use Rattle.tk_edge.specs.Arrivals.{Answers}
 use Rattle.tk_edge.specs.EdgeFields.{EdgeFields}
 use Rattle.tk_edge.specs.Exchanges.{TakesBundle}
@@ -128,6 +130,16 @@ one_parse (fs ∷ xs) (gs ∷ ys) rest fa fb end e =
     let tail = one_parse xs ys rest fa.1 fb.1 end front.1 in
     ap (λ f. f ∷ xs) front.0 ∙ ap (λ l. gs ∷ l) tail
 
+-- what is logged of a prepared reply is the record of its fact, before the horizon too
+logged_is : (r : RegionFields) (now : ℕ) (words : List ℕ) (request : RequestFields)
+    → (prepared_of r now words request).logged ≡ option_map record_of (prepared_of r now words request).fact
+logged_is r now words request = by_time (nat_lt now r.facts.horizon)
+  where
+    by_time : (t : Bool) → (cond t (early_in (place_in r)) (prepared_by r.settings.cap (place_in r) (decision_of r.facts (place_in r) now words request))).logged
+        ≡ option_map record_of (cond t (early_in (place_in r)) (prepared_by r.settings.cap (place_in r) (decision_of r.facts (place_in r) now words request))).fact
+    by_time true = refl
+    by_time false = refl
+
 -- ---- what a connection adds to a log and a set
 
 -- the log gains a bundle, or nothing; slots that hold what was held, and know that bundle, hold what
@@ -202,7 +214,8 @@ module _ (before after : Option (List ℕ)) (old new : RegionFields) where
   answered now words Silence answer none h more fits = gains_none (logged_as answer _ h.0 more) h.1
   answered now words (Refused why) answer none h more fits = gains_none (logged_as answer _ h.0 more) h.1
   answered now words (Request request) answer none h more fits =
-      recorded (prepared_of old now words request).fact (logged_as answer _ h.0 more) h.1 fits
+      recorded (prepared_of old now words request).fact
+      (subst (λ o. Appends before after (record_in o)) (logged_is old now words request) (logged_as answer (answer_by old now words (Request request)) h.0 more)) h.1 fits
 
   -- a store with the first items of a bundle
   within_items : (b : BundleFields) (items : Items) → G ≡ items_taken (raised F b.horizon) items → (U : Slots) → HoldsAll U F.slots → AllBelow U items → HoldsAll U G.slots

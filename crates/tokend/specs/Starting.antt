@@ -22,7 +22,7 @@ use Rattle.std.specs.Prelude.{
   String,
   string_bytes,
 }
-use Rattle.std.specs.FinMap as sets
+use Rattle.tk_store.specs.StoreFields.{empty_store}
 use Rattle.rand_chacha.specs.ChaCha.{ChaCha, key_of}
 use Rattle.tk_region.specs.RegionFields.{RegionFields}
 use Rattle.tk_edge.specs.EdgeFields.{EdgeFields}
@@ -38,7 +38,7 @@ use Rattle.tokend.specs.declared.options.Service.{Service}
 -- the region of the service's number and settings, without facts
 abbrev pub first_region : Service → RegionFields
 first_region service =
-    record { number = service.region; settings = settings_of service.numbers; facts = sets.empty }
+    record { number = service.region; settings = settings_of service.numbers; facts = empty_store }
 
 -- an edge over which regions exchange facts, and that isn't sealed
 abbrev pub edge_of : RegionFields → EdgeFields

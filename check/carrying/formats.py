@@ -1,0 +1,122 @@
+"""formats: bundles.py against the examples and the limits of docs/FORMATS.md."""
+import struct
+import unittest
+
+from bundles import (FROM_THE_START, Bundle, Cut, Dot, Malformed, Records, Vector, read_bundle,
+                     read_front, read_pull, read_vector, write_pull)
+
+ADDED = bytes.fromhex("4f5442310001002b0001000000000000000101000004726561640100166874747073"
+                      "3a2f2f6170702e6578616d706c652f6362")
+RETIRED = bytes.fromhex("4f54423100010015000200000000000000010200010000000000000001")
+SIGNED_OUT = bytes.fromhex("4f5442320001001800010000000000000005"
+                           "0a0003616e6e00000000000003fc")
+SKIPPED = bytes.fromhex("4f544233000000000000044c0002000a00010000000000000003"
+                        "000a00010000000000000004")
+ALL = ADDED, RETIRED, SIGNED_OUT, SKIPPED
+VECTOR = bytes.fromhex("4f54563100020001000000000000000400020000000000000001")
+
+
+def fact(serial, size=11, region=1, kind=2):
+    return Dot(region, serial).write() + bytes([kind]) + bytes(size - 11)
+
+
+def bundle(*items, magic=b"OTB1", horizon=None):
+    """Bytes of a bundle, whatever the items are."""
+    moment = b"" if horizon is None else struct.pack(">Q", horizon)
+    return magic + moment + struct.pack(">H", len(items)) + b"".join(
+        struct.pack(">H", len(it)) + it for it in items)
+
+
+class Bundles(unittest.TestCase):
+    def test_examples_are_read_and_written(self):
+        counts = [(1, 0, None), (1, 0, None), (1, 0, None), (0, 2, 1100)]
+        for data, wanted in zip(ALL, counts):
+            it = read_bundle(data)
+            self.assertEqual((it.facts, it.marks, it.horizon), wanted)
+            self.assertEqual(it.write(), data)
+        self.assertEqual(read_bundle(bundle()).write(), bundle())
+
+    def test_limits(self):
+        most = bundle(*(fact(n, 8192) for n in range(1, 129)))
+        self.assertEqual(len(read_bundle(most).items), 128)
+        greatest = bundle(Dot(65535, 2**63 - 1).write(), magic=b"OTB3", horizon=253402300799)
+        self.assertEqual(read_bundle(greatest).horizon, 253402300799)
+
+    def test_no_bundles(self):
+        mark = Dot(1, 7).write()
+        for why, data in {
+                "no version": b"OTB4" + ADDED[4:],
+                "129 items": bundle(*(fact(n) for n in range(1, 130))),
+                "has 8193 bytes": bundle(fact(1, 8193)),
+                "has 9 bytes": bundle(mark[:9]),
+                "has 10 bytes": bundle(mark),
+                "isn't above": bundle(fact(2), fact(2, 12)),
+                "0:1 is no dot": bundle(fact(1, region=0)),
+                "1:0 is no dot": bundle(fact(0)),
+                "1:9223372036854775808 is no dot": bundle(fact(2**63)),
+                "kind 11": bundle(fact(1, kind=11)),
+                "items of b'OTB1'": bundle(fact(1), magic=b"OTB2"),
+                "items of b'OTB2'": bundle(fact(1, kind=10)),
+                "no moment": bundle(mark, magic=b"OTB3", horizon=253402300800),
+                "1 bytes behind": ADDED + b"\0",
+                "ends within a length": ADDED[:7],
+                "ends within the horizon": SKIPPED[:13],
+                "of 43 bytes": ADDED[:-1]}.items():
+            with self.subTest(why), self.assertRaises(Malformed) as raised:
+                read_bundle(data)
+            self.assertIn(why, str(raised.exception))
+
+    def test_each_beginning_is_cut(self):
+        for data in ALL:
+            for size in range(len(data)):
+                with self.assertRaises(Cut):
+                    read_front(data[:size])
+
+    def test_halves_keep_version_and_horizon(self):
+        mixed = Bundle((fact(1), fact(2), Dot(1, 3).write(), fact(4, kind=10)), 1100)
+        first, second = mixed.halves()
+        self.assertEqual((first.version, first.horizon), (b"OTB1", None))
+        self.assertEqual((second.version, second.horizon), (b"OTB3", 1100))
+        self.assertEqual(second.halves()[1].version, b"OTB2")
+
+    def test_a_log_in_pieces(self):
+        log = b"".join(ALL)
+        for size in 1, 7, len(log):
+            records, found = Records(), []
+            for at in range(0, len(log), size):
+                found += records.feed(log[at:at + size])
+            self.assertEqual(b"".join(it.write() for it, _ in found), log)
+            self.assertEqual(found[-1][1], len(log))
+
+    def test_zeros_end_a_log(self):
+        found, records = [], Records()
+        with self.assertRaises(Malformed):
+            for it in records.feed(SKIPPED + bytes(6)):
+                found.append(it)
+        self.assertEqual([end for _, end in found], [len(SKIPPED)])
+
+
+class Vectors(unittest.TestCase):
+    def test_example(self):
+        it = read_vector(VECTOR)
+        self.assertEqual(it, Vector((Dot(1, 4), Dot(2, 1))))
+        self.assertEqual(it.write(), VECTOR)
+
+    def test_no_vectors(self):
+        swapped = VECTOR[:6] + VECTOR[16:] + VECTOR[6:16]
+        for data in b"", VECTOR[:-1], VECTOR + b"\0", b"OTV2" + VECTOR[4:], swapped:
+            with self.subTest(data), self.assertRaises(Malformed):
+                read_vector(data)
+
+    def test_within(self):
+        one, two = Vector((Dot(1, 4),)), read_vector(VECTOR)
+        self.assertTrue(one.is_within(two))
+        self.assertFalse(two.is_within(one))
+
+    def test_pulls(self):
+        it = read_vector(VECTOR)
+        for cursor in FROM_THE_START, Dot(1, 4).write():
+            self.assertEqual(read_pull(write_pull(cursor, it)), (cursor, it))
+        for cursor in Dot(0, 1).write(), Dot(1, 0).write(), b"":
+            with self.assertRaises(Malformed):
+                read_pull(cursor + VECTOR)
