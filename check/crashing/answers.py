@@ -92,7 +92,7 @@ class Answers:
             self.facts.update((it[DOT], it) for it in facts_of(page))
 
     def say_signed_out(self, family):
-        """The site knows that the family's subject is signed out: tokens that arrive have ended."""
+        """The site knows that a family's subject is signed out: tokens that arrive have ended."""
         for it in family.tokens:
             self.say_ended(it)
 

@@ -7,7 +7,7 @@ import time
 from crashing.answers import Family, Token
 from crashing.sites import carry
 
-LONGEST_PAUSE = 0.06  # seconds between two carries
+PAUSES = 0.02, 0.02, 0.6  # at most, in seconds, between two carries: for short and full pages
 LONGEST_WAIT = 1  # seconds for the reply that a kill waits for
 SUBJECTS = itertools.count(1)
 RECENT = 300  # tokens among which a look chooses
@@ -59,12 +59,21 @@ class Worker(threading.Thread):
 
 
 class Carrier(Worker):
-    """Pulls from one region and pushes to the other, both ways."""
+    """Pulls from one region and pushes to the other, both ways.
+
+    Some pulls are for an older vector, so that pages have known facts and new ones.
+    """
+
+    def __init__(self, sites, moment):
+        super().__init__(sites, moment)
+        self.older = {}
 
     def step(self):
         one, other = random.sample(self.sites, 2)
-        count = carry(one, other)
-        time.sleep(random.random() * LONGEST_PAUSE)
+        vector = other.say_vector()
+        count = carry(one, other, random.choice([vector, self.older.get(other, vector)]))
+        self.older[other] = vector
+        time.sleep(random.random() * random.choice(PAUSES))
         return count
 
 

@@ -1,16 +1,25 @@
 """sites: two regions that are killed and start again, each from the logs of its own earlier runs.
 """
 import os
+import random
 
 from crashing.answers import Answers
 from measuring.asking import request
-from measuring.facts import whole_records
+from measuring.facts import end_of_bundle, whole_records
 from measuring.server import Server, push
 from server import CURSOR, EMPTY_VECTOR, MARK, body_of, facts_of
 
 FULL = 128  # items of a page that isn't the last
+CUT = 0.5  # how often a log gets a cut end
 LOOKS = b'{"active":', b"\r\nContent-Type: application/octet-stream"  # in replies of look-ups
 VECTOR = request("GET", "/sync/vector")
+
+
+def cut_bundle(log):
+    """What a kill amid a write leaves behind a log, which seldom happens by itself."""
+    if not log or whole_records(log) < len(log):
+        return b""
+    return log[:random.randrange(end_of_bundle(log, 0))]
 
 
 class Region(Server):
@@ -52,11 +61,13 @@ class Site:
             self.server.enrol_as(self.enrolled)
 
     def end(self):
-        """Ends the run by SIGKILL, and takes its log away."""
+        """Ends the run by SIGKILL, and takes its log away. The end of the log may be cut."""
         self.server.stop()
         with open(self.path("log"), "rb") as file:
             self.last = file.read()
         os.remove(self.path("log"))
+        if random.random() < CUT:
+            self.last += cut_bundle(self.last)
 
     def enrol_as(self, server):
         """Goes on with the clients that were added to a server."""
@@ -65,6 +76,12 @@ class Site:
 
     def vector(self):
         return body_of(self.server.wanted(200, VECTOR))
+
+    def say_vector(self):
+        """The vector, which is noted."""
+        vector = self.vector()
+        self.answers.say_vector(vector)
+        return vector
 
     def pages(self, vector):
         """The pages of facts that a vector doesn't cover."""
@@ -81,10 +98,9 @@ class Site:
         return {it[:MARK]: it for page in self.pages(EMPTY_VECTOR) for it in facts_of(page)}
 
 
-def carry(here, there):
-    """Carries what one region has beyond the other, and notes what both say: how many pushes."""
-    vector, count = there.vector(), 0
-    there.answers.say_vector(vector)
+def carry(here, there, vector):
+    """Carries what a vector doesn't cover, and notes what both say: how many pushes it took."""
+    count = 0
     for page in here.pages(vector):
         here.answers.say_held(page)
         if facts_of(page):
