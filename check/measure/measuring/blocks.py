@@ -129,7 +129,8 @@ def push(parts):
     for size, server in it.found(r"bundles of (\d+)(.*): facts a second"):
         name = "bundles of %s%s: " % (size, server)
         beside = [one for one, in it.found(re.escape(name) + "(of the .*)")]
-        rows.append([size, server.lstrip(", ") or "with --log alone", it.cell(name + "facts a second"),
+        label = re.sub("(--[a-z-]+)", r"`\1`", server.strip(", ") or "with --log alone")
+        rows.append([size, label, it.cell(name + "facts a second"),
                      it.number(name + "processor of a fact in µs"),
                      it.number(name + beside[0]) if beside else "1"])
     return it, text_of(["facts in a bundle", "server", "facts a second",
