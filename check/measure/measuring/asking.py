@@ -39,16 +39,21 @@ class Asked:
 
     def ask(self, sent, patience=60):
         """The status of the reply to a request, and the reply."""
-        said = b""
         with socket.create_connection(("127.0.0.1", self.port), patience) as peer:
             peer.sendall(sent)
-            while piece := peer.recv(65536):
-                said += piece
+            said = self.hear(peer)
         head, _, body = said.partition(b"\r\n\r\n")
         length = re.search(rb"\r\nContent-Length: (\d+)", head)
         if not length or len(body) < int(length[1]):
             raise ConnectionError("no whole reply")
         return int(said[9:12]), said
+
+    def hear(self, peer):
+        """All that still comes on a connection."""
+        said = b""
+        while piece := peer.recv(65536):
+            said += piece
+        return said
 
     def wanted(self, status, sent):
         got, said = self.ask(sent)
@@ -65,9 +70,10 @@ class Asked:
         body = self.wanted(status, sent).partition(b"\r\n\r\n")[2]
         return json.loads(body) if body else {}
 
-    def log_in(self):
-        """The tokens of a code that ann's browser got and the client redeemed."""
-        said = self.wanted(302, request("GET", self.authorize, b"", self.subject, *self.closing))
+    def log_in(self, subject=None):
+        """The tokens of a code that ann's browser got, or another's, and the client redeemed."""
+        subject = subject or self.subject
+        said = self.wanted(302, request("GET", self.authorize, b"", subject, *self.closing))
         code = re.search(rb"[?&]code=([\w.~-]+)", said)[1].decode()
         fields = {"grant_type": "authorization_code", "code": code, "redirect_uri": REDIRECT_TEXT}
         return self.form(self.token, fields, self.client)

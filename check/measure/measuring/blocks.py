@@ -1,4 +1,6 @@
 """blocks: the tables of docs/MEASURED.md, each made from the results of one measurement."""
+import re
+
 from measuring import paper, tables
 from measuring.results import part, servers_of, states_of, text_of
 
@@ -122,11 +124,17 @@ def start(parts):
 
 
 def push(parts):
-    it = part(parts, "push")
-    rows = [[str(size), it.cell("bundles of %d: facts a second" % size),
-             it.number("bundles of %d: processor of a fact in µs" % size)]
-            for size in it.numbers(r"bundles of (\d+): facts a second")]
-    return it, text_of(["facts in a bundle", "facts a second", "processor of a fact in µs"], rows)
+    """A line for each size of a bundle and each server, the C servers among them."""
+    it, rows = part(parts, "push"), []
+    for size, server in it.found(r"bundles of (\d+)(.*): facts a second"):
+        name = "bundles of %s%s: " % (size, server)
+        beside = [one for one, in it.found(re.escape(name) + "(of the .*)")]
+        label = re.sub("(--[a-z-]+)", r"`\1`", server.strip(", ") or "with --log alone")
+        rows.append([size, label, it.cell(name + "facts a second"),
+                     it.number(name + "processor of a fact in µs"),
+                     it.number(name + beside[0]) if beside else "1"])
+    return it, text_of(["facts in a bundle", "server", "facts a second",
+                        "processor of a fact in µs", "of the C server's rate"], rows)
 
 
 def plain(name, head):

@@ -12,6 +12,7 @@ from measuring.rounds import Absent, Broken
 from measuring.server import Process
 
 HERE = os.path.dirname(os.path.abspath(__file__))
+WARM = 20  # requests of load.c that aren't counted, at most
 
 
 class Driver:
@@ -37,6 +38,14 @@ class Driver:
     def load(self, server, count, *words):
         """What a run of load prints, with the requests a second and the processor time of each."""
         return self.run(server, "load", server.port, count, *words)
+
+    def push(self, server, requests):
+        """The same of requests as they are sent; the first ones of them aren't counted."""
+        with open(self.path("requests"), "wb") as file:
+            for it in requests:
+                file.write(len(it).to_bytes(4, "big") + it)
+        count = max(len(requests) - WARM, 2 * len(requests) // 3)
+        return self.load(server, count, "push", self.path("requests"))
 
     def many(self, server, port, count, clients, how, tokens):
         """The same of many, whose clients connect to a port: the server's, or that of a proxy."""

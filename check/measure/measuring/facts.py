@@ -96,12 +96,19 @@ def bundles(facts, size=128):
         yield b"OTB1" + struct.pack(">H", len(part)) + b"".join(map(text, part))
 
 
+def end_of_bundle(log, at):
+    """Where the bundle ends that begins at a place of a log; past the log, if it is cut."""
+    at += 12 if log[at:at + 4] == b"OTB3" else 4
+    count = int.from_bytes(log[at:at + 2], "big")
+    at += 2
+    for _ in range(count):
+        at += 2 + int.from_bytes(log[at:at + 2], "big")
+    return at
+
+
 def whole_records(log):
-    """How many bytes at the front of a log are whole records, of one fact each."""
+    """How many bytes at the front of a log are whole bundles, of any number of facts each."""
     at = 0
-    while len(log) - at >= 8:
-        end = at + 8 + int.from_bytes(log[at + 6:at + 8], "big")
-        if end > len(log):
-            break
+    while (end := end_of_bundle(log, at)) <= len(log):
         at = end
     return at

@@ -5,7 +5,8 @@
  * It listens on a free port of 127.0.0.1, and prints "listening 127.0.0.1:PORT". It accepts a
  * connection, reads a request's head and body, writes a fixed reply of an introspection's size,
  * shuts its side, drops what comes until the client closes, and closes. With append it first
- * writes a record of 300 bytes to FILE, and with sync it syncs FILE after that. */
+ * writes the request's body to FILE, or a record of 300 bytes if there is no body. With sync it
+ * syncs FILE after that. */
 #define _GNU_SOURCE
 #include <arpa/inet.h>
 #include <fcntl.h>
@@ -33,31 +34,35 @@ static int listen_anywhere(void) {
     return listening;
 }
 
-/* Whether the bytes read so far are a whole request. */
-static int is_whole(const char *end) {
+/* Where the body of a request begins; null while the bytes read so far are no whole request. */
+static const char *body_of(const char *end) {
     char *head = strstr(got, "\r\n\r\n");
     if (!head) return 0;
     char *length = strcasestr(got, "\r\ncontent-length:");
     long body = length && length < head ? atol(length + 17) : 0;
-    return end - (head + 4) >= body;
+    return end - (head + 4) >= body ? head + 4 : 0;
 }
 
-/* Reads a request, and returns whether it came whole. */
-static int read_request(int client) {
+/* Reads a request, and returns where its body begins; null if it didn't come whole. */
+static const char *read_request(int client, const char **end) {
     size_t length = 0;
+    const char *body;
     do {
         ssize_t more = read(client, got + length, sizeof got - 1 - length);
         if (more <= 0) return 0;
         length += more;
         got[length] = 0;
-    } while (!is_whole(got + length));
-    return 1;
+        *end = got + length;
+        body = body_of(*end);
+    } while (!body);
+    return body;
 }
 
-/* Writes a record to the log, synced if asked for. */
-static void write_record(int log, int is_synced) {
+/* Writes a body, or a record in its place, to the log, synced if asked for. */
+static void write_record(int log, const char *body, ssize_t length, int is_synced) {
     static const char record[RECORD];
-    if (write(log, record, RECORD) != RECORD || (is_synced && fdatasync(log))) exit(1);
+    if (!length) body = record, length = RECORD;
+    if (write(log, body, length) != length || (is_synced && fdatasync(log))) exit(1);
 }
 
 static int make_reply(char *reply, size_t size) {
@@ -81,8 +86,9 @@ int main(int count, char **words) {
     for (;;) {
         int client = accept(listening, 0, 0);
         if (client < 0) continue;
-        if (read_request(client)) {
-            if (log >= 0) write_record(log, words[1][0] == 's');
+        const char *end, *body = read_request(client, &end);
+        if (body) {
+            if (log >= 0) write_record(log, body, end - body, words[1][0] == 's');
             if (write(client, reply, length) != length) fprintf(stderr, "floor: write\n");
         }
         shutdown(client, SHUT_WR);

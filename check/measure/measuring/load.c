@@ -2,6 +2,7 @@
  * and prints a line of JSON: how many were counted and how many sent, the seconds of those that
  * were counted, and of one the median and the 99th of a hundred in microseconds.
  *
+ *   load PORT COUNT push REQUESTS
  *   load PORT COUNT KIND [CLIENT RESOURCE AUTHORIZE REDIRECT TOKENS INTROSPECT TOKEN SUBJECT]
  *
  * KIND is one of these:
@@ -10,6 +11,9 @@
  *   refresh     each with the refresh token of the last reply; after 30, and at first, with the
  *               next line of TOKENS
  *   code        GET AUTHORIZE as ann, then the code is redeemed: two requests
+ *
+ * With push each request is the next one of the file REQUESTS, as it is sent. Its length stands
+ * before it in 4 bytes, the highest byte first.
  *
  * CLIENT and RESOURCE are the credentials of Basic, REDIRECT the URI as a form has it. INTROSPECT
  * and TOKEN are the targets of requests, SUBJECT is the header line that ann's browser sends. The
@@ -35,6 +39,7 @@ static int port;
 static const char *client, *resource, *authorize, *redirect;
 static const char *introspect_at, *token_at, *subject;
 static char **tokens;
+static FILE *requests_file;
 static long token_count, next_token;
 static char request[ROOM], reply[ROOM];
 static double *times;
@@ -148,6 +153,14 @@ static void code(void) {
     if (post(token_at, client, body) != 200) give_up("code");
 }
 
+static void push(void) {
+    unsigned char size[4];
+    if (fread(size, 1, sizeof size, requests_file) != sizeof size) give_up("no request is left");
+    size_t length = (size_t)size[0] << 24 | size[1] << 16 | size[2] << 8 | size[3];
+    if (length > ROOM || fread(request, 1, length, requests_file) != length) give_up("a request");
+    if (ask(length) != 200) give_up("push");
+}
+
 static void read_tokens(const char *name) {
     char line[TOKEN];
     long room = 0;
@@ -175,15 +188,18 @@ static void (*work_of(const char *kind))(void) {
     case 'i': return introspect;
     case 'r': return refresh;
     case 'c': return code;
+    case 'p': return push;
     }
     exit(2);
 }
 
 int main(int count, char **words) {
-    if (count != 4 && count != 12) return 2;
+    if (count != 4 && count != 5 && count != 12) return 2;
     port = atoi(words[1]);
     long requests = atol(words[2]);
     void (*work)(void) = work_of(words[3]);
+    if (count == 5) requests_file = fopen(words[4], "rb");
+    if (count == 5 && !requests_file) give_up(words[4]);
     if (count == 12) {
         client = words[4], resource = words[5], authorize = words[6], redirect = words[7];
         introspect_at = words[9], token_at = words[10], subject = words[11];

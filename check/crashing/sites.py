@@ -1,0 +1,110 @@
+"""sites: two regions that are killed and start again, each from the logs of its own earlier runs.
+"""
+import os
+import random
+
+from crashing.answers import Answers
+from measuring.asking import request
+from measuring.facts import end_of_bundle, whole_records
+from measuring.server import Server, push
+from server import CURSOR, EMPTY_VECTOR, MARK, body_of, facts_of
+
+FULL = 128  # items of a page that isn't the last
+CUT = 0.5  # how often a log gets a cut end
+LOOKS = b'{"active":', b"\r\nContent-Type: application/octet-stream"  # in replies of look-ups
+VECTOR = request("GET", "/sync/vector")
+
+
+def cut_bundle(log):
+    """What a kill amid a write leaves behind a log, which seldom happens by itself."""
+    if not log or whole_records(log) < len(log):
+        return b""
+    return log[:random.randrange(end_of_bundle(log, 0))]
+
+
+class Region(Server):
+    """A run of a site. `replied` is called at each reply after which the log may have more."""
+
+    def __init__(self, *words, **names):
+        self.replied = lambda: None
+        super().__init__(*words, **names)
+
+    def hear(self, peer):
+        said = peer.recv(65536)
+        if not any(it in said for it in LOOKS):
+            self.replied()
+        return said + super().hear(peer)
+
+
+class Site:
+    """A region and its earlier runs: their logs, and what their replies have said."""
+
+    def __init__(self, program, folder, number, options):
+        self.program, self.folder, self.number, self.options = program, folder, number, options
+        self.answers, self.server, self.enrolled = Answers(), None, None
+        self.whole = self.last = b""  # the logs without cut ends, and the last one as it was left
+        os.mkdir(folder)
+
+    def path(self, name):
+        return os.path.join(self.folder, name)
+
+    def start(self):
+        """Starts a run under the next number, with all logs of this site and nothing else."""
+        with open(self.path("old"), "wb") as file:
+            file.write(self.whole + self.last)
+        self.whole += self.last[:whole_records(self.last)]
+        self.last = b""
+        self.number += 1
+        self.server = Region(self.program, self.folder, "--load", self.path("old"), "--log",
+                             self.path("log"), *self.options, region=self.number)
+        if self.enrolled:
+            self.server.enrol_as(self.enrolled)
+
+    def end(self):
+        """Ends the run by SIGKILL, and takes its log away. The end of the log may be cut."""
+        self.server.stop()
+        with open(self.path("log"), "rb") as file:
+            self.last = file.read()
+        os.remove(self.path("log"))
+        if random.random() < CUT:
+            self.last += cut_bundle(self.last)
+
+    def enrol_as(self, server):
+        """Goes on with the clients that were added to a server."""
+        self.enrolled = server
+        self.server.enrol_as(server)
+
+    def vector(self):
+        return body_of(self.server.wanted(200, VECTOR))
+
+    def say_vector(self):
+        """The vector, which is noted."""
+        vector = self.vector()
+        self.answers.say_vector(vector)
+        return vector
+
+    def pages(self, vector):
+        """The pages of facts that a vector doesn't cover."""
+        cursor, count = CURSOR, FULL
+        while count == FULL:
+            page = body_of(self.server.wanted(
+                200, request("POST", "/sync/pull", cursor + vector)))
+            yield page
+            items = facts_of(page)
+            count, cursor = len(items), items[-1][:MARK] if items else CURSOR
+
+    def held(self):
+        """All facts of the region, by dot."""
+        return {it[:MARK]: it for page in self.pages(EMPTY_VECTOR) for it in facts_of(page)}
+
+
+def carry(here, there, vector):
+    """Carries what a vector doesn't cover, and notes what both say: how many pushes it took."""
+    count = 0
+    for page in here.pages(vector):
+        here.answers.say_held(page)
+        if facts_of(page):
+            there.server.wanted(200, push(page))
+            there.answers.say_taken(page)
+            count += 1
+    return count
