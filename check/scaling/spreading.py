@@ -44,6 +44,16 @@ class Spreads(SitesCase):
         self.assertIn("spread: %s is back\n" % two.url, spread.said())
         self.assertEqual((spread.items(two), spread.items(three)), (3, 6))
 
+    def test_a_site_that_starts_anew_gets_what_it_forgot(self):
+        one, two = self.site(1), self.site(101)
+        spread = self.spread(one, two)
+        one.add(3)
+        self.assert_soon({1: 3}, two.held_to)
+        two.kill()
+        self.again(two)
+        self.assert_soon({1: 3}, two.held_to)
+        self.assertEqual(spread.items(two), 6)
+
     def test_the_last_facts_of_a_lost_site(self):
         one, two = self.site(1), self.site(101)
         two.add(3)
