@@ -1,46 +1,23 @@
 """fronting: sites behind HAProxy, as examples/scale-out has it, without spread."""
-import base64
-import contextlib
 import http.client
 import os
 import re
 import shutil
-import subprocess
 import threading
 import unittest
 import urllib.parse
 
-from measuring.server import free_port
-from scaling.sites import OUT, SitesCase, until
+from measuring.asking import basic
+from measuring.fronts import FIRST, Front, copy_maps
+from scaling.sites import SitesCase, until
 
-SITES = {"one": 1, "two": 8192, "three": 16384, "four": 24576}  # and their first numbers
 HAPROXY = shutil.which("haproxy", path=os.environ.get("PATH", "") + ":/usr/sbin")
 FORM = {"Content-Type": "application/x-www-form-urlencoded"}
 ELSE = "AQIAAQAAAAAAAAABAAAAAAAAAAAAAAAAAAAAAAAAAAAAAAAA"  # a token of region 1, never made
 
 
-class Front:
-    """HAProxy before some sites. Its outer side has no TLS."""
-
-    def __init__(self, folder, sites):
-        self.port, self.inner, self.output = free_port(), free_port(), os.path.join(folder, "out")
-        words = {"DIR": folder, "INNER": self.inner, "RATE": 10**6}
-        words |= {name.upper(): sites[name].port if name in sites else free_port()
-                  for name in SITES}
-        with open(os.path.join(OUT, "haproxy.cfg"), encoding="utf-8") as file:
-            text = re.sub("@FRONT@ ssl .*", str(self.port), file.read())
-        text = re.sub("@([A-Z]+)@", lambda it: str(words[it[1]]), text)
-        with open(os.path.join(folder, "haproxy.cfg"), "w", encoding="utf-8") as file:
-            file.write(text)
-        for name in "sites.map", "subjects.map":
-            shutil.copy(os.path.join(OUT, name), folder)
-        with open(self.output, "wb") as output:
-            self.child = subprocess.Popen([HAPROXY, "-f", os.path.join(folder, "haproxy.cfg")],
-                                          stdin=subprocess.DEVNULL, stdout=output, stderr=output)
-
-    def stop(self):
-        self.child.kill()
-        self.child.wait()
+class AskedFront(Front):
+    """HAProxy before some sites, with the maps of the example."""
 
     def ask(self, method, path, body=None, is_inner=False, **fields):
         """Status, `Location` and body of a reply. A mapping is sent as a form."""
@@ -56,34 +33,21 @@ class Front:
 
     def by(self):
         """Which backend and site replied to each request, by HAProxy's log."""
-        with open(self.output, encoding="utf-8") as file:
-            return re.findall(r"^\S+ (?:GET|POST) \S+ \d+ (\S+) ", file.read(), re.M)
-
-
-def basic(name, word):
-    return "Basic " + base64.b64encode(("%s:%s" % (name, word)).encode()).decode()
+        return re.findall(r"^\S+ (?:GET|POST) \S+ \d+ (\S+) ", self.said(), re.M)
 
 
 @unittest.skipUnless(HAPROXY, "passed over: no HAProxy (apt-get install haproxy)")
 class Fronts(SitesCase):
     def setUp(self):
         super().setUp()
-        self.sites = {name: self.site(SITES[name], is_up=False) for name in ("one", "two")}
+        self.sites = {name: self.site(FIRST[name], is_up=False) for name in ("one", "two")}
         self.assertTrue(until(lambda: all(it.is_up() for it in self.sites.values())))
-        self.front = Front(self.folder, self.sites)
+        copy_maps(self.folder)
+        self.front = AskedFront(self.folder, {name: it.port for name, it in self.sites.items()})
         self.addCleanup(self.front.stop)
+        self.front.await_port()
         # three and four aren't there, and HAProxy has noticed
-        self.assertTrue(until(self.is_up))
-        self.assertTrue(until(lambda: "Server four/four is DOWN" in self.said()))
-
-    def is_up(self):
-        with contextlib.suppress(ConnectionError):
-            return self.front.ask("GET", "/nowhere")[0] == 404
-        return False
-
-    def said(self):
-        with open(self.front.output, encoding="utf-8") as file:
-            return file.read()
+        self.assertTrue(until(lambda: "Server four/four is DOWN" in self.front.said()))
 
     def meet(self):
         """Brings the sites to the same facts."""
@@ -98,7 +62,7 @@ class Fronts(SitesCase):
         self.meet()
         self.member("consent_id", self.front.ask("POST", "/admin/consent", {
             "client_id": self.client, "subject": "dan", "scope": "read"}, True))
-        self.mine = {"Authorization": basic(self.client, "s3cret")}
+        self.mine = {"Authorization": "Basic " + basic(self.client, "s3cret")}
 
     def member(self, name, reply):
         found = re.search(b'"%s":"([^"]+)"' % name.encode(), reply[2])
@@ -108,7 +72,7 @@ class Fronts(SitesCase):
     def sign_in(self):
         """Dan's access token and refresh token."""
         _, where, _ = self.front.ask("GET", "/authorize?response_type=code&client_id="
-                                     + self.client, Authorization=basic("dan", "dan-word"))
+                                     + self.client, Authorization="Basic " + basic("dan", "dan-word"))
         said = self.token({"grant_type": "authorization_code", "code": where.split("code=")[1]})
         return self.member("access_token", said), self.member("refresh_token", said)
 

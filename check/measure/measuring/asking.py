@@ -45,7 +45,7 @@ class Asked:
             while piece := peer.recv(65536):
                 said += piece
         head, _, body = said.partition(b"\r\n\r\n")
-        length = re.search(rb"\r\nContent-Length: (\d+)", head)
+        length = re.search(rb"(?i)\r\ncontent-length: (\d+)", head)
         if not length or len(body) < int(length[1]):
             raise ConnectionError("no whole reply")
         return int(said[9:12]), said
