@@ -146,3 +146,25 @@ class Fronts(SitesCase):
         self.assertTrue(until(lambda: self.is_active(access) or self.front.by()[-1] == "two/two"))
         self.assertFalse(self.is_active(access))
         self.assertEqual(self.front.by()[-1], "two/two")
+
+    def test_a_site_whose_log_fails_is_out(self):
+        two = self.sites["two"]
+        two.kill()
+        self.assertTrue(until(lambda: "Server two/two is DOWN" in self.front.said()))
+        two.begin(before=["sh", "-c", "trap '' XFSZ; ulimit -f 4; exec \"$@\"", "sh"],
+                  script="two-regions/next-start")
+        self.assertTrue(until(lambda: "Server two/two is UP" in self.front.said()))
+        self.enrol()
+        self.meet()
+        statuses = []
+        for _ in range(20):
+            _, where, _ = self.front.ask("GET", "/authorize?response_type=code&client_id="
+                                         + self.client, Authorization="Basic "
+                                         + basic("dan", "dan-word"))
+            code = where.partition("code=")[2]
+            statuses.append(self.token({"grant_type": "authorization_code", "code": code})[0])
+        self.assertEqual(two.ask("/sync/vector")[0], 503)
+        self.assertIn("fault log", two.said())
+        self.assertEqual(statuses[-8:], [200] * 8)
+        self.assertLessEqual(len([it for it in statuses if it != 200]), 1, statuses)
+        self.assertEqual(self.front.by()[-1], "one/one")

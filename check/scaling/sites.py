@@ -46,13 +46,14 @@ class Site(Tokend):
         """The site as spread is given it."""
         return "%s=%s" % (self.url, self.folder)
 
-    def begin(self, neighbours=(), options=""):
-        """Starts the next run. Its output goes to a file."""
+    def begin(self, neighbours=(), options="", before=(), script="scale-out/start"):
+        """Starts the next run. Its output goes to a file. A command may be put before it."""
         variables = {"TOKEND": peers.PROGRAM, "TOKEND_OPTIONS": options,
                      "TOKEND_NEIGHBOURS": " ".join(str(it.folder) for it in neighbours)}
         with open(self.folder / "said", "ab") as said:
             self.child = subprocess.Popen(
-                [os.path.join(OUT, "start"), str(self.folder), str(self.port), self.numbers],
+                [*before, os.path.join(TOP, "examples", script), str(self.folder), str(self.port),
+                 self.numbers],
                 env=os.environ | variables, stdin=subprocess.DEVNULL, stdout=said, stderr=said)
         return self
 

@@ -17,7 +17,7 @@ class Spreads(SitesCase):
                 it.add()
         for it in sites:
             self.assert_soon({1: 3, 101: 3, 201: 3}, it.held_to)
-            self.assertEqual(spread.items(it), 6)
+            self.assert_soon(6, lambda it=it: spread.items(it))
         self.assertEqual(spread.said(), "")
 
     def test_what_waits_goes_in_bundles_of_128(self):
@@ -42,7 +42,7 @@ class Spreads(SitesCase):
         two.add()
         self.assert_soon({1: 3, 101: 2, 102: 1}, one.held_to)
         self.assertIn("spread: %s is back\n" % two.url, spread.said())
-        self.assertEqual((spread.items(two), spread.items(three)), (3, 6))
+        self.assert_soon((3, 6), lambda: (spread.items(two), spread.items(three)))
 
     def test_a_site_that_starts_anew_gets_what_it_forgot(self):
         one, two = self.site(1), self.site(101)
@@ -52,7 +52,7 @@ class Spreads(SitesCase):
         two.kill()
         self.again(two)
         self.assert_soon({1: 3}, two.held_to)
-        self.assertEqual(spread.items(two), 6)
+        self.assert_soon(6, lambda: spread.items(two))
 
     def test_the_last_facts_of_a_lost_site(self):
         one, two = self.site(1), self.site(101)
@@ -72,7 +72,7 @@ class Spreads(SitesCase):
         spread = self.spread(one, two)
         self.assert_soon({1: 5, 101: 4}, one.held_to)
         self.assert_soon({1: 5, 101: 4}, two.held_to)
-        self.assertEqual((spread.items(one), spread.items(two)), (4, 2))
+        self.assert_soon((4, 2), lambda: (spread.items(one), spread.items(two)))
 
     def test_a_cut_record_waits_for_its_rest(self):
         one, two = self.site(1), self.site(101)
@@ -108,7 +108,7 @@ class Spreads(SitesCase):
         for it in sites:
             self.assert_soon(wanted, it.held_to)
         time.sleep(QUIET)
-        self.assertEqual([spread.items(it) for it in sites], [4, 7, 7])
+        self.assert_soon([4, 7, 7], lambda: [spread.items(it) for it in sites])
         spread.kill()
         spread = self.spread(*sites)
         time.sleep(QUIET)
@@ -131,7 +131,7 @@ class Spreads(SitesCase):
         spread = self.spread(one, two)
         self.assert_soon([mark(500, 1), client(500, 2), mark(500, 3), client(500, 4)], two.held)
         self.assertEqual(two.page().horizon, 200)
-        self.assertEqual(sum(new for _, new in spread.handed(two)), 4)
+        self.assert_soon(4, lambda: sum(new for _, new in spread.handed(two)))
 
     def test_a_refused_item_holds_no_other_back(self):
         one, two = self.site(1), self.site(101)
