@@ -3,9 +3,10 @@ import subprocess
 import time
 
 from carrying.peers import bundle, client, clients, mark
-from scaling.sites import OUT, SitesCase, records
+from scaling.sites import OUT, SitesCase, records, until
 
 QUIET = 0.5  # seconds in which spread looks at its logs a hundred times
+MANY = 30_000  # facts of an earlier run
 
 
 class Spreads(SitesCase):
@@ -27,6 +28,16 @@ class Spreads(SitesCase):
         self.assert_soon({50: 300}, two.held_to)
         self.assert_soon([(128, 128), (128, 128), (44, 44)], lambda: spread.handed(two))
         self.assertEqual((spread.handed(one), one.held_to()), ([], {}))
+
+    def test_what_is_written_now_does_not_wait_behind_earlier_logs(self):
+        one, two, three = sites = [self.site(first) for first in (1, 101, 201)]
+        one.write(50, records(clients(50, *range(1, MANY + 1))))
+        spread = self.spread(*sites)
+        self.assertTrue(until(lambda: spread.handed(three)))
+        two.add()
+        self.assertTrue(until(lambda: 101 in three.held_to()))
+        self.assertLess(three.held_to()[50], MANY)
+        self.assert_soon({50: MANY, 101: 1}, three.held_to)
 
     def test_a_site_is_away_and_back(self):
         one, two, three = sites = [self.site(first) for first in (1, 101, 201)]
