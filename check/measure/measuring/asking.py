@@ -43,7 +43,7 @@ class Asked:
             peer.sendall(sent)
             said = self.hear(peer)
         head, _, body = said.partition(b"\r\n\r\n")
-        length = re.search(rb"\r\nContent-Length: (\d+)", head)
+        length = re.search(rb"(?i)\r\ncontent-length: (\d+)", head)
         if not length or len(body) < int(length[1]):
             raise ConnectionError("no whole reply")
         return int(said[9:12]), said

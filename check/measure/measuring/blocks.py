@@ -159,6 +159,36 @@ def fanned(parts):
     return it, text_of(["way", *(one + ", ms" for one in what)], rows)
 
 
+SCALED = {"introspect, kept": "introspections, kept connections",
+          "introspect, new": "introspections, a connection for each",
+          "refresh": "refreshes", "code": "codes"}
+
+
+def scaled(parts):
+    """A line for each kind of request, with a column for each number of sites."""
+    it, rows = part(parts, "scaled"), []
+    counts = it.numbers(r"sites (\d+), refresh: requests a second")
+    for kind, label in SCALED.items():
+        names = ["sites %d, %s" % (count, kind) for count in counts]
+        rows.append([label + ", a second"] + [it.cell(name + ": requests a second")
+                                              for name in names])
+        rows.append(["median, 99th in µs"] + [
+            "%s, %s" % (it.number(name + ": median in µs"),
+                        it.number(name + ": 99th of 100 in µs")) for name in names])
+    return it, text_of(["sites"] + [str(count) for count in counts], rows)
+
+
+def spread(parts):
+    """A line for each number of sites and kind of load."""
+    it, what = part(parts, "scaled"), ("median", "90th of 100", "longest")
+    rows = [[count, where, it.cell("sites %s, %s: facts a second" % (count, where))]
+            + [it.cell("sites %s, %s: %s in ms" % (count, where, one)) for one in what]
+            for count, where in it.found(r"sites (\d+), (\w+): median in ms")]
+    rows += [[count, "from a log", it.cell("sites %s, facts a second" % count), "", "", ""]
+             for count, in it.found(r"sites (\d+), facts a second")]
+    return it, text_of(["sites", "", "facts a second", *(one + ", ms" for one in what)], rows)
+
+
 def peers(parts):
     """A line for each server, kind of request and state that was asked for it."""
     it, rows = part(parts, "peers"), []
@@ -211,7 +241,7 @@ ALL = {
     "clients": clients, "growth": growth, "generations": generations, "memory": memory,
     "start": start, "push": push,
     "carried": plain("carried", ["`carry` to an empty server", ""]), "revoked": revoked,
-    "fanned": fanned, "peers": peers, "beside": beside, "ledger": ledger, "pruned": pruned,
+    "fanned": fanned, "scaled": scaled, "spread": spread, "peers": peers, "beside": beside, "ledger": ledger, "pruned": pruned,
     "idle": plain("idle", ["behind a client that is", "the next one waited"]),
     "killed": plain("killed", ["SIGKILL under load", ""]),
     "day": paper.day, "breaks": paper.breaks, "left": paper.left}
