@@ -9,6 +9,7 @@ import urllib.parse
 
 from measuring.asking import basic
 from measuring.fronts import FIRST, Front, copy_maps
+from carrying import peers
 from scaling.sites import SitesCase, until
 
 HAPROXY = shutil.which("haproxy", path=os.environ.get("PATH", "") + ":/usr/sbin")
@@ -151,8 +152,11 @@ class Fronts(SitesCase):
         two = self.sites["two"]
         two.kill()
         self.assertTrue(until(lambda: "Server two/two is DOWN" in self.front.said()))
-        two.begin(before=["sh", "-c", "trap '' XFSZ; ulimit -f 4; exec \"$@\"", "sh"],
-                  script="two-regions/next-start")
+        program = two.folder / "small"  # the program, with a log of 2,048 bytes at most
+        program.write_text("#!/bin/sh\ntrap '' XFSZ\nulimit -f 4\nexec '%s' \"$@\"\n"
+                           % peers.PROGRAM, encoding="utf-8")
+        program.chmod(0o755)
+        two.begin(program=str(program), script="../starter/tokend-start")
         self.assertTrue(until(lambda: "Server two/two is UP" in self.front.said()))
         self.enrol()
         self.meet()

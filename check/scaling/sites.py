@@ -46,9 +46,9 @@ class Site(Tokend):
         """The site as spread is given it."""
         return "%s=%s" % (self.url, self.folder)
 
-    def begin(self, neighbours=(), options="", before=(), script="scale-out/start"):
+    def begin(self, neighbours=(), options="", before=(), script="scale-out/start", program=None):
         """Starts the next run. Its output goes to a file. A command may be put before it."""
-        variables = {"TOKEND": peers.PROGRAM, "TOKEND_OPTIONS": options,
+        variables = {"TOKEND": program or peers.PROGRAM, "TOKEND_OPTIONS": options,
                      "TOKEND_NEIGHBOURS": " ".join(str(it.folder) for it in neighbours)}
         with open(self.folder / "said", "ab") as said:
             self.child = subprocess.Popen(

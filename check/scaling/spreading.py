@@ -55,7 +55,7 @@ class Spreads(SitesCase):
         self.assertIn("spread: %s is back\n" % two.url, spread.said())
         self.assert_soon((3, 6), lambda: (spread.items(two), spread.items(three)))
 
-    def test_a_site_that_starts_anew_gets_what_it_forgot(self):
+    def test_a_site_that_starts_anew_has_forgotten_nothing(self):
         one, two = self.site(1), self.site(101)
         spread = self.spread(one, two)
         one.add(3)
@@ -63,7 +63,7 @@ class Spreads(SitesCase):
         two.kill()
         self.again(two)
         self.assert_soon({1: 3}, two.held_to)
-        self.assert_soon(6, lambda: spread.items(two))
+        self.assertEqual(spread.items(two), 3)
 
     def test_the_last_facts_of_a_lost_site(self):
         one, two = self.site(1), self.site(101)
@@ -110,7 +110,7 @@ class Spreads(SitesCase):
                 spread.kill()
 
     def test_what_was_taken_in_goes_in_no_circle(self):
-        sites = [self.site(first, options="--log-taken") for first in (1, 101, 201)]
+        sites = [self.site(first) for first in (1, 101, 201)]
         spread = self.spread(*sites)
         for it in sites:
             it.add(2)
@@ -126,7 +126,7 @@ class Spreads(SitesCase):
         self.assertEqual([spread.items(it) for it in sites], [0, 0, 0])
 
     def test_facts_of_other_machines_are_handed_on(self):
-        one, two = self.site(1, options="--log-taken"), self.site(101)
+        one, two = self.site(1), self.site(101)
         one.push(clients(500, 7, 9))
         one.push(clients(500, 1) + clients(600, 1))
         spread = self.spread(one, two)
@@ -136,7 +136,7 @@ class Spreads(SitesCase):
         self.assert_soon(5, lambda: spread.items(two))
 
     def test_marks_are_handed_on_with_their_horizon(self):
-        one, two = self.site(1, options="--log-taken"), self.site(101)
+        one, two = self.site(1), self.site(101)
         one.push([mark(500, 1), client(500, 2)], horizon=100)
         one.push([mark(500, 3), client(500, 4)], horizon=200)
         spread = self.spread(one, two)

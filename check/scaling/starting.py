@@ -32,7 +32,7 @@ class Starts(SitesCase):
             "near-00002-%d.otb" % self.size(one, "log/00002.otb")])
 
     def test_only_what_the_neighbour_made_is_kept(self):
-        one = self.site(1, options="--log-taken")
+        one = self.site(1)
         one.push(clients(500, 1, 2))
         one.push([mark(500, 3)], horizon=100)
         one.add()

@@ -1,5 +1,5 @@
-"""logs: the logs of a site's runs, as next-start keeps them: FOLDER/log/N.otb, and FOLDER/old/N.otb
-once the run under number N has ended.
+"""logs: the logs of a site's runs, as tokend-start keeps them: FOLDER/log/N.otb, and
+FOLDER/old/N.otb once the run under number N has ended.
 
 A log has a record for each fact that its own run made. With --log-taken it also has each bundle
 that the run took in. Needs carry's bundles.py, in this folder or in ../carry.

@@ -22,7 +22,7 @@ class Site(Process):
     def __init__(self, program, folder, name):
         self.name, self.first = name, FIRST[name]
         os.makedirs(os.path.join(folder, "old"))
-        words = ["env", "TOKEND=" + program, "TOKEND_OPTIONS=--log-taken",
+        words = ["env", "TOKEND=" + program,
                  os.path.join(OUT, "start"), folder, "0", "%d-%d" % (self.first, self.first + 98)]
         super().__init__(words, folder)
 
