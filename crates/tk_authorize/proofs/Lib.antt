@@ -1,3 +1,4 @@
+pub mod MadeLaws
 pub mod RedirectLaws
 mod RegistrationLaws
 pub mod SameLaws

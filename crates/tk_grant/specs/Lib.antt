@@ -5,7 +5,8 @@
 --   Rotated       rotated_of, the judgement of a refresh token
 --   Judged        judged_of, the cases of a token request in their order
 --   Granted       grant_of, the decision of a token request
---   Laws          GrantsAlike, two stores that answer each handle alike
+--   Within        IsWithin, a fact whose tokens end with their family at the latest
+--   Laws          GrantsAlike, two stores that answer each handle alike; GrantsWithin, the facts made
 --   SoundGate     IsSoundGate, what holds of every gate
 --   SoundJudged   IsSoundJudged, what holds of every judgement
 pub mod Gate
@@ -17,3 +18,4 @@ pub mod Refusal
 pub mod Rotated
 pub mod SoundGate
 pub mod SoundJudged
+pub mod Within

@@ -1,6 +1,6 @@
-//! The law of token requests.
+//! The laws of token requests.
 
-ghost use Rattle.tk_grant.specs.Laws.{GrantsAlike};
+ghost use Rattle.tk_grant.specs.Laws.{GrantsAlike, GrantsWithin};
 
 /// States a law: two stores that answer each handle alike decide a token request alike.
 ///
@@ -8,4 +8,10 @@ ghost use Rattle.tk_grant.specs.Laws.{GrantsAlike};
 /// reason (RFC 6749, 5.2).
 pub fn grants_alike()
     ensures { GrantsAlike }
+{}
+
+/// States a law: the fact made for a token request uses a code or refresh token that was minted,
+/// and its tokens end with their family at the latest.
+pub fn grants_within()
+    ensures { GrantsWithin }
 {}

@@ -11,8 +11,8 @@
 //! `Gate`: whether the code or refresh token that was sent can be redeemed.
 //!
 //! In reading order: `Refusal`, `Gate`, `Grant`, `Judged`, `redeem`, `rotate`, `decide_token`,
-//! `grants_alike`. The definitions are in `specs/`: `Refusal`, `Gate`, `Redeemed`, `Rotated`,
-//! `Judged`, `Granted`.
+//! `grants_alike`, `grants_within`. The definitions are in `specs/`: `Refusal`, `Gate`, `Redeemed`,
+//! `Rotated`, `Judged`, `Granted`, `Within`.
 //! `SoundGate` and `SoundJudged` define what makes each fact pass its check.
 #![tactic(auto)]
 
@@ -25,4 +25,4 @@ mod refusal;
 mod rotate;
 
 pub use granted::decide_token;
-pub use laws::grants_alike;
+pub use laws::{grants_alike, grants_within};

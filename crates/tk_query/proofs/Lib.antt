@@ -1,2 +1,3 @@
 pub mod ActiveLaws
 pub mod AlikeLaws
+pub mod MadeLaws

@@ -28,7 +28,7 @@ use Rattle.tk_ledger.proofs.TokenLaws.{links-below, minted-below, from_some}
 use Rattle.tk_standing.specs.StandsFor.{SlotStands, StandsFor, AreSound, AddsOne, MeetsFamily}
 use Rattle.tk_standing.proofs.StandingLaws.{at_skipped, held_made, held_part, none_some}
 
-minted_more : (F G : FactSet) → IsSubset F G → (k : TokenId) (o : Option MintedFields) → minted_in (map.get F) k ≡ o → o ≢ None → minted_in (map.get G) k ≢ None
+pub minted_more : (F G : FactSet) → IsSubset F G → (k : TokenId) (o : Option MintedFields) → minted_in (map.get F) k ≡ o → o ≢ None → minted_in (map.get G) k ≢ None
 minted_more F G w k None h some = absurd (some refl)
 minted_more F G w k (Some m) h some = λ none. none_some (minted_in (map.get G) k) m none (minted-below F G w k m h)
 
@@ -48,7 +48,7 @@ may_more U V w t s h d may =
       over = (let a = may.over in omega (arith, a, h));
     }
 
-slot_more : (U V : FactSet) → IsSubset U V → (t s : ℕ) → t ≤ s → (d : Dot) (o : Option Slot) (p : Option Body) → SlotStands U t d o p → SlotStands V s d o p
+pub slot_more : (U V : FactSet) → IsSubset U V → (t s : ℕ) → t ≤ s → (d : Dot) (o : Option Slot) (p : Option Body) → SlotStands U t d o p → SlotStands V s d o p
 slot_more U V w t s h d None p x = x
 slot_more U V w t s h d (Some (Held b)) p x = (x.0, w d b x.1)
 slot_more U V w t s h d (Some Skipped) p x = (x.0 ∙ (x.1.here ∙ sym (w d x.1.fact x.1.here)), may_more U V w t s h d x.1)
@@ -76,7 +76,7 @@ prune_stands old new moment n U F prunes S d =
     ]
 
 -- what stands at a dot after one slot was put there
-slot_put : (U : FactSet) (t : ℕ) (T : Slots) (d : Dot) (s : Slot) (G : FactSet) → SlotStands U t d (Some s) (map.get G d)
+pub slot_put : (U : FactSet) (t : ℕ) (T : Slots) (d : Dot) (s : Slot) (G : FactSet) → SlotStands U t d (Some s) (map.get G d)
     → ((q : Dot) → q ≢ d → SlotStands U t q (map.get T q) (map.get G q)) → (q : Dot) → SlotStands U t q (map.get (map.insert T d s) q) (map.get G q)
 slot_put U t T d s G here others q = elim (cases_dots q d) [
   | inl same ↦ subst (λ (x : Dot). SlotStands U t x (map.get (map.insert T d s) x) (map.get G x)) (sym same)

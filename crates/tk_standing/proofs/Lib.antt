@@ -1,6 +1,7 @@
 pub mod DecisionLaws
 pub mod KeepingLaws
 pub mod LastingLaws
+pub mod MadeLaws
 pub mod StandingLaws
 pub mod StatusStandsLaws
 pub mod WholeStatus

@@ -8,14 +8,16 @@
 --   MarkStands, FactStands, DropStands
 --                   what a store stands for once a dot was skipped, and once a fact came
 --   SoundStays      all facts made stay sound with one more
-use Rattle.std.specs.Prelude.{◌≡◌, ◌≢◌, ◌≤◌, ℕ, true, List, Some}
+--   MadeMeets       a fact that a region makes ends with its family, and uses what was minted
+use Rattle.std.specs.Prelude.{◌≡◌, ◌≢◌, ◌≤◌, ℕ, true, List, Some, IfSome}
 use Rattle.std.specs.FinMap as map
 use Rattle.tk_handle.specs.declared.dot.Dot.{Dot}
 use Rattle.tk_handle.specs.declared.handle.Handle.{Handle}
 use Rattle.tk_fact.specs.declared.body.Body.{Body}
 use Rattle.tk_store.specs.FactSet.{FactSet, IsSubset}
 use Rattle.tk_store.specs.Slots.{is_skipped}
-use Rattle.tk_store.specs.StoreFields.{StoreFields, with_fact, with_skipped, with_horizon}
+use Rattle.tk_store.specs.StoreFields.{StoreFields, held_facts, with_fact, with_skipped}
+use Rattle.tk_store.specs.StoreFields.{with_horizon}
 use Rattle.tk_store.specs.WholeStores.{whole_store}
 use Rattle.tk_ledger.specs.Retention.{MaySkip, Prunes}
 use Rattle.tk_ledger.specs.Status.{status_here, status_in}
@@ -86,3 +88,12 @@ DropStands = (P : StoreFields) (U F G : FactSet) (d : Dot) → is_skipped P.slot
 abbrev pub SoundStays : Type 0
 SoundStays = (U V : FactSet) (d : Dot) (b : Body) → AddsOne U d b V → AreSound U
     → MeetsFamily U d V → AreSound V
+
+-- The fact that a region makes for a request, if it makes one, ends with its family, and uses a
+-- token that was minted. U has all facts that the region holds, and V is U with the new one.
+abbrev pub MadeMeets : Type 0
+MadeMeets =
+    (r : RegionFields) (U V : FactSet) (now : ℕ) (words : List ℕ) (request : RequestFields)
+    → IsSubset (held_facts r.facts) U
+    → IfSome (prepared_of r now words request).fact
+    (λ f. AddsOne U f.0 f.1 V → MeetsFamily U f.0 V)

@@ -4,6 +4,7 @@ ghost use Rattle.tk_standing.specs.Laws.{
   DecisionStands,
   DropStands,
   FactStands,
+  MadeMeets,
   MarkStands,
   MoreStands,
   PruneStands,
@@ -46,8 +47,9 @@ pub fn standing_kept()
     ensures dropped { DropStands }
 {}
 
-/// States a law: all facts made stay sound with one more that ends with its family and uses a token
-/// that was minted.
+/// States laws: all facts made stay sound with one more that ends with its family and uses a token
+/// that was minted, and each fact that a region makes is one.
 pub fn soundness_stays()
-    ensures { SoundStays }
+    ensures stays { SoundStays }
+    ensures made { MadeMeets }
 {}

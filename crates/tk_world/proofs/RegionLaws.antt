@@ -15,9 +15,7 @@ use Rattle.std.specs.Cmp.{nat_cmp_total}
 use Rattle.std.specs.FinMap as map
 use Rattle.tk_handle.specs.SortedEntries.{IsAt, IsGap}
 use Rattle.tk_handle.proofs.SortedEntriesLaws.{searched}
-use Rattle.tk_store.specs.FactSet.{FactSet}
-use Rattle.tk_store.specs.WholeStores.{whole_store}
-use Rattle.tk_store.proofs.WholeStoreLaws.{held_whole_store}
+use Rattle.tk_store.specs.StoreFields.{StoreFields}
 use Rattle.std.proofs.lemmas.List.{get_or-map, map-set, length-map}
 use Rattle.tk_edge.specs.EdgeFields.{EdgeFields}
 use Rattle.tk_region.specs.SettingsFields.{SettingsFields}
@@ -42,21 +40,21 @@ entries_insert (r ∷ rs) (suc i) q = ap (λ es. entry_of r ∷ es) (entries_ins
 -- ---- a search by number
 
 -- a region with this entry
-abbrev region_of : ℕ × FactSet → EdgeFields
-region_of e = record { region = record { number = e.0; settings = record { code = 0; access = 0; refresh = 0; family = 0; cap = 0 }; facts = whole_store e.1 }; sync = false; sealed = false }
+abbrev region_of : ℕ × StoreFields → EdgeFields
+region_of e = record { region = record { number = e.0; settings = record { code = 0; access = 0; refresh = 0; family = 0; cap = 0 }; facts = e.1 }; sync = false; sealed = false }
 
 get_entry : (rs : List EdgeFields) (i : ℕ) (d : EdgeFields) → get_or (entries_of rs) i (entry_of d) ≡ entry_of (get_or rs i d)
 get_entry [] i d = refl
 get_entry (r ∷ rs) zero d = refl
 get_entry (r ∷ rs) (suc i) d = get_entry rs i d
 
-at_entry : (rs : List EdgeFields) (i : ℕ) (d : ℕ × FactSet) → get_or (entries_of rs) i d ≡ entry_of (get_or rs i (region_of d))
-at_entry [] i (n, F) = ap (λ (G : FactSet). (n, G)) (sym (held_whole_store F))
-at_entry (r ∷ rs) zero (n, F) = refl
-at_entry (r ∷ rs) (suc i) (n, F) = at_entry rs i (n, F)
+at_entry : (rs : List EdgeFields) (i : ℕ) (d : ℕ × StoreFields) → get_or (entries_of rs) i d ≡ entry_of (get_or rs i (region_of d))
+at_entry [] i d = refl
+at_entry (r ∷ rs) zero d = refl
+at_entry (r ∷ rs) (suc i) d = at_entry rs i d
 
 -- a search among regions is a search among their entries
-by_entries : (rs : List EdgeFields) (k : ℕ) (r : Result ℕ ℕ) → IsBinarySearchResult (λ (edge : EdgeFields). nat_cmp edge.region.number k) rs r → IsBinarySearchResult (λ (e : ℕ × FactSet). nat_cmp e.0 k) (entries_of rs) r
+by_entries : (rs : List EdgeFields) (k : ℕ) (r : Result ℕ ℕ) → IsBinarySearchResult (λ (edge : EdgeFields). nat_cmp edge.region.number k) rs r → IsBinarySearchResult (λ (e : ℕ × StoreFields). nat_cmp e.0 k) (entries_of rs) r
 by_entries rs k (Ok i) here = λ d. subst (λ e. nat_cmp e.0 k ≡ Equal) (sym (at_entry rs i d)) (here (region_of d))
 by_entries rs k (Err i) parted = λ rises.
     let along : IsNonDecreasingBy (λ (edge : EdgeFields). ordering_index (nat_cmp edge.region.number k)) rs =

@@ -1,23 +1,19 @@
--- A bundle in bytes, seen as its facts (own).
---   facts_bytes      the bytes of the bundle of facts
---   facts_in_bytes   the facts of the bundle that the bytes spell
---   IsReadable       the bytes spell a bundle of facts
-use Rattle.std.specs.Prelude.{◌≡◌, ℕ, List, [], Some}
-use Rattle.std.specs.Option.{option_map_or}
+-- A bundle in bytes, seen as its horizon and items (own).
+--   bundle_in_bytes   the bundle that the bytes spell
+--   IsReadable        the bytes spell a bundle
+use Rattle.std.specs.Prelude.{◌≡◌, ℕ, List, [], None, Some, unwrap_or}
 use Rattle.tk_format.specs.Format.{whole}
-use Rattle.tk_store.specs.FactSet.{Facts}
-use Rattle.tk_store.specs.Slots.{held_entries}
-use Rattle.tk_bundle.specs.Bundle.{bundle, bundle_bytes}
-use Rattle.tk_bundle.specs.BundleFields.{of_facts}
+use Rattle.tk_bundle.specs.Bundle.{bundle}
+use Rattle.tk_bundle.specs.BundleFields.{BundleFields}
 
--- the bytes of the bundle of facts
-abbrev pub facts_bytes : Facts → List ℕ
-facts_bytes fs = bundle_bytes (of_facts fs)
+-- the bundle without items
+abbrev pub no_bundle : BundleFields
+no_bundle = record { horizon = None; items = [] }
 
--- the facts of the bundle that the bytes spell
-abbrev pub facts_in_bytes : List ℕ → Facts
-facts_in_bytes bytes = option_map_or (λ b. held_entries b.items) (whole bundle bytes) []
+-- the bundle that the bytes spell
+abbrev pub bundle_in_bytes : List ℕ → BundleFields
+bundle_in_bytes bytes = unwrap_or (whole bundle bytes) no_bundle
 
--- the bytes spell a bundle of facts alone
+-- the bytes spell a bundle
 abbrev pub IsReadable : List ℕ → Type 0
-IsReadable bytes = whole bundle bytes ≡ Some (of_facts (facts_in_bytes bytes))
+IsReadable bytes = whole bundle bytes ≡ Some (bundle_in_bytes bytes)

@@ -1,26 +1,33 @@
 -- The definitions of this crate, in reading order:
 --   AskedFields   AskedFields, what reaches a region: a moment, random words, and bytes
---   Bundles       facts_in_bytes, the facts of a bundle; IsReadable, bytes that spell a bundle
---   Regions       entries_of, the numbers and facts of regions
---   State         State, a world's regions and bundles; Consists, the set of all its facts
+--   Bundles       bundle_in_bytes, the bundle that bytes spell; IsReadable
+--   WorldFields   WorldFields, what contracts see of a world: its regions' stores, and its bundles
+--   Regions       entries_of, the numbers and stores of regions
 --   Carrying      Way, what a request may be heard as and what its reply shows; Carries, what
 --                 carrying a request does to an edge
---   Pages         page_of, the page of a set of facts
---   World         Step, one event; Run, a list of them; StepBy, RunBy, by any way of requests;
---                 seen_by, what a region has seen
+--   Acts          ActBy, what one event does to a world, exactly; ActsBy, a list of them
 --   Broken        BreaksOff, what a run leaves that ended with an error
+--   State         State, regions with all facts that they made and took in; Consists, the set of
+--                 all its facts
+--   Pages         page_of, the page of a set of facts
+--   World         StepBy, one event of a state, in which no fact is skipped; RunBy, a list of them;
+--                 seen_by, what a region has seen
+--   WorldStands   WorldStands, the state that a world stands for
+--   Headline      RunStands, a run of a world as a run of that state; AnswersFor, the answers
 --   Promises      TellsOfSets, IntrospectAlike, RevokedInactive, FamiliesInactive: the promises
 --                 about introspection
---   Parts         Opens, Pages, TakesFacts: how the parts of a step may end
+--   Parts         Opens, Pages, TakesBundle, PrunesTo: how the parts of a step may end
 --   Fields        region_in, moment_in, IsCursorText: the numbers and texts of a line's fields
 --   RequestLine   asked_of, the requests of lines, whole and short
 --   Line          IsEventLine, the event of a line; HasWords, the random words of a request
 --   Printed       lines_text, the lines of outcomes
+pub mod Acts
 pub mod AskedFields
 pub mod Broken
 pub mod Bundles
 pub mod Carrying
 pub mod Fields
+pub mod Headline
 pub mod Line
 pub mod Pages
 pub mod Parts
@@ -30,6 +37,8 @@ pub mod Regions
 pub mod RequestLine
 pub mod State
 pub mod World
+pub mod WorldFields
+pub mod WorldStands
 pub use Rattle.tk_bundle.specs.Bundle
 pub use Rattle.tk_bundle.specs.BundleFields
 pub use Rattle.tk_bundle.specs.Page
@@ -37,10 +46,11 @@ pub use Rattle.tk_edge.specs.Answers
 pub use Rattle.tk_edge.specs.Heard
 pub use Rattle.tk_edge.specs.Rendering
 pub use Rattle.tk_message.specs.RequestFields
+pub use Rattle.tk_ledger.specs.Retention
 pub use Rattle.tk_message.specs.Status
 pub use Rattle.tk_region.specs.SettingsFields
 pub use Rattle.tk_region.specs.Taking
-pub use Rattle.tk_region.specs.WholeSteps
+pub use Rattle.tk_standing.specs.StandsFor
 pub use Rattle.tk_store.specs.FactSet
 pub use Rattle.tk_store.specs.Joining
 pub use Rattle.tk_store.specs.StoreFields

@@ -11,7 +11,7 @@ use Rattle.std.specs.List.{All, slice_split}
 use Rattle.tk_handle.specs.Ranges.{IsRegion, IsMoment}
 use Rattle.tk_vector.specs.VectorText.{IsVectorText}
 use Rattle.tk_world.specs.declared.event.Event.{Event}
-use Rattle.tk_world.specs.declared.event.Event.TheVariants.{Open, Request, Pull, Deliver}
+use Rattle.tk_world.specs.declared.event.Event.TheVariants.{Open, Request, Pull, Deliver, Prune}
 use Rattle.tk_world.specs.Fields.{is_space, IsCursorText}
 use Rattle.tk_world.specs.RequestLine.{asked_of}
 
@@ -28,7 +28,7 @@ abbrev pub bytes_in : Option (Vec ℕ Global) → Option (List ℕ)
 bytes_in bytes = option_map (λ v. v.items) bytes
 
 -- the event of a line's fields: `open R`, NAME R NOW and a request's form, `pull R VECTOR AFTER`,
--- or `deliver B R`
+-- `deliver B R`, or `prune R H`
 abbrev pub IsEventForm : List (List ℕ) → Event → Type 0
 IsEventForm fields (Open region) = (fields ≡ codes "open" ∷ decimal region ∷ []) × IsRegion region
 IsEventForm fields (Request region now words bytes) =
@@ -41,6 +41,9 @@ IsEventForm fields (Pull region vector after) =
 IsEventForm fields (Deliver bundle region) =
     (fields ≡ codes "deliver" ∷ decimal bundle ∷ decimal region ∷ []) × (bundle < 2 ^ 64)
     × IsRegion region
+IsEventForm fields (Prune region horizon) =
+    (fields ≡ codes "prune" ∷ decimal region ∷ decimal horizon ∷ []) × IsRegion region
+    × IsMoment horizon
 
 -- the fields have no event's form
 abbrev pub IsNoEventForm : List (List ℕ) → Type 0
@@ -62,3 +65,4 @@ HasWords words (Open region) = ⊤
 HasWords words (Request region now drawn bytes) = drawn ≡ words
 HasWords words (Pull region vector after) = ⊤
 HasWords words (Deliver bundle region) = ⊤
+HasWords words (Prune region horizon) = ⊤

@@ -1,7 +1,6 @@
 -- Pages of a set of facts (own).
 --   PageFields   the facts of a page, the dot of the last, and whether more follow
 --   page_of      the page of a set for a vector and a cursor
---   as_page      a page as contracts of bundles see it
 use Rattle.std.specs.Prelude.{Bool, nat_lt, length, Option}
 use Rattle.tk_handle.specs.declared.dot.Dot.{Dot}
 use Rattle.tk_vector.specs.VersionVector.{Vector}
@@ -9,8 +8,6 @@ use Rattle.tk_store.specs.Beyond.{beyond}
 use Rattle.tk_store.specs.FactSet.{FactSet, Facts}
 use Rattle.tk_store.specs.Paging.{page, last_dot}
 use Rattle.tk_bundle.specs.Bundle.{most_items}
-use Rattle.tk_bundle.specs.BundleFields.{of_facts}
-use Rattle.tk_bundle.specs.Page as bundles
 
 -- the facts of a page, the dot of the last, and whether more follow
 pub record PageFields : Type 0 where
@@ -25,8 +22,3 @@ page_of F v after = record {
   last = last_dot (page most_items F v after);
   more = nat_lt most_items (length (beyond F v after));
 }
-
--- a page as contracts of bundles see it: its bundle has no mark
-abbrev pub as_page : PageFields → bundles.PageFields
-as_page fields =
-    record { bundle = of_facts fields.facts; last = fields.last; more = fields.more }

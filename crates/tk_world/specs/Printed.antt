@@ -15,7 +15,8 @@ use Rattle.tk_world.specs.declared.event.Event.{Event}
 use Rattle.tk_world.specs.World.{region_of}
 use Rattle.tk_world.specs.declared.event.Outcome.{Outcome}
 use Rattle.tk_world.specs.declared.event.Outcome.TheVariants.{Opened, NumberTaken, NoRegion}
-use Rattle.tk_world.specs.declared.event.Outcome.TheVariants.{NoBundle, Reply, Bundle, Took, Memory}
+use Rattle.tk_world.specs.declared.event.Outcome.TheVariants.{NoBundle, Reply, Bundle, Took, Pruned}
+use Rattle.tk_world.specs.declared.event.Outcome.TheVariants.{Memory}
 
 -- the line feed that ends a line
 abbrev pub newline : List ℕ
@@ -92,6 +93,7 @@ outcome_line region (Reply status bytes) =
     reply_line (status_number status) (location_in bytes.items) (body_in bytes.items)
 outcome_line region (Bundle index count last more) = bundle_line index count last more
 outcome_line region (Took count) = numbered_line (codes "took ") count
+outcome_line region (Pruned count) = numbered_line (codes "pruned ") count
 outcome_line region Memory = codes "memory" ++ newline
 
 -- the line of an event and its outcome

@@ -28,6 +28,12 @@ pub enum Event {
         bundle: u64,
         region: RegionNumber,
     },
+    /// A region skips the facts of families that are over at its horizon, which is raised to this
+    /// moment if that is later.
+    Prune {
+        region: RegionNumber,
+        horizon: Moment,
+    },
 }
 
 /// How an event ended.
@@ -47,17 +53,19 @@ pub enum Outcome {
         status: Status,
         bytes: Vec<u8>,
     },
-    /// The bundle made: its number, how many facts it has, the dot of the last one, and whether
-    /// more facts follow.
+    /// The bundle made: its number, how many items it has, facts and marks, the dot of the last one,
+    /// and whether more follow.
     Bundle {
         index: u64,
         count: u16,
         last: Option<Dot>,
         more: bool,
     },
-    /// How many of the bundle's facts were new.
+    /// How many of the bundle's facts were neither held nor skipped.
     Took(u16),
-    /// Memory ran out. Nothing changed, except that a delivery may have added the first facts of
-    /// its bundle.
+    /// How many facts were skipped.
+    Pruned(u64),
+    /// Memory ran out. Nothing changed, except that a delivery may have raised the horizon and added
+    /// the first items of its bundle.
     Memory,
 }

@@ -1,9 +1,9 @@
 //! A world: regions, the requests that reach them, and the bundles between them.
 //!
 //! `World::run` takes a list of events and returns one outcome for each. Its contract has the
-//! promises of the project. The outcomes and the new state are a run of the world. Each region's
-//! set of facts is its old set joined with what it has seen. Bundles may be lost, repeated, late or
-//! out of order.
+//! promises of the project. Each region stands for the facts that it made and took in, and from its
+//! horizon on answers as the definition over them, whatever it skipped by pruning. Bundles may be
+//! lost, repeated, late or out of order.
 //!
 //! An event is a line that `Event::read_line` reads, and an outcome a line that `print_outcomes`
 //! writes.
@@ -11,14 +11,15 @@
 //! In reading order:
 //!
 //! - `Event`, `Outcome`, `World`: what happens to a world. `Carrier`: how requests reach its
-//!   regions. Inside, `region` hands bundles to one region.
+//!   regions. Inside, `region` hands bundles to one region, and has it prune.
 //! - `line`: the lines of events. `request_line` makes their requests, `fields` reads their numbers
 //!   and texts.
 //! - `print`: the lines of outcomes. `reply_parts` finds what they show of a reply.
 //!
 //! tk_put writes the lines, tk_edge replies to the bytes of a request, and tk_region takes a bundle
-//! in. The definitions are in `specs/`: `State` and `World` define steps and runs. The crate reads
-//! no clock and draws no random words: each event brings them.
+//! in. The definitions are in `specs/`: `Acts` has what events do to the regions' stores, `State` and
+//! `World` have steps and runs over all facts, and `WorldStands` ties the two. The crate reads no
+//! clock and draws no random words: each event brings them.
 #![tactic(auto)]
 
 mod bundle;

@@ -28,10 +28,11 @@ impl Event {
     /// - `look R NOW ID`
     /// - `pull R VECTOR AFTER`
     /// - `deliver B R`
+    /// - `prune R H`
     ///
     /// Fields are one or more bytes of `%x21-7E`, with one space between two fields. Their values:
     ///
-    /// - R is the number of a region, NOW a moment, B a bundle's number from 0.
+    /// - R is the number of a region, NOW and H are moments, B is a bundle's number from 0.
     /// - VECTOR is `-`, or entries `R:S` of rising regions, joined by commas.
     /// - AFTER is `-`, or the dot `R:S` above which the page begins.
     /// - METHOD is capital letters.
@@ -87,6 +88,15 @@ fn event_of(alloc: Global, fields: &[&str], words: [u64; 6]) -> Result<Event, Re
             };
             match region(to) {
                 Some(region) => Ok(Event::Deliver { bundle, region }),
+                None => Err(ReadError::Malformed),
+            }
+        }
+        ["prune", at, horizon] => {
+            let Some(region) = region(at) else {
+                return Err(ReadError::Malformed);
+            };
+            match moment(horizon) {
+                Some(horizon) => Ok(Event::Prune { region, horizon }),
                 None => Err(ReadError::Malformed),
             }
         }

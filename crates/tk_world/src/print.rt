@@ -58,6 +58,7 @@ fn region_of(event: &Event) -> RegionNumber
         Event::Request { region, .. } => *region,
         Event::Pull { region, .. } => *region,
         Event::Deliver { region, .. } => *region,
+        Event::Prune { region, .. } => *region,
     }
 }
 
@@ -83,6 +84,7 @@ fn print_outcome<O: Write>(
             more,
         } => print_bundle(output, *index, *count, *last, *more),
         Outcome::Took(count) => print_number(output, b"took ", u64::from(*count)),
+        Outcome::Pruned(count) => print_number(output, b"pruned ", *count),
         Outcome::Memory => put_all(output, &[b"memory\n"]),
     }
 }
@@ -96,7 +98,7 @@ fn print_number<O: Write>(output: &mut O, word: &[u8], number: u64) -> io::Resul
     put_all(output, &[word, digits.format(number).as_bytes(), b"\n"])
 }
 
-// Writes a bundle's line: its number, how many facts it has, the greatest dot, and whether more
+// Writes a bundle's line: its number, how many items it has, the greatest dot, and whether more
 // follow.
 fn print_bundle<O: Write>(
     output: &mut O,

@@ -12,10 +12,11 @@ use tk_region::{Region, Settings};
 pub struct World {
     alloc: Global,
     settings: Settings,
-    // The edges, ascending by number. Each has these settings, none is sealed, none serves
-    // `/sync/`, and none has skipped a fact.
+    // The edges, ascending by number. Each has these settings, none is sealed, and none serves
+    // `/sync/`.
     regions: Vec<Edge>,
-    // The bundles in the order of making. All facts that regions hold or bundles carry are one set.
+    // The bundles in the order of making. All facts that regions made are one set, for parts of
+    // which regions and bundles stand.
     bundles: Vec<MadeBundle>,
 }
 
@@ -24,11 +25,12 @@ impl Model for World {
     ghost use Rattle.std.specs.Ordering.{nat_cmp};
     ghost use Rattle.std.specs.FinMap as map;
     ghost use Rattle.tk_world.specs.Regions.{entries_of, HaveSettings};
-    ghost use Rattle.tk_world.specs.State.{State, coded_state, IsConsistent};
+    ghost use Rattle.tk_world.specs.WorldFields.{WorldFields, coded_world};
+    ghost use Rattle.tk_world.specs.WorldStands.{IsStanding};
 
-    ghost Value = { State };
+    ghost Value = { WorldFields };
 
-    ghost coded = { coded_state };
+    ghost coded = { coded_world };
 
     ghost view = { λ w. record {
       settings = w.settings;
@@ -38,40 +40,39 @@ impl Model for World {
 
     ghost invariant = { λ w. T (map.is_sorted nat_cmp (entries_of w.regions.items))
         × HaveSettings w.settings w.regions.items
-        × IsConsistent (record {
+        × IsStanding (record {
           settings = w.settings;
           regions = map.from_sorted (entries_of w.regions.items);
           bundles = w.bundles.items;
         }) };
 }
 
-ghost use Rattle.std.specs.Prelude.{◌≡◌, ◌≤◌, ◌<◌, ◌+◌, T, ℕ, List, IfOk, IfErr, OnOk, OnErr};
+ghost use Rattle.std.specs.Prelude.{◌≡◌, ◌≤◌, ◌<◌, ◌+◌, T, List, IfOk, IfErr, OnOk, OnErr};
 ghost use Rattle.std.specs.Prelude.{MatchResult, length, insert, [], slice_get, vec_len};
 ghost use Rattle.std.specs.Prelude.{vec_capacity, ◌++◌, ◌∷◌};
 ghost use Rattle.std.specs.Option.{option_copied, option_map};
 ghost use Rattle.std.specs.Ordering.{nat_cmp};
 ghost use Rattle.std.specs.FinMap as map;
 ghost use Rattle.tk_handle.specs.SortedEntries.{IsAt, IsGap};
-ghost use Rattle.tk_store.specs.FactSet.{Facts};
-ghost use Rattle.tk_store.specs.Joining.{JoinsFacts, SameFacts};
-ghost use Rattle.tk_store.specs.StoreFields.{held_facts};
-ghost use Rattle.tk_bundle.specs.Bundle.{bundle};
-ghost use Rattle.tk_bundle.specs.BundleFields.{of_facts};
+ghost use Rattle.tk_store.specs.FactSet.{FactSet};
+ghost use Rattle.tk_bundle.specs.Bundle.{bundle, bundle_bytes};
+ghost use Rattle.tk_bundle.specs.Page as pages;
 ghost use Rattle.tk_bundle.specs.Page.{IsPageOf};
-ghost use Rattle.tk_region.specs.WholeSteps.{IsUnpruned};
-ghost use Rattle.tk_world.specs.Bundles.{facts_bytes};
-ghost use Rattle.tk_world.specs.Pages as pages;
-ghost use Rattle.tk_world.specs.State.{facts_in, new_state, region_with, IsConsistent};
+ghost use Rattle.tk_world.specs.Acts.{ActsBy, DeliversAt, OpensAt, PrunesAt, PullsAt};
 ghost use Rattle.tk_world.specs.Broken.{BreaksOff, Requests, Steps};
-ghost use Rattle.tk_world.specs.World.{IsDelivery, IsOpening, IsPull, Run, RunBy, seen_by};
+ghost use Rattle.tk_world.specs.Carrying.{in_place};
+ghost use Rattle.tk_world.specs.Headline.{AnswersFor, RunStands};
 ghost use Rattle.tk_world.specs.Parts.{Opens, Pages};
 ghost use Rattle.tk_world.specs.Promises.{TellsOfSets, IntrospectAlike, RevokedInactive};
 ghost use Rattle.tk_world.specs.Promises.{FamiliesInactive};
 ghost use Rattle.tk_world.specs.Regions.{entries_of};
+ghost use Rattle.tk_world.specs.State.{State};
+ghost use Rattle.tk_world.specs.WorldFields.{new_world, region_at, store_in};
+ghost use Rattle.tk_world.specs.WorldStands.{IsStanding, WorldStands};
 
 use crate::carrier::{Carrier, InPlace, RunError};
 use crate::event::{Event, Outcome};
-use crate::region::deliver;
+use crate::region::{deliver, prune};
 use std::alloc::AllocError;
 use tk_bundle::Page;
 use tk_handle::{Dot, Moment, RegionNumber};
@@ -80,7 +81,7 @@ use tk_vector::VersionVector;
 impl World {
     /// Returns a world without regions and bundles.
     pub fn new(alloc: Global, settings: Settings) -> World
-        ensures { result ≡ new_state settings }
+        ensures { result ≡ new_world settings }
     {
         // The proof reads the cap's range from this call.
         let _cap = settings.cap();
@@ -94,13 +95,19 @@ impl World {
 
     /// States what holds of any world. The call does nothing at run time.
     pub fn known(&self)
-        // All facts that regions hold and bundles carry are one set.
-        ensures consistent { IsConsistent self.now }
+        // All facts that regions made are one set. Each region stands for the facts that it made
+        // and took in, and each bundle for its facts.
+        ensures stands { IsStanding self.now }
+
+        // From its horizon on, a region answers as one that holds all the facts for which it stands
+        // and never pruned.
+        ensures answers { (made : FactSet) (state : State) → WorldStands self.now made state
+            → AnswersFor self.now state }
 
         // A token that its client revoked is inactive in every region that holds the facts. Each
         // token of a family with a bad grant is inactive there, too.
-        ensures revoked { RevokedInactive self.now }
-        ensures families { FamiliesInactive self.now }
+        ensures revoked { RevokedInactive (store_in self.now) }
+        ensures families { FamiliesInactive (store_in self.now) }
     {
         // A read of a field gives the proof the world's invariant.
         let _regions = &self.regions;
@@ -109,7 +116,7 @@ impl World {
     /// Returns the region that is open under this number, if any.
     pub fn region(&self, number: RegionNumber) -> Option<&Region>
         ensures { option_copied result
-            ≡ option_map (region_with self.now number) (map.get self.now.regions number) }
+            ≡ option_map (region_at self.now number) (map.get self.now.regions number) }
     {
         match find_region(&self.regions, number) {
             Ok(at) => Some(self.regions[at].region()),
@@ -126,28 +133,29 @@ impl World {
         // The run has one outcome for each event.
         ensures count { IfOk result (λ outcomes. length outcomes.items ≡ length events.now) }
 
-        // The old world, the events, the outcomes and the new world are a run.
-        // Each region's set of facts is its old set joined with what it has seen, which agrees with
-        // it.
-        // Two regions that began alike and have seen the same facts, in any order and any number of
-        // times, are alike.
-        // The reply to an introspection request depends only on the set that the region held then,
-        // the moment and the request. Regions that hold equal sets give equal replies.
-        ensures run { IfOk result (λ outcomes. (shown : List Facts)
-            × Run self.old events.now outcomes.items shown self.new
-            × ((r : ℕ)
-            → JoinsFacts (facts_in self.old r) (seen_by r events.now shown) (facts_in self.new r))
-            × ((q r : ℕ) → facts_in self.old q ≡ facts_in self.old r
-            → SameFacts (seen_by q events.now shown) (seen_by r events.now shown)
-            → facts_in self.new q ≡ facts_in self.new r)
-            × TellsOfSets self.old events.now outcomes.items shown
-            × IntrospectAlike self.old events.now outcomes.items shown) }
+        // The events, one after another, make the new world of the old one, with these outcomes.
+        ensures acts { IfOk result
+            (λ outcomes. ActsBy in_place self.old events.now outcomes.items self.new) }
+
+        // Each region stands for the facts that it made and took in, and from its horizon on
+        // answers as the definition over them: for each state for which the old world stands, the
+        // events and outcomes are a run from that state, in which a prune takes no fact away, and
+        // the new world stands for where the run ends. The facts of each region are its old ones
+        // joined with what it has seen.
+        // From its region's horizon on, the reply to an introspection request depends only on the
+        // facts that its region made and took in, the moment and the request. Regions with equal
+        // facts give equal replies.
+        ensures run { IfOk result (λ outcomes. (made : FactSet) (state : State)
+            → WorldStands self.old made state
+            → (ran : RunStands in_place state events.now outcomes.items self.new)
+            × TellsOfSets state events.now outcomes.items ran.shown ran.after ran.run
+            × IntrospectAlike state events.now outcomes.items ran.shown ran.after ran.run) }
 
         // Once a region holds the facts, a token that its client revoked is never active there
         // again, and introspection reports it as inactive to everyone. This holds for each token of
         // a family with a bad grant, too.
-        ensures revoked { RevokedInactive self.new }
-        ensures families { FamiliesInactive self.new }
+        ensures revoked { RevokedInactive (store_in self.new) }
+        ensures families { FamiliesInactive (store_in self.new) }
 
         ensures err { OnErr result (self.new ≡ self.old) }
     {
@@ -173,17 +181,16 @@ impl World {
         // The run has one outcome for each event.
         ensures count { IfOk result (λ outcomes. length outcomes.items ≡ length events.now) }
 
-        // The old world, the events, the outcomes and the new world are a run by this carrier.
-        // Each region's set of facts is its old set joined with what it has seen, which agrees with
-        // it.
-        // Two regions that began alike and have seen the same facts are alike.
-        ensures run { IfOk result (λ outcomes. (shown : List Facts)
-            × RunBy C.way self.old events.now outcomes.items shown self.new
-            × ((r : ℕ)
-            → JoinsFacts (facts_in self.old r) (seen_by r events.now shown) (facts_in self.new r))
-            × ((q r : ℕ) → facts_in self.old q ≡ facts_in self.old r
-            → SameFacts (seen_by q events.now shown) (seen_by r events.now shown)
-            → facts_in self.new q ≡ facts_in self.new r)) }
+        // The events, one after another, make the new world of the old one, with these outcomes.
+        ensures acts { IfOk result
+            (λ outcomes. ActsBy C.way self.old events.now outcomes.items self.new) }
+
+        // For each state for which the old world stands, the events and outcomes are a run from
+        // that state by this carrier, in which a prune takes no fact away, and the new world stands
+        // for where the run ends.
+        ensures run { IfOk result (λ outcomes. (made : FactSet) (state : State)
+            → WorldStands self.old made state
+            → RunStands C.way state events.now outcomes.items self.new) }
 
         ensures err { IfErr result (BreaksOff C.way self.old events.now self.new) }
     {
@@ -202,7 +209,7 @@ impl World {
     /// Returns the bytes of a bundle. Bundles are numbered from 0 in the order of making.
     pub fn bundle(&self, index: u64) -> Option<&[u8]>
         ensures { option_copied result
-            ≡ option_map facts_bytes (slice_get self.now.bundles index) }
+            ≡ option_map bundle_bytes (slice_get self.now.bundles index) }
     {
         match bundle_at(&self.bundles, index) {
             Some(bundle) => Some(bundle.bytes()),
@@ -228,12 +235,13 @@ impl World {
                 after,
             } => Ok(self.pull(*region, vector, *after)),
             Event::Deliver { bundle, region } => Ok(self.deliver(*bundle, *region)),
+            Event::Prune { region, horizon } => Ok(self.prune(*region, *horizon)),
         }
     }
 
     // Opens a region.
     fn open(&mut self, number: RegionNumber) -> Outcome
-        ensures { (seen : Facts) × IsOpening self.old number result seen self.new }
+        ensures { OpensAt self.old number result self.new }
     {
         match find_region(&self.regions, number) {
             Ok(_) => Outcome::NumberTaken,
@@ -264,7 +272,7 @@ impl World {
 
     // Makes a bundle of a region's page.
     fn pull(&mut self, region: RegionNumber, vector: &VersionVector, after: Option<Dot>) -> Outcome
-        ensures { (seen : Facts) × IsPull self.old region vector.now after result seen self.new }
+        ensures { PullsAt self.old region vector.now after result self.new }
     {
         match find_region(&self.regions, region) {
             Ok(at) => pull_page(
@@ -280,13 +288,23 @@ impl World {
 
     // Hands a bundle to a region.
     fn deliver(&mut self, bundle: u64, region: RegionNumber) -> Outcome
-        ensures { (seen : Facts) × IsDelivery self.old bundle region result seen self.new }
+        ensures { DeliversAt self.old bundle region result self.new }
     {
         match find_region(&self.regions, region) {
             Ok(at) => match bundle_at(&self.bundles, bundle) {
                 Some(bundle) => deliver(self.alloc, &mut self.regions[at], bundle),
                 None => Outcome::NoBundle,
             },
+            Err(_) => Outcome::NoRegion,
+        }
+    }
+
+    // Has a region skip what is over.
+    fn prune(&mut self, region: RegionNumber, horizon: Moment) -> Outcome
+        ensures { PrunesAt self.old region horizon result self.new }
+    {
+        match find_region(&self.regions, region) {
+            Ok(at) => prune(self.alloc, &mut self.regions[at], horizon),
             Err(_) => Outcome::NoRegion,
         }
     }
@@ -347,9 +365,8 @@ fn pull_page(
     vector: &VersionVector,
     after: Option<Dot>,
 ) -> Outcome
-    requires { IsUnpruned region.now.facts }
-    ensures { Pages (pages.page_of (held_facts region.now.facts) vector.now after)
-        bundles.old.items result bundles.new.items }
+    ensures { Pages (pages.page_of region.now.facts vector.now after) bundles.old.items result
+        bundles.new.items }
 {
     match region.page(alloc, vector, after) {
         Ok(page) => keep_page(bundles, page),
@@ -359,10 +376,8 @@ fn pull_page(
 
 // Adds the bundle of a page, and returns its outcome.
 fn keep_page(bundles: &mut Vec<MadeBundle>, page: Page) -> Outcome
-    requires { (fields : pages.PageFields) × IsPageOf page (pages.as_page fields)
-        × bundle.Fits (of_facts fields.facts) }
-    ensures { (fields : pages.PageFields) → IsPageOf page (pages.as_page fields)
-        → bundle.Fits (of_facts fields.facts)
+    requires { (fields : pages.PageFields) × IsPageOf page fields × bundle.Fits fields.bundle }
+    ensures { (fields : pages.PageFields) → IsPageOf page fields → bundle.Fits fields.bundle
         → Pages fields bundles.old.items result bundles.new.items }
 {
     let made = Outcome::Bundle {

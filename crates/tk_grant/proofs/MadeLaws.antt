@@ -1,0 +1,248 @@
+-- The tokens that the token endpoint mints end with their family, and it uses what was minted. Key
+-- result:
+--   grants_within   the decisions
+use Rattle.std.proofs.Common.{◌≡◌, ◌≢◌, ℕ, ◌≤◌, ◌==◌, nat_le, Bool, true, false, not, cond, if◌then◌else◌, List, codes, Option, None, Some, IfSome, refl, sym, ap, subst, ◌∙◌, arith}
+use Rattle.std.proofs.lemmas.Bool.{true≢false}
+use Rattle.std.proofs.lemmas.Bool.Decides.{nat_tests}
+use Rattle.std.specs.FinMap as map
+use Rattle.std.specs.Str.{bytes_eq}
+use Rattle.tk_handle.specs.Handle.{handle_in}
+use Rattle.tk_handle.specs.Kind.{kind_number}
+use Rattle.tk_handle.specs.Moment.{moment_plus}
+use Rattle.tk_handle.specs.declared.dot.Dot.{Dot}
+use Rattle.tk_handle.specs.declared.handle.Handle.{Handle}
+use Rattle.tk_handle.specs.declared.kind.Kind.{Kind}
+use Rattle.tk_handle.specs.declared.kind.Kind.TheVariants as kind
+use Rattle.tk_handle.specs.declared.token_id.TokenId.{TokenId}
+use Rattle.tk_family.specs.Families.{IsUnder}
+use Rattle.tk_fact.specs.Check.{most_generations}
+use Rattle.tk_store.specs.FactSet.{FactSet}
+use Rattle.tk_store.specs.Slots.{is_skipped}
+use Rattle.tk_store.specs.StoreFields.{StoreFields, held_facts}
+use Rattle.tk_store.proofs.PutLaws.{none_is_not_some}
+use Rattle.tk_ledger.specs.Bodies.{is_same_dot}
+use Rattle.tk_ledger.specs.StandingFields.{StandingFields}
+use Rattle.tk_ledger.specs.Status.{status_here, status_in}
+use Rattle.tk_ledger.specs.Tokens.{links_in, issued_at, minted_in}
+use Rattle.tk_ledger.specs.declared.status.State.{State}
+use Rattle.tk_ledger.specs.declared.status.State.TheVariants as state
+use Rattle.tk_ledger.specs.declared.status.Status.{Status}
+use Rattle.tk_ledger.specs.declared.status.Status.TheVariants.{Unseen, Wrong, Broken, Known}
+use Rattle.tk_ledger.proofs.StatusCases.{Knows, known_parts}
+use Rattle.tk_params.specs.Params.{Pairs, value_of}
+use Rattle.tk_message.specs.Caller.{caller_of}
+use Rattle.tk_message.specs.RequestFields.{RequestFields}
+use Rattle.tk_message.specs.ScopeAsked.{scope_asked}
+use Rattle.tk_message.specs.declared.caller.Caller.{Caller}
+use Rattle.tk_message.specs.declared.caller.Caller.TheVariants as caller
+use Rattle.tk_message.specs.declared.decision.Decision.{Decision}
+use Rattle.tk_message.specs.declared.place.Place.{Place}
+use Rattle.tk_grant.specs.Gate.{gate_by_state, gate_by_client, gate_by_status, gate_by_handle, gate_by_text, gate_of}
+use Rattle.tk_grant.specs.Granted.{earlier, ends_at, granted_by, grant_of}
+use Rattle.tk_grant.specs.Judged.{judged_by_type, judged_by_caller, judged_of, known_names}
+use Rattle.tk_grant.specs.Redeemed.{meets_challenge, names_uri, redeemed_of}
+use Rattle.tk_grant.specs.Rotated.{rotated_by, rotated_of}
+use Rattle.tk_grant.specs.Within.{IsCodeOf, IsWithin}
+use Rattle.tk_grant.specs.declared.gate.Gate.{Gate}
+use Rattle.tk_grant.specs.declared.gate.Gate.TheVariants.{Shut, Reuse, Open}
+use Rattle.tk_grant.specs.declared.judged.Judged.{Judged}
+use Rattle.tk_grant.specs.declared.judged.Judged.TheVariants as judged
+use Rattle.tk_grant.specs.declared.refusal.Refusal.TheVariants as refusal
+
+-- ---- the gate
+
+-- the standing is that of a minted token
+record IsOpenFor (F : FactSet) (id : TokenId) (s : StandingFields) : Type 0 where
+  minted : minted_in (map.get F) id ≢ None
+  under : IsUnder (links_in (map.get F)) id.dot s.code
+  issued : IsCodeOf F s.code s.family_end
+
+abbrev OpensFor : FactSet → Gate → Type 0
+OpensFor F (Shut why) = Unit {0}
+OpensFor F (Reuse id) = Unit {0}
+OpensFor F (Open id s) = IsOpenFor F id s
+
+kind_is : (a b : Kind) → kind_number a == kind_number b ≡ true → a ≡ b
+kind_is kind.Code kind.Code h = refl
+kind_is kind.Access kind.Access h = refl
+kind_is kind.Refresh kind.Refresh h = refl
+kind_is kind.Code kind.Access h = absurd (true≢false (sym h))
+kind_is kind.Code kind.Refresh h = absurd (true≢false (sym h))
+kind_is kind.Access kind.Code h = absurd (true≢false (sym h))
+kind_is kind.Access kind.Refresh h = absurd (true≢false (sym h))
+kind_is kind.Refresh kind.Code h = absurd (true≢false (sym h))
+kind_is kind.Refresh kind.Access h = absurd (true≢false (sym h))
+
+some_known : {A : Type 0} (o : Option A) (a : A) → o ≡ Some a → o ≢ None
+some_known o a h none = none_is_not_some a (sym none ∙ h)
+
+known_is : (P : StoreFields) (now : ℕ) (h : Handle) (s : StandingFields) → status_here P now h ≡ Known s → status_in (held_facts P) now h ≡ Known s
+known_is P now h s = by (is_skipped P.slots h.id.dot)
+  where
+    no_wrong : Wrong ≡ Known s → ⊥
+    no_wrong e = cc
+
+    by : (t : Bool) → cond t Wrong (status_in (held_facts P) now h) ≡ Known s → status_in (held_facts P) now h ≡ Known s
+    by true e = absurd (no_wrong e)
+    by false e = e
+
+open_for : (P : StoreFields) (now : ℕ) (h : Handle) (k : Kind) (s : StandingFields) → h.id.kind ≡ k → status_here P now h ≡ Known s → IsOpenFor (held_facts P) (record { dot = h.id.dot; kind = k }) s
+open_for P now h k s same e =
+    let x : Knows (held_facts P) now h s = known_parts (held_facts P) now h s (known_is P now h s e) in
+    record {
+      minted = some_known (minted_in (map.get (held_facts P)) (record { dot = h.id.dot; kind = k })) x.minted (ap (λ (y : Kind). minted_in (map.get (held_facts P)) (record { dot = h.id.dot; kind = y })) (sym same) ∙ x.mints);
+      under = subst (IsUnder (links_in (map.get (held_facts P))) h.id.dot) (ap (λ (y : StandingFields). y.code) x.standing) x.under;
+      issued = (x.root.issued, ap (issued_at (map.get (held_facts P))) (sym (ap (λ (y : StandingFields). y.code) x.standing)) ∙ x.issues, sym (ap (λ (y : StandingFields). y.family_end) x.standing));
+    }
+
+module _ (F : FactSet) (id : TokenId) (client : Dot) where
+  by_state : (s : StandingFields) (x : State) → IsOpenFor F id s → OpensFor F (gate_by_state id s x)
+  by_state s state.Dead o = tt
+  by_state s state.Withdrawn o = tt
+  by_state s state.Over o = tt
+  by_state s state.Used o = tt
+  by_state s state.Past o = tt
+  by_state s state.Ended o = tt
+  by_state s state.Live o = o
+
+  by_client : (s : StandingFields) → IsOpenFor F id s → OpensFor F (gate_by_client id client s)
+  by_client s o = elim (is_same_dot s.client client) as (λ t. OpensFor F (cond t (gate_by_state id s s.state) (Shut refusal.ForeignGrant))) [
+    | true ↦ by_state s s.state o
+    | false ↦ tt
+  ]
+
+module _ (P : StoreFields) (now : ℕ) where
+  abbrev H : FactSet
+  H = held_facts P
+
+  by_status : (client : Dot) (k : Kind) (h : Handle) (s : Status) → h.id.kind ≡ k → status_here P now h ≡ s → OpensFor H (gate_by_status (record { dot = h.id.dot; kind = k }) client s)
+  by_status client k h Unseen same e = tt
+  by_status client k h Wrong same e = tt
+  by_status client k h (Broken expiry) same e = tt
+  by_status client k h (Known s) same e = by_client H (record { dot = h.id.dot; kind = k }) client s (open_for P now h k s same e)
+
+  by_handle : (client : Dot) (k : Kind) (h : Handle) → OpensFor H (gate_by_handle P now client k h)
+  by_handle client k h =
+      elim (kind_number h.id.kind == kind_number k) as (λ t. kind_number h.id.kind == kind_number k ≡ t → OpensFor H (cond t (gate_by_status (record { dot = h.id.dot; kind = k }) client (status_here P now h)) (Shut refusal.UnknownGrant))) [
+        | true ↦ λ e. by_status client k h (status_here P now h) (kind_is h.id.kind k e) refl
+        | false ↦ λ e. tt
+      ] refl
+
+  by_text : (client : Dot) (k : Kind) (o : Option Handle) → OpensFor H (gate_by_text P now client k o)
+  by_text client k None = tt
+  by_text client k (Some h) = by_handle client k h
+
+  by_gate : (client : Dot) (k : Kind) (o : Option (List ℕ)) → OpensFor H (gate_of P now client k o)
+  by_gate client k None = tt
+  by_gate client k (Some text) = by_text client k (handle_in text)
+
+-- ---- the judgement
+
+-- what is granted is of a code that was issued, or of a minted refresh token
+abbrev IsGrantFor : FactSet → Judged → Type 0
+IsGrantFor F (judged.Refused why) = Unit {0}
+IsGrantFor F (judged.Reused id) = Unit {0}
+IsGrantFor F (judged.Redeems grant) = IsCodeOf F grant.from grant.family_end
+IsGrantFor F (judged.Rotates generation grant) =
+    (minted_in (map.get F) (record { dot = grant.from; kind = kind.Refresh }) ≢ None) × (c : Dot) × IsUnder (links_in (map.get F)) grant.from c × IsCodeOf F c grant.family_end
+
+module _ (F : FactSet) where
+  either : (t : Bool) (a b : Judged) → IsGrantFor F a → IsGrantFor F b → IsGrantFor F (cond t a b)
+  either true a b x y = x
+  either false a b x y = y
+
+  redeems : (params : Pairs) (g : Gate) → OpensFor F g → IsGrantFor F (redeemed_of params g)
+  redeems params (Shut why) o = tt
+  redeems params (Reuse id) o = tt
+  redeems params (Open id s) o =
+      either (not (names_uri s.issued.sent s.issued.uri (value_of (codes "redirect_uri") params))) (judged.Refused refusal.WrongRedirect) _ tt
+      (either (not (meets_challenge s.issued.challenge (value_of (codes "code_verifier") params))) (judged.Refused refusal.WrongVerifier) _ tt o.issued)
+
+  rotates_by : (id : TokenId) (s : StandingFields) (scope : Option (List ℕ)) → id.kind ≡ kind.Refresh → IsOpenFor F id s → IsGrantFor F (rotated_by id.dot s scope)
+  rotates_by id s None k o = tt
+  rotates_by id s (Some scope) k o = (
+    subst (λ (y : Kind). minted_in (map.get F) (record { dot = id.dot; kind = y }) ≢ None) k o.minted,
+    s.code,
+    o.under,
+    o.issued,
+  )
+
+  abbrev IsOfKind : Kind → Gate → Type 0
+  IsOfKind k (Shut why) = Unit {0}
+  IsOfKind k (Reuse id) = Unit {0}
+  IsOfKind k (Open id s) = id.kind ≡ k
+
+  rotates : (params : Pairs) (g : Gate) → IsOfKind kind.Refresh g → OpensFor F g → IsGrantFor F (rotated_of params g)
+  rotates params (Shut why) k o = tt
+  rotates params (Reuse id) k o = tt
+  rotates params (Open id s) k o =
+      either (nat_le most_generations s.generation) (judged.Refused refusal.LastGeneration) _ tt
+      (rotates_by id s (scope_asked s.scope (value_of (codes "scope") params)) k o)
+
+module _ (P : StoreFields) (now : ℕ) where
+  kind_by_state : (id : TokenId) (s : StandingFields) (x : State) → IsOfKind (held_facts P) id.kind (gate_by_state id s x)
+  kind_by_state id s state.Dead = tt
+  kind_by_state id s state.Withdrawn = tt
+  kind_by_state id s state.Over = tt
+  kind_by_state id s state.Used = tt
+  kind_by_state id s state.Past = tt
+  kind_by_state id s state.Ended = tt
+  kind_by_state id s state.Live = refl
+
+  kind_by_status : (id : TokenId) (client : Dot) (s : Status) → IsOfKind (held_facts P) id.kind (gate_by_status id client s)
+  kind_by_status id client Unseen = tt
+  kind_by_status id client Wrong = tt
+  kind_by_status id client (Broken expiry) = tt
+  kind_by_status id client (Known s) = elim (is_same_dot s.client client) as (λ t. IsOfKind (held_facts P) id.kind (cond t (gate_by_state id s s.state) (Shut refusal.ForeignGrant))) [
+    | true ↦ kind_by_state id s s.state
+    | false ↦ tt
+  ]
+
+  kind_by_text : (client : Dot) (k : Kind) (o : Option Handle) → IsOfKind (held_facts P) k (gate_by_text P now client k o)
+  kind_by_text client k None = tt
+  kind_by_text client k (Some h) = elim (kind_number h.id.kind == kind_number k) as (λ t. IsOfKind (held_facts P) k (cond t (gate_by_status (record { dot = h.id.dot; kind = k }) client (status_here P now h)) (Shut refusal.UnknownGrant))) [
+    | true ↦ kind_by_status (record { dot = h.id.dot; kind = k }) client (status_here P now h)
+    | false ↦ tt
+  ]
+
+  kind_by_gate : (client : Dot) (k : Kind) (o : Option (List ℕ)) → IsOfKind (held_facts P) k (gate_of P now client k o)
+  kind_by_gate client k None = tt
+  kind_by_gate client k (Some text) = kind_by_text client k (handle_in text)
+
+  by_type : (params : Pairs) (client : Dot) (o : Option (List ℕ)) → IsGrantFor (held_facts P) (judged_by_type P now params client o)
+  by_type params client None = tt
+  by_type params client (Some name) =
+      either (held_facts P) (bytes_eq name (codes "authorization_code")) _ _
+      (redeems (held_facts P) params (gate_of P now client kind.Code (value_of (codes "code") params)) (by_gate P now client kind.Code (value_of (codes "code") params)))
+      (either (held_facts P) (bytes_eq name (codes "refresh_token")) _ _
+      (rotates (held_facts P) params (gate_of P now client kind.Refresh (value_of (codes "refresh_token") params))
+      (kind_by_gate client kind.Refresh (value_of (codes "refresh_token") params)) (by_gate P now client kind.Refresh (value_of (codes "refresh_token") params)))
+      tt)
+
+  by_caller : (params : Pairs) (c : Caller) → IsGrantFor (held_facts P) (judged_by_caller P now params c)
+  by_caller params caller.DuplicateParameter = tt
+  by_caller params caller.MixedCredentials = tt
+  by_caller params caller.InvalidClient = tt
+  by_caller params (caller.Client client) = by_type params client (value_of (codes "grant_type") params)
+
+-- ---- the fact that is made
+
+-- a decision makes a fact that is within its family, if it makes one
+abbrev MakesWithin : FactSet → Decision → Type 0
+MakesWithin F d = IfSome d.made (IsWithin F)
+
+cut : (now life moment : ℕ) → ends_at now life moment ≤ moment
+cut now life moment = earlier_le (moment_plus now life) moment
+  where
+    earlier_le : (a b : ℕ) → earlier a b ≤ b
+    earlier_le a b = grind (arith, nat_tests)
+
+granted_within : (F : FactSet) (place : Place) (now : ℕ) (words : List ℕ) (j : Judged) → IsGrantFor F j → MakesWithin F (granted_by place now words j)
+granted_within F place now words (judged.Refused why) g = tt
+granted_within F place now words (judged.Reused id) g = tt
+granted_within F place now words (judged.Redeems grant) g = (grant.family_end, g, cut now place.lives.access grant.family_end, cut now place.lives.refresh grant.family_end)
+granted_within F place now words (judged.Rotates generation grant) g =
+    (g.0, g.1, g.2, grant.family_end, g.3, cut now place.lives.access grant.family_end, cut now place.lives.refresh grant.family_end)
+
+pub grants_within : (P : StoreFields) (place : Place) (now : ℕ) (words : List ℕ) (request : RequestFields) → IfSome (grant_of P place now words request).made (IsWithin (held_facts P))
+grants_within P place now words request = granted_within (held_facts P) place now words (judged_of P now request) (by_caller P now request.params (caller_of (held_facts P) known_names request))

@@ -1,0 +1,29 @@
+-- What a fact of the token endpoint uses and mints, over the facts held before (own).
+--   IsCodeOf   a code was issued, and its family ends at a moment
+--   IsWithin   a fact uses what was minted, and its tokens end with their family at the latest
+use Rattle.std.specs.Prelude.{◌≡◌, ◌≢◌, ◌≤◌, ⊤, ℕ, Some, None}
+use Rattle.std.specs.FinMap as map
+use Rattle.tk_handle.specs.declared.dot.Dot.{Dot}
+use Rattle.tk_handle.specs.declared.kind.Kind.TheVariants.{Refresh}
+use Rattle.tk_family.specs.Families.{IsUnder}
+use Rattle.tk_fact.specs.declared.body.Body.{Body}
+use Rattle.tk_fact.specs.declared.body.Body.TheVariants.{CodeRedeemed, RefreshRotated}
+use Rattle.tk_fact.specs.declared.code_issued.CodeIssued.{CodeIssued}
+use Rattle.tk_store.specs.FactSet.{FactSet}
+use Rattle.tk_ledger.specs.Tokens.{links_in, issued_at, minted_in}
+
+-- a code was issued at the dot, and its family ends at the moment
+abbrev pub IsCodeOf : FactSet → Dot → ℕ → Type 0
+IsCodeOf F c moment =
+    (code : CodeIssued) × (issued_at (map.get F) c ≡ Some code) × (moment ≡ code.family_end)
+
+-- a redemption is of a code that was issued, and a rotation of a refresh token that was minted
+-- under a code; the tokens of both end with the family of that code at the latest
+abbrev pub IsWithin : FactSet → Body → Type 0
+IsWithin F (CodeRedeemed f) =
+    (moment : ℕ) × IsCodeOf F f.code moment × (f.access.end ≤ moment) × (f.refresh.end ≤ moment)
+IsWithin F (RefreshRotated f) =
+    (minted_in (map.get F) (record { dot = f.parent; kind = Refresh }) ≢ None)
+    × (c : Dot) × IsUnder (links_in (map.get F)) f.parent c
+    × (moment : ℕ) × IsCodeOf F c moment × (f.access.end ≤ moment) × (f.refresh.end ≤ moment)
+IsWithin F body = ⊤
