@@ -1,12 +1,15 @@
+pub mod AlikeLaws
 pub mod BundleLaws
 pub mod ConsistencyLaws
 pub mod EventForms
-pub mod HonestLaws
+pub mod HeadlineLaws
+pub mod ItemLaws
+pub mod KnownLaws
 pub mod NumberTexts
-pub mod PageLaws
 pub mod PartLaws
 pub mod PromiseLaws
 pub mod Putting
 pub mod RegionLaws
 pub mod RequestLaws
 pub mod RunLaws
+pub mod StandsLaws

@@ -1,17 +1,18 @@
 -- The promises about introspection, from what a run is. Key results:
---   tells_of_sets       the reply to an introspection request depends only on the set that its
---                       region holds then
---   introspect_alike    regions with equal sets introspect alike
+--   tells_of_sets       from the horizon on, the reply to an introspection request depends only on
+--                       the facts of its region
+--   introspect_alike    from their horizons on, regions with equal facts introspect alike
 --   revoked_inactive    a token that its client revoked is inactive
 --   families_inactive   each token of a family with a bad grant is inactive
 use Rattle.std.proofs.lemmas.Bool.Decides.{nat_tests}
-use Rattle.std.proofs.Common.{false, cond, nat_lt, arith, ◌≡◌, ℕ, zero, suc, List, [], ◌∷◌, take, slice_get, Some, None, unwrap_or, refl, sym, ap, subst, ◌∙◌}
+use Rattle.std.proofs.Common.{false, cond, nat_lt, arith, ◌≡◌, ◌≤◌, ℕ, zero, suc, List, [], ◌∷◌, take, slice_get, Option, Some, None, refl, sym, ap, subst, ◌∙◌}
 use Rattle.std.specs.FinMap as map
+use Rattle.std.specs.Option.{option_map_or}
 use Rattle.tk_handle.specs.declared.handle.Handle.{Handle}
 use Rattle.tk_store.specs.FactSet.{FactSet, Facts}
+use Rattle.tk_store.specs.StoreFields.{StoreFields, held_facts}
 use Rattle.tk_store.specs.WholeStores.{whole_store}
 use Rattle.tk_store.proofs.PutLaws.{none_is_not_some, some_injective}
-use Rattle.tk_store.proofs.WholeStoreLaws.{held_whole_store}
 use Rattle.tk_ledger.specs.Status.{IsActive}
 use Rattle.tk_ledger.proofs.FamilyEnds as ends
 use Rattle.tk_message.specs.declared.request.Endpoint.{Endpoint}
@@ -29,77 +30,82 @@ use Rattle.tk_world.specs.declared.event.Event.{Event}
 use Rattle.tk_world.specs.declared.event.Event.TheVariants.{Request}
 use Rattle.tk_world.specs.declared.event.Outcome.{Outcome}
 use Rattle.tk_world.specs.declared.event.Outcome.TheVariants.{Reply}
-use Rattle.tk_world.specs.Promises.{held_before, TellsOfSets, IntrospectAlike, IsInactive, RevokedInactive, FamiliesInactive}
-use Rattle.tk_world.specs.State.{State, facts_in, region_with}
+use Rattle.tk_world.specs.Promises.{held_before, IsFromHorizon, TellsOfSets, IntrospectAlike, IsInactive, RevokedInactive, FamiliesInactive}
+use Rattle.tk_world.specs.State.{Kept, State, facts_in, horizon_in, region_with}
 use Rattle.tk_world.specs.Carrying.{in_place, IsReplied}
-use Rattle.tk_world.specs.World.{Step, Run}
+use Rattle.tk_world.specs.World.{Step, Run, state_before}
 use Rattle.tk_world.proofs.RunLaws.{run_joins}
 
 -- ---- one event of a run
 
--- the run up to an event, and the step of the event
-record At (old : State) (es : List Event) (os : List Outcome) (ss : List Facts) (i : ℕ) (e : Event) (o : Outcome) : Type 0 where
-  mid : State
+-- the run up to an event, and the step of the event from the state before it
+record At (old : State) (es : List Event) (os : List Outcome) (ss : List Facts) (new : State) (all : Run old es os ss new) (i : ℕ) (e : Event) (o : Outcome) : Type 0 where
   next : State
   seen : Facts
-  run : Run old (take i es) (take i os) (take i ss) mid
-  step : Step mid e o seen next
+  run : Run old (take i es) (take i os) (take i ss) (state_before in_place old es os ss new all i)
+  step : Step (state_before in_place old es os ss new all i) e o seen next
 
-run_at : (old : State) (es : List Event) (os : List Outcome) (ss : List Facts) (new : State) → Run old es os ss new → (i : ℕ) (e : Event) (o : Outcome) → slice_get es i ≡ Some e → slice_get os i ≡ Some o → At old es os ss i e o
-run_at old [] [] [] new run i e o he ho = absurd (none_is_not_some e he)
+run_at : (old : State) (es : List Event) (os : List Outcome) (ss : List Facts) (new : State) (run : Run old es os ss new) (i : ℕ) (e : Event) (o : Outcome) → slice_get es i ≡ Some e → slice_get os i ≡ Some o → At old es os ss new run i e o
+run_at old [] [] [] new run zero e o he ho = absurd (none_is_not_some e he)
+run_at old [] [] [] new run (suc i) e o he ho = absurd (none_is_not_some e he)
 run_at old (x ∷ es) (y ∷ os) (s ∷ ss) new run zero e o he ho = record {
-  mid = old;
   next = run.0;
   seen = s;
   run = refl;
   step = subst (λ z. Step old e z s run.0) (some_injective y o ho) (subst (λ z. Step old z y s run.0) (some_injective x e he) run.1);
 }
 run_at old (x ∷ es) (y ∷ os) (s ∷ ss) new run (suc i) e o he ho =
-    let at : At run.0 es os ss i e o = run_at run.0 es os ss new run.2 i e o he ho in
-    record { mid = at.mid; next = at.next; seen = at.seen; run = (run.0, run.1, at.run); step = at.step }
+    let at : At run.0 es os ss new run.2 i e o = run_at run.0 es os ss new run.2 i e o he ho in
+    record { next = at.next; seen = at.seen; run = (run.0, run.1, at.run); step = at.step }
 run_at old es os ss new run i e o he ho = absurd run
 
 -- ---- regions with equal facts introspect alike
 
--- the reply to an introspection request doesn't depend on the cap, since no fact is made
-introspects : (s : State) (n : ℕ) (F : FactSet) (now : ℕ) (words : List ℕ) (request : RequestFields) → request.endpoint ≡ Introspect
-    → answer_by (region_with s n F) now words (Asked request) ≡ rendered (introspection_of (whole_store F) now request) None None
-introspects s n F now words request h =
-    let r : RegionFields = region_with s n F in
-    let by : Endpoint → PreparedFields = λ e. prepared_by r.settings.cap (place_in r) (decision_by e (whole_store F) (place_in r) now words request) in
-    ap (λ t. let p : PreparedFields = cond t (early_in (place_in r)) (by request.endpoint) in rendered p.reply None p.logged) (never_before now)
-    ∙ ap (λ (e : Endpoint). rendered (by e).reply None (by e).logged) h
-  where
-    never_before : (now : ℕ) → nat_lt now 0 ≡ false
-    never_before now = grind (arith, nat_tests)
+never_before : (now horizon : ℕ) → horizon ≤ now → nat_lt now horizon ≡ false
+never_before now horizon h = grind (arith, nat_tests, h)
 
-pub tells_of_sets : (old : State) (es : List Event) (os : List Outcome) (ss : List Facts) (new : State) → Run old es os ss new → TellsOfSets old es os ss
-tells_of_sets old es os ss new run i r now request status reply q =
-    let at : At old es os ss i (Request r now q.words q.bytes) (Reply status q.written) = run_at old es os ss new run i (Request r now q.words q.bytes) (Reply status q.written) q.asked q.answered in
-    let joins = run_joins in_place old (take i es) (take i os) (take i ss) at.mid at.run r in
-    let F = at.step.0 in
-    let held : F ≡ held_before old es ss i r = ap (λ o. unwrap_or o map.empty) (sym at.step.1.is_open) ∙ joins.joins in
+-- from the horizon on, the reply to an introspection request doesn't depend on the cap, since no
+-- fact is made
+introspects : (s : State) (n : ℕ) (k : Kept) (now : ℕ) (words : List ℕ) (request : RequestFields) → k.horizon ≤ now → request.endpoint ≡ Introspect
+    → answer_by (region_with s n k) now words (Asked request) ≡ rendered (introspection_of (whole_store k.facts) now request) None None
+introspects s n k now words request soon h =
+    let r : RegionFields = region_with s n k in
+    let by : Endpoint → PreparedFields = λ e. prepared_by r.settings.cap (place_in r) (decision_by e r.facts (place_in r) now words request) in
+    ap (λ t. let p : PreparedFields = cond t (early_in (place_in r)) (by request.endpoint) in rendered p.reply None p.logged) (never_before now k.horizon soon)
+    ∙ ap (λ (e : Endpoint). rendered (by e).reply None (by e).logged) h
+
+abbrev facts_of : Option Kept → FactSet
+facts_of o = option_map_or (λ k. k.facts) o map.empty
+
+abbrev horizon_of : Option Kept → ℕ
+horizon_of o = option_map_or (λ k. k.horizon) o 0
+
+pub tells_of_sets : (old : State) (es : List Event) (os : List Outcome) (ss : List Facts) (new : State) (run : Run old es os ss new) → TellsOfSets old es os ss new run
+tells_of_sets old es os ss new run i r now request status reply q from =
+    let mid : State = state_before in_place old es os ss new run i in
+    let at : At old es os ss new run i (Request r now q.words q.bytes) (Reply status q.written) = run_at old es os ss new run i (Request r now q.words q.bytes) (Reply status q.written) q.asked q.answered in
+    let joins = run_joins in_place old (take i es) (take i os) (take i ss) mid at.run r in
+    let k : Kept = at.step.0 in
+    let held : k.facts ≡ held_before old es ss i r = ap facts_of (sym at.step.1.is_open) ∙ joins.joins in
+    let soon : k.horizon ≤ now = subst (λ h. h ≤ now) (ap horizon_of at.step.1.is_open) from in
     let one : at.step.2 ≡ Asked request = has_one_meaning false q.bytes.items at.step.2 (Asked request) at.step.3 q.heard in
-    let told = ap (answer_by (region_with at.mid r F) now q.words) one ∙ introspects at.mid r F now q.words request q.introspects
+    let told = ap (answer_by (region_with mid r k) now q.words) one ∙ introspects mid r k now q.words request soon q.introspects
     ∙ ap (λ G. rendered (introspection_of (whole_store G) now request) None None) held in
     subst (λ a. IsReplied a status reply) told (at.step.4.0, sym q.replied ∙ at.step.4.1)
 
-pub introspect_alike : (old : State) (es : List Event) (os : List Outcome) (ss : List Facts) (new : State) → Run old es os ss new → IntrospectAlike old es os ss
-introspect_alike old es os ss new run i j q r now request s t one two a b same =
-    let here = tells_of_sets old es os ss new run i q now request s one a in
-    let there = subst (λ G. IsReplied (rendered (introspection_of (whole_store G) now request) None None) t two) (sym same) (tells_of_sets old es os ss new run j r now request t two b) in
+pub introspect_alike : (old : State) (es : List Event) (os : List Outcome) (ss : List Facts) (new : State) (run : Run old es os ss new) → IntrospectAlike old es os ss new run
+introspect_alike old es os ss new run i j q r now request s t one two a b from_one from_two same =
+    let here = tells_of_sets old es os ss new run i q now request s one a from_one in
+    let there = subst (λ G. IsReplied (rendered (introspection_of (whole_store G) now request) None None) t two) (sym same) (tells_of_sets old es os ss new run j r now request t two b from_two) in
     (here.0 ∙ sym there.0, here.1 ∙ sym there.1)
 
 -- ---- inactive tokens
 
-inactive : (F : FactSet) (h : Handle) → ((now : ℕ) → ¬ IsActive (map.get F) now h) → IsInactive F h
-inactive F h never now = (
-  never now,
-  λ sort asker. says_nothing (whole_store F) now sort asker h (subst (λ (G : FactSet). ¬ IsActive (map.get G) now h) (sym (held_whole_store F)) (never now)),
-)
+inactive : (P : StoreFields) (h : Handle) → ((now : ℕ) → ¬ IsActive (map.get (held_facts P)) now h) → IsInactive P h
+inactive P h never now = (never now, λ sort asker. says_nothing P now sort asker h (never now))
 
-pub revoked_inactive : (s : State) → RevokedInactive s
-revoked_inactive s r F within h ended = inactive (facts_in s r) h (λ now. ends.revoked_inactive F (facts_in s r) within now h ended)
+pub revoked_inactive : (store : ℕ → StoreFields) → RevokedInactive store
+revoked_inactive store r F within h ended = inactive (store r) h (λ now. ends.revoked_inactive F (held_facts (store r)) within now h ended)
 
-pub families_inactive : (s : State) → FamiliesInactive s
-families_inactive s r F within h d c bad under member = inactive (facts_in s r) h (λ now. ends.family_inactive F (facts_in s r) within now h d c bad under member)
+pub families_inactive : (store : ℕ → StoreFields) → FamiliesInactive store
+families_inactive store r F within h d c bad under member = inactive (store r) h (λ now. ends.family_inactive F (held_facts (store r)) within now h d c bad under member)

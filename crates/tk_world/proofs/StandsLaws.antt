@@ -3,9 +3,10 @@
 --   stands_put   a region's store and the facts for which it stands change
 --   step_for     one event
 --   lost_for     a request that was lost
+--   bundle_agrees, bundle_made   no region of a world refuses a bundle of that world
 --   new_stands   a world without regions and bundles
 --   answers_for  from its horizon on, a region answers as one that holds all its facts
-use Rattle.std.proofs.Common.{◌≡◌, ◌≢◌, ◌⊎◌, inl, inr, ℕ, ◌+◌, ◌≤◌, max, nat_lt, false, List, [], ◌∷◌, ◌++◌, length, take, slice_get, Option, Some, None, IsSome, IfSome, Ok, Err, is_some, refl, sym, ap, subst, ◌∙◌, arith}
+use Rattle.std.proofs.Common.{◌≡◌, ◌≢◌, ◌⊎◌, inl, inr, ℕ, ◌+◌, ◌≤◌, max, nat_lt, false, List, [], ◌∷◌, ◌++◌, length, take, slice_get, Option, Some, None, IsSome, IfSome, Result, Ok, Err, is_some, refl, sym, ap, subst, ◌∙◌, arith}
 use Rattle.std.proofs.lemmas.Bool.Decides.{nat_tests}
 use Rattle.std.specs.Ordering.{nat_cmp}
 use Rattle.std.specs.Cmp.{nat_cmp_total}
@@ -13,6 +14,7 @@ use Rattle.std.specs.Option.{option_and_then}
 use Rattle.std.specs.FinMap as map
 use Rattle.tk_handle.specs.declared.dot.Dot.{Dot}
 use Rattle.tk_handle.specs.Dot.{dot_cmp}
+use Rattle.tk_vector.specs.VersionVector.{Vector}
 use Rattle.tk_handle.specs.declared.token_id.TokenId.{TokenId}
 use Rattle.tk_family.specs.Families.{use_of}
 use Rattle.tk_fact.specs.Tokens.{MintedFields, minted_of}
@@ -30,7 +32,8 @@ use Rattle.tk_bundle.specs.Page as bundles
 use Rattle.tk_region.specs.RegionFields.{RegionFields, place_in, with_made}
 use Rattle.tk_region.specs.SettingsFields.{SettingsFields, greatest_cap}
 use Rattle.tk_region.specs.Step.{listed, IsNextFact}
-use Rattle.tk_region.specs.Taking.{Takes, items_taken, raised}
+use Rattle.tk_message.specs.Place.{next_in}
+use Rattle.tk_region.specs.Taking.{AgreesWith, Takes, has_unmade, items_taken, raised}
 use Rattle.tk_region.specs.declared.take.TakeError.TheVariants as taking
 use Rattle.tk_region.proofs.CapLaws.{next_unknown}
 use Rattle.tk_edge.specs.Answers.{answer_by, fact_by}
@@ -47,8 +50,8 @@ use Rattle.tk_world.specs.declared.event.Outcome.{Outcome}
 use Rattle.tk_world.specs.declared.event.Outcome.TheVariants.{Opened, NumberTaken, NoRegion, NoBundle, Reply, Bundle, Took, Pruned, Memory}
 use Rattle.tk_world.specs.Acts.{Turns, IsNoRegion, IsIdle, MakesAt, OpensAt, AnswersAt, PullsAt, DeliversAt, PrunesAt, ActBy}
 use Rattle.tk_world.specs.AskedFields.{AskedFields}
-use Rattle.tk_world.specs.Broken.{Loses}
-use Rattle.tk_world.specs.Carrying.{Way}
+use Rattle.tk_world.specs.Broken.{Loses, Requests}
+use Rattle.tk_world.specs.Carrying.{Way, in_place}
 use Rattle.tk_world.specs.Headline.{AnswersFor, unpruned}
 use Rattle.tk_world.specs.Pages.{page_of}
 use Rattle.tk_world.specs.State.{Kept, Sent, State, new_kept, new_state, with_region, with_bundle, region_with, kept_store, Consists}
@@ -57,8 +60,8 @@ use Rattle.tk_world.specs.WorldFields.{WorldFields, new_world, with_store, with_
 use Rattle.tk_world.specs.WorldStands.{RegionFor, BundleStands, BundlesStand, WorldStands, IsStanding}
 use Rattle.tk_world.proofs.AlikeLaws.{stands_dots, kept_stands, answers_same, facts_same}
 use Rattle.tk_world.proofs.ConsistencyLaws.{AllIn-page, short_page, region_of_get, consists_kept, consists_opened, consists_made, consists_bundle, free_everywhere, subset_more, new_consists}
-use Rattle.tk_world.proofs.ItemLaws.{page_items, page_horizon, page_length, page_last, page_more, bundles_more, bundles_and, bundles_length, bundle_at, no_bundle_at, items_part, raised_horizon, items_stand}
-use Rattle.tk_world.proofs.KnownLaws.{len_same}
+use Rattle.tk_world.proofs.ItemLaws.{page_items, page_horizon, page_length, page_last, page_more, bundles_more, bundles_and, bundles_length, bundle_at, no_bundle_at, items_part, raised_horizon, items_stand, items_agree, items_made}
+use Rattle.tk_world.proofs.KnownLaws.{len_same, next_same}
 
 -- inserting the value that a map has changes nothing
 pub same_again : {A : Type 0} (m : map.FinMap nat_cmp A) (r : ℕ) (x : A) → map.get m r ≡ Some x → map.insert m r x ≡ m
@@ -250,29 +253,43 @@ module _ (w : WorldFields) (U : FactSet) (s : State) (S : WorldStands w U s) (r 
       free_in : map.get P.slots f.0 ≡ None → map.get F f.0 ≡ None
       free_in none = subst (λ (o : Option Slot). SlotStands U P.horizon f.0 o (map.get F f.0)) none (stands f.0)
 
-answer_step_for : (way : Way) (w : WorldFields) (r now : ℕ) (words : List ℕ) (q : _) (o : Outcome) (new : WorldFields) → ActBy way w (Request r now words q) o new → (U : FactSet) (s : State) → WorldStands w U s → StepFor way s (Request r now words q) o new
-answer_step_for way w r now words q (Reply status bytes) new act U s S =
+-- a request is a step of the state
+record AnswerFor (way : Way) (s : State) (r : ℕ) (asked : AskedFields) (o : Outcome) (new : WorldFields) : Type 0 where
+  seen : Facts
+  made : FactSet
+  after : State
+  answer : IsAnswer way s r asked o seen after
+  stands : WorldStands new made after
+
+asked_for : (way : Way) (w : WorldFields) (r : ℕ) (asked : AskedFields) (o : Outcome) (new : WorldFields) → AnswersAt way w r asked o new → (U : FactSet) (s : State) → WorldStands w U s → AnswerFor way s r asked o new
+asked_for way w r asked (Reply status bytes) new act U s S =
     let P = act.0 in
     let heard = act.1 in
     let at = act.4.0.is_open in
-    let m = made_for w U s S r P at (fact_by (region_at w r P) now words heard) (fact_meets w U s S r P at now words heard) act.4.1 in
+    let m = made_for w U s S r P at (fact_by (region_at w r P) asked.now asked.words heard) (fact_meets w U s S r P at asked.now asked.words heard) act.4.1 in
     record {
-      seen = listed (fact_by (region_at w r P) now words heard);
+      seen = listed (fact_by (region_at w r P) asked.now asked.words heard);
       made = m.made;
       after = with_region s r (record { facts = m.grown; horizon = (open_for w U s S r P at).k.horizon });
-      step = (
+      answer = (
         (open_for w U s S r P at).k,
         record { is_open = (open_for w U s S r P at).at; grown = m.grown; joins = m.joins; changes = refl },
         heard,
         act.2,
-        subst (λ (a : AnswerFields). way.Shows a status bytes.items) (answer_for w U s S r P at now words heard) act.3,
-        ap listed (fact_for w U s S r P at now words heard),
+        subst (λ (a : AnswerFields). way.Shows a status bytes.items) (answer_for w U s S r P at asked.now asked.words heard) act.3,
+        ap listed (fact_for w U s S r P at asked.now asked.words heard),
       );
       stands = unchanged_stands _ new m.made _ act.4.0.changes m.stays;
     }
-answer_step_for way w r now words q NoRegion new act U s S = record { seen = []; made = U; after = s; step = (closed_for w U s S r act.0, (refl, refl)); stands = unchanged_stands w new U s act.1 S }
-answer_step_for way w r now words q Memory new act U s S = record { seen = []; made = U; after = s; step = (some_for w U s S r act.0, (refl, refl)); stands = unchanged_stands w new U s act.1 S }
-answer_step_for way w r now words q o new act U s S = absurd act
+asked_for way w r asked NoRegion new act U s S = record { seen = []; made = U; after = s; answer = (closed_for w U s S r act.0, (refl, refl)); stands = unchanged_stands w new U s act.1 S }
+asked_for way w r asked Memory new act U s S = record { seen = []; made = U; after = s; answer = (some_for w U s S r act.0, (refl, refl)); stands = unchanged_stands w new U s act.1 S }
+asked_for way w r asked o new act U s S = absurd act
+
+-- a request leaves a world that stands for a state
+pub asked_standing : (way : Way) (w : WorldFields) (r : ℕ) (asked : AskedFields) (o : Outcome) (new : WorldFields) → AnswersAt way w r asked o new → IsStanding w → IsStanding new
+asked_standing way w r asked o new act standing =
+    let x = asked_for way w r asked o new act standing.0 standing.1 standing.2 in
+    (x.made, x.after, x.stands)
 
 -- a request that was lost leaves a world that stands for a state
 pub lost_for : (way : Way) (w : WorldFields) (r : ℕ) (asked : AskedFields) (new : WorldFields) → Loses way w r asked new → IsStanding w → IsStanding new
@@ -281,10 +298,23 @@ lost_for way w r asked new (inr (P, heard, hears, act)) standing =
     let m = made_for w standing.0 standing.1 standing.2 r P act.0.is_open (fact_by (region_at w r P) asked.now asked.words heard) (fact_meets w standing.0 standing.1 standing.2 r P act.0.is_open asked.now asked.words heard) act.1 in
     (m.made, _, unchanged_stands _ new m.made _ act.0.changes m.stays)
 
+-- how a request ended leaves a world that stands for a state
+pub request_standing : {F : Type 0} (way : Way) (w : WorldFields) (r : ℕ) (asked : AskedFields) (o : Result Outcome F) (new : WorldFields) → Requests way w r asked o new → IsStanding w → IsStanding new
+request_standing way w r asked (Ok o) new h standing = asked_standing way w r asked o new h standing
+request_standing way w r asked (Err fault) new h standing = lost_for way w r asked new h standing
+
 -- ---- making a bundle
 
-pull_step_for : (way : Way) (w : WorldFields) (r : ℕ) (v : _) (after : Option Dot) (o : Outcome) (new : WorldFields) → ActBy way w (Pull r v after) o new → (U : FactSet) (s : State) → WorldStands w U s → StepFor way s (Pull r v after) o new
-pull_step_for way w r v after (Bundle index count last more) new act U s S =
+-- a pull is a step of the state
+record PullFor (s : State) (r : ℕ) (v : Vector) (after : Option Dot) (o : Outcome) (new : WorldFields) : Type 0 where
+  seen : Facts
+  made : FactSet
+  after_it : State
+  pulls : IsPull s r v after o seen after_it
+  stands : WorldStands new made after_it
+
+pull_step_for : (w : WorldFields) (r : ℕ) (v : Vector) (after : Option Dot) (o : Outcome) (new : WorldFields) → PullsAt w r v after o new → (U : FactSet) (s : State) → WorldStands w U s → PullFor s r v after o new
+pull_step_for w r v after (Bundle index count last more) new act U s S =
     let P = act.0 in
     let x = open_for w U s S r P act.1 in
     let F = x.k.facts in
@@ -294,8 +324,8 @@ pull_step_for way w r v after (Bundle index count last more) new act U s S =
     record {
       seen = [];
       made = U;
-      after = with_bundle s sent;
-      step = (
+      after_it = with_bundle s sent;
+      pulls = (
         x.k,
         x.at,
         refl,
@@ -317,9 +347,9 @@ pull_step_for way w r v after (Bundle index count last more) new act U s S =
         bundles = bundles_and U w.bundles s.bundles page.bundle sent S.bundles (record { horizon = refl; items = page_items P U F x.stands v after });
       });
     }
-pull_step_for way w r v after NoRegion new act U s S = record { seen = []; made = U; after = s; step = (closed_for w U s S r act.0, (refl, refl)); stands = unchanged_stands w new U s act.1 S }
-pull_step_for way w r v after Memory new act U s S = record { seen = []; made = U; after = s; step = (some_for w U s S r act.0, (refl, refl)); stands = unchanged_stands w new U s act.1 S }
-pull_step_for way w r v after o new act U s S = absurd act
+pull_step_for w r v after NoRegion new act U s S = record { seen = []; made = U; after_it = s; pulls = (closed_for w U s S r act.0, (refl, refl)); stands = unchanged_stands w new U s act.1 S }
+pull_step_for w r v after Memory new act U s S = record { seen = []; made = U; after_it = s; pulls = (some_for w U s S r act.0, (refl, refl)); stands = unchanged_stands w new U s act.1 S }
+pull_step_for w r v after o new act U s S = absurd act
 
 -- ---- a delivery
 
@@ -425,8 +455,12 @@ prune_step_for way w r moment o new act U s S = absurd act
 
 pub step_for : (way : Way) (w : WorldFields) (e : Event) (o : Outcome) (new : WorldFields) → ActBy way w e o new → (U : FactSet) (s : State) → WorldStands w U s → StepFor way s e o new
 step_for way w (Open n) o new act U s S = open_step_for way w n o new act U s S
-step_for way w (Request r now words q) o new act U s S = answer_step_for way w r now words q o new act U s S
-step_for way w (Pull r v after) o new act U s S = pull_step_for way w r v after o new act U s S
+step_for way w (Request r now words q) o new act U s S =
+    let x = asked_for way w r (record { now = now; words = words; bytes = q.items }) o new act U s S in
+    record { seen = x.seen; made = x.made; after = x.after; step = x.answer; stands = x.stands }
+step_for way w (Pull r v after) o new act U s S =
+    let x = pull_step_for w r v after o new act U s S in
+    record { seen = x.seen; made = x.made; after = x.after_it; step = x.pulls; stands = x.stands }
 step_for way w (Deliver i r) o new act U s S = deliver_step_for way w i r o new act U s S
 step_for way w (Prune r moment) o new act U s S = prune_step_for way w r moment o new act U s S
 
@@ -435,6 +469,43 @@ pub step_standing : (way : Way) (w : WorldFields) (e : Event) (o : Outcome) (new
 step_standing way w e o new act standing =
     let x = step_for way w e o new act standing.0 standing.1 standing.2 in
     (x.made, x.after, x.stands)
+
+pub pull_standing : (w : WorldFields) (r : ℕ) (v : Vector) (after : Option Dot) (o : Outcome) (new : WorldFields) → PullsAt w r v after o new → IsStanding w → IsStanding new
+pull_standing w r v after o new act standing = let x = pull_step_for w r v after o new act standing.0 standing.1 standing.2 in (x.made, x.after_it, x.stands)
+
+pub deliver_standing : (w : WorldFields) (i r : ℕ) (o : Outcome) (new : WorldFields) → DeliversAt w i r o new → IsStanding w → IsStanding new
+deliver_standing w i r o new act standing = let x = deliver_step_for in_place w i r o new act standing.0 standing.1 standing.2 in (x.made, x.after, x.stands)
+
+pub prune_standing : (w : WorldFields) (r moment : ℕ) (o : Outcome) (new : WorldFields) → PrunesAt w r moment o new → IsStanding w → IsStanding new
+prune_standing w r moment o new act standing = let x = prune_step_for in_place w r moment o new act standing.0 standing.1 standing.2 in (x.made, x.after, x.stands)
+
+-- ---- a bundle that a region has no reason to refuse
+
+module _ (w : WorldFields) (standing : IsStanding w) (r : ℕ) (P : StoreFields) (at : map.get w.regions r ≡ Some P) (i : ℕ) (b : BundleFields) (there : slice_get w.bundles i ≡ Some b) where
+  abbrev U : FactSet
+  U = standing.0
+
+  abbrev s : State
+  s = standing.1
+
+  open_here : OpenFor w U s r P
+  open_here = open_for w U s standing.2 r P at
+
+  sent_here : (c : Sent) × (slice_get s.bundles i ≡ Some c) × BundleStands U b c
+  sent_here = bundle_at U w.bundles s.bundles i b standing.2.bundles there
+
+  -- what the region knows agrees with the bundle
+  pub bundle_agrees : AgreesWith P.slots b.items
+  bundle_agrees =
+      items_agree P U open_here.k.facts open_here.stands b.horizon b.items sent_here.0.facts sent_here.2.items
+      (standing.2.consists.carried i sent_here.0 sent_here.1).0
+
+  -- the region has made each dot of the bundle under its own number
+  pub bundle_made : has_unmade (next_in (place_in (region_at w r P))) b.items ≡ false
+  bundle_made =
+      ap (λ n. has_unmade (record { region = r; serial = n }) b.items) (next_same P.slots open_here.k.facts (stands_dots P U open_here.k.facts open_here.stands) r)
+      ∙ items_made s U standing.2.consists r open_here.k open_here.at b.horizon b.items sent_here.0.facts sent_here.2.items
+      (standing.2.consists.carried i sent_here.0 sent_here.1).0
 
 -- ---- worlds
 
