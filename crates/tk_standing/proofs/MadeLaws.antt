@@ -1,6 +1,6 @@
 -- What a fact that a region makes uses and mints. Key result:
 --   made_meets   its tokens end with their family, and what it uses was minted
-use Rattle.std.proofs.Common.{◌≡◌, ◌≢◌, ℕ, ◌≤◌, nat_lt, Bool, true, false, ◌&&◌, cond, List, [], ◌∷◌, Option, None, Some, is_some, IfSome, option_map, refl, sym, ap, subst, ◌∙◌}
+use Rattle.std.proofs.Common.{◌≡◌, ◌≢◌, ℕ, ◌≤◌, nat_lt, true, false, ◌&&◌, cond, List, [], ◌∷◌, Option, None, Some, is_some, IfSome, option_map, refl, sym, ap, subst, ◌∙◌}
 use Rattle.std.specs.FinMap as map
 use Rattle.std.specs.Option.{option_and_then}
 use Rattle.tk_handle.specs.declared.dot.Dot.{Dot}
@@ -161,7 +161,8 @@ meets F U V d (body.CodeRedeemed f) part adds within =
     let b : Body = body.CodeRedeemed f in
     let of = within.1 in
     record {
-      cut = λ k m c code same other minted under issues.
+      cut = λ k m c code same other minted under_k issues.
+          let under = subst (λ (x : Dot). IsUnder (links_in (map.get V)) x c) same under_k in
           let up = above_code F U V d b part adds (Redeems f.code) f.code c refl (λ e. no_code e) refl under in
           let moment : within.0 ≡ code.family_end = ends_by F U V d b part adds f.code f.code c within.0 code (code_itself F U V d b part adds f.code of.0 of.1) of up issues in
           subst (λ n. m.expiry ≤ n) moment
@@ -189,7 +190,8 @@ meets F U V d (body.RefreshRotated f) part adds within =
     let moment = within.3 in
     let of = within.4 in
     record {
-      cut = λ k m c code same other minted under issues.
+      cut = λ k m c code same other minted under_k issues.
+          let under = subst (λ (x : Dot). IsUnder (links_in (map.get V)) x c) same under_k in
           let up = above_code F U V d b part adds (Rotates f.parent f.generation) f.parent c refl (λ e. no_code e) refl under in
           let old = IsUnder-within (links_in (map.get F)) (links_in (map.get V)) (links-below F V (grown F U V d b part adds)) f.parent root within.2 in
           let ends : moment ≡ code.family_end = ends_by F U V d b part adds f.parent root c moment code old of up issues in

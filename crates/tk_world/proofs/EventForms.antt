@@ -14,13 +14,13 @@ use Rattle.tk_handle.specs.Ranges.{IsRegion, IsMoment}
 use Rattle.tk_vector.specs.VersionVector.{Vector}
 use Rattle.tk_vector.specs.VectorText.{IsVectorText, IsNoVectorText}
 use Rattle.tk_world.specs.declared.event.Event.{Event}
-use Rattle.tk_world.specs.declared.event.Event.TheVariants.{Open, Request, Pull, Deliver}
+use Rattle.tk_world.specs.declared.event.Event.TheVariants.{Open, Request, Pull, Deliver, Prune}
 use Rattle.std.specs.Prelude.{Vec}
 use Rattle.std.specs.declared.alloc.Global.{Global}
 use Rattle.tk_world.specs.Fields.{is_space, region_in, moment_in, IsCursorText, IsNoCursorText}
 use Rattle.tk_world.specs.RequestLine.{asked_of}
 use Rattle.tk_world.specs.Line.{texts, IsPrintable, IsEventForm, IsNoEventForm, IsEventLine, IsNoEventLine}
-use Rattle.tk_world.proofs.NumberTexts.{region_found, moment_found, no_region}
+use Rattle.tk_world.proofs.NumberTexts.{region_found, moment_found, no_region, no_moment}
 
 -- the text at an index, empty past the end; a slice pattern reads its texts with this default
 abbrev pub text_at : List (Bor (List ℕ)) → ℕ → List ℕ
@@ -86,7 +86,17 @@ module _ (fs : List (Bor (List ℕ))) where
       let at_region = region_found (text_at fs 1) region at in
       (text_at fs 2, text_at fs 3, rw (four fs long, name, at_region.1) refl, at_region.0, is, place)
 
+  pub prune_there : (region horizon : ℕ) → length fs ≡ 3 → text_at fs 0 ≡ codes "prune" → region_in (text_at fs 1) ≡ Some region → moment_in (text_at fs 2) ≡ Some horizon → IsEventForm (texts fs) (Prune region horizon)
+  prune_there region horizon long name at then =
+      let at_region = region_found (text_at fs 1) region at in
+      let at_moment = moment_found (text_at fs 2) horizon then in
+      (rw (three fs long, name, at_region.1, at_moment.1) refl, at_region.0, at_moment.0)
+
 -- ---- the fields of no event
+
+-- the names of events with three fields differ
+names_differ : codes "deliver" ≡ codes "prune" → ⊥
+names_differ h = absurd (omega (arith, ap length h))
 
 module _ (fs : List (Bor (List ℕ))) where
   -- two fields are those of `open` or of no event
@@ -98,6 +108,7 @@ module _ (fs : List (Bor (List ℕ))) where
   open_bad long none (Request region now words request) h = absurd (omega (arith, count fs _ h.2))
   open_bad long none (Pull region vector after) h = absurd (omega (arith, count fs _ h.2))
   open_bad long none (Deliver bundle region) h = absurd (omega (arith, count fs _ h.0))
+  open_bad long none (Prune region horizon) h = absurd (omega (arith, count fs _ h.0))
 
   -- three fields that begin with `deliver` are those of a delivery or of no event
   deliver_only : length fs ≡ 3 → text_at fs 0 ≡ codes "deliver" → ((bundle region : ℕ) → text_at fs 1 ≡ decimal bundle → bundle < 2 ^ 64 → text_at fs 2 ≡ decimal region → IsRegion region → ⊥) → IsNoEventForm (texts fs)
@@ -110,9 +121,35 @@ module _ (fs : List (Bor (List ℕ))) where
   deliver_only long name none (Deliver bundle region) h =
       let parts = sym (three fs long) ∙ h.0 in
       none bundle region (cc) h.1 (cc) h.2
+  deliver_only long name none (Prune region horizon) h =
+      let parts = sym (three fs long) ∙ h.0 in
+      let same : text_at fs 0 ≡ codes "prune" = cc in
+      names_differ (sym name ∙ same)
 
   pub deliver_bad_region : length fs ≡ 3 → text_at fs 0 ≡ codes "deliver" → region_in (text_at fs 2) ≡ None → IsNoEventForm (texts fs)
   deliver_bad_region long name none = deliver_only long name (λ bundle region same high at is. no_region (text_at fs 2) region none is at)
+
+  -- three fields that begin with `prune` are those of a prune or of no event
+  prune_only : length fs ≡ 3 → text_at fs 0 ≡ codes "prune" → ((region horizon : ℕ) → text_at fs 1 ≡ decimal region → IsRegion region → text_at fs 2 ≡ decimal horizon → IsMoment horizon → ⊥) → IsNoEventForm (texts fs)
+  prune_only long name none (Open region) h = absurd (omega (arith, count fs _ h.0))
+  prune_only long name none (Request region now words request) h =
+      let parts = sym (three_up fs (omega arith)) ∙ h.2 in
+      let same : h.0 ≡ codes "prune" = cc in
+      no_request_named h.0 (codes "prune") h.1 request.items h.5 refl same
+  prune_only long name none (Pull region vector after) h = absurd (omega (arith, count fs _ h.2))
+  prune_only long name none (Deliver bundle region) h =
+      let parts = sym (three fs long) ∙ h.0 in
+      let same : text_at fs 0 ≡ codes "deliver" = cc in
+      names_differ (sym same ∙ name)
+  prune_only long name none (Prune region horizon) h =
+      let parts = sym (three fs long) ∙ h.0 in
+      none region horizon (cc) h.1 (cc) h.2
+
+  pub prune_bad_region : length fs ≡ 3 → text_at fs 0 ≡ codes "prune" → region_in (text_at fs 1) ≡ None → IsNoEventForm (texts fs)
+  prune_bad_region long name none = prune_only long name (λ region horizon at is then late. no_region (text_at fs 1) region none is at)
+
+  pub prune_bad_moment : length fs ≡ 3 → text_at fs 0 ≡ codes "prune" → moment_in (text_at fs 2) ≡ None → IsNoEventForm (texts fs)
+  prune_bad_moment long name none = prune_only long name (λ region horizon at is then late. no_moment (text_at fs 2) horizon none late then)
 
   -- four fields that begin with `pull` are those of a pull or of no event
   pull_only : length fs ≡ 4 → text_at fs 0 ≡ codes "pull" → ((region : ℕ) (vector : Vector) (after : Option Dot) → text_at fs 1 ≡ decimal region → IsRegion region → IsVectorText (text_at fs 2) vector → IsCursorText (text_at fs 3) after → ⊥) → IsNoEventForm (texts fs)
@@ -127,6 +164,7 @@ module _ (fs : List (Bor (List ℕ))) where
       let place : h.1 ≡ text_at fs 3 = cc in
       none region vector after (cc) h.3 (subst (λ t. IsVectorText t vector) entries h.4) (subst (λ t. IsCursorText t after) place h.5)
   pull_only long name none (Deliver bundle region) h = absurd (omega (arith, count fs _ h.0))
+  pull_only long name none (Prune region horizon) h = absurd (omega (arith, count fs _ h.0))
 
   pub pull_bad_region : length fs ≡ 4 → text_at fs 0 ≡ codes "pull" → region_in (text_at fs 1) ≡ None → IsNoEventForm (texts fs)
   pull_bad_region long name none = pull_only long name (λ region vector after at is entries place. no_region (text_at fs 1) region none is at)
@@ -139,6 +177,7 @@ module _ (fs : List (Bor (List ℕ))) where
     pub long : 3 ≤ length fs
     pub deliver : length fs ≡ 3 → text_at fs 0 ≢ codes "deliver"
     pub pull : length fs ≡ 4 → text_at fs 0 ≢ codes "pull"
+    pub prune : length fs ≡ 3 → text_at fs 0 ≢ codes "prune"
 
   request_only : IsOther → ((region now : ℕ) (request : List ℕ) → text_at fs 1 ≡ decimal region → IsRegion region → text_at fs 2 ≡ decimal now → IsMoment now → asked_of (text_at fs 0) (texts (drop 3 fs)) ≡ Some request → ⊥) → IsNoEventForm (texts fs)
   request_only other none (Open region) h = let long = other.long in absurd (omega (arith, count fs _ h.0))
@@ -155,6 +194,10 @@ module _ (fs : List (Bor (List ℕ))) where
       let long = count fs _ h.0 in
       let parts = sym (three fs long) ∙ h.0 in
       other.deliver long (cc)
+  request_only other none (Prune region horizon) h =
+      let long = count fs _ h.0 in
+      let parts = sym (three fs long) ∙ h.0 in
+      other.prune long (cc)
 
   -- the fields after the first three
   abbrev pub rest : List (Bor (List ℕ))
@@ -175,6 +218,7 @@ module _ (fs : List (Bor (List ℕ))) where
   no_form short other (Request region now words request) h = absurd (omega (arith, count fs _ h.2))
   no_form short other (Pull region vector after) h = absurd (omega (arith, count fs _ h.2))
   no_form short other (Deliver bundle region) h = absurd (omega (arith, count fs _ h.0))
+  no_form short other (Prune region horizon) h = absurd (omega (arith, count fs _ h.0))
 
 -- ---- lines
 

@@ -66,7 +66,7 @@ ghost use Rattle.tk_world.specs.Parts.{Opens, Pages};
 ghost use Rattle.tk_world.specs.Promises.{TellsOfSets, IntrospectAlike, RevokedInactive};
 ghost use Rattle.tk_world.specs.Promises.{FamiliesInactive};
 ghost use Rattle.tk_world.specs.Regions.{entries_of};
-ghost use Rattle.tk_world.specs.State.{State};
+ghost use Rattle.tk_world.specs.State.{State, new_state};
 ghost use Rattle.tk_world.specs.WorldFields.{new_world, region_at, store_in};
 ghost use Rattle.tk_world.specs.WorldStands.{IsStanding, WorldStands};
 
@@ -81,7 +81,8 @@ use tk_vector::VersionVector;
 impl World {
     /// Returns a world without regions and bundles.
     pub fn new(alloc: Global, settings: Settings) -> World
-        ensures { result ≡ new_world settings }
+        ensures empty { result ≡ new_world settings }
+        ensures stands { WorldStands result map.empty (new_state settings) }
     {
         // The proof reads the cap's range from this call.
         let _cap = settings.cap();

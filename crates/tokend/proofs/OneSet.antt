@@ -1,18 +1,26 @@
 -- Regions whose facts are within one set agree. Key result: all_agree.
-use Rattle.std.proofs.Common.{◌≡◌, ℕ, Option, Some, None, unwrap_or, refl, sym, ◌∙◌}
+use Rattle.std.proofs.Common.{◌≡◌, ℕ, Option, Some, None, unwrap_or, refl, sym, ap, ◌∙◌}
 use Rattle.std.specs.FinMap as map
 use Rattle.tk_handle.specs.Dot.{dot_cmp}
 use Rattle.tk_store.specs.FactSet.{FactSet, Agree, IsSubset}
+use Rattle.tk_store.specs.Slots.{held_slot}
+use Rattle.tk_store.specs.StoreFields.{StoreFields, empty_store, held_facts}
 use Rattle.tk_store.proofs.PutLaws.{some_injective, none_is_not_some}
-use Rattle.tk_world.specs.State.{State, facts_in, Consists, IsConsistent}
+use Rattle.tk_store.proofs.SlotLaws.{get_held}
+use Rattle.tk_standing.specs.StandsFor.{StandsFor}
+use Rattle.tk_standing.proofs.StandingLaws.{held_made}
+use Rattle.tk_world.specs.State.{Kept}
+use Rattle.tk_world.specs.WorldFields.{WorldFields, store_in}
+use Rattle.tk_world.specs.WorldStands.{RegionFor, IsStanding}
 
 -- the facts that a region holds are within the set
-facts_below : (s : State) (U : FactSet) → Consists s U → (r : ℕ) → IsSubset (facts_in s r) U
-facts_below s U k r = below (map.get s.regions r) refl
+facts_below : (w : WorldFields) (standing : IsStanding w) (r : ℕ) → IsSubset (held_facts (store_in w r)) standing.0
+facts_below w standing r = below (map.get w.regions r) (map.get standing.1.regions r) (standing.2.regions r)
   where
-    below : (o : Option FactSet) → map.get s.regions r ≡ o → IsSubset (unwrap_or o map.empty) U
-    below None e d b h = absurd (none_is_not_some b (sym (map.get-empty dot_cmp d) ∙ h))
-    below (Some F) e d b h = k.held r F e d b h
+    below : (o : Option StoreFields) (k : Option Kept) → RegionFor standing.0 o k → IsSubset (held_facts (unwrap_or o empty_store)) standing.0
+    below None k x d b h = absurd (none_is_not_some b (sym (get_held empty_store.slots d ∙ ap held_slot (map.get-empty dot_cmp d)) ∙ h))
+    below (Some P) None x = absurd x
+    below (Some P) (Some k) x = held_made P standing.0 k.facts x.0
 
-pub all_agree : (s : State) → IsConsistent s → (q r : ℕ) → Agree (facts_in s q) (facts_in s r)
-all_agree s k q r d b c here there = some_injective b c (sym (facts_below s k.0 k.1 q d b here) ∙ facts_below s k.0 k.1 r d c there)
+pub all_agree : (w : WorldFields) → IsStanding w → (q r : ℕ) → Agree (held_facts (store_in w q)) (held_facts (store_in w r))
+all_agree w standing q r d b c here there = some_injective b c (sym (facts_below w standing q d b here) ∙ facts_below w standing r d c there)

@@ -6,14 +6,17 @@
 --   RunsBySockets    a run of events, with what is promised of it
 --   IsSocketFault    the faults of sockets and memory
 --   by_loopback      a script is run in a new world with its requests through sockets
-use Rattle.std.specs.Prelude.{◌≡◌, ◌≢◌, ⊤, ℕ, List, Some}
+use Rattle.std.specs.Prelude.{◌≡◌, ◌≢◌, ⊤, ⊥, ℕ, List, Some}
 use Rattle.tk_edge.specs.declared.hear.Arrival.TheVariants.{Silence}
 use Rattle.tk_region.specs.SettingsFields.{SettingsFields}
-use Rattle.tk_store.specs.Joining.{JoinsFacts, SameFacts}
+use Rattle.tk_store.specs.FactSet.{FactSet}
+use Rattle.tk_world.specs.Acts.{ActsBy}
 use Rattle.tk_world.specs.Carrying.{Way}
+use Rattle.tk_world.specs.Headline.{AnswersFor, RunStands}
 use Rattle.tk_world.specs.Promises.{RevokedInactive, FamiliesInactive}
-use Rattle.tk_world.specs.State.{State, facts_in, new_state, IsConsistent}
-use Rattle.tk_world.specs.World.{Facts, RunBy, seen_by}
+use Rattle.tk_world.specs.State.{State}
+use Rattle.tk_world.specs.WorldFields.{WorldFields, new_world, store_in}
+use Rattle.tk_world.specs.WorldStands.{IsStanding, WorldStands}
 use Rattle.tk_world.specs.declared.event.Event.{Event}
 use Rattle.tk_world.specs.declared.event.Outcome.{Outcome}
 use Rattle.tokend.specs.ScriptRun.{Mode}
@@ -34,19 +37,17 @@ by_sockets = record {
 
 -- the events are run with their requests through sockets, and the promises of a run of a world hold
 -- that don't depend on the bytes of requests and replies
-pub record RunsBySockets (old : State) (events : List Event)
+pub record RunsBySockets (old : WorldFields) (events : List Event)
     (outcomes : List Outcome) : Type 0 where
-  pub after : State
-  pub shown : List Facts
-  pub run : RunBy by_sockets old events outcomes shown after
-  pub joins : (r : ℕ)
-      → JoinsFacts (facts_in old r) (seen_by r events shown) (facts_in after r)
-  pub alike : (q r : ℕ) → facts_in old q ≡ facts_in old r
-      → SameFacts (seen_by q events shown) (seen_by r events shown)
-      → facts_in after q ≡ facts_in after r
-  pub consistent : IsConsistent after
-  pub revoked : RevokedInactive after
-  pub families : FamiliesInactive after
+  pub after : WorldFields
+  pub acts : ActsBy by_sockets old events outcomes after
+  pub run : (made : FactSet) (state : State) → WorldStands old made state
+      → RunStands by_sockets state events outcomes after
+  pub standing : IsStanding after
+  pub answers : (made : FactSet) (state : State) → WorldStands after made state
+      → AnswersFor after state
+  pub revoked : RevokedInactive (store_in after)
+  pub families : FamiliesInactive (store_in after)
 
 -- the faults of sockets and memory: memory ran out, or a socket failed
 abbrev pub IsSocketFault : Fault → Type 0
@@ -58,6 +59,6 @@ IsSocketFault fault = ⊥
 abbrev pub by_loopback : SettingsFields → Mode
 by_loopback settings = record {
   longest = Some longest;
-  Runs = λ events outcomes. RunsBySockets (new_state settings) events outcomes;
+  Runs = λ events outcomes. RunsBySockets (new_world settings) events outcomes;
   Fails = IsSocketFault;
 }

@@ -11,8 +11,11 @@
 use Rattle.std.specs.Prelude.{◌≡◌, ◌≤◌, ◌⊎◌, ℕ, List, Option, None, IfSome, length, slice_get}
 use Rattle.std.specs.Io.KnownBytes.{Appends}
 use Rattle.tk_region.specs.SettingsFields.{SettingsFields}
-use Rattle.tk_world.specs.State.{State, new_state}
-use Rattle.tk_world.specs.World.{Facts, Run}
+use Rattle.tk_world.specs.Acts.{ActsBy}
+use Rattle.tk_world.specs.Carrying.{in_place}
+use Rattle.tk_world.specs.Headline.{RunStands}
+use Rattle.tk_world.specs.State.{new_state}
+use Rattle.tk_world.specs.WorldFields.{WorldFields, new_world}
 use Rattle.tk_world.specs.declared.event.Event.{Event}
 use Rattle.tk_world.specs.declared.event.Outcome.{Outcome}
 use Rattle.tk_world.specs.Line.{HasWords}
@@ -31,12 +34,14 @@ pub record Mode : Type 1 where
   pub Runs : List Event → List Outcome → Type 0
   pub Fails : Fault → Type 0
 
--- the events are run in a new world with these settings, or there is no memory for the outcomes
+-- the events are run in a new world with these settings, which is a run from the state without
+-- regions and bundles, or there is no memory for the outcomes
 abbrev pub in_world : SettingsFields → Mode
 in_world settings = record {
   longest = None;
-  Runs = λ events outcomes. (after : State) × (shown : List Facts)
-      × Run (new_state settings) events outcomes shown after;
+  Runs = λ events outcomes. (after : WorldFields)
+      × ActsBy in_place (new_world settings) events outcomes after
+      × RunStands in_place (new_state settings) events outcomes after;
   Fails = λ fault. fault ≡ Memory;
 }
 

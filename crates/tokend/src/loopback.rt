@@ -4,7 +4,7 @@
 
 ghost use Rattle.std.specs.Prelude.{◌≡◌, ◌≢◌, false, Err, IfOk, IfErr};
 ghost use Rattle.tk_edge.specs.declared.tell.Fault.TheVariants as fault;
-ghost use Rattle.tk_world.specs.State.{new_state};
+ghost use Rattle.tk_world.specs.WorldFields.{new_world};
 ghost use Rattle.tokend.specs.Connection.{unknown, IsConnection};
 ghost use Rattle.tokend.specs.LoopbackRun.{by_sockets, IsSocketFault, RunsBySockets};
 
@@ -32,7 +32,7 @@ pub(crate) fn run_by_sockets<R>(
 where
     R: AllocGlobal + Clock + Net<Listener = TcpListener, Stream = TcpStream>,
     ensures run { IfOk result
-        (λ outcomes. RunsBySockets (new_state settings) events.now outcomes.items) }
+        (λ outcomes. RunsBySockets (new_world settings) events.now outcomes.items) }
     ensures fault { IfErr result IsSocketFault }
 {
     let Ok(listener) = TcpListener::bind(rt, (Ipv4Addr::new(127, 0, 0, 1), 0)) else {

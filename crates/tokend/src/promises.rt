@@ -5,82 +5,109 @@
 //! functions. The last promise is about a service and its log: it has no body, and is proved from
 //! what contracts say of connections and of loading a log.
 //!
-//! Five promises are about a run of events. Each of these names its run, so that a function that
-//! runs no events can't meet the promise. Three promises hold of any world, whatever brought it
-//! about: that regions agree, and the two about inactive tokens.
+//! A world stands for a state with all facts that its regions made and took in, whatever they
+//! skipped since: `WorldStands` says how. Four promises are about a run from such a state, and name
+//! it, so that a function that runs no events can't meet them. Four hold of any world, whatever
+//! brought it about: that regions agree, that pruning changes no answer, and the two about inactive
+//! tokens.
 
-ghost use Rattle.std.specs.Prelude.{◌≡◌, ℕ, List, IfOk, MatchResult};
-ghost use Rattle.tk_store.specs.FactSet.{Agree, AllIn, Facts, IsSubset};
+ghost use Rattle.std.specs.Prelude.{◌≡◌, ℕ, IfOk, MatchResult};
+ghost use Rattle.tk_store.specs.FactSet.{Agree, AllIn, FactSet, IsSubset};
 ghost use Rattle.tk_store.specs.Joining.{SameFacts};
+ghost use Rattle.tk_store.specs.StoreFields.{held_facts};
+ghost use Rattle.tk_world.specs.Acts.{ActsBy};
+ghost use Rattle.tk_world.specs.Carrying.{in_place};
+ghost use Rattle.tk_world.specs.Headline.{AnswersFor, RunStands};
 ghost use Rattle.tk_world.specs.Promises.{IntrospectAlike, RevokedInactive, FamiliesInactive};
-ghost use Rattle.tk_world.specs.State.{facts_in};
-ghost use Rattle.tk_world.specs.World.{Run, seen_by};
+ghost use Rattle.tk_world.specs.State.{State, facts_in};
+ghost use Rattle.tk_world.specs.World.{seen_by};
+ghost use Rattle.tk_world.specs.WorldFields.{store_in};
+ghost use Rattle.tk_world.specs.WorldStands.{IsStanding, WorldStands};
 ghost use Rattle.tokend.specs.KeptLog.{LogKeepsAll};
 
 use std::alloc::AllocError;
 use tk_world::{Event, Outcome, World};
 
-/// Facts stay: what a region held before a run, it holds after the run.
+/// Facts stay: what a region had made and taken in before a run, it still stands for after the run.
 pub fn facts_stay(world: &mut World, events: &[Event]) -> Result<Vec<Outcome>, AllocError>
-    ensures { IfOk result (λ outcomes. (shown : List Facts)
-        × Run world.old events.now outcomes.items shown world.new
-        × ((r : ℕ) → IsSubset (facts_in world.old r) (facts_in world.new r))) }
+    ensures { IfOk result (λ outcomes. (made : FactSet) (state : State)
+        → WorldStands world.old made state
+        → (ran : RunStands in_place state events.now outcomes.items world.new)
+        × ((r : ℕ) → IsSubset (facts_in state r) (facts_in ran.after r))) }
 {
     let outcomes = world.run(events)?;
     Ok(outcomes)
 }
 
-/// A region holds what it made and took in.
-pub fn regions_hold_what_they_have_seen(
+/// A region stands for what it made and took in.
+pub fn regions_stand_for_what_they_have_seen(
     world: &mut World,
     events: &[Event],
 ) -> Result<Vec<Outcome>, AllocError>
-    ensures { IfOk result (λ outcomes. (shown : List Facts)
-        × Run world.old events.now outcomes.items shown world.new
-        × ((r : ℕ) → AllIn (facts_in world.new r) (seen_by r events.now shown))) }
+    ensures { IfOk result (λ outcomes. (made : FactSet) (state : State)
+        → WorldStands world.old made state
+        → (ran : RunStands in_place state events.now outcomes.items world.new)
+        × ((r : ℕ) → AllIn (facts_in ran.after r) (seen_by r events.now ran.shown))) }
 {
     world.run(events)
 }
 
 /// Regions that have seen the same facts are the same.
 ///
-/// The regions held equal sets before the run, for example both empty. During the run they made and
-/// took in the same facts, in any order and any number of times. They hold equal sets after the
-/// run.
+/// The regions stood for equal sets before the run, for example both for none. During the run they
+/// made and took in the same facts, in any order and any number of times. They stand for equal sets
+/// after the run, whatever each of them skipped.
 pub fn regions_that_have_seen_the_same_are_the_same(
     world: &mut World,
     events: &[Event],
 ) -> Result<Vec<Outcome>, AllocError>
-    ensures { IfOk result (λ outcomes. (shown : List Facts)
-        × Run world.old events.now outcomes.items shown world.new
-        × ((q r : ℕ) → facts_in world.old q ≡ facts_in world.old r
-        → SameFacts (seen_by q events.now shown) (seen_by r events.now shown)
-        → facts_in world.new q ≡ facts_in world.new r)) }
+    ensures { IfOk result (λ outcomes. (made : FactSet) (state : State)
+        → WorldStands world.old made state
+        → (ran : RunStands in_place state events.now outcomes.items world.new)
+        × ((q r : ℕ) → facts_in state q ≡ facts_in state r
+        → SameFacts (seen_by q events.now ran.shown) (seen_by r events.now ran.shown)
+        → facts_in ran.after q ≡ facts_in ran.after r)) }
 {
     world.run(events)
 }
 
 /// Regions agree in any world: no two of them hold different facts at one dot.
 pub fn regions_agree(world: &World)
-    ensures { (q r : ℕ) → Agree (facts_in world.now q) (facts_in world.now r) }
+    ensures { (q r : ℕ)
+        → Agree (held_facts (store_in world.now q)) (held_facts (store_in world.now r)) }
 {
     world.known()
 }
 
-/// Regions with equal facts introspect alike (RFC 7662, 2.2).
+/// Regions with equal facts introspect alike, from their horizons on (RFC 7662, 2.2).
 ///
-/// The regions hold equal sets when the request arrives. Bytes that mean the same introspection
-/// request at the same moment get the same status and the same bytes. The regions' numbers and the
-/// random words don't matter.
+/// The regions stand for equal sets when the request arrives, and the moment is not before their
+/// horizons. Bytes that mean the same introspection request at the same moment get the same status
+/// and the same bytes. The regions' numbers and the random words don't matter, and neither does what
+/// each of them skipped.
 pub fn equal_facts_introspect_alike(
     world: &mut World,
     events: &[Event],
 ) -> Result<Vec<Outcome>, AllocError>
-    ensures { IfOk result (λ outcomes. (shown : List Facts)
-        × Run world.old events.now outcomes.items shown world.new
-        × IntrospectAlike world.old events.now outcomes.items shown) }
+    ensures { IfOk result (λ outcomes. (made : FactSet) (state : State)
+        → WorldStands world.old made state
+        → (ran : RunStands in_place state events.now outcomes.items world.new)
+        × IntrospectAlike state events.now outcomes.items ran.shown ran.after ran.run) }
 {
     world.run(events)
+}
+
+/// Pruning changes no answer in any world, from the horizon on.
+///
+/// The world stands for a state with all facts made. From its horizon on, each region answers each
+/// request as a region of its number and settings that holds all the facts for which it stands and
+/// never pruned: the reply is equal, and so is the fact that is made.
+pub fn pruning_changes_no_answer(world: &World)
+    ensures stands { IsStanding world.now }
+    ensures answers { (made : FactSet) (state : State) → WorldStands world.now made state
+        → AnswersFor world.now state }
+{
+    world.known()
 }
 
 /// Revoked tokens are inactive in any world (RFC 7009, 2.1; RFC 7662, 2.2).
@@ -88,7 +115,7 @@ pub fn equal_facts_introspect_alike(
 /// The region holds facts by which the token's client revoked it. The token is active at no moment,
 /// and introspection reports it as inactive to everyone.
 pub fn revoked_tokens_are_inactive(world: &World)
-    ensures { RevokedInactive world.now }
+    ensures { RevokedInactive (store_in world.now) }
 {
     world.known()
 }
@@ -104,7 +131,7 @@ pub fn revoked_tokens_are_inactive(world: &World)
 /// Each token under the same code is active at no moment, and introspection reports it as inactive
 /// to everyone.
 pub fn families_with_a_bad_grant_are_inactive(world: &World)
-    ensures { FamiliesInactive world.now }
+    ensures { FamiliesInactive (store_in world.now) }
 {
     world.known()
 }
@@ -116,7 +143,7 @@ pub fn an_error_changes_nothing(
     events: &[Event],
 ) -> Result<Vec<Outcome>, AllocError>
     ensures { MatchResult result
-        (λ outcomes. (shown : List Facts) × Run world.old events.now outcomes.items shown world.new)
+        (λ outcomes. ActsBy in_place world.old events.now outcomes.items world.new)
         (λ _. world.new ≡ world.old) }
 {
     world.run(events)

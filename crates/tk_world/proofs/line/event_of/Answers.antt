@@ -37,7 +37,7 @@ returns-in_ok-vector-in-pull-clause-found c =
 
 pub returns-in-len3-up-clause-malformed : goal.returns-in-len3-up-clause-malformed
 returns-in-len3-up-clause-malformed c e =
-    let other : IsOther c.args.fields.now = record { long = grind arith; deliver = λ n e. grind (arith, common_steps); pull = λ n e. grind (arith, common_steps) } in
+    let other : IsOther c.args.fields.now = record { long = grind arith; deliver = λ n e. grind (arith, common_steps); pull = λ n e. grind (arith, common_steps); prune = λ n e. grind (arith, common_steps) } in
     request_bad c.args.fields.now other (c.request_event.ensures.malformed e)
 
 pub returns-in-len3-up-clause-found : goal.returns-in-len3-up-clause-found
