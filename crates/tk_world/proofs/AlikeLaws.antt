@@ -7,13 +7,11 @@
 use Rattle.std.proofs.Common.{◌≡◌, ℕ, nat_lt, Bool, true, false, cond, List, Option, Some, None, option_map, is_some, refl, sym, ap, subst, ◌∙◌, ◌≤◌, arith}
 use Rattle.std.proofs.lemmas.Bool.Decides.{nat_tests}
 use Rattle.std.specs.FinMap as map
-use Rattle.tk_handle.specs.declared.dot.Dot.{Dot}
 use Rattle.tk_fact.specs.declared.body.Body.{Body}
 use Rattle.tk_store.specs.FactSet.{FactSet, IsSubset}
 use Rattle.tk_store.specs.NextDot.{next_serial}
 use Rattle.tk_store.specs.Slots.{Slot, Held, Skipped}
 use Rattle.tk_store.specs.StoreFields.{StoreFields}
-use Rattle.tk_store.specs.WholeStores.{whole_store}
 use Rattle.tk_store.proofs.WholeStoreLaws.{get_whole_store}
 use Rattle.tk_message.specs.RequestFields.{RequestFields}
 use Rattle.tk_message.specs.declared.place.Place.{Place}

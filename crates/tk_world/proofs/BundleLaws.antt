@@ -1,7 +1,7 @@
 -- A bundle in bytes is read as its horizon and items, which spell it. Key results:
 --   made_bundle      bytes that spell a bundle are read as that bundle
 --   readable_bytes   readable bytes are the spelling of their bundle
-use Rattle.std.proofs.Common.{◌≡◌, ℕ, List, Option, Some, unwrap_or, refl, sym, ap, ◌∙◌}
+use Rattle.std.proofs.Common.{◌≡◌, ℕ, List, Option, Some, unwrap_or, sym, ap, ◌∙◌}
 use Rattle.tk_format.specs.Format.{whole}
 use Rattle.tk_format.specs.Exact.{IsBytes, whole_takes, whole_again}
 use Rattle.tk_bundle.specs.Bundle.{bundle, bundle_bytes}

@@ -1,6 +1,6 @@
 -- What a run of a world promises of the state that it stands for. Key result:
 --   runs_for   a run of a world is a run of that state
-use Rattle.std.proofs.Common.{◌≡◌, List, [], ◌∷◌, refl, subst, sym}
+use Rattle.std.proofs.Common.{List, [], ◌∷◌, refl, subst, sym}
 use Rattle.tk_store.specs.FactSet.{FactSet, Facts}
 use Rattle.tk_world.specs.Acts.{ActsBy}
 use Rattle.tk_world.specs.Carrying.{Way}

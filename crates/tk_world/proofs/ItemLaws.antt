@@ -17,10 +17,9 @@ use Rattle.tk_vector.specs.VersionVector.{Vector}
 use Rattle.tk_store.specs.Beyond.{beyond}
 use Rattle.tk_store.specs.FactSet.{FactSet, Facts, AllIn, IsSubset, dot_of, with_facts}
 use Rattle.tk_store.specs.NextDot.{next_serial}
-use Rattle.tk_store.specs.Paging.{last_dot}
 use Rattle.tk_store.specs.SlotOrder.{SlotAgrees}
 use Rattle.tk_store.specs.Slots.{Slot, Slots, Held, Skipped, joined_slot, with_slots}
-use Rattle.tk_store.specs.StoreFields.{StoreFields, with_horizon}
+use Rattle.tk_store.specs.StoreFields.{StoreFields}
 use Rattle.tk_store.proofs.EntryLaws.{AllIn-beyond}
 use Rattle.tk_store.proofs.NextDotLaws.{at_most_last_serial}
 use Rattle.tk_store.proofs.PutLaws.{by_dot, get_here, none_is_not_some, some_injective}
@@ -28,7 +27,6 @@ use Rattle.tk_ledger.specs.Retention.{MaySkip}
 use Rattle.tk_bundle.specs.BundleFields.{BundleFields, Items, is_mark}
 use Rattle.tk_bundle.specs.Bundle.{most_items}
 use Rattle.tk_bundle.specs.Page as bundles
-use Rattle.tk_message.specs.Place.{next_in}
 use Rattle.tk_region.specs.Taking.{AgreesWith, has_unmade, is_unmade, items_taken, raised}
 use Rattle.tk_standing.specs.StandsFor.{SlotStands, StandsFor}
 use Rattle.tk_standing.proofs.KeepingLaws.{may_more, slot_more, slot_put}
@@ -37,7 +35,7 @@ use Rattle.tk_world.specs.State.{Kept, Sent, State, Consists}
 use Rattle.tk_world.specs.World.{raised_to}
 use Rattle.tk_world.specs.WorldStands.{ItemStands, ItemsStand, BundleStands, BundlesStand}
 use Rattle.tk_world.proofs.AlikeLaws.{stands_dots}
-use Rattle.tk_world.proofs.KnownLaws.{SameDots, beyond_dots, length_dots, take_dots, next_same}
+use Rattle.tk_world.proofs.KnownLaws.{beyond_dots, length_dots, take_dots}
 
 -- ---- pages
 
@@ -79,16 +77,16 @@ module _ (P : StoreFields) (U F : FactSet) (S : StandsFor P U F) where
       )
 
   module _ (v : Vector) (after : Option Dot) where
-    abbrev items : Items
-    items = (bundles.page_of P v after).bundle.items
+    abbrev its_items : Items
+    its_items = (bundles.page_of P v after).bundle.items
 
-    abbrev facts : Facts
-    facts = (page_of F v after).facts
+    abbrev its_facts : Facts
+    its_facts = (page_of F v after).facts
 
     beyond_same : map dot_of (beyond P.slots v after) ≡ map dot_of (beyond F v after)
     beyond_same = beyond_dots P.slots F (stands_dots P U F S) v after
 
-    page_dots : map dot_of items ≡ map dot_of facts
+    page_dots : map dot_of its_items ≡ map dot_of its_facts
     page_dots = take_dots most_items (beyond P.slots v after) ∙ ap (take most_items) beyond_same ∙ sym (take_dots most_items (beyond F v after))
 
     horizon_marks : (t : Bool) → t ≡ true → cond t (Some P.horizon) None ≡ Some P.horizon
@@ -96,25 +94,25 @@ module _ (P : StoreFields) (U F : FactSet) (S : StandsFor P U F) where
     horizon_marks false h = absurd (true≢false (sym h))
 
     -- the items of a page stand for the facts of the page
-    pub page_items : ItemsStand U (bundles.page_of P v after).bundle.horizon items facts
+    pub page_items : ItemsStand U (bundles.page_of P v after).bundle.horizon its_items its_facts
     page_items =
-        known_items (bundles.page_of P v after).bundle.horizon items facts (horizon_marks (list_any is_mark items)) page_dots
+        known_items (bundles.page_of P v after).bundle.horizon its_items its_facts (horizon_marks (list_any is_mark its_items)) page_dots
         (AllIn-part P.slots most_items (beyond P.slots v after) (AllIn-beyond P.slots v after))
         (AllIn-part F most_items (beyond F v after) (AllIn-beyond F v after))
 
     -- the horizon of a page is none, or the store's
     pub page_horizon : ((bundles.page_of P v after).bundle.horizon ≡ None) ⊎ ((bundles.page_of P v after).bundle.horizon ≡ Some P.horizon)
-    page_horizon = by (list_any is_mark items)
+    page_horizon = by (list_any is_mark its_items)
       where
         by : (t : Bool) → (cond t (Some P.horizon) None ≡ None) ⊎ (cond t (Some P.horizon) None ≡ Some P.horizon)
         by true = inr refl
         by false = inl refl
 
-    pub page_length : length items ≡ length facts
-    page_length = sym (length_dots items) ∙ ap length page_dots ∙ length_dots facts
+    pub page_length : length its_items ≡ length its_facts
+    page_length = sym (length_dots its_items) ∙ ap length page_dots ∙ length_dots its_facts
 
     pub page_last : (bundles.page_of P v after).last ≡ (page_of F v after).last
-    page_last = ap (λ (ds : List Dot). slice_get ds (length items - 1)) page_dots ∙ ap (λ n. slice_get (map dot_of facts) (n - 1)) page_length
+    page_last = ap (λ (ds : List Dot). slice_get ds (length its_items - 1)) page_dots ∙ ap (λ n. slice_get (map dot_of its_facts) (n - 1)) page_length
 
     pub page_more : (bundles.page_of P v after).more ≡ (page_of F v after).more
     page_more = ap (nat_lt most_items) (sym (length_dots (beyond P.slots v after)) ∙ ap length beyond_same ∙ length_dots (beyond F v after))

@@ -4,7 +4,7 @@
 --   len_same      their number
 --   next_same     the next serial of a region
 --   beyond_dots   the dots that a vector does not cover
-use Rattle.std.proofs.Common.{◌≡◌, ℕ, zero, suc, ◌+◌, ◌-◌, ◌&&◌, ◌==◌, nat_le, not, max, Bool, true, false, cond, if◌then◌else◌, T, List, [], ◌∷◌, length, map, filter, take, slice_get, Option, Some, None, option_map, is_some, refl, sym, ap, subst, ◌∙◌}
+use Rattle.std.proofs.Common.{◌≡◌, ℕ, zero, suc, ◌+◌, ◌-◌, ◌&&◌, ◌==◌, nat_le, not, max, Bool, true, false, cond, if◌then◌else◌, T, List, [], ◌∷◌, length, map, filter, take, Option, Some, None, option_map, is_some, refl, sym, ap, subst, ◌∙◌}
 use Rattle.std.specs.Ordering.{eq_by_cmp, is_lt}
 use Rattle.std.specs.FinMap as sets
 use Rattle.std.specs.FinMap.{find}
@@ -31,6 +31,10 @@ last_of_dots r (d ∷ ds) = max (if d.region == r then d.serial else 0) (last_of
 abbrev is_uncovered : Vector → Dot → Bool
 is_uncovered v d = not (nat_le d.serial (entry v d.region))
 
+-- a value that tells nothing
+abbrev naught : {X : Type 0} → X → ℕ
+naught x = 0
+
 -- an entry without its value
 abbrev bare : {X : Type 0} → Dot × X → Dot × ℕ
 bare e = (e.0, 0)
@@ -44,23 +48,23 @@ module _ {X : Type 0} where
   sorted_bare [] = refl
   sorted_bare (e ∷ es) = ap (λ b. b && sets.is_sorted dot_cmp (map bare es)) (below_bare e.0 es) ∙ ap (λ b. below_all dot_cmp e.0 es && b) (sorted_bare es)
 
-  find_bare : (q : Dot) (es : List (Dot × X)) → find dot_cmp q (map bare es) ≡ option_map (λ (x : X). 0) (find dot_cmp q es)
+  find_bare : (q : Dot) (es : List (Dot × X)) → find dot_cmp q (map bare es) ≡ option_map naught (find dot_cmp q es)
   find_bare q [] = refl
   find_bare q (e ∷ es) =
-      elim (eq_by_cmp dot_cmp q e.0) as (λ t. cond t (Some 0) (find dot_cmp q (map bare es)) ≡ option_map (λ (x : X). 0) (cond t (Some e.1) (find dot_cmp q es))) [
+      elim (eq_by_cmp dot_cmp q e.0) as (λ t. cond t (Some 0) (find dot_cmp q (map bare es)) ≡ option_map naught (cond t (Some e.1) (find dot_cmp q es))) [
         | true ↦ refl
         | false ↦ find_bare q es
       ]
 
   -- the map without its values
-  known_of : sets.FinMap dot_cmp X → sets.FinMap dot_cmp ℕ
+  abbrev known_of : sets.FinMap dot_cmp X → sets.FinMap dot_cmp ℕ
   known_of m = sets.from_sorted (map bare (sets.entries m))
 
   entries_known : (m : sets.FinMap dot_cmp X) → sets.entries (known_of m) ≡ map bare (sets.entries m)
   entries_known m = sets.entries-from_sorted dot_cmp _ (subst T (sym (sorted_bare (sets.entries m))) (sets.entries_sorted m))
 
-  get_known : (m : sets.FinMap dot_cmp X) (q : Dot) → sets.get (known_of m) q ≡ option_map (λ (x : X). 0) (sets.get m q)
-  get_known m q = sets.get-entries (known_of m) q ∙ ap (find dot_cmp q) (entries_known m) ∙ find_bare q (sets.entries m) ∙ ap (option_map (λ (x : X). 0)) (sym (sets.get-entries m q))
+  get_known : (m : sets.FinMap dot_cmp X) (q : Dot) → sets.get (known_of m) q ≡ option_map naught (sets.get m q)
+  get_known m q = sets.get-entries (known_of m) q ∙ ap (find dot_cmp q) (entries_known m) ∙ find_bare q (sets.entries m) ∙ ap (option_map naught) (sym (sets.get-entries m q))
 
   dots_bare : (es : List (Dot × X)) → map dot_of (map bare es) ≡ map dot_of es
   dots_bare [] = refl
@@ -102,7 +106,7 @@ abbrev pub SameDots : {X Y : Type 0} → sets.FinMap dot_cmp X → sets.FinMap d
 SameDots m n = (q : Dot) → is_some (sets.get m q) ≡ is_some (sets.get n q)
 
 module _ {X Y : Type 0} (m : sets.FinMap dot_cmp X) (n : sets.FinMap dot_cmp Y) (same : SameDots m n) where
-  zero_as : (o : Option X) (p : Option Y) → is_some o ≡ is_some p → option_map (λ (x : X). 0) o ≡ option_map (λ (y : Y). 0) p
+  zero_as : (o : Option X) (p : Option Y) → is_some o ≡ is_some p → option_map naught o ≡ option_map naught p
   zero_as None None h = refl
   zero_as None (Some y) h = cc
   zero_as (Some x) None h = cc

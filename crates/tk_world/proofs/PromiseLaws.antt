@@ -30,8 +30,8 @@ use Rattle.tk_world.specs.declared.event.Event.{Event}
 use Rattle.tk_world.specs.declared.event.Event.TheVariants.{Request}
 use Rattle.tk_world.specs.declared.event.Outcome.{Outcome}
 use Rattle.tk_world.specs.declared.event.Outcome.TheVariants.{Reply}
-use Rattle.tk_world.specs.Promises.{held_before, IsFromHorizon, TellsOfSets, IntrospectAlike, IsInactive, RevokedInactive, FamiliesInactive}
-use Rattle.tk_world.specs.State.{Kept, State, facts_in, horizon_in, region_with}
+use Rattle.tk_world.specs.Promises.{held_before, TellsOfSets, IntrospectAlike, IsInactive, RevokedInactive, FamiliesInactive}
+use Rattle.tk_world.specs.State.{Kept, State, region_with}
 use Rattle.tk_world.specs.Carrying.{in_place, IsReplied}
 use Rattle.tk_world.specs.World.{Step, Run, state_before}
 use Rattle.tk_world.proofs.RunLaws.{run_joins}

@@ -6,7 +6,7 @@
 --   bundle_agrees, bundle_made   no region of a world refuses a bundle of that world
 --   new_stands   a world without regions and bundles
 --   answers_for  from its horizon on, a region answers as one that holds all its facts
-use Rattle.std.proofs.Common.{◌≡◌, ◌≢◌, ◌⊎◌, inl, inr, ℕ, ◌+◌, ◌≤◌, max, nat_lt, false, List, [], ◌∷◌, ◌++◌, length, take, slice_get, Option, Some, None, IsSome, IfSome, Result, Ok, Err, is_some, refl, sym, ap, subst, ◌∙◌, arith}
+use Rattle.std.proofs.Common.{◌≡◌, ◌⊎◌, inl, inr, ℕ, ◌≤◌, max, nat_lt, false, List, [], ◌∷◌, take, slice_get, Option, Some, None, IsSome, IfSome, Result, Ok, Err, is_some, refl, sym, ap, subst, ◌∙◌, arith}
 use Rattle.std.proofs.lemmas.Bool.Decides.{nat_tests}
 use Rattle.std.specs.Ordering.{nat_cmp}
 use Rattle.std.specs.Cmp.{nat_cmp_total}
@@ -22,7 +22,7 @@ use Rattle.tk_fact.specs.declared.body.Body.{Body}
 use Rattle.tk_ledger.specs.Tokens.{link_of, links_in, minted_in}
 use Rattle.tk_store.specs.FactSet.{FactSet, Facts, AllIn, IsSubset, with_facts}
 use Rattle.tk_store.specs.Joining.{JoinsFacts}
-use Rattle.tk_store.specs.Slots.{Slot, Held, Skipped}
+use Rattle.tk_store.specs.Slots.{Slot}
 use Rattle.tk_store.specs.StoreFields.{StoreFields, empty_store}
 use Rattle.tk_store.proofs.JoiningLaws.{joins_with_facts, joins_nothing}
 use Rattle.tk_store.proofs.PutLaws.{by_dot, get_here, none_is_not_some, some_injective}
@@ -33,8 +33,7 @@ use Rattle.tk_region.specs.RegionFields.{RegionFields, place_in, with_made}
 use Rattle.tk_region.specs.SettingsFields.{SettingsFields, greatest_cap}
 use Rattle.tk_region.specs.Step.{listed, IsNextFact}
 use Rattle.tk_message.specs.Place.{next_in}
-use Rattle.tk_region.specs.Taking.{AgreesWith, Takes, has_unmade, items_taken, raised}
-use Rattle.tk_region.specs.declared.take.TakeError.TheVariants as taking
+use Rattle.tk_region.specs.Taking.{AgreesWith, has_unmade, items_taken, raised}
 use Rattle.tk_region.proofs.CapLaws.{next_unknown}
 use Rattle.tk_edge.specs.Answers.{answer_by, fact_by}
 use Rattle.tk_edge.specs.Told.{AnswerFields}
@@ -48,16 +47,16 @@ use Rattle.tk_world.specs.declared.event.Event.{Event}
 use Rattle.tk_world.specs.declared.event.Event.TheVariants.{Open, Request, Pull, Deliver, Prune}
 use Rattle.tk_world.specs.declared.event.Outcome.{Outcome}
 use Rattle.tk_world.specs.declared.event.Outcome.TheVariants.{Opened, NumberTaken, NoRegion, NoBundle, Reply, Bundle, Took, Pruned, Memory}
-use Rattle.tk_world.specs.Acts.{Turns, IsNoRegion, IsIdle, MakesAt, OpensAt, AnswersAt, PullsAt, DeliversAt, PrunesAt, ActBy}
+use Rattle.tk_world.specs.Acts.{OpensAt, AnswersAt, PullsAt, DeliversAt, PrunesAt, ActBy}
 use Rattle.tk_world.specs.AskedFields.{AskedFields}
 use Rattle.tk_world.specs.Broken.{Loses, Requests}
 use Rattle.tk_world.specs.Carrying.{Way, in_place}
 use Rattle.tk_world.specs.Headline.{AnswersFor, unpruned}
 use Rattle.tk_world.specs.Pages.{page_of}
 use Rattle.tk_world.specs.State.{Kept, Sent, State, new_kept, new_state, with_region, with_bundle, region_with, kept_store, Consists}
-use Rattle.tk_world.specs.World.{IsUnchanged, raised_to, Grows, IsOpening, IsAnswer, IsPull, IsDelivery, IsPruning, StepBy}
-use Rattle.tk_world.specs.WorldFields.{WorldFields, new_world, with_store, with_bundles, region_at}
-use Rattle.tk_world.specs.WorldStands.{RegionFor, BundleStands, BundlesStand, WorldStands, IsStanding}
+use Rattle.tk_world.specs.World.{raised_to, Grows, IsAnswer, IsPull, StepBy}
+use Rattle.tk_world.specs.WorldFields.{WorldFields, new_world, with_store, region_at}
+use Rattle.tk_world.specs.WorldStands.{RegionFor, BundleStands, WorldStands, IsStanding}
 use Rattle.tk_world.proofs.AlikeLaws.{stands_dots, kept_stands, answers_same, facts_same}
 use Rattle.tk_world.proofs.ConsistencyLaws.{AllIn-page, short_page, region_of_get, consists_kept, consists_opened, consists_made, consists_bundle, free_everywhere, subset_more, new_consists}
 use Rattle.tk_world.proofs.ItemLaws.{page_items, page_horizon, page_length, page_last, page_more, bundles_more, bundles_and, bundles_length, bundle_at, no_bundle_at, items_part, raised_horizon, items_stand, items_agree, items_made}
@@ -135,8 +134,11 @@ unchanged_stands w new U s same S = subst (λ (x : WorldFields). WorldStands x U
 
 -- ---- opening a region
 
-empty_stands : (U : FactSet) → StandsFor empty_store U map.empty
-empty_stands U d = subst (λ (o : Option Slot). SlotStands U 0 d o (map.get map.empty d)) (sym (map.get-empty dot_cmp d)) (map.get-empty dot_cmp d)
+abbrev no_facts : FactSet
+no_facts = map.empty
+
+empty_stands : (U : FactSet) → StandsFor empty_store U no_facts
+empty_stands U d = subst (λ (o : Option Slot). SlotStands U 0 d o (map.get no_facts d)) (sym (map.get-empty dot_cmp d)) (map.get-empty dot_cmp d)
 
 open_step_for : (way : Way) (w : WorldFields) (n : ℕ) (o : Outcome) (new : WorldFields) → OpensAt w n o new → (U : FactSet) (s : State) → WorldStands w U s → StepFor way s (Open n) o new
 open_step_for way w n Opened new act U s S =
@@ -157,23 +159,23 @@ open_step_for way w n o new act U s S = absurd act
 
 -- what a region heard, and the fact made for it
 module _ (w : WorldFields) (U : FactSet) (s : State) (S : WorldStands w U s) (r : ℕ) (P : StoreFields) (at : map.get w.regions r ≡ Some P) where
-  abbrev F : FactSet
-  F = (open_for w U s S r P at).k.facts
+  abbrev stood : FactSet
+  stood = (open_for w U s S r P at).k.facts
 
-  abbrev k : Kept
-  k = (open_for w U s S r P at).k
+  abbrev kept : Kept
+  kept = (open_for w U s S r P at).k
 
-  is : map.get s.regions r ≡ Some k
-  is = (open_for w U s S r P at).at
+  is_kept : map.get s.regions r ≡ Some kept
+  is_kept = (open_for w U s S r P at).at
 
-  stands : StandsFor P U F
+  stands : StandsFor P U stood
   stands = (open_for w U s S r P at).stands
 
-  level : k.horizon ≡ P.horizon
+  level : kept.horizon ≡ P.horizon
   level = (open_for w U s S r P at).horizon
 
-  within : IsSubset F U
-  within = S.consists.held r k is
+  within : IsSubset stood U
+  within = S.consists.held r kept is_kept
 
   -- the region with all facts, with the world's settings
   abbrev whole_at : Kept → RegionFields
@@ -183,75 +185,75 @@ module _ (w : WorldFields) (U : FactSet) (s : State) (S : WorldStands w U s) (r 
   whole_is j = ap (λ (x : SettingsFields). record { number = r; settings = x; facts = kept_store j }) (sym S.settings)
 
   module _ (now : ℕ) (words : List ℕ) (heard : Arrival) where
-    both : nat_lt now P.horizon ≡ nat_lt now k.horizon
+    both : nat_lt now P.horizon ≡ nat_lt now kept.horizon
     both = ap (nat_lt now) (sym level)
 
-    pub answer_for : answer_by (region_at w r P) now words heard ≡ answer_by (region_with s r k) now words heard
+    pub answer_for : answer_by (region_at w r P) now words heard ≡ answer_by (region_with s r kept) now words heard
     answer_for =
-        answers_same r w.settings U F P (kept_store k) stands (kept_stands k U within) S.sound now words both heard
-        ∙ ap (λ (x : RegionFields). answer_by x now words heard) (whole_is k)
+        answers_same r w.settings U stood P (kept_store kept) stands (kept_stands kept U within) S.sound now words both heard
+        ∙ ap (λ (x : RegionFields). answer_by x now words heard) (whole_is kept)
 
-    pub fact_for : fact_by (region_at w r P) now words heard ≡ fact_by (region_with s r k) now words heard
+    pub fact_for : fact_by (region_at w r P) now words heard ≡ fact_by (region_with s r kept) now words heard
     fact_for =
-        facts_same r w.settings U F P (kept_store k) stands (kept_stands k U within) S.sound now words both heard
-        ∙ ap (λ (x : RegionFields). fact_by x now words heard) (whole_is k)
+        facts_same r w.settings U stood P (kept_store kept) stands (kept_stands kept U within) S.sound now words both heard
+        ∙ ap (λ (x : RegionFields). fact_by x now words heard) (whole_is kept)
 
     module _ (soon : P.horizon ≤ now) where
       neither : nat_lt now P.horizon ≡ nat_lt now 0
       neither = grind (arith, nat_tests, soon)
 
-      pub answer_unpruned : answer_by (region_at w r P) now words heard ≡ answer_by (region_with s r (unpruned k)) now words heard
+      pub answer_unpruned : answer_by (region_at w r P) now words heard ≡ answer_by (region_with s r (unpruned kept)) now words heard
       answer_unpruned =
-          answers_same r w.settings U F P (kept_store (unpruned k)) stands (kept_stands (unpruned k) U within) S.sound now words neither heard
-          ∙ ap (λ (x : RegionFields). answer_by x now words heard) (whole_is (unpruned k))
+          answers_same r w.settings U stood P (kept_store (unpruned kept)) stands (kept_stands (unpruned kept) U within) S.sound now words neither heard
+          ∙ ap (λ (x : RegionFields). answer_by x now words heard) (whole_is (unpruned kept))
 
-      pub fact_unpruned : fact_by (region_at w r P) now words heard ≡ fact_by (region_with s r (unpruned k)) now words heard
+      pub fact_unpruned : fact_by (region_at w r P) now words heard ≡ fact_by (region_with s r (unpruned kept)) now words heard
       fact_unpruned =
-          facts_same r w.settings U F P (kept_store (unpruned k)) stands (kept_stands (unpruned k) U within) S.sound now words neither heard
-          ∙ ap (λ (x : RegionFields). fact_by x now words heard) (whole_is (unpruned k))
+          facts_same r w.settings U stood P (kept_store (unpruned kept)) stands (kept_stands (unpruned kept) U within) S.sound now words neither heard
+          ∙ ap (λ (x : RegionFields). fact_by x now words heard) (whole_is (unpruned kept))
 
   -- what a region makes meets its family
   fact_meets : (now : ℕ) (words : List ℕ) (heard : Arrival) (V : FactSet) → IfSome (fact_by (region_at w r P) now words heard) (λ f. AddsOne U f.0 f.1 V → MeetsFamily U f.0 V)
   fact_meets now words Silence V = tt
   fact_meets now words (Refused why) V = tt
-  fact_meets now words (Asked request) V = made_meets (region_at w r P) U V now words request (held_made P U F stands)
+  fact_meets now words (Asked request) V = made_meets (region_at w r P) U V now words request (held_made P U stood stands)
   fact_meets now words (Exchange asked) V = tt
 
-  -- a fact is made, if there is one
+  -- a fact is_kept made, if there is one
   record MadeFor (o : Option (Dot × Body)) : Type 0 where
     made : FactSet
     grown : FactSet
-    joins : JoinsFacts F (listed o) grown
-    stays : WorldStands (with_store w r (with_made P o)) made (with_region s r (record { facts = grown; horizon = k.horizon }))
+    joins : JoinsFacts stood (listed o) grown
+    stays : WorldStands (with_store w r (with_made P o)) made (with_region s r (record { facts = grown; horizon = kept.horizon }))
 
   made_for : (o : Option (Dot × Body)) → ((V : FactSet) → IfSome o (λ f. AddsOne U f.0 f.1 V → MeetsFamily U f.0 V)) → IfSome o (IsNextFact (region_at w r P)) → MadeFor o
   made_for None meets next = record {
     made = U;
-    grown = F;
-    joins = joins_nothing F;
-    stays = stands_put w U U s r P k S (subset_itself U) (consists_kept s U r k k S.consists is within (subset_itself F)) S.sound stands level;
+    grown = stood;
+    joins = joins_nothing stood;
+    stays = stands_put w U U s r P kept S (subset_itself U) (consists_kept s U r kept kept S.consists is_kept within (subset_itself stood)) S.sound stands level;
   }
   made_for (Some f) meets next =
-      let free : map.get F f.0 ≡ None = free_in (next_unknown (region_at w r P) f next) in
+      let free : map.get stood f.0 ≡ None = free_in (next_unknown (region_at w r P) f next) in
       let own : f.0.region ≡ r = ap (λ (d : Dot). d.region) next.next in
-      let new : map.get U f.0 ≡ None = free_everywhere s U r k f.0 S.consists is own free in
+      let new : map.get U f.0 ≡ None = free_everywhere s U r kept f.0 S.consists is_kept own free in
       let V : FactSet = map.insert U f.0 f.1 in
       let more : IsSubset U V = subset_more U f.0 f.1 new in
       let adds : AddsOne U f.0 f.1 V = record { free = new; here = get_here U f.0 f.1; others = λ q ne. by_dot (λ o. o ≡ map.get U q) U f.0 f.1 q (λ same. absurd (ne same)) refl } in
       let under : f.0.serial ≤ s.settings.cap = subst (λ (x : SettingsFields). f.0.serial ≤ x.cap) (sym S.settings) next.under in
       record {
         made = V;
-        grown = map.insert F f.0 f.1;
-        joins = joins_with_facts (map.insert F f.0 f.1) F (f ∷ []) (subset_more F f.0 f.1 free) (get_here F f.0 f.1, tt);
-        stays = stands_put w U V s r (with_made P (Some f)) (record { facts = map.insert F f.0 f.1; horizon = k.horizon }) S more
-            (consists_made s U r k f.0 f.1 S.consists is own free under next.passes)
+        grown = map.insert stood f.0 f.1;
+        joins = joins_with_facts (map.insert stood f.0 f.1) stood (f ∷ []) (subset_more stood f.0 f.1 free) (get_here stood f.0 f.1, tt);
+        stays = stands_put w U V s r (with_made P (Some f)) (record { facts = map.insert stood f.0 f.1; horizon = kept.horizon }) S more
+            (consists_made s U r kept f.0 f.1 S.consists is_kept own free under next.passes)
             (sound_stays U V f.0 f.1 adds S.sound (meets V adds))
-            (fact_stands P V F (map.insert F f.0 f.1) f.0 f.1 (get_here U f.0 f.1) (get_here F f.0 f.1) (λ q ne. by_dot (λ o. o ≡ map.get F q) F f.0 f.1 q (λ same. absurd (ne same)) refl) (stands_more P U V F more stands))
+            (fact_stands P V stood (map.insert stood f.0 f.1) f.0 f.1 (get_here U f.0 f.1) (get_here stood f.0 f.1) (λ q ne. by_dot (λ o. o ≡ map.get stood q) stood f.0 f.1 q (λ same. absurd (ne same)) refl) (stands_more P U V stood more stands))
             level;
       }
     where
-      free_in : map.get P.slots f.0 ≡ None → map.get F f.0 ≡ None
-      free_in none = subst (λ (o : Option Slot). SlotStands U P.horizon f.0 o (map.get F f.0)) none (stands f.0)
+      free_in : map.get P.slots f.0 ≡ None → map.get stood f.0 ≡ None
+      free_in none = subst (λ (o : Option Slot). SlotStands U P.horizon f.0 o (map.get stood f.0)) none (stands f.0)
 
 -- a request is a step of the state
 record AnswerFor (way : Way) (s : State) (r : ℕ) (asked : AskedFields) (o : Outcome) (new : WorldFields) : Type 0 where
@@ -520,10 +522,10 @@ new_stands settings low = record {
   bundles = tt;
 }
   where
-    nothing_minted : (k : TokenId) (m : MintedFields) → minted_in (map.get map.empty) k ≡ Some m → ⊥
+    nothing_minted : (k : TokenId) (m : MintedFields) → minted_in (map.get no_facts) k ≡ Some m → ⊥
     nothing_minted k m h = none_is_not_some m (sym (ap (option_and_then (λ (b : Body). minted_of b k.kind)) (map.get-empty dot_cmp k.dot)) ∙ h)
 
-    nothing_used : (d : Dot) (k : TokenId) → use_of (links_in (map.get map.empty) d) ≡ Some k → ⊥
+    nothing_used : (d : Dot) (k : TokenId) → use_of (links_in (map.get no_facts) d) ≡ Some k → ⊥
     nothing_used d k h = none_is_not_some k (sym (ap (λ (o : Option Body). use_of (option_and_then link_of o)) (map.get-empty dot_cmp d)) ∙ h)
 
 -- from its horizon on, a region answers as one that holds all its facts

@@ -4,7 +4,7 @@
 --   OpensAt, AnswersAt, PullsAt, DeliversAt, PrunesAt
 --                  how an event of each kind may end
 --   ActBy, ActsBy  one event, and one after another, if requests go this way
-use Rattle.std.specs.Prelude.{◌≡◌, ⊥, ◌⊎◌, ℕ, List, [], ◌∷◌, ◌++◌, length, slice_get}
+use Rattle.std.specs.Prelude.{◌≡◌, ◌⊎◌, ℕ, List, [], ◌∷◌, ◌++◌, length, slice_get}
 use Rattle.std.specs.Prelude.{Option, Some, None, IsSome, IfSome, Ok, Err}
 use Rattle.std.specs.FinMap as map
 use Rattle.tk_handle.specs.declared.dot.Dot.{Dot}

@@ -4,7 +4,7 @@
 --   Steps         how one event may end
 --   IsBrokenOff   the events before a request were run, and the request was lost
 --   BreaksOff     what a run leaves, by its error
-use Rattle.std.specs.Prelude.{◌≡◌, ⊥, ◌⊎◌, ℕ, List, take, slice_get, Some, Result, Ok, Err}
+use Rattle.std.specs.Prelude.{◌≡◌, ◌⊎◌, ℕ, List, take, slice_get, Some, Result, Ok, Err}
 use Rattle.tk_store.specs.StoreFields.{StoreFields}
 use Rattle.tk_edge.specs.declared.hear.Arrival.{Arrival}
 use Rattle.tk_world.specs.declared.carrier.RunError.{RunError}

@@ -4,7 +4,7 @@
 --   IsPlaced     a region has the number and the settings of another
 --   TakesBundle  taking a bundle in
 --   PrunesTo     pruning
-use Rattle.std.specs.Prelude.{◌≡◌, ⊥, ◌⊎◌, ℕ, List, [], ◌∷◌, ◌++◌, length, insert, Ok, Err}
+use Rattle.std.specs.Prelude.{◌≡◌, ◌⊎◌, ℕ, List, [], ◌∷◌, ◌++◌, length, insert, Ok, Err}
 use Rattle.tk_ledger.specs.Retention.{Prunes}
 use Rattle.tk_bundle.specs.BundleFields.{BundleFields}
 use Rattle.tk_bundle.specs.Page.{PageFields}

@@ -13,7 +13,7 @@
 --   Step, Run     the same without a device between
 --   state_before  the state before an event of a run
 --   seen_by       what a region has seen: the facts that it made and took in
-use Rattle.std.specs.Prelude.{◌≡◌, ⊥, ◌⊎◌, ℕ, zero, suc, ◌+◌, ◌==◌, if◌then◌else◌, max, List, []}
+use Rattle.std.specs.Prelude.{◌≡◌, ◌⊎◌, ℕ, zero, suc, ◌+◌, ◌==◌, if◌then◌else◌, max, List, []}
 use Rattle.std.specs.Prelude.{◌∷◌, ◌++◌, length, take, slice_get, Option, Some, None, IsSome}
 use Rattle.std.specs.FinMap as map
 use Rattle.tk_handle.specs.declared.dot.Dot.{Dot}

@@ -3,7 +3,7 @@
 --   BundleStands  a bundle stands for facts that were made
 --   RegionFor     what a region knows stands for the facts that it made and took in
 --   WorldStands   a world stands for a state, where U is the set of all facts made
-use Rattle.std.specs.Prelude.{◌≡◌, ⊤, ⊥, ℕ, List, [], ◌∷◌, Option, Some, None}
+use Rattle.std.specs.Prelude.{◌≡◌, ⊤, ℕ, List, [], ◌∷◌, Option, Some, None}
 use Rattle.std.specs.FinMap as map
 use Rattle.tk_handle.specs.declared.dot.Dot.{Dot}
 use Rattle.tk_fact.specs.declared.body.Body.{Body}

@@ -6,7 +6,7 @@
 --   RunsBySockets    a run of events, with what is promised of it
 --   IsSocketFault    the faults of sockets and memory
 --   by_loopback      a script is run in a new world with its requests through sockets
-use Rattle.std.specs.Prelude.{◌≡◌, ◌≢◌, ⊤, ⊥, ℕ, List, Some}
+use Rattle.std.specs.Prelude.{◌≡◌, ◌≢◌, ⊤, ℕ, List, Some}
 use Rattle.tk_edge.specs.declared.hear.Arrival.TheVariants.{Silence}
 use Rattle.tk_region.specs.SettingsFields.{SettingsFields}
 use Rattle.tk_store.specs.FactSet.{FactSet}

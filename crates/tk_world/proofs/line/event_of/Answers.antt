@@ -4,12 +4,24 @@ use Rattle.std.proofs.lemmas.Grind.{common_steps}
 use Rattle.tk_format.specs.Decimals.{decimal_in}
 use Rattle.tk_vector.specs.VectorText.{IsNoVectorText}
 use Rattle.tk_world.specs.Line.{IsEventForm}
-use Rattle.tk_world.proofs.EventForms.{open_there, deliver_there, pull_there, with_rest, open_bad, deliver_bad_region, pull_bad_region, pull_bad_vector, IsOther, request_bad, no_form}
+use Rattle.tk_world.proofs.EventForms.{open_there, deliver_there, pull_there, prune_there, with_rest, open_bad, deliver_bad_region, prune_bad_region, prune_bad_moment, pull_bad_region, pull_bad_vector, IsOther, request_bad, no_form}
 use Rattle.tk_world.proofs.line.event_of.Goals as goal
 
 pub returns-in_default-region-clause-malformed : goal.returns-in_default-region-clause-malformed
 returns-in_default-region-clause-malformed c _ =
-    pull_bad_region c.args.fields.now (omega arith) (search (rules, tests)) (sym c.region-in-pull.ensures ∙ c.in_default-region.is)
+    prune_bad_region c.args.fields.now (omega arith) (search (rules, tests)) (sym c.region-in-prune.ensures ∙ c.in_default-region.is)
+
+pub returns-in-Some-moment-clause-found : goal.returns-in-Some-moment-clause-found
+returns-in-Some-moment-clause-found c =
+    prune_there c.args.fields.now _ _ (omega arith) (search (rules, tests)) (sym c.region-in-prune.ensures ∙ c.in-Some-region-2.is) (sym c.moment.ensures ∙ c.in-Some-moment.is)
+
+pub returns-in-None-moment-clause-malformed : goal.returns-in-None-moment-clause-malformed
+returns-in-None-moment-clause-malformed c _ =
+    prune_bad_moment c.args.fields.now (omega arith) (search (rules, tests)) (sym c.moment.ensures ∙ c.in-None-moment.is)
+
+pub returns-in_default-region-2-clause-malformed : goal.returns-in_default-region-2-clause-malformed
+returns-in_default-region-2-clause-malformed c _ =
+    pull_bad_region c.args.fields.now (omega arith) (search (rules, tests)) (sym c.region-in-pull.ensures ∙ c.in_default-region-2.is)
 
 pub returns-in_err-vector-in-pull-clause-malformed : goal.returns-in_err-vector-in-pull-clause-malformed
 returns-in_err-vector-in-pull-clause-malformed c e =
@@ -33,7 +45,7 @@ returns-in-None-region-clause-malformed c _ =
 
 pub returns-in_ok-vector-in-pull-clause-found : goal.returns-in_ok-vector-in-pull-clause-found
 returns-in_ok-vector-in-pull-clause-found c =
-    pull_there c.args.fields.now _ _ _ (omega arith) (search (rules, tests)) (sym c.region-in-pull.ensures ∙ c.in-Some-region-2.is) (search rules) (search rules)
+    pull_there c.args.fields.now _ _ _ (omega arith) (search (rules, tests)) (sym c.region-in-pull.ensures ∙ c.in-Some-region-3.is) (search rules) (search rules)
 
 pub returns-in-len3-up-clause-malformed : goal.returns-in-len3-up-clause-malformed
 returns-in-len3-up-clause-malformed c e =
