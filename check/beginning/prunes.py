@@ -1,10 +1,12 @@
 """prunes: a region that is pruned at its start. Each is a function of a room."""
+import os
 import time
 
 from beginning.families import LOGINS, Site, marks_of
-from beginning.room import CLIENT, wanted
+from beginning.room import CLIENT, ROOT, Child, wanted
 
 DAY = "86400"
+CARRY = os.path.join(ROOT, "examples", "carry", "carry")
 
 
 def start_prunes(room):
@@ -49,4 +51,23 @@ def horizon_passes(room):
     wanted(run.vector() == {50: 1}, "a request before the horizon made a fact", run.vector())
 
 
-CASES = [start_prunes, margin_is_refused, horizon_passes]
+def peers_differ_and_agree(room):
+    """An empty peer gets marks by `carry`; one that holds the facts keeps them until its own prune.
+    All of them answer alike."""
+    site = Site(room)
+    run = room.start(TOKEND_PRUNE_MARGIN=DAY).listening()
+    full = room.serve(70, "--load", room.path("site/load.otb"))
+    empty = room.serve(71)
+    wanted(marks_of(full) == 0, "the peer has marks already")
+    urls = ["http://127.0.0.1:%d" % it.port for it in (run, full, empty)]
+    done = Child(room, [CARRY, *urls])
+    wanted(done.ended() == 0, "not carried", done.errors())
+    for peer, marks in (full, 0), (empty, 2 * LOGINS), (run, 2 * LOGINS):
+        wanted(marks_of(peer) == marks, "another number of marks", marks_of(peer))
+        site.is_as_ever(peer)
+    again = Child(room, [CARRY, *urls])
+    wanted(again.ended() == 0 and again.output.count(b" 0 facts in 0 pages") == 4,
+           "facts go to a peer that has skipped them", again.output)
+
+
+CASES = [start_prunes, margin_is_refused, horizon_passes, peers_differ_and_agree]
