@@ -32,7 +32,7 @@ def of_sources():
     same(FAULT, "faults without a line of their own", {"Words": 2, "Output": 1}, statuses)
     for name in re.findall(r'EdgeFault::\w+ => put_all\(faults, &\[b"([^"\\]*)\\n"\]\)', serve):
         errors[name] = None
-    return {line_of(listen, name) for name in ("dropped", "pruned", "port")}, errors
+    return {line_of(listen, name) for name in ("dropped_bytes", "pruned_facts", "port")}, errors
 
 
 def line_of(listen, name):

@@ -378,7 +378,7 @@ held_at (Some (Held c)) b e = ap (λ x. Some (Held x)) (is_body e)
     is_body e = cc
 held_at (Some Skipped) b e = absurd (cc)
 
-skipped : Slot
+abbrev skipped : Slot
 skipped = Skipped
 
 skipped_held : (b : Body) → Some skipped ≡ Some (Held b) → ⊥

@@ -52,16 +52,22 @@ use Rattle.tokend.specs.declared.options.Service.{Service}
 abbrev pub listening_line : ℕ → List ℕ
 listening_line port = codes "listening 127.0.0.1:" ++ (decimal port ++ 10 ∷ [])
 
+-- the line of some dropped bytes
+abbrev pub dropped_bytes : ℕ → List ℕ
+dropped_bytes n = codes "dropped " ++ (decimal n ++ (codes " bytes" ++ 10 ∷ []))
+
 -- the line of the dropped bytes, if there are any
 abbrev pub dropped_line : ℕ → List ℕ
-dropped_line dropped =
-    if dropped == 0 then []
-    else (codes "dropped " ++ (decimal dropped ++ (codes " bytes" ++ 10 ∷ [])))
+dropped_line dropped = if dropped == 0 then [] else dropped_bytes dropped
 
--- the line of the facts that a prune took, if there was one
+-- the line of a prune that took some facts
+abbrev pub pruned_facts : ℕ → List ℕ
+pruned_facts n = codes "pruned " ++ (decimal n ++ 10 ∷ [])
+
+-- the line of the prune, if there was one
 abbrev pub pruned_line : Option ℕ → List ℕ
 pruned_line None = []
-pruned_line (Some n) = codes "pruned " ++ (decimal n ++ 10 ∷ [])
+pruned_line (Some n) = pruned_facts n
 
 -- the announcement: the lines of the dropped bytes, of the prune, and of the port
 abbrev pub announced : Opening → ℕ → List ℕ

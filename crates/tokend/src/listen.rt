@@ -4,8 +4,10 @@ ghost use Rattle.std.specs.Prelude.{◌++◌, OnOk, IfErr};
 ghost use Rattle.tk_put.specs.Put.{Prints, joined_text};
 ghost use Rattle.tokend.specs.Serving.{
   announced,
+  dropped_bytes,
   dropped_line,
   listening_line,
+  pruned_facts,
   pruned_line,
   Announces,
   IsListenedOn,
@@ -92,6 +94,14 @@ fn put_dropped<O: Write>(output: &mut O, dropped: u64) -> io::Result<()>
     if dropped == 0 {
         return put_all(output, &[]);
     }
+    put_dropped_bytes(output, dropped)
+}
+
+// Prints the line of this number of dropped bytes.
+fn put_dropped_bytes<O: Write>(output: &mut O, dropped: u64) -> io::Result<()>
+    ensures { Prints result (O.contents output.old) (O.contents output.new)
+        (dropped_bytes dropped) }
+{
     let mut digits = Buffer::new();
     let dropped = digits.format(dropped).as_bytes();
     put_all(output, &[b"dropped ", dropped, b" bytes\n"])
@@ -102,9 +112,17 @@ fn put_pruned<O: Write>(output: &mut O, pruned: Option<u64>) -> io::Result<()>
     ensures { Prints result (O.contents output.old) (O.contents output.new)
         (pruned_line pruned) }
 {
-    let Some(count) = pruned else {
-        return put_all(output, &[]);
-    };
+    match pruned {
+        Some(count) => put_pruned_facts(output, count),
+        None => put_all(output, &[]),
+    }
+}
+
+// Prints the line of a prune that took this number of facts.
+fn put_pruned_facts<O: Write>(output: &mut O, count: u64) -> io::Result<()>
+    ensures { Prints result (O.contents output.old) (O.contents output.new)
+        (pruned_facts count) }
+{
     let mut digits = Buffer::new();
     let count = digits.format(count).as_bytes();
     put_all(output, &[b"pruned ", count, b"\n"])

@@ -1,5 +1,0 @@
-use Rattle.std.proofs.Common.{◌∙◌}
-use Rattle.tokend.proofs.listen.put_dropped.Goals as goal
-
-pub returns : goal.returns
-returns g c = rw (c.as_bytes-dropped.ensures.value ∙ c.format.ensures.text) at c.put_all-2.ensures
