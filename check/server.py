@@ -10,7 +10,7 @@ import tempfile
 
 from refusal import SECONDS, Table, Unusable
 
-LISTENING = re.compile(rb"listening 127\.0\.0\.1:(\d+)\n")
+LISTENING = re.compile(rb"(?:pruned \d+\n)?listening 127\.0\.0\.1:(\d+)\n")
 NOW = 1_700_000_000  # the time of every server
 ANSWERED = (b"HTTP/1.1 2", b"HTTP/1.1 3", b"HTTP/1.1 400")
 SUBJECT_OUT = 10  # the kind of fact that makes a bundle an OTB2
@@ -89,7 +89,7 @@ class Server:
             self.process = subprocess.Popen(
                 [lab.program] + words.split(), cwd=self.folder.name, stdin=subprocess.DEVNULL,
                 stdout=subprocess.PIPE, stderr=errors, env=self.table.environment(lab.shim))
-        self.output = self.first_line()
+        self.output = self.first_lines()
         found = LISTENING.fullmatch(self.output)
         self.port = int(found[1]) if found else None
 
@@ -100,9 +100,11 @@ class Server:
         with open(self.path(name), "rb") as file:
             return file.read()
 
-    def first_line(self):
+    def first_lines(self):
+        """What it prints before its first connection, which it does at once."""
         ready, _, _ = select.select([self.process.stdout], [], [], SECONDS)
-        return self.process.stdout.readline() if ready else b""
+        first = self.process.stdout.readline() if ready else b""
+        return first + (self.process.stdout.readline() if first.startswith(b"pruned ") else b"")
 
     def __enter__(self):
         return self

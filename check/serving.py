@@ -16,6 +16,7 @@ from server import MARK, NOTHING, PULL, VECTOR, Server
 from server import body_of, facts_of, http, push, request_of, run_story
 
 MOST_FAULTS = 3  # of one sweep
+PRUNED = " --prune 1702592000"  # the families of the old log are over at this moment
 PASSING = (5, 6, 7, 9)  # the kinds of facts that may be skipped
 REGION, OLD_REGION, OTHER_REGION, READER = 1, 2, 3, 9
 LOOK = "req 1 0 POST /introspect <c2-2:s3cret> - token="
@@ -115,12 +116,12 @@ class Scene:
                 self.cached[key] = found
         return found
 
-    def fresh(self, firsts, request):
+    def fresh(self, firsts, request, options=""):
         """The talk of a server with enough memory, which is sent `firsts` first."""
         def make():
-            with Server(self.lab, REGION, self.old) as server:
+            with Server(self.lab, REGION, self.old, options) as server:
                 return Talk(self, server, firsts, request)
-        return self.remembered((tuple(firsts), request.sent), make)
+        return self.remembered((tuple(firsts), request.sent, options), make)
 
     def read_back(self, facts):
         """The look-ups of a server of another number that loaded these facts."""
@@ -222,16 +223,17 @@ def sweep_taken(scene, is_whole, offset, stride):
         at += stride
 
 
-def sweep_start(scene, is_whole, offset, stride):
+def sweep_start(scene, is_whole, offset, stride, options=""):
     """Yields what is wrong when allocations of a start fail. It ends, or it serves as ever."""
     at, faults, nothing = 1 + offset, 0, Request("a start", VECTOR)
     span = FOR_GOOD if is_whole else 1
     while faults < MOST_FAULTS:
         scene.lab.count()
-        with Server(scene.lab, REGION, scene.old, at=at, span=span) as server:
+        with Server(scene.lab, REGION, scene.old, options, at=at, span=span) as server:
             refused, told = server.refused(), None
             if server.port:
-                told = Talk(scene, server, [], nothing).apart(scene.fresh([], nothing))
+                wanted = scene.fresh([], nothing, options)
+                told = Talk(scene, server, [], nothing).apart(wanted)
             end, wanted = server.end(), (None, server.output, b"")
         if not server.port:
             wanted = (1, b"", b"tokend: memory\n")
@@ -239,8 +241,8 @@ def sweep_start(scene, is_whole, offset, stride):
             told = "no allocation is counted"
         if told or end != wanted:
             faults += 1
-            yield "serve, allocation %d%s of a start: %s, and it ends with %s" % (
-                at, " on" if is_whole else "", told, end)
+            yield "serve%s, allocation %d%s of a start: %s, and it ends with %s" % (
+                options, at, " on" if is_whole else "", told, end)
         if not refused:
             return
         at += stride

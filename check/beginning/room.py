@@ -16,6 +16,7 @@ import time
 ROOT = os.path.dirname(os.path.dirname(os.path.dirname(os.path.abspath(__file__))))
 START = os.environ.get("STARTER") or os.path.join(ROOT, "starter", "tokend-start")
 BACKUP = os.environ.get("BACKUP") or os.path.join(ROOT, "examples", "two-regions", "backup")
+COMPACT = os.environ.get("COMPACT") or os.path.join(ROOT, "examples", "two-regions", "compact")
 PATIENCE = 30
 CLIENT = "kind=public&scope=read&redirects=https://app.example/cb"
 DOT = struct.Struct(">HQ")

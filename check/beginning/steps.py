@@ -14,7 +14,7 @@ from beginning.room import START, Child, bundle, retirements, wanted
 KILLED = os.path.join(os.path.dirname(os.path.abspath(__file__)), "killed.py")
 KEPT = {1: 2, 2: 1, 50: 3, 60: 3, 61: 2}
 FETCHED = {50: 5, 71: 200}
-LEFT = re.compile(r"lock|number|load\.otb|log/\d{5}\.otb|old/\d{5}\.otb|"
+LEFT = re.compile(r"(swap\.)?lock|number|load\.otb|log/\d{5}\.otb|old/\d{5}\.otb|"
                   r"history/(mine|peers-[0-9TZ]+(-\d+)?)\.otb")
 
 

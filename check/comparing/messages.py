@@ -32,10 +32,15 @@ def of_sources():
     same(FAULT, "faults without a line of their own", {"Words": 2, "Output": 1}, statuses)
     for name in re.findall(r'EdgeFault::\w+ => put_all\(faults, &\[b"([^"\\]*)\\n"\]\)', serve):
         errors[name] = None
-    both = listen.split("fn put_both", 1)[1].split("\n}\n", 1)[0]
-    announced = "".join(re.findall(r'b"([^"]*)"', both)).replace("\\n", "\n").split("\n")
-    output = {announced[0].replace("dropped  bytes", "dropped N bytes"), announced[1] + "P"}
-    return output, errors
+    return {line_of(listen, name) for name in ("dropped_bytes", "pruned_facts", "port")}, errors
+
+
+def line_of(listen, name):
+    """The line that a function prints, with a letter for its number."""
+    pieces = listen.split("fn put_%s<" % name, 1)[1].split("\n}\n", 1)[0].rsplit("&[", 1)[1]
+    found = re.findall(r'b"([^"]*)"|(\w+)', pieces.split("]", 1)[0])
+    letter = "P" if name == "port" else "N"
+    return "".join(text or letter for text, _ in found).replace("\\n", "")
 
 
 def of_operating():

@@ -26,16 +26,17 @@ def seed():
         os.close(reader)
 
 
-def words(settings, number, port, load, log, secret):
+def words(settings, number, port, load, log, secret, prune):
+    pruned = [] if prune is None else ["--prune", str(prune)]
     return [settings.tokend, "serve", "--region", str(number), "--port", str(port),
             "--seed", "/dev/fd/%d" % secret, "--load", load, "--log", log, "--log-taken",
-            *settings.options]
+            *pruned, *settings.options]
 
 
-def tried(settings, number, load):
+def tried(settings, number, load, prune=None):
     """What the program does with a file and the options, if it serves no connection."""
     with seed() as secret:
-        line = words(settings, number, 0, load, NOTHING, secret) + ["--requests", "0"]
+        line = words(settings, number, 0, load, NOTHING, secret, prune) + ["--requests", "0"]
         try:
             return subprocess.run(line, stdin=subprocess.DEVNULL, capture_output=True,
                                   text=True, errors="replace", pass_fds=[secret], check=False)
@@ -45,13 +46,13 @@ def tried(settings, number, load):
 
 def check_options(settings):
     """Stops if the program refuses the options, or would do something else than serve."""
-    done = tried(settings, settings.numbers[0], NOTHING)
+    done = tried(settings, settings.numbers[0], NOTHING, settings.prune())
     if done.returncode == 2:
         raise Stop(SETTINGS, "the options are refused\n" + done.stderr.strip())
     if done.returncode:
         raise Stop(FAILED, "the program ends with status %d: %s"
                    % (done.returncode, done.stderr.strip()))
-    if not done.stdout.startswith("listening "):
+    if not re.match(r"(pruned 0\n)?listening ", done.stdout):
         raise Stop(SETTINGS, "with these options the program doesn't serve")
 
 
@@ -83,7 +84,7 @@ def become(settings, number, load, log):
         signal.signal(kind, signal.SIG_DFL)
     with seed() as secret:
         os.set_inheritable(secret, True)
-        line = words(settings, number, settings.port, load, log, secret)
+        line = words(settings, number, settings.port, load, log, secret, settings.prune())
         os.execv(line[0], line)
 
 

@@ -2,12 +2,14 @@
 import os
 import re
 import shutil
+import time
 import typing
 
 from starting.stop import SETTINGS, Stop
 
 GREATEST = 65_535  # of region numbers and of ports
 SECONDS = 60  # that all peers together may take
+LEAST_MARGIN = 86_400  # seconds: more than clocks of regions ever differ
 
 
 class Settings(typing.NamedTuple):
@@ -19,6 +21,11 @@ class Settings(typing.NamedTuple):
     options: list
     peers: list
     seconds: int
+    margin: typing.Optional[int]
+
+    def prune(self):
+        """The moment up to which a run is pruned that starts now; None for no prune."""
+        return None if self.margin is None else max(0, int(time.time()) - self.margin)
 
 
 def number(text, least, greatest, what):
@@ -58,6 +65,12 @@ def main_process(environ):
     return number(environ.get("MAINPID") or "0", 0, 999_999_999, "MAINPID")
 
 
+def margin_of(environ):
+    """How many seconds before its start a run is pruned; None for no prune."""
+    text = environ.get("TOKEND_PRUNE_MARGIN")
+    return number(text, LEAST_MARGIN, 999_999_999, "TOKEND_PRUNE_MARGIN") if text else None
+
+
 def read(environ, arguments):
     """The settings of a start. Nothing is changed by reading them."""
     environ = given(environ, arguments)
@@ -71,4 +84,4 @@ def read(environ, arguments):
         os.path.abspath(folder), port_of(environ), range(first, last + 1),
         command(environ.get("TOKEND") or "tokend"), environ.get("TOKEND_OPTIONS", "").split(),
         environ.get("TOKEND_PEERS", "").split(),
-        number(seconds, 0, 86_400, "TOKEND_PEER_SECONDS"))
+        number(seconds, 0, 86_400, "TOKEND_PEER_SECONDS"), margin_of(environ))

@@ -6,6 +6,7 @@
     history/    segments of whole bundles, by peers and by backup; a start loads them
     peers.part  what a start fetches now
     load.otb    all that a start loads, made anew each time
+    swap.lock   held by a start, and by `compact` while it replaces files in old/ and history/
 
 A file has its final name only once it is whole and synced. Two are written in place: a log and
 peers.part, of which a cut end is left out.
@@ -77,6 +78,9 @@ class Site:
             fcntl.flock(self.lock, fcntl.LOCK_EX | fcntl.LOCK_NB)
         except BlockingIOError:
             raise Stop(HELD, "a run holds %s" % folder) from None
+        # up to the end of this start: `compact` waits for it before it removes a file
+        swap = os.open(self.path("swap.lock"), os.O_RDWR | os.O_CREAT, 0o600)
+        fcntl.flock(swap, fcntl.LOCK_SH)
 
     def path(self, *names):
         return os.path.join(self.folder, *names)

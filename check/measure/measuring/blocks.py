@@ -239,7 +239,7 @@ def pruned(parts):
 ALL = {
     "speed": speed, "logged": logged, "calls": calls, "profile": profile, "proxied": proxied,
     "clients": clients, "growth": growth, "generations": generations, "memory": memory,
-    "start": start, "push": push,
+    "start": start, "prunes": plain("prunes", ["a prune", ""]), "push": push,
     "carried": plain("carried", ["`carry` to an empty server", ""]), "revoked": revoked,
     "fanned": fanned, "scaled": scaled, "spread": spread, "peers": peers, "beside": beside, "ledger": ledger, "pruned": pruned,
     "idle": plain("idle", ["behind a client that is", "the next one waited"]),

@@ -48,7 +48,7 @@ class Process(Asked):
             found = re.fullmatch(rb"listening 127\.0\.0\.1:(\d+)\n", line)
             if found:
                 return int(found[1])
-            if not line.startswith(b"dropped "):
+            if not line.startswith((b"dropped ", b"pruned ")):
                 break
         with open(self.path("errors"), encoding="utf-8") as errors:
             said = errors.read().strip() or "it printed nothing"

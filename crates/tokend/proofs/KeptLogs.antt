@@ -33,6 +33,7 @@ use Rattle.tk_region.specs.RegionFields.{RegionFields, Gains, place_in}
 use Rattle.tk_message.specs.RequestFields.{RequestFields}
 use Rattle.tk_region.specs.Decision.{decision_of}
 use Rattle.tk_region.specs.Step.{early_in, prepared_by, prepared_of, record_of}
+use Rattle.tk_ledger.specs.Retention.{MaySkip}
 use Rattle.tk_region.specs.Taking.{TakesIn, items_taken, raised}
 use Rattle.tk_region.specs.declared.take.TakeError.{TakeError}
 use Rattle.tk_region.specs.declared.take.TakeError.TheVariants.{Malformed, OwnNumber, Conflict}
@@ -55,7 +56,7 @@ use Rattle.tokend.specs.Connection.{AreConnections, IsConnection, Running, Serve
 use Rattle.tokend.specs.Draw.{past_six, six}
 use Rattle.tokend.specs.KeptLog.{HasLogged, IsHeldBy, LogKeepsAll}
 use Rattle.tokend.specs.Loading.{AreBundles, Loads, TakesEach, TakesFront, log_bytes}
-use Rattle.tokend.specs.Starting.{edge_of}
+use Rattle.tokend.specs.Starting.{PrunesOld, edge_of}
 use Rattle.tk_region.proofs.FitsLaws.{fits_differ}
 use Rattle.tokend.proofs.KeptSlots.{HoldsAll, holds_below, holds_less, items_held, items_below, below_more, below_first, nothing_new}
 
@@ -377,6 +378,24 @@ held_at (Some (Held c)) b e = ap (λ x. Some (Held x)) (is_body e)
     is_body e = cc
 held_at (Some Skipped) b e = absurd (cc)
 
+abbrev skipped : Slot
+skipped = Skipped
+
+skipped_held : (b : Body) → Some skipped ≡ Some (Held b) → ⊥
+skipped_held b e = absurd (cc)
+
+-- a region that was pruned, or wasn't, holds nothing that it didn't hold before
+pruned_less : (moment count : Option ℕ) (full start : RegionFields) → PrunesOld moment full (Ok count) start
+    → (d : Dot) (b : Body) → sets.get start.facts.slots d ≡ Some (Held b) → sets.get full.facts.slots d ≡ Some (Held b)
+pruned_less None count full start same d b at = subst (λ (r : RegionFields). sets.get r.facts.slots d ≡ Some (Held b)) same.1 at
+pruned_less (Some moment) None full start none d b at = absurd none
+pruned_less (Some moment) (Some n) full start pruned d b at = of (pruned.facts.keeps d)
+  where
+    of : (sets.get start.facts.slots d ≡ sets.get full.facts.slots d) ⊎ MaySkip (sets.get (held_facts full.facts)) start.facts.horizon d
+        → sets.get full.facts.slots d ≡ Some (Held b)
+    of (inl same) = sym same ∙ at
+    of (inr may) = absurd (skipped_held b (sym (pruned.facts.skips d may) ∙ at))
+
 pub keeps_all : LogKeepsAll
 keeps_all old region log h new loaded dropped loads d body at =
     let U = loaded.facts.slots in
@@ -394,6 +413,7 @@ keeps_all old region log h new loaded dropped loads d body at =
     let same = one_parse back.bundles both loads.0 back.fit fit loads.2 (sym back.parts ∙ all) in
     let each : HoldsEach U both = subst (HoldsEach U) same (each_taken new back.bundles loaded back.fit back.each).1 in
     kept.covers U
-    (each_within h.first front.bundles h.start U front.each (nothing_held h.first.facts U h.empty) (holds_front U front.bundles kept.bundles each))
+    (holds_less U h.full.facts.slots h.start.facts.slots (pruned_less h.moment h.count h.full h.start h.pruned)
+    (each_within h.first front.bundles h.full U front.each (nothing_held h.first.facts U h.empty) (holds_front U front.bundles kept.bundles each)))
     (holds_rest U front.bundles kept.bundles each) d body
     (held_at (sets.get region.facts.slots d) body (sym (get_held region.facts.slots d) ∙ at))

@@ -1,3 +1,4 @@
+pub mod Announcements
 pub mod Commands
 pub mod Connections
 pub mod EventWords

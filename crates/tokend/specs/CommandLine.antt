@@ -54,7 +54,7 @@ use Rattle.tk_region.specs.SettingsFields.{
   greatest_family,
   greatest_cap,
 }
-use Rattle.tk_handle.specs.Ranges.{greatest_region}
+use Rattle.tk_handle.specs.Ranges.{greatest_moment, greatest_region}
 use Rattle.clap.specs.declared.builder.action.ArgAction.TheVariants as action
 use Rattle.clap.specs.declared.builder.value_parser.ValueParser.TheVariants as parser
 use Rattle.tokend.specs.declared.command_line.Takes.{Takes}
@@ -131,7 +131,8 @@ abbrev pub loopback_app : App
 loopback_app = with_rules (new_app (codes "loopback")) setting_rules
 
 -- the options of a service: the region's number, the port and the seed, which are required; the
--- log, whether it gets bundles taken in, the old log and the number of connections, which aren't
+-- log, whether it gets bundles taken in, the old log, the moment of a prune and the number of
+-- connections, which aren't
 abbrev pub service_rules : List Rule
 service_rules =
     range_rule (codes "region") 1 greatest_region true
@@ -140,6 +141,7 @@ service_rules =
     ∷ file_rule (codes "log") false
     ∷ flag_rule (codes "log-taken")
     ∷ file_rule (codes "load") false
+    ∷ range_rule (codes "prune") 0 greatest_moment false
     ∷ range_rule (codes "requests") 0 greatest_requests false
     ∷ []
 
@@ -206,6 +208,9 @@ pub record HasService (rows : List Row) (s : Service) : Type 0 where
   pub seed : HasText rows (codes "seed") (Some s.seed)
   pub log : HasText rows (codes "log") s.log
   pub load : HasText rows (codes "load") s.load
+  pub prune : IfSome s.prune (HasNumber rows (codes "prune") 0 greatest_moment)
+  pub unpruned : IfNone s.prune ((n : ℕ)
+      → ¬ (HasNumber rows (codes "prune") 0 greatest_moment n))
   pub log_taken : HasFlag rows (codes "log-taken") s.log_taken
   pub logged : s.log_taken ≡ true → IsSome s.log
 

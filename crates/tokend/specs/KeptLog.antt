@@ -16,7 +16,7 @@ use Rattle.tk_edge.specs.declared.edge.Served.{Served}
 use Rattle.tk_edge.specs.declared.tell.Fault.{Fault}
 use Rattle.tokend.specs.Connection.{AreConnections}
 use Rattle.tokend.specs.Loading.{Loads}
-use Rattle.tokend.specs.Starting.{edge_of}
+use Rattle.tokend.specs.Starting.{PrunesOld, edge_of}
 
 -- each fact of the first region is held by the second, or its dot is skipped there
 abbrev pub IsHeldBy : RegionFields → RegionFields → Type 0
@@ -24,13 +24,18 @@ IsHeldBy a b =
     (d : Dot) (body : Body) → sets.get (held_facts a.facts) d ≡ Some body
     → SlotBelow (Some (Held body)) (sets.get b.facts.slots d)
 
--- A region without facts loaded an old log whole, and has served connections over an edge whose log
--- gets the bundles taken in. The edge isn't sealed, and the log, which was empty, has these bytes.
+-- A region without facts loaded an old log whole, was pruned if that was requested, and has served
+-- connections over an edge whose log gets the bundles taken in. The edge isn't sealed, and the log,
+-- which was empty, has these bytes.
 pub record HasLogged (old : List ℕ) (region : RegionFields) (log : List ℕ) : Type 0 where
   pub first : RegionFields
   pub empty : first.facts ≡ empty_store
+  pub full : RegionFields
+  pub loaded : Loads first old (Ok 0) full
+  pub moment : Option ℕ
+  pub count : Option ℕ
   pub start : RegionFields
-  pub loaded : Loads first old (Ok 0) start
+  pub pruned : PrunesOld moment full (Ok count) start
   pub words : ChaCha
   pub faults : Option (List ℕ)
   pub ends : List (Result Served Fault)

@@ -5,7 +5,7 @@
 --   Script        AreEvents, the events of a script; words_at, their random words; IsFirstBad, its
 --                 first bad line
 --   Loading       Loads, what an old log brings to a region
---   Starting      IsStart, the start of a service
+--   Starting      IsStart, the start of a service; PrunesOld, its prune
 --   Serving       Announces, the lines before a service's first connection; IsServiceFault, what
 --                 may prevent it
 --   Connection    IsConnection, what a connection does to an edge, its log and the lines about

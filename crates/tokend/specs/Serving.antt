@@ -1,5 +1,6 @@
 -- What a service prints before its first connection, and what may prevent it (own).
---   announced            the lines of the dropped bytes, if there are any, and of the port
+--   announced            the lines of the dropped bytes, if there are any, of the prune, if there
+--                        was one, and of the port
 --   Announces            the announcement was written
 --   BeginsAnnouncement   a beginning of a service's announcement was written
 --   connection_fault     the line about a connection that ended in a fault
@@ -22,6 +23,7 @@ use Rattle.std.specs.Prelude.{
   None,
   IsSome,
   IfNone,
+  is_some,
   String,
   string_bytes,
   codes,
@@ -43,40 +45,60 @@ use Rattle.tokend.specs.declared.fault.Fault.TheVariants.{
   Memory,
   Output,
 }
+use Rattle.tokend.specs.declared.listen.Opening.{Opening}
 use Rattle.tokend.specs.declared.options.Service.{Service}
 
 -- the line of the port
 abbrev pub listening_line : ℕ → List ℕ
 listening_line port = codes "listening 127.0.0.1:" ++ (decimal port ++ 10 ∷ [])
 
--- the line of the dropped bytes, and the line of the port
-abbrev pub both_lines : ℕ → ℕ → List ℕ
-both_lines dropped port =
-    codes "dropped " ++ (decimal dropped ++ (codes " bytes" ++ 10 ∷ listening_line port))
+-- the line of some dropped bytes
+abbrev pub dropped_bytes : ℕ → List ℕ
+dropped_bytes n = codes "dropped " ++ (decimal n ++ (codes " bytes" ++ 10 ∷ []))
 
--- the announcement: the line of the dropped bytes, if there are any, and the line of the port
-abbrev pub announced : ℕ → ℕ → List ℕ
-announced dropped port = if dropped == 0 then listening_line port else both_lines dropped port
+-- the line of the dropped bytes, if there are any
+abbrev pub dropped_line : ℕ → List ℕ
+dropped_line dropped = if dropped == 0 then [] else dropped_bytes dropped
+
+-- the line of a prune that took some facts
+abbrev pub pruned_facts : ℕ → List ℕ
+pruned_facts n = codes "pruned " ++ (decimal n ++ 10 ∷ [])
+
+-- the line of the prune, if there was one
+abbrev pub pruned_line : Option ℕ → List ℕ
+pruned_line None = []
+pruned_line (Some n) = pruned_facts n
+
+-- the announcement: the lines of the dropped bytes, of the prune, and of the port
+abbrev pub announced : Opening → ℕ → List ℕ
+announced opening port =
+    dropped_line opening.dropped ++ (pruned_line opening.pruned ++ listening_line port)
 
 -- the port is the requested one, or any free one if that is 0
 abbrev pub IsListenedOn : ℕ → ℕ → Type 0
 IsListenedOn asked port = asked ≢ 0 → port ≡ asked
 
--- the announcement of the dropped bytes and of a port was written
-abbrev pub Announces : ℕ → ℕ → Option (List ℕ) → Option (List ℕ) → Type 0
-Announces dropped asked old new =
-    (port : ℕ) × IsListenedOn asked port × Appends old new (announced dropped port)
+-- the announcement of an opening and of a port was written
+abbrev pub Announces : Opening → ℕ → Option (List ℕ) → Option (List ℕ) → Type 0
+Announces opening asked old new =
+    (port : ℕ) × IsListenedOn asked port × Appends old new (announced opening port)
 
--- a beginning of the announcement of the dropped bytes and of a port was written
-abbrev pub BeginsToAnnounce : ℕ → ℕ → Option (List ℕ) → Option (List ℕ) → Type 0
-BeginsToAnnounce dropped asked old new =
-    (port : ℕ) × IsListenedOn asked port × AppendsFront old new (announced dropped port)
+-- a beginning of the announcement of an opening and of a port was written
+abbrev pub BeginsToAnnounce : Opening → ℕ → Option (List ℕ) → Option (List ℕ) → Type 0
+BeginsToAnnounce opening asked old new =
+    (port : ℕ) × IsListenedOn asked port × AppendsFront old new (announced opening port)
+
+-- a beginning of a service's announcement was written, with these dropped bytes; a prune is
+-- announced exactly if one was requested
+abbrev pub BeginsOpening : Service → ℕ → Option (List ℕ) → Option (List ℕ) → Type 0
+BeginsOpening service dropped old new =
+    (pruned : Option ℕ) × (is_some pruned ≡ is_some service.prune)
+    × BeginsToAnnounce (record { dropped = dropped; pruned = pruned }) service.port old new
 
 -- a beginning of a service's announcement was written; no byte is dropped without an old log
 abbrev pub BeginsAnnouncement : Service → Option (List ℕ) → Option (List ℕ) → Type 0
 BeginsAnnouncement service old new =
-    (dropped : ℕ) × IfNone service.load (dropped ≡ 0)
-    × BeginsToAnnounce dropped service.port old new
+    (dropped : ℕ) × IfNone service.load (dropped ≡ 0) × BeginsOpening service dropped old new
 
 -- the line about a connection that ended in a fault
 abbrev pub connection_fault : EdgeFault → List ℕ
@@ -137,9 +159,15 @@ IsServiceFault service fault = IsFileFault service fault
 
 -- the output that failed has a beginning of the announcement; other faults leave the output
 -- unchanged
-abbrev pub LeavesAnnouncement : ℕ → ℕ → Fault → Option (List ℕ) → Option (List ℕ) → Type 0
-LeavesAnnouncement dropped asked fault old new =
-    LeavesBegun (BeginsToAnnounce dropped asked old new) fault old new
+abbrev pub LeavesAnnouncement : Opening → ℕ → Fault → Option (List ℕ) → Option (List ℕ) → Type 0
+LeavesAnnouncement opening asked fault old new =
+    LeavesBegun (BeginsToAnnounce opening asked old new) fault old new
+
+-- the output that failed has a beginning of the service's announcement with these dropped bytes;
+-- other faults leave the output unchanged
+abbrev pub LeavesOpening : Service → ℕ → Fault → Option (List ℕ) → Option (List ℕ) → Type 0
+LeavesOpening service dropped fault old new =
+    LeavesBegun (BeginsOpening service dropped old new) fault old new
 
 -- the output that failed has a beginning of the service's announcement; other faults leave the
 -- output unchanged

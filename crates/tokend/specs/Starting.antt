@@ -5,6 +5,7 @@
 --   IsToldAs      the program's result of loading a log
 --   LoadsFile     what the file of a name brings
 --   LoadsOld      what the old log brings, if there is one
+--   PrunesOld     what a prune takes from the region that was loaded, if one is requested
 use Rattle.std.specs.Prelude.{
   ◌≡◌,
   ◌⊎◌,
@@ -24,6 +25,7 @@ use Rattle.std.specs.Prelude.{
 }
 use Rattle.tk_store.specs.StoreFields.{empty_store}
 use Rattle.rand_chacha.specs.ChaCha.{ChaCha, key_of}
+use Rattle.tk_ledger.specs.Retention.{Prunes}
 use Rattle.tk_region.specs.RegionFields.{RegionFields}
 use Rattle.tk_edge.specs.EdgeFields.{EdgeFields}
 use Rattle.tokend.specs.CommandLine.{settings_of}
@@ -76,3 +78,18 @@ abbrev pub LoadsOld : {A : Type 0} → Option (String A) → RegionFields → Re
     → RegionFields → Type 0
 LoadsOld None old told new = (told ≡ Ok 0) × (new ≡ old)
 LoadsOld (Some name) old told new = LoadsFile (string_bytes name) old told new
+
+-- The region is pruned up to a moment, by which n facts went. Its number and settings are
+-- unchanged.
+pub record PrunesRegion (old : RegionFields) (moment n : ℕ) (new : RegionFields) : Type 0 where
+  pub number : new.number ≡ old.number
+  pub settings : new.settings ≡ old.settings
+  pub facts : Prunes old.facts moment n new.facts
+
+-- the region is pruned up to the moment, if there is one; the result is how many facts went; if
+-- memory runs out, the region is unchanged
+abbrev pub PrunesOld : Option ℕ → RegionFields → Result (Option ℕ) Fault → RegionFields → Type 0
+PrunesOld None old pruned new = (pruned ≡ Ok None) × (new ≡ old)
+PrunesOld (Some moment) old (Ok (Some n)) new = PrunesRegion old moment n new
+PrunesOld (Some moment) old (Ok None) new = ⊥
+PrunesOld (Some moment) old (Err f) new = (f ≡ fault.Memory) × (new ≡ old)

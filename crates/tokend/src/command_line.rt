@@ -20,6 +20,7 @@ use crate::options::Service;
 use clap::builder::ValueParser;
 use clap::{Arg, ArgAction, Command};
 use std::alloc::{AllocError, Global};
+use tk_handle::Moment;
 use tk_world::Settings;
 
 /// The program for clap: with a version, and with three subcommands of which one is required.
@@ -95,7 +96,7 @@ fn serve_command<'a>(alloc: Global) -> Result<Command<'a>, AllocError>
     let serve = Command::new(alloc, "serve").about(
         "Serves requests over HTTP on 127.0.0.1, one connection after the other",
     );
-    let choices: [Choice<'a>; 7] = [
+    let choices: [Choice<'a>; 8] = [
         ("region", Takes::Range(1, Service::GREATEST_REGION, true),
             "The number of the region that is served, 1 to 65535, like no other's and never used again [required]"),
         ("port", Takes::Range(0, Service::GREATEST_PORT, true),
@@ -108,6 +109,8 @@ fn serve_command<'a>(alloc: Global) -> Result<Command<'a>, AllocError>
             "Appends each bundle taken in to the log too, before its reply; requires --log"),
         ("load", Takes::File(false),
             "The log of an earlier run, whose facts are taken in first [default: none]"),
+        ("prune", Takes::Range(0, Moment::GREATEST, false),
+            "Skips all facts of families that are over at this moment, in seconds since 1970, 0 to 253402300799 [default: none]"),
         ("requests", Takes::Range(0, Service::GREATEST_REQUESTS, false),
             "How many connections are served, 0 to 4294967295 [default: without end]"),
     ];

@@ -28,6 +28,7 @@ use std::alloc::{AllocError, Global};
 use std::convert::AsStr;
 use std::rt::Env;
 use std::{env, io};
+use tk_handle::Moment;
 use tk_world::Settings;
 
 /// A task of the program.
@@ -76,6 +77,8 @@ pub struct Service {
     pub log_taken: bool,
     /// The old log to load before the first connection, if any.
     pub load: Option<String>,
+    /// The moment up to which the region is pruned once the old log is loaded, if any.
+    pub prune: Option<u64>,
 }
 
 /// Reads the task of the arguments. The first argument is the program's name.
@@ -293,6 +296,7 @@ fn read_service(alloc: Global, matches: &ArgMatches<'_>) -> Result<Option<Servic
         return Ok(None);
     }
     let load = read_text(alloc, matches, "load")?;
+    let prune = number(matches, "prune", 0, Moment::GREATEST);
     let requests = number(matches, "requests", 0, Service::GREATEST_REQUESTS);
     Ok(Some(Service {
         numbers,
@@ -303,6 +307,7 @@ fn read_service(alloc: Global, matches: &ArgMatches<'_>) -> Result<Option<Servic
         log,
         log_taken,
         load,
+        prune,
     }))
 }
 

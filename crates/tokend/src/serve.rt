@@ -1,17 +1,17 @@
 //! The server: `serve` handles connections one after the other, and writes the log before each
 //! reply.
 
-ghost use Rattle.std.specs.Prelude.{◌≡◌, ℕ, IfErr, OnOk, OnErr, Err};
+ghost use Rattle.std.specs.Prelude.{◌≡◌, ℕ, IfErr, IfSome, OnOk, OnErr, Err};
 ghost use Rattle.std.specs.Io.KnownBytes.{Keeps};
 ghost use Rattle.tk_edge.specs.Failures.{Rose};
-ghost use Rattle.tk_handle.specs.Ranges.{IsRegion};
+ghost use Rattle.tk_handle.specs.Ranges.{IsMoment, IsRegion};
 ghost use Rattle.tk_region.specs.SettingsFields.{IsSettings};
 ghost use Rattle.tokend.specs.Closing.{LooksAndAdds, MaySetAside};
 ghost use Rattle.tokend.specs.CommandLine.{settings_of};
 ghost use Rattle.tokend.specs.Connection.{IsConnection, ServesAll, ServesWithLog, Told};
 ghost use Rattle.tokend.specs.Growing.{Grows};
 ghost use Rattle.tk_put.specs.Put.{Prints};
-ghost use Rattle.tokend.specs.ServiceRun.{HasRun, IsServiceRun};
+ghost use Rattle.tokend.specs.ServiceRun.{HasOpened, HasRun, IsServiceRun};
 ghost use Rattle.tokend.specs.Serving.{
   connection_fault,
   Announces,
@@ -19,16 +19,17 @@ ghost use Rattle.tokend.specs.Serving.{
   IsServiceFault,
   IsStartFault,
   LeavesAnnouncement,
+  LeavesOpening,
   LeavesService,
 };
 
 use crate::closing::{ClosingStream, close, look_at_closing, set_aside, wait_for_all};
 use crate::draw::draw;
 use crate::fault::Fault;
-use crate::listen::listen;
+use crate::listen::{Opening, listen};
 use crate::log_file::open_log;
 use crate::options::Service;
-use crate::start::{Start, begin, load_old};
+use crate::start::{Start, begin, load_old, prune_old};
 use crate::timed::{TimedSink, TimedSource, millis};
 use rand_chacha::ChaCha20Rng;
 use std::alloc::Global;
@@ -55,6 +56,7 @@ where
     R: AllocGlobal + Files + Clock + Net<Listener = TcpListener, Stream = TcpStream>,
     requires settings { IsSettings (settings_of service.now.numbers) }
     requires region { IsRegion service.now.region }
+    requires prune { IfSome service.now.prune IsMoment }
     ensures done { OnOk result
         (IsServiceRun service.now
         (record { before = O.contents output.old; after = O.contents output.new })
@@ -84,6 +86,7 @@ fn load_and_serve<R, O: Write, E: Write>(
 ) -> Result<(), Fault>
 where
     R: AllocGlobal + Files + Clock + Net<Listener = TcpListener, Stream = TcpStream>,
+    requires { IfSome service.now.prune IsMoment }
     ensures done { OnOk result (HasRun service.now start.old.edge start.old.words
         (record { before = O.contents output.old; after = O.contents output.new })
         (record { before = E.contents faults.old; after = E.contents faults.new })) }
@@ -93,14 +96,14 @@ where
     ensures silent { OnErr result (Keeps (E.contents faults.old) (E.contents faults.new)) }
 {
     match load_old(rt, start.edge.region_mut(), &service.load) {
-        Ok(dropped) => log_and_serve(rt, service, dropped, start, output, faults),
+        Ok(dropped) => prune_and_serve(rt, service, dropped, start, output, faults),
         Err(fault) => Err(fault),
     }
 }
 
-// Opens the new log, if there is one, and serves. `dropped` is how many bytes of the old log were
+// Prunes the region, if requested, and serves. `dropped` is how many bytes of the old log were
 // dropped.
-fn log_and_serve<R, O: Write, E: Write>(
+fn prune_and_serve<R, O: Write, E: Write>(
     rt: &R,
     service: &Service,
     dropped: u64,
@@ -110,22 +113,53 @@ fn log_and_serve<R, O: Write, E: Write>(
 ) -> Result<(), Fault>
 where
     R: AllocGlobal + Files + Clock + Net<Listener = TcpListener, Stream = TcpStream>,
+    requires { IfSome service.now.prune IsMoment }
     ensures done { OnOk result
-        (Announces dropped service.now.port (O.contents output.old) (O.contents output.new)) }
+        (HasOpened service.now dropped start.old.edge start.old.words
+        (record { before = O.contents output.old; after = O.contents output.new })
+        (record { before = E.contents faults.old; after = E.contents faults.new })) }
+    ensures fault { IfErr result (IsStartFault service.now) }
+    ensures left { IfErr result
+        (λ fault. LeavesOpening service.now dropped fault (O.contents output.old)
+        (O.contents output.new)) }
+    ensures silent { OnErr result (Keeps (E.contents faults.old) (E.contents faults.new)) }
+{
+    match prune_old(rt.alloc(), start.edge.region_mut(), service.prune) {
+        Ok(pruned) => {
+            let opening = Opening { dropped, pruned };
+            log_and_serve(rt, service, opening, start, output, faults)
+        }
+        Err(fault) => Err(fault),
+    }
+}
+
+// Opens the new log, if there is one, and serves.
+fn log_and_serve<R, O: Write, E: Write>(
+    rt: &R,
+    service: &Service,
+    opening: Opening,
+    start: &mut Start,
+    output: &mut O,
+    faults: &mut E,
+) -> Result<(), Fault>
+where
+    R: AllocGlobal + Files + Clock + Net<Listener = TcpListener, Stream = TcpStream>,
+    ensures done { OnOk result
+        (Announces opening service.now.port (O.contents output.old) (O.contents output.new)) }
     ensures served { OnOk result
         (ServesWithLog start.old.words service.now.requests service.now.log_taken start.old.edge
         (E.contents faults.old) start.new.edge (E.contents faults.new)) }
     ensures fault { IfErr result (IsStartFault service.now) }
     ensures left { IfErr result
-        (λ fault. LeavesAnnouncement dropped service.now.port fault (O.contents output.old)
+        (λ fault. LeavesAnnouncement opening service.now.port fault (O.contents output.old)
         (O.contents output.new)) }
     ensures silent { OnErr result (Keeps (E.contents faults.old) (E.contents faults.new)) }
 {
     let Some(path) = &service.log else {
-        return announce_and_serve(rt, service, dropped, start, &mut Discard, output, faults);
+        return announce_and_serve(rt, service, opening, start, &mut Discard, output, faults);
     };
     match open_log(rt, path) {
-        Ok(mut log) => announce_and_serve(rt, service, dropped, start, &mut log, output, faults),
+        Ok(mut log) => announce_and_serve(rt, service, opening, start, &mut log, output, faults),
         Err(fault) => Err(fault),
     }
 }
@@ -134,7 +168,7 @@ where
 fn announce_and_serve<R, L: Sink, O: Write, E: Write>(
     rt: &R,
     service: &Service,
-    dropped: u64,
+    opening: Opening,
     start: &mut Start,
     log: &mut L,
     output: &mut O,
@@ -143,18 +177,18 @@ fn announce_and_serve<R, L: Sink, O: Write, E: Write>(
 where
     R: AllocGlobal + Clock + Net<Listener = TcpListener, Stream = TcpStream>,
     ensures done { OnOk result
-        (Announces dropped service.now.port (O.contents output.old) (O.contents output.new)) }
+        (Announces opening service.now.port (O.contents output.old) (O.contents output.new)) }
     ensures served { OnOk result
         (ServesAll start.old.words service.now.requests service.now.log_taken
         (record { edge = start.old.edge; log = L.holds log.old; faults = E.contents faults.old })
         (record { edge = start.new.edge; log = L.holds log.new; faults = E.contents faults.new })) }
     ensures fault { IfErr result IsListenFault }
     ensures left { IfErr result
-        (λ fault. LeavesAnnouncement dropped service.now.port fault (O.contents output.old)
+        (λ fault. LeavesAnnouncement opening service.now.port fault (O.contents output.old)
         (O.contents output.new)) }
     ensures silent { OnErr result (Keeps (E.contents faults.old) (E.contents faults.new)) }
 {
-    match listen(rt, service.port, dropped, output) {
+    match listen(rt, service.port, opening, output) {
         Ok(listener) => {
             let Start { edge, words } = start;
             let (requests, log_taken) = (service.requests, service.log_taken);

@@ -1,11 +1,13 @@
-//! The start of a service: `begin` reads its seed, and `load_old` loads its old log.
+//! The start of a service: `begin` reads its seed, `load_old` loads its old log, and `prune_old`
+//! prunes what was loaded.
 
-ghost use Rattle.std.specs.Prelude.{IfOk, IfErr, string_bytes};
-ghost use Rattle.tk_handle.specs.Ranges.{IsRegion};
+ghost use Rattle.std.specs.Prelude.{◌≡◌, IfOk, IfErr, IfSome, is_some, string_bytes};
+ghost use Rattle.tk_handle.specs.Ranges.{IsMoment, IsRegion};
 ghost use Rattle.tk_region.specs.SettingsFields.{IsSettings};
 ghost use Rattle.tokend.specs.CommandLine.{settings_of};
 ghost use Rattle.tokend.specs.Serving.{IsSeedFault};
-ghost use Rattle.tokend.specs.Starting.{IsStart, IsToldAs, LoadsFile, LoadsOld};
+ghost use Rattle.tokend.specs.Starting.{IsStart, IsToldAs, LoadsFile, LoadsOld, PrunesOld};
+ghost use Rattle.tokend.specs.declared.fault.Fault.TheVariants as fault;
 
 use crate::draw::generator;
 use crate::fault::{Fault, cannot_read};
@@ -17,7 +19,7 @@ use std::fs::OpenOptions;
 use std::io::{self, Read};
 use std::rt::Files;
 use tk_edge::Edge;
-use tk_handle::RegionNumber;
+use tk_handle::{Moment, RegionNumber};
 use tk_region::Region;
 
 /// A region at the start of its service, with its random words.
@@ -56,6 +58,28 @@ pub(crate) fn load_old<R: AllocGlobal + Files>(
     match load {
         Some(path) => load_file(rt, region, path),
         None => Ok(0),
+    }
+}
+
+/// Prunes the region up to this moment, if any, and returns how many facts went.
+///
+/// If memory runs out, the region is unchanged.
+pub(crate) fn prune_old(
+    alloc: Global,
+    region: &mut Region,
+    prune: Option<u64>,
+) -> Result<Option<u64>, Fault>
+    requires { IfSome prune IsMoment }
+    ensures prunes { PrunesOld prune region.old result region.new }
+    ensures asked { IfOk result (λ pruned. is_some pruned ≡ is_some prune) }
+    ensures fault { IfErr result (λ f. f ≡ fault.Memory) }
+{
+    let Some(seconds) = prune else {
+        return Ok(None);
+    };
+    match region.prune(alloc, Moment::new(seconds).unwrap()) {
+        Ok(count) => Ok(Some(count)),
+        Err(_) => Err(Fault::Memory),
     }
 }
 

@@ -13,6 +13,8 @@ returns-clause-service c = record {
   seed = search rules;
   log = search rules;
   load = search rules;
+  prune = search rules;
+  unpruned = search rules;
   log_taken = search rules;
   logged = search rules;
 }

@@ -8,7 +8,7 @@ pub returns-in-Ok-clause-done : goal.returns-in-Ok-clause-done
 returns-in-Ok-clause-done g c =
     let service = c.args.service.now in
     let loaded = subst (λ (r : RegionFields). LoadsOld service.load r (Ok c.in-Ok.dropped) c.load_old.new.region) c.region_mut.ensures.value c.in-Ok.ensures in
-    has_run service c.args.start.now.edge c.args.start.now.words c.in-Ok.dropped c.load_old.new.region c.log_and_serve.new.start.edge
-    (record { before = g.O.Write.contents c.args.output.now; after = g.O.Write.contents c.log_and_serve.new.output })
-    (record { before = g.E.Write.contents c.args.faults.now; after = g.E.Write.contents c.log_and_serve.new.faults })
-    c.log_and_serve.result loaded c.log_and_serve.ensures.done c.log_and_serve.ensures.served
+    has_run service c.args.start.now.edge c.args.start.now.words c.in-Ok.dropped c.load_old.new.region
+    (record { before = g.O.Write.contents c.args.output.now; after = g.O.Write.contents c.prune_and_serve.new.output })
+    (record { before = g.E.Write.contents c.args.faults.now; after = g.E.Write.contents c.prune_and_serve.new.faults })
+    c.prune_and_serve.result loaded c.prune_and_serve.ensures.done
