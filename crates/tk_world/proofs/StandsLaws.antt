@@ -357,7 +357,7 @@ pull_step_for w r v after o new act U s S = absurd act
 
 -- the items of a bundle, or the first of them, are in
 record TakenFor (w : WorldFields) (U : FactSet) (s : State) (r : ℕ) (k : Kept) (Q : StoreFields) (moment : Option ℕ) (seen : Facts) : Type 0 where
-  grows : Grows s r k moment seen (with_region s r (record { facts = with_facts k.facts seen; horizon = raised_to k.horizon moment }))
+  joins : JoinsFacts k.facts seen (with_facts k.facts seen)
   stands_now : StandsFor Q U (with_facts k.facts seen)
   stays : WorldStands (with_store w r Q) U (with_region s r (record { facts = with_facts k.facts seen; horizon = raised_to k.horizon moment }))
 
@@ -369,7 +369,7 @@ taken_for w U s S r P Q x horizon moment is seen taken same stands all =
     let now : StandsFor Q U (with_facts F seen) = subst (λ (R : StoreFields). StandsFor R U (with_facts F seen)) (sym taken) stands in
     let j : Kept = record { facts = with_facts F seen; horizon = raised_to x.k.horizon moment } in
     record {
-      grows = record { is_open = x.at; grown = with_facts F seen; joins = joins_with_facts U F seen within all; changes = refl };
+      joins = joins_with_facts U F seen within all;
       stands_now = now;
       stays = stands_put w U U s r Q j S (subset_itself U) (consists_kept s U r x.k j S.consists x.at (subset_with_facts F U seen within all) (keeps_with_facts F U seen within all)) S.sound now
           (raised_horizon P x.k.horizon horizon moment x.horizon same ∙ ap (λ (R : StoreFields). R.horizon) (sym taken));
@@ -394,7 +394,14 @@ deliver_step_for way w i r (Took n) new act U s S =
       seen = c.0.facts;
       made = U;
       after = with_region s r (record { facts = with_facts x.k.facts c.0.facts; horizon = raised_to x.k.horizon c.0.horizon });
-      step = (x.k, c.0, c.1, refl, t.grows, omega (arith, fewer, more, count));
+      step = (
+        x.k,
+        c.0,
+        c.1,
+        refl,
+        record { is_open = x.at; grown = with_facts x.k.facts c.0.facts; joins = t.joins; changes = refl },
+        omega (arith, fewer, more, count),
+      );
       stands = unchanged_stands _ new U _ act.2.changes t.stays;
     }
 deliver_step_for way w i r Memory new act U s S =
@@ -405,12 +412,12 @@ deliver_step_for way w i r Memory new act U s S =
     let all = (S.consists.carried i c.0 c.1).0 in
     elim act.5 [
       | inl same ↦ record {
-          seen = [];
-          made = U;
-          after = s;
-          step = inl (ap is_some x.at, (refl, refl));
-          stands = unchanged_stands w new U s (act.2.changes ∙ ap (with_store w r) same ∙ put_back w r P act.2.is_open) S;
-        }
+        seen = [];
+        made = U;
+        after = s;
+        step = inl (ap is_some x.at, (refl, refl));
+        stands = unchanged_stands w new U s (act.2.changes ∙ ap (with_store w r) same ∙ put_back w r P act.2.is_open) S;
+      }
       | inr part ↦
           let t = taken_for w U s S r P Q x act.3.horizon c.0.horizon (take part.0 act.3.items) (take part.0 c.0.facts) part.1 c.2.horizon
           (items_stand P U x.k.facts act.3.horizon (take part.0 act.3.items) (take part.0 c.0.facts) (items_part U act.3.horizon part.0 act.3.items c.0.facts c.2.items) (AllIn-take U part.0 c.0.facts all) x.stands) (AllIn-take U part.0 c.0.facts all) in
@@ -418,7 +425,14 @@ deliver_step_for way w i r Memory new act U s S =
             seen = take part.0 c.0.facts;
             made = U;
             after = with_region s r (record { facts = with_facts x.k.facts (take part.0 c.0.facts); horizon = raised_to x.k.horizon c.0.horizon });
-            step = inr (x.k, c.0, c.1, part.0, refl, t.grows);
+            step = inr (
+              x.k,
+              c.0,
+              c.1,
+              part.0,
+              refl,
+              record { is_open = x.at; grown = with_facts x.k.facts (take part.0 c.0.facts); joins = t.joins; changes = refl },
+            );
             stands = unchanged_stands _ new U _ act.2.changes t.stays;
           }
     ]
@@ -511,14 +525,17 @@ module _ (w : WorldFields) (standing : IsStanding w) (r : ℕ) (P : StoreFields)
 
 -- ---- worlds
 
+abbrev no_kept : map.FinMap nat_cmp Kept
+no_kept = map.empty
+
 -- a world without regions and bundles
 pub new_stands : (settings : SettingsFields) → settings.cap ≤ greatest_cap → WorldStands (new_world settings) map.empty (new_state settings)
 new_stands settings low = record {
   settings = refl;
   consists = new_consists settings low;
   sound = record { ends = λ k m c code other minted under issues. absurd (nothing_minted k m minted); names = λ d k u. absurd (nothing_used d k u) };
-  regions = λ r. subst (λ (o : Option StoreFields). RegionFor map.empty o (map.get map.empty r)) (sym (map.get-empty nat_cmp r))
-      (subst (λ (o : Option Kept). RegionFor map.empty None o) (sym (map.get-empty nat_cmp r)) tt);
+  regions = λ r. subst (λ (o : Option StoreFields). RegionFor no_facts o (map.get no_kept r)) (sym (map.get-empty nat_cmp r))
+      (subst (λ (o : Option Kept). RegionFor no_facts None o) (sym (map.get-empty nat_cmp r)) tt);
   bundles = tt;
 }
   where
