@@ -196,7 +196,7 @@ class Installed(unittest.TestCase):
             with open(os.path.join(folder, name), encoding="utf-8") as file:
                 lines = [it for it in file.read().splitlines()
                          if it.startswith(tuple(keys.split()))]
-            path = self.path(os.path.join(UNITS, name.replace(".service", "@.service")))
+            path = self.path(os.path.join(UNITS, re.sub("@?[.]", "@.", name)))
             if not os.path.exists(path):
                 path = self.path(os.path.join(UNITS, name))
             text = self.read(path)
