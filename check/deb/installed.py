@@ -95,6 +95,13 @@ class Installed(unittest.TestCase):
     def has_client(self, port, client):
         return ask(port, "GET", "/admin/client?client_id=" + client)[0] == 200
 
+    def metrics(self):
+        """What tokend-metrics@one writes."""
+        status, said = self.unit("tokend-metrics").run(
+            RUN_DIRECTORY=self.path("run"), SITE_DIRECTORY=self.path("var/lib/tokend/one"))
+        self.assertEqual((status, said), (0, ""))
+        return self.read("run/tokend-metrics/one.prom")
+
     def test_a_file_of_four_lines_is_a_running_region(self):
         self.install()
         port = self.configure()
@@ -115,7 +122,7 @@ class Installed(unittest.TestCase):
         self.assertEqual(len(re.findall("(?m)^tokend:", self.read("etc/passwd"))), 1)
         self.assertRegex(self.read("etc/passwd"), "(?m)^tokend:.*:/usr/sbin/nologin$")
 
-    def test_carry_and_backup(self):
+    def test_carry_backup_and_metrics(self):
         self.install()
         two, one = self.configure("two", 101), self.configure()
         one = self.configure("one", 1, one, "http://127.0.0.1:%d" % two)
@@ -125,6 +132,11 @@ class Installed(unittest.TestCase):
         status, said = self.unit("tokend-carry").run()
         self.assertEqual(status, 0, said)
         self.assertTrue(self.has_client(two, client))
+        last = 'carry_timestamp_seconds{site="one",carrier="one"} '
+        self.assertIn(last + "0\n", self.metrics())
+        self.assertEqual(self.unit("tokend-carry").run("ExecStartPost"), (0, ""))
+        self.assertRegex(self.metrics(), last + r"\d+[.]")
+        self.assertIn('tokend_facts{site="one",made_by="own"} 1\n', self.metrics())
         status, said = self.unit("tokend-backup").run()
         self.assertEqual(status, 0, said)
         self.assertIn(": 1 facts in ", said)

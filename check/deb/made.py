@@ -72,7 +72,7 @@ class Made(unittest.TestCase):
 
     def test_what_is_inside(self):
         found = self.listed(package("0.1.0"))
-        units = "tokend tokend-carry tokend-backup tokend-compact".split()
+        units = "tokend tokend-carry tokend-backup tokend-compact tokend-metrics".split()
         for name in ("/usr/bin/tokend", "/usr/bin/tokend-start", "/usr/lib/tokend/tokend-start",
                      "/usr/lib/tokend/starting/site.py", "/usr/lib/tokend/carry",
                      "/usr/lib/tokend/backup", "/usr/lib/tokend/servers.py", "/etc/tokend/",
