@@ -82,6 +82,8 @@ class Made(unittest.TestCase):
                      "/usr/share/doc/tokend/examples/site.conf",
                      "/usr/share/doc/tokend/examples/front-end/nginx.conf",
                      "/usr/share/doc/tokend/copyright", "/usr/share/doc/tokend/changelog.gz",
+                     "/usr/lib/tokend/await-clock", "/usr/lib/tokend/metrics",
+                     "/lib/systemd/system/tokend-clock.service",
                      *("/lib/systemd/system/%s@.service" % it for it in units),
                      *("/lib/systemd/system/%s@.timer" % it for it in units[1:])):
             self.assertIn(name, found)

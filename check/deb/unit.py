@@ -66,9 +66,14 @@ class Unit:
         """Begins one of its lines."""
         environ = self.environ(**more)
         line = words(self.settings[name][number].lstrip("-+!"), environ)
-        return subprocess.Popen([self.below(line[0]), *line[1:]], env=environ, text=True,
-                                stdin=subprocess.DEVNULL, stdout=subprocess.PIPE,
-                                stderr=subprocess.STDOUT, umask=0o077)
+        return self.begin([self.below(line[0]), *line[1:]], env=environ)
+
+    @staticmethod
+    def begin(line, **options):
+        """Begins a command as a unit's, with both outputs in one."""
+        return subprocess.Popen(line, text=True, stdin=subprocess.DEVNULL,
+                                stdout=subprocess.PIPE, stderr=subprocess.STDOUT, umask=0o077,
+                                **options)
 
     def run(self, name="ExecStart", number=0, **more):
         """Status and output of a line. A timer's or a oneshot's line ends by itself."""
