@@ -62,18 +62,19 @@ class Unit:
                 os.makedirs(it[kind.upper() + "_DIRECTORY"], exist_ok=True)
         return it | more
 
-    def start(self, name="ExecStart", number=0, **more):
+    def start(self, name="ExecStart", number=0, stdout=subprocess.PIPE, start_new_session=False,
+              **more):
         """Begins one of its lines."""
         environ = self.environ(**more)
         line = words(self.settings[name][number].lstrip("-+!"), environ)
-        return self.begin([self.below(line[0]), *line[1:]], env=environ)
+        return self.begin([self.below(line[0]), *line[1:]], env=environ, stdout=stdout,
+                          start_new_session=start_new_session)
 
     @staticmethod
     def begin(line, **options):
         """Begins a command as a unit's, with both outputs in one."""
-        return subprocess.Popen(line, text=True, stdin=subprocess.DEVNULL,
-                                stdout=subprocess.PIPE, stderr=subprocess.STDOUT, umask=0o077,
-                                **options)
+        return subprocess.Popen(line, text=True, stdin=subprocess.DEVNULL, umask=0o077, **{
+            "stdout": subprocess.PIPE, "stderr": subprocess.STDOUT} | options)
 
     def run(self, name="ExecStart", number=0, **more):
         """Status and output of a line. A timer's or a oneshot's line ends by itself."""
