@@ -14,11 +14,12 @@ UNWANTED = r"want of memory|memory is at hand|so many bytes|the six words|wrong 
 
 
 def everything():
-    """The documents and the pages of the examples."""
+    """The documents, and the pages of examples and packaging."""
     found = documents()
-    for folder, _, names in os.walk(os.path.join(ROOT, "examples")):
-        place = os.path.relpath(folder, ROOT)
-        found += [os.path.join(place, n) for n in names if n.endswith(".md")]
+    for top in "examples", "packaging":
+        for folder, _, names in os.walk(os.path.join(ROOT, top)):
+            place = os.path.relpath(folder, ROOT)
+            found += [os.path.join(place, n) for n in names if n.endswith(".md")]
     return sorted(found)
 
 
