@@ -12,7 +12,7 @@ use Rattle.tk_world.specs.WorldStands.{WorldStands}
 use Rattle.tk_world.specs.declared.event.Event.{Event}
 use Rattle.tk_world.specs.declared.event.Outcome.{Outcome}
 use Rattle.tk_world.proofs.RunLaws.{run_joins, run_alike}
-use Rattle.tk_world.proofs.StandsLaws.{StepFor, step_for}
+use Rattle.tk_world.proofs.StepStands.{StepFor, step_for}
 
 -- the run of the state for which a world stands
 record RunFor (way : Way) (s : State) (es : List Event) (os : List Outcome) (new : WorldFields) : Type 0 where

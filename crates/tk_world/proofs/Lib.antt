@@ -11,5 +11,7 @@ pub mod PromiseLaws
 pub mod Putting
 pub mod RegionLaws
 pub mod RequestLaws
+pub mod RequestStands
 pub mod RunLaws
 pub mod StandsLaws
+pub mod StepStands

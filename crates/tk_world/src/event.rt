@@ -53,8 +53,8 @@ pub enum Outcome {
         status: Status,
         bytes: Vec<u8>,
     },
-    /// The bundle made: its number, how many items it has, facts and marks, the dot of the last one,
-    /// and whether more follow.
+    /// The bundle made: its number, how many items it has, facts and marks, the dot of the last
+    /// one, and whether more follow.
     Bundle {
         index: u64,
         count: u16,
@@ -65,7 +65,7 @@ pub enum Outcome {
     Took(u16),
     /// How many facts were skipped.
     Pruned(u64),
-    /// Memory ran out. Nothing changed, except that a delivery may have raised the horizon and added
-    /// the first items of its bundle.
+    /// Memory ran out. Nothing changed, except that a delivery may have raised the horizon and
+    /// added the first items of its bundle.
     Memory,
 }

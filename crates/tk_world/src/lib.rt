@@ -17,9 +17,9 @@
 //! - `print`: the lines of outcomes. `reply_parts` finds what they show of a reply.
 //!
 //! tk_put writes the lines, tk_edge replies to the bytes of a request, and tk_region takes a bundle
-//! in. The definitions are in `specs/`: `Acts` has what events do to the regions' stores, `State` and
-//! `World` have steps and runs over all facts, and `WorldStands` ties the two. The crate reads no
-//! clock and draws no random words: each event brings them.
+//! in. The definitions are in `specs/`: `Acts` has what events do to the regions' stores, `State`
+//! and `World` have steps and runs over all facts, and `WorldStands` ties the two. The crate reads
+//! no clock and draws no random words: each event brings them.
 #![tactic(auto)]
 
 mod bundle;

@@ -6,7 +6,7 @@ use Rattle.tk_region.specs.Taking.{has_unmade}
 use Rattle.tk_world.specs.Acts.{DeliversAt}
 use Rattle.tk_world.specs.WorldStands.{IsStanding}
 use Rattle.tk_world.proofs.PartLaws.{world, absent_at, held_at, region_is, sorted_after, settings_after, world_after, found_at, deliver_act, taken_number, ended}
-use Rattle.tk_world.proofs.StandsLaws.{deliver_standing, bundle_agrees, bundle_made}
+use Rattle.tk_world.proofs.StepStands.{deliver_standing, bundle_agrees, bundle_made}
 use Rattle.tk_world.proofs.world.World.deliver.Goals as goal
 
 pub returns-in-Err : goal.returns-in-Err

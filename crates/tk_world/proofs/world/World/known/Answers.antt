@@ -2,7 +2,7 @@ use Rattle.std.proofs.Common.{subst}
 use Rattle.tk_world.specs.WorldFields.{store_in}
 use Rattle.tk_world.specs.WorldStands.{IsStanding}
 use Rattle.tk_world.proofs.PromiseLaws.{revoked_inactive, families_inactive}
-use Rattle.tk_world.proofs.StandsLaws.{answers_for}
+use Rattle.tk_world.proofs.RequestStands.{answers_for}
 use Rattle.tk_world.proofs.world.World.known.Goals as goal
 
 pub returns-clause-stands : goal.returns-clause-stands

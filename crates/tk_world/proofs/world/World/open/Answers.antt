@@ -5,7 +5,7 @@ use Rattle.tk_world.specs.Acts.{OpensAt}
 use Rattle.tk_world.specs.Carrying.{in_place}
 use Rattle.tk_world.specs.declared.event.Event.TheVariants.{Open}
 use Rattle.tk_world.proofs.PartLaws.{world, open_act, sorted_new, settings_new, found_at, ended}
-use Rattle.tk_world.proofs.StandsLaws.{step_standing}
+use Rattle.tk_world.proofs.StepStands.{step_standing}
 use Rattle.tk_world.proofs.world.World.open.Goals as goal
 
 pub returns-in-Ok : goal.returns-in-Ok

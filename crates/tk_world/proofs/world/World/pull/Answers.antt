@@ -4,7 +4,7 @@ use Rattle.tk_world.specs.Acts.{PullsAt}
 use Rattle.tk_world.specs.Carrying.{in_place}
 use Rattle.tk_world.specs.declared.event.Event.TheVariants as event
 use Rattle.tk_world.proofs.PartLaws.{world, absent_at, held_at, pull_act, ended}
-use Rattle.tk_world.proofs.StandsLaws.{pull_standing}
+use Rattle.tk_world.proofs.StepStands.{pull_standing}
 use Rattle.tk_world.proofs.world.World.pull.Goals as goal
 
 pub returns-in-Err : goal.returns-in-Err

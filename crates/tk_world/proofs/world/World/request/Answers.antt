@@ -4,7 +4,7 @@ use Rattle.tk_world.specs.AskedFields.{AskedFields}
 use Rattle.tk_world.specs.Broken.{Requests}
 use Rattle.tk_world.specs.WorldStands.{IsStanding}
 use Rattle.tk_world.proofs.PartLaws.{world, absent_at, held_at, region_is, sorted_after, settings_after, world_after, request_act, carried_number, ended}
-use Rattle.tk_world.proofs.StandsLaws.{request_standing}
+use Rattle.tk_world.proofs.RequestStands.{request_standing}
 use Rattle.tk_world.proofs.world.World.request.Goals as goal
 
 pub returns-in-Err : goal.returns-in-Err
