@@ -125,8 +125,8 @@ pub fn an_error_changes_nothing(
 /// A log that gets the bundles taken in keeps all that its region holds.
 ///
 /// A region without facts loads an old log whole, is pruned or not, and serves connections over an
-/// edge whose log gets the bundles taken in. A region that has loaded the old log, and behind it that
-/// log as it is after any connection, holds every fact that the first region held then, or has
+/// edge whose log gets the bundles taken in. A region that has loaded the old log, and behind it
+/// that log as it is after any connection, holds every fact that the first region held then, or has
 /// skipped it by a mark. That the load isn't refused is a premise. The promise leaves out an edge
 /// that is sealed, since its log has failed, and claims nothing of disks.
 pub fn a_log_of_bundles_keeps_all()
