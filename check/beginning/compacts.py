@@ -128,6 +128,10 @@ def compact_is_refused(room):
     room.write("fail", b"#!/bin/sh\necho 'tokend: memory' >&2\nexit 1\n", 0o700)
     done = compacted(room, TOKEND=room.path("fail"))
     wanted(done.ended() == 1 and "memory" in done.errors(), "the cause isn't named", done.errors())
+    with open(room.path("site/compact.lock"), "wb") as file:
+        fcntl.flock(file, fcntl.LOCK_EX)
+        done = compacted(room)
+        wanted(done.ended() == 1 and "another" in done.errors(), "two run at once", done.errors())
     room.write("site/history/bad.otb", b"nothing of this kind")
     done = compacted(room)
     wanted(done.ended() == 1 and "bad.otb" in done.errors(), "not named", done.errors())

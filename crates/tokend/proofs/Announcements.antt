@@ -1,7 +1,7 @@
 -- The lines before a service's first connection, one after the other. Key results:
 --   prints_then      a text was printed, and then another
 --   prints_less      a text was begun, and another was to follow
-use Rattle.std.proofs.Common.{◌≡◌, ℕ, List, [], ◌++◌, Option, Some, None, Result, Ok, Err, refl, sym, ◌∙◌, append-nil, append_assoc, ap}
+use Rattle.std.proofs.Common.{ℕ, List, ◌++◌, Option, Result, Ok, Err, sym, ◌∙◌, append_assoc, ap}
 use Rattle.std.proofs.KnownBytes.{Appends-trans}
 use Rattle.std.specs.Io.KnownBytes.{Appends}
 use Rattle.tk_put.specs.Put.{AppendsFront, Prints}

@@ -3,7 +3,7 @@
 --   unread         a connection that wasn't read changes nothing
 --   behind         the generator after the words of connections
 --   HasServed      a number of connections were served, one after the other
-use Rattle.std.proofs.Common.{◌≡◌, ℕ, Bool, true, false, List, [], ◌∷◌, ◌++◌, take, Option, Some, None, Result, Ok, Err, inl, inr, refl, sym, ap, subst, ◌∙◌, ◌+◌, length}
+use Rattle.std.proofs.Common.{◌≡◌, ℕ, Bool, true, false, List, [], ◌∷◌, ◌++◌, Option, Some, None, Result, Ok, Err, inl, inr, refl, sym, ap, subst, ◌∙◌, ◌+◌, length}
 use Rattle.std.proofs.KnownBytes.{Keeps-refl}
 use Rattle.std.proofs.lemmas.List.{length-append}
 use Rattle.rand_chacha.specs.ChaCha.{ChaCha}
@@ -12,7 +12,6 @@ use Rattle.tk_region.specs.declared.take.TakeError.{TakeError}
 use Rattle.tk_edge.specs.Answers.{fact_by}
 use Rattle.tk_edge.specs.Arrivals.{Answers, IsShort}
 use Rattle.tk_edge.specs.EdgeFields.{EdgeFields}
-use Rattle.tk_edge.specs.Exchanges.{TakesBundle}
 use Rattle.tk_edge.specs.Pushes.{LogsAndTells, TakesAndLogs, bundle_to_log}
 use Rattle.tk_edge.specs.Served.{Asked, IsServed, RepliesTo, RunsOut, Step, WritesNothing}
 use Rattle.tk_edge.specs.Told.{AnswerFields, Change, UsesLog}

@@ -9,7 +9,7 @@ use Rattle.tk_format.specs.Format.{whole}
 use Rattle.tk_handle.specs.declared.dot.Dot.{Dot}
 use Rattle.tk_fact.specs.declared.body.Body.{Body}
 use Rattle.tk_store.specs.SlotOrder.{SlotBelow, SlotsBelow, StoreBelow}
-use Rattle.tk_store.specs.Slots.{Slots, Held}
+use Rattle.tk_store.specs.Slots.{Held}
 use Rattle.tk_store.specs.StoreFields.{StoreFields, with_fact}
 use Rattle.tk_store.proofs.FitLaws.{fit_below, fit_first}
 use Rattle.tk_store.proofs.PutLaws.{by_dot}

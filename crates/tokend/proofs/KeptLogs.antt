@@ -16,8 +16,7 @@ use Rattle.tk_store.specs.SlotJoining.{AllBelow}
 use Rattle.tk_store.specs.SlotOrder.{SlotBelow, SlotsBelow}
 use Rattle.tk_store.specs.Slots.{Slot, Slots, Held, Skipped, held_slot, with_slots}
 use Rattle.tk_store.specs.StoreFields.{StoreFields, held_facts, empty_store, with_fact}
-use Rattle.tk_store.specs.WholeStores.{as_slot}
-use Rattle.tk_store.proofs.FitLaws.{fit_below, fit_first}
+use Rattle.tk_store.proofs.FitLaws.{fit_below}
 use Rattle.tk_store.proofs.PutLaws.{by_dot}
 use Rattle.tk_store.proofs.SlotLaws.{get_held}
 use Rattle.tk_store.proofs.SlotOrderLaws.{slots_itself, slots_trans}
@@ -42,8 +41,8 @@ use Rattle.tk_edge.specs.Answers.{IsRecorded, answer_by, fact_by}
 use Rattle.tk_edge.specs.Arrivals.{Answers}
 use Rattle.tk_edge.specs.EdgeFields.{EdgeFields}
 use Rattle.tk_edge.specs.Exchanges.{TakesBundle}
-use Rattle.tk_edge.specs.Pushes.{IsBundle, IsNews, TakesAndLogs, bundle_to_log, is_news, logged_of}
-use Rattle.tk_edge.specs.Served.{Asked, IsServed, RepliesTo, RunsOut, WritesNothing}
+use Rattle.tk_edge.specs.Pushes.{IsNews, bundle_to_log, is_news, logged_of}
+use Rattle.tk_edge.specs.Served.{Asked, IsServed, RepliesTo, RunsOut}
 use Rattle.tk_edge.specs.Told.{AnswerFields, Change, record_in}
 use Rattle.tk_edge.specs.declared.edge.Served.{Served}
 use Rattle.tk_edge.specs.declared.edge.Served.TheVariants.{Nothing, Done}
@@ -52,13 +51,13 @@ use Rattle.tk_edge.specs.declared.hear.Arrival.{Arrival}
 use Rattle.tk_edge.specs.declared.hear.Arrival.TheVariants.{Silence, Refused, Request, Exchange}
 use Rattle.tk_edge.specs.declared.tell.Fault.{Fault}
 use Rattle.tk_edge.specs.declared.tell.Fault.TheVariants.{Read, Write, Log, Memory}
-use Rattle.tokend.specs.Connection.{AreConnections, IsConnection, Running, Serves, unknown}
+use Rattle.tokend.specs.Connection.{AreConnections, IsConnection, Running, unknown}
 use Rattle.tokend.specs.Draw.{past_six, six}
-use Rattle.tokend.specs.KeptLog.{HasLogged, IsHeldBy, LogKeepsAll}
-use Rattle.tokend.specs.Loading.{AreBundles, Loads, TakesEach, TakesFront, log_bytes}
+use Rattle.tokend.specs.KeptLog.{LogKeepsAll}
+use Rattle.tokend.specs.Loading.{AreBundles, TakesEach, log_bytes}
 use Rattle.tokend.specs.Starting.{PrunesOld, edge_of}
 use Rattle.tk_region.proofs.FitsLaws.{fits_differ}
-use Rattle.tokend.proofs.KeptSlots.{HoldsAll, holds_below, holds_less, items_held, items_below, below_more, below_first, nothing_new}
+use Rattle.tokend.proofs.KeptSlots.{HoldsAll, holds_less, items_held, items_below, below_more, below_first, nothing_new}
 
 -- ---- the bundles of a log, and what holds them
 

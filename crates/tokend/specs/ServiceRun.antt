@@ -10,7 +10,6 @@ use Rattle.tk_region.specs.RegionFields.{RegionFields}
 use Rattle.tokend.specs.Connection.{ServesWithLog}
 use Rattle.tokend.specs.Serving.{Announces}
 use Rattle.tokend.specs.Starting.{IsStart, LoadsOld, PrunesOld}
-use Rattle.tokend.specs.declared.listen.Opening.{Opening}
 use Rattle.tokend.specs.declared.options.Service.{Service}
 
 -- the edge with another region
