@@ -97,10 +97,22 @@ class Installed(unittest.TestCase):
 
     def metrics(self):
         """What tokend-metrics@one writes."""
-        status, said = self.unit("tokend-metrics").run(
-            RUN_DIRECTORY=self.path("run"), SITE_DIRECTORY=self.path("var/lib/tokend/one"))
+        status, said = self.unit("tokend-metrics").run(RUN_DIRECTORY=self.path("run"))
         self.assertEqual((status, said), (0, ""))
         return self.read("run/tokend-metrics/one.prom")
+
+    def test_another_program_on_the_path_is_not_started(self):
+        self.install()
+        self.configure()
+        self.write("usr/local/bin/tokend", "#!/bin/sh\nexit 1\n")
+        os.chmod(self.path("usr/local/bin/tokend"), 0o755)
+        unit = self.unit()
+        path = "%s:%s" % (self.path("usr/local/bin"), unit.environ()["PATH"])
+        child = unit.start(PATH=path)
+        self.addCleanup(child.stdout.close)
+        self.addCleanup(child.wait)
+        self.addCleanup(child.kill)
+        self.assertEqual(unit.run("ExecStartPost", MAINPID=str(child.pid))[0], 0)
 
     def test_a_file_of_four_lines_is_a_running_region(self):
         self.install()

@@ -44,13 +44,14 @@ class Unit:
     def below(self, path):
         """A path in the root, if it is there, or else the path itself."""
         place = os.path.join(self.root, path.lstrip("/"))
-        return place if os.path.exists(place) else path
+        return place if path.startswith("/") and os.path.exists(place) else path
 
     def environ(self, **more):
         """The variables of its files and folders."""
         it = {"PATH": os.path.join(self.root, "usr/bin") + ":/usr/bin:/bin", "LANG": "C.UTF-8"}
         for line in self.settings.get("Environment", []):
-            it |= dict(word.partition("=")[::2] for word in shlex.split(line))
+            pairs = (word.partition("=")[::2] for word in shlex.split(line))
+            it |= {name: self.below(value) for name, value in pairs}
         for path in self.settings.get("EnvironmentFile", []):
             place = os.path.join(self.root, path.lstrip("-/"))
             if os.path.exists(place) or not path.startswith("-"):
