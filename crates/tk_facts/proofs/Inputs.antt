@@ -5,12 +5,13 @@
 --   stops         a fault of what was read ends the printing
 --   stopped       a fault of the input, or of memory, ends the printing
 --   at_end        the input ends
-use Rattle.std.proofs.Common.{◌≡◌, ℕ, ◌+◌, ◌≤◌, List, [], ◌++◌, length, length-append, length-drop, take, drop, Option, Some, None, Result, Ok, Err, inl, refl, sym, ap, subst, ◌∙◌, append_assoc, append-nil, arith}
-use Rattle.std.specs.Prelude.{IfSome, IfErr}
+--   more_goes, more_stops, read_stops, read_ends   these, by what the parts of a turn ensure
+use Rattle.std.proofs.Common.{◌≡◌, ℕ, ◌+◌, ◌≤◌, List, [], ◌++◌, length, length-append, length-drop, take, drop, Option, Some, None, Result, Ok, Err, Bool, false, inl, inr, refl, sym, ap, subst, ◌∙◌, append_assoc, append-nil, arith}
+use Rattle.std.specs.Prelude.{◌⊎◌, IfSome, IfErr}
 use Rattle.std.proofs.KnownBytes.{Appends-nil, Appends-trans, Consumes-nil, Consumes-trans}
 use Rattle.std.specs.Io.KnownBytes.{Appends, Consumes, IsAtEnd}
 use Rattle.tk_facts.specs.Pieces.{IsBad, Shows}
-use Rattle.tk_facts.specs.Printing.{EndsAt, Ends, IsOver, IsSeen, PrintsInput, PrintsWhole, outcome}
+use Rattle.tk_facts.specs.Printing.{EndsAt, Ends, IsLeft, IsOver, IsReadFault, IsSeen, PrintsInput, PrintsMore, PrintsWhole, ReadsMore, outcome}
 use Rattle.tk_facts.specs.declared.print.End.{End}
 use Rattle.tk_facts.specs.declared.print.End.TheVariants as ends
 use Rattle.tk_facts.specs.declared.print.PrintFault.{PrintFault}
@@ -145,3 +146,89 @@ at_end known left last buffer offset old now going reads end = record {
   shows = going.shows;
   ends = (whole known left last going.seen going.sees reads end, going.over, refl, going.printed);
 }
+
+-- printing a buffer that was read goes on from what was read and printed before
+went : (known left left2 : Option (List ℕ)) (buffer grown : List ℕ) (offset : ℕ) (result : Result (List ℕ × ℕ) PrintFault) (old now new : Option (List ℕ)) (more : Bool)
+    → Going known left buffer offset old now → ReadsMore more left left2 buffer grown → (prints : PrintsMore grown offset result now new)
+    → Went known left2 grown offset prints.used prints.end old new
+went known left left2 buffer grown offset result old now new more going reads prints =
+    subst (λ (l : List ℕ). Went known left2 l offset prints.used prints.end old new) (sym reads.2)
+    (went_on known left left2 buffer reads.0 offset prints.used prints.end old now new going reads.1
+    (subst (λ (l : List ℕ). PrintsWhole l prints.used prints.end now new) reads.2 prints.whole))
+
+-- reading goes on if the outcome is an offset
+goes : (known left : Option (List ℕ)) (grown : List ℕ) (offset used : ℕ) (end : End) (place : Option ℕ) (p : ℕ) (old now : Option (List ℕ))
+    → Went known left grown offset used end old now → IfSome place (λ q. q ≡ offset + used) → outcome end place ≡ Ok p
+    → Going known left (drop used grown) p old now
+goes known left grown offset used ends.More (Some q) p old now went at is =
+    subst (λ (n : ℕ). Going known left (drop used grown) n old now) (sym at ∙ same q p is) (goes_on known left grown offset used old now went)
+  where
+    same : (q p : ℕ) → outcome ends.More (Some q) ≡ Ok p → q ≡ p
+    same q p e = cc
+goes known left grown offset used ends.More None p old now went at is = absurd (cc)
+goes known left grown offset used ends.Bad (Some q) p old now went at is = absurd (cc)
+goes known left grown offset used ends.Bad None p old now went at is = absurd (cc)
+goes known left grown offset used ends.Memory place p old now went at is = absurd (cc)
+goes known left grown offset used ends.Output place p old now went at is = absurd (cc)
+
+abbrev ok_of : Result (List ℕ × ℕ) PrintFault → List ℕ × ℕ
+ok_of (Ok x) = x
+ok_of (Err e) = ([], 0)
+
+-- the next buffer and offset
+pub more_goes : (known left left2 : Option (List ℕ)) (buffer grown rest : List ℕ) (offset p : ℕ) (old now new : Option (List ℕ)) (more : Bool)
+    → Going known left buffer offset old now → ReadsMore more left left2 buffer grown → PrintsMore grown offset (Ok (rest, p)) now new
+    → Going known left2 rest p old new
+more_goes known left left2 buffer grown rest offset p old now new more going reads prints =
+    by (outcome prints.end prints.place) refl prints.left
+  where
+    made : Went known left2 grown offset prints.used prints.end old new
+    made = went known left left2 buffer grown offset (Ok (rest, p)) old now new more going reads prints
+
+    by : (r : Result ℕ PrintFault) → outcome prints.end prints.place ≡ r → IsLeft r (drop prints.used grown) (Ok (rest, p)) → Going known left2 rest p old new
+    by (Err fault) is e = absurd (cc)
+    by (Ok q) is (inr e) = absurd (cc)
+    by (Ok q) is (inl e) =
+        subst (λ (x : List ℕ × ℕ). Going known left2 x.0 x.1 old new) (sym (ap ok_of e))
+        (goes known left2 grown offset prints.used prints.end prints.place q old new made prints.at is)
+
+abbrev err_of : Result (List ℕ × ℕ) PrintFault → PrintFault
+err_of (Ok x) = Read
+err_of (Err e) = e
+
+-- a fault ends the printing
+pub more_stops : (known left left2 : Option (List ℕ)) (buffer grown : List ℕ) (offset : ℕ) (fault : PrintFault) (old now new : Option (List ℕ)) (more : Bool)
+    → Going known left buffer offset old now → ReadsMore more left left2 buffer grown → PrintsMore grown offset (Err fault) now new
+    → PrintsInput known (Err fault) old new
+more_stops known left left2 buffer grown offset fault old now new more going reads prints =
+    by (outcome prints.end prints.place) refl prints.left
+  where
+    made : Went known left2 grown offset prints.used prints.end old new
+    made = went known left left2 buffer grown offset (Err fault) old now new more going reads prints
+
+    by : (r : Result ℕ PrintFault) → outcome prints.end prints.place ≡ r → IsLeft r (drop prints.used grown) (Err fault) → PrintsInput known (Err fault) old new
+    by (Err why) is e =
+        subst (λ (f : PrintFault). PrintsInput known (Err f) old new) (sym (ap err_of e))
+        (stops known left2 grown offset prints.used prints.end prints.place why old new made prints.at is)
+    by (Ok q) is (inl e) = absurd (cc)
+    by (Ok q) is (inr e) =
+        subst (λ (f : PrintFault). PrintsInput known (Err f) old new) (sym (ap err_of e))
+        (stopped known left2 (drop prints.used grown) q old new Memory
+        (goes known left2 grown offset prints.used prints.end prints.place q old new made prints.at is) (λ s r l h. h))
+
+-- a fault of a read ends the printing
+pub read_stops : (known left : Option (List ℕ)) (buffer : List ℕ) (offset : ℕ) (fault : PrintFault) (old now : Option (List ℕ))
+    → Going known left buffer offset old now → IsReadFault fault → PrintsInput known (Err fault) old now
+read_stops known left buffer offset fault old now going (inl e) =
+    subst (λ (f : PrintFault). PrintsInput known (Err f) old now) (sym e) (stopped known left buffer offset old now Read going (λ s r l h. h))
+read_stops known left buffer offset fault old now going (inr e) =
+    subst (λ (f : PrintFault). PrintsInput known (Err f) old now) (sym e) (stopped known left buffer offset old now Memory going (λ s r l h. h))
+
+-- the input ends
+pub read_ends : (known left left2 : Option (List ℕ)) (buffer grown : List ℕ) (offset : ℕ) (old now : Option (List ℕ))
+    → Going known left buffer offset old now → ReadsMore false left left2 buffer grown → PrintsInput known (Ok (length grown)) old now
+read_ends known left left2 buffer grown offset old now going reads =
+    let none = reads.3 refl in
+    let same : grown ≡ buffer = reads.2 ∙ ap (λ (l : List ℕ). buffer ++ l) none.0 ∙ append-nil buffer in
+    subst (λ (l : List ℕ). PrintsInput known (Ok (length l)) old now) (sym same)
+    (at_end known left left2 buffer offset old now going (subst (Consumes left left2) none.0 reads.1) none.1)

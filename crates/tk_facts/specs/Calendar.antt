@@ -60,7 +60,7 @@ unfoldable pub day_text : ℕ → List ℕ
 day_text days = date_text (date_of days)
 
 -- a moment, as in 2026-11-27T12:00:00Z
-abbrev pub moment_text : ℕ → List ℕ
+unfoldable pub moment_text : ℕ → List ℕ
 moment_text seconds =
     day_text (seconds / 86400)
     ++ (codes "T" ++ (time_text (seconds % 86400) ++ codes "Z"))

@@ -30,7 +30,7 @@ use Rattle.tk_facts.specs.Members.{named, plain_member, text_member, texts_membe
 use Rattle.tk_facts.specs.Members.{flag_member, dot_member, moment_member, hex_text}
 
 -- the name of a fact's kind
-abbrev pub kind_name : Body → List ℕ
+unfoldable pub kind_name : Body → List ℕ
 kind_name (bodies.ClientAdded f) = codes "client_added"
 kind_name (bodies.ClientRetired f) = codes "client_retired"
 kind_name (bodies.ConsentGiven f) = codes "consent_given"
@@ -42,22 +42,34 @@ kind_name (bodies.TokenRevoked f) = codes "token_revoked"
 kind_name (bodies.ReuseSeen f) = codes "reuse_seen"
 kind_name (bodies.SubjectOut f) = codes "subject_out"
 
+-- the client kind, and the digest of the client's secret
+unfoldable pub secret_members : List ℕ → List ℕ → List ℕ
+secret_members kind digest =
+    plain_member (codes "client_kind") kind ++ plain_member (codes "secret_digest") (hex_text digest)
+
 -- the client kind, with the digest of the client's secret if it has one
 abbrev pub sort_members : Sort → List ℕ
 sort_members Public = plain_member (codes "client_kind") (codes "public")
-sort_members (Confidential digest) =
-    plain_member (codes "client_kind") (codes "confidential")
-    ++ plain_member (codes "secret_digest") (hex_text digest)
-sort_members (Resource digest) =
-    plain_member (codes "client_kind") (codes "resource")
-    ++ plain_member (codes "secret_digest") (hex_text digest)
+sort_members (Confidential digest) = secret_members (codes "confidential") digest
+sort_members (Resource digest) = secret_members (codes "resource") digest
+
+-- the name of a challenge's method
+unfoldable pub method_name : Bool → List ℕ
+method_name is_s256 = if is_s256 then codes "S256" else codes "plain"
+
+-- the method of a challenge
+unfoldable pub method_member : Bool → List ℕ
+method_member is_s256 = plain_member (codes "challenge_method") (method_name is_s256)
+
+-- the method and the text of a challenge
+unfoldable pub given_members : Bool → List ℕ → List ℕ
+given_members is_s256 text =
+    method_member is_s256 ++ plain_member (codes "challenge") (hex_text text)
 
 -- the method and the text of a challenge, if there is one
-abbrev pub challenge_members : Option ChallengeFields → List ℕ
+unfoldable pub challenge_members : Option ChallengeFields → List ℕ
 challenge_members None = []
-challenge_members (Some c) =
-    plain_member (codes "challenge_method") (if c.is_s256 then codes "S256" else codes "plain")
-    ++ plain_member (codes "challenge") (hex_text c.text)
+challenge_members (Some c) = given_members c.is_s256 c.text
 
 -- the name of a kind of token
 abbrev pub token_kind : Kind → List ℕ
@@ -66,22 +78,24 @@ token_kind Access = codes "access_token"
 token_kind Refresh = codes "refresh_token"
 
 -- the dot of the fact that minted a token, and the token's kind
-abbrev pub token_members : TokenId → List ℕ
+unfoldable pub token_members : TokenId → List ℕ
 token_members t =
     dot_member (codes "token") t.dot ++ plain_member (codes "token_kind") (token_kind t.kind)
 
+-- the beginning of an object with a digest
+unfoldable pub begun_digest : List ℕ → List ℕ
+begun_digest digest = codes "{\"digest\":\"" ++ (hex_text digest ++ codes "\"")
+
 -- a token that a fact mints, as an object
-abbrev pub minted_member : List ℕ → MintedToken → List ℕ
+unfoldable pub minted_member : List ℕ → MintedToken → List ℕ
 minted_member name t =
     named name
-    ++ (codes "{\"digest\":\""
-    ++ (hex_text t.digest
-    ++ (codes "\""
+    ++ (begun_digest t.digest
     ++ (moment_member (codes "expiry") t.end
-    ++ (text_member (codes "scope") t.scope ++ codes "}")))))
+    ++ (text_member (codes "scope") t.scope ++ codes "}")))
 
 -- the members of a fact's fields, in the order of its bytes
-abbrev pub fields_of : Body → List ℕ
+unfoldable pub fields_of : Body → List ℕ
 fields_of (bodies.ClientAdded f) =
     sort_members f.sort
     ++ (text_member (codes "scope") f.scope ++ texts_member (codes "uris") f.redirects)
@@ -120,21 +134,21 @@ fields_of (bodies.SubjectOut f) =
     text_member (codes "subject") f.subject ++ moment_member (codes "moment") f.moment
 
 -- the beginning of the line of a dot: the dot, and a kind
-abbrev pub begun_line : Dot → List ℕ → List ℕ
+unfoldable pub begun_line : Dot → List ℕ → List ℕ
 begun_line d kind =
     codes "{\"dot\":\"" ++ (dot_text d ++ (codes "\"" ++ plain_member (codes "kind") kind))
 
 -- the line of a fact
-abbrev pub fact_line : Dot → Body → List ℕ
+unfoldable pub fact_line : Dot → Body → List ℕ
 fact_line d body = begun_line d (kind_name body) ++ (fields_of body ++ codes "}\n")
 
 -- the horizon of a bundle, if it has one
-abbrev pub horizon_members : Option ℕ → List ℕ
+unfoldable pub horizon_members : Option ℕ → List ℕ
 horizon_members None = []
 horizon_members (Some horizon) = moment_member (codes "horizon") horizon
 
 -- the line of the mark that the fact of a dot was skipped, with the horizon of its bundle
-abbrev pub mark_line : Option ℕ → Dot → List ℕ
+unfoldable pub mark_line : Option ℕ → Dot → List ℕ
 mark_line horizon d = begun_line d (codes "mark") ++ (horizon_members horizon ++ codes "}\n")
 
 -- the line of an item of a bundle with this horizon
@@ -146,11 +160,16 @@ item_line horizon (d, Skipped) = mark_line horizon d
 abbrev pub item_lines : Option ℕ → Items → List ℕ
 item_lines horizon items = flat_map (item_line horizon) items
 
+-- the beginning of the line of an entry of a vector
+unfoldable pub begun_entry : List ℕ
+begun_entry = codes "{\"kind\":\"vector\""
+
 -- the line of an entry of a vector
-abbrev pub entry_line : ℕ × ℕ → List ℕ
+unfoldable pub entry_line : ℕ × ℕ → List ℕ
 entry_line entry =
-    codes "{\"kind\":\"vector\",\"region\":"
-    ++ (decimal entry.0 ++ (codes ",\"serial\":" ++ (decimal entry.1 ++ codes "}\n")))
+    begun_entry
+    ++ (number_member (codes "region") entry.0
+    ++ (number_member (codes "serial") entry.1 ++ codes "}\n"))
 
 -- the line of a region's entry in a vector, or nothing if the vector has no entry of the region
 abbrev pub region_line : Vector → ℕ → List ℕ

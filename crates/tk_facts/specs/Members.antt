@@ -7,6 +7,7 @@
 --   number_member   a member with a number
 --   flag_member     a member with true or false
 --   dot_member      a member with a dot
+--   seconds_member  a member with the seconds of a moment
 --   moment_member   two members with a moment: as RFC 3339 writes it, and in seconds
 use Rattle.std.specs.Prelude.{ℕ, ◌+◌, ◌/◌, ◌%◌, nat_lt, Bool, ◌||◌, ◌==◌, List, [], ◌∷◌, ◌++◌}
 use Rattle.std.specs.Prelude.{codes, decimal, if◌then◌else◌}
@@ -21,7 +22,7 @@ abbrev pub escaped : ℕ → List ℕ
 escaped b = if (b == 34) || (b == 92) then 92 ∷ b ∷ [] else b ∷ []
 
 -- a text in quotation marks
-abbrev pub quoted : List ℕ → List ℕ
+unfoldable pub quoted : List ℕ → List ℕ
 quoted text = codes "\"" ++ (flat_map escaped text ++ codes "\"")
 
 -- the digit of a number below 16
@@ -33,19 +34,19 @@ abbrev pub hex_byte : ℕ → List ℕ
 hex_byte b = hex_digit (b / 16) ∷ hex_digit (b % 16) ∷ []
 
 -- bytes as hexadecimal digits
-abbrev pub hex_text : List ℕ → List ℕ
+unfoldable pub hex_text : List ℕ → List ℕ
 hex_text bytes = flat_map hex_byte bytes
 
 -- a comma, the name of a member, and a colon
-abbrev pub named : List ℕ → List ℕ
+unfoldable pub named : List ℕ → List ℕ
 named name = codes ",\"" ++ (name ++ codes "\":")
 
 -- a member whose text needs no escapes
-abbrev pub plain_member : List ℕ → List ℕ → List ℕ
+unfoldable pub plain_member : List ℕ → List ℕ → List ℕ
 plain_member name text = named name ++ (codes "\"" ++ (text ++ codes "\""))
 
 -- a member with a text of a fact
-abbrev pub text_member : List ℕ → List ℕ → List ℕ
+unfoldable pub text_member : List ℕ → List ℕ → List ℕ
 text_member name text = named name ++ quoted text
 
 -- texts with a comma before each
@@ -58,23 +59,27 @@ texts_list [] = []
 texts_list (text ∷ more) = quoted text ++ more_texts more
 
 -- a member with a list of texts
-abbrev pub texts_member : List ℕ → List (List ℕ) → List ℕ
+unfoldable pub texts_member : List ℕ → List (List ℕ) → List ℕ
 texts_member name texts = named name ++ (codes "[" ++ (texts_list texts ++ codes "]"))
 
 -- a member with a number
-abbrev pub number_member : List ℕ → ℕ → List ℕ
+unfoldable pub number_member : List ℕ → ℕ → List ℕ
 number_member name n = named name ++ decimal n
 
 -- a member with true or false
-abbrev pub flag_member : List ℕ → Bool → List ℕ
+unfoldable pub flag_member : List ℕ → Bool → List ℕ
 flag_member name flag = named name ++ (if flag then codes "true" else codes "false")
 
 -- a member with a dot, as R:S
-abbrev pub dot_member : List ℕ → Dot → List ℕ
+unfoldable pub dot_member : List ℕ → Dot → List ℕ
 dot_member name d = plain_member name (dot_text d)
 
+-- a member with the seconds of a moment
+unfoldable pub seconds_member : List ℕ → ℕ → List ℕ
+seconds_member name seconds =
+    codes ",\"" ++ (name ++ (codes "_seconds\":" ++ decimal seconds))
+
 -- a member with a moment as RFC 3339 writes it, and one with its seconds
-abbrev pub moment_member : List ℕ → ℕ → List ℕ
+unfoldable pub moment_member : List ℕ → ℕ → List ℕ
 moment_member name seconds =
-    plain_member name (moment_text seconds)
-    ++ (codes ",\"" ++ (name ++ (codes "_seconds\":" ++ decimal seconds)))
+    plain_member name (moment_text seconds) ++ seconds_member name seconds

@@ -5,10 +5,12 @@
 --   PrintsPiece   how printing a bundle or vector may end
 --   PrintsWhole   how printing the bundles and vectors at the front of bytes may end
 --   outcome       where reading goes on, or the fault that ends it
+--   ReadsMore     what one read brings
+--   PrintsMore    how printing the bytes of a buffer may end
 --   PrintsInput   how printing an input may end
-use Rattle.std.specs.Prelude.{◌≡◌, ◌⊎◌, ℕ, ◌+◌, ◌≤◌, List, [], ◌++◌, length, drop}
+use Rattle.std.specs.Prelude.{◌≡◌, ◌⊎◌, ℕ, ◌+◌, ◌≤◌, Bool, false, List, [], ◌++◌, length, drop}
 use Rattle.std.specs.Prelude.{Option, Some, None, Result, Ok, Err, IfSome}
-use Rattle.std.specs.Io.KnownBytes.{Appends, Keeps}
+use Rattle.std.specs.Io.KnownBytes.{Appends, Consumes, IsAtEnd, Keeps}
 use Rattle.tk_put.specs.Put.{AppendsFront}
 use Rattle.tk_facts.specs.Pieces.{IsBad, IsCut, IsFront, Shows, piece_lines}
 use Rattle.tk_facts.specs.declared.piece.Piece.{Piece}
@@ -66,6 +68,31 @@ outcome ends.Bad (Some place) = Err (Bad place)
 outcome ends.Bad None = Err Read
 outcome ends.Memory place = Err Memory
 outcome ends.Output place = Err Output
+
+-- one read: its bytes come behind those of the buffer; no byte is read at the end alone
+abbrev pub ReadsMore : Bool → Option (List ℕ) → Option (List ℕ) → List ℕ → List ℕ → Type 0
+ReadsMore more old new before after =
+    (bytes : List ℕ) × Consumes old new bytes × (after ≡ before ++ bytes)
+    × (more ≡ false → (bytes ≡ []) × IsAtEnd new)
+
+-- the input failed, or memory ran out
+abbrev pub IsReadFault : PrintFault → Type 0
+IsReadFault fault = (fault ≡ Read) ⊎ (fault ≡ Memory)
+
+-- the rest at its offset, unless memory ran out, or the fault that ends reading
+abbrev pub IsLeft : Result ℕ PrintFault → List ℕ → Result (List ℕ × ℕ) PrintFault → Type 0
+IsLeft (Ok place) rest result = (result ≡ Ok (rest, place)) ⊎ (result ≡ Err Memory)
+IsLeft (Err fault) rest result = result ≡ Err fault
+
+-- the bytes of a buffer at this offset are printed as far as they are whole
+pub record PrintsMore (buffer : List ℕ) (offset : ℕ) (result : Result (List ℕ × ℕ) PrintFault)
+    (old new : Option (List ℕ)) : Type 0 where
+  pub used : ℕ
+  pub end : End
+  pub place : Option ℕ
+  pub whole : PrintsWhole buffer used end old new
+  pub at : IfSome place (λ p. p ≡ offset + used)
+  pub left : IsLeft (outcome end place) (drop used buffer) result
 
 -- The end of printing what was seen of an input: the lines of its bundles and vectors, and the rest
 abbrev pub Ends : Option (List ℕ) → Result ℕ PrintFault → List ℕ → List ℕ → List ℕ

@@ -56,6 +56,7 @@ fn year_of(day: u64) -> u64
 }
 
 /// Writes the moment as a date and a time in UTC, as in `2026-11-27T12:00:00Z`.
+#[tactic(auto, unfolding(crate::specs::Calendar::moment_text))]
 pub(crate) fn put_moment(writer: &mut Writer, moment: Moment) -> Result<(), AllocError>
     ensures { OnOk result (writer.new ≡ writer.old ++ spec.moment_text moment) }
 {

@@ -1,7 +1,6 @@
 //! Writes the members of a fact's fields, in the order of its bytes.
 
 ghost use Rattle.std.specs.Prelude.{◌≡◌, ◌++◌, OnOk};
-ghost use Rattle.std.specs.Option.{option_copied};
 ghost use Rattle.tk_facts.specs.Lines as spec;
 
 use crate::members::{
@@ -18,6 +17,7 @@ use tk_handle::{Kind, TokenId};
 use tk_match::Challenge;
 
 /// Writes the members of a fact's fields.
+#[tactic(auto, unfolding(crate::specs::Lines::fields_of))]
 pub(crate) fn put_fields(writer: &mut Writer, body: &Body) -> Result<(), AllocError>
     ensures { OnOk result (writer.new ≡ writer.old ++ spec.fields_of body.now) }
 {
@@ -35,6 +35,7 @@ pub(crate) fn put_fields(writer: &mut Writer, body: &Body) -> Result<(), AllocEr
     }
 }
 
+#[tactic(auto, unfolding(crate::specs::Lines::fields_of))]
 fn put_client(writer: &mut Writer, fields: &ClientAdded) -> Result<(), AllocError>
     ensures { OnOk result
         (writer.new ≡ writer.old ++ spec.fields_of (Body.ClientAdded fields.now)) }
@@ -50,17 +51,21 @@ fn put_sort(writer: &mut Writer, sort: &Sort) -> Result<(), AllocError>
 {
     match sort {
         Sort::Public => put_plain(writer, b"client_kind", b"public"),
-        Sort::Confidential(digest) => {
-            put_plain(writer, b"client_kind", b"confidential")?;
-            put_hex(writer, b"secret_digest", digest)
-        }
-        Sort::Resource(digest) => {
-            put_plain(writer, b"client_kind", b"resource")?;
-            put_hex(writer, b"secret_digest", digest)
-        }
+        Sort::Confidential(digest) => put_secret(writer, b"confidential", digest),
+        Sort::Resource(digest) => put_secret(writer, b"resource", digest),
     }
 }
 
+// Writes the client kind, and the digest of the client's secret.
+#[tactic(auto, unfolding(crate::specs::Lines::secret_members))]
+fn put_secret(writer: &mut Writer, kind: &[u8], digest: &[u8]) -> Result<(), AllocError>
+    ensures { OnOk result (writer.new ≡ writer.old ++ spec.secret_members kind.now digest.now) }
+{
+    put_plain(writer, b"client_kind", kind)?;
+    put_hex(writer, b"secret_digest", digest)
+}
+
+#[tactic(auto, unfolding(crate::specs::Lines::fields_of))]
 fn put_consent(writer: &mut Writer, fields: &ConsentGiven) -> Result<(), AllocError>
     ensures { OnOk result
         (writer.new ≡ writer.old ++ spec.fields_of (Body.ConsentGiven fields.now)) }
@@ -70,6 +75,7 @@ fn put_consent(writer: &mut Writer, fields: &ConsentGiven) -> Result<(), AllocEr
     put_text(writer, b"scope", fields.scope.text().as_bytes())
 }
 
+#[tactic(auto, unfolding(crate::specs::Lines::fields_of))]
 fn put_code(writer: &mut Writer, fields: &CodeIssued) -> Result<(), AllocError>
     ensures { OnOk result
         (writer.new ≡ writer.old ++ spec.fields_of (Body.CodeIssued fields.now)) }
@@ -88,29 +94,42 @@ fn put_code(writer: &mut Writer, fields: &CodeIssued) -> Result<(), AllocError>
 }
 
 // Writes the method and the text of a challenge, if there is one.
+#[tactic(auto, unfolding(crate::specs::Lines::challenge_members))]
 fn put_challenge(writer: &mut Writer, challenge: &Option<Challenge>) -> Result<(), AllocError>
     ensures { OnOk result (writer.new ≡ writer.old ++ spec.challenge_members challenge.now) }
 {
     match challenge {
-        Some(challenge) => put_given(writer, challenge),
+        Some(challenge) => { put_given(writer, challenge.is_s256(), challenge.text().as_bytes()) }
         None => Ok(()),
     }
 }
 
 // Writes the method and the text of a challenge.
-fn put_given(writer: &mut Writer, challenge: &Challenge) -> Result<(), AllocError>
-    ensures { OnOk result
-        (writer.new ≡ writer.old ++ spec.challenge_members (Some challenge.now)) }
+#[tactic(auto, unfolding(crate::specs::Lines::given_members))]
+fn put_given(writer: &mut Writer, is_s256: bool, text: &[u8]) -> Result<(), AllocError>
+    ensures { OnOk result (writer.new ≡ writer.old ++ spec.given_members is_s256 text.now) }
 {
-    let method: &[u8] = if challenge.is_s256() {
-        b"S256"
-    } else {
-        b"plain"
-    };
-    put_plain(writer, b"challenge_method", method)?;
-    put_hex(writer, b"challenge", challenge.text().as_bytes())
+    put_method(writer, is_s256)?;
+    put_hex(writer, b"challenge", text)
 }
 
+// Writes the method of a challenge.
+#[tactic(auto, unfolding(crate::specs::Lines::method_member))]
+fn put_method(writer: &mut Writer, is_s256: bool) -> Result<(), AllocError>
+    ensures { OnOk result (writer.new ≡ writer.old ++ spec.method_member is_s256) }
+{
+    put_plain(writer, b"challenge_method", method_name(is_s256))
+}
+
+// Returns the name of a challenge's method.
+#[tactic(auto, unfolding(crate::specs::Lines::method_name))]
+fn method_name(is_s256: bool) -> &'static [u8]
+    ensures { result.now ≡ spec.method_name is_s256 }
+{
+    if is_s256 { b"S256" } else { b"plain" }
+}
+
+#[tactic(auto, unfolding(crate::specs::Lines::fields_of))]
 fn put_redeemed(writer: &mut Writer, fields: &CodeRedeemed) -> Result<(), AllocError>
     ensures { OnOk result
         (writer.new ≡ writer.old ++ spec.fields_of (Body.CodeRedeemed fields.now)) }
@@ -121,6 +140,7 @@ fn put_redeemed(writer: &mut Writer, fields: &CodeRedeemed) -> Result<(), AllocE
     put_minted(writer, b"refresh_token", &fields.refresh)
 }
 
+#[tactic(auto, unfolding(crate::specs::Lines::fields_of))]
 fn put_rotated(writer: &mut Writer, fields: &RefreshRotated) -> Result<(), AllocError>
     ensures { OnOk result
         (writer.new ≡ writer.old ++ spec.fields_of (Body.RefreshRotated fields.now)) }
@@ -133,18 +153,28 @@ fn put_rotated(writer: &mut Writer, fields: &RefreshRotated) -> Result<(), Alloc
 }
 
 // Writes a token that a fact mints, as an object.
+#[tactic(auto, unfolding(crate::specs::Lines::minted_member))]
 fn put_minted(writer: &mut Writer, name: &[u8], token: &MintedToken) -> Result<(), AllocError>
     ensures { OnOk result (writer.new ≡ writer.old ++ spec.minted_member name.now token.now) }
 {
     put_name(writer, name)?;
-    writer.put_bytes(b"{\"digest\":\"")?;
-    put_digits(writer, &token.digest)?;
-    writer.put_bytes(b"\"")?;
+    begin_digest(writer, &token.digest)?;
     put_time(writer, b"expiry", token.end)?;
     put_text(writer, b"scope", token.scope.text().as_bytes())?;
     writer.put_bytes(b"}")
 }
 
+// Writes the beginning of an object with a digest.
+#[tactic(auto, unfolding(crate::specs::Lines::begun_digest))]
+fn begin_digest(writer: &mut Writer, digest: &[u8]) -> Result<(), AllocError>
+    ensures { OnOk result (writer.new ≡ writer.old ++ spec.begun_digest digest.now) }
+{
+    writer.put_bytes(b"{\"digest\":\"")?;
+    put_digits(writer, digest)?;
+    writer.put_bytes(b"\"")
+}
+
+#[tactic(auto, unfolding(crate::specs::Lines::fields_of))]
 fn put_revoked(writer: &mut Writer, fields: &TokenRevoked) -> Result<(), AllocError>
     ensures { OnOk result
         (writer.new ≡ writer.old ++ spec.fields_of (Body.TokenRevoked fields.now)) }
@@ -155,6 +185,7 @@ fn put_revoked(writer: &mut Writer, fields: &TokenRevoked) -> Result<(), AllocEr
 }
 
 // Writes the dot of the fact that minted a token, and the token's kind.
+#[tactic(auto, unfolding(crate::specs::Lines::token_members))]
 fn put_token(writer: &mut Writer, token: TokenId) -> Result<(), AllocError>
     ensures { OnOk result (writer.new ≡ writer.old ++ spec.token_members token) }
 {
@@ -173,6 +204,7 @@ fn token_kind(kind: Kind) -> &'static [u8]
     }
 }
 
+#[tactic(auto, unfolding(crate::specs::Lines::fields_of))]
 fn put_out(writer: &mut Writer, fields: &SubjectOut) -> Result<(), AllocError>
     ensures { OnOk result
         (writer.new ≡ writer.old ++ spec.fields_of (Body.SubjectOut fields.now)) }

@@ -5,7 +5,7 @@ ghost use Rattle.tk_handle.specs.Ranges.{IsRegion};
 ghost use Rattle.tk_facts.specs.Lines as spec;
 
 use crate::fields::put_fields;
-use crate::members::{put_decimal, put_dot_text, put_plain, put_time};
+use crate::members::{put_dot_text, put_number, put_plain, put_time};
 use std::alloc::AllocError;
 use tk_bundle::Item;
 use tk_fact::Body;
@@ -39,6 +39,7 @@ fn put_item(writer: &mut Writer, horizon: &Option<Moment>, item: &Item) -> Resul
 }
 
 /// Writes the line of a fact.
+#[tactic(auto, unfolding(crate::specs::Lines::fact_line))]
 pub fn put_fact(writer: &mut Writer, dot: Dot, body: &Body) -> Result<(), AllocError>
     ensures { OnOk result (writer.new ≡ writer.old ++ spec.fact_line dot body.now) }
 {
@@ -48,6 +49,7 @@ pub fn put_fact(writer: &mut Writer, dot: Dot, body: &Body) -> Result<(), AllocE
 }
 
 // Returns the name of a fact's kind.
+#[tactic(auto, unfolding(crate::specs::Lines::kind_name))]
 fn kind_name(body: &Body) -> &'static [u8]
     ensures { result.now ≡ spec.kind_name body.now }
 {
@@ -66,6 +68,7 @@ fn kind_name(body: &Body) -> &'static [u8]
 }
 
 // Writes the beginning of the line of a dot: the dot, and a kind.
+#[tactic(auto, unfolding(crate::specs::Lines::begun_line))]
 fn begin(writer: &mut Writer, dot: Dot, kind: &[u8]) -> Result<(), AllocError>
     ensures { OnOk result (writer.new ≡ writer.old ++ spec.begun_line dot kind.now) }
 {
@@ -76,6 +79,7 @@ fn begin(writer: &mut Writer, dot: Dot, kind: &[u8]) -> Result<(), AllocError>
 }
 
 // Writes the line of the mark that the fact of a dot was skipped.
+#[tactic(auto, unfolding(crate::specs::Lines::mark_line))]
 fn put_mark(writer: &mut Writer, horizon: &Option<Moment>, dot: Dot) -> Result<(), AllocError>
     ensures { OnOk result (writer.new ≡ writer.old ++ spec.mark_line horizon.now dot) }
 {
@@ -85,6 +89,7 @@ fn put_mark(writer: &mut Writer, horizon: &Option<Moment>, dot: Dot) -> Result<(
 }
 
 // Writes the horizon of a bundle, if it has one.
+#[tactic(auto, unfolding(crate::specs::Lines::horizon_members))]
 fn put_horizon(writer: &mut Writer, horizon: &Option<Moment>) -> Result<(), AllocError>
     ensures { OnOk result (writer.new ≡ writer.old ++ spec.horizon_members horizon.now) }
 {
@@ -102,7 +107,7 @@ pub fn put_vector(writer: &mut Writer, vector: &VersionVector) -> Result<(), All
 }
 
 // Writes the lines of the entries, region by region.
-#[tactic(auto, unfolding(crate::specs::Lines::lines_up_to))]
+#[tactic(auto, using(crate::proofs::Writing::no_region, crate::proofs::Writing::next_region))]
 fn put_regions(writer: &mut Writer, vector: &VersionVector) -> Result<(), AllocError>
     ensures { OnOk result (writer.new ≡ writer.old ++ spec.lines_up_to vector.now 65_535) }
 {
@@ -126,12 +131,20 @@ fn put_region(writer: &mut Writer, vector: &VersionVector, region: u16) -> Resul
 }
 
 // Writes the line of an entry of a vector.
+#[tactic(auto, unfolding(crate::specs::Lines::entry_line))]
 fn put_entry(writer: &mut Writer, region: u16, serial: u64) -> Result<(), AllocError>
     ensures { OnOk result (writer.new ≡ writer.old ++ spec.entry_line (region, serial)) }
 {
-    writer.put_bytes(b"{\"kind\":\"vector\",\"region\":")?;
-    put_decimal(writer, u64::from(region))?;
-    writer.put_bytes(b",\"serial\":")?;
-    put_decimal(writer, serial)?;
+    begin_entry(writer)?;
+    put_number(writer, b"region", u64::from(region))?;
+    put_number(writer, b"serial", serial)?;
     writer.put_bytes(b"}\n")
+}
+
+// Writes the beginning of the line of an entry of a vector.
+#[tactic(auto, unfolding(crate::specs::Lines::begun_entry))]
+fn begin_entry(writer: &mut Writer) -> Result<(), AllocError>
+    ensures { OnOk result (writer.new ≡ writer.old ++ spec.begun_entry) }
+{
+    writer.put_bytes(b"{\"kind\":\"vector\"")
 }

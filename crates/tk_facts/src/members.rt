@@ -3,6 +3,7 @@
 ghost use Rattle.std.specs.Prelude.{◌≡◌, ◌++◌, ◌<◌, OnOk, codes, decimal};
 ghost use Rattle.std.specs.List.{flat_map};
 ghost use Rattle.tk_handle.specs.DotText.{dot_text};
+ghost use Rattle.tk_facts.specs.Calendar.{moment_text};
 ghost use Rattle.tk_facts.specs.Members as spec;
 
 use crate::calendar::put_moment;
@@ -13,6 +14,7 @@ use tk_handle::{Dot, Moment};
 use tk_match::Uri;
 
 /// Writes a comma, the name of a member, and a colon.
+#[tactic(auto, unfolding(crate::specs::Members::named))]
 pub(crate) fn put_name(writer: &mut Writer, name: &[u8]) -> Result<(), AllocError>
     ensures { OnOk result (writer.new ≡ writer.old ++ spec.named name.now) }
 {
@@ -22,6 +24,7 @@ pub(crate) fn put_name(writer: &mut Writer, name: &[u8]) -> Result<(), AllocErro
 }
 
 /// Writes a member whose text needs no escapes.
+#[tactic(auto, unfolding(crate::specs::Members::plain_member))]
 pub(crate) fn put_plain(writer: &mut Writer, name: &[u8], text: &[u8]) -> Result<(), AllocError>
     ensures { OnOk result (writer.new ≡ writer.old ++ spec.plain_member name.now text.now) }
 {
@@ -32,6 +35,7 @@ pub(crate) fn put_plain(writer: &mut Writer, name: &[u8], text: &[u8]) -> Result
 }
 
 /// Writes a member with a text of a fact.
+#[tactic(auto, unfolding(crate::specs::Members::text_member))]
 pub(crate) fn put_text(writer: &mut Writer, name: &[u8], text: &[u8]) -> Result<(), AllocError>
     ensures { OnOk result (writer.new ≡ writer.old ++ spec.text_member name.now text.now) }
 {
@@ -40,6 +44,7 @@ pub(crate) fn put_text(writer: &mut Writer, name: &[u8], text: &[u8]) -> Result<
 }
 
 // Writes a text in quotation marks.
+#[tactic(auto, unfolding(crate::specs::Members::quoted))]
 fn put_quoted(writer: &mut Writer, text: &[u8]) -> Result<(), AllocError>
     ensures { OnOk result (writer.new ≡ writer.old ++ spec.quoted text.now) }
 {
@@ -70,6 +75,7 @@ fn put_byte(writer: &mut Writer, byte: u8) -> Result<(), AllocError>
 }
 
 /// Writes a member with bytes as hexadecimal digits.
+#[tactic(auto, unfolding(crate::specs::Members::plain_member))]
 pub(crate) fn put_hex(writer: &mut Writer, name: &[u8], bytes: &[u8]) -> Result<(), AllocError>
     ensures { OnOk result
         (writer.new ≡ writer.old ++ spec.plain_member name.now (spec.hex_text bytes.now)) }
@@ -81,6 +87,7 @@ pub(crate) fn put_hex(writer: &mut Writer, name: &[u8], bytes: &[u8]) -> Result<
 }
 
 /// Writes bytes as hexadecimal digits.
+#[tactic(auto, unfolding(crate::specs::Members::hex_text))]
 pub(crate) fn put_digits(writer: &mut Writer, bytes: &[u8]) -> Result<(), AllocError>
     ensures { OnOk result (writer.new ≡ writer.old ++ spec.hex_text bytes.now) }
 {
@@ -110,6 +117,7 @@ fn hex_digit(number: u8) -> u8
 }
 
 /// Writes a member with a list of URIs.
+#[tactic(auto, unfolding(crate::specs::Members::texts_member))]
 pub(crate) fn put_uris(writer: &mut Writer, name: &[u8], uris: &[Uri]) -> Result<(), AllocError>
     ensures { OnOk result (writer.new ≡ writer.old ++ spec.texts_member name.now uris.now) }
 {
@@ -159,6 +167,7 @@ pub(crate) fn put_decimal(writer: &mut Writer, number: u64) -> Result<(), AllocE
 }
 
 /// Writes a member with a number.
+#[tactic(auto, unfolding(crate::specs::Members::number_member))]
 pub(crate) fn put_number(writer: &mut Writer, name: &[u8], number: u64) -> Result<(), AllocError>
     ensures { OnOk result (writer.new ≡ writer.old ++ spec.number_member name.now number) }
 {
@@ -167,6 +176,7 @@ pub(crate) fn put_number(writer: &mut Writer, name: &[u8], number: u64) -> Resul
 }
 
 /// Writes a member with true or false.
+#[tactic(auto, unfolding(crate::specs::Members::flag_member))]
 pub(crate) fn put_flag(writer: &mut Writer, name: &[u8], flag: bool) -> Result<(), AllocError>
     ensures { OnOk result (writer.new ≡ writer.old ++ spec.flag_member name.now flag) }
 {
@@ -188,6 +198,7 @@ pub(crate) fn put_dot_text(writer: &mut Writer, dot: Dot) -> Result<(), AllocErr
 }
 
 /// Writes a member with a dot.
+#[tactic(auto, unfolding(crate::specs::Members::dot_member, crate::specs::Members::plain_member))]
 pub(crate) fn put_dot(writer: &mut Writer, name: &[u8], dot: Dot) -> Result<(), AllocError>
     ensures { OnOk result (writer.new ≡ writer.old ++ spec.dot_member name.now dot) }
 {
@@ -198,14 +209,33 @@ pub(crate) fn put_dot(writer: &mut Writer, name: &[u8], dot: Dot) -> Result<(), 
 }
 
 /// Writes a member with a moment as RFC 3339 writes it, and a member with its seconds.
+#[tactic(auto, unfolding(crate::specs::Members::moment_member))]
 pub(crate) fn put_time(writer: &mut Writer, name: &[u8], moment: Moment) -> Result<(), AllocError>
     ensures { OnOk result (writer.new ≡ writer.old ++ spec.moment_member name.now moment) }
+{
+    put_written(writer, name, moment)?;
+    put_seconds(writer, name, moment.seconds())
+}
+
+// Writes a member with a moment as RFC 3339 writes it.
+#[tactic(auto, unfolding(crate::specs::Members::plain_member))]
+fn put_written(writer: &mut Writer, name: &[u8], moment: Moment) -> Result<(), AllocError>
+    ensures { OnOk result
+        (writer.new ≡ writer.old ++ spec.plain_member name.now (moment_text moment)) }
 {
     put_name(writer, name)?;
     writer.put_bytes(b"\"")?;
     put_moment(writer, moment)?;
-    writer.put_bytes(b"\",\"")?;
+    writer.put_bytes(b"\"")
+}
+
+// Writes a member with the seconds of a moment.
+#[tactic(auto, unfolding(crate::specs::Members::seconds_member))]
+fn put_seconds(writer: &mut Writer, name: &[u8], seconds: u64) -> Result<(), AllocError>
+    ensures { OnOk result (writer.new ≡ writer.old ++ spec.seconds_member name.now seconds) }
+{
+    writer.put_bytes(b",\"")?;
     writer.put_bytes(name)?;
     writer.put_bytes(b"_seconds\":")?;
-    put_decimal(writer, moment.seconds())
+    put_decimal(writer, seconds)
 }

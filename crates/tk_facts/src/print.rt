@@ -1,9 +1,10 @@
 //! Prints what an input holds: `print_lines`.
 
-ghost use Rattle.std.specs.Prelude.{◌≡◌, drop, IfOk, OnOk, length, ◌≤◌};
+ghost use Rattle.std.specs.Prelude.{◌≡◌, ◌≤◌, IfErr, IfOk, MatchResult, drop, length};
 ghost use Rattle.tk_facts.specs.Pieces.{piece_lines};
 ghost use Rattle.tk_facts.specs.Printing as spec;
-ghost use Rattle.tk_facts.specs.Printing.{PrintsFirst, PrintsInput, PrintsPiece, PrintsWhole};
+ghost use Rattle.tk_facts.specs.Printing.{IsReadFault, PrintsFirst, PrintsInput, PrintsMore};
+ghost use Rattle.tk_facts.specs.Printing.{PrintsPiece, PrintsWhole, ReadsMore};
 
 use crate::lines::{put_items, put_vector};
 use crate::piece::{Piece, read_piece};
@@ -75,30 +76,61 @@ pub fn print_lines<I: Read, O: Write>(
     ensures { PrintsInput (I.remaining input.old) result (O.contents output.old)
         (O.contents output.new) }
 {
-    let mut piece = [0u8; READ_AT_ONCE];
     let mut buffer = Vec::new(alloc);
     let mut offset = 0u64;
     for _ in 0..u64::MAX {
-        let Ok(count) = input.read(&mut piece) else {
-            return Err(PrintFault::Read);
-        };
-        if count == 0 {
-            return Ok(buffer.len() as u64);
-        }
-        let Ok(()) = buffer.extend_from_slice(&piece[..count]) else {
-            return Err(PrintFault::Memory);
-        };
-        let (used, end) = print_pieces(alloc, &buffer, output);
-        offset = match outcome(end, offset.checked_add(used as u64)) {
-            Ok(place) => place,
+        match read_more(input, &mut buffer) {
+            Ok(true) => {}
+            Ok(false) => return Ok(buffer.len() as u64),
             Err(fault) => return Err(fault),
-        };
-        buffer = match without_front(alloc, buffer, used) {
-            Ok(rest) => rest,
-            Err(_) => return Err(PrintFault::Memory),
-        };
+        }
+        match print_more(alloc, buffer, offset, output) {
+            Ok(left) => (buffer, offset) = left,
+            Err(fault) => return Err(fault),
+        }
     }
     Err(PrintFault::Read)
+}
+
+// Reads once, behind the bytes of the buffer. Returns whether there was a byte.
+fn read_more<I: Read>(input: &mut I, buffer: &mut Vec<u8>) -> Result<bool, PrintFault>
+    ensures grown { IfOk result
+        (λ more. ReadsMore more (I.remaining input.old) (I.remaining input.new)
+        buffer.old.items buffer.new.items) }
+    ensures fault { IfErr result IsReadFault }
+{
+    let mut piece = [0u8; READ_AT_ONCE];
+    let Ok(count) = input.read(&mut piece) else {
+        return Err(PrintFault::Read);
+    };
+    match buffer.extend_from_slice(&piece[..count]) {
+        Ok(()) => Ok(count != 0),
+        Err(_) => Err(PrintFault::Memory),
+    }
+}
+
+// Prints the whole bundles and vectors of the buffer, which is at this offset of the input. Returns
+// the bytes behind them, and their offset.
+fn print_more<O: Write>(
+    alloc: Global,
+    buffer: Vec<u8>,
+    offset: u64,
+    output: &mut O,
+) -> Result<(Vec<u8>, u64), PrintFault>
+    ensures { MatchResult result
+        (λ left. PrintsMore buffer.items offset (Ok (left.0.items, left.1))
+        (O.contents output.old) (O.contents output.new))
+        (λ fault. PrintsMore buffer.items offset (Err fault) (O.contents output.old)
+        (O.contents output.new)) }
+{
+    let (used, end) = print_pieces(alloc, &buffer, output);
+    match outcome(end, offset.checked_add(used as u64)) {
+        Ok(place) => match without_front(alloc, buffer, used) {
+            Ok(rest) => Ok((rest, place)),
+            Err(_) => Err(PrintFault::Memory),
+        },
+        Err(fault) => Err(fault),
+    }
 }
 
 // Returns the offset at which reading goes on, or the fault that ends it. An input has fewer than
@@ -134,7 +166,7 @@ fn print_pieces<O: Write>(alloc: Global, bytes: &[u8], output: &mut O) -> (usize
 {
     let mut used = 0;
     while used < bytes.len() {
-        match print_first(alloc, &bytes[used..], output) {
+        match print_first(alloc, rest_of(bytes, used), output) {
             Step::Printed(count) => used += count,
             Step::Failed(count) => return (used + count, End::Output),
             Step::Cut => return (used, End::More),
@@ -143,6 +175,15 @@ fn print_pieces<O: Write>(alloc: Global, bytes: &[u8], output: &mut O) -> (usize
         }
     }
     (used, End::More)
+}
+
+// Returns the bytes behind the first `used` ones.
+#[tactic(auto, using(std::proofs::lemmas::List::take_rest))]
+fn rest_of(bytes: &[u8], used: usize) -> &[u8]
+    requires { used ≤ length bytes.now }
+    ensures { result.now ≡ drop used bytes.now }
+{
+    &bytes[used..]
 }
 
 // Prints the first bundle or vector of the bytes.
