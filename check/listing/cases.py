@@ -1,4 +1,5 @@
 """cases: what `tokend facts` is to print."""
+import datetime
 import json
 import os
 import random
@@ -7,7 +8,7 @@ import tempfile
 import unittest
 
 from listing.reading import lines_of
-from listing.writing import (BUNDLES, LAST, bundle, dot, fact, marks, moments, number, sign_out,
+from listing.writing import (BUNDLES, LAST, bundle, dot, fact, number, sign_out,
                              text, vector)
 
 PROGRAM = None  # the built command
@@ -68,7 +69,7 @@ class Kinds(unittest.TestCase):
         days = [days_before(year, month) for year in
                 [*range(1970, 2110), 2199, 2200, 2399, 2400, 2401, 9996, 9999]
                 for month in range(1, 13)]
-        seconds = [day * 86400 + shift for day in days for shift in (-1, 0) if day * 86400 + shift >= 0]
+        seconds = [day * 86400 + shift for day in days[1:] for shift in (-1, 0)]
         seconds += [draw.randrange(LAST + 1) for _ in range(20000)] + [0, LAST]
         data = b""
         for at in range(0, len(seconds), 128):
@@ -78,7 +79,7 @@ class Kinds(unittest.TestCase):
 
 
 def days_before(year, month):
-    import datetime
+    """The number of days from 1970 to the first of a month."""
     return (datetime.date(year, month, 1) - datetime.date(1970, 1, 1)).days
 
 
@@ -130,7 +131,8 @@ class Sources(unittest.TestCase):
 
     def test_standard_input_among_files(self):
         files = {"a": self.A}
-        self.assertEqual(run(self.B, "a", "-", "a", files=files), expected(self.A + self.B + self.A))
+        both = self.A + self.B + self.A
+        self.assertEqual(run(self.B, "a", "-", "a", files=files), expected(both))
         self.assertEqual(run(self.B, "-", "-"), expected(self.B))
 
     def test_each_end_that_is_cut_is_counted(self):

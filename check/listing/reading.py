@@ -1,7 +1,6 @@
 """reading: the lines of logs, bundles and vectors, read by docs/FORMATS.md alone.
 
-`lines_of` returns the objects of an input, and how the input ends: with None, or a number of cut
-bytes, or the offset of bad bytes.
+`lines_of` returns the objects of an input that isn't bad, and how many bytes at its end are cut.
 """
 import datetime
 
@@ -11,10 +10,6 @@ TOKENS = {1: "code", 2: "access_token", 3: "refresh_token"}
 EPOCH = datetime.datetime(1970, 1, 1)
 
 
-class Bad(Exception):
-    """The bytes are no bundle and no vector."""
-
-
 class Cut(Exception):
     """The bytes end before the bundle or the vector does."""
 
@@ -22,14 +17,17 @@ class Cut(Exception):
 class Bytes:
     """Bytes that are taken from the front."""
 
-    def __init__(self, left, why=Bad):
-        self.left, self.why = left, why
+    def __init__(self, data, at=0):
+        self.data, self.at = data, at
+
+    def is_empty(self):
+        return self.at == len(self.data)
 
     def take(self, count):
-        if len(self.left) < count:
-            raise self.why()
-        taken, self.left = self.left[:count], self.left[count:]
-        return taken
+        if self.at + count > len(self.data):
+            raise Cut()
+        self.at += count
+        return self.data[self.at - count:self.at]
 
     def number(self, count):
         return int.from_bytes(self.take(count), "big")
@@ -110,7 +108,7 @@ def item_of(item, horizon):
     """The object of an item of a bundle."""
     reader = Bytes(item)
     dot = reader.dot()
-    if not reader.left:
+    if reader.is_empty():
         return {"dot": dot, "kind": "mark", **moment("horizon", horizon)}
     kind = KINDS[reader.number(1) - 1]
     return {"dot": dot, "kind": kind, **fields_of(kind, reader)}
@@ -118,10 +116,7 @@ def item_of(item, horizon):
 
 def bundle_of(reader):
     """The objects of the bundle at the front."""
-    version = reader.take(4)
-    if version not in (b"OTB1", b"OTB2", b"OTB3"):
-        raise Bad()
-    horizon = reader.number(8) if version == b"OTB3" else None
+    horizon = reader.number(8) if reader.take(4) == b"OTB3" else None
     items = [reader.take(reader.number(2)) for _ in range(reader.number(2))]
     return [item_of(item, horizon) for item in items]
 
@@ -135,12 +130,12 @@ def vector_of(reader):
 
 def lines_of(data):
     """The objects of an input, and the number of bytes at its end that are cut."""
-    objects = []
-    while data:
-        reader = Bytes(data, Cut)
+    objects, at = [], 0
+    while at < len(data):
+        reader = Bytes(data, at)
         try:
-            objects += (vector_of if data[:4] == b"OTV1" else bundle_of)(reader)
+            objects += (vector_of if data[at:at + 4] == b"OTV1" else bundle_of)(reader)
         except Cut:
-            return objects, len(data)
-        data = reader.left
+            return objects, len(data) - at
+        at = reader.at
     return objects, 0
