@@ -1,6 +1,7 @@
 pub mod Commands
 pub mod Connections
 pub mod EventWords
+pub mod FactsLaws
 pub mod Growing
 pub mod KeptLogs
 pub mod KeptSlots
