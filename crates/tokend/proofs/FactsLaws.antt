@@ -127,3 +127,13 @@ texts_in s = map (λ (v : Bor Text). v.now) s.now
 pub rows_named : (f : Found) (id : Text) (r : Option (Bor (List (Bor Text)))) → option_map texts_in r ≡ option_map raw_values (matched_of f id)
     → unwrap_or (option_map texts_in r) [] ≡ unwrap_or (all_of id (rows_of f)) []
 rows_named f id r e = ap (λ (o : Option (List Text)). unwrap_or o []) (e ∙ raw_values-rows f id)
+
+pub some_named : (f : Found) (id : Text) (r : Option (Bor (List (Bor Text)))) (s : Bor (List (Bor Text))) → r ≡ Some s
+    → option_map texts_in r ≡ option_map raw_values (matched_of f id) → texts_in s ≡ unwrap_or (all_of id (rows_of f)) []
+some_named f id r s is e =
+    ap (λ (o : Option (Bor (List (Bor Text)))). unwrap_or (option_map texts_in o) []) (sym is) ∙ rows_named f id r e
+
+pub none_named : (f : Found) (id : Text) (r : Option (Bor (List (Bor Text)))) → r ≡ None
+    → option_map texts_in r ≡ option_map raw_values (matched_of f id) → [] ≡ unwrap_or (all_of id (rows_of f)) []
+none_named f id r is e =
+    ap (λ (o : Option (Bor (List (Bor Text)))). unwrap_or (option_map texts_in o) []) (sym is) ∙ rows_named f id r e

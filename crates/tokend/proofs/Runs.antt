@@ -239,7 +239,7 @@ ended_quietly words (Ok x) status a b c ends h e = of h
     of (inl kept) = inl (keeps_twice a b c kept ends.1)
     of (inr (inl asks)) = inr (inl asks)
     of (inr (inr told)) = let text = told.1.1 in
-      inr (inr (told.0, (told.1.0, record { front = text.front; rest = text.rest; parts = text.parts; appended = Appends-kept a b c text.front text.appended ends.1 })))
+        inr (inr (told.0, (told.1.0, record { front = text.front; rest = text.rest; parts = text.parts; appended = Appends-kept a b c text.front text.appended ends.1 })))
 ended_quietly words (Err fault) status a b c ends h e = absurd (no_status fault (sym ends.0 ∙ e))
 
 pub ended_badly : {T : Type 0} (words : List Text) (input : Option (List ℕ)) (old new : Option (List ℕ)) (ran : Result T Fault) (status k : ℕ)

@@ -126,7 +126,13 @@ fn tell_bad<E: Write>(faults: &mut E, name: &String, offset: u64) -> io::Result<
 {
     let mut digits = Buffer::new();
     let offset = digits.format(offset).as_bytes();
-    let pieces = [b"tokend: bad bytes at ", offset, b" of ", name.as_bytes(), b"\n"];
+    let pieces = [
+        b"tokend: bad bytes at ",
+        offset,
+        b" of ",
+        name.as_bytes(),
+        b"\n",
+    ];
     put_all(faults, &pieces)
 }
 
