@@ -8,7 +8,8 @@
 --   item_lines    the lines of items of a bundle
 --   entry_line    the line of an entry of a vector
 --   vector_lines  the lines of a vector
-use Rattle.std.specs.Prelude.{ℕ, zero, suc, ◌==◌, Bool, List, [], ◌++◌, codes, decimal, Option, Some, None}
+use Rattle.std.specs.Prelude.{ℕ, zero, suc, ◌==◌, Bool, List, [], ◌++◌, codes, decimal, Option}
+use Rattle.std.specs.Prelude.{Some, None}
 use Rattle.std.specs.Prelude.{if◌then◌else◌}
 use Rattle.std.specs.List.{flat_map}
 use Rattle.tk_handle.specs.declared.dot.Dot.{Dot}
@@ -45,7 +46,8 @@ kind_name (bodies.SubjectOut f) = codes "subject_out"
 -- the client kind, and the digest of the client's secret
 unfoldable pub secret_members : List ℕ → List ℕ → List ℕ
 secret_members kind digest =
-    plain_member (codes "client_kind") kind ++ plain_member (codes "secret_digest") (hex_text digest)
+    plain_member (codes "client_kind") kind
+    ++ plain_member (codes "secret_digest") (hex_text digest)
 
 -- the client kind, with the digest of the client's secret if it has one
 abbrev pub sort_members : Sort → List ℕ

@@ -60,7 +60,7 @@ pub(crate) enum Step {
 }
 
 /// Prints a line for each fact, each mark and each entry of a vector that an input holds, in order.
-/// Returns how many bytes at the input's end are the beginning of a bundle or a vector that was cut.
+/// Returns how many bytes at the input's end are the beginning of a bundle or vector that was cut.
 ///
 /// The input is read in pieces. Of its bytes those of one bundle or vector are kept at most, and
 /// those of one read. The call doesn't flush the output.

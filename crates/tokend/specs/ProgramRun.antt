@@ -107,8 +107,8 @@ IsFaultFor words input fault = FailsToServe words fault ⊎ FailsToRun words inp
 -- of facts leaves the lines before it; other faults leave the output unchanged
 abbrev pub Leaves : List Text → Option (List ℕ) → Fault → Option (List ℕ) → Option (List ℕ) → Type 0
 Leaves words input fault old new =
-    LeavesBegun (BeginsLines words input fault old new ⊎ (BeginsToServe words old new ⊎ AsksToShow words))
-    fault old new
+    LeavesBegun (BeginsLines words input fault old new
+    ⊎ (BeginsToServe words old new ⊎ AsksToShow words)) fault old new
 
 -- a beginning of the fault's line was written, or all of the line if the writer took it; clap
 -- writes the faults of arguments

@@ -4,7 +4,8 @@ ghost use Rattle.std.specs.Prelude.{◌≡◌, ◌++◌, ◌∷◌, [], codes, d
 ghost use Rattle.std.specs.IoError.{error_kind};
 ghost use Rattle.tokend.specs.declared.fault.Fault.TheVariants as fault;
 ghost use Rattle.tk_put.specs.Put.{Prints};
-ghost use Rattle.tokend.specs.Status.{facts_status, facts_text, fault_text, input_fault, status_of, IsUnopened, IsUnread};
+ghost use Rattle.tokend.specs.Status.{facts_status, facts_text, fault_text, input_fault};
+ghost use Rattle.tokend.specs.Status.{status_of, IsUnopened, IsUnread};
 
 use itoa::Buffer;
 use std::alloc::{AllocError, AllocFailed, Global};

@@ -26,7 +26,7 @@
 //! - `start`: a service before its first connection. `listen`: its port.
 //! - `serve`: its connections. `closing`: what is left of them after the reply.
 //! - `loopback`: a script's requests as connections.
-//! - `facts`: the facts of files as lines.
+//! - `sources`, `facts`: the files whose facts are printed; their lines.
 //! - `fault`: what may go wrong, with its line and status.
 //! - `program`: the whole program, in order.
 //! - `promises`: the promises about regions.
@@ -48,6 +48,7 @@ mod program;
 pub mod promises;
 mod script;
 mod serve;
+mod sources;
 mod start;
 mod timed;
 

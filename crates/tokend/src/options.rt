@@ -1,6 +1,6 @@
 //! The task that the arguments request: `options` reads a `Task` from them.
 
-ghost use Rattle.std.specs.Prelude.{◌≡◌, ◌⊎◌, ◌<◌, ◌^◌, ℕ, IfOk, IfErr, IfSome, IfNone, map, false, string_bytes};
+ghost use Rattle.std.specs.Prelude.{◌≡◌, ◌⊎◌, ◌<◌, ◌^◌, ℕ, IfOk, IfErr, IfSome, IfNone, map, false};
 ghost use Rattle.std.specs.Prelude.{if◌then◌else◌};
 ghost use Rattle.clap.specs.Words.{kind_of, rows_of, found_of, subcommand_rows_of};
 ghost use Rattle.clap.specs.declared.error.kind.ErrorKind.TheVariants as kind;
@@ -14,7 +14,6 @@ ghost use Rattle.tokend.specs.CommandLine.{
   HasNumber,
   HasNumbers,
   HasService,
-  HasSources,
   HasText,
 };
 ghost use Rattle.tokend.specs.Task.{Asks, IsTask, IsNoService, IsNoTask, IsNoText, IsRefusalOf};
@@ -23,6 +22,7 @@ ghost use Rattle.tokend.specs.declared.options.Numbers.{Numbers as NumbersValue}
 
 use crate::command_line::tokend_command;
 use crate::fault::Fault;
+use crate::sources::read_sources;
 use clap::error::ErrorKind;
 use clap::{ArgMatches, Command, Error};
 use std::alloc::{AllocError, Global};
@@ -267,33 +267,6 @@ fn read_matches(alloc: Global, matches: &ArgMatches<'_>) -> Result<Option<Task>,
         };
     }
     Ok(None)
-}
-
-// Reads the sources of facts, as they were given.
-fn read_sources(alloc: Global, matches: &ArgMatches<'_>) -> Result<Sources, AllocError>
-    ensures { IfOk result (HasSources (rows_of (found_of matches.now))) }
-{
-    match matches.get_strs("file") {
-        Some(names) => match copied(alloc, names) {
-            Ok(names) => Ok(Sources { names }),
-            Err(error) => Err(error),
-        },
-        None => Ok(Sources {
-            names: Vec::new(alloc),
-        }),
-    }
-}
-
-// Copies texts, in order.
-fn copied(alloc: Global, texts: &[&str]) -> Result<Vec<String>, AllocError>
-    ensures { IfOk result
-        (λ copies. map string_bytes copies.items ≡ map (λ text. text.now) texts.now) }
-{
-    let mut copies = Vec::new(alloc);
-    for text in texts {
-        copies.push(String::from_str(alloc, text)?)?;
-    }
-    Ok(copies)
 }
 
 // Reads the task `serve`.

@@ -1,5 +1,5 @@
 use Rattle.std.proofs.Common.{◌≡◌, ℕ, List, Bor, map, take, string_bytes}
-use Rattle.tokend.proofs.options.copied.Given as goal
+use Rattle.tokend.proofs.sources.copied.Given as goal
 
 -- the texts so far are copied
 abbrev pub invariant-loop-text : goal.invariant-loop-text

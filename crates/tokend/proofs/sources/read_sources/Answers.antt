@@ -1,7 +1,7 @@
 use Rattle.std.proofs.Common.{ap, map, string_bytes, codes, ◌∙◌}
 use Rattle.clap.specs.Words.{found_of}
 use Rattle.tokend.proofs.FactsLaws.{none_named, some_named}
-use Rattle.tokend.proofs.options.read_sources.Goals as goal
+use Rattle.tokend.proofs.sources.read_sources.Goals as goal
 
 pub returns-in-Ok : goal.returns-in-Ok
 returns-in-Ok c =
