@@ -7,15 +7,15 @@ import re
 from comparing.texts import OPERATING, PAGE, coded, rows, same, text_of
 
 FAULT, SERVE = "crates/tokend/src/fault.rt", "crates/tokend/src/serve.rt"
-LISTEN = "crates/tokend/src/listen.rt"
+LISTEN, FACTS = "crates/tokend/src/listen.rt", "crates/tokend/src/facts.rt"
 START_PAGE = "docs/tokend-start.1"
-LINE = r'Fault::(\w+)(?:\(\w+\))? => (?:put_all|tell_\w+)\(faults, [^"\n]*b"([^"]*)"'
+LINE = r'\bFault::(\w+)(?:\(\w+\))? => (?:put_all|tell_\w+)\(faults, [^"\n]*b"([^"]*)"'
 
 
 def statuses_of_sources(fault):
-    arms = fault.split("fn status(", 1)[1].split("\n    }\n", 1)[0]
+    arms = fault.split("impl Fault {", 1)[1].split("fn status(", 1)[1].split("\n    }\n", 1)[0]
     statuses = {}
-    for names, number in re.findall(r"((?:Fault::\w+(?:\(_\))?\s*\|?\s*)+)=> (\d)", arms):
+    for names, number in re.findall(r"((?:\bFault::\w+(?:\(_\))?\s*\|?\s*)+)=> (\d)", arms):
         for name in re.findall(r"Fault::(\w+)", names):
             statuses[name] = int(number)
     return statuses
@@ -29,6 +29,9 @@ def of_sources():
         key = line.replace("\\n", "") + ("FILE" if line.endswith(" ") else "")
         errors[key] = statuses.pop(name)
     errors[re.search(r'b"(tokend: bad line )"', fault).group(1) + "K"] = statuses.pop("BadLine")
+    bad = int(re.search(r"FactsFault::Bad\(_, _\) => (\d)", fault)[1])
+    errors[re.search(r'b"(tokend: bad bytes at )"', fault)[1] + "N of FILE"] = bad
+    errors[re.search(r'b"(tokend: dropped )"', text_of(FACTS))[1] + "N bytes"] = None
     same(FAULT, "faults without a line of their own", {"Words": 2, "Output": 1}, statuses)
     for name in re.findall(r'EdgeFault::\w+ => put_all\(faults, &\[b"([^"\\]*)\\n"\]\)', serve):
         errors[name] = None

@@ -2,6 +2,7 @@ pub mod Announcements
 pub mod Commands
 pub mod Connections
 pub mod EventWords
+pub mod FactsLaws
 pub mod Growing
 pub mod KeptLogs
 pub mod KeptSlots

@@ -25,8 +25,13 @@ use Rattle.tokend.specs.ProgramRun.{BeginsLines, BeginsToServe, FailsToRun, Fail
 use Rattle.tokend.specs.Status.{fault_text, status_of, LeavesBegun}
 use Rattle.tokend.specs.declared.options.Service.{Service}
 use Rattle.tokend.specs.declared.options.Task.TheVariants.{Serve}
+use Rattle.tokend.specs.declared.options.Task.TheVariants.{Facts as PrintFacts}
+use Rattle.tokend.specs.declared.options.Sources.{Sources}
+use Rattle.tokend.specs.FactsRun.{BeginsFacts, PrintsFacts, cut_text}
+use Rattle.std.proofs.KnownBytes.{Appends-kept}
 use Rattle.tokend.specs.declared.fault.Fault.{Fault}
-use Rattle.tokend.specs.declared.fault.Fault.TheVariants.{BadLine, BadLogFile, BadSeedFile, CannotListen, CannotOpen, CannotRead, CannotReadFile, Memory, Output, ScriptTooLong, SocketFailed, Words}
+use Rattle.tokend.specs.declared.fault.Fault.TheVariants.{BadLine, BadLogFile, BadSeedFile, CannotListen, CannotOpen, CannotRead, CannotReadFile, Facts, Memory, Output, ScriptTooLong, SocketFailed, Words}
+use Rattle.tokend.specs.declared.fault.FactsFault.TheVariants as facts
 
 -- the run of a script that was read, if the input's bytes are known
 script_run : (mode : Mode) (input : Option (List ℕ)) (events : List Event) (outcomes : List Outcome) → IfSome input (λ script. IsScript mode.longest script events) → mode.Runs events outcomes
@@ -72,6 +77,7 @@ read_fault longest input script (Err fault) short whole h = of fault h
     of BadSeedFile h = absurd h
     of BadLogFile h = absurd h
     of ScriptTooLong h = absurd h
+    of (Facts why) h = absurd h
     of Output h = absurd h
 
 -- the faults of a task are those of the program
@@ -86,7 +92,8 @@ task_fault words input (Words error) h = absurd (none h)
         by (inl h) = h
         by (inr (inl e)) = absurd (cc)
         by (inr (inr e)) = absurd (cc)
-    none (inr (inr runs)) = by runs.2
+    none (inr (inr (inr prints))) = prints.2
+    none (inr (inr (inl runs))) = by runs.2
       where
         by : IsScriptFault (by_loopback runs.0) input (Words error) → ⊥
         by (inl h) = h
@@ -103,6 +110,7 @@ task_fault words input BadSeedFile h = h
 task_fault words input BadLogFile h = h
 task_fault words input ScriptTooLong h = h
 task_fault words input (BadLine number) h = h
+task_fault words input (Facts why) h = h
 
 pub faults_of_task : {T : Type 0} (words : List Text) (input : Option (List ℕ)) (P : Fault → Type 0) (r : Result T Fault)
     → ((fault : Fault) → P fault → FailsToServe words fault ⊎ FailsToRun words input fault) → IfErr r P → IfErr r (IsFaultFor words input)
@@ -123,12 +131,34 @@ begun_less A B BadLogFile old new f h = h
 begun_less A B ScriptTooLong old new f h = h
 begun_less A B (BadLine number) old new f h = h
 begun_less A B Memory old new f h = h
+begun_less A B (Facts why) old new f h = f h
 
 pub left_by_task : {T : Type 0} (words : List Text) (input old new : Option (List ℕ)) (A : Type 0) (r : Result T Fault)
-    → (A → BeginsLines words input old new ⊎ (BeginsToServe words old new ⊎ AsksToShow words)) → IfErr r (λ fault. LeavesBegun A fault old new)
+    → (A → (fault : Fault) → BeginsLines words input fault old new ⊎ (BeginsToServe words old new ⊎ AsksToShow words))
+    → IfErr r (λ fault. LeavesBegun A fault old new)
     → IfErr r (λ fault. Leaves words input fault old new)
 left_by_task words input old new A (Ok x) f h = tt
-left_by_task words input old new A (Err fault) f h = begun_less A _ fault old new f h
+left_by_task words input old new A (Err fault) f h = begun_less A _ fault old new (λ a. f a fault) h
+
+-- what a fault of facts leaves is what the program's leaves
+pub left_by_facts : {T : Type 0} (words : List Text) (input old new : Option (List ℕ)) (sources : Sources) (r : Result T Fault) → Asks words (PrintFacts sources)
+    → IfErr r (λ fault. LeavesBegun (BeginsFacts sources input fault old new) fault old new) → IfErr r (λ fault. Leaves words input fault old new)
+left_by_facts words input old new sources (Ok x) asks h = tt
+left_by_facts words input old new sources (Err fault) asks h =
+    begun_less (BeginsFacts sources input fault old new) _ fault old new (λ begun. inl (inr (inr (sources, asks, begun)))) h
+
+-- the facts that were printed are the program's lines
+pub facts_done : {T : Type 0} (words : List Text) (input old new : Option (List ℕ)) (sources : Sources) (r : Result T Fault) → Asks words (PrintFacts sources)
+    → OnOk r (PrintsFacts sources input old new) → OnOk r (IsDone words input old new)
+facts_done words input old new sources (Ok x) asks h = inl (inr (inr (sources, asks, h)))
+facts_done words input old new sources (Err fault) asks h = tt
+
+-- facts write no fault but the number of bytes that were dropped
+pub facts_quiet : {T : Type 0} (words : List Text) (sources : Sources) (old new : Option (List ℕ)) (r : Result T Fault) → Asks words (PrintFacts sources)
+    → OnOk r (Keeps old new ⊎ ((cut : ℕ) × AppendsFront old new (cut_text cut))) → OnOk r (IsQuiet words old new)
+facts_quiet words sources old new (Ok x) asks (inl kept) = inl kept
+facts_quiet words sources old new (Ok x) asks (inr told) = inr (inr ((sources, asks), told))
+facts_quiet words sources old new (Err fault) asks h = tt
 
 -- the lines that a script's run printed are the program's
 pub script_done : {T : Type 0} (words : List Text) (input old new : Option (List ℕ)) (P : Type 0) (r : Result T Fault)
@@ -145,7 +175,7 @@ service_done words input old new faults service (Err fault) asks h = tt
 
 pub service_quiet : {T : Type 0} (words : List Text) (old new : Option (List ℕ)) (r : Result T Fault) → AsksToServe words
     → OnOk r (IsQuiet words old new)
-service_quiet words old new (Ok x) asks = inr asks
+service_quiet words old new (Ok x) asks = inr (inl asks)
 service_quiet words old new (Err fault) asks = tt
 
 -- a run that writes no fault is quiet
@@ -188,23 +218,10 @@ no_status BadLogFile e = absurd (cc)
 no_status ScriptTooLong e = absurd (cc)
 no_status (BadLine number) e = absurd (cc)
 no_status Memory e = absurd (cc)
+no_status (Facts (facts.Bad name offset)) e = absurd (cc)
+no_status (Facts (facts.Unread name)) e = absurd (cc)
+no_status (Facts facts.Memory) e = absurd (cc)
 no_status Output e = absurd (cc)
-
--- a fault of status 2 leaves the output unchanged
-keeps_by : (words : List Text) (input : Option (List ℕ)) (fault : Fault) (old new : Option (List ℕ)) → status_of fault ≡ 2
-    → Leaves words input fault old new → Keeps old new
-keeps_by words input (Words error) old new e h = h
-keeps_by words input CannotRead old new e h = h
-keeps_by words input (CannotReadFile name) old new e h = h
-keeps_by words input (CannotOpen name) old new e h = h
-keeps_by words input CannotListen old new e h = h
-keeps_by words input SocketFailed old new e h = h
-keeps_by words input BadSeedFile old new e h = h
-keeps_by words input BadLogFile old new e h = h
-keeps_by words input ScriptTooLong old new e h = h
-keeps_by words input (BadLine number) old new e h = h
-keeps_by words input Memory old new e h = h
-keeps_by words input Output old new e h = absurd (cc)
 
 -- how a run ends: with its status, and with the line of its fault
 abbrev pub Ends : {T : Type 0} → Result T Fault → ℕ → Option (List ℕ) → Option (List ℕ) → Type 0
@@ -220,7 +237,9 @@ ended_quietly words (Ok x) status a b c ends h e = of h
   where
     of : IsQuiet words a b → IsQuiet words a c
     of (inl kept) = inl (keeps_twice a b c kept ends.1)
-    of (inr asks) = inr asks
+    of (inr (inl asks)) = inr (inl asks)
+    of (inr (inr told)) = let text = told.1.1 in
+        inr (inr (told.0, (told.1.0, record { front = text.front; rest = text.rest; parts = text.parts; appended = Appends-kept a b c text.front text.appended ends.1 })))
 ended_quietly words (Err fault) status a b c ends h e = absurd (no_status fault (sym ends.0 ∙ e))
 
 pub ended_badly : {T : Type 0} (words : List Text) (input : Option (List ℕ)) (old new : Option (List ℕ)) (ran : Result T Fault) (status k : ℕ)
@@ -234,7 +253,6 @@ ended_badly words input old new (Err fault) status k a b c ends faults left sile
 pub ended_refused : {T : Type 0} (words : List Text) (input : Option (List ℕ)) (old new : Option (List ℕ)) (ran : Result T Fault) (status : ℕ)
     (a b c : Option (List ℕ)) → Ends ran status b c → IfErr ran (IsFaultFor words input) → IfErr ran (λ fault. Leaves words input fault old new)
     → OnErr ran (Keeps a b) → status ≡ 2
-    → (fault : Fault) × (status_of fault ≡ 2) × IsFaultFor words input fault × Keeps old new × Tells fault a c
+    → (fault : Fault) × (status_of fault ≡ 2) × IsFaultFor words input fault × Leaves words input fault old new × Tells fault a c
 ended_refused words input old new ran status a b c ends faults left silent e =
-    let h = ended_badly words input old new ran status 2 a b c ends faults left silent e (omega (arith)) in
-    (h.0, h.1, h.2, keeps_by words input h.0 old new h.1 h.3, h.4)
+    ended_badly words input old new ran status 2 a b c ends faults left silent e (omega (arith))

@@ -15,7 +15,7 @@ use Rattle.tokend.specs.ServiceRun.{HasOpened, HasRun, IsServiceRun, with_region
 use Rattle.tokend.specs.Serving.{Announces, IsListenFault, IsStartFault}
 use Rattle.tokend.specs.Starting.{IsStart, LoadsOld, PrunesOld}
 use Rattle.tokend.specs.declared.fault.Fault.{Fault}
-use Rattle.tokend.specs.declared.fault.Fault.TheVariants.{BadLine, BadLogFile, BadSeedFile, CannotListen, CannotOpen, CannotRead, CannotReadFile, Memory, Output, ScriptTooLong, SocketFailed, Words}
+use Rattle.tokend.specs.declared.fault.Fault.TheVariants.{BadLine, BadLogFile, BadSeedFile, CannotListen, CannotOpen, CannotRead, CannotReadFile, Facts, Memory, Output, ScriptTooLong, SocketFailed, Words}
 use Rattle.tokend.specs.declared.options.Service.{Service}
 
 listen_fault : (service : Service) (fault : Fault) → IsListenFault fault → IsStartFault service fault
@@ -30,6 +30,7 @@ listen_fault service SocketFailed h = absurd h
 listen_fault service (CannotReadFile name) h = absurd h
 listen_fault service BadSeedFile h = absurd h
 listen_fault service ScriptTooLong h = absurd h
+listen_fault service (Facts why) h = absurd h
 listen_fault service (BadLine number) h = absurd h
 
 pub listen_faults : {T : Type 0} (service : Service) (r : Result T Fault) → IfErr r IsListenFault → IfErr r (IsStartFault service)

@@ -4,7 +4,7 @@
 --   fails_by        clap names its fault in the arguments
 --   refused_by      the reason why clap refused the arguments
 --   asked_by        the matches' task is that of the arguments
-use Rattle.std.proofs.Common.{◌≡◌, ℕ, Bool, true, false, List, [], Option, Some, None, option_map, Result, Ok, Err, inl, inr, refl, sym, ap, subst, ◌∙◌, codes}
+use Rattle.std.proofs.Common.{◌≡◌, ℕ, Bool, true, false, List, [], Option, Some, None, option_map, Result, Ok, Err, inl, inr, refl, sym, ap, subst, ◌∙◌, codes, get_or, arith}
 use Rattle.std.specs.Prelude.{◌&&◌, IsSome, String, is_some, not, string_bytes}
 use Rattle.std.specs.Borrow.{Bor}
 use Rattle.std.specs.Str.{bytes_eq}
@@ -22,7 +22,7 @@ use Rattle.tokend.specs.Task.{Asks, IsNoService, IsNoTask, IsRefusalOf, IsTask, 
 use Rattle.tokend.specs.declared.options.Numbers.{Numbers}
 use Rattle.tokend.specs.declared.options.Service.{Service}
 use Rattle.tokend.specs.declared.options.Task.{Task}
-use Rattle.tokend.specs.declared.options.Task.TheVariants.{Script, Loopback, Serve}
+use Rattle.tokend.specs.declared.options.Task.TheVariants.{Script, Loopback, Serve, Facts}
 
 -- two names for the rows of a subcommand are equal
 one_rows : (found : Option (Text × List Row)) (rows others : List Row) (name : Text) → option_map (λ p. p.1) found ≡ Some rows
@@ -47,6 +47,10 @@ no_script found rows named at none (Loopback numbers) h = not_loopback (other_na
   where
     not_loopback : codes "script" ≡ codes "loopback" → ⊥
     not_loopback e = absurd (cc)
+no_script found rows named at none (Facts sources) h = not_facts (other_name found h.0 _ _ named h.1)
+  where
+    not_facts : codes "script" ≡ codes "facts" → ⊥
+    not_facts e = absurd (cc)
 no_script found rows named at none (Serve service) h = not_serve (other_name found h.0 _ _ named h.1)
   where
     not_serve : codes "script" ≡ codes "serve" → ⊥
@@ -61,6 +65,10 @@ no_loopback found rows named at none (Script numbers) h = not_script (other_name
     not_script e = absurd (cc)
 no_loopback found rows named at none (Loopback numbers) h =
     none numbers (subst (λ r. HasNumbers r numbers) (sym (one_rows found rows h.0 _ at h.1)) h.2)
+no_loopback found rows named at none (Facts sources) h = not_facts (other_name found h.0 _ _ named h.1)
+  where
+    not_facts : codes "loopback" ≡ codes "facts" → ⊥
+    not_facts e = absurd (cc)
 no_loopback found rows named at none (Serve service) h = not_serve (other_name found h.0 _ _ named h.1)
   where
     not_serve : codes "loopback" ≡ codes "serve" → ⊥
@@ -77,6 +85,13 @@ no_service found rows named at none (Loopback numbers) h = not_loopback (other_n
   where
     not_loopback : codes "serve" ≡ codes "loopback" → ⊥
     not_loopback e = absurd (cc)
+no_service found rows named at none (Facts sources) h = not_facts (other_name found h.0 _ _ named h.1)
+  where
+    not_facts : codes "serve" ≡ codes "facts" → ⊥
+    not_facts e = first_letter (ap (λ (t : Text). get_or t 0 0) e)
+      where
+        first_letter : ◌≡◌ {A = ℕ} 115 102 → ⊥
+        first_letter e = omega (arith, e)
 no_service found rows named at none (Serve service) h =
     none service (subst (λ r. HasService r service) (sym (one_rows found rows h.0 _ at h.1)) h.2)
 

@@ -10,6 +10,7 @@
 --   HasFlag         whether an option without a value was given
 --   HasNumbers      clap's matches have these five settings
 --   HasService      clap's matches have this service
+--   HasSources      clap's matches have these sources of facts
 use Rattle.std.specs.Prelude.{
   ◌≡◌,
   ℕ,
@@ -26,7 +27,9 @@ use Rattle.std.specs.Prelude.{
   IsSome,
   String,
   codes,
+  map,
   option_map,
+  unwrap_or,
   string_bytes,
   Bool,
   true,
@@ -39,6 +42,7 @@ use Rattle.clap.specs.Words.{
   Row,
   Rule,
   Text,
+  all_of,
   first_of,
   new_app,
   new_rule,
@@ -61,6 +65,7 @@ use Rattle.tokend.specs.declared.command_line.Takes.{Takes}
 use Rattle.tokend.specs.declared.command_line.Takes.TheVariants as takes
 use Rattle.tokend.specs.declared.options.Numbers.{Numbers}
 use Rattle.tokend.specs.declared.options.Service.{Service}
+use Rattle.tokend.specs.declared.options.Sources.{Sources}
 
 -- the greatest port
 abbrev pub greatest_port : ℕ
@@ -158,9 +163,22 @@ events_app =
     (new_app (codes "tokend")))
     script_app.top) loopback_app.top
 
--- the program with its three subcommands
+-- the names of files, as many as are given
+abbrev pub names_rule : Rule
+names_rule =
+    record (new_rule (codes "file")) { value_names = 1; action = Some action.Append }
+
+-- the subcommand `facts`
+abbrev pub facts_app : App
+facts_app = with_rules (new_app (codes "facts")) (names_rule ∷ [])
+
+-- the program without the subcommand `facts`
+abbrev pub served_app : App
+served_app = with_subcommand events_app serve_app.top
+
+-- the program with its four subcommands
 abbrev pub tokend_app : App
-tokend_app = with_subcommand events_app serve_app.top
+tokend_app = with_subcommand served_app facts_app.top
 
 -- the text is decimal digits, perhaps after a `+`, that stand for this number
 abbrev pub IsDecimal : Text → ℕ → Type 0
@@ -213,6 +231,10 @@ pub record HasService (rows : List Row) (s : Service) : Type 0 where
       → ¬ (HasNumber rows (codes "prune") 0 greatest_moment n))
   pub log_taken : HasFlag rows (codes "log-taken") s.log_taken
   pub logged : s.log_taken ≡ true → IsSome s.log
+
+-- the rows have these names of sources
+abbrev pub HasSources : List Row → Sources → Type 0
+HasSources rows s = map string_bytes s.names.items ≡ unwrap_or (all_of (codes "file") rows) []
 
 -- the settings of these numbers
 abbrev pub settings_of : Numbers → SettingsFields

@@ -18,6 +18,7 @@
 --                 output
 --   ScriptRun     IsScriptRun, the lines of a script that is run; in_world, a run in a world
 --   LoopbackRun   by_sockets, the way of requests through sockets; by_loopback, a run with these
+--   FactsRun      PrintsFacts, what printing the facts of sources does
 --   ProgramRun    IsDone, IsFaultFor: what a run of the program does
 pub mod CommandLine
 pub mod Task
@@ -34,4 +35,5 @@ pub mod KeptLog
 pub mod Status
 pub mod ScriptRun
 pub mod LoopbackRun
+pub mod FactsRun
 pub mod ProgramRun

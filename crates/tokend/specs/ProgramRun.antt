@@ -9,6 +9,7 @@
 --   IsFaultFor      the faults that a run may have
 --   Leaves          what a fault leaves of the output
 --   Tells           what is written of a fault
+--   TellsCut        the number of bytes that were dropped is written
 --   IsQuiet         no fault is written
 use Rattle.std.specs.Prelude.{◌⊎◌, ⊤, ℕ, List, Option, IfSome}
 use Rattle.std.specs.Io.KnownBytes.{Keeps}
@@ -38,23 +39,29 @@ use Rattle.tokend.specs.Status.{fault_text, LeavesBegun}
 use Rattle.tokend.specs.declared.fault.Fault.{Fault}
 use Rattle.tokend.specs.declared.fault.Fault.TheVariants.{Memory, Output, Words}
 use Rattle.tokend.specs.declared.options.Service.{Service}
-use Rattle.tokend.specs.declared.options.Task.TheVariants.{Serve}
+use Rattle.tokend.specs.declared.options.Sources.{Sources}
+use Rattle.tokend.specs.declared.options.Task.TheVariants.{Serve, Facts}
+use Rattle.tokend.specs.FactsRun.{BeginsFacts, IsFactsFault, PrintsFacts, cut_text}
 
--- the arguments request a script, by sockets or not, and its lines were written
+-- the arguments request a script, by sockets or not, or facts, and the lines were written
 abbrev pub PrintsLines : List Text → Option (List ℕ) → Option (List ℕ) → Option (List ℕ) → Type 0
 PrintsLines words input old new =
     ((settings : SettingsFields) × Asks words (script_task settings)
     × PrintsScript (in_world settings) input old new)
-    ⊎ ((settings : SettingsFields) × Asks words (loopback_task settings)
+    ⊎ (((settings : SettingsFields) × Asks words (loopback_task settings)
     × PrintsScript (by_loopback settings) input old new)
+    ⊎ ((sources : Sources) × Asks words (Facts sources) × PrintsFacts sources input old new))
 
--- the arguments request a script, by sockets or not, and a beginning of its lines was written
-abbrev pub BeginsLines : List Text → Option (List ℕ) → Option (List ℕ) → Option (List ℕ) → Type 0
-BeginsLines words input old new =
+-- the arguments request a script, by sockets or not, or facts, and a beginning of the lines was
+-- written before the fault
+abbrev pub BeginsLines : List Text → Option (List ℕ) → Fault → Option (List ℕ) → Option (List ℕ)
+    → Type 0
+BeginsLines words input fault old new =
     ((settings : SettingsFields) × Asks words (script_task settings)
     × BeginsScript (in_world settings) input old new)
-    ⊎ ((settings : SettingsFields) × Asks words (loopback_task settings)
+    ⊎ (((settings : SettingsFields) × Asks words (loopback_task settings)
     × BeginsScript (by_loopback settings) input old new)
+    ⊎ ((sources : Sources) × Asks words (Facts sources) × BeginsFacts sources input fault old new))
 
 -- the arguments request a service, and it has run: it was announced, and its connections were
 -- served
@@ -72,13 +79,15 @@ abbrev pub FailsToServe : List Text → Fault → Type 0
 FailsToServe words fault =
     (service : Service) × Asks words (Serve service) × IsServiceFault service fault
 
--- the arguments request a script, by sockets or not, and the fault is one of that script
+-- the arguments request a script, by sockets or not, and the fault is one of that script, or they
+-- request facts, and the fault is one of their sources
 abbrev pub FailsToRun : List Text → Option (List ℕ) → Fault → Type 0
 FailsToRun words input fault =
     ((settings : SettingsFields) × Asks words (script_task settings)
     × IsScriptFault (in_world settings) input fault)
-    ⊎ ((settings : SettingsFields) × Asks words (loopback_task settings)
+    ⊎ (((settings : SettingsFields) × Asks words (loopback_task settings)
     × IsScriptFault (by_loopback settings) input fault)
+    ⊎ ((sources : Sources) × Asks words (Facts sources) × IsFactsFault fault))
 
 -- the lines of a script were written, a service has run, or the arguments request help or the
 -- version
@@ -94,18 +103,25 @@ IsFaultFor words input Memory = ⊤
 IsFaultFor words input Output = ⊤
 IsFaultFor words input fault = FailsToServe words fault ⊎ FailsToRun words input fault
 
--- the output that failed has a beginning of what would have been printed; other faults leave the
--- output unchanged
+-- the output that failed has a beginning of what would have been printed, and the fault of a source
+-- of facts leaves the lines before it; other faults leave the output unchanged
 abbrev pub Leaves : List Text → Option (List ℕ) → Fault → Option (List ℕ) → Option (List ℕ) → Type 0
 Leaves words input fault old new =
-    LeavesBegun (BeginsLines words input old new ⊎ (BeginsToServe words old new ⊎ AsksToShow words))
-    fault old new
+    LeavesBegun (BeginsLines words input fault old new
+    ⊎ (BeginsToServe words old new ⊎ AsksToShow words)) fault old new
 
 -- a beginning of the fault's line was written, or all of the line if the writer took it; clap
 -- writes the faults of arguments
 abbrev pub Tells : Fault → Option (List ℕ) → Option (List ℕ) → Type 0
 Tells fault old new = IfSome (fault_text fault) (AppendsFront old new)
 
--- no fault is written, unless a service wrote those of its connections
+-- the arguments request facts, and the number of bytes that were dropped was written
+abbrev pub TellsCut : List Text → Option (List ℕ) → Option (List ℕ) → Type 0
+TellsCut words old new =
+    ((sources : Sources) × Asks words (Facts sources))
+    × ((cut : ℕ) × AppendsFront old new (cut_text cut))
+
+-- no fault is written, unless a service wrote those of its connections, or bytes of sources of
+-- facts were dropped
 abbrev pub IsQuiet : List Text → Option (List ℕ) → Option (List ℕ) → Type 0
-IsQuiet words old new = Keeps old new ⊎ AsksToServe words
+IsQuiet words old new = Keeps old new ⊎ (AsksToServe words ⊎ TellsCut words old new)

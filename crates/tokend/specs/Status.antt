@@ -1,5 +1,7 @@
 -- The faults of the program.
 --   status_of     the exit status of a fault
+--   facts_status  the exit status of a source whose facts weren't printed to its end
+--   facts_text    the line of such a source
 --   fault_text    the line of a fault
 --   input_fault   the fault of an input that fails
 --   LeavesBegun   what a fault leaves of the output
@@ -35,9 +37,18 @@ use Rattle.tokend.specs.declared.fault.Fault.TheVariants.{
   BadLine,
   BadSeedFile,
   BadLogFile,
+  Facts,
   Memory,
   Output,
 }
+use Rattle.tokend.specs.declared.fault.FactsFault.{FactsFault}
+use Rattle.tokend.specs.declared.fault.FactsFault.TheVariants.{Bad, Unread, Memory as NoMemory}
+
+-- the exit status of a source whose facts weren't printed to its end: 2 if it is bad
+abbrev pub facts_status : FactsFault → ℕ
+facts_status (Bad name offset) = 2
+facts_status (Unread name) = 1
+facts_status NoMemory = 1
 
 -- the exit status: 1 for memory and devices, 2 for arguments, scripts, seeds and logs
 abbrev pub status_of : Fault → ℕ
@@ -52,12 +63,21 @@ status_of (CannotOpen name) = 1
 status_of CannotListen = 1
 status_of SocketFailed = 1
 status_of Memory = 1
+status_of (Facts fault) = facts_status fault
 status_of Output = 1
 
 -- the fault of an input that fails, which may be out of memory, too
 abbrev pub input_fault : ErrorKind → Fault
 input_fault OutOfMemory = Memory
 input_fault kind = CannotRead
+
+-- the line of a source whose facts weren't printed to its end
+abbrev pub facts_text : FactsFault → List ℕ
+facts_text (Bad name offset) =
+    codes "tokend: bad bytes at "
+    ++ (decimal offset ++ (codes " of " ++ (string_bytes name ++ 10 ∷ [])))
+facts_text (Unread name) = codes "tokend: cannot read " ++ (string_bytes name ++ 10 ∷ [])
+facts_text NoMemory = codes "tokend: memory" ++ 10 ∷ []
 
 -- the line of a fault; clap writes the faults of arguments, and an output that failed has no line
 abbrev pub fault_text : Fault → Option (List ℕ)
@@ -73,12 +93,14 @@ fault_text BadLogFile = Some (codes "tokend: bad log file" ++ 10 ∷ [])
 fault_text ScriptTooLong = Some (codes "tokend: script too long" ++ 10 ∷ [])
 fault_text (BadLine number) = Some (codes "tokend: bad line " ++ (decimal number ++ 10 ∷ []))
 fault_text Memory = Some (codes "tokend: memory" ++ 10 ∷ [])
+fault_text (Facts fault) = Some (facts_text fault)
 fault_text Output = Some []
 
--- the output that failed has a beginning of what was to be written, by this statement; other faults
--- leave the output unchanged
+-- the output that failed has a beginning of what was to be written, by this statement, and so has
+-- that of a source whose facts weren't printed to its end; other faults leave the output unchanged
 abbrev pub LeavesBegun : Type 0 → Fault → Option (List ℕ) → Option (List ℕ) → Type 0
 LeavesBegun begins Output old new = begins
+LeavesBegun begins (Facts fault) old new = begins
 LeavesBegun begins fault old new = Keeps old new
 
 -- the fault of a file that can't be read: it names the file, unless there is no memory for the name

@@ -23,12 +23,13 @@ use Rattle.clap.specs.declared.error.kind.ErrorKind.TheVariants.{
   MissingSubcommand,
 }
 use Rattle.tk_region.specs.SettingsFields.{SettingsFields}
-use Rattle.tokend.specs.CommandLine.{HasNumbers, HasService, is_given, tokend_app}
+use Rattle.tokend.specs.CommandLine.{HasNumbers, HasService, HasSources}
+use Rattle.tokend.specs.CommandLine.{is_given, tokend_app}
 use Rattle.tokend.specs.declared.fault.Fault.{Fault}
 use Rattle.tokend.specs.declared.fault.Fault.TheVariants.{Memory, Words}
 use Rattle.tokend.specs.declared.options.Service.{Service}
 use Rattle.tokend.specs.declared.options.Task.{Task}
-use Rattle.tokend.specs.declared.options.Task.TheVariants.{Script, Loopback, Serve}
+use Rattle.tokend.specs.declared.options.Task.TheVariants.{Script, Loopback, Serve, Facts}
 
 -- a script with these settings
 abbrev pub script_task : SettingsFields → Task
@@ -64,6 +65,8 @@ IsTask found (Loopback numbers) =
     (rows : List Row) × (found ≡ Some (codes "loopback", rows)) × HasNumbers rows numbers
 IsTask found (Serve service) =
     (rows : List Row) × (found ≡ Some (codes "serve", rows)) × HasService rows service
+IsTask found (Facts sources) =
+    (rows : List Row) × (found ≡ Some (codes "facts", rows)) × HasSources rows sources
 
 -- the subcommand and its values are no task's
 abbrev pub IsNoTask : Option (Text × List Row) → Type 0

@@ -1,16 +1,19 @@
-//! The command line, as clap knows it: three subcommands and their options.
+//! The command line, as clap knows it: four subcommands and their options.
 //!
 //! `tokend_command` is the whole program for clap.
 
-ghost use Rattle.std.specs.Prelude.{◌≡◌, IfOk, IsOkAnd, false, map};
+ghost use Rattle.std.specs.Prelude.{◌≡◌, ◌∷◌, [], IfOk, IsOkAnd, false, map};
 ghost use Rattle.clap.specs.Words.{app_of, rule_of, with_subcommand};
 ghost use Rattle.clap.specs.declared.builder.command.Command.TheViews.{out-Command};
 ghost use Rattle.tokend.specs.CommandLine.{
   choice_rule,
   events_app,
+  facts_app,
   loopback_app,
+  names_rule,
   script_app,
   serve_app,
+  served_app,
   setting_rules,
   tokend_app,
   with_rules,
@@ -23,9 +26,52 @@ use std::alloc::{AllocError, Global};
 use tk_handle::Moment;
 use tk_world::Settings;
 
-/// The program for clap: with a version, and with three subcommands of which one is required.
+/// The program for clap: with a version, and with four subcommands of which one is required.
 pub(crate) fn tokend_command<'a>(alloc: Global) -> Result<Command<'a>, AllocError>
     ensures { IfOk result (λ c. app_of c ≡ tokend_app) }
+{
+    match served_command(alloc) {
+        Ok(served) => with_made(served, facts_command(alloc)),
+        Err(error) => Err(error),
+    }
+}
+
+// The subcommand `facts`.
+fn facts_command<'a>(alloc: Global) -> Result<Command<'a>, AllocError>
+    ensures shape { IfOk result (λ c. app_of c ≡ facts_app) }
+    ensures local { IfOk result (λ c. (out-Command c).has_globals ≡ false) }
+{
+    let facts = Command::new(alloc, "facts").about(
+        "Prints the facts of logs, bundles and vectors, one JSON object a line",
+    );
+    with_names(facts, names_of(alloc))
+}
+
+// Adds the argument to a command.
+fn with_names<'a>(command: Command<'a>, names: Arg<'a>) -> Result<Command<'a>, AllocError>
+    requires local { (out-Command command).has_globals ≡ false }
+    requires plain { names.global ≡ false }
+    ensures shape { IfOk result
+        (λ c. app_of c ≡ with_rules (app_of command.entry) (rule_of names.entry ∷ [])) }
+    ensures local { IfOk result (λ c. (out-Command c).has_globals ≡ false) }
+{
+    command.arg(names)
+}
+
+// The names of files.
+fn names_of<'a>(alloc: Global) -> Arg<'a>
+    ensures rule { rule_of result ≡ names_rule }
+    ensures local { result.global ≡ false }
+{
+    Arg::new(alloc, "file")
+        .value_name("FILE")
+        .action(ArgAction::Append)
+        .help("Logs, bundles, vectors or histories, - for the standard input [default: -]")
+}
+
+// The program without the subcommand `facts`.
+fn served_command<'a>(alloc: Global) -> Result<Command<'a>, AllocError>
+    ensures { IfOk result (λ c. app_of c ≡ served_app) }
 {
     match events_command(alloc) {
         Ok(events) => with_made(events, serve_command(alloc)),

@@ -4,7 +4,8 @@ ghost use Rattle.std.specs.Prelude.{◌≡◌, ◌++◌, ◌∷◌, [], codes, d
 ghost use Rattle.std.specs.IoError.{error_kind};
 ghost use Rattle.tokend.specs.declared.fault.Fault.TheVariants as fault;
 ghost use Rattle.tk_put.specs.Put.{Prints};
-ghost use Rattle.tokend.specs.Status.{fault_text, input_fault, status_of, IsUnopened, IsUnread};
+ghost use Rattle.tokend.specs.Status.{facts_status, facts_text, fault_text, input_fault};
+ghost use Rattle.tokend.specs.Status.{status_of, IsUnopened, IsUnread};
 
 use itoa::Buffer;
 use std::alloc::{AllocError, AllocFailed, Global};
@@ -35,10 +36,35 @@ pub enum Fault {
     ScriptTooLong,
     /// The line with this number, counted from 1, is no event, or its request is too long.
     BadLine(u64),
+    /// The facts of a source weren't printed to its end. Lines may have been written to the output.
+    Facts(FactsFault),
     /// Memory ran out. Nothing was written to the output.
     Memory,
     /// The standard output failed.
     Output,
+}
+
+/// Why the facts of a source weren't printed to its end.
+#[derive(Drop)]
+pub enum FactsFault {
+    /// The source of this name has no bundle and no vector at this offset.
+    Bad(String, u64),
+    /// The source of this name can't be read.
+    Unread(String),
+    /// Memory ran out.
+    Memory,
+}
+
+impl FactsFault {
+    /// Returns the exit status: 2 for a bad source, otherwise 1.
+    pub(crate) fn status(&self) -> u8
+        ensures { result ≡ facts_status self.now }
+    {
+        match self {
+            FactsFault::Bad(_, _) => 2,
+            FactsFault::Unread(_) | FactsFault::Memory => 1,
+        }
+    }
 }
 
 impl Fault {
@@ -52,6 +78,7 @@ impl Fault {
             Fault::Output => 1,
             Fault::Words(_) | Fault::ScriptTooLong | Fault::BadLine(_) => 2,
             Fault::BadSeedFile | Fault::BadLogFile => 2,
+            Fault::Facts(fault) => fault.status(),
         }
     }
 }
@@ -75,9 +102,39 @@ pub(crate) fn tell<E: Write>(faults: &mut E, fault: &Fault) -> io::Result<()>
         Fault::SocketFailed => put_all(faults, &[b"tokend: cannot listen\n"]),
         Fault::BadSeedFile => put_all(faults, &[b"tokend: bad seed file\n"]),
         Fault::BadLogFile => put_all(faults, &[b"tokend: bad log file\n"]),
+        Fault::Facts(fault) => tell_facts(faults, fault),
         Fault::Memory => put_all(faults, &[b"tokend: memory\n"]),
         Fault::Output => put_all(faults, &[]),
     }
+}
+
+// Writes the line of a source whose facts weren't printed to its end.
+fn tell_facts<E: Write>(faults: &mut E, fault: &FactsFault) -> io::Result<()>
+    ensures { Prints result (E.contents faults.old) (E.contents faults.new) (facts_text fault.now) }
+{
+    match fault {
+        FactsFault::Bad(name, offset) => tell_bad(faults, name, *offset),
+        FactsFault::Unread(name) => tell_name(faults, b"tokend: cannot read ", name),
+        FactsFault::Memory => put_all(faults, &[b"tokend: memory\n"]),
+    }
+}
+
+// Writes the line of a source with bad bytes at an offset.
+fn tell_bad<E: Write>(faults: &mut E, name: &String, offset: u64) -> io::Result<()>
+    ensures { Prints result (E.contents faults.old) (E.contents faults.new)
+        (codes "tokend: bad bytes at "
+        ++ (decimal offset ++ (codes " of " ++ (string_bytes name.now ++ 10 ∷ [])))) }
+{
+    let mut digits = Buffer::new();
+    let offset = digits.format(offset).as_bytes();
+    let pieces = [
+        b"tokend: bad bytes at ",
+        offset,
+        b" of ",
+        name.as_bytes(),
+        b"\n",
+    ];
+    put_all(faults, &pieces)
 }
 
 // Writes the line of a bad line of the script.

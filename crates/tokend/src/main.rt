@@ -1,20 +1,21 @@
 //! The program `tokend`: an authorization server that runs in several regions, whose sets of facts
 //! merge.
 //!
-//! The program has three subcommands:
+//! The program has four subcommands:
 //!
 //! - `tokend script` reads events as lines from the standard input, runs them in a world of
 //!   regions, and prints one line for each.
 //! - `tokend loopback` runs the same events with each request through a socket.
 //! - `tokend serve` replies to the HTTP requests of one region on 127.0.0.1, and writes the log
 //!   before each reply.
+//! - `tokend facts` prints what logs, bundles and vectors hold, as lines of JSON.
 //!
 //! The crates below decide what an event or a request does, and what its line contains. This crate
 //! has the arguments, the script, sockets, files, clocks, and the exit statuses:
 //!
 //! - 0: done
 //! - 1: memory or a device failed
-//! - 2: bad arguments, or a bad script, seed or log
+//! - 2: bad arguments, or a bad script, seed, log or source of facts
 //!
 //! In reading order:
 //!
@@ -25,6 +26,7 @@
 //! - `start`: a service before its first connection. `listen`: its port.
 //! - `serve`: its connections. `closing`: what is left of them after the reply.
 //! - `loopback`: a script's requests as connections.
+//! - `sources`, `facts`: the files whose facts are printed; their lines.
 //! - `fault`: what may go wrong, with its line and status.
 //! - `program`: the whole program, in order.
 //! - `promises`: the promises about regions.
@@ -35,6 +37,7 @@
 mod closing;
 mod command_line;
 mod draw;
+mod facts;
 mod fault;
 mod listen;
 mod load;
@@ -45,6 +48,7 @@ mod program;
 pub mod promises;
 mod script;
 mod serve;
+mod sources;
 mod start;
 mod timed;
 

@@ -22,6 +22,7 @@ ghost use Rattle.tokend.specs.declared.options.Numbers.{Numbers as NumbersValue}
 
 use crate::command_line::tokend_command;
 use crate::fault::Fault;
+use crate::sources::read_sources;
 use clap::error::ErrorKind;
 use clap::{ArgMatches, Command, Error};
 use std::alloc::{AllocError, Global};
@@ -41,6 +42,15 @@ pub enum Task {
     Loopback(Numbers),
     /// Serves requests over HTTP.
     Serve(Service),
+    /// Prints the facts of these sources.
+    Facts(Sources),
+}
+
+/// The sources of facts: names of files, or `-` for the standard input, which is also read if no
+/// source is named.
+#[derive(Drop)]
+pub struct Sources {
+    pub names: Vec<String>,
 }
 
 /// The numbers of a region's settings, each in the range of [`Settings`].
@@ -252,6 +262,12 @@ fn read_matches(alloc: Global, matches: &ArgMatches<'_>) -> Result<Option<Task>,
     }
     if name == "serve" {
         return read_serve(alloc, values);
+    }
+    if name == "facts" {
+        return match read_sources(alloc, values) {
+            Ok(sources) => Ok(Some(Task::Facts(sources))),
+            Err(error) => Err(error),
+        };
     }
     Ok(None)
 }

@@ -34,6 +34,7 @@ ghost use Rattle.tokend.specs.Task.{Asks, IsNoShow};
 ghost use Rattle.tokend.specs.declared.fault.Fault.{Fault as FaultValue};
 ghost use Rattle.tokend.specs.declared.fault.Fault.TheVariants as fault;
 
+use crate::facts::print_facts;
 use crate::fault::{Fault, tell};
 use crate::loopback::{LONGEST, run_by_sockets};
 use crate::options::{Task, options};
@@ -80,10 +81,11 @@ where
         (O.contents output.new)
         × Tells fault (E.contents faults.old) (E.contents faults.new) }
 
-    // Status 2: the output has no new byte.
+    // Status 2: the output has no new byte, or the lines before bad bytes of `facts`.
     ensures refused { result ≡ 2 → (fault : FaultValue) × (status_of fault ≡ 2)
         × IsFaultFor (map S.text words.now) (I.remaining input.old) fault
-        × Keeps (O.contents output.old) (O.contents output.new)
+        × Leaves (map S.text words.now) (I.remaining input.old) fault (O.contents output.old)
+        (O.contents output.new)
         × Tells fault (E.contents faults.old) (E.contents faults.new) }
 {
     finish(run(rt, words, input, output, faults), faults)
@@ -164,6 +166,7 @@ where
         Task::Script(numbers) => run_script(rt.alloc(), numbers.settings(), input, output),
         Task::Loopback(numbers) => run_loopback(rt, numbers.settings(), input, output),
         Task::Serve(service) => serve(rt, service, output, faults),
+        Task::Facts(sources) => print_facts(rt, sources, input, output, faults),
     }
 }
 

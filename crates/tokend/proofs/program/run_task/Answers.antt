@@ -1,6 +1,6 @@
 use Rattle.std.proofs.Common.{subst, sym, inl, inr}
 use Rattle.tokend.specs.Task.{script_task, loopback_task, Asks}
-use Rattle.tokend.proofs.Runs.{faults_of_task, left_by_task, script_done, service_done, service_quiet, untold}
+use Rattle.tokend.proofs.Runs.{facts_done, facts_quiet, faults_of_task, left_by_facts, left_by_task, script_done, service_done, service_quiet, untold}
 use Rattle.tokend.proofs.program.run_task.Goals as goal
 
 pub returns-in-Script-clause-done : goal.returns-in-Script-clause-done
@@ -16,22 +16,22 @@ returns-in-Script-clause-fault g c = λ words asked.
 pub returns-in-Script-clause-left : goal.returns-in-Script-clause-left
 returns-in-Script-clause-left g c = λ words asked.
     let asks = subst (λ s. Asks words (script_task s)) (sym c.settings.ensures) (subst (Asks words) c.in-Script.is asked) in
-    left_by_task words _ _ _ _ c.run_script.result (λ h. inl (inl (c.settings.result, asks, h))) c.run_script.ensures.left
+    left_by_task words _ _ _ _ c.run_script.result (λ h fault. inl (inl (c.settings.result, asks, h))) c.run_script.ensures.left
 
 pub returns-in-Loopback-clause-done : goal.returns-in-Loopback-clause-done
 returns-in-Loopback-clause-done g c = λ words asked.
     let asks = subst (λ s. Asks words (loopback_task s)) (sym c.settings-in-Loopback.ensures) (subst (Asks words) c.in-Loopback.is asked) in
-    script_done words _ _ _ _ c.run_loopback.result (λ h. inr (c.settings-in-Loopback.result, asks, h)) c.run_loopback.ensures.done
+    script_done words _ _ _ _ c.run_loopback.result (λ h. inr (inl (c.settings-in-Loopback.result, asks, h))) c.run_loopback.ensures.done
 
 pub returns-in-Loopback-clause-fault : goal.returns-in-Loopback-clause-fault
 returns-in-Loopback-clause-fault g c = λ words asked.
     let asks = subst (λ s. Asks words (loopback_task s)) (sym c.settings-in-Loopback.ensures) (subst (Asks words) c.in-Loopback.is asked) in
-    faults_of_task words _ _ c.run_loopback.result (λ fault h. inr (inr (c.settings-in-Loopback.result, asks, h))) c.run_loopback.ensures.fault
+    faults_of_task words _ _ c.run_loopback.result (λ fault h. inr (inr (inl (c.settings-in-Loopback.result, asks, h)))) c.run_loopback.ensures.fault
 
 pub returns-in-Loopback-clause-left : goal.returns-in-Loopback-clause-left
 returns-in-Loopback-clause-left g c = λ words asked.
     let asks = subst (λ s. Asks words (loopback_task s)) (sym c.settings-in-Loopback.ensures) (subst (Asks words) c.in-Loopback.is asked) in
-    left_by_task words _ _ _ _ c.run_loopback.result (λ h. inl (inr (c.settings-in-Loopback.result, asks, h))) c.run_loopback.ensures.left
+    left_by_task words _ _ _ _ c.run_loopback.result (λ h fault. inl (inr (inl (c.settings-in-Loopback.result, asks, h)))) c.run_loopback.ensures.left
 
 pub returns-in-Serve-clause-done : goal.returns-in-Serve-clause-done
 returns-in-Serve-clause-done g c = λ words asked.
@@ -46,7 +46,7 @@ returns-in-Serve-clause-fault g c = λ words asked.
 pub returns-in-Serve-clause-left : goal.returns-in-Serve-clause-left
 returns-in-Serve-clause-left g c = λ words asked.
     let asks = subst (Asks words) c.in-Serve.is asked in
-    left_by_task words _ _ _ _ c.serve.result (λ h. inr (inl (c.in-Serve.service, asks, h))) c.serve.ensures.left
+    left_by_task words _ _ _ _ c.serve.result (λ h fault. inr (inl (c.in-Serve.service, asks, h))) c.serve.ensures.left
 
 pub returns-in-Serve-clause-quiet : goal.returns-in-Serve-clause-quiet
 returns-in-Serve-clause-quiet g c = λ words asked.
@@ -58,3 +58,20 @@ returns-in-Script-clause-quiet g c = λ words asked. untold words c.run_script.r
 
 pub returns-in-Loopback-clause-quiet : goal.returns-in-Loopback-clause-quiet
 returns-in-Loopback-clause-quiet g c = λ words asked. untold words c.run_loopback.result _
+
+pub returns-in-Facts-clause-done : goal.returns-in-Facts-clause-done
+returns-in-Facts-clause-done g c = λ words asked.
+    facts_done words _ _ _ c.in-Facts.sources c.print_facts.result (subst (Asks words) c.in-Facts.is asked) c.print_facts.ensures.done
+
+pub returns-in-Facts-clause-fault : goal.returns-in-Facts-clause-fault
+returns-in-Facts-clause-fault g c = λ words asked.
+    let asks = subst (Asks words) c.in-Facts.is asked in
+    faults_of_task words _ _ c.print_facts.result (λ fault h. inr (inr (inr (c.in-Facts.sources, asks, h)))) c.print_facts.ensures.fault
+
+pub returns-in-Facts-clause-left : goal.returns-in-Facts-clause-left
+returns-in-Facts-clause-left g c = λ words asked.
+    left_by_facts words _ _ _ c.in-Facts.sources c.print_facts.result (subst (Asks words) c.in-Facts.is asked) c.print_facts.ensures.left
+
+pub returns-in-Facts-clause-quiet : goal.returns-in-Facts-clause-quiet
+returns-in-Facts-clause-quiet g c = λ words asked.
+    facts_quiet words c.in-Facts.sources _ _ c.print_facts.result (subst (Asks words) c.in-Facts.is asked) c.print_facts.ensures.told

@@ -1,0 +1,1 @@
+"""listing: what `tokend facts` is compared with."""

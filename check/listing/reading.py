@@ -1,0 +1,141 @@
+"""reading: the lines of logs, bundles and vectors, read by docs/FORMATS.md alone.
+
+`lines_of` returns the objects of an input that isn't bad, and how many bytes at its end are cut.
+"""
+import datetime
+
+KINDS = ["client_added", "client_retired", "consent_given", "consent_withdrawn", "code_issued",
+         "code_redeemed", "refresh_rotated", "token_revoked", "reuse_seen", "subject_out"]
+TOKENS = {1: "code", 2: "access_token", 3: "refresh_token"}
+EPOCH = datetime.datetime(1970, 1, 1)
+
+
+class Cut(Exception):
+    """The bytes end before the bundle or the vector does."""
+
+
+class Bytes:
+    """Bytes that are taken from the front."""
+
+    def __init__(self, data, at=0):
+        self.data, self.at = data, at
+
+    def is_empty(self):
+        return self.at == len(self.data)
+
+    def take(self, count):
+        if self.at + count > len(self.data):
+            raise Cut()
+        self.at += count
+        return self.data[self.at - count:self.at]
+
+    def number(self, count):
+        return int.from_bytes(self.take(count), "big")
+
+    def dot(self):
+        return "%d:%d" % (self.number(2), self.number(8))
+
+    def text(self):
+        return self.take(self.number(2)).decode("ascii")
+
+
+def moment(name, seconds):
+    """The two members of a moment."""
+    when = EPOCH + datetime.timedelta(seconds=seconds)
+    return {name: when.isoformat() + "Z", name + "_seconds": seconds}
+
+
+def minted(item):
+    """A minted token."""
+    return {"digest": item.take(32).hex(), **moment("expiry", item.number(8)),
+            "scope": item.text()}
+
+
+def token(item):
+    return {"token": item.dot(), "token_kind": TOKENS[item.number(1)]}
+
+
+def client_added(item):
+    sort = item.number(1)
+    fields = {"client_kind": ["public", "confidential", "resource"][sort]}
+    if sort:
+        fields["secret_digest"] = item.take(32).hex()
+    fields["scope"] = item.text()
+    fields["uris"] = [item.text() for _ in range(item.number(1))]
+    return fields
+
+
+def code_issued(item):
+    fields = {"client": item.dot(), "consent": item.dot(), "digest": item.take(32).hex()}
+    for name in ("start", "expiry", "family_end"):
+        fields.update(moment(name, item.number(8)))
+    fields.update(subject=item.text(), scope=item.text(), uri=item.text())
+    fields["uri_sent"] = bool(item.number(1))
+    method = item.number(1)
+    if method:
+        fields["challenge_method"] = "plain" if method == 1 else "S256"
+        fields["challenge"] = item.text().encode().hex()
+    return fields
+
+
+def grants(item):
+    return {**moment("start", item.number(8)), "access_token": minted(item),
+            "refresh_token": minted(item)}
+
+
+def fields_of(kind, item):
+    """The fields of a fact of this kind."""
+    readers = {
+        "client_added": client_added,
+        "client_retired": lambda item: {"client": item.dot()},
+        "consent_given": lambda item: {"client": item.dot(), "subject": item.text(),
+                                       "scope": item.text()},
+        "consent_withdrawn": lambda item: {"consent": item.dot()},
+        "code_issued": code_issued,
+        "code_redeemed": lambda item: {"code": item.dot(), **grants(item)},
+        "refresh_rotated": lambda item: {"parent": item.dot(), "generation": item.number(2),
+                                         **grants(item)},
+        "token_revoked": lambda item: {**token(item), "digest": item.take(32).hex(),
+                                       "client": item.dot()},
+        "reuse_seen": token,
+        "subject_out": lambda item: {"subject": item.text(),
+                                     **moment("moment", item.number(8))},
+    }
+    return readers[kind](item)
+
+
+def item_of(item, horizon):
+    """The object of an item of a bundle."""
+    reader = Bytes(item)
+    dot = reader.dot()
+    if reader.is_empty():
+        return {"dot": dot, "kind": "mark", **moment("horizon", horizon)}
+    kind = KINDS[reader.number(1) - 1]
+    return {"dot": dot, "kind": kind, **fields_of(kind, reader)}
+
+
+def bundle_of(reader):
+    """The objects of the bundle at the front."""
+    horizon = reader.number(8) if reader.take(4) == b"OTB3" else None
+    items = [reader.take(reader.number(2)) for _ in range(reader.number(2))]
+    return [item_of(item, horizon) for item in items]
+
+
+def vector_of(reader):
+    """The objects of the vector at the front."""
+    reader.take(4)
+    entries = [(reader.number(2), reader.number(8)) for _ in range(reader.number(2))]
+    return [{"kind": "vector", "region": region, "serial": serial} for region, serial in entries]
+
+
+def lines_of(data):
+    """The objects of an input, and the number of bytes at its end that are cut."""
+    objects, at = [], 0
+    while at < len(data):
+        reader = Bytes(data, at)
+        try:
+            objects += (vector_of if data[at:at + 4] == b"OTV1" else bundle_of)(reader)
+        except Cut:
+            return objects, len(data) - at
+        at = reader.at
+    return objects, 0

@@ -1,0 +1,206 @@
+//! Prints the facts of sources: `print_facts`.
+
+ghost use Rattle.std.specs.Prelude.{◌≡◌, ◌⊎◌, ℕ, None, OnErr, OnOk, IfErr, false};
+ghost use Rattle.std.specs.Prelude.{map, string_bytes, codes};
+ghost use Rattle.std.specs.Io.KnownBytes.{Keeps};
+ghost use Rattle.std.specs.Str.{bytes_eq};
+ghost use Rattle.tk_put.specs.Put.{AppendsFront};
+ghost use Rattle.tokend.specs.FactsRun.{
+  BeginsFacts,
+  IsBadSource,
+  IsFactsFault,
+  IsTold,
+  IsToldAs,
+  IsUnreadSource,
+  PrintsEach,
+  PrintsFacts,
+  PrintsSource,
+  PrintsSources,
+  cut_text,
+  known_of,
+};
+ghost use Rattle.tokend.specs.Status.{LeavesBegun};
+
+use crate::fault::{FactsFault, Fault};
+use crate::options::Sources;
+use itoa::Buffer;
+use std::alloc::Global;
+use std::fs::OpenOptions;
+use std::io::{Read, Write};
+use std::rt::Files;
+use tk_facts::{PrintFault, print_lines};
+use tk_put::put_all;
+
+/// Prints the facts of each source, in order, and flushes.
+///
+/// How many bytes are dropped at the ends of the sources is written to `faults`.
+pub(crate) fn print_facts<R: AllocGlobal + Files, I: Read, O: Write, E: Write>(
+    rt: &R,
+    sources: &Sources,
+    input: &mut I,
+    output: &mut O,
+    faults: &mut E,
+) -> Result<(), Fault>
+    ensures done { OnOk result
+        (PrintsFacts sources.now (I.remaining input.old) (O.contents output.old)
+        (O.contents output.new)) }
+    ensures fault { IfErr result IsFactsFault }
+    ensures left { IfErr result
+        (λ fault. LeavesBegun (BeginsFacts sources.now (I.remaining input.old) fault
+        (O.contents output.old) (O.contents output.new)) fault (O.contents output.old)
+        (O.contents output.new)) }
+    ensures told { OnOk result (Keeps (E.contents faults.old) (E.contents faults.new)
+        ⊎ ((cut : ℕ) × AppendsFront (E.contents faults.old) (E.contents faults.new)
+        (cut_text cut))) }
+    ensures silent { OnErr result (Keeps (E.contents faults.old) (E.contents faults.new)) }
+{
+    let printed = print_sources(rt, sources, input, output);
+    let flushed = output.flush();
+    match (printed, flushed) {
+        (Ok(cut), Ok(())) => {
+            tell_cut(faults, cut);
+            Ok(())
+        }
+        (Err(fault), Ok(())) => Err(fault),
+        (_, Err(_)) => Err(Fault::Output),
+    }
+}
+
+// Writes how many bytes are dropped, if any are. If `faults` fails, it has the beginning of the
+// line.
+fn tell_cut<E: Write>(faults: &mut E, cut: u64)
+    ensures { Keeps (E.contents faults.old) (E.contents faults.new)
+        ⊎ ((cut : ℕ) × AppendsFront (E.contents faults.old) (E.contents faults.new)
+        (cut_text cut)) }
+{
+    if cut != 0 {
+        put_cut(faults, cut);
+    }
+}
+
+// Writes how many bytes are dropped.
+fn put_cut<E: Write>(faults: &mut E, cut: u64)
+    ensures { AppendsFront (E.contents faults.old) (E.contents faults.new) (cut_text cut) }
+{
+    let mut digits = Buffer::new();
+    let cut = digits.format(cut).as_bytes();
+    let _ = put_all(faults, &[b"tokend: dropped ", cut, b" bytes\n"]);
+}
+
+// Prints the facts of the sources, or of the standard input if there are none.
+fn print_sources<R: AllocGlobal + Files, I: Read, O: Write>(
+    rt: &R,
+    sources: &Sources,
+    input: &mut I,
+    output: &mut O,
+) -> Result<u64, Fault>
+    ensures { PrintsSources sources.now (I.remaining input.old) result
+        (O.contents output.old) (O.contents output.new) }
+{
+    if sources.names.is_empty() {
+        print_source(rt, "-", input, output)
+    } else {
+        print_each(rt, &sources.names, input, output)
+    }
+}
+
+// Prints the facts of the sources of these names, in order. Returns how many bytes are dropped at
+// their ends.
+fn print_each<R: AllocGlobal + Files, I: Read, O: Write>(
+    rt: &R,
+    names: &[String],
+    input: &mut I,
+    output: &mut O,
+) -> Result<u64, Fault>
+    ensures { PrintsEach (map string_bytes names.now) (I.remaining input.old) result
+        (O.contents output.old) (O.contents output.new) }
+{
+    let Some((name, more)) = names.split_first() else {
+        return Ok(0);
+    };
+    let cut = match print_source(rt, name, input, output) {
+        Ok(cut) => cut,
+        Err(fault) => return Err(fault),
+    };
+    match print_each(rt, more, input, output) {
+        Ok(later) => Ok(cut.saturating_add(later)),
+        Err(fault) => Err(fault),
+    }
+}
+
+// Prints the facts of the source of this name.
+fn print_source<R: AllocGlobal + Files, I: Read, O: Write>(
+    rt: &R,
+    name: &str,
+    input: &mut I,
+    output: &mut O,
+) -> Result<u64, Fault>
+    ensures printed { PrintsSource name.now (known_of name.now (I.remaining input.old)) result
+        (O.contents output.old) (O.contents output.new) }
+    ensures left { bytes_eq name.now (codes "-") ≡ false
+        → I.remaining input.new ≡ I.remaining input.old }
+{
+    if name == "-" {
+        let printed = print_lines(rt.alloc(), input, output);
+        told(rt.alloc(), name, printed)
+    } else {
+        print_file(rt, name, output)
+    }
+}
+
+// Prints the facts of the file of this name, whose bytes no clause knows.
+fn print_file<R: AllocGlobal + Files, O: Write>(
+    rt: &R,
+    name: &str,
+    output: &mut O,
+) -> Result<u64, Fault>
+    ensures { PrintsSource name.now None result (O.contents output.old) (O.contents output.new) }
+{
+    let Ok(mut file) = OpenOptions::new().read(true).open(rt, name) else {
+        return Err(unread(rt.alloc(), name));
+    };
+    let printed = print_lines(rt.alloc(), &mut file, output);
+    told(rt.alloc(), name, printed)
+}
+
+// Returns the program's result of printing the source of this name.
+fn told(alloc: Global, name: &str, printed: Result<u64, PrintFault>) -> Result<u64, Fault>
+    ensures { IsTold name.now printed result }
+{
+    match printed {
+        Ok(cut) => Ok(cut),
+        Err(fault) => Err(fault_of(alloc, name, fault)),
+    }
+}
+
+// Returns the program's fault for that of the source of this name.
+fn fault_of(alloc: Global, name: &str, fault: PrintFault) -> Fault
+    ensures { IsToldAs name.now fault result }
+{
+    match fault {
+        PrintFault::Bad(offset) => bad(alloc, name, offset),
+        PrintFault::Read => unread(alloc, name),
+        PrintFault::Memory => Fault::Facts(FactsFault::Memory),
+        PrintFault::Output => Fault::Output,
+    }
+}
+
+// Returns the fault of a source with bad bytes, or out of memory.
+fn bad(alloc: Global, name: &str, offset: u64) -> Fault
+    ensures { IsBadSource name.now offset result }
+{
+    match String::from_str(alloc, name) {
+        Ok(name) => Fault::Facts(FactsFault::Bad(name, offset)),
+        Err(_) => Fault::Facts(FactsFault::Memory),
+    }
+}
+
+// Returns the fault of a source that can't be read, or out of memory.
+fn unread(alloc: Global, name: &str) -> Fault
+    ensures { IsUnreadSource name.now result }
+{
+    match String::from_str(alloc, name) {
+        Ok(name) => Fault::Facts(FactsFault::Unread(name)),
+        Err(_) => Fault::Facts(FactsFault::Memory),
+    }
+}
