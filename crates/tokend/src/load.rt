@@ -25,7 +25,7 @@ pub enum LoadFault {
 /// Takes in the bundles of a log in order, and returns how many bytes at its end were dropped.
 ///
 /// Each bundle is read once, and taken in as [`Region::take_in`] does. The dropped bytes are the
-/// beginning of a /// record that was cut. The log is read whole before its first bundle is taken in.
+/// beginning of a record that was cut. The log is read whole before its first bundle is taken in.
 pub(crate) fn load<I: Read>(
     alloc: Global,
     region: &mut Region,
