@@ -2,4 +2,3 @@ pub mod CapLaws
 pub mod FitsLaws
 pub mod StepLaws
 pub mod TakeLaws
-pub mod WholeStepsLaws

@@ -5,13 +5,11 @@
 --   Decision         decision_of, the decision of a request; capped, the serial cap
 --   Step             prepared_of, what a region prepares for a request; Commits, adding the fact
 --   Taking           TakesIn, the outcomes of taking in a bundle
---   WholeSteps       IsUnpruned, a store of which nothing was skipped
 pub mod Decision
 pub mod RegionFields
 pub mod SettingsFields
 pub mod Step
 pub mod Taking
-pub mod WholeSteps
 pub use Rattle.tk_bundle.specs.Bundle
 pub use Rattle.tk_bundle.specs.BundleFields
 pub use Rattle.tk_message.specs.ReplyFields

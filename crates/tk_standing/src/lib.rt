@@ -3,8 +3,8 @@
 //! A region that prunes forgets facts of families that are over. What it then answers must be what
 //! it would answer over all facts that it made and took in. This crate defines for which facts a
 //! store stands, and states that this is kept by a prune, a mark and a fact, and that from the
-//! horizon on each request is decided by the store as by the facts for which it stands. No program
-//! calls `Region::prune` yet.
+//! horizon on each request is decided by the store as by the facts for which it stands. tk_world
+//! states it of regions that exchange bundles.
 //!
 //! The definitions are in `specs/`: `StandsFor`, `Laws`. The functions of `laws` have empty bodies:
 //! they state the laws.
