@@ -113,6 +113,23 @@ def compact_takes_the_log_of_a_run(room):
     site.is_as_ever(run)
 
 
+def compact_prunes_a_first_run(room):
+    """A server is pruned whose facts are all in the log that it writes."""
+    site = Site(room)
+    os.rename(room.path("site/log/00001.otb"), room.path("log"))
+    sent = items_of(room.read("log"))
+    run = room.start("2-9").listening()
+    for at in range(0, len(sent), 100):
+        run.push(sent[at:at + 100])
+    done = compacted(room, *DAY)
+    wanted(done.ended() == 0 and done.output == b"nothing to compact\n", "no push", done.output)
+    done = compacted(room, *DAY, "--push", "http://127.0.0.1:%d" % run.port)
+    wanted(done.ended() == 0, "not compacted", done.errors())
+    wanted(marks_in(only_segment(room)) == 2 * LOGINS, "not pruned")
+    wanted(marks_of(run) == 2 * LOGINS, "not all are skipped", marks_of(run))
+    site.is_as_ever(run)
+
+
 def compact_is_refused(room):
     """Whatever it is refused for, the folder stays as it is."""
     site = prepared(room)
@@ -186,4 +203,5 @@ def killed_compact_harms_no_start(room):
 
 CASES = [
     compact_keeps_all, compact_prunes_and_pushes, compact_takes_the_log_of_a_run,
-    compact_is_refused, start_waits_for_a_swap, killed_compact_harms_no_start]
+    compact_prunes_a_first_run, compact_is_refused, start_waits_for_a_swap,
+    killed_compact_harms_no_start]
