@@ -80,6 +80,7 @@ class Made(unittest.TestCase):
                      "/usr/share/man/man1/tokend-start.1.gz",
                      "/usr/share/doc/tokend/docs/OPERATING.md",
                      "/usr/share/doc/tokend/examples/site.conf",
+                     "/usr/share/doc/tokend/packaging/README.md", "/usr/share/doc/tokend/starter",
                      "/usr/share/doc/tokend/examples/front-end/nginx.conf",
                      "/usr/share/doc/tokend/copyright", "/usr/share/doc/tokend/changelog.gz",
                      "/usr/lib/tokend/await-clock", "/usr/lib/tokend/metrics",
