@@ -23,7 +23,8 @@ class Site(Process):
         self.name, self.first = name, FIRST[name]
         os.makedirs(os.path.join(folder, "old"))
         words = ["env", "TOKEND=" + program,
-                 os.path.join(OUT, "start"), folder, "0", "%d-%d" % (self.first, self.first + 98)]
+                 os.path.join(OUT, "start"), folder, str(free_port()),
+                 "%d-%d" % (self.first, self.first + 98)]
         super().__init__(words, folder)
 
     @property
