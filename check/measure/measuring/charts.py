@@ -73,8 +73,9 @@ def delay(parts):
     """How long a revocation takes to another region, each way."""
     it = part(parts, "revoked")
     ways = [way for way, in it.found("(.*): median in ms")]
-    curves = [(one, [(way.replace(", ", "\\n"), it.median("%s: %s in ms" % (way, one)))
-                     for way in ways]) for one in ("median", "99th of 100")]
+    bars = [(way, way.replace(" logins", "").replace(", ", "\\n")) for way in ways]
+    curves = [(one, [(bar, it.median("%s: %s in ms" % (way, one))) for way, bar in bars])
+              for one in ("median", "99th of 100")]
     return Chart("", "ms", BARS, "using 2:xtic(1)", curves)
 
 
