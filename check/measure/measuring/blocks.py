@@ -241,7 +241,8 @@ ALL = {
     "clients": clients, "growth": growth, "generations": generations, "memory": memory,
     "start": start, "prunes": plain("prunes", ["a prune", ""]), "push": push,
     "carried": plain("carried", ["`carry` to an empty server", ""]), "revoked": revoked,
-    "fanned": fanned, "scaled": scaled, "spread": spread, "peers": peers, "beside": beside, "ledger": ledger, "pruned": pruned,
+    "fanned": fanned, "scaled": scaled, "spread": spread, "peers": peers, "beside": beside,
+    "ledger": ledger, "pruned": pruned,
     "idle": plain("idle", ["behind a client that is", "the next one waited"]),
     "killed": plain("killed", ["SIGKILL under load", ""]),
     "day": paper.day, "breaks": paper.breaks, "left": paper.left}

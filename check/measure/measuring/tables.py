@@ -56,7 +56,9 @@ def number(value):
 
 
 def cell(values):
-    """The median, and the least and the greatest of several rounds."""
+    """The median, and the least and the greatest of several rounds; nothing of no round."""
+    if not values:
+        return ""
     middle = number(statistics.median(values))
     if len(values) == 1:
         return middle
@@ -64,7 +66,9 @@ def cell(values):
 
 
 def ratio(values):
-    """The second program's median by the first's."""
+    """The second program's median by the first's, if both have one."""
+    if not all(values):
+        return ""
     first, second = (statistics.median(it) for it in values)
     return "%.2f" % (second / first) if first else "-"
 
