@@ -10,6 +10,7 @@ HERE = os.path.dirname(os.path.abspath(__file__))
 SECONDS = 60
 FIELDS = "seen mark pass at span clock marks count refused".split()
 FOR_GOOD = 1 << 62  # a span without end
+MOST_FAULTS = 3  # of one sweep
 
 
 class Unusable(Exception):
@@ -99,3 +100,26 @@ class Lab:
         except subprocess.TimeoutExpired:
             return Ran(None, b"", b"", table)
         return Ran(ran.returncode, ran.stdout, ran.stderr, table)
+
+
+def sweep(lab, title, trial, is_whole, offset, stride):
+    """Yields what is wrong when allocations of a run fail, each time in a new run.
+
+    Each run has another first allocation that fails: number `offset` + 1, and from there on each
+    `stride`-th one. It fails alone, or with `is_whole` all that follow fail too.
+
+    `trial(at, span)` makes a run whose allocations fail from number `at` on, `span` of them. It
+    returns how many failed, and what is wrong, or None.
+    """
+    at, faults, span = 1 + offset, 0, FOR_GOOD if is_whole else 1
+    while faults < MOST_FAULTS:
+        lab.count()
+        refused, wrong = trial(at, span)
+        if at == 1 and not refused:
+            wrong = "no allocation is counted"
+        if wrong:
+            faults += 1
+            yield "%s, allocation %d%s: %s" % (title, at, " on" if is_whole else "", wrong)
+        if not refused:
+            return
+        at += stride

@@ -9,12 +9,11 @@ the same handles.
 import re
 
 import variant
-from refusal import FOR_GOOD, Unusable
+from refusal import FOR_GOOD, MOST_FAULTS, Unusable
 from story import NOTHING
 
 TOOK = re.compile(rb"took (\d+)$")
 HELD = re.compile(rb"bundle \d+ (\d+) \S+ end$")
-MOST_FAULTS = 3  # of one sweep
 
 
 class Judge:

@@ -9,13 +9,12 @@ the look-ups alike.
 import re
 import threading
 
+import refusal
 import story
 from many import written_out
-from refusal import FOR_GOOD
 from server import MARK, NOTHING, PULL, VECTOR, Server
 from server import body_of, facts_of, http, push, request_of, run_story
 
-MOST_FAULTS = 3  # of one sweep
 PRUNED = " --prune 1702592000"  # the families of the old log are over at this moment
 PASSING = (5, 6, 7, 9)  # the kinds of facts that may be skipped
 REGION, OLD_REGION, OTHER_REGION, READER = 1, 2, 3, 9
@@ -179,24 +178,15 @@ def sweep(scene, request, is_whole, offset, stride):
 
     One allocation fails, or with `is_whole` all that follow too, until the request was sent twice.
     """
-    at, faults = 1 + offset, 0
-    firsts, span = [request.sent], 1
-    if is_whole:
-        firsts, span = firsts * 2, FOR_GOOD
-    while faults < MOST_FAULTS:
-        scene.lab.count()
+    firsts = [request.sent] * (2 if is_whole else 1)
+
+    def trial(at, span):
         with Server(scene.lab, REGION, scene.old) as server:
             talk = Talk(scene, server, firsts, request, at, span)
-        told = wrong(scene, talk, request)
-        if at == 1 and not talk.refused:
-            told = "no allocation is counted"
-        if told:
-            faults += 1
-            yield "serve, %s, allocation %d%s: %s" % (
-                request.title, at, " on" if is_whole else "", told)
-        if not talk.refused:
-            return
-        at += stride
+        return talk.refused, wrong(scene, talk, request)
+
+    title = "serve, " + request.title
+    yield from refusal.sweep(scene.lab, title, trial, is_whole, offset, stride)
 
 
 def sweep_taken(scene, is_whole, offset, stride):
@@ -204,31 +194,28 @@ def sweep_taken(scene, is_whole, offset, stride):
 
     A server of another number that loads the log must hold all that the pushed one holds.
     """
-    at, faults, request = 1 + offset, 0, scene.push()
-    while faults < MOST_FAULTS:
-        scene.lab.count()
+    request = scene.push()
+
+    def trial(at, span):
         with Server(scene.lab, REGION, scene.old, " --log-taken") as server:
-            server.refuse(at, FOR_GOOD if is_whole else 1)
+            server.refuse(at, span)
             server.ask(request.sent)
             refused = server.refused()
             server.refuse(0, 0)
             held, log = facts_of(body_of(server.ask(PULL))), server.made()
         back = facts_of(body_of(scene.read_back(scene.old + log)[1]))
-        if not set(held) <= set(back):
-            faults += 1
-            yield "serve, %s to a log of bundles, allocation %d%s: %d facts are held, %d loaded" % (
-                request.title, at, " on" if is_whole else "", len(held), len(back))
-        if not refused:
-            return
-        at += stride
+        lost = not set(held) <= set(back)
+        return refused, "%d facts are held, %d loaded" % (len(held), len(back)) if lost else None
+
+    title = "serve, %s to a log of bundles" % request.title
+    yield from refusal.sweep(scene.lab, title, trial, is_whole, offset, stride)
 
 
 def sweep_start(scene, is_whole, offset, stride, options=""):
     """Yields what is wrong when allocations of a start fail. It ends, or it serves as ever."""
-    at, faults, nothing = 1 + offset, 0, Request("a start", VECTOR)
-    span = FOR_GOOD if is_whole else 1
-    while faults < MOST_FAULTS:
-        scene.lab.count()
+    nothing = Request("a start", VECTOR)
+
+    def trial(at, span):
         with Server(scene.lab, REGION, scene.old, options, at=at, span=span) as server:
             refused, told = server.refused(), None
             if server.port:
@@ -237,12 +224,8 @@ def sweep_start(scene, is_whole, offset, stride, options=""):
             end, wanted = server.end(), (None, server.output, b"")
         if not server.port:
             wanted = (1, b"", b"tokend: memory\n")
-        if at == 1 and not refused:
-            told = "no allocation is counted"
-        if told or end != wanted:
-            faults += 1
-            yield "serve%s, allocation %d%s of a start: %s, and it ends with %s" % (
-                options, at, " on" if is_whole else "", told, end)
-        if not refused:
-            return
-        at += stride
+        is_wrong = told or end != wanted
+        return refused, "%s, and it ends with %s" % (told, end) if is_wrong else None
+
+    title = "serve%s, a start" % options
+    yield from refusal.sweep(scene.lab, title, trial, is_whole, offset, stride)

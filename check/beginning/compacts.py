@@ -98,36 +98,39 @@ def items_of(log):
     return found
 
 
-def compact_takes_the_log_of_a_run(room):
-    """Families whose facts are in the log that is written are pruned whole."""
+def first_run(room):
+    """A site, its first run, and the facts of the site, which are all in the log of that run."""
     site = Site(room)
     os.rename(room.path("site/log/00001.otb"), room.path("log"))
     sent = items_of(room.read("log"))
     run = room.start("2-9").listening()
     for at in range(0, len(sent), 100):
         run.push(sent[at:at + 100])
-    room.write("site/history/mine.otb", bundle(sent[2:4]))
+    return site, run, sent
+
+
+def prunes_all(room, site, run):
+    """Compacts, and sees that the server has the marks of all families that are over."""
     done = compacted(room, *DAY, "--push", "http://127.0.0.1:%d" % run.port)
     wanted(done.ended() == 0, "not compacted", done.errors())
     wanted(marks_of(run) == 2 * LOGINS, "not all are skipped", marks_of(run))
     site.is_as_ever(run)
+
+
+def compact_takes_the_log_of_a_run(room):
+    """Families whose facts are in the log that is written are pruned whole."""
+    site, run, sent = first_run(room)
+    room.write("site/history/mine.otb", bundle(sent[2:4]))
+    prunes_all(room, site, run)
 
 
 def compact_prunes_a_first_run(room):
     """A server is pruned whose facts are all in the log that it writes."""
-    site = Site(room)
-    os.rename(room.path("site/log/00001.otb"), room.path("log"))
-    sent = items_of(room.read("log"))
-    run = room.start("2-9").listening()
-    for at in range(0, len(sent), 100):
-        run.push(sent[at:at + 100])
+    site, run, _ = first_run(room)
     done = compacted(room, *DAY)
     wanted(done.ended() == 0 and done.output == b"nothing to compact\n", "no push", done.output)
-    done = compacted(room, *DAY, "--push", "http://127.0.0.1:%d" % run.port)
-    wanted(done.ended() == 0, "not compacted", done.errors())
+    prunes_all(room, site, run)
     wanted(marks_in(only_segment(room)) == 2 * LOGINS, "not pruned")
-    wanted(marks_of(run) == 2 * LOGINS, "not all are skipped", marks_of(run))
-    site.is_as_ever(run)
 
 
 def compact_is_refused(room):

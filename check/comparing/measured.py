@@ -1,9 +1,9 @@
 """measured: the marks and commands in docs/MEASURED.md, beside those of check/measure."""
 import os
 import re
-import sys
 
 from comparing.texts import ROOT, differ, text_of
+from measuring import blocks
 
 FOLDER, DOCUMENT = os.path.join(ROOT, "check/measure"), "docs/MEASURED.md"
 OTHERS = {"all", "report", "pictures", "proofs"}  # these measure nothing of the program
@@ -16,8 +16,6 @@ def compare_names(what, here, there):
 
 
 def compare():
-    sys.path.insert(0, FOLDER)
-    from measuring import blocks  # pylint: disable=import-outside-toplevel
     text = text_of(DOCUMENT)
     marked = re.findall(r"^<!-- measured: (\w+) -->\n(?:(?!<!-- ).*\n)*<!-- end -->$", text, re.M)
     compare_names("table", marked, blocks.ALL)

@@ -1,12 +1,17 @@
-"""reading: the lines of logs, bundles and vectors, read by docs/FORMATS.md alone.
+"""reading: logs, bundles and vectors, read by docs/FORMATS.md alone.
 
 `lines_of` returns the objects of an input that isn't bad, and how many bytes at its end are cut.
+`Region` loads such inputs, by the rules for slots of docs/DEFINITIONS.md.
 """
 import datetime
+import json
 
 KINDS = ["client_added", "client_retired", "consent_given", "consent_withdrawn", "code_issued",
          "code_redeemed", "refresh_rotated", "token_revoked", "reuse_seen", "subject_out"]
 TOKENS = {1: "code", 2: "access_token", 3: "refresh_token"}
+MARK = "mark"
+# The kinds of facts that may be skipped: each mints a code or a refresh token, or is of a reuse.
+PASSING = {"code_issued", "code_redeemed", "refresh_rotated", "reuse_seen"}
 EPOCH = datetime.datetime(1970, 1, 1)
 
 
@@ -109,7 +114,7 @@ def item_of(item, horizon):
     reader = Bytes(item)
     dot = reader.dot()
     if reader.is_empty():
-        return {"dot": dot, "kind": "mark", **moment("horizon", horizon)}
+        return {"dot": dot, "kind": MARK, **moment("horizon", horizon)}
     kind = KINDS[reader.number(1) - 1]
     return {"dot": dot, "kind": kind, **fields_of(kind, reader)}
 
@@ -128,14 +133,61 @@ def vector_of(reader):
     return [{"kind": "vector", "region": region, "serial": serial} for region, serial in entries]
 
 
-def lines_of(data):
-    """The objects of an input, and the number of bytes at its end that are cut."""
-    objects, at = [], 0
+def parts_of(data):
+    """Yields of each bundle and vector where it begins, where it ends, and its objects."""
+    at = 0
     while at < len(data):
         reader = Bytes(data, at)
         try:
-            objects += (vector_of if data[at:at + 4] == b"OTV1" else bundle_of)(reader)
+            objects = (vector_of if data[at:at + 4] == b"OTV1" else bundle_of)(reader)
         except Cut:
-            return objects, len(data) - at
+            return
+        yield at, reader.at, objects
         at = reader.at
-    return objects, 0
+
+
+def lines_of(data):
+    """The objects of an input, and the number of bytes at its end that are cut."""
+    objects, end = [], 0
+    for _, end, more in parts_of(data):
+        objects += more
+    return objects, len(data) - end
+
+
+def printed(objects):
+    """Objects as lines."""
+    lines = (json.dumps(one, separators=(",", ":")) for one in objects)
+    return "".join(line + "\n" for line in lines).encode()
+
+
+class Region:
+    """A region: its number, and for each dot that it knows the object of the fact or the mark."""
+
+    def __init__(self, number):
+        self.number, self.known = number, {}
+
+    def refuses(self, item):
+        """Whether an item has the region's own number, or disagrees with what the region knows."""
+        if item["dot"].split(":")[0] == str(self.number):
+            return True
+        known = self.known.get(item["dot"], item)
+        kinds = {known["kind"], item["kind"]}
+        return not kinds <= PASSING | {MARK} if MARK in kinds else known != item
+
+    def load(self, data):
+        """Takes in the bundles of an input without vectors, up to the first that is refused.
+
+        Returns the offset of that bundle, or None, and the number of bytes that are cut.
+        """
+        end = 0
+        for begin, end, items in parts_of(data):
+            if any(self.refuses(item) for item in items):
+                return begin, 0
+            for item in items:
+                if self.known.get(item["dot"], {}).get("kind") != MARK:
+                    self.known[item["dot"]] = item
+        return None, len(data) - end
+
+    def facts(self):
+        """How many facts the region holds."""
+        return sum(item["kind"] != MARK for item in self.known.values())

@@ -10,6 +10,14 @@ MANY = 30_000  # facts of an earlier run
 
 
 class Spreads(SitesCase):
+    def begun(self):
+        """Two sites, and a spread that has handed three facts of the first to the second."""
+        one, two = self.site(1), self.site(101)
+        spread = self.spread(one, two)
+        one.add(3)
+        self.assert_soon({1: 3}, two.held_to)
+        return one, two, spread
+
     def test_each_site_gets_what_the_others_make(self):
         sites = [self.site(first) for first in (1, 101, 201)]
         spread = self.spread(*sites)
@@ -56,10 +64,7 @@ class Spreads(SitesCase):
         self.assert_soon((3, 6), lambda: (spread.items(two), spread.items(three)))
 
     def test_a_site_that_starts_anew_has_forgotten_nothing(self):
-        one, two = self.site(1), self.site(101)
-        spread = self.spread(one, two)
-        one.add(3)
-        self.assert_soon({1: 3}, two.held_to)
+        one, two, spread = self.begun()
         two.kill()
         self.again(two)
         self.assert_soon({1: 3}, two.held_to)
@@ -73,10 +78,7 @@ class Spreads(SitesCase):
         self.assert_soon({101: 3}, one.held_to)
 
     def test_spread_is_killed_and_started_again(self):
-        one, two = self.site(1), self.site(101)
-        spread = self.spread(one, two)
-        one.add(3)
-        self.assert_soon({1: 3}, two.held_to)
+        one, two, spread = self.begun()
         spread.kill()
         one.add(2)
         two.add(4)

@@ -123,6 +123,14 @@ def start(parts):
                        rows)
 
 
+def uses(parts):
+    it, which, rows = part(parts, "uses"), ("lowest serials", "highest serials"), []
+    for size in it.numbers("uses (.*): lowest serials in ms"):
+        name = "uses %s: " % format(size, ",")
+        rows.append([format(size, ",")] + [it.cell("%s%s in ms" % (name, one)) for one in which])
+    return it, text_of(["redemptions of a code", *(one + ", ms" for one in which)], rows)
+
+
 def push(parts):
     """A line for each size of a bundle and each server, the C servers among them."""
     it, rows = part(parts, "push"), []
@@ -239,7 +247,7 @@ def pruned(parts):
 ALL = {
     "speed": speed, "logged": logged, "calls": calls, "profile": profile, "proxied": proxied,
     "clients": clients, "growth": growth, "generations": generations, "memory": memory,
-    "start": start, "prunes": plain("prunes", ["a prune", ""]), "push": push,
+    "start": start, "prunes": plain("prunes", ["a prune", ""]), "uses": uses, "push": push,
     "carried": plain("carried", ["`carry` to an empty server", ""]), "revoked": revoked,
     "fanned": fanned, "scaled": scaled, "spread": spread, "peers": peers, "beside": beside,
     "ledger": ledger, "pruned": pruned,

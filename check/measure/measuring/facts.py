@@ -60,15 +60,24 @@ class Maker:
         access = digest(ACCESS, at) + struct.pack(">Q", self.now + LIFE) + text(SCOPE)
         return access + digest(REFRESH, at) + struct.pack(">Q", self.now + FAMILY) + text(SCOPE)
 
+    def code(self):
+        """A code: its dot, and the fact."""
+        at = self.new_dot()
+        subject = self.subject or b"subject-%d" % (at[1] // 2)
+        times = struct.pack(">QQQ", self.now, self.now + 60, self.now + FAMILY)
+        return at, (dot(at) + b"\5" + dot(self.client) + dot(self.consent) + digest(CODE, at)
+                    + times + text(subject) + text(SCOPE) + text(REDIRECT) + b"\1\0")
+
+    def redemption(self, code):
+        """A redemption of the code at a dot: its own dot, and the fact."""
+        at = self.new_dot()
+        return at, dot(at) + b"\6" + dot(code) + struct.pack(">Q", self.now) + self.tokens(at)
+
     def login(self):
         """A code and its redemption: the redemption's dot, and both facts."""
-        code, redemption = self.new_dot(), self.new_dot()
-        subject = self.subject or b"subject-%d" % (code[1] // 2)
-        times = struct.pack(">QQQ", self.now, self.now + 60, self.now + FAMILY)
-        given = (dot(code) + b"\5" + dot(self.client) + dot(self.consent) + digest(CODE, code)
-                 + times + text(subject) + text(SCOPE) + text(REDIRECT) + b"\1\0")
-        redeemed = dot(redemption) + b"\6" + dot(code) + struct.pack(">Q", self.now)
-        return redemption, [given, redeemed + self.tokens(redemption)]
+        code, given = self.code()
+        redemption, redeemed = self.redemption(code)
+        return redemption, [given, redeemed]
 
     def rotation(self, parent, generation):
         """The rotation of a dot's refresh token: its own dot, and the fact."""

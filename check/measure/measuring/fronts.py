@@ -1,15 +1,12 @@
 """fronts: sites of one machine as examples/scale-out has them, with HAProxy before them."""
-import contextlib
 import os
 import re
 import shutil
-import socket
 import subprocess
-import time
 import zlib
 
 from measuring.rounds import ROOT, Absent, Broken
-from measuring.server import Process, free_port
+from measuring.server import Process, free_port, listens_soon
 
 OUT = os.path.join(ROOT, "examples/scale-out")
 FIRST = {"one": 1, "two": 8192, "three": 16384, "four": 24576}  # names of sites, first numbers
@@ -78,13 +75,8 @@ class Front:
                                           stdout=output, stderr=output)
 
     def await_port(self):
-        end = time.monotonic() + PATIENCE
-        while time.monotonic() < end and self.child.poll() is None:
-            with contextlib.suppress(OSError):
-                socket.create_connection(("127.0.0.1", self.port), 1).close()
-                return
-            time.sleep(0.05)
-        raise Broken("HAProxy doesn't listen: %s" % self.said()[-300:])
+        if not listens_soon(self.child, self.port, PATIENCE):
+            raise Broken("HAProxy doesn't listen: %s" % self.said()[-300:])
 
     def said(self):
         with open(self.output, encoding="utf-8") as file:

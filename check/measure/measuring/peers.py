@@ -8,16 +8,14 @@ import gzip
 import os
 import shutil
 import signal
-import socket
 import sqlite3
 import subprocess
 import tempfile
-import time
 
 from measuring import glewlwyd
 from measuring.asking import REDIRECT_TEXT, Asked, authorize, basic
 from measuring.rounds import Absent, Broken
-from measuring.server import PYTHON, free_port
+from measuring.server import PYTHON, free_port, listens_soon
 
 HERE = os.path.dirname(os.path.abspath(__file__))
 CLIENT, SECRET, PATIENCE = "measured", "s3cret", 30
@@ -58,13 +56,8 @@ class Peer(Asked):
             self.child = subprocess.Popen(
                 words, stdin=subprocess.DEVNULL, stdout=errors, stderr=errors, cwd=self.folder,
                 env=os.environ | environment, start_new_session=True)
-        end = time.monotonic() + PATIENCE
-        while time.monotonic() < end and self.child.poll() is None:
-            with contextlib.suppress(OSError):
-                socket.create_connection(("127.0.0.1", self.port), 1).close()
-                return
-            time.sleep(0.05)
-        raise Broken("%s didn't start: %s" % (self.name, self.errors()))
+        if not listens_soon(self.child, self.port, PATIENCE):
+            raise Broken("%s didn't start: %s" % (self.name, self.errors()))
 
     def errors(self):
         with open(self.path("errors"), encoding="utf-8", errors="replace") as file:

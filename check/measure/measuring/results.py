@@ -11,11 +11,11 @@ class Missing(Exception):
 
 
 class Part:
-    """The data of one measurement. Of two programs it has the first one's."""
+    """The data of one measurement. Of two programs it has the first one's, and no empty row."""
 
     def __init__(self, data):
         self.data = data
-        self.rows = {it["name"]: it["values"][0] for it in data["rows"]}
+        self.rows = {it["name"]: it["values"][0] for it in data["rows"] if it["values"][0]}
 
     def values(self, name):
         if name not in self.rows:

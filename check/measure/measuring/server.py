@@ -6,6 +6,7 @@ import select
 import socket
 import subprocess
 import tempfile
+import time
 
 from measuring.asking import REDIRECT_TEXT, Asked, authorize, basic, request
 from measuring.rounds import Absent, Broken
@@ -19,6 +20,17 @@ def free_port():
     with socket.socket() as it:
         it.bind(("127.0.0.1", 0))
         return it.getsockname()[1]
+
+
+def listens_soon(child, port, seconds):
+    """Waits until a child listens on a port, and returns whether it did so in that time."""
+    end = time.monotonic() + seconds
+    while time.monotonic() < end and child.poll() is None:
+        with contextlib.suppress(OSError):
+            socket.create_connection(("127.0.0.1", port), 1).close()
+            return True
+        time.sleep(0.05)
+    return False
 
 
 def push(bundle):

@@ -3,22 +3,22 @@
 --   all_printed    all sources are printed
 --   fault_left     what a fault leaves of the output
 --   rows_named     the names of sources that clap has, as rows
-use Rattle.std.proofs.Common.{◌≡◌, ℕ, List, [], ◌∷◌, Bor, Option, Some, None, Result, Ok, Err, map, option_map, refl, sym, ap, subst, inl, inr, ◌∙◌, string_bytes, false}
-use Rattle.std.specs.Prelude.{◌⊎◌, unwrap_or}
+use Rattle.std.proofs.Common.{◌≡◌, ℕ, List, [], ◌∷◌, Bor, Option, Some, None, Result, Ok, Err, map, option_map, refl, sym, ap, subst, inl, inr, ◌∙◌, string_bytes}
+use Rattle.std.specs.Prelude.{unwrap_or}
 use Rattle.std.specs.Io.KnownBytes.{Keeps}
-use Rattle.std.specs.Str.{bytes_eq}
+use Rattle.tk_edge.specs.Told.{Change}
 use Rattle.clap.specs.Words.{Text, all_of, matched_of, raw_values, rows_of}
 use Rattle.clap.specs.declared.parser.matches.Found.{Found}
 use Rattle.clap.proofs.WalkLemmas.{raw_values-rows}
 use Rattle.tk_facts.specs.declared.print.PrintFault.{PrintFault}
 use Rattle.tk_facts.specs.declared.print.PrintFault.TheVariants as print
-use Rattle.tokend.specs.FactsRun.{BeginsFacts, IsBadSource, IsFactsFault, IsTold, IsToldAs, IsUnreadSource, PrintsEach, PrintsFacts, PrintsNamed, PrintsSource, PrintsSources, with_cut}
+use Rattle.tokend.specs.FactsRun.{BeginsFacts, IsBadSource, IsFactsFault, IsSourceFault, IsTold, IsToldAs, IsUnreadSource, PrintsEach, PrintsFacts, PrintsNamed, PrintsSource, PrintsSources, TellsDropped, with_cut}
 use Rattle.tokend.specs.Status.{LeavesBegun}
 use Rattle.tokend.specs.declared.options.Sources.{Sources}
 use Rattle.tokend.specs.declared.fault.Fault.{Fault}
 use Rattle.tokend.specs.declared.fault.Fault.TheVariants.{BadLine, BadLogFile, BadSeedFile, CannotListen, CannotOpen, CannotRead, CannotReadFile, Facts, Memory, Output, ScriptTooLong, SocketFailed, Words}
 
-is_bad : (name : Text) (offset : ℕ) (fault : Fault) → IsBadSource name offset fault → IsFactsFault fault
+pub is_bad : (name : Text) (offset : ℕ) (fault : Fault) → IsBadSource name offset fault → IsSourceFault fault
 is_bad name offset (Facts why) h = tt
 is_bad name offset (Words error) h = absurd h
 is_bad name offset CannotRead h = absurd h
@@ -33,7 +33,7 @@ is_bad name offset (BadLine n) h = absurd h
 is_bad name offset Memory h = absurd h
 is_bad name offset Output h = absurd h
 
-is_unread : (name : Text) (fault : Fault) → IsUnreadSource name fault → IsFactsFault fault
+pub is_unread : (name : Text) (fault : Fault) → IsUnreadSource name fault → IsSourceFault fault
 is_unread name (Facts why) h = tt
 is_unread name (Words error) h = absurd h
 is_unread name CannotRead h = absurd h
@@ -48,29 +48,45 @@ is_unread name (BadLine n) h = absurd h
 is_unread name Memory h = absurd h
 is_unread name Output h = absurd h
 
+-- a fault of a source is one of printing
+pub of_source : (fault : Fault) → IsSourceFault fault → IsFactsFault fault
+of_source (Facts why) h = tt
+of_source (Words error) h = absurd h
+of_source CannotRead h = absurd h
+of_source (CannotReadFile n) h = absurd h
+of_source (CannotOpen n) h = absurd h
+of_source CannotListen h = absurd h
+of_source SocketFailed h = absurd h
+of_source BadSeedFile h = absurd h
+of_source BadLogFile h = absurd h
+of_source ScriptTooLong h = absurd h
+of_source (BadLine n) h = absurd h
+of_source Memory h = absurd h
+of_source Output h = absurd h
+
 is_told : (name : Text) (why : PrintFault) (fault : Fault) → IsToldAs name why fault → IsFactsFault fault
-is_told name (print.Bad offset) fault h = is_bad name offset fault h
-is_told name print.Read fault h = is_unread name fault h
+is_told name (print.Bad offset) fault h = of_source fault (is_bad name offset fault h)
+is_told name print.Read fault h = of_source fault (is_unread name fault h)
 is_told name print.Memory fault h = subst IsFactsFault (sym h) tt
 is_told name print.Output fault h = subst IsFactsFault (sym h) tt
 
-abbrev fault_in : Fault → Result ℕ Fault → Fault
+abbrev pub fault_in : Fault → Result ℕ Fault → Fault
 fault_in other (Ok n) = other
 fault_in other (Err fault) = fault
 
 source_fault : (name : Text) (known : Option (List ℕ)) (fault : Fault) (old new : Option (List ℕ)) → PrintsSource name known (Err fault) old new → IsFactsFault fault
-source_fault name known fault old new (inr h) = subst IsFactsFault (sym (ap (fault_in fault) h.1)) (is_unread name h.0 h.2)
+source_fault name known fault old new (inr h) = subst IsFactsFault (sym (ap (fault_in fault) h.1)) (of_source h.0 (is_unread name h.0 h.2))
 source_fault name known fault old new (inl h) = by h.0 h.2
   where
     by : (printed : Result ℕ PrintFault) → IsTold name printed (Err fault) → IsFactsFault fault
     by (Ok cut) e = absurd (cc)
     by (Err why) told = is_told name why fault told
 
-later_fault : (cut : ℕ) (later : Result ℕ Fault) (fault : Fault) → Err fault ≡ with_cut cut later → later ≡ Err fault
+pub later_fault : (cut : ℕ) (later : Result ℕ Fault) (fault : Fault) → Err fault ≡ with_cut cut later → later ≡ Err fault
 later_fault cut (Ok n) fault e = absurd (cc)
 later_fault cut (Err why) fault e = sym e
 
-no_error : (fault : Fault) (n : ℕ) → Err fault ≡ Ok n → ⊥
+pub no_error : (fault : Fault) (n : ℕ) → Err fault ≡ Ok n → ⊥
 no_error fault n e = absurd (cc)
 
 each_fault : (names : List Text) (input : Option (List ℕ)) (fault : Fault) (old new : Option (List ℕ)) → PrintsEach names input (Err fault) old new → IsFactsFault fault
@@ -88,10 +104,15 @@ facts_fault s input fault old new h = by (map string_bytes s.names.items) h
     by [] h = source_fault _ input fault old new h
     by (name ∷ more) h = each_fault (name ∷ more) input fault old new h
 
-pub all_printed : (s : Sources) (input : Option (List ℕ)) (r : Result ℕ Fault) (cut : ℕ) (old mid new : Option (List ℕ)) → r ≡ Ok cut
-    → PrintsSources s input r old mid → Keeps mid new → PrintsFacts s input old new
-all_printed s input r cut old mid new is h kept =
-    (cut, mid, subst (λ (x : Result ℕ Fault). PrintsSources s input x old mid) is h, kept)
+pub all_printed : (s : Sources) (input : Option (List ℕ)) (r : Result ℕ Fault) (cut : ℕ) (mid : Option (List ℕ)) (output faults : Change) → r ≡ Ok cut
+    → PrintsSources s input r output.before mid → Keeps mid output.after → TellsDropped cut faults → PrintsFacts s input output faults
+all_printed s input r cut mid output faults is h kept told = record {
+  cut = cut;
+  mid = mid;
+  prints = subst (λ (x : Result ℕ Fault). PrintsSources s input x output.before mid) is h;
+  kept = kept;
+  told = told;
+}
 
 pub fault_left : (s : Sources) (input : Option (List ℕ)) (r : Result ℕ Fault) (fault : Fault) (old mid new : Option (List ℕ)) → r ≡ Err fault
     → PrintsSources s input r old mid → Keeps mid new → LeavesBegun (BeginsFacts s input fault old new) fault old new

@@ -1,4 +1,5 @@
 pub mod Announcements
+pub mod CheckLaws
 pub mod Commands
 pub mod Connections
 pub mod EventWords

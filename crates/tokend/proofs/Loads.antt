@@ -6,7 +6,7 @@
 --   parts_taken    the bytes of a bundle, and the rest of the log
 --   front_kept     the region is unchanged since
 --   load_fault     the fault that ends loading
-use Rattle.std.proofs.Common.{◌≡◌, ◌<◌, ◌≤◌, ℕ, true, List, [], ◌∷◌, ◌++◌, length, take, drop, Option, Some, None, Result, Ok, Err, inl, inr, refl, sym, ap, subst, arith, ◌∙◌}
+use Rattle.std.proofs.Common.{◌≡◌, ◌-◌, ◌<◌, ◌≤◌, ℕ, List, [], ◌∷◌, ◌++◌, length, take, drop, Option, Some, None, Result, Ok, Err, inl, inr, refl, sym, ap, subst, arith, ◌∙◌}
 use Rattle.std.specs.Prelude.{◌⊎◌, zero, suc, IfSome}
 use Rattle.std.proofs.lemmas.List.{append-nil, append_assoc, take-append-drop}
 use Rattle.std.proofs.lemmas.Grind.{flat_map-append}
@@ -17,12 +17,12 @@ use Rattle.tk_bundle.specs.declared.error.FrontError.{FrontError}
 use Rattle.tk_bundle.specs.declared.error.FrontError.TheVariants as front
 use Rattle.tk_message.specs.Place.{next_in}
 use Rattle.tk_region.specs.RegionFields.{RegionFields, place_in}
-use Rattle.tk_region.specs.Taking.{AgreesWith, TakesIn, has_unmade}
+use Rattle.tk_region.specs.Taking.{TakesIn}
 use Rattle.tk_region.specs.declared.take.TakeError.{TakeError}
 use Rattle.tk_region.specs.declared.take.TakeError.TheVariants as refusal
-use Rattle.tokend.specs.Loading.{AreBundles, IsRefused, Loads, TakesAs, TakesEach, TakesFront, TakesOne, front_end, log_bytes, take_fault}
+use Rattle.tokend.specs.Loading.{AreBundles, BeginsWith, IsNoBundle, IsRefused, Loads, TakesAs, TakesEach, TakesFront, TakesOne, front_end, log_bytes, take_fault}
 use Rattle.tokend.specs.declared.load.LoadFault.{LoadFault}
-use Rattle.tokend.specs.declared.load.LoadFault.TheVariants.{Bad, Memory, Read}
+use Rattle.tokend.specs.declared.load.LoadFault.TheVariants.{Bad, Refused, Memory, Read}
 
 pub front_none : (region : RegionFields) (log : List ℕ) → TakesFront region log log region
 front_none region log = record { bundles = []; fit = tt; parts = refl; each = refl }
@@ -52,30 +52,18 @@ front_more old mid new log rest more b front fits parts takes = record {
 pub front_kept : (old mid new : RegionFields) (log rest : List ℕ) → TakesFront old log rest mid → new ≡ mid → TakesFront old log rest new
 front_kept old mid new log rest front same = subst (λ (r : RegionFields). TakesFront old log rest r) (sym same) front
 
--- a front that is malformed is refused
-malformed_front : (region : RegionFields) (rest : List ℕ) (result : Result (BundleFields × ℕ) FrontError) → result ≡ Err front.Malformed
+-- a front that is malformed is no bundle
+malformed_front : (rest : List ℕ) (result : Result (BundleFields × ℕ) FrontError) → result ≡ Err front.Malformed
     → ((e : FrontError) → walk rest ≡ Err e → result ≡ Err e)
-    → ((b : BundleFields) (more : List ℕ) → bundle.Fits b → rest ≡ bundle_bytes b ++ more → IsFrontOf result b) → IsRefused region rest
-malformed_front region rest result is walked only =
-    (λ cut. other (ap error_of (sym is ∙ walked front.Cut cut)), λ b more fits e. absurd (subst (λ r. IsFrontOf r b) is (only b more fits e)))
+    → ((b : BundleFields) (more : List ℕ) → bundle.Fits b → rest ≡ bundle_bytes b ++ more → IsFrontOf result b) → IsNoBundle rest
+malformed_front rest result is walked only =
+    (λ cut. other (ap error_of (sym is ∙ walked front.Cut cut)), λ b begins. absurd (subst (λ r. IsFrontOf r b) is (only b begins.1.0 begins.0 begins.1.1)))
   where
     error_of : Result (BundleFields × ℕ) FrontError → FrontError
     error_of (Ok x) = front.Cut
     error_of (Err e) = e
 
     other : front.Malformed ≡ front.Cut → ⊥
-    other e = absurd (cc)
-
--- a bundle at the front that is refused
-refused_bundle : (region : RegionFields) (rest : List ℕ) (x : BundleFields × ℕ) → ((e : FrontError) → walk rest ≡ Err e → Ok x ≡ Err e)
-    → ((b : BundleFields) (more : List ℕ) → bundle.Fits b → rest ≡ bundle_bytes b ++ more → IsFrontOf (Ok x) b)
-    → ((has_unmade (next_in (place_in region)) x.0.items ≡ true) ⊎ ¬ (AgreesWith region.facts.slots x.0.items)) → IsRefused region rest
-refused_bundle region rest x walked only why = (
-  λ cut. other (walked front.Cut cut),
-  λ b more fits e. subst (λ a. (has_unmade (next_in (place_in region)) a.items ≡ true) ⊎ ¬ (AgreesWith region.facts.slots a.items)) (only b more fits e).0 why,
-)
-  where
-    other : Ok x ≡ Err front.Cut → ⊥
     other e = absurd (cc)
 
 -- the bytes of a bundle aren't empty
@@ -87,9 +75,9 @@ some_bytes rest zero b e = absurd (no_bytes e)
 some_bytes rest (suc n) b e = omega (arith)
 
 -- the outcome of taking in a bundle of a log
-abbrev pub loaded : ℕ → Result ℕ TakeError → Result (Option ℕ) LoadFault
-loaded n (Ok m) = Ok (Some n)
-loaded n (Err error) = Err (take_fault error)
+abbrev pub loaded : ℕ → ℕ → Result ℕ TakeError → Result (Option ℕ) LoadFault
+loaded offset n (Ok m) = Ok (Some n)
+loaded offset n (Err error) = Err (take_fault offset error)
 
 -- the bytes of the first bundle, and the rest
 pub parts_taken : (rest : List ℕ) (n : ℕ) (more : List ℕ) (b : BundleFields) → take n rest ≡ bundle_bytes b → more ≡ drop n rest
@@ -101,19 +89,20 @@ parts_taken rest n more b spells is =
 same_region : (old new : RegionFields) → new.number ≡ old.number → new.settings ≡ old.settings → new.facts ≡ old.facts → new ≡ old
 same_region old new number settings facts = λ i. record { number = number i; settings = settings i; facts = facts i }
 
-pub take_one : (old new : RegionFields) (rest : List ℕ) (x : BundleFields × ℕ) (result : Result ℕ TakeError)
-    → new.number ≡ old.number → new.settings ≡ old.settings → ((e : FrontError) → walk rest ≡ Err e → Ok x ≡ Err e)
-    → ((b : BundleFields) (more : List ℕ) → bundle.Fits b → rest ≡ bundle_bytes b ++ more → IsFrontOf (Ok x) b)
-    → x.1 ≤ length rest → bundle.Fits x.0 → take x.1 rest ≡ bundle_bytes x.0
+pub take_one : (offset : ℕ) (old new : RegionFields) (rest : List ℕ) (x : BundleFields × ℕ) (result : Result ℕ TakeError)
+    → new.number ≡ old.number → new.settings ≡ old.settings → x.1 ≤ length rest → bundle.Fits x.0 → take x.1 rest ≡ bundle_bytes x.0
     → TakesIn old.facts (next_in (place_in old)) (Some x.0) result new.facts
-    → TakesOne old rest (loaded x.1 result) new
-take_one old new rest x result number settings walked only within fits spells takes = of result takes
+    → TakesOne offset old rest (loaded offset x.1 result) new
+take_one offset old new rest x result number settings within fits spells takes = of result takes
   where
     same : new.facts ≡ old.facts → new ≡ old
     same e = same_region old new number settings e
 
+    begins : BeginsWith rest x.0
+    begins = (fits, (drop x.1 rest, parts_taken rest x.1 (drop x.1 rest) x.0 spells refl))
+
     of : (result : Result ℕ TakeError) → TakesIn old.facts (next_in (place_in old)) (Some x.0) result new.facts
-        → TakesOne old rest (loaded x.1 result) new
+        → TakesOne offset old rest (loaded offset x.1 result) new
     of (Ok m) t = (some_bytes rest x.1 x.0 spells, (x.0, fits, within, spells, (m, record { number = number; settings = settings; takes = t })))
     of (Err refusal.Memory) (inl e) = inl (same e)
     of (Err refusal.Memory) (inr t) = inr (
@@ -124,26 +113,27 @@ take_one old new rest x result number settings walked only within fits spells ta
       record { number = number; settings = settings; takes = t },
     )
     of (Err refusal.Malformed) t = absurd t
-    of (Err refusal.OwnNumber) t = (refused_bundle old rest x walked only (inl t.0), same t.1)
-    of (Err refusal.Conflict) t = (refused_bundle old rest x walked only (inr t.1), same t.2)
+    of (Err refusal.OwnNumber) t = ((x.0, begins, inl t.0), refl, same t.1)
+    of (Err refusal.Conflict) t = ((x.0, begins, inr t.1), refl, same t.2)
 
 -- reading a front ends with this error
 abbrev pub fails : FrontError → Result (BundleFields × ℕ) FrontError
 fails e = Err e
 
 -- the outcome for a front that can't be read
-pub unread_front : (region : RegionFields) (rest : List ℕ) (e : FrontError) → ((f : FrontError) → walk rest ≡ Err f → fails e ≡ fails f)
+pub unread_front : (offset : ℕ) (region : RegionFields) (rest : List ℕ) (e : FrontError) → ((f : FrontError) → walk rest ≡ Err f → fails e ≡ fails f)
     → ((b : BundleFields) (more : List ℕ) → bundle.Fits b → rest ≡ bundle_bytes b ++ more → IsFrontOf (fails e) b)
-    → (fails e ≡ fails front.Cut → IsCut rest) → TakesOne region rest (front_end e) region
-unread_front region rest front.Cut walked only cut = (cut refl, refl)
-unread_front region rest front.Malformed walked only cut = (malformed_front region rest (Err front.Malformed) refl walked only, refl)
-unread_front region rest front.Memory walked only cut = inl refl
+    → (fails e ≡ fails front.Cut → IsCut rest) → TakesOne offset region rest (front_end offset e) region
+unread_front offset region rest front.Cut walked only cut = (cut refl, refl)
+unread_front offset region rest front.Malformed walked only cut = (malformed_front rest (Err front.Malformed) refl walked only, refl, refl)
+unread_front offset region rest front.Memory walked only cut = inl refl
 
 -- a fault that ends the loading of the rest ends that of the log
 pub load_fault : (old mid new : RegionFields) (log rest : List ℕ) (fault : LoadFault) → TakesFront old log rest mid
-    → TakesOne mid rest (Err fault) new → Loads old log (Err fault) new
-load_fault old mid new log rest Bad front h =
-    (rest, front_kept old mid new log rest front h.1, subst (λ (r : RegionFields). IsRefused r rest) (sym h.1) h.0)
+    → TakesOne (length log - length rest) mid rest (Err fault) new → Loads old log (Err fault) new
+load_fault old mid new log rest (Bad at) front h = (rest, front_kept old mid new log rest front h.2, h.0, h.1)
+load_fault old mid new log rest (Refused at) front h =
+    (rest, front_kept old mid new log rest front h.2, subst (λ (r : RegionFields). IsRefused r rest) (sym h.2) h.0, h.1)
 load_fault old mid new log rest Memory front h = (rest, mid, front, h)
 load_fault old mid new log rest Read front h = absurd h
 
@@ -163,5 +153,7 @@ unread_log region known fault why = (log_in known, same known, brings fault why)
     brings : (fault : LoadFault) → ((fault ≡ Read) ⊎ (fault ≡ Memory)) → Loads region (log_in known) (Err fault) region
     brings Read why = refl
     brings Memory why = (log_in known, region, front_none region (log_in known), inl refl)
-    brings Bad (inl e) = absurd (cc)
-    brings Bad (inr e) = absurd (cc)
+    brings (Bad at) (inl e) = absurd (cc)
+    brings (Bad at) (inr e) = absurd (cc)
+    brings (Refused at) (inl e) = absurd (cc)
+    brings (Refused at) (inr e) = absurd (cc)

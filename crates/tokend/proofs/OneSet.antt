@@ -1,8 +1,8 @@
 -- Regions whose facts are within one set agree. Key result: all_agree.
-use Rattle.std.proofs.Common.{◌≡◌, ℕ, Option, Some, None, unwrap_or, refl, sym, ap, ◌∙◌}
+use Rattle.std.proofs.Common.{ℕ, Option, Some, None, unwrap_or, sym, ap, ◌∙◌}
 use Rattle.std.specs.FinMap as map
 use Rattle.tk_handle.specs.Dot.{dot_cmp}
-use Rattle.tk_store.specs.FactSet.{FactSet, Agree, IsSubset}
+use Rattle.tk_store.specs.FactSet.{Agree, IsSubset}
 use Rattle.tk_store.specs.Slots.{held_slot}
 use Rattle.tk_store.specs.StoreFields.{StoreFields, empty_store, held_facts}
 use Rattle.tk_store.proofs.PutLaws.{some_injective, none_is_not_some}

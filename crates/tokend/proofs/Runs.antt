@@ -21,13 +21,15 @@ use Rattle.tokend.specs.LoopbackRun.{by_loopback}
 use Rattle.tokend.specs.Task.{Asks, AsksToServe, AsksToShow}
 use Rattle.tokend.specs.Script.{greatest_length, IsFaultOf, IsFirstBad}
 use Rattle.tokend.specs.ScriptRun.{in_world, IsReadFault, IsScript, IsScriptFault, IsScriptRun, LeavesScript, Mode, PrintsScript}
-use Rattle.tokend.specs.ProgramRun.{BeginsLines, BeginsToServe, FailsToRun, FailsToServe, IsDone, IsFaultFor, IsQuiet, Leaves, PrintsLines, Tells}
+use Rattle.tokend.specs.ProgramRun.{BeginsLines, BeginsToServe, FailsToRun, FailsToServe, IsDone, IsFaultFor, IsQuiet, Leaves, PrintsLines, Tells, TellsFacts}
 use Rattle.tokend.specs.Status.{fault_text, status_of, LeavesBegun}
 use Rattle.tokend.specs.declared.options.Service.{Service}
 use Rattle.tokend.specs.declared.options.Task.TheVariants.{Serve}
-use Rattle.tokend.specs.declared.options.Task.TheVariants.{Facts as PrintFacts}
+use Rattle.tokend.specs.declared.options.Task.TheVariants.{Check, Facts as PrintFacts}
+use Rattle.tokend.specs.declared.options.Check.{Check as CheckValue}
 use Rattle.tokend.specs.declared.options.Sources.{Sources}
-use Rattle.tokend.specs.FactsRun.{BeginsFacts, PrintsFacts, cut_text}
+use Rattle.tokend.specs.CheckRun.{BeginsCheck, ChecksFacts}
+use Rattle.tokend.specs.FactsRun.{BeginsFacts, PrintsFacts, TellsDropped, cut_text}
 use Rattle.std.proofs.KnownBytes.{Appends-kept}
 use Rattle.tokend.specs.declared.fault.Fault.{Fault}
 use Rattle.tokend.specs.declared.fault.Fault.TheVariants.{BadLine, BadLogFile, BadSeedFile, CannotListen, CannotOpen, CannotRead, CannotReadFile, Facts, Memory, Output, ScriptTooLong, SocketFailed, Words}
@@ -92,7 +94,7 @@ task_fault words input (Words error) h = absurd (none h)
         by (inl h) = h
         by (inr (inl e)) = absurd (cc)
         by (inr (inr e)) = absurd (cc)
-    none (inr (inr (inr prints))) = prints.2
+    none (inr (inr (inr tells))) = tells.1
     none (inr (inr (inl runs))) = by runs.2
       where
         by : IsScriptFault (by_loopback runs.0) input (Words error) → ⊥
@@ -145,20 +147,38 @@ pub left_by_facts : {T : Type 0} (words : List Text) (input old new : Option (Li
     → IfErr r (λ fault. LeavesBegun (BeginsFacts sources input fault old new) fault old new) → IfErr r (λ fault. Leaves words input fault old new)
 left_by_facts words input old new sources (Ok x) asks h = tt
 left_by_facts words input old new sources (Err fault) asks h =
-    begun_less (BeginsFacts sources input fault old new) _ fault old new (λ begun. inl (inr (inr (sources, asks, begun)))) h
+    begun_less (BeginsFacts sources input fault old new) _ fault old new (λ begun. inl (inr (inr (inl (sources, asks, begun))))) h
+
+-- what a fault of a check leaves is what the program's leaves
+pub left_by_check : {T : Type 0} (words : List Text) (input old new : Option (List ℕ)) (check : CheckValue) (r : Result T Fault) → Asks words (Check check)
+    → IfErr r (λ fault. LeavesBegun (BeginsCheck check input fault old new) fault old new) → IfErr r (λ fault. Leaves words input fault old new)
+left_by_check words input old new check (Ok x) asks h = tt
+left_by_check words input old new check (Err fault) asks h =
+    begun_less (BeginsCheck check input fault old new) _ fault old new (λ begun. inl (inr (inr (inr (check, asks, begun))))) h
 
 -- the facts that were printed are the program's lines
-pub facts_done : {T : Type 0} (words : List Text) (input old new : Option (List ℕ)) (sources : Sources) (r : Result T Fault) → Asks words (PrintFacts sources)
-    → OnOk r (PrintsFacts sources input old new) → OnOk r (IsDone words input old new)
-facts_done words input old new sources (Ok x) asks h = inl (inr (inr (sources, asks, h)))
-facts_done words input old new sources (Err fault) asks h = tt
+pub facts_done : {T : Type 0} (words : List Text) (input old new : Option (List ℕ)) (faults : Change) (sources : Sources) (r : Result T Fault) → Asks words (PrintFacts sources)
+    → OnOk r (PrintsFacts sources input (record { before = old; after = new }) faults) → OnOk r (IsDone words input old new)
+facts_done words input old new faults sources (Ok x) asks h = inl (inr (inr (faults, inl (sources, asks, h))))
+facts_done words input old new faults sources (Err fault) asks h = tt
+
+-- the line of a check is the program's
+pub check_done : {T : Type 0} (words : List Text) (input old new : Option (List ℕ)) (faults : Change) (check : CheckValue) (r : Result T Fault) → Asks words (Check check)
+    → OnOk r (ChecksFacts check input (record { before = old; after = new }) faults) → OnOk r (IsDone words input old new)
+check_done words input old new faults check (Ok x) asks h = inl (inr (inr (faults, inr (check, asks, h))))
+check_done words input old new faults check (Err fault) asks h = tt
 
 -- facts write no fault but the number of bytes that were dropped
-pub facts_quiet : {T : Type 0} (words : List Text) (sources : Sources) (old new : Option (List ℕ)) (r : Result T Fault) → Asks words (PrintFacts sources)
-    → OnOk r (Keeps old new ⊎ ((cut : ℕ) × AppendsFront old new (cut_text cut))) → OnOk r (IsQuiet words old new)
-facts_quiet words sources old new (Ok x) asks (inl kept) = inl kept
-facts_quiet words sources old new (Ok x) asks (inr told) = inr (inr ((sources, asks), told))
-facts_quiet words sources old new (Err fault) asks h = tt
+pub facts_quiet : {T : Type 0} (words : List Text) (input old new : Option (List ℕ)) (output : Change) (sources : Sources) (r : Result T Fault) → Asks words (PrintFacts sources)
+    → OnOk r (PrintsFacts sources input output (record { before = old; after = new })) → OnOk r (IsQuiet words input old new)
+facts_quiet words input old new output sources (Ok x) asks h = inr (inr (output, inl (sources, asks, h)))
+facts_quiet words input old new output sources (Err fault) asks h = tt
+
+-- a check writes no fault but that number
+pub check_quiet : {T : Type 0} (words : List Text) (input old new : Option (List ℕ)) (output : Change) (check : CheckValue) (r : Result T Fault) → Asks words (Check check)
+    → OnOk r (ChecksFacts check input output (record { before = old; after = new })) → OnOk r (IsQuiet words input old new)
+check_quiet words input old new output check (Ok x) asks h = inr (inr (output, inr (check, asks, h)))
+check_quiet words input old new output check (Err fault) asks h = tt
 
 -- the lines that a script's run printed are the program's
 pub script_done : {T : Type 0} (words : List Text) (input old new : Option (List ℕ)) (P : Type 0) (r : Result T Fault)
@@ -173,16 +193,16 @@ pub service_done : {T : Type 0} (words : List Text) (input old new : Option (Lis
 service_done words input old new faults service (Ok x) asks h = inr (inl (service, asks, (faults, h)))
 service_done words input old new faults service (Err fault) asks h = tt
 
-pub service_quiet : {T : Type 0} (words : List Text) (old new : Option (List ℕ)) (r : Result T Fault) → AsksToServe words
-    → OnOk r (IsQuiet words old new)
-service_quiet words old new (Ok x) asks = inr (inl asks)
-service_quiet words old new (Err fault) asks = tt
+pub service_quiet : {T : Type 0} (words : List Text) (input old new : Option (List ℕ)) (r : Result T Fault) → AsksToServe words
+    → OnOk r (IsQuiet words input old new)
+service_quiet words input old new (Ok x) asks = inr (inl asks)
+service_quiet words input old new (Err fault) asks = tt
 
 -- a run that writes no fault is quiet
-pub untold : {T : Type 0} (words : List Text) (r : Result T Fault) (faults : Option (List ℕ)) → OnOk r (IsQuiet words faults faults)
-untold words (Ok x) None = inl tt
-untold words (Ok x) (Some bytes) = inl refl
-untold words (Err fault) faults = tt
+pub untold : {T : Type 0} (words : List Text) (input : Option (List ℕ)) (r : Result T Fault) (faults : Option (List ℕ)) → OnOk r (IsQuiet words input faults faults)
+untold words input (Ok x) None = inl tt
+untold words input (Ok x) (Some bytes) = inl refl
+untold words input (Err fault) faults = tt
 
 -- bytes that are written after a call that kept everything
 appends_behind : (a b c : Option (List ℕ)) (text : List ℕ) → Keeps a b → Appends b c text → Appends a c text
@@ -219,6 +239,7 @@ no_status ScriptTooLong e = absurd (cc)
 no_status (BadLine number) e = absurd (cc)
 no_status Memory e = absurd (cc)
 no_status (Facts (facts.Bad name offset)) e = absurd (cc)
+no_status (Facts (facts.Refused name offset)) e = absurd (cc)
 no_status (Facts (facts.Unread name)) e = absurd (cc)
 no_status (Facts facts.Memory) e = absurd (cc)
 no_status Output e = absurd (cc)
@@ -231,16 +252,30 @@ pub ended_well : {T P : Type 0} (ran : Result T Fault) (status : ℕ) (old new :
 ended_well (Ok x) status old new ends h e = h
 ended_well (Err fault) status old new ends h e = absurd (no_status fault (sym ends.0 ∙ e))
 
-pub ended_quietly : {T : Type 0} (words : List Text) (ran : Result T Fault) (status : ℕ) (a b c : Option (List ℕ)) → Ends ran status b c
-    → OnOk ran (IsQuiet words a b) → status ≡ 0 → IsQuiet words a c
-ended_quietly words (Ok x) status a b c ends h e = of h
+-- the number of bytes that are dropped was told, and nothing is written afterwards
+told_kept : (cut : ℕ) (a b c : Option (List ℕ)) → TellsDropped cut (record { before = a; after = b }) → Keeps b c → TellsDropped cut (record { before = a; after = c })
+told_kept cut a b c told kept = (λ none. keeps_twice a b c (told.0 none) kept, λ some. behind (told.1 some))
   where
-    of : IsQuiet words a b → IsQuiet words a c
+    behind : AppendsFront a b (cut_text cut) → AppendsFront a c (cut_text cut)
+    behind h = record { front = h.front; rest = h.rest; parts = h.parts; appended = Appends-kept a b c h.front h.appended kept }
+
+-- facts that were told, if nothing is written afterwards
+facts_kept : (words : List Text) (input : Option (List ℕ)) (output : Change) (a b c : Option (List ℕ)) → Keeps b c
+    → TellsFacts words input output (record { before = a; after = b }) → TellsFacts words input output (record { before = a; after = c })
+facts_kept words input output a b c kept (inl h) =
+    inl (h.0, h.1, record { cut = h.2.cut; mid = h.2.mid; prints = h.2.prints; kept = h.2.kept; told = told_kept h.2.cut a b c h.2.told kept })
+facts_kept words input output a b c kept (inr h) =
+    inr (h.0, h.1, record { cut = h.2.cut; region = h.2.region; checks = h.2.checks; printed = h.2.printed; told = told_kept h.2.cut a b c h.2.told kept })
+
+pub ended_quietly : {T : Type 0} (words : List Text) (input : Option (List ℕ)) (ran : Result T Fault) (status : ℕ) (a b c : Option (List ℕ)) → Ends ran status b c
+    → OnOk ran (IsQuiet words input a b) → status ≡ 0 → IsQuiet words input a c
+ended_quietly words input (Ok x) status a b c ends h e = of h
+  where
+    of : IsQuiet words input a b → IsQuiet words input a c
     of (inl kept) = inl (keeps_twice a b c kept ends.1)
     of (inr (inl asks)) = inr (inl asks)
-    of (inr (inr told)) = let text = told.1.1 in
-        inr (inr (told.0, (told.1.0, record { front = text.front; rest = text.rest; parts = text.parts; appended = Appends-kept a b c text.front text.appended ends.1 })))
-ended_quietly words (Err fault) status a b c ends h e = absurd (no_status fault (sym ends.0 ∙ e))
+    of (inr (inr told)) = inr (inr (told.0, facts_kept words input told.0 a b c ends.1 told.1))
+ended_quietly words input (Err fault) status a b c ends h e = absurd (no_status fault (sym ends.0 ∙ e))
 
 pub ended_badly : {T : Type 0} (words : List Text) (input : Option (List ℕ)) (old new : Option (List ℕ)) (ran : Result T Fault) (status k : ℕ)
     (a b c : Option (List ℕ)) → Ends ran status b c → IfErr ran (IsFaultFor words input) → IfErr ran (λ fault. Leaves words input fault old new)

@@ -1,5 +1,6 @@
 -- The task that the arguments request, by what clap reports of them. Key results:
 --   is_service      a service is the task
+--   is_facts        the values of `facts` are the task
 --   found_by        clap finds the subcommand of the arguments
 --   fails_by        clap names its fault in the arguments
 --   refused_by      the reason why clap refused the arguments
@@ -17,12 +18,12 @@ use Rattle.clap.specs.declared.error.Error.{Error}
 use Rattle.clap.specs.declared.error.kind.ErrorKind.TheVariants as kind
 use Rattle.tk_handle.specs.Ranges.{greatest_region}
 use Rattle.tk_region.specs.SettingsFields.{greatest_code, greatest_access, greatest_refresh, greatest_family, greatest_cap}
-use Rattle.tokend.specs.CommandLine.{HasFlag, HasNumber, HasNumbers, HasService, greatest_port, is_given, tokend_app}
-use Rattle.tokend.specs.Task.{Asks, IsNoService, IsNoTask, IsRefusalOf, IsTask, lacks_log, missing_kind}
+use Rattle.tokend.specs.CommandLine.{HasCheck, HasFlag, HasNumber, HasNumbers, HasService, greatest_port, is_given, tokend_app}
+use Rattle.tokend.specs.Task.{Asks, IsFactsTask, IsNoCheck, IsNoService, IsNoTask, IsRefusalOf, IsTask, lacks_log, missing_kind}
 use Rattle.tokend.specs.declared.options.Numbers.{Numbers}
 use Rattle.tokend.specs.declared.options.Service.{Service}
 use Rattle.tokend.specs.declared.options.Task.{Task}
-use Rattle.tokend.specs.declared.options.Task.TheVariants.{Script, Loopback, Serve, Facts}
+use Rattle.tokend.specs.declared.options.Task.TheVariants.{Script, Loopback, Serve, Facts, Check}
 
 -- two names for the rows of a subcommand are equal
 one_rows : (found : Option (Text × List Row)) (rows others : List Row) (name : Text) → option_map (λ p. p.1) found ≡ Some rows
@@ -51,6 +52,10 @@ no_script found rows named at none (Facts sources) h = not_facts (other_name fou
   where
     not_facts : codes "script" ≡ codes "facts" → ⊥
     not_facts e = absurd (cc)
+no_script found rows named at none (Check check) h = not_facts (other_name found h.0 _ _ named h.1)
+  where
+    not_facts : codes "script" ≡ codes "facts" → ⊥
+    not_facts e = absurd (cc)
 no_script found rows named at none (Serve service) h = not_serve (other_name found h.0 _ _ named h.1)
   where
     not_serve : codes "script" ≡ codes "serve" → ⊥
@@ -69,10 +74,20 @@ no_loopback found rows named at none (Facts sources) h = not_facts (other_name f
   where
     not_facts : codes "loopback" ≡ codes "facts" → ⊥
     not_facts e = absurd (cc)
+no_loopback found rows named at none (Check check) h = not_facts (other_name found h.0 _ _ named h.1)
+  where
+    not_facts : codes "loopback" ≡ codes "facts" → ⊥
+    not_facts e = absurd (cc)
 no_loopback found rows named at none (Serve service) h = not_serve (other_name found h.0 _ _ named h.1)
   where
     not_serve : codes "loopback" ≡ codes "serve" → ⊥
     not_serve e = absurd (cc)
+
+serve_no_facts : codes "serve" ≡ codes "facts" → ⊥
+serve_no_facts e = first_letter (ap (λ (t : Text). get_or t 0 0) e)
+  where
+    first_letter : ◌≡◌ {A = ℕ} 115 102 → ⊥
+    first_letter e = omega (arith, e)
 
 -- a service without its values is no task
 no_service : (found : Option (Text × List Row)) (rows : List Row) → option_map (λ p. p.0) found ≡ Some (codes "serve")
@@ -85,13 +100,8 @@ no_service found rows named at none (Loopback numbers) h = not_loopback (other_n
   where
     not_loopback : codes "serve" ≡ codes "loopback" → ⊥
     not_loopback e = absurd (cc)
-no_service found rows named at none (Facts sources) h = not_facts (other_name found h.0 _ _ named h.1)
-  where
-    not_facts : codes "serve" ≡ codes "facts" → ⊥
-    not_facts e = first_letter (ap (λ (t : Text). get_or t 0 0) e)
-      where
-        first_letter : ◌≡◌ {A = ℕ} 115 102 → ⊥
-        first_letter e = omega (arith, e)
+no_service found rows named at none (Facts sources) h = serve_no_facts (other_name found h.0 _ _ named h.1)
+no_service found rows named at none (Check check) h = serve_no_facts (other_name found h.0 _ _ named h.1)
 no_service found rows named at none (Serve service) h =
     none service (subst (λ r. HasService r service) (sym (one_rows found rows h.0 _ at h.1)) h.2)
 
@@ -117,6 +127,55 @@ pub is_no_service : {E : Type 0} (found : Option (Text × List Row)) (rows : Lis
 is_no_service found rows (Ok (Some task)) named at h = tt
 is_no_service found rows (Ok None) named at h = no_service found rows named at h
 is_no_service found rows (Err e) named at h = tt
+
+-- the values of `facts` are the task
+pub is_facts : {E : Type 0} (found : Option (Text × List Row)) (rows : List Row) (r : Result (Option Task) E)
+    → option_map (λ p. p.0) found ≡ Some (codes "facts") → option_map (λ p. p.1) found ≡ Some rows
+    → IfOk r (λ read. IfSome read (IsFactsTask rows)) → IfOk r (λ read. IfSome read (IsTask found))
+is_facts found rows (Ok (Some (Facts sources))) named at h = (rows, found_is found _ rows named at, h)
+is_facts found rows (Ok (Some (Check check))) named at h = (rows, found_is found _ rows named at, h)
+is_facts found rows (Ok (Some (Script numbers))) named at h = absurd h
+is_facts found rows (Ok (Some (Loopback numbers))) named at h = absurd h
+is_facts found rows (Ok (Some (Serve service))) named at h = absurd h
+is_facts found rows (Ok None) named at h = tt
+is_facts found rows (Err e) named at h = tt
+
+-- a flag isn't both
+both_flags : (rows : List Row) → HasFlag rows (codes "check") true → HasFlag rows (codes "check") false → ⊥
+both_flags rows given absent = other (given ∙ sym absent)
+  where
+    other : true ≡ false → ⊥
+    other e = absurd (cc)
+
+-- a check without its number is no task
+no_check : (found : Option (Text × List Row)) (rows : List Row) → option_map (λ p. p.0) found ≡ Some (codes "facts")
+    → option_map (λ p. p.1) found ≡ Some rows → IsNoCheck rows → IsNoTask found
+no_check found rows named at none (Script numbers) h = not_script (other_name found h.0 _ _ named h.1)
+  where
+    not_script : codes "facts" ≡ codes "script" → ⊥
+    not_script e = absurd (cc)
+no_check found rows named at none (Loopback numbers) h = not_loopback (other_name found h.0 _ _ named h.1)
+  where
+    not_loopback : codes "facts" ≡ codes "loopback" → ⊥
+    not_loopback e = absurd (cc)
+no_check found rows named at none (Serve service) h = serve_no_facts (sym (other_name found h.0 _ _ named h.1))
+no_check found rows named at none (Facts sources) h =
+    both_flags rows none.0 (subst (λ r. HasFlag r (codes "check") false) (sym (one_rows found rows h.0 _ at h.1)) h.2.0)
+no_check found rows named at none (Check check) h =
+    none.1 check (subst (λ r. HasCheck r check) (sym (one_rows found rows h.0 _ at h.1)) h.2)
+
+-- without the number of a check there is no task
+pub is_no_check : {E : Type 0} (found : Option (Text × List Row)) (rows : List Row) (r : Result (Option Task) E)
+    → option_map (λ p. p.0) found ≡ Some (codes "facts") → option_map (λ p. p.1) found ≡ Some rows
+    → IfOk r (λ read. IfNone read (IsNoCheck rows)) → IfOk r (λ read. IfNone read (IsNoTask found))
+is_no_check found rows (Ok (Some task)) named at h = tt
+is_no_check found rows (Ok None) named at h = no_check found rows named at h
+is_no_check found rows (Err e) named at h = tt
+
+-- a check without its number
+pub without_number : (rows : List Row) (flag : Bool) → HasFlag rows (codes "check") flag → flag ≡ true
+    → ((n : ℕ) → ¬ (HasNumber rows (codes "region") 1 greatest_region n)) → IsNoCheck rows
+without_number rows flag given is none = (sym is ∙ given, λ check h. none check.region h.region)
 
 -- if one of the numbers is missing, the rows have no settings
 module _ {T : Type 0} (rows : List Row) (r : Option T) where

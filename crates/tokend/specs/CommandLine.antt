@@ -11,6 +11,7 @@
 --   HasNumbers      clap's matches have these five settings
 --   HasService      clap's matches have this service
 --   HasSources      clap's matches have these sources of facts
+--   HasCheck        clap's matches have this check
 use Rattle.std.specs.Prelude.{
   ◌≡◌,
   ℕ,
@@ -63,6 +64,7 @@ use Rattle.clap.specs.declared.builder.action.ArgAction.TheVariants as action
 use Rattle.clap.specs.declared.builder.value_parser.ValueParser.TheVariants as parser
 use Rattle.tokend.specs.declared.command_line.Takes.{Takes}
 use Rattle.tokend.specs.declared.command_line.Takes.TheVariants as takes
+use Rattle.tokend.specs.declared.options.Check.{Check}
 use Rattle.tokend.specs.declared.options.Numbers.{Numbers}
 use Rattle.tokend.specs.declared.options.Service.{Service}
 use Rattle.tokend.specs.declared.options.Sources.{Sources}
@@ -168,9 +170,16 @@ abbrev pub names_rule : Rule
 names_rule =
     record (new_rule (codes "file")) { value_names = 1; action = Some action.Append }
 
+-- the options of a check: whether there is one, and the number of the region that loads
+abbrev pub check_rules : List Rule
+check_rules =
+    flag_rule (codes "check")
+    ∷ number_rule (codes "region") (codes "65535") greatest_region
+    ∷ []
+
 -- the subcommand `facts`
 abbrev pub facts_app : App
-facts_app = with_rules (new_app (codes "facts")) (names_rule ∷ [])
+facts_app = with_rules (with_rules (new_app (codes "facts")) check_rules) (names_rule ∷ [])
 
 -- the program without the subcommand `facts`
 abbrev pub served_app : App
@@ -235,6 +244,12 @@ pub record HasService (rows : List Row) (s : Service) : Type 0 where
 -- the rows have these names of sources
 abbrev pub HasSources : List Row → Sources → Type 0
 HasSources rows s = map string_bytes s.names.items ≡ unwrap_or (all_of (codes "file") rows) []
+
+-- the rows have this check: it is requested, and has these sources and this number of a region
+pub record HasCheck (rows : List Row) (c : Check) : Type 0 where
+  pub given : HasFlag rows (codes "check") true
+  pub sources : HasSources rows c.sources
+  pub region : HasNumber rows (codes "region") 1 greatest_region c.region
 
 -- the settings of these numbers
 abbrev pub settings_of : Numbers → SettingsFields

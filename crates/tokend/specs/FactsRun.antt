@@ -6,15 +6,19 @@
 --   PrintsSource     a source is printed, or isn't to its end
 --   PrintsEach       sources are printed one after the other
 --   PrintsSources    the sources that the arguments name are printed
+--   cut_text         the line of bytes that are dropped
+--   TellsDropped     the number of bytes that are dropped is written
 --   PrintsFacts      all sources are printed
 --   BeginsFacts      what a fault leaves of the output
---   cut_text         the line of bytes that are dropped
-use Rattle.std.specs.Prelude.{◌≡◌, ◌⊎◌, ⊤, ℕ, ◌+◌, ◌-◌, ◌^◌, min, false, List, [], ◌∷◌, ◌++◌, map}
+use Rattle.std.specs.Prelude.{◌≡◌, ◌⊎◌, ⊤, ℕ, ◌+◌, ◌-◌, ◌^◌, ◌<◌, min, false, List, [], ◌∷◌}
+use Rattle.std.specs.Prelude.{◌++◌, map}
 use Rattle.std.specs.Prelude.{codes, decimal, string_bytes, Option, None, Result, Ok, Err}
 use Rattle.std.specs.Prelude.{if◌then◌else◌}
 use Rattle.std.specs.Io.KnownBytes.{Keeps}
 use Rattle.std.specs.Str.{bytes_eq}
 use Rattle.clap.specs.Words.{Text}
+use Rattle.tk_put.specs.Put.{AppendsFront}
+use Rattle.tk_edge.specs.Told.{Change}
 use Rattle.tk_facts.specs.Printing.{PrintsInput}
 use Rattle.tk_facts.specs.declared.print.PrintFault.{PrintFault}
 use Rattle.tk_facts.specs.declared.print.PrintFault.TheVariants as print
@@ -91,10 +95,25 @@ abbrev pub PrintsSources : Sources → Option (List ℕ) → Result ℕ Fault �
 PrintsSources s input result old new =
     PrintsNamed (map string_bytes s.names.items) input result old new
 
--- all sources are printed, and the output is flushed
-abbrev pub PrintsFacts : Sources → Option (List ℕ) → Option (List ℕ) → Option (List ℕ) → Type 0
-PrintsFacts s input old new =
-    (cut : ℕ) × (mid : Option (List ℕ)) × PrintsSources s input (Ok cut) old mid × Keeps mid new
+-- the line of bytes that are dropped at the ends of sources
+abbrev pub cut_text : ℕ → List ℕ
+cut_text cut = codes "tokend: dropped " ++ (decimal cut ++ codes " bytes\n")
+
+-- if bytes are dropped, the line of their number is written, or a beginning of it
+abbrev pub TellsDropped : ℕ → Change → Type 0
+TellsDropped cut told =
+    (cut ≡ 0 → Keeps told.before told.after)
+    × (0 < cut → AppendsFront told.before told.after (cut_text cut))
+
+-- all sources are printed, the output is flushed, and the number of bytes that are dropped at their
+-- ends is written
+pub record PrintsFacts (s : Sources) (input : Option (List ℕ)) (output faults : Change) : Type 0
+  where
+    pub cut : ℕ
+    pub mid : Option (List ℕ)
+    pub prints : PrintsSources s input (Ok cut) output.before mid
+    pub kept : Keeps mid output.after
+    pub told : TellsDropped cut faults
 
 -- the fault of a source ended the printing; the output may fail at any time
 abbrev pub IsEnd : Result ℕ Fault → Fault → Type 0
@@ -108,12 +127,13 @@ BeginsFacts s input fault old new =
     (ended : Result ℕ Fault) × (mid : Option (List ℕ)) × PrintsSources s input ended old mid
     × Keeps mid new × IsEnd ended fault
 
+-- a fault of a source
+abbrev pub IsSourceFault : Fault → Type 0
+IsSourceFault (Facts fault) = ⊤
+IsSourceFault fault = ⊥
+
 -- a fault of printing: the output's, or that of a source
 abbrev pub IsFactsFault : Fault → Type 0
 IsFactsFault Output = ⊤
 IsFactsFault (Facts fault) = ⊤
 IsFactsFault fault = ⊥
-
--- the line of bytes that are dropped at the ends of sources
-abbrev pub cut_text : ℕ → List ℕ
-cut_text cut = codes "tokend: dropped " ++ (decimal cut ++ codes " bytes\n")

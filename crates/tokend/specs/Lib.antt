@@ -19,6 +19,7 @@
 --   ScriptRun     IsScriptRun, the lines of a script that is run; in_world, a run in a world
 --   LoopbackRun   by_sockets, the way of requests through sockets; by_loopback, a run with these
 --   FactsRun      PrintsFacts, what printing the facts of sources does
+--   CheckRun      ChecksFacts, what checking whether sources can be loaded does
 --   ProgramRun    IsDone, IsFaultFor: what a run of the program does
 pub mod CommandLine
 pub mod Task
@@ -36,4 +37,5 @@ pub mod Status
 pub mod ScriptRun
 pub mod LoopbackRun
 pub mod FactsRun
+pub mod CheckRun
 pub mod ProgramRun

@@ -1,6 +1,7 @@
 -- What a run of the program does.
---   PrintsLines     the lines of a script were written
---   BeginsLines     a beginning of a script's lines was written
+--   TellsFacts      facts were printed, or sources were checked
+--   PrintsLines     the lines of a script, or of facts, were written
+--   BeginsLines     a beginning of these lines was written
 --   ServesAsked     a service that the arguments request has run
 --   BeginsToServe   a beginning of a service's announcement was written
 --   FailsToServe    a fault keeps a service from its first connection
@@ -38,10 +39,31 @@ use Rattle.tokend.specs.LoopbackRun.{by_loopback}
 use Rattle.tokend.specs.Status.{fault_text, LeavesBegun}
 use Rattle.tokend.specs.declared.fault.Fault.{Fault}
 use Rattle.tokend.specs.declared.fault.Fault.TheVariants.{Memory, Output, Words}
+use Rattle.tokend.specs.declared.options.Check.{Check as CheckValue}
 use Rattle.tokend.specs.declared.options.Service.{Service}
 use Rattle.tokend.specs.declared.options.Sources.{Sources}
-use Rattle.tokend.specs.declared.options.Task.TheVariants.{Serve, Facts}
-use Rattle.tokend.specs.FactsRun.{BeginsFacts, IsFactsFault, PrintsFacts, cut_text}
+use Rattle.tokend.specs.declared.options.Task.TheVariants.{Serve, Facts, Check}
+use Rattle.tokend.specs.CheckRun.{BeginsCheck, ChecksFacts}
+use Rattle.tokend.specs.FactsRun.{BeginsFacts, IsFactsFault, PrintsFacts}
+
+-- the arguments request facts, which were printed, or a check, whose sources can be loaded
+abbrev pub TellsFacts : List Text → Option (List ℕ) → Change → Change → Type 0
+TellsFacts words input output faults =
+    ((sources : Sources) × Asks words (Facts sources) × PrintsFacts sources input output faults)
+    ⊎ ((check : CheckValue) × Asks words (Check check) × ChecksFacts check input output faults)
+
+-- the arguments request facts or a check, and a beginning of the lines was written before the fault
+abbrev pub BeginsToTell : List Text → Option (List ℕ) → Fault → Option (List ℕ) → Option (List ℕ)
+    → Type 0
+BeginsToTell words input fault old new =
+    ((sources : Sources) × Asks words (Facts sources) × BeginsFacts sources input fault old new)
+    ⊎ ((check : CheckValue) × Asks words (Check check) × BeginsCheck check input fault old new)
+
+-- the arguments request facts or a check, and the fault is one of their sources
+abbrev pub FailsToTell : List Text → Fault → Type 0
+FailsToTell words fault =
+    (((sources : Sources) × Asks words (Facts sources))
+    ⊎ ((check : CheckValue) × Asks words (Check check))) × IsFactsFault fault
 
 -- the arguments request a script, by sockets or not, or facts, and the lines were written
 abbrev pub PrintsLines : List Text → Option (List ℕ) → Option (List ℕ) → Option (List ℕ) → Type 0
@@ -50,7 +72,8 @@ PrintsLines words input old new =
     × PrintsScript (in_world settings) input old new)
     ⊎ (((settings : SettingsFields) × Asks words (loopback_task settings)
     × PrintsScript (by_loopback settings) input old new)
-    ⊎ ((sources : Sources) × Asks words (Facts sources) × PrintsFacts sources input old new))
+    ⊎ ((faults : Change)
+    × TellsFacts words input (record { before = old; after = new }) faults))
 
 -- the arguments request a script, by sockets or not, or facts, and a beginning of the lines was
 -- written before the fault
@@ -61,7 +84,7 @@ BeginsLines words input fault old new =
     × BeginsScript (in_world settings) input old new)
     ⊎ (((settings : SettingsFields) × Asks words (loopback_task settings)
     × BeginsScript (by_loopback settings) input old new)
-    ⊎ ((sources : Sources) × Asks words (Facts sources) × BeginsFacts sources input fault old new))
+    ⊎ BeginsToTell words input fault old new)
 
 -- the arguments request a service, and it has run: it was announced, and its connections were
 -- served
@@ -87,7 +110,7 @@ FailsToRun words input fault =
     × IsScriptFault (in_world settings) input fault)
     ⊎ (((settings : SettingsFields) × Asks words (loopback_task settings)
     × IsScriptFault (by_loopback settings) input fault)
-    ⊎ ((sources : Sources) × Asks words (Facts sources) × IsFactsFault fault))
+    ⊎ FailsToTell words fault)
 
 -- the lines of a script were written, a service has run, or the arguments request help or the
 -- version
@@ -115,13 +138,12 @@ Leaves words input fault old new =
 abbrev pub Tells : Fault → Option (List ℕ) → Option (List ℕ) → Type 0
 Tells fault old new = IfSome (fault_text fault) (AppendsFront old new)
 
--- the arguments request facts, and the number of bytes that were dropped was written
-abbrev pub TellsCut : List Text → Option (List ℕ) → Option (List ℕ) → Type 0
-TellsCut words old new =
-    ((sources : Sources) × Asks words (Facts sources))
-    × ((cut : ℕ) × AppendsFront old new (cut_text cut))
+-- the arguments request facts or a check, and the number of bytes that were dropped is written
+abbrev pub TellsCut : List Text → Option (List ℕ) → Option (List ℕ) → Option (List ℕ) → Type 0
+TellsCut words input old new =
+    (output : Change) × TellsFacts words input output (record { before = old; after = new })
 
 -- no fault is written, unless a service wrote those of its connections, or bytes of sources of
 -- facts were dropped
-abbrev pub IsQuiet : List Text → Option (List ℕ) → Option (List ℕ) → Type 0
-IsQuiet words old new = Keeps old new ⊎ (AsksToServe words ⊎ TellsCut words old new)
+abbrev pub IsQuiet : List Text → Option (List ℕ) → Option (List ℕ) → Option (List ℕ) → Type 0
+IsQuiet words input old new = Keeps old new ⊎ (AsksToServe words ⊎ TellsCut words input old new)

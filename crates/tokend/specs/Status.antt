@@ -1,6 +1,6 @@
 -- The faults of the program.
 --   status_of     the exit status of a fault
---   facts_status  the exit status of a source whose facts weren't printed to its end
+--   facts_status  the exit status of a source whose facts weren't printed or loaded to its end
 --   facts_text    the line of such a source
 --   fault_text    the line of a fault
 --   input_fault   the fault of an input that fails
@@ -42,11 +42,14 @@ use Rattle.tokend.specs.declared.fault.Fault.TheVariants.{
   Output,
 }
 use Rattle.tokend.specs.declared.fault.FactsFault.{FactsFault}
-use Rattle.tokend.specs.declared.fault.FactsFault.TheVariants.{Bad, Unread, Memory as NoMemory}
+use Rattle.tokend.specs.declared.fault.FactsFault.TheVariants.{Bad, Refused, Unread}
+use Rattle.tokend.specs.declared.fault.FactsFault.TheVariants.{Memory as NoMemory}
 
--- the exit status of a source whose facts weren't printed to its end: 2 if it is bad
+-- the exit status of a source whose facts weren't printed or loaded to its end: 2 if it is bad or
+-- refused
 abbrev pub facts_status : FactsFault → ℕ
 facts_status (Bad name offset) = 2
+facts_status (Refused name offset) = 2
 facts_status (Unread name) = 1
 facts_status NoMemory = 1
 
@@ -71,10 +74,13 @@ abbrev pub input_fault : ErrorKind → Fault
 input_fault OutOfMemory = Memory
 input_fault kind = CannotRead
 
--- the line of a source whose facts weren't printed to its end
+-- the line of a source whose facts weren't printed or loaded to its end
 abbrev pub facts_text : FactsFault → List ℕ
 facts_text (Bad name offset) =
     codes "tokend: bad bytes at "
+    ++ (decimal offset ++ (codes " of " ++ (string_bytes name ++ 10 ∷ [])))
+facts_text (Refused name offset) =
+    codes "tokend: refused bundle at "
     ++ (decimal offset ++ (codes " of " ++ (string_bytes name ++ 10 ∷ [])))
 facts_text (Unread name) = codes "tokend: cannot read " ++ (string_bytes name ++ 10 ∷ [])
 facts_text NoMemory = codes "tokend: memory" ++ 10 ∷ []

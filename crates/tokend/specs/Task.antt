@@ -4,6 +4,8 @@
 --   IsTask          the subcommand and its values are those of this task
 --   IsNoTask        the subcommand and its values are no task's
 --   IsNoService     the values are no service's
+--   IsFactsTask     the values of `facts` are those of this task
+--   IsNoCheck       a check is requested, and the values are no check's
 --   lacks_log       bundles taken in are to be logged without a log
 --   missing_kind    the kind of the fault of arguments that name no task
 --   Asks            the arguments request this task
@@ -11,7 +13,7 @@
 --   AsksToShow      the arguments request help or the version
 --   IsRefusalOf     the kind of a fault in the arguments
 --   IsNoText        the fault of arguments that aren't UTF-8
-use Rattle.std.specs.Prelude.{◌≡◌, ◌≢◌, ◌⊎◌, ⊤, Bool, false, ◌&&◌, not, List, [], Option, Some}
+use Rattle.std.specs.Prelude.{◌≡◌, ◌≢◌, ◌⊎◌, ⊤, Bool, false, true, ◌&&◌, not, List, [], Option, Some}
 use Rattle.std.specs.Prelude.{None, codes, is_some, if◌then◌else◌}
 use Rattle.clap.specs.Words.{Row, Text, IsAmong, fault_of, first_of, kind_of, subcommand_of}
 use Rattle.clap.specs.declared.error.kind.ErrorKind.{ErrorKind}
@@ -23,13 +25,14 @@ use Rattle.clap.specs.declared.error.kind.ErrorKind.TheVariants.{
   MissingSubcommand,
 }
 use Rattle.tk_region.specs.SettingsFields.{SettingsFields}
-use Rattle.tokend.specs.CommandLine.{HasNumbers, HasService, HasSources}
+use Rattle.tokend.specs.CommandLine.{HasCheck, HasFlag, HasNumbers, HasService, HasSources}
 use Rattle.tokend.specs.CommandLine.{is_given, tokend_app}
 use Rattle.tokend.specs.declared.fault.Fault.{Fault}
 use Rattle.tokend.specs.declared.fault.Fault.TheVariants.{Memory, Words}
+use Rattle.tokend.specs.declared.options.Check.{Check as CheckValue}
 use Rattle.tokend.specs.declared.options.Service.{Service}
 use Rattle.tokend.specs.declared.options.Task.{Task}
-use Rattle.tokend.specs.declared.options.Task.TheVariants.{Script, Loopback, Serve, Facts}
+use Rattle.tokend.specs.declared.options.Task.TheVariants.{Script, Loopback, Serve, Facts, Check}
 
 -- a script with these settings
 abbrev pub script_task : SettingsFields → Task
@@ -57,6 +60,18 @@ loopback_task s =
 abbrev pub IsNoService : List Row → Type 0
 IsNoService rows = (service : Service) → ¬ (HasService rows service)
 
+-- the values of `facts` are those of this task: the sources are printed, or a check is requested
+abbrev pub IsFactsTask : List Row → Task → Type 0
+IsFactsTask rows (Facts sources) =
+    HasFlag rows (codes "check") false × HasSources rows sources
+IsFactsTask rows (Check check) = HasCheck rows check
+IsFactsTask rows task = ⊥
+
+-- a check is requested, and the values are no check's: the number is missing
+abbrev pub IsNoCheck : List Row → Type 0
+IsNoCheck rows =
+    HasFlag rows (codes "check") true × ((check : CheckValue) → ¬ (HasCheck rows check))
+
 -- the subcommand and its values are those of this task
 abbrev pub IsTask : Option (Text × List Row) → Task → Type 0
 IsTask found (Script numbers) =
@@ -66,7 +81,9 @@ IsTask found (Loopback numbers) =
 IsTask found (Serve service) =
     (rows : List Row) × (found ≡ Some (codes "serve", rows)) × HasService rows service
 IsTask found (Facts sources) =
-    (rows : List Row) × (found ≡ Some (codes "facts", rows)) × HasSources rows sources
+    (rows : List Row) × (found ≡ Some (codes "facts", rows)) × IsFactsTask rows (Facts sources)
+IsTask found (Check check) =
+    (rows : List Row) × (found ≡ Some (codes "facts", rows)) × IsFactsTask rows (Check check)
 
 -- the subcommand and its values are no task's
 abbrev pub IsNoTask : Option (Text × List Row) → Type 0

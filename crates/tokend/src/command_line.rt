@@ -6,6 +6,7 @@ ghost use Rattle.std.specs.Prelude.{◌≡◌, ◌∷◌, [], IfOk, IsOkAnd, fal
 ghost use Rattle.clap.specs.Words.{app_of, rule_of, with_subcommand};
 ghost use Rattle.clap.specs.declared.builder.command.Command.TheViews.{out-Command};
 ghost use Rattle.tokend.specs.CommandLine.{
+  check_rules,
   choice_rule,
   events_app,
   facts_app,
@@ -44,7 +45,26 @@ fn facts_command<'a>(alloc: Global) -> Result<Command<'a>, AllocError>
     let facts = Command::new(alloc, "facts").about(
         "Prints the facts of logs, bundles and vectors, one JSON object a line",
     );
-    with_names(facts, names_of(alloc))
+    match with_check(alloc, facts) {
+        Ok(facts) => with_names(facts, names_of(alloc)),
+        Err(error) => Err(error),
+    }
+}
+
+// Adds the options of a check to a command.
+#[rattlefmt::skip]
+fn with_check<'a>(alloc: Global, command: Command<'a>) -> Result<Command<'a>, AllocError>
+    requires { (out-Command command).has_globals ≡ false }
+    ensures rules { IfOk result (λ c. app_of c ≡ with_rules (app_of command.entry) check_rules) }
+    ensures local { IfOk result (λ c. (out-Command c).has_globals ≡ false) }
+{
+    let choices: [Choice<'a>; 2] = [
+        ("check", Takes::Nothing,
+            "Prints no facts, only whether all can be loaded, and how many they are"),
+        ("region", Takes::Number(Service::GREATEST_REGION, "65535"),
+            "The number of the region that loads them for --check, 1 to 65535, unused in them"),
+    ];
+    with_choices(alloc, command, &choices)
 }
 
 // Adds the argument to a command.

@@ -1,6 +1,6 @@
 //! Prints the facts of sources: `print_facts`.
 
-ghost use Rattle.std.specs.Prelude.{◌≡◌, ◌⊎◌, ℕ, None, OnErr, OnOk, IfErr, false};
+ghost use Rattle.std.specs.Prelude.{◌≡◌, None, OnErr, OnOk, IfErr, false};
 ghost use Rattle.std.specs.Prelude.{map, string_bytes, codes};
 ghost use Rattle.std.specs.Io.KnownBytes.{Keeps};
 ghost use Rattle.std.specs.Str.{bytes_eq};
@@ -16,6 +16,7 @@ ghost use Rattle.tokend.specs.FactsRun.{
   PrintsFacts,
   PrintsSource,
   PrintsSources,
+  TellsDropped,
   cut_text,
   known_of,
 };
@@ -42,16 +43,14 @@ pub(crate) fn print_facts<R: AllocGlobal + Files, I: Read, O: Write, E: Write>(
     faults: &mut E,
 ) -> Result<(), Fault>
     ensures done { OnOk result
-        (PrintsFacts sources.now (I.remaining input.old) (O.contents output.old)
-        (O.contents output.new)) }
+        (PrintsFacts sources.now (I.remaining input.old)
+        (record { before = O.contents output.old; after = O.contents output.new })
+        (record { before = E.contents faults.old; after = E.contents faults.new })) }
     ensures fault { IfErr result IsFactsFault }
     ensures left { IfErr result
         (λ fault. LeavesBegun (BeginsFacts sources.now (I.remaining input.old) fault
         (O.contents output.old) (O.contents output.new)) fault (O.contents output.old)
         (O.contents output.new)) }
-    ensures told { OnOk result (Keeps (E.contents faults.old) (E.contents faults.new)
-        ⊎ ((cut : ℕ) × AppendsFront (E.contents faults.old) (E.contents faults.new)
-        (cut_text cut))) }
     ensures silent { OnErr result (Keeps (E.contents faults.old) (E.contents faults.new)) }
 {
     let printed = print_sources(rt, sources, input, output);
@@ -66,12 +65,11 @@ pub(crate) fn print_facts<R: AllocGlobal + Files, I: Read, O: Write, E: Write>(
     }
 }
 
-// Writes how many bytes are dropped, if any are. If `faults` fails, it has the beginning of the
-// line.
-fn tell_cut<E: Write>(faults: &mut E, cut: u64)
-    ensures { Keeps (E.contents faults.old) (E.contents faults.new)
-        ⊎ ((cut : ℕ) × AppendsFront (E.contents faults.old) (E.contents faults.new)
-        (cut_text cut)) }
+/// Writes how many bytes are dropped, if any are. If `faults` fails, it has the beginning of the
+/// line.
+pub(crate) fn tell_cut<E: Write>(faults: &mut E, cut: u64)
+    ensures { TellsDropped cut
+        (record { before = E.contents faults.old; after = E.contents faults.new }) }
 {
     if cut != 0 {
         put_cut(faults, cut);
@@ -185,8 +183,8 @@ fn fault_of(alloc: Global, name: &str, fault: PrintFault) -> Fault
     }
 }
 
-// Returns the fault of a source with bad bytes, or out of memory.
-fn bad(alloc: Global, name: &str, offset: u64) -> Fault
+/// Returns the fault of a source with bad bytes, or out of memory.
+pub(crate) fn bad(alloc: Global, name: &str, offset: u64) -> Fault
     ensures { IsBadSource name.now offset result }
 {
     match String::from_str(alloc, name) {
@@ -195,8 +193,8 @@ fn bad(alloc: Global, name: &str, offset: u64) -> Fault
     }
 }
 
-// Returns the fault of a source that can't be read, or out of memory.
-fn unread(alloc: Global, name: &str) -> Fault
+/// Returns the fault of a source that can't be read, or out of memory.
+pub(crate) fn unread(alloc: Global, name: &str) -> Fault
     ensures { IsUnreadSource name.now result }
 {
     match String::from_str(alloc, name) {

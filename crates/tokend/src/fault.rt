@@ -36,7 +36,8 @@ pub enum Fault {
     ScriptTooLong,
     /// The line with this number, counted from 1, is no event, or its request is too long.
     BadLine(u64),
-    /// The facts of a source weren't printed to its end. Lines may have been written to the output.
+    /// The facts of a source weren't printed or loaded to its end. Lines may have been written to
+    /// the output.
     Facts(FactsFault),
     /// Memory ran out. Nothing was written to the output.
     Memory,
@@ -44,11 +45,13 @@ pub enum Fault {
     Output,
 }
 
-/// Why the facts of a source weren't printed to its end.
+/// Why the facts of a source weren't printed or loaded to its end.
 #[derive(Drop)]
 pub enum FactsFault {
-    /// The source of this name has no bundle and no vector at this offset.
+    /// The source of this name has no bundle at this offset, and no vector if it is printed.
     Bad(String, u64),
+    /// The source of this name has a bundle at this offset that can't be loaded.
+    Refused(String, u64),
     /// The source of this name can't be read.
     Unread(String),
     /// Memory ran out.
@@ -56,12 +59,12 @@ pub enum FactsFault {
 }
 
 impl FactsFault {
-    /// Returns the exit status: 2 for a bad source, otherwise 1.
+    /// Returns the exit status: 2 for a source that is bad or refused, otherwise 1.
     pub(crate) fn status(&self) -> u8
         ensures { result ≡ facts_status self.now }
     {
         match self {
-            FactsFault::Bad(_, _) => 2,
+            FactsFault::Bad(_, _) | FactsFault::Refused(_, _) => 2,
             FactsFault::Unread(_) | FactsFault::Memory => 1,
         }
     }
@@ -108,33 +111,30 @@ pub(crate) fn tell<E: Write>(faults: &mut E, fault: &Fault) -> io::Result<()>
     }
 }
 
-// Writes the line of a source whose facts weren't printed to its end.
+// Writes the line of a source whose facts weren't printed or loaded to its end.
 fn tell_facts<E: Write>(faults: &mut E, fault: &FactsFault) -> io::Result<()>
     ensures { Prints result (E.contents faults.old) (E.contents faults.new) (facts_text fault.now) }
 {
     match fault {
-        FactsFault::Bad(name, offset) => tell_bad(faults, name, *offset),
+        FactsFault::Bad(name, offset) => {
+            tell_place(faults, b"tokend: bad bytes at ", *offset, name)
+        }
+        FactsFault::Refused(name, offset) => {
+            tell_place(faults, b"tokend: refused bundle at ", *offset, name)
+        }
         FactsFault::Unread(name) => tell_name(faults, b"tokend: cannot read ", name),
         FactsFault::Memory => put_all(faults, &[b"tokend: memory\n"]),
     }
 }
 
-// Writes the line of a source with bad bytes at an offset.
-fn tell_bad<E: Write>(faults: &mut E, name: &String, offset: u64) -> io::Result<()>
-    ensures { Prints result (E.contents faults.old) (E.contents faults.new)
-        (codes "tokend: bad bytes at "
+// Writes the line of a fault at an offset of a source.
+fn tell_place<E: Write>(faults: &mut E, fault: &[u8], offset: u64, name: &String) -> io::Result<()>
+    ensures { Prints result (E.contents faults.old) (E.contents faults.new) (fault.now
         ++ (decimal offset ++ (codes " of " ++ (string_bytes name.now ++ 10 ∷ [])))) }
 {
     let mut digits = Buffer::new();
     let offset = digits.format(offset).as_bytes();
-    let pieces = [
-        b"tokend: bad bytes at ",
-        offset,
-        b" of ",
-        name.as_bytes(),
-        b"\n",
-    ];
-    put_all(faults, &pieces)
+    put_all(faults, &[fault, offset, b" of ", name.as_bytes(), b"\n"])
 }
 
 // Writes the line of a bad line of the script.

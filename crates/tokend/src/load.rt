@@ -14,8 +14,10 @@ use tk_region::{Region, TakeError};
 /// Why a log isn't loaded to its end. The facts of the bundles before the fault stay.
 #[derive(Clone, Copy)]
 pub enum LoadFault {
-    /// Bytes of the log are no bundle, or the region refuses a bundle.
-    Bad,
+    /// At this offset, in bytes from the beginning of the log, is no bundle.
+    Bad(u64),
+    /// The region refuses the bundle at this offset.
+    Refused(u64),
     /// The log can't be read. No fact was taken in.
     Read,
     /// Memory ran out. The first facts of the next bundle may have been taken in.
@@ -67,7 +69,8 @@ fn load_bytes(alloc: Global, region: &mut Region, log: &[u8]) -> Result<u64, Loa
 {
     let mut rest = log;
     while !rest.is_empty() {
-        match take_front(alloc, region, rest) {
+        let offset = log.len().saturating_sub(rest.len()) as u64;
+        match take_front(alloc, region, offset, rest) {
             Ok(Some(count)) => (_, rest) = rest.split_at(count),
             Ok(None) => return Ok(rest.len() as u64),
             Err(fault) => return Err(fault),
@@ -76,38 +79,46 @@ fn load_bytes(alloc: Global, region: &mut Region, log: &[u8]) -> Result<u64, Loa
     Ok(0)
 }
 
-// Takes in the bundle at the front, and returns its length in bytes, or `None` if it is cut.
-fn take_front(alloc: Global, region: &mut Region, rest: &[u8]) -> Result<Option<usize>, LoadFault>
-    ensures { TakesOne region.old rest.now result region.new }
+// Takes in the bundle at the front of the rest, which is at this offset of the log. Returns its
+// length in bytes, or `None` if it is cut.
+fn take_front(
+    alloc: Global,
+    region: &mut Region,
+    offset: u64,
+    rest: &[u8],
+) -> Result<Option<usize>, LoadFault>
+    ensures { TakesOne offset region.old rest.now result region.new }
 {
     let (bundle, count) = match read_front(alloc, rest) {
         Ok(front) => front,
-        Err(error) => return front_end(error),
+        Err(error) => return front_end(offset, error),
     };
     match region.take_bundle(bundle) {
         Ok(_) => Ok(Some(count)),
-        Err(error) => Err(take_fault(error)),
+        Err(error) => Err(take_fault(offset, error)),
     }
 }
 
-// Returns the outcome for a front that can't be read: `None` if the log is cut there.
-fn front_end(error: FrontError) -> Result<Option<usize>, LoadFault>
-    ensures { result ≡ spec.front_end error }
+// Returns the outcome for a front at this offset that can't be read: `None` if the log is cut there.
+fn front_end(offset: u64, error: FrontError) -> Result<Option<usize>, LoadFault>
+    ensures { result ≡ spec.front_end offset error }
 {
     match error {
         FrontError::Cut => Ok(None),
-        FrontError::Malformed => Err(LoadFault::Bad),
+        FrontError::Malformed => Err(LoadFault::Bad(offset)),
         FrontError::Memory => Err(LoadFault::Memory),
     }
 }
 
-// Returns the fault of a bundle that the region doesn't take in.
-fn take_fault(error: TakeError) -> LoadFault
-    ensures { result ≡ spec.take_fault error }
+// Returns the fault of a bundle at this offset that the region doesn't take in.
+fn take_fault(offset: u64, error: TakeError) -> LoadFault
+    ensures { result ≡ spec.take_fault offset error }
 {
     match error {
         TakeError::Memory => LoadFault::Memory,
-        TakeError::Malformed | TakeError::OwnNumber | TakeError::Conflict => LoadFault::Bad,
+        TakeError::Malformed | TakeError::OwnNumber | TakeError::Conflict => {
+            LoadFault::Refused(offset)
+        }
     }
 }
 

@@ -8,7 +8,8 @@
 //! - `tokend loopback` runs the same events with each request through a socket.
 //! - `tokend serve` replies to the HTTP requests of one region on 127.0.0.1, and writes the log
 //!   before each reply.
-//! - `tokend facts` prints what logs, bundles and vectors hold, as lines of JSON.
+//! - `tokend facts` prints what logs, bundles and vectors hold, as lines of JSON, or says whether
+//!   they can be loaded.
 //!
 //! The crates below decide what an event or a request does, and what its line contains. This crate
 //! has the arguments, the script, sockets, files, clocks, and the exit statuses:
@@ -19,14 +20,16 @@
 //!
 //! In reading order:
 //!
-//! - `command_line`: what clap knows. `options`: the task that the arguments request.
+//! - `command_line`: what clap knows. `words`, `options`: the arguments, and the task that they
+//!   request.
 //! - `script`: the input as events.
 //! - `draw`: random words. `timed`: a connection's time limit.
 //! - `log_file`, `load`: logs, new and old.
 //! - `start`: a service before its first connection. `listen`: its port.
 //! - `serve`: its connections. `closing`: what is left of them after the reply.
 //! - `loopback`: a script's requests as connections.
-//! - `sources`, `facts`: the files whose facts are printed; their lines.
+//! - `sources`, `facts`: the files whose facts are printed; their lines. `check`: whether they can
+//!   be loaded.
 //! - `fault`: what may go wrong, with its line and status.
 //! - `program`: the whole program, in order.
 //! - `promises`: the promises about regions.
@@ -34,6 +37,7 @@
 //! The definitions are in `specs/`, listed in `Lib`.
 #![tactic(auto)]
 
+mod check;
 mod closing;
 mod command_line;
 mod draw;
@@ -51,12 +55,13 @@ mod serve;
 mod sources;
 mod start;
 mod timed;
+mod words;
 
 use fault::Fault;
-use options::words;
 use program::{finish, run_program};
 use std::io::BufWriter;
 use std::process::ExitCode;
+use words::words;
 
 fn main(rt: HostRuntime) -> ExitCode {
     let (mut input, mut faults) = (rt.stdin(), rt.stderr());

@@ -16,19 +16,16 @@ ghost use Rattle.tokend.specs.CommandLine.{
   HasService,
   HasText,
 };
-ghost use Rattle.tokend.specs.Task.{Asks, IsTask, IsNoService, IsNoTask, IsNoText, IsRefusalOf};
+ghost use Rattle.tokend.specs.Task.{Asks, IsTask, IsNoService, IsNoTask, IsRefusalOf};
 ghost use Rattle.tokend.specs.Task.{lacks_log, missing_kind};
 ghost use Rattle.tokend.specs.declared.options.Numbers.{Numbers as NumbersValue};
 
 use crate::command_line::tokend_command;
-use crate::fault::Fault;
-use crate::sources::read_sources;
+use crate::sources::read_facts;
 use clap::error::ErrorKind;
 use clap::{ArgMatches, Command, Error};
 use std::alloc::{AllocError, Global};
 use std::convert::AsStr;
-use std::rt::Env;
-use std::{env, io};
 use tk_handle::Moment;
 use tk_world::Settings;
 
@@ -44,6 +41,8 @@ pub enum Task {
     Serve(Service),
     /// Prints the facts of these sources.
     Facts(Sources),
+    /// Says whether these sources can be loaded.
+    Check(Check),
 }
 
 /// The sources of facts: names of files, or `-` for the standard input, which is also read if no
@@ -51,6 +50,15 @@ pub enum Task {
 #[derive(Drop)]
 pub struct Sources {
     pub names: Vec<String>,
+}
+
+/// The sources that are to be loaded, and the region that is to load them.
+#[derive(Drop)]
+pub struct Check {
+    /// The sources.
+    pub sources: Sources,
+    /// The region's number, 1 to 65,535.
+    pub region: u16,
 }
 
 /// The numbers of a region's settings, each in the range of [`Settings`].
@@ -174,44 +182,6 @@ fn lacks_log(matches: &ArgMatches<'_>) -> bool
     }
 }
 
-/// Returns the arguments of the process. Arguments that aren't UTF-8 are a mistake in the
-/// arguments.
-pub(crate) fn words<R: Env + AllocGlobal>(rt: &R) -> Result<Vec<String>, Fault>
-    ensures { IfErr result IsNoText }
-{
-    match env::args(rt) {
-        Ok(words) => match words.collect(rt.alloc()) {
-            Ok(words) => Ok(words),
-            Err(_) => Err(Fault::Memory),
-        },
-        Err(error) => Err(unread_words(rt.alloc(), error.kind())),
-    }
-}
-
-// Returns the fault of arguments that couldn't be read.
-fn unread_words(alloc: Global, kind: io::ErrorKind) -> Fault
-    ensures { IsNoText result }
-{
-    if kind == io::ErrorKind::OutOfMemory {
-        return Fault::Memory;
-    }
-    match tokend_command(alloc) {
-        Ok(mut command) => no_text(&mut command),
-        Err(_) => Fault::Memory,
-    }
-}
-
-// Returns the fault of arguments that aren't UTF-8, or out of memory.
-fn no_text(command: &mut Command<'_>) -> Fault
-    ensures { IsNoText result }
-{
-    let message = "invalid UTF-8 was detected in one or more arguments";
-    match command.error(ErrorKind::InvalidValue, message) {
-        Ok(error) => Fault::Words(error),
-        Err(_) => Fault::Memory,
-    }
-}
-
 impl Numbers {
     /// Returns the settings of these numbers.
     pub(crate) fn settings(&self) -> Settings
@@ -264,10 +234,7 @@ fn read_matches(alloc: Global, matches: &ArgMatches<'_>) -> Result<Option<Task>,
         return read_serve(alloc, values);
     }
     if name == "facts" {
-        return match read_sources(alloc, values) {
-            Ok(sources) => Ok(Some(Task::Facts(sources))),
-            Err(error) => Err(error),
-        };
+        return read_facts(alloc, values);
     }
     Ok(None)
 }
@@ -342,9 +309,9 @@ fn read_numbers(matches: &ArgMatches<'_>) -> Option<Numbers>
     })
 }
 
-// Reads a number within its range. clap has tested the range, but its contract states so only for
-// the top level.
-fn number(matches: &ArgMatches<'_>, id: &str, least: u64, greatest: u64) -> Option<u64>
+/// Reads a number within its range. clap has tested the range, but its contract states so only for
+/// the top level.
+pub(crate) fn number(matches: &ArgMatches<'_>, id: &str, least: u64, greatest: u64) -> Option<u64>
     ensures value { IfSome result
         (HasNumber (rows_of (found_of matches.now)) id.now least greatest) }
     ensures none { IfNone result ((n : ℕ)
@@ -367,8 +334,8 @@ fn given(matches: &ArgMatches<'_>, id: &str) -> Option<u64>
     matches.get_one::<u64>(id)
 }
 
-// Returns whether an option without a value was given.
-fn flag(matches: &ArgMatches<'_>, id: &str) -> bool
+/// Returns whether an option without a value was given.
+pub(crate) fn flag(matches: &ArgMatches<'_>, id: &str) -> bool
     ensures { HasFlag (rows_of (found_of matches.now)) id.now result }
 {
     match matches.get_str(id) {

@@ -34,6 +34,7 @@ ghost use Rattle.tokend.specs.Task.{Asks, IsNoShow};
 ghost use Rattle.tokend.specs.declared.fault.Fault.{Fault as FaultValue};
 ghost use Rattle.tokend.specs.declared.fault.Fault.TheVariants as fault;
 
+use crate::check::check_facts;
 use crate::facts::print_facts;
 use crate::fault::{Fault, tell};
 use crate::loopback::{LONGEST, run_by_sockets};
@@ -70,7 +71,8 @@ where
         → IsDone (map S.text words.now) (I.remaining input.old) (O.contents output.old)
         (O.contents output.new) }
     ensures quiet { result ≡ 0
-        → IsQuiet (map S.text words.now) (E.contents faults.old) (E.contents faults.new) }
+        → IsQuiet (map S.text words.now) (I.remaining input.old) (E.contents faults.old)
+        (E.contents faults.new) }
 
     // Status 1: memory or a device may cause the fault, and the output has a beginning of what
     // would have been written.
@@ -125,7 +127,8 @@ where
         (λ fault. Leaves (map S.text words.now) (I.remaining input.old) fault
         (O.contents output.old) (O.contents output.new)) }
     ensures quiet { OnOk result
-        (IsQuiet (map S.text words.now) (E.contents faults.old) (E.contents faults.new)) }
+        (IsQuiet (map S.text words.now) (I.remaining input.old) (E.contents faults.old)
+        (E.contents faults.new)) }
     ensures silent { OnErr result (Keeps (E.contents faults.old) (E.contents faults.new)) }
 {
     match options(rt.alloc(), words) {
@@ -159,7 +162,8 @@ where
         (λ fault. Leaves words (I.remaining input.old) fault (O.contents output.old)
         (O.contents output.new)) }
     ensures quiet { (words : List Text) → Asks words task.now
-        → OnOk result (IsQuiet words (E.contents faults.old) (E.contents faults.new)) }
+        → OnOk result
+        (IsQuiet words (I.remaining input.old) (E.contents faults.old) (E.contents faults.new)) }
     ensures silent { OnErr result (Keeps (E.contents faults.old) (E.contents faults.new)) }
 {
     match task {
@@ -167,6 +171,7 @@ where
         Task::Loopback(numbers) => run_loopback(rt, numbers.settings(), input, output),
         Task::Serve(service) => serve(rt, service, output, faults),
         Task::Facts(sources) => print_facts(rt, sources, input, output, faults),
+        Task::Check(check) => check_facts(rt, check, input, output, faults),
     }
 }
 

@@ -3,7 +3,7 @@ use Rattle.tokend.proofs.facts.print_facts.Goals as goal
 
 pub returns-in-Ok-Ok-clause-done : goal.returns-in-Ok-Ok-clause-done
 returns-in-Ok-Ok-clause-done g c =
-    all_printed c.args.sources.now _ c.print_sources-printed.result c.in-Ok-Ok.cut _ _ _ c.in-Ok-Ok.is-0 c.print_sources-printed.ensures c.flush-flushed.ensures.bytes
+    all_printed c.args.sources.now _ c.print_sources-printed.result c.in-Ok-Ok.cut _ _ _ c.in-Ok-Ok.is-0 c.print_sources-printed.ensures c.flush-flushed.ensures.bytes c.tell_cut.ensures
 
 pub returns-in-Err-Ok-clause-fault : goal.returns-in-Err-Ok-clause-fault
 returns-in-Err-Ok-clause-fault g c =

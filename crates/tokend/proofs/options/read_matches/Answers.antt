@@ -1,6 +1,6 @@
 use Rattle.std.proofs.Common.{rules}
-use Rattle.clap.specs.Words.{subcommand_rows_of}
-use Rattle.tokend.proofs.Tasks.{is_no_service, no_loopback, no_script}
+use Rattle.clap.specs.Words.{found_of, rows_of, subcommand_rows_of}
+use Rattle.tokend.proofs.Tasks.{is_facts, is_no_check, is_no_service, no_loopback, no_script}
 use Rattle.tokend.proofs.options.read_matches.Goals as goal
 
 pub returns-in-None-clause-none : goal.returns-in-None-clause-none
@@ -12,3 +12,11 @@ returns-in-None-read_numbers-clause-none c =
 
 pub returns-then-eq-3-clause-none : goal.returns-then-eq-3-clause-none
 returns-then-eq-3-clause-none c = is_no_service _ _ c.read_serve.result (search rules) (search rules) c.read_serve.ensures.none
+
+pub returns-then-eq-4-clause-task : goal.returns-then-eq-4-clause-task
+returns-then-eq-4-clause-task c =
+    is_facts (subcommand_rows_of c.args.matches.now) (rows_of (found_of c.in-Some.values.now)) c.read_facts.result (search rules) (search rules) c.read_facts.ensures.task
+
+pub returns-then-eq-4-clause-none : goal.returns-then-eq-4-clause-none
+returns-then-eq-4-clause-none c =
+    is_no_check (subcommand_rows_of c.args.matches.now) (rows_of (found_of c.in-Some.values.now)) c.read_facts.result (search rules) (search rules) c.read_facts.ensures.none

@@ -32,4 +32,4 @@ returns-in-Err-clause-left g c =
     refused_left (map g.S.AsStr.text c.args.words.now) c.in-Err.error c.show_or_refuse.result _ _ _ c.in-Err.ensures.refused c.show_or_refuse.ensures.fault
 
 pub returns-in-Err-clause-quiet : goal.returns-in-Err-clause-quiet
-returns-in-Err-clause-quiet g c = untold (map g.S.AsStr.text c.args.words.now) c.show_or_refuse.result _
+returns-in-Err-clause-quiet g c = untold (map g.S.AsStr.text c.args.words.now) _ c.show_or_refuse.result _

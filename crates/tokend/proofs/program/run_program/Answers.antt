@@ -6,7 +6,7 @@ pub returns-clause-done : goal.returns-clause-done
 returns-clause-done g c = ended_well c.run.result c.finish.result _ _ c.finish.ensures c.run.ensures.done
 
 pub returns-clause-quiet : goal.returns-clause-quiet
-returns-clause-quiet g c = ended_quietly (map g.S.AsStr.text c.args.words.now) c.run.result c.finish.result _ _ _ c.finish.ensures c.run.ensures.quiet
+returns-clause-quiet g c = ended_quietly (map g.S.AsStr.text c.args.words.now) _ c.run.result c.finish.result _ _ _ c.finish.ensures c.run.ensures.quiet
 
 pub returns-clause-broken : goal.returns-clause-broken
 returns-clause-broken g c =

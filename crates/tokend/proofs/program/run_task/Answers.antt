@@ -1,6 +1,6 @@
 use Rattle.std.proofs.Common.{subst, sym, inl, inr}
 use Rattle.tokend.specs.Task.{script_task, loopback_task, Asks}
-use Rattle.tokend.proofs.Runs.{facts_done, facts_quiet, faults_of_task, left_by_facts, left_by_task, script_done, service_done, service_quiet, untold}
+use Rattle.tokend.proofs.Runs.{check_done, check_quiet, facts_done, facts_quiet, faults_of_task, left_by_check, left_by_facts, left_by_task, script_done, service_done, service_quiet, untold}
 use Rattle.tokend.proofs.program.run_task.Goals as goal
 
 pub returns-in-Script-clause-done : goal.returns-in-Script-clause-done
@@ -51,22 +51,22 @@ returns-in-Serve-clause-left g c = λ words asked.
 pub returns-in-Serve-clause-quiet : goal.returns-in-Serve-clause-quiet
 returns-in-Serve-clause-quiet g c = λ words asked.
     let asks = subst (Asks words) c.in-Serve.is asked in
-    service_quiet words _ _ c.serve.result (c.in-Serve.service, asks)
+    service_quiet words _ _ _ c.serve.result (c.in-Serve.service, asks)
 
 pub returns-in-Script-clause-quiet : goal.returns-in-Script-clause-quiet
-returns-in-Script-clause-quiet g c = λ words asked. untold words c.run_script.result _
+returns-in-Script-clause-quiet g c = λ words asked. untold words _ c.run_script.result _
 
 pub returns-in-Loopback-clause-quiet : goal.returns-in-Loopback-clause-quiet
-returns-in-Loopback-clause-quiet g c = λ words asked. untold words c.run_loopback.result _
+returns-in-Loopback-clause-quiet g c = λ words asked. untold words _ c.run_loopback.result _
 
 pub returns-in-Facts-clause-done : goal.returns-in-Facts-clause-done
 returns-in-Facts-clause-done g c = λ words asked.
-    facts_done words _ _ _ c.in-Facts.sources c.print_facts.result (subst (Asks words) c.in-Facts.is asked) c.print_facts.ensures.done
+    facts_done words _ _ _ _ c.in-Facts.sources c.print_facts.result (subst (Asks words) c.in-Facts.is asked) c.print_facts.ensures.done
 
 pub returns-in-Facts-clause-fault : goal.returns-in-Facts-clause-fault
 returns-in-Facts-clause-fault g c = λ words asked.
     let asks = subst (Asks words) c.in-Facts.is asked in
-    faults_of_task words _ _ c.print_facts.result (λ fault h. inr (inr (inr (c.in-Facts.sources, asks, h)))) c.print_facts.ensures.fault
+    faults_of_task words _ _ c.print_facts.result (λ fault h. inr (inr (inr (inl (c.in-Facts.sources, asks), h)))) c.print_facts.ensures.fault
 
 pub returns-in-Facts-clause-left : goal.returns-in-Facts-clause-left
 returns-in-Facts-clause-left g c = λ words asked.
@@ -74,4 +74,21 @@ returns-in-Facts-clause-left g c = λ words asked.
 
 pub returns-in-Facts-clause-quiet : goal.returns-in-Facts-clause-quiet
 returns-in-Facts-clause-quiet g c = λ words asked.
-    facts_quiet words c.in-Facts.sources _ _ c.print_facts.result (subst (Asks words) c.in-Facts.is asked) c.print_facts.ensures.told
+    facts_quiet words _ _ _ _ c.in-Facts.sources c.print_facts.result (subst (Asks words) c.in-Facts.is asked) c.print_facts.ensures.done
+
+pub returns-in-Check-clause-done : goal.returns-in-Check-clause-done
+returns-in-Check-clause-done g c = λ words asked.
+    check_done words _ _ _ _ c.in-Check.check c.check_facts.result (subst (Asks words) c.in-Check.is asked) c.check_facts.ensures.done
+
+pub returns-in-Check-clause-fault : goal.returns-in-Check-clause-fault
+returns-in-Check-clause-fault g c = λ words asked.
+    let asks = subst (Asks words) c.in-Check.is asked in
+    faults_of_task words _ _ c.check_facts.result (λ fault h. inr (inr (inr (inr (c.in-Check.check, asks), h)))) c.check_facts.ensures.fault
+
+pub returns-in-Check-clause-left : goal.returns-in-Check-clause-left
+returns-in-Check-clause-left g c = λ words asked.
+    left_by_check words _ _ _ c.in-Check.check c.check_facts.result (subst (Asks words) c.in-Check.is asked) c.check_facts.ensures.left
+
+pub returns-in-Check-clause-quiet : goal.returns-in-Check-clause-quiet
+returns-in-Check-clause-quiet g c = λ words asked.
+    check_quiet words _ _ _ _ c.in-Check.check c.check_facts.result (subst (Asks words) c.in-Check.is asked) c.check_facts.ensures.done
