@@ -13,8 +13,8 @@
 --   AsksToShow      the arguments request help or the version
 --   IsRefusalOf     the kind of a fault in the arguments
 --   IsNoText        the fault of arguments that aren't UTF-8
-use Rattle.std.specs.Prelude.{◌≡◌, ◌≢◌, ◌⊎◌, ⊤, Bool, false, true, ◌&&◌, not, List, [], Option, Some}
-use Rattle.std.specs.Prelude.{None, codes, is_some, if◌then◌else◌}
+use Rattle.std.specs.Prelude.{◌≡◌, ◌≢◌, ◌⊎◌, ⊤, Bool, false, true, ◌&&◌, not, List, [], Option}
+use Rattle.std.specs.Prelude.{Some, None, codes, is_some, if◌then◌else◌}
 use Rattle.clap.specs.Words.{Row, Text, IsAmong, fault_of, first_of, kind_of, subcommand_of}
 use Rattle.clap.specs.declared.error.kind.ErrorKind.{ErrorKind}
 use Rattle.clap.specs.declared.error.kind.ErrorKind.TheVariants.{

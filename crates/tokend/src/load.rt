@@ -99,7 +99,8 @@ fn take_front(
     }
 }
 
-// Returns the outcome for a front at this offset that can't be read: `None` if the log is cut there.
+// Returns the outcome for a front at this offset that can't be read: `None` if the log is cut
+// there.
 fn front_end(offset: u64, error: FrontError) -> Result<Option<usize>, LoadFault>
     ensures { result ≡ spec.front_end offset error }
 {
