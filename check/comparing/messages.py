@@ -8,6 +8,7 @@ from comparing.texts import OPERATING, PAGE, coded, rows, same, text_of
 
 FAULT, SERVE = "crates/tokend/src/fault.rt", "crates/tokend/src/serve.rt"
 LISTEN, FACTS = "crates/tokend/src/listen.rt", "crates/tokend/src/facts.rt"
+CHECK = "crates/tokend/src/check.rt"
 START_PAGE = "docs/tokend-start.1"
 LINE = r'\bFault::(\w+)(?:\(\w+\))? => (?:put_all|tell_\w+)\(faults, [^"\n]*b"([^"]*)"'
 
@@ -29,13 +30,16 @@ def of_sources():
         key = line.replace("\\n", "") + ("FILE" if line.endswith(" ") else "")
         errors[key] = statuses.pop(name)
     errors[re.search(r'b"(tokend: bad line )"', fault).group(1) + "K"] = statuses.pop("BadLine")
-    bad = int(re.search(r"FactsFault::Bad\(_, _\) => (\d)", fault)[1])
-    errors[re.search(r'b"(tokend: bad bytes at )"', fault)[1] + "N of FILE"] = bad
+    arm = r"FactsFault::Bad\(_, _\) \| FactsFault::Refused\(_, _\) => (\d)"
+    bad = int(re.search(arm, fault)[1])
+    for place in re.findall(r'tell_place\(faults, b"([^"]*)"', fault):
+        errors[place + "N of FILE"] = bad
     errors[re.search(r'b"(tokend: dropped )"', text_of(FACTS))[1] + "N bytes"] = None
     same(FAULT, "faults without a line of their own", {"Words": 2, "Output": 1}, statuses)
     for name in re.findall(r'EdgeFault::\w+ => put_all\(faults, &\[b"([^"\\]*)\\n"\]\)', serve):
         errors[name] = None
-    return {line_of(listen, name) for name in ("dropped_bytes", "pruned_facts", "port")}, errors
+    output = {line_of(listen, name) for name in ("dropped_bytes", "pruned_facts", "port")}
+    return output | {line_of(text_of(CHECK), "count")}, errors
 
 
 def line_of(listen, name):

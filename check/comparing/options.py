@@ -87,12 +87,12 @@ def compare_each(where, wanted, said):
     same(where, "the order of options", list(wanted), list(said))
 
 
-def compare_mentions(serve):
+def compare_mentions(known):
     """Each option that a document names is one of the program; GATE.md names others' too."""
     for name in documents():
         if name != "docs/GATE.md":
             for option in re.findall(r"`(?:tokend serve )?--([a-z-]+)", text_of(name)):
-                if option not in serve and option not in ("help", "version", "install"):
+                if option not in known and option not in ("help", "version", "install"):
                     differ(name, "--%s is no option" % option)
 
 
@@ -102,9 +102,11 @@ def compare(program):
     settings = {name: serve.get(name) for name in script}
     same("tokend serve --help", "its settings", script, settings)
     own = {name: value for name, value in serve.items() if name not in script}
-    compare_mentions(serve)
+    facts = of_program(program, "facts")
+    compare_mentions({**serve, **facts})
     compare_each(OPERATING, serve, of_operating())
     compare_each(PAGE + ", of serve", own, of_page("Of serve"))
+    compare_each(PAGE + ", of facts", facts, of_page("Of facts"))
     compare_each(PAGE + ", settings", script, of_page("Settings, of all three"))
     synopsis = text_of(PAGE).split(".SH DESCRIPTION")[0]
     for name, (_, default) in serve.items():

@@ -263,7 +263,8 @@ class SourcesOfChecks(unittest.TestCase):
 
     def test_standard_input_among_files(self):
         self.check(self.B, ("a", self.A), ("-", self.B), ("a", self.A))
-        self.check(self.B, ("-", self.B), ("-", b""))
+        cut = self.B + self.A[:7]  # these bytes are dropped once: the input is read once
+        self.check(cut, ("-", cut), ("-", b""))
 
     def test_each_end_that_is_cut_is_counted(self):
         files = {"a": self.A + self.B[:5], "b": self.B + self.A[:7]}
