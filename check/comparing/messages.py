@@ -30,7 +30,7 @@ def of_sources():
         key = line.replace("\\n", "") + ("FILE" if line.endswith(" ") else "")
         errors[key] = statuses.pop(name)
     errors[re.search(r'b"(tokend: bad line )"', fault).group(1) + "K"] = statuses.pop("BadLine")
-    arm = r"FactsFault::Bad\(_, _\) \| FactsFault::Refused\(_, _\) => (\d)"
+    arm = r"FactsFault::Malformed\(_, _\) \| FactsFault::Refused\(_, _\) => (\d)"
     bad = int(re.search(arm, fault)[1])
     for place in re.findall(r'tell_place\(faults, b"([^"]*)"', fault):
         errors[place + "N of FILE"] = bad

@@ -11,7 +11,7 @@ use Rattle.tk_authorize.specs.Administered.{registered}
 registrable : (uris : List (List ℕ)) → registration_refusal uris ≡ None → redirects_refusal uris ≡ None
 registrable uris h = by_refusal (redirects_refusal uris) (list_all is_absolute uris) h
   where
-    by_refusal : (o : Option RedirectError) (all : Bool) → cond (is_some o) o (cond all None (Some RedirectError.Bad)) ≡ None → o ≡ None
+    by_refusal : (o : Option RedirectError) (all : Bool) → cond (is_some o) o (cond all None (Some RedirectError.Malformed)) ≡ None → o ≡ None
     by_refusal None all h = refl
     by_refusal (Some e) all h = h
 

@@ -25,7 +25,7 @@ use Rattle.tk_authorize.specs.Asked.{asked_of}
 use Rattle.tk_authorize.specs.Authorization.{decided_by, authorization_of, kept_state}
 use Rattle.tk_authorize.specs.Judged.{judged_at, target_of, judged_by_redirect, judged_by_view, judged_by_client, judged_by_id, judged_of, target_names}
 use Rattle.tk_authorize.specs.declared.admin_refusal.AdminRefusal.{AdminRefusal}
-use Rattle.tk_authorize.specs.declared.admin_refusal.AdminRefusal.TheVariants.{DuplicateParameter, BadSubject}
+use Rattle.tk_authorize.specs.declared.admin_refusal.AdminRefusal.TheVariants.{DuplicateParameter, MalformedSubject}
 use Rattle.tk_authorize.specs.declared.administered.Administered.{Administered}
 use Rattle.tk_authorize.specs.declared.administered.Administered.TheVariants as administered
 use Rattle.tk_authorize.specs.declared.approval.Approval.{Approval}
@@ -48,7 +48,7 @@ module _ (F G : FactSet) (views : (d : Dot) → client_view F d ≡ client_view 
   redirect_same : (params : Pairs) (subject : Option (List ℕ)) (client : Dot) (view : ClientFields) (x : Picked) → judged_by_redirect F params subject client view x ≡ judged_by_redirect G params subject client view x
   redirect_same params subject client view Missing = refl
   redirect_same params subject client view Unknown = refl
-  redirect_same params subject client view (Uri uri) = ap (judged_at (target_of client uri params)) (approval_same client subject (asked_of view.sort view.scope params))
+  redirect_same params subject client view (Uri uri) = ap (judged_at (target_of client uri params)) (approval_same client subject (asked_of view.client_kind view.scope params))
 
   view_same : (params : Pairs) (subject : Option (List ℕ)) (client : Dot) (o : Option ClientFields) → judged_by_view F params subject client o ≡ judged_by_view G params subject client o
   view_same params subject client None = refl
@@ -103,7 +103,7 @@ module _ (F G : FactSet) (now : ℕ) (views : (d : Dot) → client_view F d ≡ 
   signed_out_same : (o : Option (List ℕ)) → signed_out_by F now o ≡ signed_out_by G now o
   signed_out_same None = refl
   signed_out_same (Some subject) =
-      ap (λ t. cond (is_subject subject) (cond t (administered.AlreadyOut subject) (administered.SignsOut (record { subject = subject; moment = now }))) (administered.Refused BadSubject)) (outs subject now)
+      ap (λ t. cond (is_subject subject) (cond t (administered.AlreadyOut subject) (administered.SignsOut (record { subject = subject; moment = now }))) (administered.Refused MalformedSubject)) (outs subject now)
 
   administered_same : (e : Endpoint) (params : Pairs) → administered_at e F now params ≡ administered_at e G now params
   administered_same endpoint.Authorize params = refl

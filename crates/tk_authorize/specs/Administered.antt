@@ -35,8 +35,8 @@ use Rattle.tk_handle.specs.ClientId.{client_in}
 use Rattle.tk_handle.specs.ConsentId.{consent_in}
 use Rattle.tk_match.specs.Redirects.{registration_refusal}
 use Rattle.tk_scope.specs.Scope.{scope_of}
-use Rattle.tk_fact.specs.declared.sort.Sort.{Sort}
-use Rattle.tk_fact.specs.declared.sort.Sort.TheVariants.{Public, Confidential, Resource}
+use Rattle.tk_fact.specs.declared.client_kind.ClientKind.{ClientKind}
+use Rattle.tk_fact.specs.declared.client_kind.ClientKind.TheVariants.{Public, Confidential, Resource}
 use Rattle.tk_fact.specs.Subject.{is_visible, is_subject}
 use Rattle.tk_store.specs.FactSet.{FactSet}
 use Rattle.tk_ledger.specs.SignOuts.{is_signed_out}
@@ -54,11 +54,11 @@ use Rattle.tk_authorize.specs.declared.admin_refusal.AdminRefusal.TheVariants.{
   UnknownKind,
   UnwantedSecret,
   MissingSecret,
-  BadSecret,
-  BadScope,
+  MalformedSecret,
+  MalformedScope,
   BadRedirects,
   UnknownClient,
-  BadSubject,
+  MalformedSubject,
   WrongScope,
   UnknownConsent,
   UnknownEndpoint,
@@ -78,40 +78,40 @@ use Rattle.tk_authorize.specs.declared.administered.Administered.TheVariants.{
 -- ---- add a client
 
 -- the greatest number of bytes of a client's secret (own)
-abbrev pub most_secret_bytes : ℕ
-most_secret_bytes = 128
+abbrev pub max_secret_bytes : ℕ
+max_secret_bytes = 128
 
 -- the secret has 1 to 128 visible bytes (own)
 abbrev pub is_secret : List ℕ → Bool
-is_secret secret = nat_le 1 (length secret) && nat_le (length secret) most_secret_bytes
+is_secret secret = nat_le 1 (length secret) && nat_le (length secret) max_secret_bytes
     && list_all is_visible secret
 
 -- the kind of a public client, for which no secret may be sent (RFC 6749, 2.1)
-abbrev pub public_sort : Option (List ℕ) → Result Sort AdminRefusal
-public_sort None = Ok Public
-public_sort (Some secret) = Err UnwantedSecret
+abbrev pub public_kind : Option (List ℕ) → Result ClientKind AdminRefusal
+public_kind None = Ok Public
+public_kind (Some secret) = Err UnwantedSecret
 
 -- the digest of a required secret: facts keep the digest alone
 abbrev pub digest_asked : Option (List ℕ) → Result (List ℕ) AdminRefusal
 digest_asked None = Err MissingSecret
-digest_asked (Some secret) = if is_secret secret then Ok (sha256 secret) else Err BadSecret
+digest_asked (Some secret) = if is_secret secret then Ok (sha256 secret) else Err MalformedSecret
 
 -- the kind of a confidential client, with the digest of its secret
-abbrev pub confidential_sort : Result (List ℕ) AdminRefusal → Result Sort AdminRefusal
-confidential_sort (Err why) = Err why
-confidential_sort (Ok digest) = Ok (Confidential digest)
+abbrev pub confidential_kind : Result (List ℕ) AdminRefusal → Result ClientKind AdminRefusal
+confidential_kind (Err why) = Err why
+confidential_kind (Ok digest) = Ok (Confidential digest)
 
 -- the kind of a resource server, with the digest of its secret
-abbrev pub resource_sort : Result (List ℕ) AdminRefusal → Result Sort AdminRefusal
-resource_sort (Err why) = Err why
-resource_sort (Ok digest) = Ok (Resource digest)
+abbrev pub resource_kind : Result (List ℕ) AdminRefusal → Result ClientKind AdminRefusal
+resource_kind (Err why) = Err why
+resource_kind (Ok digest) = Ok (Resource digest)
 
 -- a client's kind by its name, with the digest of the secret if the kind has one
-abbrev pub sort_asked : List ℕ → Option (List ℕ) → Result Sort AdminRefusal
-sort_asked kind secret =
-    if bytes_eq kind (codes "public") then public_sort secret
-    else if bytes_eq kind (codes "confidential") then confidential_sort (digest_asked secret)
-    else if bytes_eq kind (codes "resource") then resource_sort (digest_asked secret)
+abbrev pub client_kind_asked : List ℕ → Option (List ℕ) → Result ClientKind AdminRefusal
+client_kind_asked kind secret =
+    if bytes_eq kind (codes "public") then public_kind secret
+    else if bytes_eq kind (codes "confidential") then confidential_kind (digest_asked secret)
+    else if bytes_eq kind (codes "resource") then resource_kind (digest_asked secret)
     else Err UnknownKind
 
 -- the byte between two redirection URIs
@@ -123,21 +123,21 @@ abbrev pub registered : List (List ℕ) → Option (List (List ℕ))
 registered uris = if is_none (registration_refusal uris) then Some uris else None
 
 -- the judgement of a new client by its redirection URIs, which must be a list to be registered
-abbrev pub registered_to : Sort → List ℕ → Option (List (List ℕ)) → Administered
-registered_to sort scope None = Refused BadRedirects
-registered_to sort scope (Some uris) =
-    Registers (record { sort = sort; scope = scope; redirects = uris })
+abbrev pub registered_to : ClientKind → List ℕ → Option (List (List ℕ)) → Administered
+registered_to client_kind scope None = Refused BadRedirects
+registered_to client_kind scope (Some uris) =
+    Registers (record { client_kind = client_kind; scope = scope; redirects = uris })
 
 -- the judgement of a new client by its scope, which must be readable
-abbrev pub registered_with : Sort → Option (List ℕ) → List ℕ → Administered
-registered_with sort None redirects = Refused BadScope
-registered_with sort (Some scope) redirects =
-    registered_to sort scope (registered (slice_split is_space redirects))
+abbrev pub registered_with : ClientKind → Option (List ℕ) → List ℕ → Administered
+registered_with client_kind None redirects = Refused MalformedScope
+registered_with client_kind (Some scope) redirects =
+    registered_to client_kind scope (registered (slice_split is_space redirects))
 
 -- the judgement of a new client by its kind and secret
-abbrev pub registered_as : Result Sort AdminRefusal → List ℕ → List ℕ → Administered
+abbrev pub registered_as : Result ClientKind AdminRefusal → List ℕ → List ℕ → Administered
 registered_as (Err why) scope redirects = Refused why
-registered_as (Ok sort) scope redirects = registered_with sort (scope_of scope) redirects
+registered_as (Ok client_kind) scope redirects = registered_with client_kind (scope_of scope) redirects
 
 -- the judgement of a new client by its parameters: kind, scope and redirection URIs are required
 abbrev pub registered_by : Option (List ℕ) → Option (List ℕ) → Option (List ℕ) → Option (List ℕ)
@@ -146,7 +146,7 @@ registered_by None scope redirects secret = Refused MissingParameter
 registered_by (Some kind) None redirects secret = Refused MissingParameter
 registered_by (Some kind) (Some scope) None secret = Refused MissingParameter
 registered_by (Some kind) (Some scope) (Some redirects) secret =
-    registered_as (sort_asked kind secret) scope redirects
+    registered_as (client_kind_asked kind secret) scope redirects
 
 -- the names of the parameters that POST /admin/client knows
 abbrev pub registration_names : List (List ℕ)
@@ -185,7 +185,7 @@ client_named params =
 abbrev pub shown_at : Dot → Option ClientFields → Administered
 shown_at d None = Refused UnknownClient
 shown_at d (Some client) =
-    Shows (record { client = d; sort = client.sort; live = client.live; scope = client.scope })
+    Shows (record { client = d; client_kind = client.client_kind; live = client.live; scope = client.scope })
 
 -- the judgement that shows the client of an id
 abbrev pub shown_by : FactSet → Result Dot AdminRefusal → Administered
@@ -222,7 +222,7 @@ consented_for client subject (Some scope) =
 abbrev pub consented_as : Dot → List ℕ → List ℕ → List ℕ → Administered
 consented_as client whole subject scope =
     if is_subject subject then consented_for client subject (scope_asked whole (Some scope))
-    else Refused BadSubject
+    else Refused MalformedSubject
 
 -- the judgement of a new consent by its client, which must be live
 abbrev pub consented_at : Dot → List ℕ → List ℕ → Option ClientFields → Administered
@@ -293,7 +293,7 @@ signed_out_at F now subject =
 -- the judgement of a sign-out by its subject, which must be the name of one
 abbrev pub signed_out_as : FactSet → ℕ → List ℕ → Administered
 signed_out_as F now subject =
-    if is_subject subject then signed_out_at F now subject else Refused BadSubject
+    if is_subject subject then signed_out_at F now subject else Refused MalformedSubject
 
 -- the judgement of a sign-out by the subject's parameter, which is required
 abbrev pub signed_out_by : FactSet → ℕ → Option (List ℕ) → Administered

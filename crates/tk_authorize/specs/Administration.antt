@@ -24,7 +24,7 @@ use Rattle.tk_message.specs.declared.error_code.ErrorCode.TheVariants.{
   NotFound,
 }
 use Rattle.tk_message.specs.declared.place.Place.{Place}
-use Rattle.tk_message.specs.declared.status.Status.TheVariants as status
+use Rattle.tk_message.specs.declared.status_code.StatusCode.TheVariants as status
 use Rattle.tk_message.specs.Decision.{answered, refused}
 use Rattle.tk_message.specs.Place.{next_in}
 use Rattle.tk_message.specs.Bodies.{client_body, consent_body, shown_body, subject_body}
@@ -53,11 +53,11 @@ code_of refusal.MissingParameter = InvalidRequest
 code_of refusal.UnknownKind = InvalidRequest
 code_of refusal.UnwantedSecret = InvalidRequest
 code_of refusal.MissingSecret = InvalidRequest
-code_of refusal.BadSecret = InvalidRequest
-code_of refusal.BadScope = InvalidScope
+code_of refusal.MalformedSecret = InvalidRequest
+code_of refusal.MalformedScope = InvalidScope
 code_of refusal.BadRedirects = InvalidRequest
 code_of refusal.UnknownClient = NotFound
-code_of refusal.BadSubject = InvalidRequest
+code_of refusal.MalformedSubject = InvalidRequest
 code_of refusal.WrongScope = InvalidScope
 code_of refusal.UnknownConsent = NotFound
 code_of refusal.UnknownEndpoint = NotFound
@@ -72,7 +72,7 @@ decided_registered place client = record {
 -- a client is shown
 abbrev pub decided_shown : ShownClient → Decision
 decided_shown client = answered
-    (json_reply status.Ok (shown_body client.client client.sort client.live client.scope))
+    (json_reply status.Ok (shown_body client.client client.client_kind client.live client.scope))
 
 -- a client is retired. A client that is not live makes no fact
 abbrev pub decided_retired : Dot → Bool → Decision

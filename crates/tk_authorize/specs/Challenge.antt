@@ -18,13 +18,13 @@ use Rattle.std.specs.Prelude.{
   Err,
 }
 use Rattle.tk_match.specs.Challenge.{ChallengeFields, is_method, is_verifier, challenge_of}
-use Rattle.tk_fact.specs.declared.sort.Sort.{Sort}
-use Rattle.tk_fact.specs.declared.sort.Sort.TheVariants.{Public, Confidential, Resource}
+use Rattle.tk_fact.specs.declared.client_kind.ClientKind.{ClientKind}
+use Rattle.tk_fact.specs.declared.client_kind.ClientKind.TheVariants.{Public, Confidential, Resource}
 use Rattle.tk_authorize.specs.declared.denial.Denial.{Denial}
 use Rattle.tk_authorize.specs.declared.denial.Denial.TheVariants as denial
 
 -- a client of this kind has no secret (RFC 6749, 2.1)
-abbrev pub is_public : Sort → Bool
+abbrev pub is_public : ClientKind → Bool
 is_public Public = true
 is_public (Confidential digest) = false
 is_public (Resource digest) = false
@@ -36,10 +36,10 @@ method_of (Some method) = method
 
 -- a request without a challenge. There must be no method, and a public client must send a challenge
 -- (RFC 7636, 4.3 and 4.4.1)
-abbrev pub without_challenge : Sort → Option (List ℕ) → Result (Option ChallengeFields) Denial
-without_challenge sort method =
+abbrev pub without_challenge : ClientKind → Option (List ℕ) → Result (Option ChallengeFields) Denial
+without_challenge client_kind method =
     if is_some method then Err denial.ChallengeMethodAlone
-    else if is_public sort then Err denial.MissingChallenge
+    else if is_public client_kind then Err denial.MissingChallenge
     else Ok None
 
 -- a challenge with its method. The method must be known (RFC 7636, 4.4.1), and the text must be
@@ -51,7 +51,7 @@ read_challenge method text =
     else Ok (challenge_of method text)
 
 -- the challenge by the method and the text that were sent
-abbrev pub challenge_sent : Sort → Option (List ℕ) → Option (List ℕ)
+abbrev pub challenge_sent : ClientKind → Option (List ℕ) → Option (List ℕ)
     → Result (Option ChallengeFields) Denial
-challenge_sent sort method None = without_challenge sort method
-challenge_sent sort method (Some text) = read_challenge (method_of method) text
+challenge_sent client_kind method None = without_challenge client_kind method
+challenge_sent client_kind method (Some text) = read_challenge (method_of method) text

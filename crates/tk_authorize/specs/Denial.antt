@@ -8,7 +8,7 @@ use Rattle.tk_authorize.specs.declared.denial.Denial.TheVariants as denial
 -- the error code of a denial. A response type, a scope and a consent have codes of their own
 abbrev pub denial_code : Denial → ErrorCode
 denial_code denial.DuplicateParameter = code.InvalidRequest
-denial_code denial.BadState = code.InvalidRequest
+denial_code denial.MalformedState = code.InvalidRequest
 denial_code denial.MissingResponseType = code.InvalidRequest
 denial_code denial.UnsupportedResponseType = code.UnsupportedResponseType
 denial_code denial.WrongScope = code.InvalidScope

@@ -51,7 +51,7 @@ judged_by_redirect F params subject client view Missing = Refused refusal.Missin
 judged_by_redirect F params subject client view Unknown = Refused refusal.UnknownRedirect
 judged_by_redirect F params subject client view (Uri uri) =
     judged_at (target_of client uri params)
-    (approval_of F client subject (asked_of view.sort view.scope params))
+    (approval_of F client subject (asked_of view.client_kind view.scope params))
 
 -- the judgement by the client, which must be added (RFC 6749, 4.1.2.1) and not retired (own)
 abbrev pub judged_by_view : FactSet → Pairs → Option (List ℕ) → Dot → Option ClientFields → Judged

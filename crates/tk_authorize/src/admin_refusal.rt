@@ -20,16 +20,16 @@ pub(crate) enum AdminRefusal {
     /// No secret was sent for a client of another kind.
     MissingSecret,
     /// The secret is not 1 to 128 visible ASCII bytes.
-    BadSecret,
+    MalformedSecret,
     /// The scope can't be read (RFC 6749, 3.3).
-    BadScope,
+    MalformedScope,
     /// There is no redirection URI, there are too many, or one may not be registered (RFC 6749,
     /// 3.1.2).
     BadRedirects,
     /// No client has the id; for a new consent, the client may also be retired.
     UnknownClient,
     /// The subject is not 1 to 128 visible ASCII bytes.
-    BadSubject,
+    MalformedSubject,
     /// The scope can't be read, or goes beyond the client's scope (RFC 6749, 3.3).
     WrongScope,
     /// No consent has the id.
@@ -49,10 +49,10 @@ impl AdminRefusal {
             | AdminRefusal::UnknownKind
             | AdminRefusal::UnwantedSecret
             | AdminRefusal::MissingSecret
-            | AdminRefusal::BadSecret
+            | AdminRefusal::MalformedSecret
             | AdminRefusal::BadRedirects
-            | AdminRefusal::BadSubject => ErrorCode::InvalidRequest,
-            AdminRefusal::BadScope | AdminRefusal::WrongScope => ErrorCode::InvalidScope,
+            | AdminRefusal::MalformedSubject => ErrorCode::InvalidRequest,
+            AdminRefusal::MalformedScope | AdminRefusal::WrongScope => ErrorCode::InvalidScope,
             AdminRefusal::UnknownClient
             | AdminRefusal::UnknownConsent
             | AdminRefusal::UnknownEndpoint => ErrorCode::NotFound,

@@ -1,7 +1,7 @@
 //! Judgements of administration requests, by their endpoint.
 
 use crate::admin_refusal::AdminRefusal;
-use tk_fact::{ClientAdded, ConsentGiven, Sort, Subject, SubjectOut};
+use tk_fact::{ClientAdded, ClientKind, ConsentGiven, Subject, SubjectOut};
 use tk_handle::Dot;
 use tk_scope::Scope;
 
@@ -26,7 +26,7 @@ pub(crate) enum Administered {
 #[derive(Drop)]
 pub(crate) struct ShownClient {
     pub(crate) client: Dot,
-    pub(crate) sort: Sort,
+    pub(crate) client_kind: ClientKind,
     pub(crate) live: bool,
     pub(crate) scope: Scope,
 }

@@ -15,7 +15,7 @@ use tk_fact::{
 };
 use tk_handle::{Dot, Moment};
 use tk_ledger::Ledger;
-use tk_message::{Decision, Place, Request, Status, Told};
+use tk_message::{Decision, Place, Request, StatusCode, Told};
 
 /// Decides an administration request at a moment (own). Returns the reply, and the fact that the
 /// request makes, if any.
@@ -72,7 +72,7 @@ fn decide_registered(
     ensures value { IfOk result (λ d. d ≡ spec.decided_registered place.now client) }
     ensures passes { IfOk result (λ d. Passes d.made) }
 {
-    let reply = Told::Client(Status::Created, place.next_dot()).reply(alloc)?;
+    let reply = Told::Client(StatusCode::Created, place.next_dot()).reply(alloc)?;
     Ok(Decision {
         reply,
         made: Some(Body::ClientAdded(client)),
@@ -83,7 +83,7 @@ fn decide_registered(
 fn decide_shown(alloc: Global, shown: &ShownClient) -> Result<Decision, AllocError>
     ensures { IfOk result (λ d. d ≡ spec.decided_shown shown.now) }
 {
-    let told = Told::Shown(shown.client, &shown.sort, shown.live, &shown.scope);
+    let told = Told::Shown(shown.client, &shown.client_kind, shown.live, &shown.scope);
     Ok(Decision::answer(told.reply(alloc)?))
 }
 
@@ -92,7 +92,7 @@ fn decide_retired(alloc: Global, client: Dot, live: bool) -> Result<Decision, Al
     ensures value { IfOk result (λ d. d ≡ spec.decided_retired client live) }
     ensures passes { IfOk result (λ d. Passes d.made) }
 {
-    let reply = Told::Client(Status::Ok, client).reply(alloc)?;
+    let reply = Told::Client(StatusCode::Ok, client).reply(alloc)?;
     let made = if live {
         Some(Body::ClientRetired(ClientRetired { client }))
     } else {
@@ -111,7 +111,7 @@ fn decide_consented(
     ensures value { IfOk result (λ d. d ≡ spec.decided_consented place.now consent) }
     ensures passes { IfOk result (λ d. Passes d.made) }
 {
-    let reply = Told::Consent(Status::Created, place.next_dot()).reply(alloc)?;
+    let reply = Told::Consent(StatusCode::Created, place.next_dot()).reply(alloc)?;
     Ok(Decision {
         reply,
         made: Some(Body::ConsentGiven(consent)),
@@ -123,7 +123,7 @@ fn decide_withdrawn(alloc: Global, consent: Dot, live: bool) -> Result<Decision,
     ensures value { IfOk result (λ d. d ≡ spec.decided_withdrawn consent live) }
     ensures passes { IfOk result (λ d. Passes d.made) }
 {
-    let reply = Told::Consent(Status::Ok, consent).reply(alloc)?;
+    let reply = Told::Consent(StatusCode::Ok, consent).reply(alloc)?;
     let made = if live {
         Some(Body::ConsentWithdrawn(ConsentWithdrawn { consent }))
     } else {
@@ -134,7 +134,7 @@ fn decide_withdrawn(alloc: Global, consent: Dot, live: bool) -> Result<Decision,
 
 // Names a subject that is signed out already, without a fact.
 fn decide_already_out(alloc: Global, subject: &Subject) -> Result<Decision, AllocError>
-    ensures { IfOk result (λ d. d ≡ answered (json_reply Status.Ok (subject_body subject.now))) }
+    ensures { IfOk result (λ d. d ≡ answered (json_reply StatusCode.Ok (subject_body subject.now))) }
 {
     let reply = Told::Subject(subject).reply(alloc)?;
     Ok(Decision::answer(reply))

@@ -9,7 +9,7 @@ ghost use Rattle.tk_authorize.specs.Asked as spec;
 use crate::challenge::find_challenge;
 use crate::denial::Denial;
 use std::alloc::{AllocError, Global};
-use tk_fact::Sort;
+use tk_fact::ClientKind;
 use tk_match::Challenge;
 use tk_message::{Params, scope_asked};
 use tk_scope::Scope;
@@ -25,19 +25,25 @@ pub(crate) struct Asked {
 // scope.
 pub(crate) fn find_asked(
     alloc: Global,
-    sort: &Sort,
+    client_kind: &ClientKind,
     whole: &Scope,
     params: &Params,
 ) -> Result<Result<Asked, Denial>, AllocError>
-    ensures { IfOk result (λ asked. asked ≡ spec.asked_of sort.now whole.now params.now) }
+    ensures { IfOk result (λ asked. asked ≡ spec.asked_of client_kind.now whole.now params.now) }
 {
     if has_duplicate(params) {
         return Ok(Err(Denial::DuplicateParameter));
     }
     if !is_state(params.value("state")) {
-        return Ok(Err(Denial::BadState));
+        return Ok(Err(Denial::MalformedState));
     }
-    ask_by_type(alloc, sort, whole, params, params.value("response_type"))
+    ask_by_type(
+        alloc,
+        client_kind,
+        whole,
+        params,
+        params.value("response_type"),
+    )
 }
 
 // Returns whether a parameter other than the client's and the URI's occurs twice.
@@ -74,12 +80,12 @@ fn is_all_printable(bytes: &[u8]) -> bool
 // Returns what the parameters ask for, by the response type.
 fn ask_by_type(
     alloc: Global,
-    sort: &Sort,
+    client_kind: &ClientKind,
     whole: &Scope,
     params: &Params,
     response_type: Option<&str>,
 ) -> Result<Result<Asked, Denial>, AllocError>
-    ensures { IfOk result (λ asked. asked ≡ spec.asked_by_type sort.now whole.now params.now
+    ensures { IfOk result (λ asked. asked ≡ spec.asked_by_type client_kind.now whole.now params.now
         (option_copied response_type.entry)) }
 {
     let Some(response_type) = response_type else {
@@ -87,7 +93,7 @@ fn ask_by_type(
     };
     if response_type == "code" {
         let scope = scope_asked(alloc, whole, params.value("scope"))?;
-        return ask_by_scope(alloc, sort, params, scope);
+        return ask_by_scope(alloc, client_kind, params, scope);
     }
     Ok(Err(Denial::UnsupportedResponseType))
 }
@@ -95,17 +101,17 @@ fn ask_by_type(
 // Returns what the parameters ask for, by their scope.
 fn ask_by_scope(
     alloc: Global,
-    sort: &Sort,
+    client_kind: &ClientKind,
     params: &Params,
     scope: Option<Scope>,
 ) -> Result<Result<Asked, Denial>, AllocError>
-    ensures { IfOk result (λ asked. asked ≡ spec.asked_by_scope sort.now params.now scope) }
+    ensures { IfOk result (λ asked. asked ≡ spec.asked_by_scope client_kind.now params.now scope) }
 {
     let Some(scope) = scope else {
         return Ok(Err(Denial::WrongScope));
     };
     let method = params.value("code_challenge_method");
-    let challenge = find_challenge(alloc, sort, method, params.value("code_challenge"))?;
+    let challenge = find_challenge(alloc, client_kind, method, params.value("code_challenge"))?;
     Ok(asked_with(scope, challenge))
 }
 

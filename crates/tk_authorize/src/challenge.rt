@@ -6,47 +6,50 @@ ghost use Rattle.tk_authorize.specs.Challenge as spec;
 
 use crate::denial::Denial;
 use std::alloc::{AllocError, Global};
-use tk_fact::Sort;
+use tk_fact::ClientKind;
 use tk_match::{Challenge, ChallengeError};
 
 // Returns the challenge, None if the client may do without, or the first denial that holds.
 pub(crate) fn find_challenge(
     alloc: Global,
-    sort: &Sort,
+    client_kind: &ClientKind,
     method: Option<&str>,
     text: Option<&str>,
 ) -> Result<Result<Option<Challenge>, Denial>, AllocError>
     ensures { IfOk result (λ challenge.
-        challenge ≡ spec.challenge_sent sort.now (option_copied method.entry)
+        challenge ≡ spec.challenge_sent client_kind.now (option_copied method.entry)
         (option_copied text.entry)) }
 {
     match text {
         Some(text) => read_challenge(alloc, method_of(method), text),
-        None => Ok(without_challenge(sort, method)),
+        None => Ok(without_challenge(client_kind, method)),
     }
 }
 
 // Judges a request that sends no challenge.
-fn without_challenge(sort: &Sort, method: Option<&str>) -> Result<Option<Challenge>, Denial>
-    ensures { result ≡ spec.without_challenge sort.now (option_copied method.entry) }
+fn without_challenge(
+    client_kind: &ClientKind,
+    method: Option<&str>,
+) -> Result<Option<Challenge>, Denial>
+    ensures { result ≡ spec.without_challenge client_kind.now (option_copied method.entry) }
 {
     if method.is_some() {
         return Err(Denial::ChallengeMethodAlone);
     }
-    if is_public(sort) {
+    if is_public(client_kind) {
         return Err(Denial::MissingChallenge);
     }
     Ok(None)
 }
 
 // Returns whether a client of this kind is public.
-fn is_public(sort: &Sort) -> bool
-    ensures { result ≡ spec.is_public sort.now }
+fn is_public(client_kind: &ClientKind) -> bool
+    ensures { result ≡ spec.is_public client_kind.now }
 {
-    match sort {
-        Sort::Public => true,
-        Sort::Confidential(_) => false,
-        Sort::Resource(_) => false,
+    match client_kind {
+        ClientKind::Public => true,
+        ClientKind::Confidential(_) => false,
+        ClientKind::Resource(_) => false,
     }
 }
 
@@ -71,7 +74,7 @@ fn read_challenge(
     match Challenge::read(alloc, method.as_bytes(), text.as_bytes()) {
         Ok(challenge) => Ok(Ok(Some(challenge))),
         Err(ChallengeError::Method) => Ok(Err(Denial::UnsupportedChallengeMethod)),
-        Err(ChallengeError::Grammar) => Ok(Err(Denial::MalformedChallenge)),
+        Err(ChallengeError::Malformed) => Ok(Err(Denial::MalformedChallenge)),
         Err(ChallengeError::Memory) => Err(AllocError),
     }
 }

@@ -40,7 +40,7 @@ fn show_at(alloc: Global, ledger: &Ledger, client: Dot) -> Result<Administered, 
     let scope = view.scope.copy(alloc)?;
     Ok(Administered::Shows(ShownClient {
         client,
-        sort: *view.sort,
+        client_kind: *view.client_kind,
         live: view.live,
         scope,
     }))

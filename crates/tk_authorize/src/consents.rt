@@ -109,7 +109,7 @@ fn consent_as(
             let scope = scope_asked(alloc, whole, Some(scope))?;
             Ok(consent_for(client, subject, scope))
         }
-        Err(SubjectError::Malformed) => Ok(Administered::Refused(AdminRefusal::BadSubject)),
+        Err(SubjectError::Malformed) => Ok(Administered::Refused(AdminRefusal::MalformedSubject)),
         Err(SubjectError::Memory) => Err(AllocError),
     }
 }

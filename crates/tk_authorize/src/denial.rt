@@ -12,7 +12,7 @@ pub(crate) enum Denial {
     /// A parameter other than the client's and the URI's occurs twice (RFC 6749, 3.1).
     DuplicateParameter,
     /// `state` has a byte outside `%x20-7E` (RFC 6749, appendix A.5).
-    BadState,
+    MalformedState,
     /// There is no `response_type` (RFC 6749, 3.1.1).
     MissingResponseType,
     /// The `response_type` is not `code` (RFC 6749, 3.1.1).
@@ -42,7 +42,7 @@ impl Denial {
     {
         match self {
             Denial::DuplicateParameter
-            | Denial::BadState
+            | Denial::MalformedState
             | Denial::MissingResponseType
             | Denial::ChallengeMethodAlone
             | Denial::MissingChallenge

@@ -100,7 +100,7 @@ fn judge_client(
     let named = bytes_of(params.value("redirect_uri"));
     match view.redirects.pick(named) {
         Pick::Uri(uri) => {
-            let asked = find_asked(alloc, view.sort, view.scope, params)?;
+            let asked = find_asked(alloc, view.client_kind, view.scope, params)?;
             let approval = approve(alloc, ledger, client, subject, asked)?;
             let target = find_target(alloc, client, uri, named.is_some())?;
             Ok(judged_at(target, approval))

@@ -12,13 +12,13 @@ use crate::admin_refusal::AdminRefusal;
 use crate::administered::Administered;
 use sha2::{Digest, Sha256};
 use std::alloc::{AllocError, Global};
-use tk_fact::{ClientAdded, Sort};
+use tk_fact::{ClientAdded, ClientKind};
 use tk_match::{RedirectError, Redirects};
 use tk_message::Params;
 use tk_scope::{Scope, ScopeError};
 
 /// The greatest number of bytes of a client's secret (own).
-const MOST_SECRET_BYTES: usize = 128;
+const MAX_SECRET_BYTES: usize = 128;
 
 // Judges a request to add a client.
 pub(crate) fn register(alloc: Global, params: &Params) -> Result<Administered, AllocError>
@@ -64,55 +64,55 @@ fn register_by(
     let Some(redirects) = redirects else {
         return Ok(Administered::Refused(AdminRefusal::MissingParameter));
     };
-    match sort_asked(kind, secret) {
-        Ok(sort) => register_as(alloc, sort, scope, redirects),
+    match client_kind_asked(kind, secret) {
+        Ok(client_kind) => register_as(alloc, client_kind, scope, redirects),
         Err(why) => Ok(Administered::Refused(why)),
     }
 }
 
 // ---- the kind and the secret
 
-fn sort_asked(kind: &str, secret: Option<&str>) -> Result<Sort, AdminRefusal>
-    ensures { result ≡ spec.sort_asked kind.now (option_copied secret.entry) }
+fn client_kind_asked(kind: &str, secret: Option<&str>) -> Result<ClientKind, AdminRefusal>
+    ensures { result ≡ spec.client_kind_asked kind.now (option_copied secret.entry) }
 {
     if kind == "public" {
-        return public_sort(secret);
+        return public_kind(secret);
     }
     if kind == "confidential" {
-        return confidential_sort(secret);
+        return confidential_kind(secret);
     }
     if kind == "resource" {
-        return resource_sort(secret);
+        return resource_kind(secret);
     }
     Err(AdminRefusal::UnknownKind)
 }
 
 // Returns the kind of a public client, which has no secret.
-fn public_sort(secret: Option<&str>) -> Result<Sort, AdminRefusal>
-    ensures { result ≡ spec.public_sort (option_copied secret.entry) }
+fn public_kind(secret: Option<&str>) -> Result<ClientKind, AdminRefusal>
+    ensures { result ≡ spec.public_kind (option_copied secret.entry) }
 {
     match secret {
         Some(_) => Err(AdminRefusal::UnwantedSecret),
-        None => Ok(Sort::Public),
+        None => Ok(ClientKind::Public),
     }
 }
 
 // Returns the kind of a confidential client with the secret.
-fn confidential_sort(secret: Option<&str>) -> Result<Sort, AdminRefusal>
-    ensures { result ≡ spec.confidential_sort (spec.digest_asked (option_copied secret.entry)) }
+fn confidential_kind(secret: Option<&str>) -> Result<ClientKind, AdminRefusal>
+    ensures { result ≡ spec.confidential_kind (spec.digest_asked (option_copied secret.entry)) }
 {
     match digest_asked(secret) {
-        Ok(digest) => Ok(Sort::Confidential(digest)),
+        Ok(digest) => Ok(ClientKind::Confidential(digest)),
         Err(why) => Err(why),
     }
 }
 
 // Returns the kind of a resource server with the secret.
-fn resource_sort(secret: Option<&str>) -> Result<Sort, AdminRefusal>
-    ensures { result ≡ spec.resource_sort (spec.digest_asked (option_copied secret.entry)) }
+fn resource_kind(secret: Option<&str>) -> Result<ClientKind, AdminRefusal>
+    ensures { result ≡ spec.resource_kind (spec.digest_asked (option_copied secret.entry)) }
 {
     match digest_asked(secret) {
-        Ok(digest) => Ok(Sort::Resource(digest)),
+        Ok(digest) => Ok(ClientKind::Resource(digest)),
         Err(why) => Err(why),
     }
 }
@@ -125,7 +125,7 @@ fn digest_asked(secret: Option<&str>) -> Result<[u8; 32], AdminRefusal>
         return Err(AdminRefusal::MissingSecret);
     };
     if !is_secret(secret.as_bytes()) {
-        return Err(AdminRefusal::BadSecret);
+        return Err(AdminRefusal::MalformedSecret);
     }
     Ok(Sha256::digest(secret.as_bytes()))
 }
@@ -134,7 +134,7 @@ fn digest_asked(secret: Option<&str>) -> Result<[u8; 32], AdminRefusal>
 fn is_secret(secret: &[u8]) -> bool
     ensures { result ≡ spec.is_secret secret.now }
 {
-    (1..=MOST_SECRET_BYTES).contains(&secret.len()) && is_all_visible(secret)
+    (1..=MAX_SECRET_BYTES).contains(&secret.len()) && is_all_visible(secret)
 }
 
 // Returns whether all bytes are visible ASCII.
@@ -148,34 +148,34 @@ fn is_all_visible(secret: &[u8]) -> bool
 
 fn register_as(
     alloc: Global,
-    sort: Sort,
+    client_kind: ClientKind,
     scope: &str,
     redirects: &str,
 ) -> Result<Administered, AllocError>
-    ensures value { IfOk result (λ a. a ≡ spec.registered_as (Found sort) scope.now redirects.now) }
+    ensures value { IfOk result (λ a. a ≡ spec.registered_as (Found client_kind) scope.now redirects.now) }
     ensures sound { IfOk result IsSoundAdministered }
 {
     match Scope::read(alloc, scope.as_bytes()) {
-        Ok(scope) => register_with(alloc, sort, scope, redirects),
+        Ok(scope) => register_with(alloc, client_kind, scope, redirects),
         Err(ScopeError::Memory) => Err(AllocError),
-        Err(ScopeError::TooLong) => Ok(Administered::Refused(AdminRefusal::BadScope)),
-        Err(ScopeError::Grammar) => Ok(Administered::Refused(AdminRefusal::BadScope)),
-        Err(ScopeError::TooMany) => Ok(Administered::Refused(AdminRefusal::BadScope)),
+        Err(ScopeError::TooLong) => Ok(Administered::Refused(AdminRefusal::MalformedScope)),
+        Err(ScopeError::Malformed) => Ok(Administered::Refused(AdminRefusal::MalformedScope)),
+        Err(ScopeError::TooMany) => Ok(Administered::Refused(AdminRefusal::MalformedScope)),
     }
 }
 
 // Judges a client with a scope, if the text of the scope can be read.
 fn register_with(
     alloc: Global,
-    sort: Sort,
+    client_kind: ClientKind,
     scope: Scope,
     redirects: &str,
 ) -> Result<Administered, AllocError>
-    ensures value { IfOk result (λ a. a ≡ spec.registered_with sort (Some scope) redirects.now) }
+    ensures value { IfOk result (λ a. a ≡ spec.registered_with client_kind (Some scope) redirects.now) }
     ensures sound { IfOk result IsSoundAdministered }
 {
     match split_redirects(alloc, redirects) {
-        Ok(redirects) => Ok(register_to(sort, scope, redirects)),
+        Ok(redirects) => Ok(register_to(client_kind, scope, redirects)),
         Err(error) => {
             drop(scope);
             Err(error)
@@ -208,13 +208,13 @@ fn read_redirects(alloc: Global, uris: &[&[u8]]) -> Result<Option<Redirects>, Al
     match Redirects::new(alloc, uris) {
         Ok(redirects) => Ok(Some(redirects)),
         Err(RedirectError::Memory) => Err(AllocError),
-        Err(RedirectError::Empty | RedirectError::TooMany | RedirectError::Bad) => Ok(None),
+        Err(RedirectError::Empty | RedirectError::TooMany | RedirectError::Malformed) => Ok(None),
     }
 }
 
 // Judges a client with redirection URIs, if the list may be registered.
-fn register_to(sort: Sort, scope: Scope, redirects: Option<Redirects>) -> Administered
-    ensures value { result ≡ spec.registered_to sort scope redirects }
+fn register_to(client_kind: ClientKind, scope: Scope, redirects: Option<Redirects>) -> Administered
+    ensures value { result ≡ spec.registered_to client_kind scope redirects }
     ensures sound { IsSoundAdministered result }
 {
     let Some(redirects) = redirects else {
@@ -223,7 +223,7 @@ fn register_to(sort: Sort, scope: Scope, redirects: Option<Redirects>) -> Admini
     // This call gives the proof that each URI is within its limits.
     let _uris = redirects.uris();
     Administered::Registers(ClientAdded {
-        sort,
+        client_kind,
         scope,
         redirects,
     })

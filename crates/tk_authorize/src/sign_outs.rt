@@ -71,7 +71,7 @@ fn sign_out_as(
 {
     match Subject::read(alloc, subject.as_bytes()) {
         Ok(subject) => Ok(sign_out_at(ledger, now, subject)),
-        Err(SubjectError::Malformed) => Ok(Administered::Refused(AdminRefusal::BadSubject)),
+        Err(SubjectError::Malformed) => Ok(Administered::Refused(AdminRefusal::MalformedSubject)),
         Err(SubjectError::Memory) => Err(AllocError),
     }
 }

@@ -37,7 +37,7 @@ use Rattle.tk_bundle.specs.Items.{item, mark_at, dot_size}
 use Rattle.tk_bundle.specs.ItemLaws.{dot_length}
 use Rattle.tk_bundle.specs.Versions.{mark_kind, kind_in, newest_kind, version_of, has_horizon}
 use Rattle.tk_bundle.specs.VersionLaws.{mark_told, horizon_told, facts_told}
-use Rattle.tk_bundle.specs.Bundle.{ascends, most_items, bundle, HorizonFits}
+use Rattle.tk_bundle.specs.Bundle.{ascends, max_items, bundle, HorizonFits}
 use Rattle.tk_bundle.specs.Page.{item_at, items_at, last_of, horizon_by, horizon_with, page_within, IsPageAt, IsPageOf}
 
 -- ---- what slots have at given dots
@@ -180,19 +180,19 @@ horizon_fits horizon items fits = by_mark (list_any is_mark items) (horizon_told
     by_mark false is = is
 
 -- a page has a spelling
-pub page_fits : (P : StoreFields) (v : Vector) (after : Option Dot) (limit : ℕ) (dots : List Dot) → limit ≤ most_items → dots ≡ map dot_of (take limit (beyond P.slots v after)) → moment.Fits P.horizon → AllByRecursion item.Fits (items_at P.slots dots) → bundle.Fits (page_within limit P v after).bundle
+pub page_fits : (P : StoreFields) (v : Vector) (after : Option Dot) (limit : ℕ) (dots : List Dot) → limit ≤ max_items → dots ≡ map dot_of (take limit (beyond P.slots v after)) → moment.Fits P.horizon → AllByRecursion item.Fits (items_at P.slots dots) → bundle.Fits (page_within limit P v after).bundle
 page_fits P v after limit dots low same horizon fits =
     let found = take limit (beyond P.slots v after) in
     let items : items_at P.slots dots ≡ found = ap (items_at P.slots) same ∙ page_items P.slots v after limit in
-    let short : length found ≤ most_items = omega (arith, length-take limit (beyond P.slots v after)) in (
+    let short : length found ≤ max_items = omega (arith, length-take limit (beyond P.slots v after)) in (
       (horizon_fits P.horizon found horizon, ((small (length found) short, few (length found) short), subst (AllByRecursion item.Fits) items fits)),
       ascends_sorted found (sorted-take limit (beyond P.slots v after) (sorted-filter (is_beyond v) (above P.slots after) (sorted-filter (is_above after) (sets.entries P.slots) (sets.entries_sorted P.slots)))),
     )
   where
-    small : (n : ℕ) → n ≤ most_items → n < 2 ^ 16
+    small : (n : ℕ) → n ≤ max_items → n < 2 ^ 16
     small n h = omega arith
 
-    few : (n : ℕ) → n ≤ most_items → nat_le n most_items ≡ true
+    few : (n : ℕ) → n ≤ max_items → nat_le n max_items ≡ true
     few n h = grind (arith, nat_tests)
 
 -- ---- single items

@@ -1,7 +1,7 @@
 -- A bundle's bytes (own): the magic, a digit for the version, the horizon if the version has one, a
 -- count, and the items behind their lengths, strictly ascending by dot.
 --   magic           the bytes with which a bundle begins
---   most_items      the greatest number of items in a bundle
+--   max_items      the greatest number of items in a bundle
 --   ascends         the dots of a list rise
 --   marked          a value behind a byte that the value determines
 --   bundle          the spelling of a bundle
@@ -33,8 +33,8 @@ abbrev pub magic : List ℕ
 magic = 79 ∷ 84 ∷ 66 ∷ []
 
 -- the greatest number of items in a bundle
-abbrev pub most_items : ℕ
-most_items = 128
+abbrev pub max_items : ℕ
+max_items = 128
 
 -- a value behind a byte that the value determines by `mark`; the byte determines the format
 abbrev pub marked : {A : Type 0} → (A → ℕ) → (ℕ → Format A) → Format A
@@ -47,7 +47,7 @@ marked mark f = record {
 
 -- a count of at most 128, and that many items, each behind its length
 abbrev pub counted_items : Format Items
-counted_items = counted (only (λ n. nat_le n most_items) (number w16)) item
+counted_items = counted (only (λ n. nat_le n max_items) (number w16)) item
 
 -- the bytes of a horizon, if there is one
 abbrev pub horizon_bytes : Option ℕ → List ℕ

@@ -20,7 +20,7 @@ use Rattle.tk_bundle.specs.Items.{item}
 use Rattle.tk_bundle.specs.ItemLaws.{item_exact}
 use Rattle.tk_bundle.specs.Versions.{version_of, has_horizon}
 use Rattle.tk_bundle.specs.VersionLaws.{version_tells}
-use Rattle.tk_bundle.specs.Bundle.{ascends, magic, most_items, marked, counted_items, versioned}
+use Rattle.tk_bundle.specs.Bundle.{ascends, magic, max_items, marked, counted_items, versioned}
 use Rattle.tk_bundle.specs.Bundle.{listed, bundle, VersionsTold, HorizonFits, horizon_bytes}
 use Rattle.tk_bundle.specs.Bundle.{horizon_field, contents}
 
@@ -53,7 +53,7 @@ marked_exact mark f p = record {
 -- a count and items have one spelling
 counted_items_exact : IsExact counted_items
 counted_items_exact =
-    counted_exact _ item (only_exact (λ n. nat_le n most_items) _ u16_exact) item_exact
+    counted_exact _ item (only_exact (λ n. nat_le n max_items) _ u16_exact) item_exact
 
 -- the horizon that is read, if the version has one
 abbrev Read : Bool → List ℕ → Option (Option ℕ × List ℕ)

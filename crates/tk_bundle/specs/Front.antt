@@ -14,10 +14,10 @@ use Rattle.std.specs.Int.{w16}
 use Rattle.tk_format.specs.declared.error.ReadError.{ReadError}
 use Rattle.tk_format.specs.declared.error.ReadError.TheVariants as read
 use Rattle.tk_format.specs.Format.{Format, ◌⊗◌, number, byte, bytes_of}
-use Rattle.tk_fact.specs.FactBytes.{most_bytes}
+use Rattle.tk_fact.specs.FactBytes.{max_bytes}
 use Rattle.tk_bundle.specs.BundleFields.{BundleFields}
 use Rattle.tk_bundle.specs.Versions.{is_version, has_horizon}
-use Rattle.tk_bundle.specs.Bundle.{magic, most_items, bundle}
+use Rattle.tk_bundle.specs.Bundle.{magic, max_items, bundle}
 use Rattle.tk_bundle.specs.declared.error.FrontError.{FrontError}
 use Rattle.tk_bundle.specs.declared.error.FrontError.TheVariants.{Malformed, Memory, Cut}
 
@@ -63,7 +63,7 @@ skipped bytes =
     -- no whole length is left: Cut
     or_cut ((number w16).read bytes) >>= λ size.
     -- the length is above the greatest length of a fact: Malformed
-    malformed_if (nat_lt most_bytes size.0)
+    malformed_if (nat_lt max_bytes size.0)
     -- fewer bytes than the length are left: Cut
     (or_cut ((bytes_of size.0).read size.1) >>= λ skip. Ok skip.1)
 
@@ -85,7 +85,7 @@ walk bytes =
     -- fewer bytes than the horizon and a count have: Cut
     (or_cut ((header front.0.1).read front.1) >>= λ head.
     -- a count above 128: Malformed
-    malformed_if (nat_lt most_items head.0.1)
+    malformed_if (nat_lt max_items head.0.1)
     -- otherwise the walk over the items
     (skipped_many head.0.1 head.1))))
 

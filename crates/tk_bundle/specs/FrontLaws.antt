@@ -27,13 +27,13 @@ use Rattle.std.proofs.lemmas.List.Concat.{flat_map-cons}
 use borrow.Author.Tests.{leb-true}
 use Rattle.tk_handle.specs.declared.dot.Dot.{Dot}
 use Rattle.tk_handle.specs.Moment.{moment}
-use Rattle.tk_fact.specs.FactBytes.{most_bytes}
+use Rattle.tk_fact.specs.FactBytes.{max_bytes}
 use Rattle.tk_store.specs.Slots.{Slot}
 use Rattle.tk_bundle.specs.BundleFields.{BundleFields, Items}
 use Rattle.tk_bundle.specs.Items.{item_bytes, item}
 use Rattle.tk_bundle.specs.Versions.{version_of, is_version, has_horizon}
 use Rattle.tk_bundle.specs.VersionLaws.{version_known}
-use Rattle.tk_bundle.specs.Bundle.{magic, most_items, bundle, horizon_bytes, HorizonFits}
+use Rattle.tk_bundle.specs.Bundle.{magic, max_items, bundle, horizon_bytes, HorizonFits}
 use Rattle.tk_bundle.specs.Front.{◌>>=◌, or_cut, malformed_if, cut_if, opening, least_header}
 use Rattle.tk_bundle.specs.Front.{horizon_size, header, skipped, skipped_many, walk}
 
@@ -94,10 +94,10 @@ Ends-then a x b c p q = (x ++ q.0, Takes-then a x b q.0 c p q.1)
 skipped_ends : (bytes rest : List ℕ) → IsBytes bytes → skipped bytes ≡ Ok rest → Ends bytes rest
 skipped_ends bytes rest fits e =
     let a = bind_ok (or_cut ((number w16).read bytes)) (λ n.
-    cond (ltb most_bytes n.0) (Err Malformed) (or_cut ((bytes_of n.0).read n.1) >>= λ b.
+    cond (ltb max_bytes n.0) (Err Malformed) (or_cut ((bytes_of n.0).read n.1) >>= λ b.
     Ok b.1)) rest e in
     let first = u16_exact.takes bytes a.0 fits (cut_ok _ a.0 a.1) in
-    let t = test_ok (ltb most_bytes a.0.0) Malformed (or_cut ((bytes_of a.0.0).read a.0.1) >>= λ b.
+    let t = test_ok (ltb max_bytes a.0.0) Malformed (or_cut ((bytes_of a.0.0).read a.0.1) >>= λ b.
     Ok b.1) rest a.2 in
     let b = bind_ok (or_cut ((bytes_of a.0.0).read a.0.1)) (λ b. Ok b.1) rest t.1 in
     let second = (bytes_exact a.0.0).takes a.0.1 b.0 first.0.rest_fits (cut_ok _ b.0 b.1) in
@@ -122,7 +122,7 @@ many_end (suc n) bytes rest fits e =
 
 -- the walk behind the header, and behind the opening
 abbrev counted_rest : (List ℕ × ℕ) × List ℕ → Result (List ℕ) FrontError
-counted_rest h = malformed_if (ltb most_items h.0.1) (skipped_many h.0.1 h.1)
+counted_rest h = malformed_if (ltb max_items h.0.1) (skipped_many h.0.1 h.1)
 
 abbrev opened : (List ℕ × ℕ) × List ℕ → Result (List ℕ) FrontError
 opened f = malformed_if (not (bytes_eq f.0.0 magic)) (malformed_if (not (is_version f.0.1))
@@ -148,7 +148,7 @@ walk_ends bytes rest fits e =
     let h = bind_ok (or_cut ((header digit).read f.0.1)) counted_rest rest v.1 in
     let second = (header_exact digit).takes f.0.1 h.0 first.0.rest_fits (cut_ok _ h.0 h.1) in
     let count = h.0.0.1 in
-    let t = test_ok (ltb most_items count) Malformed (skipped_many count h.0.1) rest h.2 in
+    let t = test_ok (ltb max_items count) Malformed (skipped_many count h.0.1) rest h.2 in
     Ends-then bytes (opening.spell f.0.0) f.0.1 rest first.0
     (Ends-then f.0.1 ((header digit).spell h.0.0) h.0.1 rest second.0
     (many_end count h.0.1 rest second.0.rest_fits t.1))
@@ -160,8 +160,8 @@ skipped_item : (i : Dot × Slot) (rest : List ℕ) → item.Fits i
 unfolding text_spelling
 skipped_item i rest fits =
     let s = item_bytes i in
-    let small : ltb most_bytes (length s) ≡ false =
-    le-ltb most_bytes (length s) (leb-true (length s) most_bytes fits.1.1) in
+    let small : ltb max_bytes (length s) ≡ false =
+    le-ltb max_bytes (length s) (leb-true (length s) max_bytes fits.1.1) in
     ap skipped (append_assoc (number_spelling w16 (length s)) s rest)
     ∙ rw (
       u16_exact.again (length s) (s ++ rest) fits.1.0,
@@ -197,8 +197,8 @@ walk_bundle b rest fits =
     let regrouped : (horizon ++ (count ++ items)) ++ rest ≡ horizon ++ (count ++ (items ++ rest)) =
     append_assoc horizon (count ++ items) rest
     ∙ ap (λ (t : List ℕ). horizon ++ t) (append_assoc count items rest) in
-    let few : ltb most_items (length b.items) ≡ false =
-    le-ltb most_items (length b.items) (leb-true (length b.items) most_items fits.0.1.0.1) in
+    let few : ltb max_items (length b.items) ≡ false =
+    le-ltb max_items (length b.items) (leb-true (length b.items) max_items fits.0.1.0.1) in
     let behind = digit ∷ horizon ++ (count ++ (items ++ rest)) in
     let long : ltb (length (magic ++ behind)) least_header ≡ false =
     le-ltb (length (magic ++ behind)) least_header (omega (
@@ -275,7 +275,7 @@ number_on bytes more x e =
 skipped_on : (bytes more : List ℕ) → GoesOn more (skipped bytes) (skipped (bytes ++ more))
 skipped_on bytes more =
     read_on more _ _ _ (number_on bytes more) (λ n.
-    unless more (ltb most_bytes n.0) _ _ (read_on more _ _ (λ b. Ok b.1) (bytes_on n.0 n.1 more)
+    unless more (ltb max_bytes n.0) _ _ (read_on more _ _ (λ b. Ok b.1) (bytes_on n.0 n.1 more)
     (λ b. refl)))
 
 many_on : (n : ℕ) (bytes more : List ℕ)
@@ -325,7 +325,7 @@ walk_goes_on bytes more =
     (read_on more _ _ opened (opening_on bytes more) (λ f.
     unless more (not (bytes_eq f.0.0 magic)) _ _ (unless more (not (is_version f.0.1)) _ _
     (read_on more _ _ counted_rest (header_on f.0.1 f.1 more) (λ h.
-    unless more (ltb most_items h.0.1) _ _ (many_on h.0.1 h.1 more))))))
+    unless more (ltb max_items h.0.1) _ _ (many_on h.0.1 h.1 more))))))
 
 -- if a walk ends well, the walk over the beginning of the bytes is cut
 cut_before : (more : List ℕ) (r longer : Result (List ℕ) FrontError) → GoesOn more r longer

@@ -20,7 +20,7 @@ use Rattle.tk_handle.specs.DotBytes.{dot_field}
 use Rattle.tk_handle.proofs.FormatLaws.{dot_field_exact}
 use Rattle.tk_fact.specs.declared.body.Body.{Body}
 use Rattle.tk_fact.specs.declared.body.Body.TheVariants as bodies
-use Rattle.tk_fact.specs.FactBytes.{kinds, body, fact, most_bytes, framed}
+use Rattle.tk_fact.specs.FactBytes.{kinds, body, fact, max_bytes, framed}
 use Rattle.tk_fact.specs.FactLaws.{fact_exact}
 use Rattle.tk_store.specs.Slots.{Slot, Held, Skipped}
 use Rattle.tk_store.specs.WholeStores.{as_slot}
@@ -93,8 +93,8 @@ in_again (d, Skipped) fits =
 
 -- ---- behind its length
 
-short_exact : IsExact (only (λ t. nat_le (length t) most_bytes) text)
-short_exact = only_exact (λ t. nat_le (length t) most_bytes) text text_exact
+short_exact : IsExact (only (λ t. nat_le (length t) max_bytes) text)
+short_exact = only_exact (λ t. nat_le (length t) max_bytes) text text_exact
 
 IsBytes-text : (bytes s rest : List ℕ) → IsBytes bytes → Takes bytes (text.spell s) rest → IsBytes s
 unfolding text_spelling
@@ -109,7 +109,7 @@ IsBytes-text bytes s rest fits t =
 item_takes : (bytes : List ℕ) (x : (Dot × Slot) × List ℕ) → IsBytes bytes → item.read bytes ≡ Some x
     → Takes bytes (item.spell x.0) x.1 × item.Fits x.0
 item_takes bytes x fits e =
-    let t = bind_some ((only (λ t. nat_le (length t) most_bytes) text).read bytes)
+    let t = bind_some ((only (λ t. nat_le (length t) max_bytes) text).read bytes)
     (λ t. item_in t.0 >>= λ i. Some (i, t.1)) x e in
     let w = bind_some (item_in t.0.0) (λ i. Some (i, t.0.1)) x t.2 in
     let first = short_exact.takes bytes t.0 fits t.1 in
@@ -117,7 +117,7 @@ item_takes bytes x fits e =
     subst (λ (y : (Dot × Slot) × List ℕ). Takes bytes (item.spell y.0) y.1 × item.Fits y.0)
     (some_is (w.0, t.0.1) x w.2)
     (subst (λ (s : List ℕ). Takes bytes (text.spell s) t.0.1
-    × (HasBytes w.0 × (text.Fits s × (nat_le (length s) most_bytes ≡ true)))) inside.1
+    × (HasBytes w.0 × (text.Fits s × (nat_le (length s) max_bytes ≡ true)))) inside.1
     (first.0, (inside.0, first.1)))
 
 -- an item has one spelling
@@ -131,4 +131,4 @@ item_exact = record {
 -- the mark of a dot has a spelling
 pub mark_fits : (d : Dot) → dot_field.Fits d → item.Fits (d, Skipped)
 mark_fits d fits =
-    (fits, (omega (arith, dot_length d), ap (λ n. nat_le n most_bytes) (dot_length d)))
+    (fits, (omega (arith, dot_length d), ap (λ n. nat_le n max_bytes) (dot_length d)))

@@ -12,7 +12,7 @@ use Rattle.tk_format.specs.declared.error.ReadError.TheVariants.{Malformed, Memo
 use Rattle.tk_format.specs.Format.{◌>>=◌, Format, only, text, whole}
 use Rattle.tk_handle.specs.declared.dot.Dot.{Dot}
 use Rattle.tk_handle.specs.DotBytes.{dot_field}
-use Rattle.tk_fact.specs.FactBytes.{fact, most_bytes}
+use Rattle.tk_fact.specs.FactBytes.{fact, max_bytes}
 use Rattle.tk_store.specs.Slots.{Slot, Held, Skipped}
 use Rattle.tk_store.specs.WholeStores.{as_slot}
 use Rattle.tk_bundle.specs.BundleFields.{entry_of}
@@ -47,8 +47,8 @@ abbrev pub item : Format (Dot × Slot)
 item = record {
   spell = λ i. text.spell (item_bytes i);
   Fits = λ i. HasBytes i
-      × (text.Fits (item_bytes i) × (nat_le (length (item_bytes i)) most_bytes ≡ true));
-  read = λ bytes. (only (λ t. nat_le (length t) most_bytes) text).read bytes >>= λ t.
+      × (text.Fits (item_bytes i) × (nat_le (length (item_bytes i)) max_bytes ≡ true));
+  read = λ bytes. (only (λ t. nat_le (length t) max_bytes) text).read bytes >>= λ t.
       item_in t.0 >>= λ i. Some (i, t.1);
 }
 

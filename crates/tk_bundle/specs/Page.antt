@@ -22,7 +22,7 @@ use Rattle.tk_store.specs.StoreFields.{StoreFields}
 use Rattle.tk_bundle.specs.BundleFields.{BundleFields, Items, is_mark}
 use Rattle.tk_bundle.specs.Items.{item}
 use Rattle.tk_bundle.specs.Versions.{mark_kind, newest_kind, version_of}
-use Rattle.tk_bundle.specs.Bundle.{magic, most_items, bundle_bytes, horizon_bytes}
+use Rattle.tk_bundle.specs.Bundle.{magic, max_items, bundle_bytes, horizon_bytes}
 use Rattle.tk_bundle.specs.declared.page.Page.{Page}
 
 -- the bundle of a page, the dot of its last item, and whether more follow
@@ -57,7 +57,7 @@ page_within limit P v after = record {
 
 -- the page of a store for a vector and a cursor, of at most 128 items
 abbrev pub page_of : StoreFields → Vector → Option Dot → PageFields
-page_of P v after = page_within most_items P v after
+page_of P v after = page_within max_items P v after
 
 -- the page in bytes: the bundle, the number of its items, the dot of the last, and whether more
 -- follow

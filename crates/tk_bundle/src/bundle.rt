@@ -8,7 +8,7 @@ use tk_handle::Moment;
 pub(crate) const MAGIC: &[u8] = b"OTB";
 
 /// The greatest number of items in a bundle (own).
-pub(crate) const MOST_ITEMS: u16 = 128;
+pub(crate) const MAX_ITEMS: u16 = 128;
 
 /// Items, strictly ascending by dot, at most 128 of them; if a mark is among them, the horizon up
 /// to which the sender skipped facts.
@@ -124,7 +124,7 @@ fn read_counted(alloc: Global, reader: &mut Reader<'_>) -> Result<Vec<Item>, Rea
     ensures { Gets (λ v. v.items) counted_items result reader.old reader.new }
 {
     let count = reader.take_u16().ok_or(ReadError::Malformed)?;
-    if count > MOST_ITEMS {
+    if count > MAX_ITEMS {
         return Err(ReadError::Malformed);
     }
     read_many(alloc, count, reader)

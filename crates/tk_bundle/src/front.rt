@@ -8,7 +8,7 @@ ghost use Rattle.tk_bundle.specs.Front as spec;
 ghost use Rattle.tk_bundle.specs.Front.{Walks, IsCut, skipped, skipped_many, walk, IsFrontOf};
 ghost use Rattle.tk_bundle.specs.declared.error.FrontError.{FrontError as AnyError};
 
-use crate::bundle::{Bundle, MAGIC, MOST_ITEMS};
+use crate::bundle::{Bundle, MAGIC, MAX_ITEMS};
 use crate::error::FrontError;
 use crate::version::{has_horizon, is_version};
 use std::alloc::Global;
@@ -80,7 +80,7 @@ fn walk(reader: &mut Reader<'_>) -> Result<(), FrontError>
         .take_bytes(horizon_size(version))
         .ok_or(FrontError::Cut)?;
     let count = reader.take_u16().ok_or(FrontError::Cut)?;
-    if count > MOST_ITEMS {
+    if count > MAX_ITEMS {
         return Err(FrontError::Malformed);
     }
     skip_many(count, reader)
@@ -112,7 +112,7 @@ fn skip(reader: &mut Reader<'_>) -> Result<(), FrontError>
     ensures { Walks result (skipped reader.old) reader.new }
 {
     let count = reader.take_u16().ok_or(FrontError::Cut)?;
-    if count as usize > Fact::MOST_BYTES {
+    if count as usize > Fact::MAX_BYTES {
         return Err(FrontError::Malformed);
     }
     reader.take_bytes(count as usize).ok_or(FrontError::Cut)?;

@@ -85,7 +85,7 @@ impl FromBytes for Item {
         let Some(bytes) = reader.take_text() else {
             return Err(ReadError::Malformed);
         };
-        if bytes.len() > Fact::MOST_BYTES {
+        if bytes.len() > Fact::MAX_BYTES {
             return Err(ReadError::Malformed);
         }
         Ok(Item {

@@ -25,10 +25,10 @@ ghost use Rattle.tk_store.specs.Paging as paging;
 ghost use Rattle.tk_bundle.specs.BundleFields.{of_facts};
 ghost use Rattle.tk_bundle.specs.Items.{item, mark_at};
 ghost use Rattle.tk_bundle.specs.Versions.{newest_kind, version_with};
-ghost use Rattle.tk_bundle.specs.Bundle.{magic, most_items, bundle, bundle_bytes, horizon_bytes};
+ghost use Rattle.tk_bundle.specs.Bundle.{magic, max_items, bundle, bundle_bytes, horizon_bytes};
 ghost use Rattle.tk_bundle.specs.Page as spec;
 
-use crate::bundle::{MAGIC, MOST_ITEMS};
+use crate::bundle::{MAGIC, MAX_ITEMS};
 use crate::item::DOT_BYTES;
 use crate::version::{MARK_KIND, kind_in, kind_of, version_with};
 use std::alloc::{AllocError, Global};
@@ -55,7 +55,7 @@ pub fn make(
     // A page can be read.
     ensures fits { OnOk result (bundle.Fits (spec.page_of store.now vector.now after).bundle) }
 {
-    page_within(alloc, store, vector, after, MOST_ITEMS as usize)
+    page_within(alloc, store, vector, after, MAX_ITEMS as usize)
 }
 
 // Makes a page of at most `limit` items. One dot more than that is sought, to see whether more
@@ -67,7 +67,7 @@ fn page_within(
     after: Option<Dot>,
     limit: usize,
 ) -> Result<Page, AllocError>
-    requires { limit ≤ most_items }
+    requires { limit ≤ max_items }
     ensures page { IfOk result (λ page.
         spec.IsPageOf page (spec.page_within limit store.now vector.now after)) }
     ensures fits { OnOk result (bundle.Fits (spec.page_within limit store.now vector.now
@@ -81,7 +81,7 @@ fn page_within(
 
 // Makes the page of what the store knows of the dots.
 fn page_at(alloc: Global, store: &FactStore, dots: &[Dot], more: bool) -> Result<Page, AllocError>
-    requires { length dots.now ≤ most_items }
+    requires { length dots.now ≤ max_items }
     ensures page { IfOk result (λ page. spec.IsPageAt page store.now dots.now more) }
     ensures fits { OnOk result (AllByRecursion item.Fits
         (spec.items_at store.now.slots dots.now)) }

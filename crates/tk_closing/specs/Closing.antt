@@ -1,6 +1,6 @@
 -- Connections that are set aside until their clients close (own).
---   most_held      how many connections a set has room for
---   most_dropped   how many bytes a client may send after its request
+--   max_held      how many connections a set has room for
+--   max_dropped   how many bytes a client may send after its request
 --   longest        how many milliseconds a connection may take
 --   stays          whether a connection stays after a look
 --   IsLook         a look at a connection
@@ -31,12 +31,12 @@ use Rattle.tk_closing.specs.declared.held.Held.{Held}
 use Rattle.tk_closing.specs.declared.peer.Arrived.{Arrived}
 
 -- how many connections a set has room for
-abbrev pub most_held : ℕ
-most_held = 64
+abbrev pub max_held : ℕ
+max_held = 64
 
 -- how many bytes a client may send after its request
-abbrev pub most_dropped : ℕ
-most_dropped = 65536
+abbrev pub max_dropped : ℕ
+max_dropped = 65536
 
 -- how many milliseconds a connection may take, from its acceptance until its client has closed
 abbrev pub longest : ℕ
@@ -72,11 +72,11 @@ AreLookedAt {P = P} finds now (one ∷ rest) new =
 -- still full, the oldest is closed
 abbrev pub HasRoom : {P : Type 0} → Finds P → ℕ → List (Held P) → List (Held P) → Type 0
 HasRoom {P = P} finds now old roomy =
-    ((length old < most_held) × (roomy ≡ old))
-    ⊎ ((most_held ≤ length old) × ((looked : List (Held P)) × AreLookedAt finds now old looked
-    × (roomy ≡ (if ltb (length looked) most_held then looked else drop 1 looked))))
+    ((length old < max_held) × (roomy ≡ old))
+    ⊎ ((max_held ≤ length old) × ((looked : List (Held P)) × AreLookedAt finds now old looked
+    × (roomy ≡ (if ltb (length looked) max_held then looked else drop 1 looked))))
 
 -- one more connection is set aside
 abbrev pub with_peer : {P : Type 0} → List (Held P) → P → ℕ → List (Held P)
 with_peer others peer since =
-    others ++ (record { peer = peer; left = most_dropped; since = since }) ∷ []
+    others ++ (record { peer = peer; left = max_dropped; since = since }) ∷ []

@@ -13,13 +13,13 @@ pub struct ClosingSet<P> {
 impl<P> Model for ClosingSet<P> {
     ghost use Rattle.std.specs.Prelude.{List, ◌≤◌, length};
     ghost use Rattle.tk_closing.specs.declared.held.Held.{Held as the_held};
-    ghost use Rattle.tk_closing.specs.Closing.{most_held};
+    ghost use Rattle.tk_closing.specs.Closing.{max_held};
 
     ghost Value = { List (the_held P) };
 
     ghost view = { λ s. s.held.items };
 
-    ghost invariant = { λ s. length s.held.items ≤ most_held };
+    ghost invariant = { λ s. length s.held.items ≤ max_held };
 }
 
 ghost use Rattle.std.specs.Prelude.{
@@ -37,13 +37,13 @@ ghost use Rattle.std.specs.Prelude.{
   ◌<◌,
 };
 ghost use Rattle.tk_closing.specs.declared.held.Held.{Held as held_value};
-ghost use Rattle.tk_closing.specs.Closing.{AreLookedAt, HasRoom, with_peer, most_held as room};
+ghost use Rattle.tk_closing.specs.Closing.{AreLookedAt, HasRoom, with_peer, max_held as room};
 
-use crate::held::{MOST_DROPPED, look_at};
+use crate::held::{MAX_DROPPED, look_at};
 use crate::peer::Peer;
 
 /// How many connections a set has room for.
-pub const MOST_HELD: usize = 64;
+pub const MAX_HELD: usize = 64;
 
 impl<P: Peer + Drop> ClosingSet<P> {
     /// Returns a set without connections.
@@ -83,7 +83,7 @@ impl<P: Peer + Drop> ClosingSet<P> {
             × (self.new ≡ with_peer roomy peer since))
             (λ back. (back ≡ peer) × (self.new ≡ self.old)) }
     {
-        if self.held.len() >= MOST_HELD {
+        if self.held.len() >= MAX_HELD {
             make_room(&mut self.held, now, piece);
         }
         add_last(&mut self.held, peer, since)
@@ -125,7 +125,7 @@ fn make_room<P: Peer + Drop>(held: &mut Vec<Held<P>>, now: u64, piece: &mut [u8]
     ensures capacity { vec_len held.new < vec_capacity held.new }
 {
     look_at_each(held, now, piece);
-    if held.len() >= MOST_HELD {
+    if held.len() >= MAX_HELD {
         drop(held.remove(0));
     }
 }
@@ -136,7 +136,7 @@ fn add_last<P>(held: &mut Vec<Held<P>>, peer: P, since: u64) -> Result<(), P>
         (λ back. (back ≡ peer) × (held.new.items ≡ held.old.items)) }
     ensures succeeds { vec_len held.old < vec_capacity held.old → IsOk result }
 {
-    let left = MOST_DROPPED;
+    let left = MAX_DROPPED;
     match held.push(Held { peer, left, since }) {
         Ok(()) => Ok(()),
         Err(failed) => Err(failed.value.peer),

@@ -6,7 +6,7 @@ ghost use Rattle.tk_closing.specs.Closing.{IsLook, stays};
 use crate::peer::Peer;
 
 /// How many bytes a client may send after its request until its connection is closed.
-pub const MOST_DROPPED: usize = 65_536;
+pub const MAX_DROPPED: usize = 65_536;
 
 /// How long a connection may take, from its acceptance until its client has closed, in
 /// milliseconds.
@@ -17,7 +17,7 @@ pub const LONGEST_MILLIS: u64 = 5_000;
 pub struct Held<P> {
     /// The client's side of the connection.
     pub peer: P,
-    /// How many more bytes the client may send: `MOST_DROPPED` less the dropped ones.
+    /// How many more bytes the client may send: `MAX_DROPPED` less the dropped ones.
     pub left: usize,
     /// When the connection was accepted, in milliseconds.
     pub since: u64,

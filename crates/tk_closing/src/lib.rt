@@ -19,6 +19,6 @@ mod peer;
 #[cfg(test)]
 mod tests;
 
-pub use closing_set::{ClosingSet, MOST_HELD};
-pub use held::{Held, LONGEST_MILLIS, MOST_DROPPED};
+pub use closing_set::{ClosingSet, MAX_HELD};
+pub use held::{Held, LONGEST_MILLIS, MAX_DROPPED};
 pub use peer::{Arrived, Peer};

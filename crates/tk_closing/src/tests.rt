@@ -1,6 +1,6 @@
 //! Tests of a set over clients in memory.
 
-use crate::{Arrived, ClosingSet, LONGEST_MILLIS, MOST_DROPPED, MOST_HELD, Peer};
+use crate::{Arrived, ClosingSet, LONGEST_MILLIS, MAX_DROPPED, MAX_HELD, Peer};
 use std::alloc::Global;
 use std::test::Fail;
 
@@ -75,26 +75,26 @@ fn a_client_may_send_so_many_bytes(rt: HostRuntime) -> Result<(), Fail> {
         closes: false,
     };
     assert_eq!(rt;
-        left_of(rt.alloc(), sends(MOST_DROPPED / 8 - 1), 8, 1_000)?,
+        left_of(rt.alloc(), sends(MAX_DROPPED / 8 - 1), 8, 1_000)?,
         1
     );
-    assert_eq!(rt; left_of(rt.alloc(), sends(MOST_DROPPED / 8), 7, 1_000)?, 1);
-    assert_eq!(rt; left_of(rt.alloc(), sends(MOST_DROPPED / 8), 8, 1_000)?, 0);
+    assert_eq!(rt; left_of(rt.alloc(), sends(MAX_DROPPED / 8), 7, 1_000)?, 1);
+    assert_eq!(rt; left_of(rt.alloc(), sends(MAX_DROPPED / 8), 8, 1_000)?, 0);
     Ok(())
 }
 
 #[test]
 fn the_oldest_goes_when_a_place_is_needed(rt: HostRuntime) -> Result<(), Fail> {
     let mut set = ClosingSet::new(rt.alloc());
-    for since in 7..=7 + MOST_HELD as u64 {
+    for since in 7..=7 + MAX_HELD as u64 {
         set.set_aside(silent(false), since, since, &mut [])
             .ok()
             .ok_or("memory")?;
     }
-    assert_eq!(rt; set.len(), MOST_HELD);
+    assert_eq!(rt; set.len(), MAX_HELD);
     let oldest = set.take_oldest().ok_or("none")?;
     assert_eq!(rt; oldest.since, 8);
-    assert_eq!(rt; oldest.left, MOST_DROPPED);
-    assert_eq!(rt; set.len(), MOST_HELD - 1);
+    assert_eq!(rt; oldest.left, MAX_DROPPED);
+    assert_eq!(rt; set.len(), MAX_HELD - 1);
     Ok(())
 }

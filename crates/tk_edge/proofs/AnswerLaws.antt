@@ -20,7 +20,7 @@ use Rattle.tk_message.specs.Reply.{error_reply}
 use Rattle.tk_message.specs.ReplyFields.{ReplyFields}
 use Rattle.tk_message.specs.RequestFields.{RequestFields}
 use Rattle.tk_message.specs.declared.error_code.ErrorCode.{ErrorCode}
-use Rattle.tk_message.specs.declared.status.Status.{Status}
+use Rattle.tk_message.specs.declared.status_code.StatusCode.{StatusCode}
 use Rattle.tk_region.specs.RegionFields.{RegionFields, Gains}
 use Rattle.tk_region.specs.Step.{PreparedFields, prepared_of}
 use Rattle.tk_edge.specs.Answers.{rendered, refused_by, answer_by, fact_by, AnswersBy}
@@ -105,7 +105,7 @@ pulls r sent (Err e) h = refl
 abbrev fails : Fault → Result Served Fault
 fails fault = Err fault
 
-abbrev told_fault : Fault → Result Status Fault
+abbrev told_fault : Fault → Result StatusCode Fault
 told_fault fault = Err fault
 
 -- no arrival is replied to with a read fault
@@ -116,10 +116,10 @@ no_read (Some bytes) now words came region log still writer sealed told = told.4
 
 module _ (asked : Asked) (came : Arrival) (old new : RegionFields) (log : Change) (still : Type 0) (writer : Change) (sealed : Bool) (arrives : Arrives asked.sync asked.known came) (spoke : came ≢ Silence) where
   -- an arrival was replied to, with the pushed bundle that is logged, if any
-  abbrev Told : Option (List ℕ) → Result Status Fault → Type 0
+  abbrev Told : Option (List ℕ) → Result StatusCode Fault → Type 0
   Told sent result = RepliesTo sent asked.now asked.words came (record { before = old; after = new }) log still writer sealed result
 
-  pub served : (status : Status) → Told (bundle_to_log asked.log_taken came) (Ok status)
+  pub served : (status : StatusCode) → Told (bundle_to_log asked.log_taken came) (Ok status)
       → IsServed asked (record { before = old; after = new }) log still writer sealed (Ok (Done status))
   served status told = (came, arrives, spoke, told)
 

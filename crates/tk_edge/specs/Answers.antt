@@ -14,8 +14,8 @@ use Rattle.tk_bundle.specs.Bundle.{bundle}
 use Rattle.tk_bundle.specs.BundleFields.{of_facts}
 use Rattle.tk_message.specs.Reply.{error_reply}
 use Rattle.tk_message.specs.ReplyFields.{ReplyFields}
-use Rattle.tk_message.specs.declared.status.Status.{Status}
-use Rattle.tk_message.specs.declared.status.Status.TheVariants as status
+use Rattle.tk_message.specs.declared.status_code.StatusCode.{StatusCode}
+use Rattle.tk_message.specs.declared.status_code.StatusCode.TheVariants as status
 use Rattle.tk_region.specs.RegionFields.{RegionFields, Gains}
 use Rattle.tk_region.specs.Step.{prepared_of, IsNextFact}
 use Rattle.tk_edge.specs.Judged.{code_of, allowed_by}
@@ -27,7 +27,7 @@ use Rattle.tk_edge.specs.declared.refusal.Refusal.{Refusal}
 use Rattle.tk_edge.specs.declared.refusal.Refusal.TheVariants.{UnknownPath}
 
 -- an answer with this status, these bytes, and the record of the fact made, if any
-abbrev pub told_by : Status → List ℕ → Option (List ℕ) → AnswerFields
+abbrev pub told_by : StatusCode → List ℕ → Option (List ℕ) → AnswerFields
 told_by status bytes logged = record { status = status; bytes = bytes; logged = logged }
 
 -- the answer with the bytes of a reply, which names the methods allowed, if there are any

@@ -25,7 +25,7 @@ use Rattle.tk_message.specs.Reply.{bytes_reply, error_reply, json_reply}
 use Rattle.tk_message.specs.ReplyFields.{ReplyFields}
 use Rattle.tk_message.specs.declared.error_code.ErrorCode.{ErrorCode}
 use Rattle.tk_message.specs.declared.error_code.ErrorCode.TheVariants as code
-use Rattle.tk_message.specs.declared.status.Status.TheVariants as status
+use Rattle.tk_message.specs.declared.status_code.StatusCode.TheVariants as status
 use Rattle.tk_region.specs.RegionFields.{RegionFields, place_in}
 use Rattle.tk_region.specs.Taking.{TakesIn}
 use Rattle.tk_region.specs.declared.take.TakeError.{TakeError}

@@ -3,7 +3,7 @@
 --   WrongMethod      the path has other methods (RFC 9110, 15.5.6)
 --   DuplicateField   a field is repeated that may be given only once (own; RFC 9110, 5.3)
 --   LengthRequired   the body is in chunks, or has no length (RFC 9110, 15.5.12)
---   BadLength        the length isn't one or more digits (RFC 9110, 8.6)
+--   MalformedLength        the length isn't one or more digits (RFC 9110, 8.6)
 --   TooLarge         the length is above the limit (RFC 9110, 15.5.14)
 --   WrongType        the type of a form's body isn't a form's (RFC 6749, 4.1.3)
 --   ShortBody        the stream ends before the body does (RFC 9112, 8); specs/Heard has this case
@@ -28,7 +28,7 @@ use Rattle.tk_edge.specs.declared.path.Service.TheVariants as service
 use Rattle.tk_edge.specs.declared.refusal.Refusal.{Refusal}
 use Rattle.tk_edge.specs.declared.refusal.Refusal.TheVariants.{Sealed, UnknownPath, WrongMethod}
 use Rattle.tk_edge.specs.declared.refusal.Refusal.TheVariants.{DuplicateField, LengthRequired}
-use Rattle.tk_edge.specs.declared.refusal.Refusal.TheVariants.{BadLength, TooLarge, WrongType}
+use Rattle.tk_edge.specs.declared.refusal.Refusal.TheVariants.{MalformedLength, TooLarge, WrongType}
 use Rattle.tk_edge.specs.declared.judge.Judged.{Judged}
 use Rattle.tk_edge.specs.declared.judge.Judged.TheVariants.{Refused, Query, Vector, Body}
 
@@ -62,7 +62,7 @@ fits_type Push kinds = true
 
 -- the judgement of a body by its length, then its type
 abbrev pub sized : Posted → Numeral → List (List ℕ) → Judged
-sized posted Malformed kinds = Refused BadLength
+sized posted Malformed kinds = Refused MalformedLength
 sized posted Above kinds = Refused TooLarge
 sized posted (Within n) kinds = if fits_type posted kinds then Body posted n else Refused WrongType
 

@@ -12,7 +12,7 @@ use Rattle.tk_put.specs.Put.{AppendsFront}
 use Rattle.tk_bundle.specs.BundleFields.{BundleFields}
 use Rattle.tk_bundle.specs.Bundle.{bundle, bundle_bytes}
 use Rattle.tk_message.specs.ReplyFields.{ReplyFields}
-use Rattle.tk_message.specs.declared.status.Status.{Status}
+use Rattle.tk_message.specs.declared.status_code.StatusCode.{StatusCode}
 use Rattle.tk_region.specs.RegionFields.{RegionFields}
 use Rattle.tk_region.specs.declared.take.TakeError.{TakeError}
 use Rattle.tk_region.specs.declared.take.TakeError.TheVariants as take
@@ -50,7 +50,7 @@ abbrev pub logged_of : Bool → List ℕ → List ℕ
 logged_of news bytes = if news then bytes else []
 
 -- the reply to a push is written; if memory runs out, nothing is written
-abbrev pub TellsTaken : Result ℕ TakeError → Change → Result Status Fault → Type 0
+abbrev pub TellsTaken : Result ℕ TakeError → Change → Result StatusCode Fault → Type 0
 TellsTaken taken writer (Ok status) =
     (reply : ReplyFields) × IsTakenReply taken reply × (status ≡ reply.status)
     × Appends writer.before writer.after (reply_bytes reply None)
@@ -63,7 +63,7 @@ TellsTaken taken writer (Err fault) = ⊥
 -- A bundle with news is logged, and then the reply is written. Log fault: the log has a beginning
 -- of the bundle, the client nothing, and the edge is sealed. Without news the log isn't called.
 abbrev pub LogsAndTells : List ℕ → Result ℕ TakeError → Bool → Change → Type 0 → Change → Bool
-    → Result Status Fault → Type 0
+    → Result StatusCode Fault → Type 0
 LogsAndTells bytes taken news log still writer sealed (Err Log) =
     (news ≡ true) × AppendsFront log.before log.after bytes × Keeps writer.before writer.after
     × (sealed ≡ true)
@@ -74,7 +74,7 @@ LogsAndTells bytes taken news log still writer sealed result =
 -- A pushed bundle is taken in or refused. If its facts may be new, the log gains its bytes before
 -- the reply, and also if memory runs out.
 abbrev pub TakesAndLogs : List ℕ → RegionFields → RegionFields → Change → Type 0 → Change → Bool
-    → Result Status Fault → Type 0
+    → Result StatusCode Fault → Type 0
 TakesAndLogs bytes old new log still writer sealed result =
     (taken : Result ℕ TakeError) × TakesBundle old bytes taken new
     × (news : Bool) × IsNews old bytes taken news new

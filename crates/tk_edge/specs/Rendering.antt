@@ -7,9 +7,9 @@ use Rattle.std.specs.Prelude.{ℕ, Bool, true, false, List, [], ◌∷◌, lengt
 use Rattle.std.specs.List.{concat}
 use Rattle.tk_put.specs.Put.{field_line}
 use Rattle.tk_message.specs.ReplyFields.{ReplyFields, Content, Nothing, JsonText, OtherBytes}
-use Rattle.tk_message.specs.Status.{status_number}
-use Rattle.tk_message.specs.declared.status.Status.{Status}
-use Rattle.tk_message.specs.declared.status.Status.TheVariants.{
+use Rattle.tk_message.specs.StatusCode.{status_number}
+use Rattle.tk_message.specs.declared.status_code.StatusCode.{StatusCode}
+use Rattle.tk_message.specs.declared.status_code.StatusCode.TheVariants.{
   Ok,
   Created,
   Found,
@@ -24,7 +24,7 @@ use Rattle.tk_message.specs.declared.status.Status.TheVariants.{
 }
 
 -- the reason phrase of a status
-abbrev pub reason_of : Status → List ℕ
+abbrev pub reason_of : StatusCode → List ℕ
 reason_of Ok = codes "OK"
 reason_of Created = codes "Created"
 reason_of Found = codes "Found"

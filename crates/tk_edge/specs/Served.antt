@@ -11,7 +11,7 @@ use Rattle.std.specs.Prelude.{IfSome, Result, Ok, Err}
 use Rattle.std.specs.declared.alloc.AllocError.{AllocError}
 use Rattle.std.specs.Io.KnownBytes.{Appends, Keeps}
 use Rattle.tk_put.specs.Put.{AppendsFront}
-use Rattle.tk_message.specs.declared.status.Status.{Status}
+use Rattle.tk_message.specs.declared.status_code.StatusCode.{StatusCode}
 use Rattle.tk_region.specs.RegionFields.{RegionFields}
 use Rattle.tk_edge.specs.Answers.{fact_by, IsRecorded, refused_by}
 use Rattle.tk_edge.specs.Arrivals.{Answers, IsShort}
@@ -57,7 +57,7 @@ IsUntouched region log still writer sealed =
 -- the arrival is answered at the moment and with the random words: its facts are added, and the
 -- record, which can be read, and the reply are written
 abbrev pub AnswersAndTells : ℕ → List ℕ → Arrival → Step → Change → Type 0 → Change → Bool
-    → Result Status Fault → Type 0
+    → Result StatusCode Fault → Type 0
 AnswersAndTells now words came region log still writer sealed result =
     (answer : AnswerFields) × Answers region.before now words came (Ok answer) region.after
     × IsTold answer log writer sealed result × UsesLog answer still result
@@ -66,7 +66,7 @@ AnswersAndTells now words came region log still writer sealed result =
 -- how serving an arrival may end, unless it is a bundle to log; if memory runs out, nothing is
 -- written
 abbrev pub Replies : ℕ → List ℕ → Arrival → Step → Change → Type 0 → Change → Bool
-    → Result Status Fault → Type 0
+    → Result StatusCode Fault → Type 0
 Replies now words came region log still writer sealed (Ok status) =
     AnswersAndTells now words came region log still writer sealed (Ok status)
 Replies now words came region log still writer sealed (Err Read) = ⊥
@@ -80,14 +80,14 @@ Replies now words came region log still writer sealed (Err Memory) =
 
 -- how serving an arrival may end, with the pushed bundle if taken bundles are logged
 abbrev pub RepliesTo : Option (List ℕ) → ℕ → List ℕ → Arrival → Step → Change → Type 0 → Change
-    → Bool → Result Status Fault → Type 0
+    → Bool → Result StatusCode Fault → Type 0
 RepliesTo None now words came region log still writer sealed result =
     Replies now words came region log still writer sealed result
 RepliesTo (Some bytes) now words came region log still writer sealed result =
     TakesAndLogs bytes region.before region.after log still writer sealed result
 
 -- some arrival that the source may send, which isn't silence, is answered and the reply is written
-abbrev pub IsAnswered : Asked → Step → Change → Type 0 → Change → Bool → Result Status Fault
+abbrev pub IsAnswered : Asked → Step → Change → Type 0 → Change → Bool → Result StatusCode Fault
     → Type 0
 IsAnswered asked region log still writer sealed result =
     (came : Arrival) × Arrives asked.sync asked.known came × (came ≢ Silence)

@@ -8,7 +8,7 @@ use Rattle.std.specs.Prelude.{◌≡◌, ℕ, Bool, true, false, List, [], Optio
 use Rattle.std.specs.Prelude.{Result, Ok, Err}
 use Rattle.std.specs.Io.KnownBytes.{Appends, Keeps}
 use Rattle.tk_put.specs.Put.{AppendsFront}
-use Rattle.tk_message.specs.declared.status.Status.{Status}
+use Rattle.tk_message.specs.declared.status_code.StatusCode.{StatusCode}
 use Rattle.tk_edge.specs.Failures.{Rose}
 use Rattle.tk_edge.specs.declared.tell.Fault.{Fault}
 use Rattle.tk_edge.specs.declared.tell.Fault.TheVariants.{Read, Write, Log, Memory}
@@ -20,7 +20,7 @@ pub record Change : Type 0 where
 
 -- an answer: the reply's status and bytes, and the record of the fact made, if any
 pub record AnswerFields : Type 0 where
-  pub status : Status
+  pub status : StatusCode
   pub bytes : List ℕ
   pub logged : Option (List ℕ)
 
@@ -32,7 +32,7 @@ record_in (Some bytes) = bytes
 -- Success: the record and then the reply were written, and the edge isn't sealed. Log fault: the
 -- log has a beginning of the record, the client nothing, and the edge is sealed. Write fault: the
 -- log has the record, the client a beginning of the reply.
-abbrev pub IsTold : AnswerFields → Change → Change → Bool → Result Status Fault → Type 0
+abbrev pub IsTold : AnswerFields → Change → Change → Bool → Result StatusCode Fault → Type 0
 IsTold answer log writer sealed (Ok status) =
     (status ≡ answer.status) × Appends log.before log.after (record_in answer.logged)
     × Appends writer.before writer.after answer.bytes × (sealed ≡ false)
@@ -48,12 +48,12 @@ IsTold answer log writer sealed (Err Memory) = ⊥
 -- The log is called only for a record. Without a record the whole device is as it was, which
 -- `still` states, and no log fault is returned.
 pub record UsesLog (answer : AnswerFields) (still : Type 0)
-    (result : Result Status Fault) : Type 0 where
+    (result : Result StatusCode Fault) : Type 0 where
   pub unused : answer.logged ≡ None → still
   pub fault : result ≡ Err Log → IsSome answer.logged
 
 -- each fault is returned only if its device failed
-pub record IsFaultOfDevice (result : Result Status Fault)
+pub record IsFaultOfDevice (result : Result StatusCode Fault)
     (log_old log_new writer_old writer_new : ℕ) : Type 0 where
   pub log : result ≡ Err Log → Rose log_old log_new
   pub writer : result ≡ Err Write → Rose writer_old writer_new

@@ -3,7 +3,7 @@
 //! `Answer` is the reply in bytes with the record of its fact. `answer_arrival` makes it.
 
 use std::marker::Model;
-use tk_message::Status;
+use tk_message::StatusCode;
 
 /// A reply in bytes, with the record of the fact that was made for it.
 ///
@@ -11,7 +11,7 @@ use tk_message::Status;
 #[derive(Drop)]
 pub struct Answer {
     /// The reply's status.
-    pub status: Status,
+    pub status: StatusCode,
     /// The whole reply: head and body.
     pub bytes: Vec<u8>,
     /// The fact's record: the bundle of that fact alone. `None` if the request made no fact.
@@ -77,7 +77,7 @@ fn silent(alloc: Global) -> Answer
     ensures { result ≡ spec.silent }
 {
     Answer {
-        status: Status::BadRequest,
+        status: StatusCode::BadRequest,
         bytes: Vec::new(alloc),
         logged: None,
     }

@@ -32,7 +32,7 @@ pub enum Served {
     /// The stream ended before its first byte. Nothing was written.
     Nothing,
     /// The reply with this status was written.
-    Done(Status),
+    Done(StatusCode),
 }
 
 ghost use Rattle.std.specs.Prelude.{◌≡◌, ◌≢◌, ℕ, Bool, true, false, List, length, Option, Some};
@@ -62,7 +62,7 @@ use crate::refusal::Refusal;
 use crate::tell::{Fault, tell};
 use std::alloc::{AllocError, Global};
 use tk_handle::Moment;
-use tk_message::Status;
+use tk_message::StatusCode;
 
 impl Edge {
     /// Returns an edge that isn't sealed, over this region.
@@ -326,7 +326,7 @@ fn reply<L: Sink, W: Sink>(
     now: Moment,
     words: &[u64; 6],
     came: &Arrival,
-) -> Result<Status, Fault>
+) -> Result<StatusCode, Fault>
     requires { sealed.old ≡ false }
     ensures replies { RepliesTo (bundle_to_log log_taken came.now) now words.now came.now
         (record { before = region.old; after = region.new })
@@ -351,7 +351,7 @@ fn answer_and_tell<L: Sink, W: Sink>(
     now: Moment,
     words: &[u64; 6],
     came: &Arrival,
-) -> Result<Status, Fault>
+) -> Result<StatusCode, Fault>
     requires { sealed.old ≡ false }
     ensures replies { Replies now words.now came.now
         (record { before = region.old; after = region.new })

@@ -104,7 +104,7 @@ fn sized(posted: Posted, told: Numeral, kind: Field<'_>) -> Judged
         → result ≡ spec.sized posted told kinds }
 {
     match told {
-        Numeral::Malformed => Judged::Refused(Refusal::BadLength),
+        Numeral::Malformed => Judged::Refused(Refusal::MalformedLength),
         Numeral::Above => Judged::Refused(Refusal::TooLarge),
         Numeral::Within(n) => {
             if fits_type(posted, kind) {

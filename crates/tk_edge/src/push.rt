@@ -18,7 +18,7 @@ use crate::tell::{Fault, write_record};
 use std::alloc::Global;
 use tk_bundle::Bundle;
 use tk_format::ReadError;
-use tk_message::Status;
+use tk_message::StatusCode;
 use tk_region::{Region, TakeError};
 
 // Returns the bytes of a pushed bundle, if taken bundles are logged.
@@ -45,7 +45,7 @@ pub(crate) fn take_and_log<L: Sink, W: Sink>(
     log: &mut L,
     writer: &mut W,
     bytes: &[u8],
-) -> Result<Status, Fault>
+) -> Result<StatusCode, Fault>
     requires { sealed.old ≡ false }
     ensures replies { spec.TakesAndLogs bytes.now region.old region.new
         (record { before = L.holds log.old; after = L.holds log.new }) (log.new ≡ log.old)
@@ -128,7 +128,7 @@ fn tell_taken<W: Sink>(
     alloc: Global,
     taken: Result<u16, TakeError>,
     writer: &mut W,
-) -> Result<Status, Fault>
+) -> Result<StatusCode, Fault>
     ensures told { spec.TellsTaken taken
         (record { before = W.holds writer.old; after = W.holds writer.new }) result }
     ensures fault { result ≡ Err Fault.Write → Rose (W.failed writer.old) (W.failed writer.new) }

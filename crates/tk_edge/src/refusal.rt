@@ -23,7 +23,7 @@ pub enum Refusal {
     /// The body is in chunks, or has no length (RFC 9110, 15.5.12).
     LengthRequired,
     /// The length isn't one or more digits (RFC 9110, 8.6).
-    BadLength,
+    MalformedLength,
     /// The length is above the limit (RFC 9110, 15.5.14).
     TooLarge,
     /// The type of the body isn't a form's (RFC 6749, 4.1.3).

@@ -7,7 +7,7 @@ ghost use Rattle.tk_edge.specs.Rendering as spec;
 
 use itoa::Buffer;
 use std::alloc::{AllocError, Global};
-use tk_message::{Payload, Reply, Status};
+use tk_message::{Payload, Reply, StatusCode};
 use tk_put::{field_line, joined};
 
 // Renders the whole reply. `allowed` is the value of its `Allow`, if it has one.
@@ -72,21 +72,21 @@ fn where_any(body: &[u8], line: &'static [u8]) -> &'static [u8]
     if body.is_empty() { b"" } else { line }
 }
 
-fn reason_of(status: Status) -> &'static [u8]
+fn reason_of(status: StatusCode) -> &'static [u8]
     ensures { result.now ≡ spec.reason_of status }
 {
     match status {
-        Status::Ok => b"OK",
-        Status::Created => b"Created",
-        Status::Found => b"Found",
-        Status::BadRequest => b"Bad Request",
-        Status::Unauthorized => b"Unauthorized",
-        Status::NotFound => b"Not Found",
-        Status::MethodNotAllowed => b"Method Not Allowed",
-        Status::Conflict => b"Conflict",
-        Status::LengthRequired => b"Length Required",
-        Status::ContentTooLarge => b"Content Too Large",
-        Status::ServiceUnavailable => b"Service Unavailable",
+        StatusCode::Ok => b"OK",
+        StatusCode::Created => b"Created",
+        StatusCode::Found => b"Found",
+        StatusCode::BadRequest => b"Bad Request",
+        StatusCode::Unauthorized => b"Unauthorized",
+        StatusCode::NotFound => b"Not Found",
+        StatusCode::MethodNotAllowed => b"Method Not Allowed",
+        StatusCode::Conflict => b"Conflict",
+        StatusCode::LengthRequired => b"Length Required",
+        StatusCode::ContentTooLarge => b"Content Too Large",
+        StatusCode::ServiceUnavailable => b"Service Unavailable",
     }
 }
 

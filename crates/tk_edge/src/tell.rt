@@ -8,7 +8,7 @@ ghost use Rattle.tk_edge.specs.Told.{IsFaultOfDevice, IsTold, UsesLog};
 use crate::answer::Answer;
 use crate::device::{Failed, Sink};
 use crate::put::put_whole;
-use tk_message::Status;
+use tk_message::StatusCode;
 
 /// Why a connection wasn't served.
 #[derive(Clone, Copy, PartialEq, Eq)]
@@ -32,7 +32,7 @@ pub(crate) fn tell<W: Sink, L: Sink>(
     sealed: &mut bool,
     log: &mut L,
     writer: &mut W,
-) -> Result<Status, Fault>
+) -> Result<StatusCode, Fault>
     requires { sealed.old ≡ false }
     ensures told { IsTold answer.now (record { before = L.holds log.old; after = L.holds log.new })
         (record { before = W.holds writer.old; after = W.holds writer.new }) sealed.new result }

@@ -23,15 +23,15 @@ is_challenge (Some challenge) = is_verifier challenge.text
 
 -- neither token expires before the start
 abbrev pub ends_after : ℕ → MintedToken → MintedToken → Bool
-ends_after start access refresh = nat_le start access.end && nat_le start refresh.end
+ends_after start access refresh = nat_le start access.expiry && nat_le start refresh.expiry
 
 -- the greatest number of generations of a family: how often its refresh token is rotated (own)
-abbrev pub most_generations : ℕ
-most_generations = 10000
+abbrev pub max_generations : ℕ
+max_generations = 10000
 
--- a generation: 1 to `most_generations`
+-- a generation: 1 to `max_generations`
 abbrev pub is_generation : ℕ → Bool
-is_generation n = nat_le 1 n && nat_le n most_generations
+is_generation n = nat_le 1 n && nat_le n max_generations
 
 -- a kind of token that can be revoked: access or refresh, not a code (RFC 7009, 2)
 abbrev pub is_revocable : Kind → Bool

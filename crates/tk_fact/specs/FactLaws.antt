@@ -8,14 +8,14 @@ use Rattle.tk_format.specs.KindLaws.{kind_exact, no_kind_exact, its, not_its}
 use Rattle.tk_handle.proofs.FormatLaws.{dot_field_exact, moment_exact, token_exact}
 use Rattle.tk_fact.specs.declared.body.Body.TheVariants as bodies
 use Rattle.tk_fact.specs.Kinds as fields
-use Rattle.tk_fact.specs.FactBytes.{kinds, body, passes, fact, most_bytes, framed}
-use Rattle.tk_fact.specs.FieldLaws.{digest_exact, sort_exact, scope_exact, subject_exact, uri_exact}
+use Rattle.tk_fact.specs.FactBytes.{kinds, body, passes, fact, max_bytes, framed}
+use Rattle.tk_fact.specs.FieldLaws.{digest_exact, client_kind_exact, scope_exact, subject_exact, uri_exact}
 use Rattle.tk_fact.specs.FieldLaws.{redirects_exact, flag_exact, challenge_exact, minted_exact}
 
 -- the law of the fields of ClientAdded
 client_added_exact : IsExact fields.client_added
 client_added_exact =
-    shaped_exact _ _ _ (both_exact _ _ sort_exact (both_exact _ _ scope_exact redirects_exact))
+    shaped_exact _ _ _ (both_exact _ _ client_kind_exact (both_exact _ _ scope_exact redirects_exact))
     (λ _. refl) (λ _. refl)
 
 -- the law of the fields of ClientRetired
@@ -114,4 +114,4 @@ fact_exact = only_exact passes _ (both_exact _ _ dot_field_exact body_exact)
 
 -- the law of the format of framed facts
 pub framed_exact : IsExact framed
-framed_exact = sized_exact most_bytes fact fact_exact
+framed_exact = sized_exact max_bytes fact fact_exact

@@ -16,15 +16,15 @@ use Rattle.tk_format.specs.Laws.{choice_exact, via_takes, via_again, case_takes,
 use Rattle.tk_format.specs.KindLaws.{kind_exact, no_kind_exact, its, not_its}
 use Rattle.tk_handle.proofs.FormatLaws.{moment_exact}
 use Rattle.tk_scope.specs.Scope.{scope_of}
-use Rattle.tk_match.specs.Redirects.{most_uri_bytes, is_uri, is_uri_byte, most_uris, redirects_of}
+use Rattle.tk_match.specs.Redirects.{max_uri_bytes, is_uri, is_uri_byte, max_uris, redirects_of}
 use Rattle.tk_match.specs.Redirects.{redirects_refusal}
 use Rattle.tk_match.specs.declared.redirects.RedirectError.{RedirectError}
 use Rattle.tk_match.specs.declared.challenge.ChallengeError.{ChallengeError}
-use Rattle.tk_match.specs.Challenge.{ChallengeFields, challenge_of, fewest_verifier_bytes}
-use Rattle.tk_match.specs.Challenge.{most_verifier_bytes, is_verifier, is_unreserved}
-use Rattle.tk_fact.specs.declared.sort.Sort.TheVariants.{Public, Confidential, Resource}
-use Rattle.tk_fact.specs.Subject.{is_visible, most_subject_bytes, is_subject}
-use Rattle.tk_fact.specs.Fields.{digest_field, sorts, sort_field, printed_scope_of, scope_field}
+use Rattle.tk_match.specs.Challenge.{ChallengeFields, challenge_of, min_verifier_bytes}
+use Rattle.tk_match.specs.Challenge.{max_verifier_bytes, is_verifier, is_unreserved}
+use Rattle.tk_fact.specs.declared.client_kind.ClientKind.TheVariants.{Public, Confidential, Resource}
+use Rattle.tk_fact.specs.Subject.{is_visible, max_subject_bytes, is_subject}
+use Rattle.tk_fact.specs.Fields.{digest_field, client_kinds, client_kind_field, printed_scope_of, scope_field}
 use Rattle.tk_fact.specs.Fields.{subject_field, uri_field, redirects_field, flag_code, flag_of}
 use Rattle.tk_fact.specs.Fields.{flag_field, challenge_tag, challenge_bytes, challenge_rest}
 use Rattle.tk_fact.specs.Fields.{ChallengeFits, challenge_with, challenge_cases, challenge_field}
@@ -77,9 +77,9 @@ digest_exact = bytes_exact 32
 -- ---- client kinds
 
 -- the law of the field of a client kind
-pub sort_exact : IsExact sort_field
-unfolding sorts
-sort_exact =
+pub client_kind_exact : IsExact client_kind_field
+unfolding client_kinds
+client_kind_exact =
     kind_exact {into = λ _. Public} _ _ nothing_exact (elim [ Public ↦ its _ tt | b ↦ not_its _ b ])
     (λ a. refl) (λ a h. h) (λ bytes. refl)
     and_then kind_exact _ _ digest_exact
@@ -108,13 +108,13 @@ scope_exact = partly_exact printed_scope_of (λ s. s) text text_exact printed_ba
 pub subject_exact : IsExact subject_field
 subject_exact = only_exact is_subject text text_exact
 
--- a subject has at most `most_subject_bytes`
-pub subject_short : (t : List ℕ) → is_subject t ≡ true → length t ≤ most_subject_bytes
+-- a subject has at most `max_subject_bytes`
+pub subject_short : (t : List ℕ) → is_subject t ≡ true → length t ≤ max_subject_bytes
 subject_short t h =
-    let outer = both_true (nat_le 1 (length t) && nat_le (length t) most_subject_bytes)
+    let outer = both_true (nat_le 1 (length t) && nat_le (length t) max_subject_bytes)
     (list_all is_visible t) h in
-    let inner = both_true (nat_le 1 (length t)) (nat_le (length t) most_subject_bytes) outer.0 in
-    leb-true (length t) most_subject_bytes inner.1
+    let inner = both_true (nat_le 1 (length t)) (nat_le (length t) max_subject_bytes) outer.0 in
+    leb-true (length t) max_subject_bytes inner.1
 
 -- a subject has a spelling
 pub subject_fits : (t : List ℕ) → is_subject t ≡ true → subject_field.Fits t
@@ -122,15 +122,15 @@ subject_fits t h = (omega (arith, subject_short t h), h)
 
 -- ---- redirection URIs
 
--- a list that breaks no rule has at most `most_uris` elements, all of them URIs
+-- a list that breaks no rule has at most `max_uris` elements, all of them URIs
 pub kept_list : (uris : List (List ℕ)) → redirects_refusal uris ≡ None
-    → (nat_lt most_uris (length uris) ≡ false) × (list_all is_uri uris ≡ true)
-kept_list uris h = by_rules (length uris == 0) (nat_lt most_uris (length uris))
+    → (nat_lt max_uris (length uris) ≡ false) × (list_all is_uri uris ≡ true)
+kept_list uris h = by_rules (length uris == 0) (nat_lt max_uris (length uris))
     (list_all is_uri uris) h
   where
     by_rules : (empty many all : Bool)
         → cond empty (Some RedirectError.Empty)
-        (cond many (Some RedirectError.TooMany) (cond all None (Some RedirectError.Bad))) ≡ None
+        (cond many (Some RedirectError.TooMany) (cond all None (Some RedirectError.Malformed))) ≡ None
         → (many ≡ false) × (all ≡ true)
     by_rules true many all h = absurd cc
     by_rules false true all h = absurd cc
@@ -154,13 +154,13 @@ redirects_keep uris h =
     none_is (redirects_refusal uris)
     (chosen_some (is_none (redirects_refusal uris)) (Some uris) uris h).0
 
--- a URI has at most `most_uri_bytes`
-pub uri_short : (u : List ℕ) → is_uri u ≡ true → length u ≤ most_uri_bytes
+-- a URI has at most `max_uri_bytes`
+pub uri_short : (u : List ℕ) → is_uri u ≡ true → length u ≤ max_uri_bytes
 uri_short u h =
-    let outer = both_true (nat_le 1 (length u) && nat_le (length u) most_uri_bytes)
+    let outer = both_true (nat_le 1 (length u) && nat_le (length u) max_uri_bytes)
     (list_all is_uri_byte u) h in
-    let inner = both_true (nat_le 1 (length u)) (nat_le (length u) most_uri_bytes) outer.0 in
-    leb-true (length u) most_uri_bytes inner.1
+    let inner = both_true (nat_le 1 (length u)) (nat_le (length u) max_uri_bytes) outer.0 in
+    leb-true (length u) max_uri_bytes inner.1
 
 -- the law of the field of a URI
 pub uri_exact : IsExact uri_field
@@ -176,9 +176,9 @@ uris_fit [] h = tt
 uris_fit (u ∷ us) h = let b =
     both_true (is_uri u) (list_all is_uri us) h in (omega (arith, uri_short u b.0), uris_fit us b.1)
 
--- a list that is not too long has at most `most_uris` elements
-pub few : (n : ℕ) → nat_lt most_uris n ≡ false → n ≤ most_uris
-few n h = ltb-false most_uris n h
+-- a list that is not too long has at most `max_uris` elements
+pub few : (n : ℕ) → nat_lt max_uris n ≡ false → n ≤ max_uris
+few n h = ltb-false max_uris n h
 
 -- a list that breaks no rule has a spelling
 pub redirects_fit : (uris : List (List ℕ)) → redirects_refusal uris ≡ None
@@ -252,15 +252,15 @@ pub challenge_exact : IsExact challenge_field
 challenge_exact = choice_exact challenge_tag challenge_rest ChallengeFits challenge_cases
     (record { takes = challenge_takes; again = challenge_again })
 
--- a verifier has at most `most_verifier_bytes`
-pub verifier_short : (t : List ℕ) → is_verifier t ≡ true → length t ≤ most_verifier_bytes
+-- a verifier has at most `max_verifier_bytes`
+pub verifier_short : (t : List ℕ) → is_verifier t ≡ true → length t ≤ max_verifier_bytes
 verifier_short t h =
     let outer = both_true
-    (nat_le fewest_verifier_bytes (length t) && nat_le (length t) most_verifier_bytes)
+    (nat_le min_verifier_bytes (length t) && nat_le (length t) max_verifier_bytes)
     (list_all is_unreserved t) h in
-    let inner = both_true (nat_le fewest_verifier_bytes (length t))
-    (nat_le (length t) most_verifier_bytes) outer.0 in
-    leb-true (length t) most_verifier_bytes inner.1
+    let inner = both_true (nat_le min_verifier_bytes (length t))
+    (nat_le (length t) max_verifier_bytes) outer.0 in
+    leb-true (length t) max_verifier_bytes inner.1
 
 -- the text of a challenge has a spelling
 pub challenge_fits : (c : ChallengeFields) → is_verifier c.text ≡ true → challenge_bytes.Fits c.text
@@ -269,7 +269,7 @@ challenge_fits c h = (omega (arith, verifier_short c.text h), h)
 -- for `plain_challenge` and `s256_challenge`: a known method gives a challenge exactly if the text
 -- has the grammar
 by_text : (is_s256 verifier : Bool) (t : List ℕ)
-    → cond (is_none (cond verifier None (Some ChallengeError.Grammar)))
+    → cond (is_none (cond verifier None (Some ChallengeError.Malformed)))
     (challenge_with is_s256 t) None ≡ cond verifier (challenge_with is_s256 t) None
 by_text is_s256 true t = refl
 by_text is_s256 false t = refl

@@ -1,6 +1,6 @@
 -- The fields of facts in bytes (own).
 --   digest_field      a SHA-256 digest
---   sort_field        a client kind, with the digest of the client's secret
+--   client_kind_field        a client kind, with the digest of the client's secret
 --   scope_field       a scope, by its printed form
 --   subject_field     a subject, by its name
 --   uri_field         a redirection URI
@@ -18,8 +18,8 @@ use Rattle.tk_scope.specs.Scope.{scope_of}
 use Rattle.tk_match.specs.Redirects.{is_uri, redirects_of}
 use Rattle.tk_match.specs.Challenge.{ChallengeFields, is_verifier}
 use Rattle.tk_handle.specs.Moment.{moment}
-use Rattle.tk_fact.specs.declared.sort.Sort.{Sort}
-use Rattle.tk_fact.specs.declared.sort.Sort.TheVariants.{Public, Confidential, Resource}
+use Rattle.tk_fact.specs.declared.client_kind.ClientKind.{ClientKind}
+use Rattle.tk_fact.specs.declared.client_kind.ClientKind.TheVariants.{Public, Confidential, Resource}
 use Rattle.tk_fact.specs.declared.minted_token.MintedToken.{MintedToken}
 use Rattle.tk_fact.specs.Subject.{is_subject}
 
@@ -31,8 +31,8 @@ digest_field = bytes_of 32
 
 -- the client kinds: the number of each, its constructor, its digest, and the format of that; facts
 -- that were written keep these numbers, so they never change
-unfoldable pub sorts : Kinds Sort
-sorts =
+unfoldable pub client_kinds : Kinds ClientKind
+client_kinds =
     kind 0 (λ _. Public) (elim [ Public ↦ Some tt | _ ↦ None ]) nothing
     and_then kind 1 Confidential
     (elim [ Confidential digest ↦ Some digest | _ ↦ None ]) digest_field
@@ -40,8 +40,8 @@ sorts =
     and_then no_kind
 
 -- a client kind: a byte, and behind it the digest of the secret, except for a public client
-abbrev pub sort_field : Format Sort
-sort_field = one_of sorts
+abbrev pub client_kind_field : Format ClientKind
+client_kind_field = one_of client_kinds
 
 -- ---- scopes, subjects and redirection URIs
 
@@ -124,6 +124,6 @@ challenge_field = choice challenge_tag challenge_rest ChallengeFits challenge_ca
 -- a minted token: its digest, its expiry, its scope
 abbrev pub minted_field : Format MintedToken
 minted_field = shaped
-    (λ (digest, (end, scope)). record { digest = digest; end = end; scope = scope })
-    (λ m. (m.digest, (m.end, m.scope)))
+    (λ (digest, (expiry, scope)). record { digest = digest; expiry = expiry; scope = scope })
+    (λ m. (m.digest, (m.expiry, m.scope)))
     (digest_field ⊗ (moment ⊗ scope_field))

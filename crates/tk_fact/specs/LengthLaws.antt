@@ -13,23 +13,23 @@ use borrow.Author.Tests.{le-leb}
 use Rattle.tk_format.specs.Format.{text, number_spelling}
 use Rattle.tk_format.specs.Exact.{bind_some}
 use Rattle.tk_format.specs.Spellings.{number_length, both_short, text_short}
-use Rattle.tk_scope.specs.Scope.{greatest_length, is_token, most_tokens, scope_of, scope_text}
+use Rattle.tk_scope.specs.Scope.{greatest_length, is_token, max_tokens, scope_of, scope_text}
 use Rattle.tk_scope.specs.Scope.{tokens_of}
 use Rattle.tk_scope.specs.declared.error.ScopeError.{ScopeError}
-use Rattle.tk_match.specs.Redirects.{most_uri_bytes, is_uri}
-use Rattle.tk_match.specs.Challenge.{ChallengeFields, most_verifier_bytes}
+use Rattle.tk_match.specs.Redirects.{max_uri_bytes, is_uri}
+use Rattle.tk_match.specs.Challenge.{ChallengeFields, max_verifier_bytes}
 use Rattle.tk_handle.specs.declared.dot.Dot.{Dot}
 use Rattle.tk_handle.specs.DotBytes.{dot_field}
 use Rattle.tk_handle.specs.Moment.{moment}
-use Rattle.tk_fact.specs.declared.sort.Sort.{Sort}
-use Rattle.tk_fact.specs.declared.sort.Sort.TheVariants.{Public, Confidential, Resource}
+use Rattle.tk_fact.specs.declared.client_kind.ClientKind.{ClientKind}
+use Rattle.tk_fact.specs.declared.client_kind.ClientKind.TheVariants.{Public, Confidential, Resource}
 use Rattle.tk_fact.specs.declared.minted_token.MintedToken.{MintedToken}
 use Rattle.tk_fact.specs.declared.body.Body.{Body}
 use Rattle.tk_fact.specs.declared.body.Body.TheVariants as bodies
-use Rattle.tk_fact.specs.Subject.{most_subject_bytes}
-use Rattle.tk_fact.specs.Fields.{sorts, sort_field, scope_field, redirects_field, ChallengeFits}
+use Rattle.tk_fact.specs.Subject.{max_subject_bytes}
+use Rattle.tk_fact.specs.Fields.{client_kinds, client_kind_field, scope_field, redirects_field, ChallengeFits}
 use Rattle.tk_fact.specs.Fields.{challenge_field, minted_field}
-use Rattle.tk_fact.specs.FactBytes.{kinds, body, fact, most_bytes, framed}
+use Rattle.tk_fact.specs.FactBytes.{kinds, body, fact, max_bytes, framed}
 use Rattle.tk_fact.specs.FieldLaws.{both_true, kept_list, few, subject_short, uri_short}
 use Rattle.tk_fact.specs.FieldLaws.{redirects_keep, verifier_short}
 
@@ -47,7 +47,7 @@ moment_short n = omega (arith, number_length w64 n)
 -- for `scope_within`: a text that breaks no rule of a scope is not too long
 scope_by : (long grammar many : Bool) (s t : List ℕ)
     → cond (is_some (cond long (Some ScopeError.TooLong)
-    (cond grammar (Some ScopeError.Grammar) (cond many (Some ScopeError.TooMany) None)))) None
+    (cond grammar (Some ScopeError.Malformed) (cond many (Some ScopeError.TooMany) None)))) None
     (Some s) ≡ Some t → long ≡ false
 scope_by true grammar many s t h = absurd cc
 scope_by false grammar many s t h = refl
@@ -57,7 +57,7 @@ scope_within : (t s : List ℕ) → scope_of t ≡ Some s → length t ≤ great
 scope_within t s h =
     ltb-false greatest_length (length t)
     (scope_by (nat_lt greatest_length (length t)) (not (list_all is_token (tokens_of t)))
-    (nat_lt most_tokens (length (tokens_of t))) (scope_text (tokens_of t)) s h)
+    (nat_lt max_tokens (length (tokens_of t))) (scope_text (tokens_of t)) s h)
 
 -- the field of a scope has at most 1,026 bytes
 scope_short : (t : List ℕ) → scope_field.Fits t → length (text.spell t) ≤ 1026
@@ -75,7 +75,7 @@ uris_short (u ∷ us) h =
       arith,
       length-append (text.spell u) (flat_map text.spell us),
       ap length (flat_map-cons text.spell u us),
-      text_short u most_uri_bytes (uri_short u b.0),
+      text_short u max_uri_bytes (uri_short u b.0),
       uris_short us b.1,
     )
 
@@ -89,8 +89,8 @@ redirects_short us fits =
 -- the field of a minted token has at most 1,066 bytes
 minted_short : (m : MintedToken) → minted_field.Fits m → length (minted_field.spell m) ≤ 1066
 minted_short m fits =
-    both_short m.digest (moment.spell m.end ++ text.spell m.scope) 32 1034 (omega (arith, fits.0))
-    (both_short (moment.spell m.end) (text.spell m.scope) 8 1026 (moment_short m.end)
+    both_short m.digest (moment.spell m.expiry ++ text.spell m.scope) 32 1034 (omega (arith, fits.0))
+    (both_short (moment.spell m.expiry) (text.spell m.scope) 8 1026 (moment_short m.expiry)
     (scope_short m.scope fits.1.1))
 
 -- the field of an optional challenge has at most 131 bytes
@@ -98,14 +98,14 @@ challenge_short : (c : Option ChallengeFields) → ChallengeFits c
     → length (challenge_field.spell c) ≤ 131
 challenge_short None fits = omega arith
 challenge_short (Some c) fits =
-    omega (arith, text_short c.text most_verifier_bytes (verifier_short c.text fits.1))
+    omega (arith, text_short c.text max_verifier_bytes (verifier_short c.text fits.1))
 
 -- the field of a client kind has at most 33 bytes
-sort_short : (s : Sort) → sort_field.Fits s → length (sort_field.spell s) ≤ 33
-unfolding sorts
-sort_short Public fits = omega arith
-sort_short (Confidential d) fits = omega (arith, fits)
-sort_short (Resource d) fits = omega (arith, fits)
+client_kind_short : (s : ClientKind) → client_kind_field.Fits s → length (client_kind_field.spell s) ≤ 33
+unfolding client_kinds
+client_kind_short Public fits = omega arith
+client_kind_short (Confidential d) fits = omega (arith, fits)
+client_kind_short (Resource d) fits = omega (arith, fits)
 
 -- ---- lengths of bodies and facts
 
@@ -115,7 +115,7 @@ unfolding kinds
 body_short (bodies.ClientAdded f) fits =
     simp length-append (omega (
       arith,
-      sort_short f.sort fits.0,
+      client_kind_short f.client_kind fits.0,
       scope_short f.scope fits.1.0,
       simp length-append at (redirects_short f.redirects fits.1.1),
     ))
@@ -125,7 +125,7 @@ body_short (bodies.ConsentGiven f) fits =
     simp length-append (omega (
       arith,
       simp length-append at (dot_short f.client),
-      text_short f.subject most_subject_bytes (subject_short f.subject fits.1.0.1),
+      text_short f.subject max_subject_bytes (subject_short f.subject fits.1.0.1),
       scope_short f.scope fits.1.1,
     ))
 body_short (bodies.ConsentWithdrawn f) fits =
@@ -139,9 +139,9 @@ body_short (bodies.CodeIssued f) fits =
       moment_short f.start,
       moment_short f.expiry,
       moment_short f.family_end,
-      text_short f.subject most_subject_bytes (subject_short f.subject fits.1.1.0.0.1),
+      text_short f.subject max_subject_bytes (subject_short f.subject fits.1.1.0.0.1),
       scope_short f.scope fits.1.1.0.1,
-      text_short f.uri most_uri_bytes (uri_short f.uri fits.1.1.1.0.1),
+      text_short f.uri max_uri_bytes (uri_short f.uri fits.1.1.1.0.1),
       challenge_short f.challenge fits.1.1.1.1.1,
     ))
 body_short (bodies.CodeRedeemed f) fits =
@@ -173,12 +173,12 @@ body_short (bodies.ReuseSeen f) fits =
 body_short (bodies.SubjectOut f) fits =
     simp length-append (omega (
       arith,
-      text_short f.subject most_subject_bytes (subject_short f.subject fits.0.1),
+      text_short f.subject max_subject_bytes (subject_short f.subject fits.0.1),
       moment_short f.moment,
     ))
 
--- a fact has at most `most_bytes`
-pub fact_short : (f : Dot × Body) → fact.Fits f → length (fact.spell f) ≤ most_bytes
+-- a fact has at most `max_bytes`
+pub fact_short : (f : Dot × Body) → fact.Fits f → length (fact.spell f) ≤ max_bytes
 fact_short f fits = omega (
   arith,
   length-append (dot_field.spell f.0) (body.spell f.1),
@@ -190,4 +190,4 @@ fact_short f fits = omega (
 pub framed_fits : (f : Dot × Body) → fact.Fits f → framed.Fits f
 framed_fits f fits =
     let short = fact_short f fits in
-    (fits, (omega (arith, short), le-leb (length (fact.spell f)) most_bytes short))
+    (fits, (omega (arith, short), le-leb (length (fact.spell f)) max_bytes short))

@@ -30,7 +30,7 @@ shown_minted m = record {
 
 -- an access or refresh token with the given start
 abbrev pub minted_at : ℕ → MintedToken → MintedFields
-minted_at start m = record { digest = m.digest; start = start; expiry = m.end; scope = m.scope }
+minted_at start m = record { digest = m.digest; start = start; expiry = m.expiry; scope = m.scope }
 
 -- the token of a kind that a body mints: CodeIssued mints a code, CodeRedeemed and RefreshRotated
 -- each an access token and a refresh token

@@ -56,7 +56,7 @@ fn read_with(
     match Challenge::read(alloc, method, bytes) {
         Ok(challenge) => Ok(Some(challenge)),
         Err(ChallengeError::Method) => Err(ReadError::Malformed),
-        Err(ChallengeError::Grammar) => Err(ReadError::Malformed),
+        Err(ChallengeError::Malformed) => Err(ReadError::Malformed),
         Err(ChallengeError::Memory) => Err(ReadError::Memory),
     }
 }

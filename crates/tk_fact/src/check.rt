@@ -30,7 +30,7 @@ pub enum FactError {
 }
 
 /// The greatest number of generations of a family, the last of which isn't rotated (own).
-pub const MOST_GENERATIONS: u16 = 10_000;
+pub const MAX_GENERATIONS: u16 = 10_000;
 
 // Returns the first rule that a body breaks, if any.
 pub(crate) fn check_body(body: &Body) -> Result<(), FactError>
@@ -53,7 +53,7 @@ pub(crate) fn check_body(body: &Body) -> Result<(), FactError>
         }
         Body::CodeRedeemed(fact) => in_range(end_after(fact.start, &fact.access, &fact.refresh)),
         Body::RefreshRotated(fact) => in_range(
-            (1..=MOST_GENERATIONS).contains(&fact.generation)
+            (1..=MAX_GENERATIONS).contains(&fact.generation)
                 && end_after(fact.start, &fact.access, &fact.refresh),
         ),
         Body::TokenRevoked(fact) => in_range(is_revocable(fact.token.kind)),
@@ -82,7 +82,7 @@ fn in_range(ranges: bool) -> Result<(), FactError>
 fn end_after(start: Moment, access: &MintedToken, refresh: &MintedToken) -> bool
     ensures { result ≡ ends_after start access.now refresh.now }
 {
-    start.seconds() <= access.end.seconds() && start.seconds() <= refresh.end.seconds()
+    start.seconds() <= access.expiry.seconds() && start.seconds() <= refresh.expiry.seconds()
 }
 
 // Gives a proof the fact that a list of redirection URIs keeps the limits.

@@ -35,12 +35,12 @@ use tk_format::{FromBytes, ReadError, Reader, Spelled, Writer, read_all};
 
 impl Fact {
     ghost use Rattle.tk_fact.specs.Check.{refusal_of};
-    ghost use Rattle.tk_fact.specs.FactBytes.{fact, fact_bytes, framed, most_bytes};
+    ghost use Rattle.tk_fact.specs.FactBytes.{fact, fact_bytes, framed, max_bytes};
     ghost use Rattle.tk_handle.specs.declared.dot.Dot.{Dot as AnyDot};
     ghost use Rattle.tk_fact.specs.declared.body.Body.{Body as AnyBody};
 
     /// The greatest length of a fact in bytes. This limit is our own.
-    pub const MOST_BYTES: usize = 8_192;
+    pub const MAX_BYTES: usize = 8_192;
 
     /// Returns the first rule that the fact breaks, `Limit` before `Range`. Takes no memory.
     pub fn check(&self) -> Result<(), FactError>
@@ -103,7 +103,7 @@ impl Fact {
     pub fn write(&self, alloc: Global) -> Result<Vec<u8>, AllocError>
         requires { refusal_of self.now.1 ≡ None }
         ensures spelled { IfOk result (λ bytes. bytes.items ≡ fact_bytes self.now) }
-        ensures short { IfOk result (λ bytes. length bytes.items ≤ most_bytes) }
+        ensures short { IfOk result (λ bytes. length bytes.items ≤ max_bytes) }
     {
         self.known();
         let mut writer = Writer::new(alloc);
@@ -167,7 +167,7 @@ impl FromBytes for Fact {
         let Some(bytes) = reader.take_text() else {
             return Err(ReadError::Malformed);
         };
-        if bytes.len() > Fact::MOST_BYTES {
+        if bytes.len() > Fact::MAX_BYTES {
             return Err(ReadError::Malformed);
         }
         Fact::read(alloc, bytes)

@@ -17,7 +17,7 @@
 //! `known` do nothing at run time: they give a proof the fact that a value has a spelling.
 //! Contracts see a value as the plain value that it stands for.
 //!
-//! In reading order: `Subject`, `Sort`, `MintedToken`, the ten kinds from `ClientAdded` to
+//! In reading order: `Subject`, `ClientKind`, `MintedToken`, the ten kinds from `ClientAdded` to
 //! `SubjectOut`, `Body`, `Fact`, `Minted`. The definitions are in `specs/`: `Subject` for the name
 //! of a subject, `Check` for the rules, `Fields`, `Kinds` and `FactBytes` for the bytes, `Tokens`
 //! for the tokens, `Keeping` for the token for which a fact is kept.
@@ -27,6 +27,7 @@ mod body;
 mod challenge_field;
 mod check;
 mod client_added;
+mod client_kind;
 mod client_retired;
 mod code_issued;
 mod code_redeemed;
@@ -41,7 +42,6 @@ mod redirects_field;
 mod refresh_rotated;
 mod reuse_seen;
 mod scope_field;
-mod sort;
 mod subject;
 mod subject_out;
 mod token_revoked;
@@ -49,8 +49,9 @@ mod tokens;
 mod uri_field;
 
 pub use body::Body;
-pub use check::{FactError, MOST_GENERATIONS};
+pub use check::{FactError, MAX_GENERATIONS};
 pub use client_added::ClientAdded;
+pub use client_kind::ClientKind;
 pub use client_retired::ClientRetired;
 pub use code_issued::CodeIssued;
 pub use code_redeemed::CodeRedeemed;
@@ -61,7 +62,6 @@ pub use keeping::passing_is_kept;
 pub use minted_token::MintedToken;
 pub use refresh_rotated::RefreshRotated;
 pub use reuse_seen::ReuseSeen;
-pub use sort::Sort;
 pub use subject::{Subject, SubjectError};
 pub use subject_out::SubjectOut;
 pub use token_revoked::TokenRevoked;

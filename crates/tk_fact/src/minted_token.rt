@@ -17,7 +17,7 @@ pub struct MintedToken {
     /// SHA-256 of the token's handle.
     pub digest: [u8; 32],
     /// The token's expiry. From this moment on the token is past.
-    pub end: Moment,
+    pub expiry: Moment,
     /// The scope that the token grants, 1 to 32 scope-tokens (RFC 6749, 3.3).
     pub scope: Scope,
 }
@@ -31,7 +31,7 @@ impl MintedToken {
         };
         Ok(MintedToken {
             digest: self.digest,
-            end: self.end,
+            expiry: self.expiry,
             scope,
         })
     }
@@ -40,14 +40,14 @@ impl MintedToken {
     pub(crate) fn same(&self, other: &MintedToken) -> bool
         ensures { IsTrue result ↔ (self.now ≡ other.now) }
     {
-        self.digest == other.digest && self.end == other.end && self.scope.same(&other.scope)
+        self.digest == other.digest && self.expiry == other.expiry && self.scope.same(&other.scope)
     }
 
     pub(crate) fn known(&self)
         ensures { minted_field.Fits self.now }
     {
         let _digest = self.digest;
-        self.end.known();
+        self.expiry.known();
         known_scope(&self.scope);
     }
 
@@ -57,11 +57,15 @@ impl MintedToken {
         let Some(digest) = read_digest(reader) else {
             return Err(ReadError::Malformed);
         };
-        let Some(end) = Moment::read(reader) else {
+        let Some(expiry) = Moment::read(reader) else {
             return Err(ReadError::Malformed);
         };
         match read_scope(alloc, reader) {
-            Ok(scope) => Ok(MintedToken { digest, end, scope }),
+            Ok(scope) => Ok(MintedToken {
+                digest,
+                expiry,
+                scope,
+            }),
             Err(error) => Err(error),
         }
     }
@@ -70,7 +74,7 @@ impl MintedToken {
         ensures { OnOk result (writer.new ≡ writer.old ++ minted_field.spell self.now) }
     {
         writer.put_bytes(&self.digest)?;
-        self.end.write(writer)?;
+        self.expiry.write(writer)?;
         write_scope(&self.scope, writer)
     }
 }

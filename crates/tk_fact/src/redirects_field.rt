@@ -30,7 +30,7 @@ pub(crate) fn read_redirects(alloc: Global, reader: &mut Reader<'_>) -> Result<R
         Ok(redirects) => Ok(redirects),
         Err(RedirectError::Empty) => Err(ReadError::Malformed),
         Err(RedirectError::TooMany) => Err(ReadError::Malformed),
-        Err(RedirectError::Bad) => Err(ReadError::Malformed),
+        Err(RedirectError::Malformed) => Err(ReadError::Malformed),
         Err(RedirectError::Memory) => Err(ReadError::Memory),
     }
 }

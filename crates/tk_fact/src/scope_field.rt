@@ -30,7 +30,7 @@ pub(crate) fn read_scope(alloc: Global, reader: &mut Reader<'_>) -> Result<Scope
             }
         }
         Err(ScopeError::TooLong) => Err(ReadError::Malformed),
-        Err(ScopeError::Grammar) => Err(ReadError::Malformed),
+        Err(ScopeError::Malformed) => Err(ReadError::Malformed),
         Err(ScopeError::TooMany) => Err(ReadError::Malformed),
         Err(ScopeError::Memory) => Err(ReadError::Memory),
     }

@@ -51,7 +51,7 @@ use std::alloc::{AllocError, Global};
 use tk_format::{ReadError, Reader, Writer};
 
 /// The greatest length of a subject in bytes. This limit is our own.
-const MOST_BYTES: usize = 128;
+const MAX_BYTES: usize = 128;
 
 impl Subject {
     /// Reads the name of a subject. Returns `Malformed` if the bytes are no such name, and `Memory`
@@ -133,7 +133,7 @@ impl Subject {
 fn is_subject(text: &[u8]) -> bool
     ensures { result ≡ is_subject text.now }
 {
-    (1..=MOST_BYTES).contains(&text.len()) && is_all_visible(text)
+    (1..=MAX_BYTES).contains(&text.len()) && is_all_visible(text)
 }
 
 fn is_all_visible(text: &[u8]) -> bool

@@ -30,7 +30,7 @@ fn minted_at(start: Moment, token: &MintedToken) -> Minted<'_>
     Minted {
         digest: &token.digest,
         start,
-        expiry: token.end,
+        expiry: token.expiry,
         scope: &token.scope,
     }
 }

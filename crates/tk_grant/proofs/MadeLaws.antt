@@ -15,7 +15,7 @@ use Rattle.tk_handle.specs.declared.kind.Kind.{Kind}
 use Rattle.tk_handle.specs.declared.kind.Kind.TheVariants as kind
 use Rattle.tk_handle.specs.declared.token_id.TokenId.{TokenId}
 use Rattle.tk_family.specs.Families.{IsUnder}
-use Rattle.tk_fact.specs.Check.{most_generations}
+use Rattle.tk_fact.specs.Check.{max_generations}
 use Rattle.tk_store.specs.FactSet.{FactSet}
 use Rattle.tk_store.specs.Slots.{is_skipped}
 use Rattle.tk_store.specs.StoreFields.{StoreFields, held_facts}
@@ -176,7 +176,7 @@ module _ (F : FactSet) where
   rotates params (Shut why) k o = tt
   rotates params (Reuse id) k o = tt
   rotates params (Open id s) k o =
-      either (nat_le most_generations s.generation) (judged.Refused refusal.LastGeneration) _ tt
+      either (nat_le max_generations s.generation) (judged.Refused refusal.LastGeneration) _ tt
       (rotates_by id s (scope_asked s.scope (value_of (codes "scope") params)) k o)
 
 module _ (P : StoreFields) (now : ℕ) where

@@ -16,7 +16,7 @@ use Rattle.tk_ledger.specs.Status.{digest_of}
 use Rattle.tk_message.specs.declared.decision.Decision.{Decision}
 use Rattle.tk_message.specs.declared.error_code.ErrorCode.TheVariants.{InvalidGrant}
 use Rattle.tk_message.specs.declared.place.Place.{Place}
-use Rattle.tk_message.specs.declared.status.Status.TheVariants.{Ok}
+use Rattle.tk_message.specs.declared.status_code.StatusCode.TheVariants.{Ok}
 use Rattle.tk_message.specs.Bodies.{token_body}
 use Rattle.tk_message.specs.Decision.{refused}
 use Rattle.tk_message.specs.Place.{next_in}
@@ -55,7 +55,7 @@ refresh_handle next words = record {
 abbrev pub access_token : Place → ℕ → List ℕ → Grant → MintedToken
 access_token place now words grant = record {
   digest = digest_of (access_handle (next_in place) words);
-  end = ends_at now place.lives.access grant.family_end;
+  expiry = ends_at now place.lives.access grant.family_end;
   scope = grant.access;
 }
 
@@ -63,7 +63,7 @@ access_token place now words grant = record {
 abbrev pub refresh_token : Place → ℕ → List ℕ → Grant → MintedToken
 refresh_token place now words grant = record {
   digest = digest_of (refresh_handle (next_in place) words);
-  end = ends_at now place.lives.refresh grant.family_end;
+  expiry = ends_at now place.lives.refresh grant.family_end;
   scope = grant.refresh;
 }
 

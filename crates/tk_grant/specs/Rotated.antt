@@ -2,7 +2,7 @@
 --   rotated_of   the judgement of a request for a refresh token's tokens
 use Rattle.std.specs.Prelude.{ℕ, ◌+◌, nat_le, List, codes, Option, Some, None, if◌then◌else◌}
 use Rattle.tk_handle.specs.declared.dot.Dot.{Dot}
-use Rattle.tk_fact.specs.Check.{most_generations}
+use Rattle.tk_fact.specs.Check.{max_generations}
 use Rattle.tk_ledger.specs.StandingFields.{StandingFields}
 use Rattle.tk_params.specs.Params.{Pairs, value_of}
 use Rattle.tk_message.specs.ScopeAsked.{scope_asked}
@@ -30,5 +30,5 @@ abbrev pub rotated_of : Pairs → Gate → Judged
 rotated_of params (Shut why) = Refused why
 rotated_of params (Reuse id) = Reused id
 rotated_of params (Open id standing) =
-    if nat_le most_generations standing.generation then Refused LastGeneration
+    if nat_le max_generations standing.generation then Refused LastGeneration
     else rotated_by id.dot standing (scope_asked standing.scope (value_of (codes "scope") params))

@@ -21,9 +21,9 @@ IsCodeOf F c moment =
 -- under a code; the tokens of both end with the family of that code at the latest
 abbrev pub IsWithin : FactSet → Body → Type 0
 IsWithin F (CodeRedeemed f) =
-    (moment : ℕ) × IsCodeOf F f.code moment × (f.access.end ≤ moment) × (f.refresh.end ≤ moment)
+    (moment : ℕ) × IsCodeOf F f.code moment × (f.access.expiry ≤ moment) × (f.refresh.expiry ≤ moment)
 IsWithin F (RefreshRotated f) =
     (minted_in (map.get F) (record { dot = f.parent; kind = Refresh }) ≢ None)
     × (c : Dot) × IsUnder (links_in (map.get F)) f.parent c
-    × (moment : ℕ) × IsCodeOf F c moment × (f.access.end ≤ moment) × (f.refresh.end ≤ moment)
+    × (moment : ℕ) × IsCodeOf F c moment × (f.access.expiry ≤ moment) × (f.refresh.expiry ≤ moment)
 IsWithin F body = ⊤

@@ -147,27 +147,27 @@ fn mint(
     requires { now < grant.family_end }
     ensures reply { IfOk result (λ m. m.reply ≡ spec.granted_reply place.now now words.now grant) }
     ensures access { IfOk result (λ m. (m.access ≡ spec.access_token place.now now words.now grant)
-        × (now ≤ m.access.end)) }
+        × (now ≤ m.access.expiry)) }
     ensures refresh { IfOk result
         (λ m. (m.refresh ≡ spec.refresh_token place.now now words.now grant)
-        × (now ≤ m.refresh.end)) }
+        × (now ≤ m.refresh.expiry)) }
 {
     let next = place.next_dot();
     let (access, refresh) = (access_handle(next, words), refresh_handle(next, words));
-    let access_end = ends_at(now, place.lives.access, grant.family_end);
-    let refresh_end = ends_at(now, place.lives.refresh, grant.family_end);
-    let lifetime = access_end.seconds() - now.seconds();
+    let access_expiry = ends_at(now, place.lives.access, grant.family_end);
+    let refresh_expiry = ends_at(now, place.lives.refresh, grant.family_end);
+    let lifetime = access_expiry.seconds() - now.seconds();
     let reply = Told::Tokens(&access, lifetime, &refresh, &grant.access).reply(alloc)?;
     Ok(Minted {
         reply,
         access: MintedToken {
             digest: access.digest(),
-            end: access_end,
+            expiry: access_expiry,
             scope: grant.access,
         },
         refresh: MintedToken {
             digest: refresh.digest(),
-            end: refresh_end,
+            expiry: refresh_expiry,
             scope: grant.refresh,
         },
     })

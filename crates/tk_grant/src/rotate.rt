@@ -1,7 +1,7 @@
 //! Rotating a refresh token (RFC 6749, 6).
 
 ghost use Rattle.std.specs.Prelude.{◌≡◌, ◌<◌, IfOk};
-ghost use Rattle.tk_fact.specs.Check.{most_generations};
+ghost use Rattle.tk_fact.specs.Check.{max_generations};
 ghost use Rattle.tk_grant.specs.Rotated as spec;
 ghost use Rattle.tk_grant.specs.SoundGate.{IsSoundGate};
 ghost use Rattle.tk_grant.specs.SoundJudged.{IsSoundJudged};
@@ -10,7 +10,7 @@ use crate::gate::Gate;
 use crate::judged::{Grant, Judged};
 use crate::refusal::Refusal;
 use std::alloc::{AllocError, Global};
-use tk_fact::MOST_GENERATIONS;
+use tk_fact::MAX_GENERATIONS;
 use tk_handle::{Dot, Moment};
 use tk_ledger::Standing;
 use tk_message::{Params, scope_asked};
@@ -31,7 +31,7 @@ pub(crate) fn rotate(
         Gate::Shut(why) => Ok(Judged::Refused(why)),
         Gate::Reuse(id) => Ok(Judged::Reused(id)),
         Gate::Open(id, standing) => {
-            if standing.generation >= MOST_GENERATIONS {
+            if standing.generation >= MAX_GENERATIONS {
                 return Ok(Judged::Refused(Refusal::LastGeneration));
             }
             let scope = scope_asked(alloc, standing.scope, params.value("scope"))?;
@@ -48,7 +48,7 @@ fn rotate_by(
     standing: &Standing<'_>,
     scope: Option<Scope>,
 ) -> Result<Judged, AllocError>
-    requires early { standing.now.generation < most_generations }
+    requires early { standing.now.generation < max_generations }
     requires goes_on { now < standing.now.family_end }
     ensures value { IfOk result (λ judged. judged ≡ spec.rotated_by from standing.now scope) }
     ensures sound { IfOk result (IsSoundJudged now) }

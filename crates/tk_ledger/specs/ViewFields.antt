@@ -3,11 +3,11 @@
 --   ConsentFields   a consent as it was given, and whether it is live
 use Rattle.std.specs.Prelude.{ℕ, Bool, List}
 use Rattle.tk_handle.specs.declared.dot.Dot.{Dot}
-use Rattle.tk_fact.specs.declared.sort.Sort.{Sort}
+use Rattle.tk_fact.specs.declared.client_kind.ClientKind.{ClientKind}
 
 -- a client as it was added, and whether it is live
 pub record ClientFields : Type 0 where
-  pub sort : Sort
+  pub client_kind : ClientKind
   pub scope : List ℕ
   pub redirects : List (List ℕ)
   pub live : Bool

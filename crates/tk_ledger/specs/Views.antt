@@ -11,7 +11,7 @@ use Rattle.tk_ledger.specs.ViewFields.{ClientFields, ConsentFields}
 -- the client as the fact that added it has it, and whether no retirement names it
 abbrev pub client_view : FactSet → Dot → Option ClientFields
 client_view F d = option_map (λ c. record {
-  sort = c.sort;
+  client_kind = c.client_kind;
   scope = c.scope;
   redirects = c.redirects;
   live = is_live_client F d;

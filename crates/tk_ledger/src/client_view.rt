@@ -1,7 +1,7 @@
 //! The view of a client.
 
 use std::marker::Model;
-use tk_fact::Sort;
+use tk_fact::ClientKind;
 use tk_match::Redirects;
 use tk_scope::Scope;
 
@@ -9,7 +9,7 @@ use tk_scope::Scope;
 #[derive(Drop)]
 pub struct ClientView<'a> {
     /// The client's kind, with the digest of its secret if it has one.
-    pub sort: &'a Sort,
+    pub client_kind: &'a ClientKind,
     /// The scope that the client may ask for at most.
     pub scope: &'a Scope,
     /// The URIs that the client's users may be sent back to (RFC 6749, 3.1.2).
@@ -24,7 +24,7 @@ impl<'a> Model for ClientView<'a> {
     ghost Value = { ClientFields };
 
     ghost view = { λ v. record {
-      sort = v.sort.now;
+      client_kind = v.client_kind.now;
       scope = v.scope.now;
       redirects = v.redirects.now;
       live = v.live;

@@ -109,7 +109,7 @@ impl Ledger {
     {
         match self.added_at(dot) {
             Some(client) => Some(ClientView {
-                sort: &client.sort,
+                client_kind: &client.client_kind,
                 scope: &client.scope,
                 redirects: &client.redirects,
                 live: self.has_live_client(dot),

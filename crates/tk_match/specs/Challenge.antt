@@ -13,7 +13,7 @@ use Rattle.base64.specs.Engines.{url_safe_no_pad}
 use Rattle.base64.specs.GeneralPurpose.{encode_of}
 use Rattle.sha2.specs.Sha256.{sha256}
 use Rattle.tk_match.specs.declared.challenge.ChallengeError.{ChallengeError}
-use Rattle.tk_match.specs.declared.challenge.ChallengeError.TheVariants.{Method, Grammar}
+use Rattle.tk_match.specs.declared.challenge.ChallengeError.TheVariants.{Method, Malformed}
 
 -- a challenge as contracts see it: whether the method is S256 (otherwise plain), and the text (RFC
 -- 7636, 4.3)
@@ -26,17 +26,17 @@ abbrev pub is_unreserved : ℕ → Bool
 is_unreserved b = is_ascii_alphanumeric b || b == 45 || b == 46 || b == 95 || b == 126
 
 -- the least length in bytes of a verifier and of a challenge (RFC 7636, 4.1 and 4.2)
-abbrev pub fewest_verifier_bytes : ℕ
-fewest_verifier_bytes = 43
+abbrev pub min_verifier_bytes : ℕ
+min_verifier_bytes = 43
 
 -- the greatest length in bytes of a verifier and of a challenge (RFC 7636, 4.1 and 4.2)
-abbrev pub most_verifier_bytes : ℕ
-most_verifier_bytes = 128
+abbrev pub max_verifier_bytes : ℕ
+max_verifier_bytes = 128
 
 -- a verifier (RFC 7636, 4.1): 43 to 128 unreserved bytes; a challenge has the same grammar (4.2)
 abbrev pub is_verifier : List ℕ → Bool
 is_verifier text =
-    nat_le fewest_verifier_bytes (length text) && nat_le (length text) most_verifier_bytes
+    nat_le min_verifier_bytes (length text) && nat_le (length text) max_verifier_bytes
     && list_all is_unreserved text
 
 -- the name of a method, byte for byte (RFC 7636, 4.3)
@@ -49,7 +49,7 @@ abbrev pub challenge_refusal : List ℕ → List ℕ → Option ChallengeError
 challenge_refusal method text =
     if not (is_method method) then Some Method
     else if is_verifier text then None
-    else Some Grammar
+    else Some Malformed
 
 -- the challenge of a method and a text, if they break no rule
 abbrev pub challenge_of : List ℕ → List ℕ → Option ChallengeFields

@@ -1,7 +1,7 @@
 -- Which lists of redirection URIs a client may have (RFC 6749, 3.1.2; the limits and `is_absolute`
 -- are own).
---   is_uri                 a text may be kept: at most `most_uri_bytes`
---   redirects_refusal      the first rule that a list breaks: at most `most_uris` URIs
+--   is_uri                 a text may be kept: at most `max_uri_bytes`
+--   redirects_refusal      the first rule that a list breaks: at most `max_uris` URIs
 --   redirects_of           the list, if it breaks no rule
 --   ReadsAsUrl, Refuses    the crate `url` reads a text as a URL, or refuses it
 --   registration_refusal   the first rule that a list breaks if its URIs must be URLs too
@@ -12,32 +12,32 @@ use Rattle.url.specs.Parser.{parse_url, IsOutOfRoom}
 use Rattle.url.specs.Parts.{Parts}
 use Rattle.url.specs.declared.error.ParseError.{ParseError}
 use Rattle.tk_match.specs.declared.redirects.RedirectError.{RedirectError}
-use Rattle.tk_match.specs.declared.redirects.RedirectError.TheVariants.{Empty, TooMany, Bad}
+use Rattle.tk_match.specs.declared.redirects.RedirectError.TheVariants.{Empty, TooMany, Malformed}
 
 -- a visible ASCII byte other than `#`: a registered URI has no fragment (RFC 6749, 3.1.2)
 abbrev pub is_uri_byte : ℕ → Bool
 is_uri_byte b = nat_le 33 b && nat_le b 126 && not (b == 35)
 
 -- the greatest length of a URI in bytes (own)
-abbrev pub most_uri_bytes : ℕ
-most_uri_bytes = 512
+abbrev pub max_uri_bytes : ℕ
+max_uri_bytes = 512
 
--- a text that may be kept as a URI: 1 to `most_uri_bytes` visible bytes without `#` (own)
+-- a text that may be kept as a URI: 1 to `max_uri_bytes` visible bytes without `#` (own)
 abbrev pub is_uri : List ℕ → Bool
-is_uri uri = nat_le 1 (length uri) && nat_le (length uri) most_uri_bytes && list_all is_uri_byte uri
+is_uri uri = nat_le 1 (length uri) && nat_le (length uri) max_uri_bytes && list_all is_uri_byte uri
 
 -- the greatest number of URIs of a client, counting equal ones (own)
-abbrev pub most_uris : ℕ
-most_uris = 8
+abbrev pub max_uris : ℕ
+max_uris = 8
 
--- the first rule that a list of URIs breaks: 1 to `most_uris` texts, each of which may be kept
+-- the first rule that a list of URIs breaks: 1 to `max_uris` texts, each of which may be kept
 -- (own)
 abbrev pub redirects_refusal : List (List ℕ) → Option RedirectError
 redirects_refusal uris =
     if length uris == 0 then Some Empty
-    else if nat_lt most_uris (length uris) then Some TooMany
+    else if nat_lt max_uris (length uris) then Some TooMany
     else if list_all is_uri uris then None
-    else Some Bad
+    else Some Malformed
 
 -- the list itself, if it breaks no rule
 abbrev pub redirects_of : List (List ℕ) → Option (List (List ℕ))
@@ -61,4 +61,4 @@ abbrev pub registration_refusal : List (List ℕ) → Option RedirectError
 registration_refusal uris =
     if is_some (redirects_refusal uris) then redirects_refusal uris
     else if list_all is_absolute uris then None
-    else Some Bad
+    else Some Malformed

@@ -30,7 +30,7 @@ pub enum ChallengeError {
     /// The method is neither `plain` nor `S256`.
     Method,
     /// The text is not 43 to 128 unreserved bytes.
-    Grammar,
+    Malformed,
     /// Memory ran out.
     Memory,
 }
@@ -56,10 +56,10 @@ use sha2::{Digest, Sha256};
 use std::alloc::{AllocError, Global};
 
 /// The least length in bytes of a verifier and of a challenge (RFC 7636, 4.1 and 4.2).
-const FEWEST_BYTES: usize = 43;
+const MIN_BYTES: usize = 43;
 
 /// The greatest length in bytes of a verifier and of a challenge (RFC 7636, 4.1 and 4.2).
-const MOST_BYTES: usize = 128;
+const MAX_BYTES: usize = 128;
 
 impl Challenge {
     /// Reads a challenge from a method and a text, as they were sent.
@@ -70,13 +70,13 @@ impl Challenge {
         ensures ok { IfOk result (λ c. challenge_of method.now text.now ≡ Some c) }
         ensures method { IsErrOf result ChallengeError.Method
             → challenge_refusal method.now text.now ≡ Some ChallengeError.Method }
-        ensures grammar { IsErrOf result ChallengeError.Grammar
-            → challenge_refusal method.now text.now ≡ Some ChallengeError.Grammar }
+        ensures grammar { IsErrOf result ChallengeError.Malformed
+            → challenge_refusal method.now text.now ≡ Some ChallengeError.Malformed }
 
         // These clauses state the errors by `challenge_of`, for a format of challenges.
         ensures method_none { IsErrOf result ChallengeError.Method
             → challenge_of method.now text.now ≡ None }
-        ensures grammar_none { IsErrOf result ChallengeError.Grammar
+        ensures grammar_none { IsErrOf result ChallengeError.Malformed
             → challenge_of method.now text.now ≡ None }
     {
         let is_s256 = method == b"S256".as_slice();
@@ -84,7 +84,7 @@ impl Challenge {
             return Err(ChallengeError::Method);
         }
         if !is_verifier(text) {
-            return Err(ChallengeError::Grammar);
+            return Err(ChallengeError::Malformed);
         }
         let Ok(text) = str::from_utf8(text) else {
             unreachable!("unreserved bytes are ASCII");
@@ -155,7 +155,7 @@ fn s256(verifier: &[u8]) -> [u8; 43]
 fn is_verifier(text: &[u8]) -> bool
     ensures { result ≡ is_verifier text.now }
 {
-    (FEWEST_BYTES..=MOST_BYTES).contains(&text.len()) && has_unreserved_bytes(text)
+    (MIN_BYTES..=MAX_BYTES).contains(&text.len()) && has_unreserved_bytes(text)
 }
 
 fn has_unreserved_bytes(text: &[u8]) -> bool

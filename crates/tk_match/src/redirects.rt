@@ -34,7 +34,7 @@ pub enum RedirectError {
     TooMany,
     /// A URI is not 1 to 512 visible ASCII bytes without `#`, or is no absolute URL though that was
     /// required.
-    Bad,
+    Malformed,
     /// Memory ran out, or a URL was too long to be read.
     Memory,
 }
@@ -63,7 +63,7 @@ use crate::pick::{Pick, only_uri, registered_uri};
 use std::alloc::{AllocError, Global};
 
 /// The greatest number of URIs of a client, counting equal ones. This limit is our own.
-const MOST_URIS: usize = 8;
+const MAX_URIS: usize = 8;
 
 impl Redirects {
     /// Returns the list of URIs, checked for a registration at this region.
@@ -79,12 +79,12 @@ impl Redirects {
             → registration_refusal (map (λ x. x.now) uris.now) ≡ Some RedirectError.Empty }
         ensures too_many { IsErrOf result RedirectError.TooMany
             → registration_refusal (map (λ x. x.now) uris.now) ≡ Some RedirectError.TooMany }
-        ensures bad { IsErrOf result RedirectError.Bad
-            → registration_refusal (map (λ x. x.now) uris.now) ≡ Some RedirectError.Bad }
+        ensures bad { IsErrOf result RedirectError.Malformed
+            → registration_refusal (map (λ x. x.now) uris.now) ≡ Some RedirectError.Malformed }
 
-        // A URL that `url` refuses because it is too long is never reported as `Bad`.
-        ensures refused { IsErrOf result RedirectError.Bad
-            → (redirects_refusal (map (λ x. x.now) uris.now) ≡ Some RedirectError.Bad)
+        // A URL that `url` refuses because it is too long is never reported as `Malformed`.
+        ensures refused { IsErrOf result RedirectError.Malformed
+            → (redirects_refusal (map (λ x. x.now) uris.now) ≡ Some RedirectError.Malformed)
             ⊎ Any Refuses (map (λ x. x.now) uris.now) }
     {
         let redirects = Redirects::kept(alloc, uris)?;
@@ -102,21 +102,21 @@ impl Redirects {
             → redirects_refusal (map (λ x. x.now) uris.now) ≡ Some RedirectError.Empty }
         ensures too_many { IsErrOf result RedirectError.TooMany
             → redirects_refusal (map (λ x. x.now) uris.now) ≡ Some RedirectError.TooMany }
-        ensures bad { IsErrOf result RedirectError.Bad
-            → redirects_refusal (map (λ x. x.now) uris.now) ≡ Some RedirectError.Bad }
+        ensures bad { IsErrOf result RedirectError.Malformed
+            → redirects_refusal (map (λ x. x.now) uris.now) ≡ Some RedirectError.Malformed }
 
         // These clauses state the errors by `redirects_of`, for a format of such lists.
         ensures empty_none { IsErrOf result RedirectError.Empty
             → redirects_of (map (λ x. x.now) uris.now) ≡ None }
         ensures too_many_none { IsErrOf result RedirectError.TooMany
             → redirects_of (map (λ x. x.now) uris.now) ≡ None }
-        ensures bad_none { IsErrOf result RedirectError.Bad
+        ensures bad_none { IsErrOf result RedirectError.Malformed
             → redirects_of (map (λ x. x.now) uris.now) ≡ None }
     {
         if uris.is_empty() {
             return Err(RedirectError::Empty);
         }
-        if uris.len() > MOST_URIS {
+        if uris.len() > MAX_URIS {
             return Err(RedirectError::TooMany);
         }
         let uris = read_each(alloc, uris)?;
@@ -170,8 +170,8 @@ impl Redirects {
 fn read_each(alloc: Global, texts: &[&[u8]]) -> Result<Vec<Uri>, RedirectError>
     ensures ok { IfOk result (λ uris. uris.items ≡ map (λ x. x.now) texts.now) }
     ensures rule { OnOk result (list_all is_uri (map (λ x. x.now) texts.now) ≡ true) }
-    ensures err { IfErr result (λ e. (e ≡ RedirectError.Bad) ⊎ (e ≡ RedirectError.Memory)) }
-    ensures bad { IsErrOf result RedirectError.Bad
+    ensures err { IfErr result (λ e. (e ≡ RedirectError.Malformed) ⊎ (e ≡ RedirectError.Memory)) }
+    ensures bad { IsErrOf result RedirectError.Malformed
         → list_all is_uri (map (λ x. x.now) texts.now) ≡ false }
 {
     let mut uris = Vec::with_capacity(alloc, texts.len())?;
@@ -185,8 +185,8 @@ fn read_each(alloc: Global, texts: &[&[u8]]) -> Result<Vec<Uri>, RedirectError>
 fn put_read(alloc: Global, uris: &mut Vec<Uri>, text: &[u8]) -> Result<(), RedirectError>
     ensures ok { OnOk result (uris.new.items ≡ uris.old.items ++ (text.now ∷ [])) }
     ensures rule { OnOk result (is_uri text.now ≡ true) }
-    ensures err { IfErr result (λ e. (e ≡ RedirectError.Bad) ⊎ (e ≡ RedirectError.Memory)) }
-    ensures bad { IsErrOf result RedirectError.Bad → is_uri text.now ≡ false }
+    ensures err { IfErr result (λ e. (e ≡ RedirectError.Malformed) ⊎ (e ≡ RedirectError.Memory)) }
+    ensures bad { IsErrOf result RedirectError.Malformed → is_uri text.now ≡ false }
 {
     let uri = Uri::read(alloc, text)?;
     match uris.push(uri) {
@@ -195,12 +195,12 @@ fn put_read(alloc: Global, uris: &mut Vec<Uri>, text: &[u8]) -> Result<(), Redir
     }
 }
 
-// Fails with `Bad` at the first URI that is no absolute URL.
+// Fails with `Malformed` at the first URI that is no absolute URL.
 fn check_absolute(alloc: Global, uris: &[Uri]) -> Result<(), RedirectError>
     ensures ok { OnOk result (list_all is_absolute uris.now ≡ true) }
-    ensures err { IfErr result (λ e. (e ≡ RedirectError.Bad) ⊎ (e ≡ RedirectError.Memory)) }
-    ensures bad { IsErrOf result RedirectError.Bad → list_all is_absolute uris.now ≡ false }
-    ensures refused { IsErrOf result RedirectError.Bad → Any Refuses uris.now }
+    ensures err { IfErr result (λ e. (e ≡ RedirectError.Malformed) ⊎ (e ≡ RedirectError.Memory)) }
+    ensures bad { IsErrOf result RedirectError.Malformed → list_all is_absolute uris.now ≡ false }
+    ensures refused { IsErrOf result RedirectError.Malformed → Any Refuses uris.now }
 {
     for uri in uris {
         uri.check_absolute(alloc)?;

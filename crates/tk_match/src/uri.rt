@@ -30,7 +30,7 @@ use std::alloc::{AllocError, Global};
 use url::{ParseError, Url};
 
 /// The greatest length of a URI in bytes. This limit is our own.
-const MOST_BYTES: usize = 512;
+const MAX_BYTES: usize = 512;
 
 impl Uri {
     /// Returns the URI as a text.
@@ -51,15 +51,15 @@ impl Uri {
 
     /// Reads a URI from its bytes. The URI need not be an absolute URL.
     ///
-    /// Returns `Bad` if the bytes are no URI that may be kept, and `Memory` if memory runs out. No
-    /// other error is returned.
+    /// Returns `Malformed` if the bytes are no URI that may be kept, and `Memory` if memory runs
+    /// out. No other error is returned.
     pub fn read(alloc: Global, text: &[u8]) -> Result<Uri, RedirectError>
         ensures ok { IfOk result (λ uri. (uri ≡ text.now) × IsTrue (is_uri text.now)) }
-        ensures err { IfErr result (λ e. (e ≡ RedirectError.Bad) ⊎ (e ≡ RedirectError.Memory)) }
-        ensures bad { IsErrOf result RedirectError.Bad → is_uri text.now ≡ false }
+        ensures err { IfErr result (λ e. (e ≡ RedirectError.Malformed) ⊎ (e ≡ RedirectError.Memory)) }
+        ensures bad { IsErrOf result RedirectError.Malformed → is_uri text.now ≡ false }
     {
         if !is_uri(text) {
-            return Err(RedirectError::Bad);
+            return Err(RedirectError::Malformed);
         }
         let Ok(text) = str::from_utf8(text) else {
             unreachable!("visible ASCII");
@@ -86,14 +86,14 @@ impl Uri {
     // A URL that is too long for `url` is refused with `Memory`.
     pub(crate) fn check_absolute(&self, alloc: Global) -> Result<(), RedirectError>
         ensures ok { OnOk result (is_absolute self.now ≡ true) }
-        ensures err { IfErr result (λ e. (e ≡ RedirectError.Bad) ⊎ (e ≡ RedirectError.Memory)) }
-        ensures bad { IsErrOf result RedirectError.Bad → is_absolute self.now ≡ false }
-        ensures refused { IsErrOf result RedirectError.Bad → Refuses self.now }
+        ensures err { IfErr result (λ e. (e ≡ RedirectError.Malformed) ⊎ (e ≡ RedirectError.Memory)) }
+        ensures bad { IsErrOf result RedirectError.Malformed → is_absolute self.now ≡ false }
+        ensures refused { IsErrOf result RedirectError.Malformed → Refuses self.now }
     {
         match Url::parse(alloc, self.as_str()) {
             Ok(_) => Ok(()),
             Err(ParseError::OutOfMemory | ParseError::Overflow) => Err(RedirectError::Memory),
-            Err(_) => Err(RedirectError::Bad),
+            Err(_) => Err(RedirectError::Malformed),
         }
     }
 }
@@ -102,7 +102,7 @@ impl Uri {
 fn is_uri(text: &[u8]) -> bool
     ensures { result ≡ is_uri text.now }
 {
-    (1..=MOST_BYTES).contains(&text.len()) && has_uri_bytes(text)
+    (1..=MAX_BYTES).contains(&text.len()) && has_uri_bytes(text)
 }
 
 fn has_uri_bytes(text: &[u8]) -> bool

@@ -8,8 +8,8 @@ use Rattle.std.specs.Str.{bytes_eq}
 use Rattle.sha2.specs.Sha256.{sha256}
 use Rattle.tk_handle.specs.declared.dot.Dot.{Dot}
 use Rattle.tk_handle.specs.ClientId.{client_in}
-use Rattle.tk_fact.specs.declared.sort.Sort.{Sort}
-use Rattle.tk_fact.specs.declared.sort.Sort.TheVariants.{Public, Confidential, Resource}
+use Rattle.tk_fact.specs.declared.client_kind.ClientKind.{ClientKind}
+use Rattle.tk_fact.specs.declared.client_kind.ClientKind.TheVariants.{Public, Confidential, Resource}
 use Rattle.tk_store.specs.FactSet.{FactSet}
 use Rattle.tk_ledger.specs.Views.{client_view}
 use Rattle.tk_ledger.specs.ViewFields.{ClientFields}
@@ -23,7 +23,7 @@ is_digest_of digest None = false
 is_digest_of digest (Some secret) = bytes_eq (sha256 secret) digest
 
 -- a public client proves itself without a secret, another client by its own (RFC 6749, 2.3.1)
-abbrev pub proves : Sort → Option (List ℕ) → Bool
+abbrev pub proves : ClientKind → Option (List ℕ) → Bool
 proves Public None = true
 proves Public (Some secret) = false
 proves (Confidential digest) secret = is_digest_of digest secret
@@ -33,7 +33,7 @@ proves (Resource digest) secret = is_digest_of digest secret
 abbrev pub authenticated_as : Dot → Option (List ℕ) → Option ClientFields → Auth
 authenticated_as d secret None = Invalid
 authenticated_as d secret (Some client) =
-    if client.live && proves client.sort secret then Client d else Invalid
+    if client.live && proves client.client_kind secret then Client d else Invalid
 
 -- the client at the dot, if there is one, it is live, and the secret is its own
 abbrev pub authenticated_at : FactSet → Option (List ℕ) → Option Dot → Auth

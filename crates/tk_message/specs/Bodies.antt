@@ -28,8 +28,8 @@ use Rattle.tk_handle.specs.ClientId.{client_text}
 use Rattle.tk_handle.specs.ConsentId.{consent_text}
 use Rattle.tk_handle.specs.declared.handle.Handle.{Handle}
 use Rattle.tk_handle.specs.Handle.{handle_text}
-use Rattle.tk_fact.specs.declared.sort.Sort.{Sort}
-use Rattle.tk_fact.specs.declared.sort.Sort.TheVariants.{Public, Confidential, Resource}
+use Rattle.tk_fact.specs.declared.client_kind.ClientKind.{ClientKind}
+use Rattle.tk_fact.specs.declared.client_kind.ClientKind.TheVariants.{Public, Confidential, Resource}
 use Rattle.tk_ledger.specs.StandingFields.{StandingFields}
 
 -- the value has one text: it holds no floating-point number
@@ -54,16 +54,16 @@ abbrev pub subject_body : List ℕ → Data
 subject_body subject = object (member (codes "subject") (string subject) no_members)
 
 -- the name of a client's kind
-abbrev pub kind_name : Sort → List ℕ
+abbrev pub kind_name : ClientKind → List ℕ
 kind_name Public = codes "public"
 kind_name (Confidential digest) = codes "confidential"
 kind_name (Resource digest) = codes "resource"
 
 -- the body that shows a client
-abbrev pub shown_body : Dot → Sort → Bool → List ℕ → Data
-shown_body client sort live scope = object
+abbrev pub shown_body : Dot → ClientKind → Bool → List ℕ → Data
+shown_body client client_kind live scope = object
     (member (codes "client_id") (string (client_text client))
-    (member (codes "kind") (string (kind_name sort))
+    (member (codes "kind") (string (kind_name client_kind))
     (member (codes "live") (boolean live)
     (member (codes "scope") (string scope) no_members))))
 

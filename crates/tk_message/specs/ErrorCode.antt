@@ -4,8 +4,8 @@
 --   error_status   the status of an error
 --   error_name     the name of an error
 use Rattle.std.specs.Prelude.{ℕ, List, codes}
-use Rattle.tk_message.specs.declared.status.Status.{Status}
-use Rattle.tk_message.specs.declared.status.Status.TheVariants as status
+use Rattle.tk_message.specs.declared.status_code.StatusCode.{StatusCode}
+use Rattle.tk_message.specs.declared.status_code.StatusCode.TheVariants as status
 use Rattle.tk_message.specs.declared.error_code.ErrorCode.{ErrorCode}
 use Rattle.tk_message.specs.declared.error_code.ErrorCode.TheVariants.{
   InvalidRequest,
@@ -28,7 +28,7 @@ use Rattle.tk_message.specs.declared.error_code.ErrorCode.TheVariants.{
 
 -- the status and the name of an error. For an error that RFC 6749 names, the status is 400, but for
 -- invalid_client, 401 (RFC 6749, 5.2), and temporarily_unavailable, 503
-abbrev pub error_row : ErrorCode → Status × List ℕ
+abbrev pub error_row : ErrorCode → StatusCode × List ℕ
 error_row InvalidRequest = (status.BadRequest, codes "invalid_request")
 error_row InvalidClient = (status.Unauthorized, codes "invalid_client")
 error_row InvalidGrant = (status.BadRequest, codes "invalid_grant")
@@ -47,7 +47,7 @@ error_row OwnNumber = (status.Conflict, codes "own_number")
 error_row Conflict = (status.Conflict, codes "conflict")
 
 -- the status of an error
-abbrev pub error_status : ErrorCode → Status
+abbrev pub error_status : ErrorCode → StatusCode
 error_status code = (error_row code).0
 
 -- the name of an error

@@ -3,7 +3,7 @@
 --   Authentication   authenticated, the client that credentials prove
 --   Caller           caller_of, the client that sends a request
 --   ScopeAsked       scope_asked, the scope that a request asks for
---   Status           status_number, the number of a status
+--   StatusCode       status_number, the number of a status
 --   ErrorCode        error_row, the status and the name of an error
 --   Bodies           the JSON bodies of replies, as values
 --   ReplyFields      ReplyFields, what contracts see of a reply
@@ -21,7 +21,7 @@ pub mod Reply
 pub mod ReplyFields
 pub mod RequestFields
 pub mod ScopeAsked
-pub mod Status
+pub mod StatusCode
 pub mod Told
 pub use Rattle.tk_fact.specs.Check
 pub use Rattle.tk_handle.specs.ClientId

@@ -11,20 +11,20 @@ use Rattle.std.specs.Prelude.{ℕ, Bool, true, false, List, [], ◌∷◌, codes
 use Rattle.serde_json.specs.Data.{Data}
 use Rattle.serde_json.specs.Written.{compact_text}
 use Rattle.tk_match.specs.ReplyUri.{reply_of}
-use Rattle.tk_message.specs.declared.status.Status.{Status}
-use Rattle.tk_message.specs.declared.status.Status.TheVariants.{Ok, Found, Unauthorized}
+use Rattle.tk_message.specs.declared.status_code.StatusCode.{StatusCode}
+use Rattle.tk_message.specs.declared.status_code.StatusCode.TheVariants.{Ok, Found, Unauthorized}
 use Rattle.tk_message.specs.declared.error_code.ErrorCode.{ErrorCode}
 use Rattle.tk_message.specs.ErrorCode.{error_status, error_name}
 use Rattle.tk_message.specs.Bodies.{error_body, inactive_body}
 use Rattle.tk_message.specs.ReplyFields.{ReplyFields, Nothing, JsonText, OtherBytes}
 
 -- a reply with the status asks for credentials: every 401 does (RFC 6749, 5.2)
-abbrev pub asks_credentials : Status → Bool
+abbrev pub asks_credentials : StatusCode → Bool
 asks_credentials Unauthorized = true
 asks_credentials status = false
 
 -- a status and the body's text, without spaces and without a redirect
-abbrev pub json_reply : Status → Data → ReplyFields
+abbrev pub json_reply : StatusCode → Data → ReplyFields
 json_reply status body = record {
   status = status;
   location = None;
@@ -55,7 +55,7 @@ abbrev pub inactive_reply : ReplyFields
 inactive_reply = json_reply Ok inactive_body
 
 -- a status without content (RFC 7009, 2.2)
-abbrev pub empty_reply : Status → ReplyFields
+abbrev pub empty_reply : StatusCode → ReplyFields
 empty_reply status = record {
   status = status;
   location = None;

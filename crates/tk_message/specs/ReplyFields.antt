@@ -3,7 +3,7 @@
 --   Content       no content, a JSON text, or other bytes
 --   content_of    the content of a payload
 use Rattle.std.specs.Prelude.{ℕ, Bool, List, Option}
-use Rattle.tk_message.specs.declared.status.Status.{Status}
+use Rattle.tk_message.specs.declared.status_code.StatusCode.{StatusCode}
 use Rattle.tk_message.specs.declared.reply.Payload.{Payload}
 use Rattle.tk_message.specs.declared.reply.Payload.TheVariants.{Empty, Json, Bytes}
 
@@ -15,7 +15,7 @@ pub data Content : Type 0 where
 
 -- the status, the URI of a redirect, whether the reply asks for credentials, and the content
 pub record ReplyFields : Type 0 where
-  pub status : Status
+  pub status : StatusCode
   pub location : Option (List ℕ)
   pub www : Bool
   pub content : Content

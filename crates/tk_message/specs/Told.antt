@@ -4,8 +4,8 @@
 --   body_of     the body of the reply
 --   told        the reply that says this
 use Rattle.serde_json.specs.Data.{Data}
-use Rattle.tk_message.specs.declared.status.Status.{Status}
-use Rattle.tk_message.specs.declared.status.Status.TheVariants.{Ok}
+use Rattle.tk_message.specs.declared.status_code.StatusCode.{StatusCode}
+use Rattle.tk_message.specs.declared.status_code.StatusCode.TheVariants.{Ok}
 use Rattle.tk_message.specs.declared.told.Told.{Told}
 use Rattle.tk_message.specs.declared.told.Told.TheVariants.{
   Error,
@@ -37,7 +37,7 @@ use Rattle.tk_message.specs.Reply.{json_reply}
 use Rattle.tk_message.specs.ReplyFields.{ReplyFields}
 
 -- the status of the reply
-abbrev pub status_of : Told → Status
+abbrev pub status_of : Told → StatusCode
 status_of (Error code) = error_status code
 status_of (Client status client) = status
 status_of (Consent status consent) = status
@@ -47,7 +47,7 @@ status_of told = Ok
 abbrev pub body_of : Told → Data
 body_of (Error code) = error_body (error_name code)
 body_of (Client status client) = client_body client
-body_of (Shown client sort live scope) = shown_body client sort.now live scope.now
+body_of (Shown client client_kind live scope) = shown_body client client_kind.now live scope.now
 body_of (Consent status consent) = consent_body consent
 body_of (Subject subject) = subject_body subject.now
 body_of (Tokens access lifetime refresh scope) =

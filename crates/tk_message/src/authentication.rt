@@ -18,7 +18,7 @@ ghost use Rattle.tk_store.specs.StoreFields.{held_facts};
 ghost use Rattle.tk_message.specs.Authentication as spec;
 
 use sha2::{Digest, Sha256};
-use tk_fact::Sort;
+use tk_fact::ClientKind;
 use tk_handle::read_client;
 use tk_ledger::Ledger;
 use tk_params::Credentials;
@@ -52,20 +52,20 @@ fn authenticate_at(ledger: &Ledger, at: Dot, secret: Option<&str>) -> Auth
         (Some at) }
 {
     match ledger.client(at) {
-        Some(client) if client.live && proves(client.sort, secret) => Auth::Client(at),
+        Some(client) if client.live && proves(client.client_kind, secret) => Auth::Client(at),
         Some(_) => Auth::Invalid,
         None => Auth::Invalid,
     }
 }
 
 // Returns whether the secret is that of a client of this kind.
-fn proves(sort: &Sort, secret: Option<&str>) -> bool
-    ensures { result ≡ spec.proves sort.now (option_copied secret.entry) }
+fn proves(client_kind: &ClientKind, secret: Option<&str>) -> bool
+    ensures { result ≡ spec.proves client_kind.now (option_copied secret.entry) }
 {
-    match sort {
-        Sort::Public => secret.is_none(),
-        Sort::Confidential(digest) => is_digest_of(digest, secret),
-        Sort::Resource(digest) => is_digest_of(digest, secret),
+    match client_kind {
+        ClientKind::Public => secret.is_none(),
+        ClientKind::Confidential(digest) => is_digest_of(digest, secret),
+        ClientKind::Resource(digest) => is_digest_of(digest, secret),
     }
 }
 

@@ -17,7 +17,7 @@ ghost use Rattle.tk_message.specs.Bodies as spec;
 use crate::reply::handle_string;
 use serde_json::{Map, Value, put};
 use std::alloc::{AllocError, Global};
-use tk_fact::Sort;
+use tk_fact::ClientKind;
 use tk_handle::{Dot, Handle, client_text, consent_text};
 use tk_ledger::Standing;
 use tk_scope::Scope;
@@ -88,28 +88,28 @@ pub(crate) fn consent_body(alloc: Global, consent: Dot) -> Result<Value, AllocEr
 pub(crate) fn shown_body(
     alloc: Global,
     client: Dot,
-    sort: &Sort,
+    client_kind: &ClientKind,
     live: bool,
     scope: &Scope,
 ) -> Result<Value, AllocError>
-    ensures { IfOk result (λ body. view body ≡ spec.shown_body client sort.now live scope.now) }
+    ensures { IfOk result (λ body. view body ≡ spec.shown_body client client_kind.now live scope.now) }
 {
     let id = client_text(alloc, client)?;
     let members = with(alloc, Map::new(alloc), "client_id", Value::String(id))?;
-    let members = with_text(alloc, members, "kind", kind_name(sort))?;
+    let members = with_text(alloc, members, "kind", kind_name(client_kind))?;
     let members = with(alloc, members, "live", Value::from(live))?;
     let members = with_text(alloc, members, "scope", scope.text())?;
     Ok(Value::Object(members))
 }
 
 // Returns the name of a client's kind.
-fn kind_name(sort: &Sort) -> &'static str
-    ensures { result.now ≡ spec.kind_name sort.now }
+fn kind_name(client_kind: &ClientKind) -> &'static str
+    ensures { result.now ≡ spec.kind_name client_kind.now }
 {
-    match sort {
-        Sort::Public => "public",
-        Sort::Confidential(_) => "confidential",
-        Sort::Resource(_) => "resource",
+    match client_kind {
+        ClientKind::Public => "public",
+        ClientKind::Confidential(_) => "confidential",
+        ClientKind::Resource(_) => "resource",
     }
 }
 

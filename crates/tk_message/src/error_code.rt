@@ -3,7 +3,7 @@
 ghost use Rattle.std.specs.Prelude.{◌≡◌};
 ghost use Rattle.tk_message.specs.ErrorCode.{error_status, error_name};
 
-use crate::status::Status;
+use crate::status_code::StatusCode;
 
 /// The code of an error, which a reply names (RFC 6749, 4.1.2.1 and 5.2).
 #[derive(Clone, Copy)]
@@ -69,7 +69,7 @@ impl ErrorCode {
     }
 
     /// Returns the status of the error's reply.
-    pub fn status(self) -> Status
+    pub fn status(self) -> StatusCode
         ensures { result ≡ error_status self }
     {
         match self {
@@ -80,14 +80,14 @@ impl ErrorCode {
             | ErrorCode::UnsupportedResponseType
             | ErrorCode::AccessDenied
             | ErrorCode::BadRequest
-            | ErrorCode::Malformed => Status::BadRequest,
-            ErrorCode::InvalidClient => Status::Unauthorized,
-            ErrorCode::NotFound => Status::NotFound,
-            ErrorCode::TemporarilyUnavailable => Status::ServiceUnavailable,
-            ErrorCode::MethodNotAllowed => Status::MethodNotAllowed,
-            ErrorCode::LengthRequired => Status::LengthRequired,
-            ErrorCode::TooLarge => Status::ContentTooLarge,
-            ErrorCode::OwnNumber | ErrorCode::Conflict => Status::Conflict,
+            | ErrorCode::Malformed => StatusCode::BadRequest,
+            ErrorCode::InvalidClient => StatusCode::Unauthorized,
+            ErrorCode::NotFound => StatusCode::NotFound,
+            ErrorCode::TemporarilyUnavailable => StatusCode::ServiceUnavailable,
+            ErrorCode::MethodNotAllowed => StatusCode::MethodNotAllowed,
+            ErrorCode::LengthRequired => StatusCode::LengthRequired,
+            ErrorCode::TooLarge => StatusCode::ContentTooLarge,
+            ErrorCode::OwnNumber | ErrorCode::Conflict => StatusCode::Conflict,
         }
     }
 }

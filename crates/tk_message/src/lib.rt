@@ -3,7 +3,7 @@
 //! - A `Request` goes to an `Endpoint`, with the parameters and credentials of tk_params.
 //! - `authenticate` returns the client that credentials prove. `find_caller` returns the client
 //!   that sends a request. `scope_asked` returns the scope that a request asks for.
-//! - A `Reply` is a `Status`, perhaps a place to redirect to, and a `Payload`.
+//! - A `Reply` is a `StatusCode`, perhaps a place to redirect to, and a `Payload`.
 //! - An `ErrorCode` has a name and a status.
 //! - `Told` is what a JSON reply says. No other crate makes JSON: `Told::reply` writes every one,
 //!   and each body is defined in `specs/Bodies.antt`.
@@ -12,10 +12,10 @@
 //!
 //! The crates above decide what a request gets, and in which order its errors are sought.
 //!
-//! In reading order: `Endpoint`, `Request`, `Auth`, `Caller`, `scope_asked`, `Status`, `ErrorCode`,
-//! `Reply`, `Told`, `Lives`, `Place`, `Decision`. The definitions are in `specs/`, by the name of
-//! the file: `RequestFields`, `Authentication`, `Caller`, `ScopeAsked`, `Status`, `ErrorCode`,
-//! `Bodies`, `ReplyFields`, `Reply`, `Told`, `Place`, `Decision`.
+//! In reading order: `Endpoint`, `Request`, `Auth`, `Caller`, `scope_asked`, `StatusCode`,
+//! `ErrorCode`, `Reply`, `Told`, `Lives`, `Place`, `Decision`. The definitions are in `specs/`, by
+//! the name of the file: `RequestFields`, `Authentication`, `Caller`, `ScopeAsked`, `StatusCode`,
+//! `ErrorCode`, `Bodies`, `ReplyFields`, `Reply`, `Told`, `Place`, `Decision`.
 #![tactic(auto)]
 
 mod authentication;
@@ -27,7 +27,7 @@ mod place;
 mod reply;
 mod request;
 mod scope;
-mod status;
+mod status_code;
 mod told;
 
 pub use authentication::{Auth, authenticate};
@@ -38,6 +38,6 @@ pub use place::{Lives, Place};
 pub use reply::{Payload, Reply, bytes_reply, empty_reply, handle_string, redirect_reply};
 pub use request::{Endpoint, Request};
 pub use scope::scope_asked;
-pub use status::Status;
+pub use status_code::StatusCode;
 pub use tk_params::{Credentials, CredentialsError, One, Params};
 pub use told::Told;

@@ -1,13 +1,13 @@
 //! Replies: their parts, and the replies without JSON. `Told` has those with JSON.
 
-use crate::status::Status;
+use crate::status_code::StatusCode;
 use std::marker::Model;
 
 /// A reply to a request. Contracts see the bytes of its parts.
 #[derive(Drop)]
 pub struct Reply {
     /// The status code (RFC 9110, 15).
-    pub status: Status,
+    pub status: StatusCode,
     /// The URI that a redirect sends the client to.
     pub location: Option<String>,
     /// Whether the reply has a `WWW-Authenticate` field (RFC 6749, 5.2).
@@ -52,14 +52,14 @@ use tk_handle::Handle;
 use tk_match::reply_uri;
 
 // Returns whether a reply with the status asks for credentials.
-pub(crate) fn asks_credentials(status: Status) -> bool
+pub(crate) fn asks_credentials(status: StatusCode) -> bool
     ensures { result ≡ spec.asks_credentials status }
 {
-    matches!(status, Status::Unauthorized)
+    matches!(status, StatusCode::Unauthorized)
 }
 
 /// Returns a reply with a status and no content. No memory is allocated.
-pub fn empty_reply(status: Status) -> Reply
+pub fn empty_reply(status: StatusCode) -> Reply
     ensures { result ≡ spec.empty_reply status }
 {
     let www = asks_credentials(status);
@@ -88,7 +88,7 @@ pub fn redirect_reply(
         None => reply_uri(alloc, uri, &[(name, value)])?,
     };
     Ok(Reply {
-        status: Status::Found,
+        status: StatusCode::Found,
         location: Some(location),
         www: false,
         body: Payload::Empty,
@@ -111,7 +111,7 @@ pub fn bytes_reply(bytes: Vec<u8>) -> Reply
     ensures { result ≡ spec.bytes_reply bytes.items }
 {
     Reply {
-        status: Status::Ok,
+        status: StatusCode::Ok,
         location: None,
         www: false,
         body: Payload::Bytes(bytes),

@@ -42,7 +42,7 @@ fn read_within(alloc: Global, whole: &Scope, text: &[u8]) -> Result<Option<Scope
         }
         Err(ScopeError::Memory) => Err(AllocError),
         Err(ScopeError::TooLong) => Ok(None),
-        Err(ScopeError::Grammar) => Ok(None),
+        Err(ScopeError::Malformed) => Ok(None),
         Err(ScopeError::TooMany) => Ok(None),
     }
 }

@@ -1,8 +1,8 @@
 //! What a JSON reply says, and the one function that writes such a reply.
 
 use crate::error_code::ErrorCode;
-use crate::status::Status;
-use tk_fact::{Sort, Subject};
+use crate::status_code::StatusCode;
+use tk_fact::{ClientKind, Subject};
 use tk_handle::{Dot, Handle};
 use tk_ledger::Standing;
 use tk_scope::Scope;
@@ -13,11 +13,11 @@ pub enum Told<'a> {
     /// The name of an error (RFC 6749, 5.2).
     Error(ErrorCode),
     /// The id of the client that was added at the dot (own).
-    Client(Status, Dot),
+    Client(StatusCode, Dot),
     /// The client that was added at the dot: its id, kind, whether it is live, and its scope (own).
-    Shown(Dot, &'a Sort, bool, &'a Scope),
+    Shown(Dot, &'a ClientKind, bool, &'a Scope),
     /// The id of the consent that was given at the dot (own).
-    Consent(Status, Dot),
+    Consent(StatusCode, Dot),
     /// The subject that was signed out (own).
     Subject(&'a Subject),
     /// An access token, its life in seconds, a refresh token, and the scope of the access token
@@ -63,13 +63,13 @@ impl Told<'_> {
     }
 
     // Returns the status of the reply.
-    fn status(&self) -> Status
+    fn status(&self) -> StatusCode
         ensures { result ≡ spec.status_of self.now }
     {
         match self {
             Told::Error(code) => code.status(),
             Told::Client(status, _) | Told::Consent(status, _) => *status,
-            _ => Status::Ok,
+            _ => StatusCode::Ok,
         }
     }
 
@@ -81,7 +81,13 @@ impl Told<'_> {
         match self {
             Told::Error(code) => one_text(alloc, "error", code.name()),
             Told::Client(_, client) => client_body(alloc, client),
-            Told::Shown(client, sort, live, scope) => shown_body(alloc, client, sort, live, scope),
+            Told::Shown(client, client_kind, live, scope) => shown_body(
+                alloc,
+                client,
+                client_kind,
+                live,
+                scope,
+            ),
             Told::Consent(_, consent) => consent_body(alloc, consent),
             Told::Subject(subject) => one_text(alloc, "subject", subject.as_str()),
             Told::Tokens(access, lifetime, refresh, scope) => {

@@ -9,7 +9,7 @@ use Rattle.tk_handle.specs.declared.kind.Kind.{Kind}
 use Rattle.tk_handle.specs.declared.kind.Kind.TheVariants as kind
 use Rattle.tk_handle.specs.declared.handle.Handle.{Handle}
 use Rattle.tk_family.proofs.FamilyLaws.{IsUnder-one}
-use Rattle.tk_fact.specs.declared.sort.Sort.{Sort}
+use Rattle.tk_fact.specs.declared.client_kind.ClientKind.{ClientKind}
 use Rattle.tk_fact.specs.declared.code_issued.CodeIssued as issued
 use Rattle.tk_fact.specs.Tokens.{MintedFields}
 use Rattle.tk_store.specs.StoreFields.{StoreFields, held_facts}
@@ -47,12 +47,12 @@ second_fails true c x y h = ap (λ t. cond (not t) x y) h
 second_fails false c x y h = refl
 
 -- the outcome for a token that is not active
-quiet : (P : StoreFields) (now : ℕ) (sort : Sort) (asker : Dot) (h : Handle) (k : Kind) (x : Status) → status_here P now h ≡ x → h.id.kind ≢ kind.Code → ¬ IsActive (map.get (held_facts P)) now h → introspected_by_status sort asker k x ≡ Inactive
-quiet P now sort asker h k Unseen e nc n = refl
-quiet P now sort asker h k Wrong e nc n = refl
-quiet P now sort asker h k (Broken t) e nc n = refl
-quiet P now sort asker h k (Known s) e nc n =
-    second_fails (sees sort asker s.client) (is_live s.state) Inactive (active k s)
+quiet : (P : StoreFields) (now : ℕ) (client_kind : ClientKind) (asker : Dot) (h : Handle) (k : Kind) (x : Status) → status_here P now h ≡ x → h.id.kind ≢ kind.Code → ¬ IsActive (map.get (held_facts P)) now h → introspected_by_status client_kind asker k x ≡ Inactive
+quiet P now client_kind asker h k Unseen e nc n = refl
+quiet P now client_kind asker h k Wrong e nc n = refl
+quiet P now client_kind asker h k (Broken t) e nc n = refl
+quiet P now client_kind asker h k (Known s) e nc n =
+    second_fails (sees client_kind asker s.client) (is_live s.state) Inactive (active k s)
     (false_from_ne_true (is_live s.state) (λ l. n (live_is_active (held_facts P) now h s nc (here_known P now h s e) (live_state s.state l))))
 
 no_code : (k : Kind) → k ≡ kind.Access → k ≢ kind.Code
@@ -61,13 +61,13 @@ no_code k a c = let e : kind.Access ≡ kind.Code = sym a ∙ c in cc
 no_code_either : (k : Kind) → k ≡ kind.Refresh → k ≢ kind.Code
 no_code_either k a c = let e : kind.Refresh ≡ kind.Code = sym a ∙ c in cc
 
-quiet_by_kind : (P : StoreFields) (now : ℕ) (sort : Sort) (asker : Dot) (h : Handle) (k : Kind) → h.id.kind ≡ k → ¬ IsActive (map.get (held_facts P)) now h → introspected_by_kind P now sort asker h k ≡ Inactive
-quiet_by_kind P now sort asker h kind.Code e n = refl
-quiet_by_kind P now sort asker h kind.Access e n = quiet P now sort asker h kind.Access (status_here P now h) refl (no_code h.id.kind e) n
-quiet_by_kind P now sort asker h kind.Refresh e n = quiet P now sort asker h kind.Refresh (status_here P now h) refl (no_code_either h.id.kind e) n
+quiet_by_kind : (P : StoreFields) (now : ℕ) (client_kind : ClientKind) (asker : Dot) (h : Handle) (k : Kind) → h.id.kind ≡ k → ¬ IsActive (map.get (held_facts P)) now h → introspected_by_kind P now client_kind asker h k ≡ Inactive
+quiet_by_kind P now client_kind asker h kind.Code e n = refl
+quiet_by_kind P now client_kind asker h kind.Access e n = quiet P now client_kind asker h kind.Access (status_here P now h) refl (no_code h.id.kind e) n
+quiet_by_kind P now client_kind asker h kind.Refresh e n = quiet P now client_kind asker h kind.Refresh (status_here P now h) refl (no_code_either h.id.kind e) n
 
-pub says_nothing : (P : StoreFields) (now : ℕ) (sort : Sort) (asker : Dot) (h : Handle) → ¬ IsActive (map.get (held_facts P)) now h → told_to P now sort asker h ≡ inactive_reply
-says_nothing P now sort asker h n = ap told (quiet_by_kind P now sort asker h h.id.kind refl n)
+pub says_nothing : (P : StoreFields) (now : ℕ) (client_kind : ClientKind) (asker : Dot) (h : Handle) → ¬ IsActive (map.get (held_facts P)) now h → told_to P now client_kind asker h ≡ inactive_reply
+says_nothing P now client_kind asker h n = ap told (quiet_by_kind P now client_kind asker h h.id.kind refl n)
 
 -- ---- the reply for an active token
 
@@ -105,10 +105,10 @@ both_hold : (a b : Bool) (x y : Introspected) → a ≡ true → b ≡ true → 
 both_hold a b x y h i = rw (h, i) refl
 
 -- the outcome for an active token by its standing
-loud_as : (P : StoreFields) (now : ℕ) (sort : Sort) (asker : Dot) (h : Handle) (a : IsActive (map.get (held_facts P)) now h) (s : StandingFields) → Tells P now h a s → sees sort asker a.issued.client ≡ true → (k : Kind) → introspected_by_status sort asker k (status_here P now h) ≡ active k s
-loud_as P now sort asker h a s t seen k =
-    ap (introspected_by_status sort asker k) t.is
-    ∙ both_hold (sees sort asker s.client) (is_live s.state) Inactive (active k s) (ap (sees sort asker) t.client ∙ seen) (ap is_live t.live)
+loud_as : (P : StoreFields) (now : ℕ) (client_kind : ClientKind) (asker : Dot) (h : Handle) (a : IsActive (map.get (held_facts P)) now h) (s : StandingFields) → Tells P now h a s → sees client_kind asker a.issued.client ≡ true → (k : Kind) → introspected_by_status client_kind asker k (status_here P now h) ≡ active k s
+loud_as P now client_kind asker h a s t seen k =
+    ap (introspected_by_status client_kind asker k) t.is
+    ∙ both_hold (sees client_kind asker s.client) (is_live s.state) Inactive (active k s) (ap (sees client_kind asker) t.client ∙ seen) (ap is_live t.live)
 
 -- the reply for an active token by the fields of its standing
 told_fields : (k : Kind) (s : StandingFields) → told (active k s) ≡ told_by_kind k s.client s.expiry s.start s.scope s.subject
@@ -120,14 +120,14 @@ same_fields : (P : StoreFields) (now : ℕ) (h : Handle) (a : IsActive (map.get 
 same_fields P now h a s t k = rw (t.client, t.expiry, t.start, t.scope, t.subject) refl
 
 -- the outcome for an active token by its kind
-loud_by_kind : (P : StoreFields) (now : ℕ) (sort : Sort) (asker : Dot) (h : Handle) (a : IsActive (map.get (held_facts P)) now h) (s : StandingFields) → Tells P now h a s → sees sort asker a.issued.client ≡ true → (k : Kind) → h.id.kind ≡ k → introspected_by_kind P now sort asker h k ≡ active k s
-loud_by_kind P now sort asker h a s t seen kind.Code e = absurd (a.no_code e)
-loud_by_kind P now sort asker h a s t seen kind.Access e = loud_as P now sort asker h a s t seen kind.Access
-loud_by_kind P now sort asker h a s t seen kind.Refresh e = loud_as P now sort asker h a s t seen kind.Refresh
+loud_by_kind : (P : StoreFields) (now : ℕ) (client_kind : ClientKind) (asker : Dot) (h : Handle) (a : IsActive (map.get (held_facts P)) now h) (s : StandingFields) → Tells P now h a s → sees client_kind asker a.issued.client ≡ true → (k : Kind) → h.id.kind ≡ k → introspected_by_kind P now client_kind asker h k ≡ active k s
+loud_by_kind P now client_kind asker h a s t seen kind.Code e = absurd (a.no_code e)
+loud_by_kind P now client_kind asker h a s t seen kind.Access e = loud_as P now client_kind asker h a s t seen kind.Access
+loud_by_kind P now client_kind asker h a s t seen kind.Refresh e = loud_as P now client_kind asker h a s t seen kind.Refresh
 
-pub says_active : (P : StoreFields) (now : ℕ) (sort : Sort) (asker : Dot) (h : Handle) (a : IsActive (map.get (held_facts P)) now h) → sees sort asker a.issued.client ≡ true → told_to P now sort asker h ≡ told_by_kind h.id.kind a.issued.client a.minted.expiry a.minted.start a.minted.scope a.issued.subject
-says_active P now sort asker h a seen =
+pub says_active : (P : StoreFields) (now : ℕ) (client_kind : ClientKind) (asker : Dot) (h : Handle) (a : IsActive (map.get (held_facts P)) now h) → sees client_kind asker a.issued.client ≡ true → told_to P now client_kind asker h ≡ told_by_kind h.id.kind a.issued.client a.minted.expiry a.minted.start a.minted.scope a.issued.subject
+says_active P now client_kind asker h a seen =
     let x : (s : StandingFields) × Tells P now h a s = tells P now h a in
-    ap told (loud_by_kind P now sort asker h a x.0 x.1 seen h.id.kind refl)
+    ap told (loud_by_kind P now client_kind asker h a x.0 x.1 seen h.id.kind refl)
     ∙ told_fields h.id.kind x.0
     ∙ same_fields P now h a x.0 x.1 h.id.kind

@@ -11,8 +11,8 @@ use Rattle.tk_handle.specs.declared.handle.Handle.{Handle}
 use Rattle.tk_handle.specs.declared.kind.Kind.{Kind}
 use Rattle.tk_handle.specs.declared.kind.Kind.TheVariants as kind
 use Rattle.tk_handle.specs.declared.token_id.TokenId.{TokenId}
-use Rattle.tk_fact.specs.declared.sort.Sort.{Sort}
-use Rattle.tk_fact.specs.declared.sort.Sort.TheVariants.{Public, Confidential, Resource}
+use Rattle.tk_fact.specs.declared.client_kind.ClientKind.{ClientKind}
+use Rattle.tk_fact.specs.declared.client_kind.ClientKind.TheVariants.{Public, Confidential, Resource}
 use Rattle.tk_fact.specs.declared.token_revoked.TokenRevoked.{TokenRevoked}
 use Rattle.tk_store.specs.FactSet.{FactSet}
 use Rattle.tk_store.specs.StoreFields.{StoreFields, held_facts}
@@ -36,7 +36,7 @@ use Rattle.tk_message.specs.declared.caller.Caller.{Caller}
 use Rattle.tk_message.specs.declared.caller.Caller.TheVariants as caller
 use Rattle.tk_message.specs.declared.decision.Decision.{Decision}
 use Rattle.tk_message.specs.declared.place.Place.{Place}
-use Rattle.tk_message.specs.declared.status.Status.TheVariants.{Ok}
+use Rattle.tk_message.specs.declared.status_code.StatusCode.TheVariants.{Ok}
 use Rattle.tk_query.specs.Caller.{known_names}
 use Rattle.tk_query.specs.Introspected.{sees, is_live, active, introspected_by_standing, introspected_by_status, introspected_by_kind, introspected_by_handle, introspected_by_text, introspected_as, introspected_by_client, introspected_by_caller}
 use Rattle.tk_query.specs.Introspection.{told, introspection_of}
@@ -62,38 +62,38 @@ second_fails true c x y h = ap (λ t. cond (not t) x y) h
 second_fails false c x y h = refl
 
 -- a lost token is inactive
-lost_inactive : (sort : Sort) (asker : Dot) (k : Kind) (now : ℕ) (h : Handle) (s : Status) → IsLost now h s → introspected_by_status sort asker k s ≡ Inactive
-lost_inactive sort asker k now h Unseen lost = absurd lost
-lost_inactive sort asker k now h Wrong lost = refl
-lost_inactive sort asker k now h (Broken expiry) lost = refl
-lost_inactive sort asker k now h (Known s) lost = second_fails (sees sort asker s.client) (is_live s.state) Inactive (active k s) (closed_asleep s.state lost.0)
+lost_inactive : (client_kind : ClientKind) (asker : Dot) (k : Kind) (now : ℕ) (h : Handle) (s : Status) → IsLost now h s → introspected_by_status client_kind asker k s ≡ Inactive
+lost_inactive client_kind asker k now h Unseen lost = absurd lost
+lost_inactive client_kind asker k now h Wrong lost = refl
+lost_inactive client_kind asker k now h (Broken expiry) lost = refl
+lost_inactive client_kind asker k now h (Known s) lost = second_fails (sees client_kind asker s.client) (is_live s.state) Inactive (active k s) (closed_asleep s.state lost.0)
 
-alike_told : (sort : Sort) (asker : Dot) (k : Kind) (now : ℕ) (h : Handle) (s r : Status) → AnsweredAlike now h s r → introspected_by_status sort asker k s ≡ introspected_by_status sort asker k r
-alike_told sort asker k now h s r (inl same) = ap (introspected_by_status sort asker k) same
-alike_told sort asker k now h s r (inr lost) = lost_inactive sort asker k now h s lost.0 ∙ sym (lost_inactive sort asker k now h r lost.1)
+alike_told : (client_kind : ClientKind) (asker : Dot) (k : Kind) (now : ℕ) (h : Handle) (s r : Status) → AnsweredAlike now h s r → introspected_by_status client_kind asker k s ≡ introspected_by_status client_kind asker k r
+alike_told client_kind asker k now h s r (inl same) = ap (introspected_by_status client_kind asker k) same
+alike_told client_kind asker k now h s r (inr lost) = lost_inactive client_kind asker k now h s lost.0 ∙ sym (lost_inactive client_kind asker k now h r lost.1)
 
 module _ (P Q : StoreFields) (now : ℕ) (alike : (h : Handle) → AnsweredAlike now h (status_here P now h) (status_here Q now h)) where
-  told_by_kind : (sort : Sort) (asker : Dot) (h : Handle) (k : Kind) → introspected_by_kind P now sort asker h k ≡ introspected_by_kind Q now sort asker h k
-  told_by_kind sort asker h kind.Code = refl
-  told_by_kind sort asker h kind.Access = alike_told sort asker kind.Access now h (status_here P now h) (status_here Q now h) (alike h)
-  told_by_kind sort asker h kind.Refresh = alike_told sort asker kind.Refresh now h (status_here P now h) (status_here Q now h) (alike h)
+  told_by_kind : (client_kind : ClientKind) (asker : Dot) (h : Handle) (k : Kind) → introspected_by_kind P now client_kind asker h k ≡ introspected_by_kind Q now client_kind asker h k
+  told_by_kind client_kind asker h kind.Code = refl
+  told_by_kind client_kind asker h kind.Access = alike_told client_kind asker kind.Access now h (status_here P now h) (status_here Q now h) (alike h)
+  told_by_kind client_kind asker h kind.Refresh = alike_told client_kind asker kind.Refresh now h (status_here P now h) (status_here Q now h) (alike h)
 
-  told_by_handle : (sort : Sort) (asker : Dot) (o : Option Handle) → introspected_by_handle P now sort asker o ≡ introspected_by_handle Q now sort asker o
-  told_by_handle sort asker None = refl
-  told_by_handle sort asker (Some h) = told_by_kind sort asker h h.id.kind
+  told_by_handle : (client_kind : ClientKind) (asker : Dot) (o : Option Handle) → introspected_by_handle P now client_kind asker o ≡ introspected_by_handle Q now client_kind asker o
+  told_by_handle client_kind asker None = refl
+  told_by_handle client_kind asker (Some h) = told_by_kind client_kind asker h h.id.kind
 
-  told_by_text : (sort : Sort) (asker : Dot) (o : Option (List ℕ)) → introspected_by_text P now sort asker o ≡ introspected_by_text Q now sort asker o
-  told_by_text sort asker None = refl
-  told_by_text sort asker (Some text) = told_by_handle sort asker (handle_in text)
+  told_by_text : (client_kind : ClientKind) (asker : Dot) (o : Option (List ℕ)) → introspected_by_text P now client_kind asker o ≡ introspected_by_text Q now client_kind asker o
+  told_by_text client_kind asker None = refl
+  told_by_text client_kind asker (Some text) = told_by_handle client_kind asker (handle_in text)
 
-  told_as : (params : Pairs) (asker : Dot) (sort : Sort) → introspected_as P now params asker sort ≡ introspected_as Q now params asker sort
+  told_as : (params : Pairs) (asker : Dot) (client_kind : ClientKind) → introspected_as P now params asker client_kind ≡ introspected_as Q now params asker client_kind
   told_as params asker Public = refl
   told_as params asker (Confidential digest) = told_by_text (Confidential digest) asker (value_of (codes "token") params)
   told_as params asker (Resource digest) = told_by_text (Resource digest) asker (value_of (codes "token") params)
 
   told_by_client : (params : Pairs) (asker : Dot) (o : Option ClientFields) → introspected_by_client P now params asker o ≡ introspected_by_client Q now params asker o
   told_by_client params asker None = refl
-  told_by_client params asker (Some client) = told_as params asker client.sort
+  told_by_client params asker (Some client) = told_as params asker client.client_kind
 
   told_by_caller : ((d : Dot) → client_view (held_facts P) d ≡ client_view (held_facts Q) d) → (params : Pairs) (c : Caller) → introspected_by_caller P now params c ≡ introspected_by_caller Q now params c
   told_by_caller views params caller.DuplicateParameter = refl

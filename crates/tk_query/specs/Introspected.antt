@@ -22,8 +22,8 @@ use Rattle.tk_handle.specs.declared.kind.Kind.{Kind}
 use Rattle.tk_handle.specs.declared.kind.Kind.TheVariants as kind
 use Rattle.tk_handle.specs.declared.handle.Handle.{Handle}
 use Rattle.tk_handle.specs.Handle.{handle_in}
-use Rattle.tk_fact.specs.declared.sort.Sort.{Sort}
-use Rattle.tk_fact.specs.declared.sort.Sort.TheVariants.{Public, Confidential, Resource}
+use Rattle.tk_fact.specs.declared.client_kind.ClientKind.{ClientKind}
+use Rattle.tk_fact.specs.declared.client_kind.ClientKind.TheVariants.{Public, Confidential, Resource}
 use Rattle.tk_store.specs.StoreFields.{StoreFields, held_facts}
 use Rattle.tk_ledger.specs.Bodies.{is_same_dot}
 use Rattle.tk_ledger.specs.Views.{client_view}
@@ -48,7 +48,7 @@ use Rattle.tk_query.specs.declared.refusal.Refusal.TheVariants as refusal
 
 -- a client may see the tokens of the other: a resource server sees every token, another client its
 -- own (RFC 7662, 2.1; who sees what is own)
-abbrev pub sees : Sort → Dot → Dot → Bool
+abbrev pub sees : ClientKind → Dot → Dot → Bool
 sees Public asker client = false
 sees (Confidential digest) asker client = is_same_dot client asker
 sees (Resource digest) asker client = true
@@ -71,39 +71,39 @@ active kind.Refresh s = Refresh s
 
 -- the outcome by the token's standing: a token that the sender may not see, or that is not live, is
 -- inactive (RFC 7662, 2.2)
-abbrev pub introspected_by_standing : Sort → Dot → Kind → StandingFields → Introspected
-introspected_by_standing sort asker k s =
-    if not (sees sort asker s.client) || not (is_live s.state) then Inactive else active k s
+abbrev pub introspected_by_standing : ClientKind → Dot → Kind → StandingFields → Introspected
+introspected_by_standing client_kind asker k s =
+    if not (sees client_kind asker s.client) || not (is_live s.state) then Inactive else active k s
 
 -- the outcome by the token's status: an unknown token is inactive (RFC 7662, 2.2)
-abbrev pub introspected_by_status : Sort → Dot → Kind → Status → Introspected
-introspected_by_status sort asker k Unseen = Inactive
-introspected_by_status sort asker k Wrong = Inactive
-introspected_by_status sort asker k (Broken expiry) = Inactive
-introspected_by_status sort asker k (Known s) = introspected_by_standing sort asker k s
+abbrev pub introspected_by_status : ClientKind → Dot → Kind → Status → Introspected
+introspected_by_status client_kind asker k Unseen = Inactive
+introspected_by_status client_kind asker k Wrong = Inactive
+introspected_by_status client_kind asker k (Broken expiry) = Inactive
+introspected_by_status client_kind asker k (Known s) = introspected_by_standing client_kind asker k s
 
 -- the outcome by the kind of the handle: a code is inactive
-abbrev pub introspected_by_kind : StoreFields → ℕ → Sort → Dot → Handle → Kind → Introspected
-introspected_by_kind P now sort asker h kind.Code = Inactive
-introspected_by_kind P now sort asker h kind.Access =
-    introspected_by_status sort asker kind.Access (status_here P now h)
-introspected_by_kind P now sort asker h kind.Refresh =
-    introspected_by_status sort asker kind.Refresh (status_here P now h)
+abbrev pub introspected_by_kind : StoreFields → ℕ → ClientKind → Dot → Handle → Kind → Introspected
+introspected_by_kind P now client_kind asker h kind.Code = Inactive
+introspected_by_kind P now client_kind asker h kind.Access =
+    introspected_by_status client_kind asker kind.Access (status_here P now h)
+introspected_by_kind P now client_kind asker h kind.Refresh =
+    introspected_by_status client_kind asker kind.Refresh (status_here P now h)
 
 -- the outcome by the handle: a text that is no handle is inactive (RFC 7662, 2.2)
-abbrev pub introspected_by_handle : StoreFields → ℕ → Sort → Dot → Option Handle → Introspected
-introspected_by_handle P now sort asker None = Inactive
-introspected_by_handle P now sort asker (Some h) = introspected_by_kind P now sort asker h h.id.kind
+abbrev pub introspected_by_handle : StoreFields → ℕ → ClientKind → Dot → Option Handle → Introspected
+introspected_by_handle P now client_kind asker None = Inactive
+introspected_by_handle P now client_kind asker (Some h) = introspected_by_kind P now client_kind asker h h.id.kind
 
 -- the outcome by the token's text, which is required (RFC 7662, 2.1)
-abbrev pub introspected_by_text : StoreFields → ℕ → Sort → Dot → Option (List ℕ) → Introspected
-introspected_by_text P now sort asker None = Refused refusal.MissingToken
-introspected_by_text P now sort asker (Some text) =
-    introspected_by_handle P now sort asker (handle_in text)
+abbrev pub introspected_by_text : StoreFields → ℕ → ClientKind → Dot → Option (List ℕ) → Introspected
+introspected_by_text P now client_kind asker None = Refused refusal.MissingToken
+introspected_by_text P now client_kind asker (Some text) =
+    introspected_by_handle P now client_kind asker (handle_in text)
 
 -- the outcome for a client by its kind: a public client has proved nothing and is refused (RFC
 -- 7662, 2.1)
-abbrev pub introspected_as : StoreFields → ℕ → Pairs → Dot → Sort → Introspected
+abbrev pub introspected_as : StoreFields → ℕ → Pairs → Dot → ClientKind → Introspected
 introspected_as P now params asker Public = Refused refusal.PublicClient
 introspected_as P now params asker (Confidential digest) =
     introspected_by_text P now (Confidential digest) asker (value_of (codes "token") params)
@@ -115,7 +115,7 @@ abbrev pub introspected_by_client : StoreFields → ℕ → Pairs → Dot → Op
     → Introspected
 introspected_by_client P now params asker None = Refused refusal.InvalidClient
 introspected_by_client P now params asker (Some client) =
-    introspected_as P now params asker client.sort
+    introspected_as P now params asker client.client_kind
 
 -- the outcome for the sender: no parameter that the endpoint knows may occur twice, no credentials
 -- in two places, and a client must be authenticated (RFC 6749, 2.3 and 3.2; RFC 7662, 2.3)

@@ -4,7 +4,7 @@
 --   introspection_of   the reply to a request
 use Rattle.std.specs.Prelude.{ℕ}
 use Rattle.tk_store.specs.StoreFields.{StoreFields, held_facts}
-use Rattle.tk_message.specs.declared.status.Status.TheVariants.{Ok}
+use Rattle.tk_message.specs.declared.status_code.StatusCode.TheVariants.{Ok}
 use Rattle.tk_message.specs.Bodies.{access_body, refresh_body, standing_body}
 use Rattle.tk_message.specs.Caller.{caller_of}
 use Rattle.tk_message.specs.Reply.{error_reply, inactive_reply, json_reply}

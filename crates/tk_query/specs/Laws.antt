@@ -12,13 +12,13 @@ use Rattle.tk_handle.specs.declared.kind.Kind.{Kind}
 use Rattle.tk_handle.specs.declared.kind.Kind.TheVariants as kind
 use Rattle.tk_handle.specs.declared.handle.Handle.{Handle}
 use Rattle.tk_handle.specs.declared.token_id.TokenId.{TokenId}
-use Rattle.tk_fact.specs.declared.sort.Sort.{Sort}
+use Rattle.tk_fact.specs.declared.client_kind.ClientKind.{ClientKind}
 use Rattle.tk_store.specs.StoreFields.{StoreFields, held_facts}
 use Rattle.tk_ledger.specs.Alike.{AnsweredAlike}
 use Rattle.tk_ledger.specs.Status.{status_here, IsActive}
 use Rattle.tk_ledger.specs.Tokens.{is_revoked}
 use Rattle.tk_ledger.specs.Views.{client_view}
-use Rattle.tk_message.specs.declared.status.Status.TheVariants.{Ok}
+use Rattle.tk_message.specs.declared.status_code.StatusCode.TheVariants.{Ok}
 use Rattle.tk_message.specs.Bodies.{access_body, refresh_body}
 use Rattle.tk_message.specs.Reply.{inactive_reply, json_reply}
 use Rattle.tk_message.specs.Caller.{caller_of}
@@ -39,22 +39,22 @@ told_by_kind kind.Refresh client expiry start scope subject =
     json_reply Ok (refresh_body client expiry start scope subject)
 
 -- the reply to a client of the given kind for a handle
-abbrev pub told_to : StoreFields → ℕ → Sort → Dot → Handle → ReplyFields
-told_to P now sort asker h = told (introspected_by_handle P now sort asker (Some h))
+abbrev pub told_to : StoreFields → ℕ → ClientKind → Dot → Handle → ReplyFields
+told_to P now client_kind asker h = told (introspected_by_handle P now client_kind asker (Some h))
 
 -- the reply for an active token that the sender may see has the client and subject of the code, and
 -- the expiry, start and scope of the fact that minted the token
 abbrev pub SaysActive : Type 0
 SaysActive =
-    (P : StoreFields) (now : ℕ) (sort : Sort) (asker : Dot) (h : Handle)
-    (a : IsActive (map.get (held_facts P)) now h) → sees sort asker a.issued.client ≡ true
-    → told_to P now sort asker h ≡ told_by_kind h.id.kind a.issued.client a.minted.expiry
+    (P : StoreFields) (now : ℕ) (client_kind : ClientKind) (asker : Dot) (h : Handle)
+    (a : IsActive (map.get (held_facts P)) now h) → sees client_kind asker a.issued.client ≡ true
+    → told_to P now client_kind asker h ≡ told_by_kind h.id.kind a.issued.client a.minted.expiry
     a.minted.start a.minted.scope a.issued.subject
 
 -- the reply for a token that is not active is that it is not, whoever asks
 abbrev pub SaysNothing : Type 0
-SaysNothing = (P : StoreFields) (now : ℕ) (sort : Sort) (asker : Dot) (h : Handle)
-    → ¬ IsActive (map.get (held_facts P)) now h → told_to P now sort asker h ≡ inactive_reply
+SaysNothing = (P : StoreFields) (now : ℕ) (client_kind : ClientKind) (asker : Dot) (h : Handle)
+    → ¬ IsActive (map.get (held_facts P)) now h → told_to P now client_kind asker h ≡ inactive_reply
 
 -- ---- two stores that answer each handle alike
 

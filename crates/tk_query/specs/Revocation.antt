@@ -5,7 +5,7 @@ use Rattle.tk_fact.specs.declared.body.Body.TheVariants.{TokenRevoked}
 use Rattle.tk_store.specs.StoreFields.{StoreFields, held_facts}
 use Rattle.tk_message.specs.declared.decision.Decision.{Decision}
 use Rattle.tk_message.specs.declared.place.Place.{Place}
-use Rattle.tk_message.specs.declared.status.Status.TheVariants.{Ok}
+use Rattle.tk_message.specs.declared.status_code.StatusCode.TheVariants.{Ok}
 use Rattle.tk_message.specs.Caller.{caller_of}
 use Rattle.tk_message.specs.Decision.{answered, refused}
 use Rattle.tk_message.specs.Reply.{empty_reply}

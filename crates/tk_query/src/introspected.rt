@@ -19,7 +19,7 @@ ghost use Rattle.std.specs.Option.{option_copied};
 ghost use Rattle.tk_query.specs.Introspected as spec;
 
 use crate::refusal::Refusal;
-use tk_fact::Sort;
+use tk_fact::ClientKind;
 use tk_family::Steps;
 use tk_handle::{Dot, Handle, Kind, Moment};
 use tk_ledger::{Ledger, State, Status};
@@ -39,7 +39,7 @@ pub(crate) fn introspect<'a>(
         Caller::MixedCredentials => Introspected::Refused(Refusal::MixedCredentials),
         Caller::InvalidClient => Introspected::Refused(Refusal::InvalidClient),
         Caller::Client(asker) => match ledger.client(asker) {
-            Some(client) => introspect_as(ledger, now, params, asker, client.sort),
+            Some(client) => introspect_as(ledger, now, params, asker, client.client_kind),
             None => Introspected::Refused(Refusal::InvalidClient),
         },
     }
@@ -51,14 +51,26 @@ fn introspect_as<'a>(
     now: Moment,
     params: &Params,
     asker: Dot,
-    sort: &Sort,
+    client_kind: &ClientKind,
 ) -> Introspected<'a>
-    ensures { result ≡ spec.introspected_as ledger.now now params.now asker sort.now }
+    ensures { result ≡ spec.introspected_as ledger.now now params.now asker client_kind.now }
 {
-    match sort {
-        Sort::Public => Introspected::Refused(Refusal::PublicClient),
-        Sort::Confidential(_) => introspect_token(ledger, now, sort, asker, params.value("token")),
-        Sort::Resource(_) => introspect_token(ledger, now, sort, asker, params.value("token")),
+    match client_kind {
+        ClientKind::Public => Introspected::Refused(Refusal::PublicClient),
+        ClientKind::Confidential(_) => introspect_token(
+            ledger,
+            now,
+            client_kind,
+            asker,
+            params.value("token"),
+        ),
+        ClientKind::Resource(_) => introspect_token(
+            ledger,
+            now,
+            client_kind,
+            asker,
+            params.value("token"),
+        ),
     }
 }
 
@@ -66,18 +78,18 @@ fn introspect_as<'a>(
 fn introspect_token<'a>(
     ledger: &'a Ledger,
     now: Moment,
-    sort: &Sort,
+    client_kind: &ClientKind,
     asker: Dot,
     text: Option<&str>,
 ) -> Introspected<'a>
-    ensures { result ≡ spec.introspected_by_text ledger.now now sort.now asker
+    ensures { result ≡ spec.introspected_by_text ledger.now now client_kind.now asker
         (option_copied text.entry) }
 {
     let Some(text) = text else {
         return Introspected::Refused(Refusal::MissingToken);
     };
     match Handle::read(text.as_bytes()) {
-        Some(handle) => introspect_handle(ledger, now, sort, asker, &handle),
+        Some(handle) => introspect_handle(ledger, now, client_kind, asker, &handle),
         None => Introspected::Inactive,
     }
 }
@@ -86,43 +98,53 @@ fn introspect_token<'a>(
 fn introspect_handle<'a>(
     ledger: &'a Ledger,
     now: Moment,
-    sort: &Sort,
+    client_kind: &ClientKind,
     asker: Dot,
     handle: &Handle,
 ) -> Introspected<'a>
-    ensures { result ≡ spec.introspected_by_kind ledger.now now sort.now asker handle.now
+    ensures { result ≡ spec.introspected_by_kind ledger.now now client_kind.now asker handle.now
         handle.now.id.kind }
 {
     match handle.id.kind {
         Kind::Code => Introspected::Inactive,
         Kind::Access => {
             let status = ledger.status(now, handle, &mut Steps::new());
-            by_status(sort, asker, Kind::Access, status)
+            by_status(client_kind, asker, Kind::Access, status)
         }
         Kind::Refresh => {
             let status = ledger.status(now, handle, &mut Steps::new());
-            by_status(sort, asker, Kind::Refresh, status)
+            by_status(client_kind, asker, Kind::Refresh, status)
         }
     }
 }
 
 // Judges a request by the token's status.
-fn by_status<'a>(sort: &Sort, asker: Dot, kind: Kind, status: Status<'a>) -> Introspected<'a>
-    ensures { result ≡ spec.introspected_by_status sort.now asker kind status.entry }
+fn by_status<'a>(
+    client_kind: &ClientKind,
+    asker: Dot,
+    kind: Kind,
+    status: Status<'a>,
+) -> Introspected<'a>
+    ensures { result ≡ spec.introspected_by_status client_kind.now asker kind status.entry }
 {
     match status {
         Status::Unseen => Introspected::Inactive,
         Status::Wrong => Introspected::Inactive,
         Status::Broken(_) => Introspected::Inactive,
-        Status::Known(standing) => by_standing(sort, asker, kind, standing),
+        Status::Known(standing) => by_standing(client_kind, asker, kind, standing),
     }
 }
 
 // Judges a request by the token's standing.
-fn by_standing<'a>(sort: &Sort, asker: Dot, kind: Kind, standing: Standing<'a>) -> Introspected<'a>
-    ensures { result ≡ spec.introspected_by_standing sort.now asker kind standing.entry }
+fn by_standing<'a>(
+    client_kind: &ClientKind,
+    asker: Dot,
+    kind: Kind,
+    standing: Standing<'a>,
+) -> Introspected<'a>
+    ensures { result ≡ spec.introspected_by_standing client_kind.now asker kind standing.entry }
 {
-    if !sees(sort, asker, standing.client) || !is_live(standing.state) {
+    if !sees(client_kind, asker, standing.client) || !is_live(standing.state) {
         return Introspected::Inactive;
     }
     match kind {
@@ -133,13 +155,13 @@ fn by_standing<'a>(sort: &Sort, asker: Dot, kind: Kind, standing: Standing<'a>) 
 }
 
 // Returns whether a client of the given kind may see the tokens of another client.
-fn sees(sort: &Sort, asker: Dot, client: Dot) -> bool
-    ensures { result ≡ spec.sees sort.now asker client }
+fn sees(client_kind: &ClientKind, asker: Dot, client: Dot) -> bool
+    ensures { result ≡ spec.sees client_kind.now asker client }
 {
-    match sort {
-        Sort::Public => false,
-        Sort::Confidential(_) => client == asker,
-        Sort::Resource(_) => true,
+    match client_kind {
+        ClientKind::Public => false,
+        ClientKind::Confidential(_) => client == asker,
+        ClientKind::Resource(_) => true,
     }
 }
 

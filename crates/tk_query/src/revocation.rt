@@ -11,7 +11,7 @@ use std::alloc::{AllocError, Global};
 use tk_fact::Body;
 use tk_handle::Moment;
 use tk_ledger::Ledger;
-use tk_message::{Decision, Place, Request, Status, empty_reply};
+use tk_message::{Decision, Place, Request, StatusCode, empty_reply};
 
 /// Decides a revocation request at a moment (RFC 7009, 2). Returns the reply, and the fact that the
 /// client revoked the token, if there is something to revoke.
@@ -45,9 +45,9 @@ fn decide_by(alloc: Global, revocation: Revocation) -> Result<Decision, AllocErr
 {
     match revocation {
         Revocation::Refused(why) => Decision::refuse(alloc, why.code()),
-        Revocation::Done(_) => Ok(Decision::answer(empty_reply(Status::Ok))),
+        Revocation::Done(_) => Ok(Decision::answer(empty_reply(StatusCode::Ok))),
         Revocation::Revokes(fact) => Ok(Decision {
-            reply: empty_reply(Status::Ok),
+            reply: empty_reply(StatusCode::Ok),
             made: Some(Body::TokenRevoked(fact)),
         }),
     }

@@ -11,7 +11,7 @@ use Rattle.std.specs.List.{join_with_byte, list_all, list_any, slice_split}
 use Rattle.std.specs.Ordering.{is_lt, nat_cmp}
 use Rattle.std.specs.Str.{bytes_eq}
 use Rattle.tk_scope.specs.declared.error.ScopeError.{ScopeError}
-use Rattle.tk_scope.specs.declared.error.ScopeError.TheVariants.{TooLong, Grammar, TooMany}
+use Rattle.tk_scope.specs.declared.error.ScopeError.TheVariants.{TooLong, Malformed, TooMany}
 
 -- a byte that a scope-token may have: %x21 / %x23-5B / %x5D-7E (RFC 6749, 3.3)
 abbrev pub is_scope_byte : ℕ → Bool
@@ -31,16 +31,16 @@ abbrev pub greatest_length : ℕ
 greatest_length = 1024
 
 -- the greatest number of tokens of a scope as it is written, counting repeated ones (own)
-abbrev pub most_tokens : ℕ
-most_tokens = 32
+abbrev pub max_tokens : ℕ
+max_tokens = 32
 
 -- the first rule of a scope that a text breaks: its length, its grammar (RFC 6749, 3.3), its number
 -- of tokens
 abbrev pub scope_refusal : List ℕ → Option ScopeError
 scope_refusal text =
     if nat_lt greatest_length (length text) then Some TooLong
-    else if not (list_all is_token (tokens_of text)) then Some Grammar
-    else if nat_lt most_tokens (length (tokens_of text)) then Some TooMany
+    else if not (list_all is_token (tokens_of text)) then Some Malformed
+    else if nat_lt max_tokens (length (tokens_of text)) then Some TooMany
     else None
 
 -- a list of tokens that ascend in byte order, with one more token in its place, unless the list has

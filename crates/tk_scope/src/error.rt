@@ -17,7 +17,7 @@ pub enum ScopeError {
     TooLong,
     /// The text is not scope-tokens with one space between each two.
     #[error("the scope is malformed")]
-    Grammar,
+    Malformed,
     /// The text has more than 32 tokens, counting repeated ones.
     #[error("the scope has too many tokens")]
     TooMany,

@@ -55,17 +55,17 @@ impl Scope {
 
         // Every error but `Memory` means that the text is no scope.
         ensures too_long { IsErrOf result ScopeError.TooLong → scope_of text.now ≡ None }
-        ensures grammar { IsErrOf result ScopeError.Grammar → scope_of text.now ≡ None }
+        ensures grammar { IsErrOf result ScopeError.Malformed → scope_of text.now ≡ None }
         ensures too_many { IsErrOf result ScopeError.TooMany → scope_of text.now ≡ None }
     {
         if text.len() > MAX_BYTES {
             return Err(ScopeError::TooLong);
         }
         let Ok(text) = str::from_utf8(text) else {
-            return Err(ScopeError::Grammar);
+            return Err(ScopeError::Malformed);
         };
         if !is_list_of_tokens(text) {
-            return Err(ScopeError::Grammar);
+            return Err(ScopeError::Malformed);
         }
         if token_count(text) > MAX_TOKENS {
             return Err(ScopeError::TooMany);

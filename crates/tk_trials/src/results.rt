@@ -20,9 +20,9 @@ type Text = (
 
 #[rattlefmt::skip]
 const TEXTS: &[Text] = &[
-    ("two spaces", b"read ", 1, b" write", Some(ScopeError::Grammar)),
-    ("nothing", b"", 0, b"", Some(ScopeError::Grammar)),
-    ("a backslash", b"a ", 1, b"\\", Some(ScopeError::Grammar)),
+    ("two spaces", b"read ", 1, b" write", Some(ScopeError::Malformed)),
+    ("nothing", b"", 0, b"", Some(ScopeError::Malformed)),
+    ("a backslash", b"a ", 1, b"\\", Some(ScopeError::Malformed)),
     ("33 tokens", b"a ", 32, b"b", Some(ScopeError::TooMany)),
     ("32 tokens", b"a ", 31, b"b", None),
     ("1,025 letters", b"a", 1_025, b"", Some(ScopeError::TooLong)),
@@ -30,7 +30,7 @@ const TEXTS: &[Text] = &[
     // The length is checked first, and the number of tokens last.
     ("1,025 spaces", b" ", 1_025, b"", Some(ScopeError::TooLong)),
     ("513 tokens", b"a ", 512, b"b", Some(ScopeError::TooLong)),
-    ("33 tokens and a backslash", b"a ", 32, b"\\", Some(ScopeError::Grammar)),
+    ("33 tokens and a backslash", b"a ", 32, b"\\", Some(ScopeError::Malformed)),
 ];
 
 fn repeated(alloc: Global, piece: &[u8], times: usize, behind: &[u8]) -> Option<Vec<u8>> {

@@ -11,9 +11,8 @@ enum Cause {
     Nothing,
     Empty,
     TooMany,
-    Bad,
     Method,
-    Grammar,
+    Malformed,
     Memory,
 }
 
@@ -25,7 +24,7 @@ fn cause_of_list(read: Result<Redirects, RedirectError>) -> Cause {
         }
         Err(RedirectError::Empty) => Cause::Empty,
         Err(RedirectError::TooMany) => Cause::TooMany,
-        Err(RedirectError::Bad) => Cause::Bad,
+        Err(RedirectError::Malformed) => Cause::Malformed,
         Err(RedirectError::Memory) => Cause::Memory,
     }
 }
@@ -42,10 +41,10 @@ const LISTS: &[(&str, &[&[u8]], Cause, Cause)] = &[
     ("eight URIs", &[GOOD; 8], Cause::Nothing, Cause::Nothing),
     ("nine URIs", &[GOOD; 9], Cause::TooMany, Cause::TooMany),
     ("nine paths", &[PATH; 9], Cause::TooMany, Cause::TooMany),
-    ("a path", &[PATH], Cause::Bad, Cause::Nothing),
-    ("a path behind a URI", &[GOOD, PATH], Cause::Bad, Cause::Nothing),
-    ("a fragment", &[b"https://app.example/cb#"], Cause::Bad, Cause::Bad),
-    ("an empty URI", &[b""], Cause::Bad, Cause::Bad),
+    ("a path", &[PATH], Cause::Malformed, Cause::Nothing),
+    ("a path behind a URI", &[GOOD, PATH], Cause::Malformed, Cause::Nothing),
+    ("a fragment", &[b"https://app.example/cb#"], Cause::Malformed, Cause::Malformed),
+    ("an empty URI", &[b""], Cause::Malformed, Cause::Malformed),
 ];
 
 #[test]
@@ -70,7 +69,7 @@ fn refusal(alloc: Global, method: &[u8], text: &[u8]) -> Cause {
             Cause::Nothing
         }
         Err(ChallengeError::Method) => Cause::Method,
-        Err(ChallengeError::Grammar) => Cause::Grammar,
+        Err(ChallengeError::Malformed) => Cause::Malformed,
         Err(ChallengeError::Memory) => Cause::Memory,
     }
 }
@@ -88,11 +87,11 @@ fn is_cause(alloc: Global, method: &[u8], letters: usize, want: Cause) -> bool {
 const CHALLENGES: &[(&[u8], usize, Cause)] = &[
     (b"S512", 42, Cause::Method),
     (b"S512", 43, Cause::Method),
-    (b"plain", 42, Cause::Grammar),
+    (b"plain", 42, Cause::Malformed),
     (b"plain", 43, Cause::Nothing),
     (b"plain", 128, Cause::Nothing),
-    (b"plain", 129, Cause::Grammar),
-    (b"S256", 42, Cause::Grammar),
+    (b"plain", 129, Cause::Malformed),
+    (b"S256", 42, Cause::Malformed),
     (b"S256", 43, Cause::Nothing),
 ];
 

@@ -22,8 +22,8 @@ use Rattle.tk_region.specs.Step.{PreparedFields, early_in, prepared_by, prepared
 use Rattle.tk_edge.specs.Answers.{answer_by, fact_by, rendered}
 use Rattle.tk_edge.specs.declared.hear.Arrival.{Arrival}
 use Rattle.tk_edge.specs.declared.hear.Arrival.TheVariants.{Silence, Refused, Request, Exchange}
-use Rattle.tk_standing.specs.StandsFor.{SlotStands, StandsFor, AreSound}
-use Rattle.tk_standing.proofs.DecisionLaws.{decision_stands}
+use Rattle.tk_retention.specs.StandsFor.{SlotStands, StandsFor, AreSound}
+use Rattle.tk_retention.proofs.DecisionLaws.{decision_stands}
 use Rattle.tk_world.specs.State.{Kept, kept_store}
 use Rattle.tk_world.proofs.KnownLaws.{SameDots, next_same}
 

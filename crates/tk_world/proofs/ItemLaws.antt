@@ -25,11 +25,11 @@ use Rattle.tk_store.proofs.NextDotLaws.{at_most_last_serial}
 use Rattle.tk_store.proofs.PutLaws.{by_dot, get_here, none_is_not_some, some_injective}
 use Rattle.tk_ledger.specs.Retention.{MaySkip}
 use Rattle.tk_bundle.specs.BundleFields.{BundleFields, Items, is_mark}
-use Rattle.tk_bundle.specs.Bundle.{most_items}
+use Rattle.tk_bundle.specs.Bundle.{max_items}
 use Rattle.tk_bundle.specs.Page as bundles
 use Rattle.tk_region.specs.Taking.{AgreesWith, has_unmade, is_unmade, items_taken, raised}
-use Rattle.tk_standing.specs.StandsFor.{SlotStands, StandsFor}
-use Rattle.tk_standing.proofs.KeepingLaws.{may_more, slot_more, slot_put}
+use Rattle.tk_retention.specs.StandsFor.{SlotStands, StandsFor}
+use Rattle.tk_retention.proofs.KeepingLaws.{may_more, slot_more, slot_put}
 use Rattle.tk_world.specs.Pages.{page_of}
 use Rattle.tk_world.specs.State.{Kept, Sent, State, Consists}
 use Rattle.tk_world.specs.World.{raised_to}
@@ -87,7 +87,7 @@ module _ (P : StoreFields) (U F : FactSet) (S : StandsFor P U F) where
     beyond_same = beyond_dots P.slots F (stands_dots P U F S) v after
 
     page_dots : map dot_of its_items ≡ map dot_of its_facts
-    page_dots = take_dots most_items (beyond P.slots v after) ∙ ap (take most_items) beyond_same ∙ sym (take_dots most_items (beyond F v after))
+    page_dots = take_dots max_items (beyond P.slots v after) ∙ ap (take max_items) beyond_same ∙ sym (take_dots max_items (beyond F v after))
 
     horizon_marks : (t : Bool) → t ≡ true → cond t (Some P.horizon) None ≡ Some P.horizon
     horizon_marks true h = refl
@@ -97,8 +97,8 @@ module _ (P : StoreFields) (U F : FactSet) (S : StandsFor P U F) where
     pub page_items : ItemsStand U (bundles.page_of P v after).bundle.horizon its_items its_facts
     page_items =
         known_items (bundles.page_of P v after).bundle.horizon its_items its_facts (horizon_marks (list_any is_mark its_items)) page_dots
-        (AllIn-part P.slots most_items (beyond P.slots v after) (AllIn-beyond P.slots v after))
-        (AllIn-part F most_items (beyond F v after) (AllIn-beyond F v after))
+        (AllIn-part P.slots max_items (beyond P.slots v after) (AllIn-beyond P.slots v after))
+        (AllIn-part F max_items (beyond F v after) (AllIn-beyond F v after))
 
     -- the horizon of a page is none, or the store's
     pub page_horizon : ((bundles.page_of P v after).bundle.horizon ≡ None) ⊎ ((bundles.page_of P v after).bundle.horizon ≡ Some P.horizon)
@@ -115,7 +115,7 @@ module _ (P : StoreFields) (U F : FactSet) (S : StandsFor P U F) where
     page_last = ap (λ (ds : List Dot). slice_get ds (length its_items - 1)) page_dots ∙ ap (λ n. slice_get (map dot_of its_facts) (n - 1)) page_length
 
     pub page_more : (bundles.page_of P v after).more ≡ (page_of F v after).more
-    page_more = ap (nat_lt most_items) (sym (length_dots (beyond P.slots v after)) ∙ ap length beyond_same ∙ length_dots (beyond F v after))
+    page_more = ap (nat_lt max_items) (sym (length_dots (beyond P.slots v after)) ∙ ap length beyond_same ∙ length_dots (beyond F v after))
 
 -- ---- bundles
 

@@ -102,7 +102,7 @@ introspect_alike old es os ss new run i j q r now request s t one two a b from_o
 -- ---- inactive tokens
 
 inactive : (P : StoreFields) (h : Handle) → ((now : ℕ) → ¬ IsActive (map.get (held_facts P)) now h) → IsInactive P h
-inactive P h never now = (never now, λ sort asker. says_nothing P now sort asker h (never now))
+inactive P h never now = (never now, λ client_kind asker. says_nothing P now client_kind asker h (never now))
 
 pub revoked_inactive : (store : ℕ → StoreFields) → RevokedInactive store
 revoked_inactive store r F within h ended = inactive (store r) h (λ now. ends.revoked_inactive F (held_facts (store r)) within now h ended)

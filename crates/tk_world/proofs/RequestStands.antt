@@ -22,10 +22,10 @@ use Rattle.tk_edge.specs.Answers.{answer_by, fact_by}
 use Rattle.tk_edge.specs.Told.{AnswerFields}
 use Rattle.tk_edge.specs.declared.hear.Arrival.{Arrival}
 use Rattle.tk_edge.specs.declared.hear.Arrival.TheVariants.{Silence, Refused, Request as Asked, Exchange}
-use Rattle.tk_standing.specs.StandsFor.{SlotStands, StandsFor, AddsOne, MeetsFamily}
-use Rattle.tk_standing.proofs.KeepingLaws.{stands_more, fact_stands, sound_stays}
-use Rattle.tk_standing.proofs.MadeLaws.{made_meets}
-use Rattle.tk_standing.proofs.StandingLaws.{held_made}
+use Rattle.tk_retention.specs.StandsFor.{SlotStands, StandsFor, AddsOne, MeetsFamily}
+use Rattle.tk_retention.proofs.KeepingLaws.{stands_more, fact_stands, sound_stays}
+use Rattle.tk_retention.proofs.MadeLaws.{made_meets}
+use Rattle.tk_retention.proofs.StandingLaws.{held_made}
 use Rattle.tk_world.specs.declared.event.Outcome.{Outcome}
 use Rattle.tk_world.specs.declared.event.Outcome.TheVariants.{NoRegion, Reply, Memory}
 use Rattle.tk_world.specs.Acts.{AnswersAt}

@@ -19,8 +19,8 @@ use Rattle.tk_store.specs.Slots.{Slot}
 use Rattle.tk_store.specs.StoreFields.{StoreFields, empty_store}
 use Rattle.tk_store.proofs.PutLaws.{none_is_not_some}
 use Rattle.tk_region.specs.SettingsFields.{SettingsFields, greatest_cap}
-use Rattle.tk_standing.specs.StandsFor.{SlotStands, StandsFor, AreSound}
-use Rattle.tk_standing.proofs.KeepingLaws.{stands_more}
+use Rattle.tk_retention.specs.StandsFor.{SlotStands, StandsFor, AreSound}
+use Rattle.tk_retention.proofs.KeepingLaws.{stands_more}
 use Rattle.tk_world.specs.State.{Kept, State, new_state, with_region, Consists}
 use Rattle.tk_world.specs.WorldFields.{WorldFields, new_world, with_store}
 use Rattle.tk_world.specs.WorldStands.{RegionFor, WorldStands}

@@ -18,8 +18,8 @@ use Rattle.tk_bundle.specs.Page as bundles
 use Rattle.tk_region.specs.RegionFields.{place_in}
 use Rattle.tk_message.specs.Place.{next_in}
 use Rattle.tk_region.specs.Taking.{AgreesWith, has_unmade, items_taken, raised}
-use Rattle.tk_standing.specs.StandsFor.{StandsFor}
-use Rattle.tk_standing.proofs.KeepingLaws.{prune_stands}
+use Rattle.tk_retention.specs.StandsFor.{StandsFor}
+use Rattle.tk_retention.proofs.KeepingLaws.{prune_stands}
 use Rattle.tk_world.specs.declared.event.Event.{Event}
 use Rattle.tk_world.specs.declared.event.Event.TheVariants.{Open, Request, Pull, Deliver, Prune}
 use Rattle.tk_world.specs.declared.event.Outcome.{Outcome}

@@ -6,7 +6,7 @@
 --   Answers     the outcomes of a request that was carried
 --   Carries     what carrying a request does to an edge, by its result
 use Rattle.std.specs.Prelude.{◌≡◌, ◌⊎◌, ℕ, List, IfSome, Result, Ok, Err}
-use Rattle.tk_message.specs.declared.status.Status.{Status}
+use Rattle.tk_message.specs.declared.status_code.StatusCode.{StatusCode}
 use Rattle.tk_region.specs.RegionFields.{Gains}
 use Rattle.tk_region.specs.Step.{IsNextFact}
 use Rattle.tk_edge.specs.Answers.{answer_by, fact_by}
@@ -22,10 +22,10 @@ use Rattle.tk_world.specs.AskedFields.{AskedFields}
 -- bytes of its reply show of the answer
 pub record Way : Type 1 where
   pub Hears : List ℕ → Arrival → Type 0
-  pub Shows : AnswerFields → Status → List ℕ → Type 0
+  pub Shows : AnswerFields → StatusCode → List ℕ → Type 0
 
 -- a reply has the status and the bytes of an answer
-abbrev pub IsReplied : AnswerFields → Status → List ℕ → Type 0
+abbrev pub IsReplied : AnswerFields → StatusCode → List ℕ → Type 0
 IsReplied answer status bytes = (status ≡ answer.status) × (bytes ≡ answer.bytes)
 
 -- the way without a device between: the bytes of the request are heard, and the reply has the

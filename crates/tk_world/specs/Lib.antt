@@ -47,10 +47,10 @@ pub use Rattle.tk_edge.specs.Heard
 pub use Rattle.tk_edge.specs.Rendering
 pub use Rattle.tk_message.specs.RequestFields
 pub use Rattle.tk_ledger.specs.Retention
-pub use Rattle.tk_message.specs.Status
+pub use Rattle.tk_message.specs.StatusCode
 pub use Rattle.tk_region.specs.SettingsFields
 pub use Rattle.tk_region.specs.Taking
-pub use Rattle.tk_standing.specs.StandsFor
+pub use Rattle.tk_retention.specs.StandsFor
 pub use Rattle.tk_store.specs.FactSet
 pub use Rattle.tk_store.specs.Joining
 pub use Rattle.tk_store.specs.StoreFields

@@ -10,7 +10,7 @@ use Rattle.std.specs.List.{flat_map, starts_with, zip}
 use Rattle.std.specs.Option.{option_map}
 use Rattle.tk_handle.specs.declared.dot.Dot.{Dot}
 use Rattle.tk_handle.specs.DotText.{dot_text}
-use Rattle.tk_message.specs.Status.{status_number}
+use Rattle.tk_message.specs.StatusCode.{status_number}
 use Rattle.tk_world.specs.declared.event.Event.{Event}
 use Rattle.tk_world.specs.World.{region_of}
 use Rattle.tk_world.specs.declared.event.Outcome.{Outcome}

@@ -16,7 +16,7 @@ use Rattle.std.specs.FinMap as map
 use Rattle.tk_handle.specs.declared.dot.Dot.{Dot}
 use Rattle.tk_handle.specs.declared.handle.Handle.{Handle}
 use Rattle.tk_family.specs.Families.{IsUnder, IsBad}
-use Rattle.tk_fact.specs.declared.sort.Sort.{Sort}
+use Rattle.tk_fact.specs.declared.client_kind.ClientKind.{ClientKind}
 use Rattle.tk_store.specs.FactSet.{FactSet, Facts, IsSubset, set_of, joined}
 use Rattle.tk_store.specs.StoreFields.{StoreFields, held_facts}
 use Rattle.tk_store.specs.WholeStores.{whole_store}
@@ -24,7 +24,7 @@ use Rattle.tk_ledger.specs.Status.{IsActive}
 use Rattle.tk_ledger.specs.Tokens.{links_in, IsEnded, IsMarked}
 use Rattle.tk_message.specs.declared.request.Endpoint.TheVariants.{Introspect}
 use Rattle.tk_message.specs.Reply.{inactive_reply}
-use Rattle.tk_message.specs.declared.status.Status.{Status}
+use Rattle.tk_message.specs.declared.status_code.StatusCode.{StatusCode}
 use Rattle.tk_message.specs.RequestFields.{RequestFields}
 use Rattle.tk_query.specs.Introspection.{introspection_of}
 use Rattle.tk_query.specs.Laws.{told_to}
@@ -54,7 +54,7 @@ IsFromHorizon old es os ss new run i r now =
 -- the event at this index is an introspection request to the region, at the moment and with some
 -- random words, and this is its reply
 pub record IsIntrospected (es : List Event) (os : List Outcome) (i r now : ℕ)
-    (request : RequestFields) (status : Status) (reply : List ℕ) : Type 0 where
+    (request : RequestFields) (status : StatusCode) (reply : List ℕ) : Type 0 where
   pub words : List ℕ
   pub bytes : Vec ℕ Global
   pub written : Vec ℕ Global
@@ -69,7 +69,7 @@ pub record IsIntrospected (es : List Event) (os : List Outcome) (i r now : ℕ)
 abbrev pub TellsOfSets : (old : State) (es : List Event) (os : List Outcome) (ss : List Facts)
     (new : State) → Run old es os ss new → Type 0
 TellsOfSets old es os ss new run =
-    (i r now : ℕ) (request : RequestFields) (status : Status) (reply : List ℕ)
+    (i r now : ℕ) (request : RequestFields) (status : StatusCode) (reply : List ℕ)
     → IsIntrospected es os i r now request status reply
     → IsFromHorizon old es os ss new run i r now
     → IsReplied (rendered (introspection_of (whole_store (held_before old es ss i r)) now request)
@@ -81,7 +81,7 @@ TellsOfSets old es os ss new run =
 abbrev pub IntrospectAlike : (old : State) (es : List Event) (os : List Outcome)
     (ss : List Facts) (new : State) → Run old es os ss new → Type 0
 IntrospectAlike old es os ss new run =
-    (i j q r now : ℕ) (request : RequestFields) (a b : Status) (one two : List ℕ)
+    (i j q r now : ℕ) (request : RequestFields) (a b : StatusCode) (one two : List ℕ)
     → IsIntrospected es os i q now request a one → IsIntrospected es os j r now request b two
     → IsFromHorizon old es os ss new run i q now → IsFromHorizon old es os ss new run j r now
     → held_before old es ss i q ≡ held_before old es ss j r → (a ≡ b) × (one ≡ two)
@@ -93,7 +93,7 @@ abbrev pub IsInactive : StoreFields → Handle → Type 0
 IsInactive P h =
     (now : ℕ)
     → (¬ IsActive (map.get (held_facts P)) now h)
-    × ((sort : Sort) (asker : Dot) → told_to P now sort asker h ≡ inactive_reply)
+    × ((client_kind : ClientKind) (asker : Dot) → told_to P now client_kind asker h ≡ inactive_reply)
 
 -- a token is inactive in each region that holds facts by which its client revoked it
 abbrev pub RevokedInactive : (ℕ → StoreFields) → Type 0

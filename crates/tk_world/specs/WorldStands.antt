@@ -12,7 +12,7 @@ use Rattle.tk_store.specs.Slots.{Slot, Held, Skipped}
 use Rattle.tk_store.specs.StoreFields.{StoreFields}
 use Rattle.tk_ledger.specs.Retention.{MaySkip}
 use Rattle.tk_bundle.specs.BundleFields.{BundleFields, Items}
-use Rattle.tk_standing.specs.StandsFor.{StandsFor, AreSound}
+use Rattle.tk_retention.specs.StandsFor.{StandsFor, AreSound}
 use Rattle.tk_world.specs.State.{Kept, Sent, State, Consists}
 use Rattle.tk_world.specs.WorldFields.{WorldFields}
 

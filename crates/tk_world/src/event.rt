@@ -1,7 +1,7 @@
 //! The events that may happen to a world (`Event`), and how each ends (`Outcome`).
 
 use tk_handle::{Dot, Moment, RegionNumber};
-use tk_message::Status;
+use tk_message::StatusCode;
 use tk_vector::VersionVector;
 
 /// An event that may happen to a world.
@@ -50,7 +50,7 @@ pub enum Outcome {
     /// The region's reply: its status and bytes. The fact made for the reply, if any, is already
     /// stored. An empty request gets an empty reply.
     Reply {
-        status: Status,
+        status: StatusCode,
         bytes: Vec<u8>,
     },
     /// The bundle made: its number, how many items it has, facts and marks, the dot of the last

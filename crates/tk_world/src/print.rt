@@ -4,7 +4,7 @@
 
 ghost use Rattle.std.specs.Prelude.{◌≡◌, ℕ, decimal};
 ghost use Rattle.std.specs.Option.{option_copied, option_map};
-ghost use Rattle.tk_message.specs.Status.{status_number};
+ghost use Rattle.tk_message.specs.StatusCode.{status_number};
 ghost use Rattle.tk_world.specs.World.{region_of as event_region};
 ghost use Rattle.tk_world.specs.Printed as spec;
 ghost use Rattle.tk_put.specs.Put.{Prints};
@@ -14,7 +14,7 @@ use crate::reply_parts::{body_in, location_in};
 use itoa::Buffer;
 use std::io::{self, Write};
 use tk_handle::{Dot, RegionNumber};
-use tk_message::Status;
+use tk_message::StatusCode;
 use tk_put::put_all;
 
 /// Writes one line for each event, in order, as far as there are outcomes.
@@ -131,7 +131,7 @@ fn print_bundle<O: Write>(
 }
 
 // Writes the line of a reply.
-fn print_reply<O: Write>(output: &mut O, status: Status, bytes: &[u8]) -> io::Result<()>
+fn print_reply<O: Write>(output: &mut O, status: StatusCode, bytes: &[u8]) -> io::Result<()>
     ensures { Prints result (O.contents output.old) (O.contents output.new)
         (spec.reply_line (status_number status) (spec.location_in bytes.now)
         (spec.body_in bytes.now)) }

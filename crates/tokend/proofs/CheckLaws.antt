@@ -41,7 +41,7 @@ is_refused name offset Memory h = absurd h
 is_refused name offset Output h = absurd h
 
 is_told : (name : Text) (why : LoadFault) (fault : Fault) → IsToldAs name why fault → IsSourceFault fault
-is_told name (load.Bad offset) fault h = is_bad name offset fault h
+is_told name (load.Malformed offset) fault h = is_bad name offset fault h
 is_told name (load.Refused offset) fault h = is_refused name offset fault h
 is_told name load.Read fault h = is_unread name fault h
 is_told name load.Memory fault h = subst IsSourceFault (sym h) tt

@@ -15,7 +15,7 @@ use Rattle.tk_edge.specs.EdgeFields.{EdgeFields}
 use Rattle.tk_edge.specs.Pushes.{LogsAndTells, TakesAndLogs, bundle_to_log}
 use Rattle.tk_edge.specs.Served.{Asked, IsServed, RepliesTo, RunsOut, Step, WritesNothing}
 use Rattle.tk_edge.specs.Told.{AnswerFields, Change, UsesLog}
-use Rattle.tk_message.specs.declared.status.Status.{Status}
+use Rattle.tk_message.specs.declared.status_code.StatusCode.{StatusCode}
 use Rattle.tk_edge.specs.declared.exchange.Exchange.TheVariants.{Vector, Pull, Push}
 use Rattle.tk_edge.specs.declared.hear.Arrival.{Arrival}
 use Rattle.tk_edge.specs.declared.hear.Arrival.TheVariants.{Exchange}
@@ -46,10 +46,10 @@ runs_out_grows true asked old new log still writer sealed (inr h) = taken_grows 
 
 -- a connection leaves what the region knew
 module _ (asked : Asked) (old new : RegionFields) (log : Change) (still : Type 0) (writer : Change) (sealed : Bool) where
-  abbrev Replied : Option (List ℕ) → Arrival → Result Status Fault → Type 0
+  abbrev Replied : Option (List ℕ) → Arrival → Result StatusCode Fault → Type 0
   Replied sent came result = RepliesTo sent asked.now asked.words came (record { before = old; after = new }) log still writer sealed result
 
-  replied_grows : (sent : Option (List ℕ)) (came : Arrival) (result : Result Status Fault)
+  replied_grows : (sent : Option (List ℕ)) (came : Arrival) (result : Result StatusCode Fault)
       → ((h : Replied None came result) → Grows old new) → Replied sent came result → Grows old new
   replied_grows None came result f h = f h
   replied_grows (Some bytes) came result f h = taken_grows old new bytes h.0 h.1
@@ -85,13 +85,13 @@ unread now words log_taken edge log = record {
 
 -- ---- a log that is unchanged, by less than the whole of it
 
-uses_less : (P Q : Type 0) (answer : AnswerFields) (result : Result Status Fault) → (P → Q) → UsesLog answer P result → UsesLog answer Q result
+uses_less : (P Q : Type 0) (answer : AnswerFields) (result : Result StatusCode Fault) → (P → Q) → UsesLog answer P result → UsesLog answer Q result
 uses_less P Q answer result f h = record { unused = λ none. f (h.unused none); fault = h.fault }
 
 writes_less : (P Q : Type 0) (log writer : Change) (sealed : Bool) → (P → Q) → WritesNothing log P writer sealed → WritesNothing log Q writer sealed
 writes_less P Q log writer sealed f h = (h.0, h.1, h.2, f h.3)
 
-logs_less : (P Q : Type 0) (bytes : List ℕ) (taken : Result ℕ TakeError) (news : Bool) (log writer : Change) (sealed : Bool) (result : Result Status Fault) → (P → Q)
+logs_less : (P Q : Type 0) (bytes : List ℕ) (taken : Result ℕ TakeError) (news : Bool) (log writer : Change) (sealed : Bool) (result : Result StatusCode Fault) → (P → Q)
     → LogsAndTells bytes taken news log P writer sealed result → LogsAndTells bytes taken news log Q writer sealed result
 logs_less P Q bytes taken news log writer sealed (Ok status) f h = (h.0, λ none. f (h.1 none), h.2, h.3)
 logs_less P Q bytes taken news log writer sealed (Err Log) f h = h
@@ -99,12 +99,12 @@ logs_less P Q bytes taken news log writer sealed (Err Write) f h = (h.0, λ none
 logs_less P Q bytes taken news log writer sealed (Err Read) f h = (h.0, λ none. f (h.1 none), h.2, h.3)
 logs_less P Q bytes taken news log writer sealed (Err Memory) f h = (h.0, λ none. f (h.1 none), h.2, h.3)
 
-takes_less : (P Q : Type 0) (bytes : List ℕ) (old new : RegionFields) (log writer : Change) (sealed : Bool) (result : Result Status Fault) → (P → Q)
+takes_less : (P Q : Type 0) (bytes : List ℕ) (old new : RegionFields) (log writer : Change) (sealed : Bool) (result : Result StatusCode Fault) → (P → Q)
     → TakesAndLogs bytes old new log P writer sealed result → TakesAndLogs bytes old new log Q writer sealed result
 takes_less P Q bytes old new log writer sealed result f h = (h.0, h.1, h.2, h.3, logs_less P Q bytes h.0 h.2 log writer sealed result f h.4)
 
 replied_less : (P Q : Type 0) (sent : Option (List ℕ)) (now : ℕ) (words : List ℕ) (came : Arrival) (region : Step) (log writer : Change) (sealed : Bool)
-    (result : Result Status Fault) → (P → Q) → RepliesTo sent now words came region log P writer sealed result → RepliesTo sent now words came region log Q writer sealed result
+    (result : Result StatusCode Fault) → (P → Q) → RepliesTo sent now words came region log P writer sealed result → RepliesTo sent now words came region log Q writer sealed result
 replied_less P Q (Some bytes) now words came region log writer sealed result f h = takes_less P Q bytes region.before region.after log writer sealed result f h
 replied_less P Q None now words came region log writer sealed (Ok status) f h = (h.0, h.1, h.2, uses_less P Q h.0 (Ok status) f h.3, h.4)
 replied_less P Q None now words came region log writer sealed (Err Log) f h = (h.0, h.1, h.2, uses_less P Q h.0 (Err Log) f h.3, h.4)

@@ -10,8 +10,8 @@ use Rattle.tk_edge.specs.Told.{Change}
 use Rattle.clap.specs.Words.{Text, all_of, matched_of, raw_values, rows_of}
 use Rattle.clap.specs.declared.parser.matches.Found.{Found}
 use Rattle.clap.proofs.WalkLemmas.{raw_values-rows}
-use Rattle.tk_facts.specs.declared.print.PrintFault.{PrintFault}
-use Rattle.tk_facts.specs.declared.print.PrintFault.TheVariants as print
+use Rattle.tk_listing.specs.declared.print.PrintFault.{PrintFault}
+use Rattle.tk_listing.specs.declared.print.PrintFault.TheVariants as print
 use Rattle.tokend.specs.FactsRun.{BeginsFacts, IsBadSource, IsFactsFault, IsSourceFault, IsTold, IsToldAs, IsUnreadSource, PrintsEach, PrintsFacts, PrintsNamed, PrintsSource, PrintsSources, TellsDropped, with_cut}
 use Rattle.tokend.specs.Status.{LeavesBegun}
 use Rattle.tokend.specs.declared.options.Sources.{Sources}
@@ -65,7 +65,7 @@ of_source Memory h = absurd h
 of_source Output h = absurd h
 
 is_told : (name : Text) (why : PrintFault) (fault : Fault) → IsToldAs name why fault → IsFactsFault fault
-is_told name (print.Bad offset) fault h = of_source fault (is_bad name offset fault h)
+is_told name (print.Malformed offset) fault h = of_source fault (is_bad name offset fault h)
 is_told name print.Read fault h = of_source fault (is_unread name fault h)
 is_told name print.Memory fault h = subst IsFactsFault (sym h) tt
 is_told name print.Output fault h = subst IsFactsFault (sym h) tt

@@ -27,7 +27,7 @@ use Rattle.tk_bundle.specs.Front.{IsCut, walk}
 use Rattle.tk_bundle.specs.declared.error.FrontError.TheVariants as front
 use Rattle.tk_bundle.specs.FrontLaws.{walk_bundle}
 use Rattle.tk_message.specs.Place.{next_in}
-use Rattle.tk_message.specs.declared.status.Status.{Status}
+use Rattle.tk_message.specs.declared.status_code.StatusCode.{StatusCode}
 use Rattle.tk_region.specs.RegionFields.{RegionFields, Gains, place_in}
 use Rattle.tk_message.specs.RequestFields.{RequestFields}
 use Rattle.tk_region.specs.Decision.{decision_of}
@@ -157,13 +157,13 @@ keeps_nothing (Some xs) (Some ys) h = h ∙ sym (append-nil xs)
 sealed_clash : false ≡ true → ⊥
 sealed_clash e = cc
 
-abbrev ended : Status → Result Status Fault
+abbrev ended : StatusCode → Result StatusCode Fault
 ended status = Ok status
 
-abbrev fails : Fault → Result Status Fault
+abbrev fails : Fault → Result StatusCode Fault
 fails fault = Err fault
 
-ok_fault : (status : Status) (fault : Fault) → ended status ≡ fails fault → ⊥
+ok_fault : (status : StatusCode) (fault : Fault) → ended status ≡ fails fault → ⊥
 ok_fault status fault e = cc
 
 write_log : fails Write ≡ fails Log → ⊥
@@ -255,7 +255,7 @@ module _ (before after : Option (List ℕ)) (old new : RegionFields) where
     abbrev log : Change
     log = record { before = before; after = after }
 
-    replied : (sent : Option (List ℕ)) (came : Arrival) (result : Result Status Fault) → bundle_to_log true came ≡ sent → result ≢ Err Log → result ≢ Err Memory
+    replied : (sent : Option (List ℕ)) (came : Arrival) (result : Result StatusCode Fault) → bundle_to_log true came ≡ sent → result ≢ Err Log → result ≢ Err Memory
         → RepliesTo sent asked.now asked.words came (record { before = old; after = new }) log quiet writer false result → Grows before after F G
     replied None came (Ok status) is not_log not_memory h = answered asked.now asked.words came h.0 is h.1 h.2.1 h.4
     replied None came (Err Write) is not_log not_memory h = answered asked.now asked.words came h.0 is h.1 h.2.0 h.4
@@ -278,7 +278,7 @@ module _ (before after : Option (List ℕ)) (old new : RegionFields) where
     unsealed_log None came h = sealed_clash h.2.2
     unsealed_log (Some bytes) came h = sealed_clash h.4.3
 
-    as_logged : (came : Arrival) (result : Result Status Fault)
+    as_logged : (came : Arrival) (result : Result StatusCode Fault)
         → RepliesTo (bundle_to_log asked.log_taken came) asked.now asked.words came (record { before = old; after = new }) log quiet writer false result
         → RepliesTo (bundle_to_log true came) asked.now asked.words came (record { before = old; after = new }) log quiet writer false result
     as_logged came result h =

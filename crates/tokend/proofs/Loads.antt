@@ -22,7 +22,7 @@ use Rattle.tk_region.specs.declared.take.TakeError.{TakeError}
 use Rattle.tk_region.specs.declared.take.TakeError.TheVariants as refusal
 use Rattle.tokend.specs.Loading.{AreBundles, BeginsWith, IsNoBundle, IsRefused, Loads, TakesAs, TakesEach, TakesFront, TakesOne, front_end, log_bytes, take_fault}
 use Rattle.tokend.specs.declared.load.LoadFault.{LoadFault}
-use Rattle.tokend.specs.declared.load.LoadFault.TheVariants.{Bad, Refused, Memory, Read}
+use Rattle.tokend.specs.declared.load.LoadFault.TheVariants.{Malformed, Refused, Memory, Read}
 
 pub front_none : (region : RegionFields) (log : List ℕ) → TakesFront region log log region
 front_none region log = record { bundles = []; fit = tt; parts = refl; each = refl }
@@ -131,7 +131,7 @@ unread_front offset region rest front.Memory walked only cut = inl refl
 -- a fault that ends the loading of the rest ends that of the log
 pub load_fault : (old mid new : RegionFields) (log rest : List ℕ) (fault : LoadFault) → TakesFront old log rest mid
     → TakesOne (length log - length rest) mid rest (Err fault) new → Loads old log (Err fault) new
-load_fault old mid new log rest (Bad at) front h = (rest, front_kept old mid new log rest front h.2, h.0, h.1)
+load_fault old mid new log rest (Malformed at) front h = (rest, front_kept old mid new log rest front h.2, h.0, h.1)
 load_fault old mid new log rest (Refused at) front h =
     (rest, front_kept old mid new log rest front h.2, subst (λ (r : RegionFields). IsRefused r rest) (sym h.2) h.0, h.1)
 load_fault old mid new log rest Memory front h = (rest, mid, front, h)
@@ -153,7 +153,7 @@ unread_log region known fault why = (log_in known, same known, brings fault why)
     brings : (fault : LoadFault) → ((fault ≡ Read) ⊎ (fault ≡ Memory)) → Loads region (log_in known) (Err fault) region
     brings Read why = refl
     brings Memory why = (log_in known, region, front_none region (log_in known), inl refl)
-    brings (Bad at) (inl e) = absurd (cc)
-    brings (Bad at) (inr e) = absurd (cc)
+    brings (Malformed at) (inl e) = absurd (cc)
+    brings (Malformed at) (inr e) = absurd (cc)
     brings (Refused at) (inl e) = absurd (cc)
     brings (Refused at) (inr e) = absurd (cc)

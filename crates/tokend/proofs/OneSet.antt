@@ -7,7 +7,7 @@ use Rattle.tk_store.specs.Slots.{held_slot}
 use Rattle.tk_store.specs.StoreFields.{StoreFields, empty_store, held_facts}
 use Rattle.tk_store.proofs.PutLaws.{some_injective, none_is_not_some}
 use Rattle.tk_store.proofs.SlotLaws.{get_held}
-use Rattle.tk_standing.proofs.StandingLaws.{held_made}
+use Rattle.tk_retention.proofs.StandingLaws.{held_made}
 use Rattle.tk_world.specs.State.{Kept}
 use Rattle.tk_world.specs.WorldFields.{WorldFields, store_in}
 use Rattle.tk_world.specs.WorldStands.{RegionFor, IsStanding}

@@ -10,7 +10,7 @@ use Rattle.tk_edge.specs.Told.{AnswerFields}
 use Rattle.tk_edge.specs.declared.edge.Served.TheVariants.{Done}
 use Rattle.tk_edge.specs.declared.hear.Arrival.{Arrival}
 use Rattle.tk_edge.specs.declared.hear.Arrival.TheVariants.{Silence}
-use Rattle.tk_message.specs.declared.status.Status.{Status}
+use Rattle.tk_message.specs.declared.status_code.StatusCode.{StatusCode}
 use Rattle.tk_world.specs.AskedFields.{AskedFields}
 use Rattle.tk_world.specs.Carrying.{Makes}
 use Rattle.tokend.specs.Connection.{unknown, IsConnection}
@@ -31,7 +31,7 @@ module _ (asked : AskedFields) (old new : EdgeFields) (unsealed : old.sealed ≡
         record { gains = by.1; next = by.2; sealed = sealed ∙ sym unsealed; sync = sync },
       )
 
-  pub connection_answers : (status : Status) → IsConnection asked.now asked.words false old new unknown (Ok (Done status)) → IsMade (λ answer. status ≡ answer.status)
+  pub connection_answers : (status : StatusCode) → IsConnection asked.now asked.words false old new unknown (Ok (Done status)) → IsMade (λ answer. status ≡ answer.status)
   connection_answers status h =
       let a = h.served unsealed in
       made (λ answer. status ≡ answer.status) a.0 a.1 a.2 a.3.0 a.3.1 a.3.2.0 a.3.2.3 h.sync

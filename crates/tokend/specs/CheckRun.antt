@@ -38,7 +38,7 @@ IsRefusedSource name offset fault = ⊥
 
 -- the program's fault for that of loading a source
 abbrev pub IsToldAs : Text → LoadFault → Fault → Type 0
-IsToldAs name (load.Bad offset) fault = IsBadSource name offset fault
+IsToldAs name (load.Malformed offset) fault = IsBadSource name offset fault
 IsToldAs name (load.Refused offset) fault = IsRefusedSource name offset fault
 IsToldAs name load.Read fault = IsUnreadSource name fault
 IsToldAs name load.Memory fault = fault ≡ Facts facts.Memory

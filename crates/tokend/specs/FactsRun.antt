@@ -19,9 +19,9 @@ use Rattle.std.specs.Str.{bytes_eq}
 use Rattle.clap.specs.Words.{Text}
 use Rattle.tk_put.specs.Put.{AppendsFront}
 use Rattle.tk_edge.specs.Told.{Change}
-use Rattle.tk_facts.specs.Printing.{PrintsInput}
-use Rattle.tk_facts.specs.declared.print.PrintFault.{PrintFault}
-use Rattle.tk_facts.specs.declared.print.PrintFault.TheVariants as print
+use Rattle.tk_listing.specs.Printing.{PrintsInput}
+use Rattle.tk_listing.specs.declared.print.PrintFault.{PrintFault}
+use Rattle.tk_listing.specs.declared.print.PrintFault.TheVariants as print
 use Rattle.tokend.specs.declared.fault.Fault.{Fault}
 use Rattle.tokend.specs.declared.fault.Fault.TheVariants.{Facts, Output}
 use Rattle.tokend.specs.declared.fault.FactsFault.TheVariants as facts
@@ -33,19 +33,19 @@ known_of name input = if bytes_eq name (codes "-") then input else None
 
 -- the fault of a source with bad bytes at this offset; there may be no memory for the name
 abbrev pub IsBadSource : Text → ℕ → Fault → Type 0
-IsBadSource name offset (Facts (facts.Bad text at)) = (string_bytes text ≡ name) × (at ≡ offset)
+IsBadSource name offset (Facts (facts.Malformed text at)) = (string_bytes text ≡ name) × (at ≡ offset)
 IsBadSource name offset (Facts facts.Memory) = ⊤
 IsBadSource name offset fault = ⊥
 
 -- the fault of a source that can't be read; there may be no memory for the name
 abbrev pub IsUnreadSource : Text → Fault → Type 0
-IsUnreadSource name (Facts (facts.Unread text)) = string_bytes text ≡ name
+IsUnreadSource name (Facts (facts.CannotReadFile text)) = string_bytes text ≡ name
 IsUnreadSource name (Facts facts.Memory) = ⊤
 IsUnreadSource name fault = ⊥
 
 -- the program's fault for that of a source
 abbrev pub IsToldAs : Text → PrintFault → Fault → Type 0
-IsToldAs name (print.Bad offset) fault = IsBadSource name offset fault
+IsToldAs name (print.Malformed offset) fault = IsBadSource name offset fault
 IsToldAs name print.Read fault = IsUnreadSource name fault
 IsToldAs name print.Memory fault = fault ≡ Facts facts.Memory
 IsToldAs name print.Output fault = fault ≡ Output

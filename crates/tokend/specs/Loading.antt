@@ -25,7 +25,7 @@ use Rattle.tk_region.specs.Taking.{AgreesWith, TakesFit, has_unmade}
 use Rattle.tk_region.specs.declared.take.TakeError.{TakeError}
 use Rattle.tk_region.specs.declared.take.TakeError.TheVariants as take
 use Rattle.tokend.specs.declared.load.LoadFault.{LoadFault}
-use Rattle.tokend.specs.declared.load.LoadFault.TheVariants.{Bad, Refused, Memory, Read}
+use Rattle.tokend.specs.declared.load.LoadFault.TheVariants.{Malformed, Refused, Memory, Read}
 
 -- the bytes of bundles, one behind the other
 abbrev pub log_bytes : List BundleFields → List ℕ
@@ -89,7 +89,7 @@ TakesOne offset old rest (Ok (Some n)) new =
     × (take_bytes n rest ≡ bundle_bytes b)
     × ((m : ℕ) × TakesAs old b (Ok m) new))
 TakesOne offset old rest (Ok None) new = IsCut rest × (new ≡ old)
-TakesOne offset old rest (Err (Bad at)) new = IsNoBundle rest × (at ≡ offset) × (new ≡ old)
+TakesOne offset old rest (Err (Malformed at)) new = IsNoBundle rest × (at ≡ offset) × (new ≡ old)
 TakesOne offset old rest (Err (Refused at)) new = IsRefused old rest × (at ≡ offset) × (new ≡ old)
 TakesOne offset old rest (Err Memory) new = TakesPart old rest new
 TakesOne offset old rest (Err Read) new = ⊥
@@ -101,7 +101,7 @@ Loads old log (Ok dropped) new =
     (rest : List ℕ) × TakesFront old log rest new × ((rest ≡ []) ⊎ IsCut rest)
     × (dropped ≡ length rest)
 -- the bundles before bytes that are no bundle, which are at this offset
-Loads old log (Err (Bad at)) new =
+Loads old log (Err (Malformed at)) new =
     (rest : List ℕ) × TakesFront old log rest new × IsNoBundle rest
     × (at ≡ length log - length rest)
 -- the bundles before the first that is refused, which is at this offset
@@ -117,7 +117,7 @@ Loads old log (Err Read) new = new ≡ old
 -- the outcome for a front that can't be read, at this offset of the log
 abbrev pub front_end : ℕ → FrontError → Result (Option ℕ) LoadFault
 front_end offset front.Cut = Ok None
-front_end offset front.Malformed = Err (Bad offset)
+front_end offset front.Malformed = Err (Malformed offset)
 front_end offset front.Memory = Err Memory
 
 -- the fault of a bundle that isn't taken in, at this offset of the log

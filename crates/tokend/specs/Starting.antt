@@ -34,7 +34,7 @@ use Rattle.tokend.specs.Status.{IsUnread}
 use Rattle.tokend.specs.declared.fault.Fault.{Fault}
 use Rattle.tokend.specs.declared.fault.Fault.TheVariants as fault
 use Rattle.tokend.specs.declared.load.LoadFault.{LoadFault}
-use Rattle.tokend.specs.declared.load.LoadFault.TheVariants.{Bad, Refused, Memory, Read}
+use Rattle.tokend.specs.declared.load.LoadFault.TheVariants.{Malformed, Refused, Memory, Read}
 use Rattle.tokend.specs.declared.options.Service.{Service}
 
 -- the region of the service's number and settings, without facts
@@ -62,7 +62,7 @@ IsStart service edge words = (edge ≡ first_edge service)
 -- the program's result of loading the log of this name
 abbrev pub IsToldAs : List ℕ → Result ℕ LoadFault → Result ℕ Fault → Type 0
 IsToldAs name (Ok dropped) told = told ≡ Ok dropped
-IsToldAs name (Err (Bad offset)) told = told ≡ Err fault.BadLogFile
+IsToldAs name (Err (Malformed offset)) told = told ≡ Err fault.BadLogFile
 IsToldAs name (Err (Refused offset)) told = told ≡ Err fault.BadLogFile
 IsToldAs name (Err Memory) told = told ≡ Err fault.Memory
 IsToldAs name (Err Read) (Err f) = IsUnread name f

@@ -42,15 +42,15 @@ use Rattle.tokend.specs.declared.fault.Fault.TheVariants.{
   Output,
 }
 use Rattle.tokend.specs.declared.fault.FactsFault.{FactsFault}
-use Rattle.tokend.specs.declared.fault.FactsFault.TheVariants.{Bad, Refused, Unread}
-use Rattle.tokend.specs.declared.fault.FactsFault.TheVariants.{Memory as NoMemory}
+use Rattle.tokend.specs.declared.fault.FactsFault.TheVariants.{Malformed, Refused}
+use Rattle.tokend.specs.declared.fault.FactsFault.TheVariants.{CannotReadFile as UnreadSource, Memory as NoMemory}
 
 -- the exit status of a source whose facts weren't printed or loaded to its end: 2 if it is bad or
 -- refused
 abbrev pub facts_status : FactsFault → ℕ
-facts_status (Bad name offset) = 2
+facts_status (Malformed name offset) = 2
 facts_status (Refused name offset) = 2
-facts_status (Unread name) = 1
+facts_status (UnreadSource name) = 1
 facts_status NoMemory = 1
 
 -- the exit status: 1 for memory and devices, 2 for arguments, scripts, seeds and logs
@@ -76,13 +76,13 @@ input_fault kind = CannotRead
 
 -- the line of a source whose facts weren't printed or loaded to its end
 abbrev pub facts_text : FactsFault → List ℕ
-facts_text (Bad name offset) =
+facts_text (Malformed name offset) =
     codes "tokend: bad bytes at "
     ++ (decimal offset ++ (codes " of " ++ (string_bytes name ++ 10 ∷ [])))
 facts_text (Refused name offset) =
     codes "tokend: refused bundle at "
     ++ (decimal offset ++ (codes " of " ++ (string_bytes name ++ 10 ∷ [])))
-facts_text (Unread name) = codes "tokend: cannot read " ++ (string_bytes name ++ 10 ∷ [])
+facts_text (UnreadSource name) = codes "tokend: cannot read " ++ (string_bytes name ++ 10 ∷ [])
 facts_text NoMemory = codes "tokend: memory" ++ 10 ∷ []
 
 -- the line of a fault; clap writes the faults of arguments, and an output that failed has no line
@@ -93,7 +93,7 @@ fault_text (CannotReadFile name) =
     Some (codes "tokend: cannot read " ++ (string_bytes name ++ 10 ∷ []))
 fault_text (CannotOpen name) = Some (codes "tokend: cannot open " ++ (string_bytes name ++ 10 ∷ []))
 fault_text CannotListen = Some (codes "tokend: cannot listen" ++ 10 ∷ [])
-fault_text SocketFailed = Some (codes "tokend: cannot listen" ++ 10 ∷ [])
+fault_text SocketFailed = Some (codes "tokend: socket failed" ++ 10 ∷ [])
 fault_text BadSeedFile = Some (codes "tokend: bad seed file" ++ 10 ∷ [])
 fault_text BadLogFile = Some (codes "tokend: bad log file" ++ 10 ∷ [])
 fault_text ScriptTooLong = Some (codes "tokend: script too long" ++ 10 ∷ [])

@@ -227,7 +227,7 @@ fn fault_of(alloc: Global, name: &str, fault: LoadFault) -> Fault
     ensures { IsToldAs name.now fault result }
 {
     match fault {
-        LoadFault::Bad(offset) => bad(alloc, name, offset),
+        LoadFault::Malformed(offset) => bad(alloc, name, offset),
         LoadFault::Refused(offset) => refused(alloc, name, offset),
         LoadFault::Read => unread(alloc, name),
         LoadFault::Memory => Fault::Facts(FactsFault::Memory),

@@ -7,11 +7,11 @@ use crate::timed::{TimedSource, millis};
 use std::io::{ErrorKind, Read};
 use std::net::{OpenStream, Shutdown, TcpStream};
 use std::time::Clock;
-use tk_closing::{Arrived, ClosingSet, Held, MOST_DROPPED, Peer};
+use tk_closing::{Arrived, ClosingSet, Held, MAX_DROPPED, Peer};
 use tk_edge::Source;
 
 /// How many reads one look at a connection makes at most.
-const MOST_READS: usize = 8;
+const MAX_READS: usize = 8;
 
 /// The socket of a connection that is closing. Its reads don't wait.
 #[derive(Drop)]
@@ -25,7 +25,7 @@ impl Peer for ClosingStream {
 
     fn drop_arrived(&mut self, most: usize, piece: &mut [u8]) -> Arrived {
         let mut count = 0;
-        for _ in 0..MOST_READS {
+        for _ in 0..MAX_READS {
             let room = piece.len().min(most - count);
             let arrived = read_arrived(&self.stream, &mut piece[..room]);
             count += arrived.count;
@@ -83,11 +83,11 @@ pub(crate) fn set_aside<C: Clock>(
         return;
     }
     if stream.set_nonblocking(true).is_err() {
-        return wait_for(clock, &stream, since, MOST_DROPPED, piece);
+        return wait_for(clock, &stream, since, MAX_DROPPED, piece);
     }
     let now = millis(clock).unwrap_or(0);
     if let Err(peer) = closing.set_aside(ClosingStream { stream }, since, now, piece) {
-        wait_for(clock, &peer.stream, since, MOST_DROPPED, piece);
+        wait_for(clock, &peer.stream, since, MAX_DROPPED, piece);
     }
 }
 
@@ -108,7 +108,7 @@ pub(crate) fn wait_for_all<C: Clock>(
 /// Ends the reply of a connection that was accepted at `since`, and waits for its client.
 pub(crate) fn close<C: Clock>(clock: &C, stream: &TcpStream, since: u64, piece: &mut [u8]) {
     if stream.shutdown(Shutdown::Write).is_ok() {
-        wait_for(clock, stream, since, MOST_DROPPED, piece);
+        wait_for(clock, stream, since, MAX_DROPPED, piece);
     }
 }
 

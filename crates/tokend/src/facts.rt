@@ -29,7 +29,7 @@ use std::alloc::Global;
 use std::fs::OpenOptions;
 use std::io::{Read, Write};
 use std::rt::Files;
-use tk_facts::{PrintFault, print_lines};
+use tk_listing::{PrintFault, print_lines};
 use tk_put::put_all;
 
 /// Prints the facts of each source, in order, and flushes.
@@ -176,7 +176,7 @@ fn fault_of(alloc: Global, name: &str, fault: PrintFault) -> Fault
     ensures { IsToldAs name.now fault result }
 {
     match fault {
-        PrintFault::Bad(offset) => bad(alloc, name, offset),
+        PrintFault::Malformed(offset) => bad(alloc, name, offset),
         PrintFault::Read => unread(alloc, name),
         PrintFault::Memory => Fault::Facts(FactsFault::Memory),
         PrintFault::Output => Fault::Output,
@@ -188,7 +188,7 @@ pub(crate) fn bad(alloc: Global, name: &str, offset: u64) -> Fault
     ensures { IsBadSource name.now offset result }
 {
     match String::from_str(alloc, name) {
-        Ok(name) => Fault::Facts(FactsFault::Bad(name, offset)),
+        Ok(name) => Fault::Facts(FactsFault::Malformed(name, offset)),
         Err(_) => Fault::Facts(FactsFault::Memory),
     }
 }
@@ -198,7 +198,7 @@ pub(crate) fn unread(alloc: Global, name: &str) -> Fault
     ensures { IsUnreadSource name.now result }
 {
     match String::from_str(alloc, name) {
-        Ok(name) => Fault::Facts(FactsFault::Unread(name)),
+        Ok(name) => Fault::Facts(FactsFault::CannotReadFile(name)),
         Err(_) => Fault::Facts(FactsFault::Memory),
     }
 }

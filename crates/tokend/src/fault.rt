@@ -25,7 +25,7 @@ pub enum Fault {
     CannotOpen(String),
     /// The port is in use, or can't be listened on.
     CannotListen,
-    /// A socket of `loopback` failed. The line is that of `CannotListen`.
+    /// A socket of `loopback` failed.
     SocketFailed,
     /// The seed file hasn't exactly 32 bytes.
     BadSeedFile,
@@ -49,11 +49,11 @@ pub enum Fault {
 #[derive(Drop)]
 pub enum FactsFault {
     /// The source of this name has no bundle at this offset, and no vector if it is printed.
-    Bad(String, u64),
+    Malformed(String, u64),
     /// The source of this name has a bundle at this offset that can't be loaded.
     Refused(String, u64),
     /// The source of this name can't be read.
-    Unread(String),
+    CannotReadFile(String),
     /// Memory ran out.
     Memory,
 }
@@ -64,8 +64,8 @@ impl FactsFault {
         ensures { result ≡ facts_status self.now }
     {
         match self {
-            FactsFault::Bad(_, _) | FactsFault::Refused(_, _) => 2,
-            FactsFault::Unread(_) | FactsFault::Memory => 1,
+            FactsFault::Malformed(_, _) | FactsFault::Refused(_, _) => 2,
+            FactsFault::CannotReadFile(_) | FactsFault::Memory => 1,
         }
     }
 }
@@ -102,7 +102,7 @@ pub(crate) fn tell<E: Write>(faults: &mut E, fault: &Fault) -> io::Result<()>
         Fault::CannotReadFile(name) => tell_name(faults, b"tokend: cannot read ", name),
         Fault::CannotOpen(name) => tell_name(faults, b"tokend: cannot open ", name),
         Fault::CannotListen => put_all(faults, &[b"tokend: cannot listen\n"]),
-        Fault::SocketFailed => put_all(faults, &[b"tokend: cannot listen\n"]),
+        Fault::SocketFailed => put_all(faults, &[b"tokend: socket failed\n"]),
         Fault::BadSeedFile => put_all(faults, &[b"tokend: bad seed file\n"]),
         Fault::BadLogFile => put_all(faults, &[b"tokend: bad log file\n"]),
         Fault::Facts(fault) => tell_facts(faults, fault),
@@ -116,13 +116,13 @@ fn tell_facts<E: Write>(faults: &mut E, fault: &FactsFault) -> io::Result<()>
     ensures { Prints result (E.contents faults.old) (E.contents faults.new) (facts_text fault.now) }
 {
     match fault {
-        FactsFault::Bad(name, offset) => {
+        FactsFault::Malformed(name, offset) => {
             tell_place(faults, b"tokend: bad bytes at ", *offset, name)
         }
         FactsFault::Refused(name, offset) => {
             tell_place(faults, b"tokend: refused bundle at ", *offset, name)
         }
-        FactsFault::Unread(name) => tell_name(faults, b"tokend: cannot read ", name),
+        FactsFault::CannotReadFile(name) => tell_name(faults, b"tokend: cannot read ", name),
         FactsFault::Memory => put_all(faults, &[b"tokend: memory\n"]),
     }
 }

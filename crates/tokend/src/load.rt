@@ -15,7 +15,7 @@ use tk_region::{Region, TakeError};
 #[derive(Clone, Copy)]
 pub enum LoadFault {
     /// At this offset, in bytes from the beginning of the log, is no bundle.
-    Bad(u64),
+    Malformed(u64),
     /// The region refuses the bundle at this offset.
     Refused(u64),
     /// The log can't be read. No fact was taken in.
@@ -106,7 +106,7 @@ fn front_end(offset: u64, error: FrontError) -> Result<Option<usize>, LoadFault>
 {
     match error {
         FrontError::Cut => Ok(None),
-        FrontError::Malformed => Err(LoadFault::Bad(offset)),
+        FrontError::Malformed => Err(LoadFault::Malformed(offset)),
         FrontError::Memory => Err(LoadFault::Memory),
     }
 }

@@ -100,7 +100,7 @@ fn told(alloc: Global, path: &str, loaded: Result<u64, LoadFault>) -> Result<u64
 {
     match loaded {
         Ok(dropped) => Ok(dropped),
-        Err(LoadFault::Bad(_) | LoadFault::Refused(_)) => Err(Fault::BadLogFile),
+        Err(LoadFault::Malformed(_) | LoadFault::Refused(_)) => Err(Fault::BadLogFile),
         Err(LoadFault::Read) => Err(cannot_read(alloc, path)),
         Err(LoadFault::Memory) => Err(Fault::Memory),
     }

@@ -6,7 +6,7 @@ use super::talks::{EXCHANGE, PUSH, REGISTRATION, Talk};
 use std::alloc::Global;
 use tk_edge::{Counted, Discard, Edge, Fault, HEAD_LIMIT, Served, Sink, Source};
 use tk_handle::Moment;
-use tk_message::Status;
+use tk_message::StatusCode;
 
 // The reply of a sealed edge.
 const AWAY: &[u8] =
@@ -264,7 +264,7 @@ fn a_writer_that_fails_leaves_fact_and_record(rt: HostRuntime) {
 }
 
 // Returns whether the bytes get this reply without devices, and make no record.
-fn is_answered(alloc: Global, edge: &mut Edge, bytes: &[u8], told: (Status, &[u8])) -> bool {
+fn is_answered(alloc: Global, edge: &mut Edge, bytes: &[u8], told: (StatusCode, &[u8])) -> bool {
     let Some(now) = Moment::new(1_000) else {
         return false;
     };
@@ -327,7 +327,7 @@ const TURNED: Talk = Talk {
 };
 
 #[rattlefmt::skip]
-const TURNED_AWAY: End = End { result: Ok(Served::Done(Status::ServiceUnavailable)), facts: 2, sealed: true, logged: Some(0), written: Some(AWAY.len()), called: false, failed: 0 };
+const TURNED_AWAY: End = End { result: Ok(Served::Done(StatusCode::ServiceUnavailable)), facts: 2, sealed: true, logged: Some(0), written: Some(AWAY.len()), called: false, failed: 0 };
 
 const HALF_WRITTEN: Failing = [NEVER, Fails::At(1), NEVER];
 
@@ -339,7 +339,7 @@ const HALF_AWAY: End = End { result: Err(Fault::Write), facts: 2, sealed: true, 
 // once, again and without devices, and a write that fails is a fault.
 fn life_at(alloc: Global, edge: &mut Edge) -> [bool; 8] {
     [
-        is_answered(alloc, edge, b"", (Status::BadRequest, b"")),
+        is_answered(alloc, edge, b"", (StatusCode::BadRequest, b"")),
         ends_at(alloc, edge, &SILENT, STEPS, MUTE, &NOTHING),
         is_served_by_std(alloc, edge),
         ends_at(alloc, edge, &REGISTRATION, STEPS, UNLOGGABLE, &SEALED),
@@ -349,7 +349,7 @@ fn life_at(alloc: Global, edge: &mut Edge) -> [bool; 8] {
             alloc,
             edge,
             TURNED.request,
-            (Status::ServiceUnavailable, AWAY),
+            (StatusCode::ServiceUnavailable, AWAY),
         ),
         ends_at(alloc, edge, &TURNED, STEPS, HALF_WRITTEN, &HALF_AWAY),
     ]

@@ -1,6 +1,6 @@
 //! Requests that make a fact: the bytes sent, the reply, and the record.
 
-use tk_message::Status;
+use tk_message::StatusCode;
 
 /// The request of a client to an edge that answered other requests before.
 #[derive(Clone, Copy)]
@@ -13,7 +13,7 @@ pub struct Talk {
     pub record: &'static [u8],
     pub reply: &'static [u8],
     /// The status of the reply.
-    pub status: Status,
+    pub status: StatusCode,
 }
 
 pub const REGISTRATION: Talk = Talk {
@@ -26,7 +26,7 @@ pub const REGISTRATION: Talk = Talk {
     reply: b"HTTP/1.1 201 Created\r\nContent-Type: application/json\r\nContent-Length: 20\r\n\
         Cache-Control: no-store\r\nPragma: no-cache\r\nConnection: close\r\n\r\n\
         {\"client_id\":\"c1-1\"}",
-    status: Status::Created,
+    status: StatusCode::Created,
 };
 
 /// A bundle of one fact of region 2, that its client 2:1 was retired. The bundle is logged as it
@@ -42,7 +42,7 @@ pub const PUSH: Talk = Talk {
     reply: b"HTTP/1.1 200 OK\r\nContent-Type: application/json\r\nContent-Length: 10\r\n\
         Cache-Control: no-store\r\nPragma: no-cache\r\nConnection: close\r\n\r\n\
         {\"took\":1}",
-    status: Status::Ok,
+    status: StatusCode::Ok,
 };
 
 // A client, a consent, and a code bound to the challenge of RFC 7636, appendix B.
@@ -78,5 +78,5 @@ pub const EXCHANGE: Talk = Talk {
         \"expires_in\":3600,\
         \"refresh_token\":\"AQMAAQAAAAAAAAAEAAAAAAAAAAAAAAAAAAAAAAAAAAAAAAAA\",\
         \"scope\":\"read write\",\"token_type\":\"Bearer\"}",
-    status: Status::Ok,
+    status: StatusCode::Ok,
 };

@@ -32,8 +32,8 @@ fn change_code(code: &mut CodeIssued, change: Change) -> Option<()> {
 
 fn change_redemption(fact: &mut CodeRedeemed, change: Change) -> Option<()> {
     match change {
-        Change::AccessEnd(end) => fact.access.end = Moment::new(end)?,
-        Change::RefreshEnd(end) => fact.refresh.end = Moment::new(end)?,
+        Change::AccessEnd(end) => fact.access.expiry = Moment::new(end)?,
+        Change::RefreshEnd(end) => fact.refresh.expiry = Moment::new(end)?,
         _ => return None,
     }
     Some(())
@@ -42,8 +42,8 @@ fn change_redemption(fact: &mut CodeRedeemed, change: Change) -> Option<()> {
 fn change_rotation(fact: &mut RefreshRotated, change: Change) -> Option<()> {
     match change {
         Change::Generation(generation) => fact.generation = generation,
-        Change::AccessEnd(end) => fact.access.end = Moment::new(end)?,
-        Change::RefreshEnd(end) => fact.refresh.end = Moment::new(end)?,
+        Change::AccessEnd(end) => fact.access.expiry = Moment::new(end)?,
+        Change::RefreshEnd(end) => fact.refresh.expiry = Moment::new(end)?,
         _ => return None,
     }
     Some(())

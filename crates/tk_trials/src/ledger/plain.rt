@@ -179,7 +179,7 @@ impl PlainLedger {
     pub(super) fn client(&self, dot: Dot) -> Option<ClientView<'_>> {
         let client = client_at(self.facts.as_slice(), dot)?;
         Some(ClientView {
-            sort: &client.sort,
+            client_kind: &client.client_kind,
             scope: &client.scope,
             redirects: &client.redirects,
             live: is_live_client(self.facts.as_slice(), dot),

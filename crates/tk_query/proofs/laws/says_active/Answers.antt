@@ -3,7 +3,7 @@ use Rattle.tk_query.proofs.ActiveLaws as laws
 use Rattle.tk_query.proofs.laws.says_active.Goals as goal
 
 pub returns-clause-active : goal.returns-clause-active
-returns-clause-active c = λ F now sort asker h a seen. laws.says_active F now sort asker h a seen
+returns-clause-active c = λ F now client_kind asker h a seen. laws.says_active F now client_kind asker h a seen
 
 pub returns-clause-nothing : goal.returns-clause-nothing
-returns-clause-nothing c = λ F now sort asker h n. laws.says_nothing F now sort asker h n
+returns-clause-nothing c = λ F now client_kind asker h n. laws.says_nothing F now client_kind asker h n

@@ -4,8 +4,8 @@ use Rattle.tk_authorize.proofs.admin_refusal.AdminRefusal.code.Goals as goal
 pub returns-in-DuplicateParameter : goal.returns-in-DuplicateParameter
 returns-in-DuplicateParameter c = search rules
 
-pub returns-in-BadScope : goal.returns-in-BadScope
-returns-in-BadScope c = search rules
+pub returns-in-MalformedScope : goal.returns-in-MalformedScope
+returns-in-MalformedScope c = search rules
 
 pub returns-in-UnknownClient : goal.returns-in-UnknownClient
 returns-in-UnknownClient c = search rules

@@ -1,7 +1,7 @@
 use Rattle.std.proofs.Common.{◌≡◌, ℕ, List, length, Some, inr, ap, sym, ◌∙◌, subst, arith, string_bytes, true}
 use Rattle.std.specs.List.{list_all}
 use Rattle.tk_scope.specs.Scope.{HasSameTokens, is_token, scope_of, scope_text, tokens_of}
-use Rattle.tk_scope.specs.declared.error.ScopeError.TheVariants.{Grammar}
+use Rattle.tk_scope.specs.declared.error.ScopeError.TheVariants.{Malformed}
 use Rattle.tk_scope.proofs.Printing.{IsAccepted, no_scope, not_utf8, scope_text_again, scope_text_members}
 use Rattle.tk_scope.proofs.scope.Scope.read.Goals as goal
 
@@ -23,7 +23,7 @@ pub returns-in_default-clause-refused : goal.returns-in_default-clause-refused
 returns-in_default-clause-refused c = inr (not_utf8 c.args.text.now (omega arith) c.in_default.ensures.cases.0)
 
 pub returns-in_default-clause-grammar : goal.returns-in_default-clause-grammar
-returns-in_default-clause-grammar c _ = no_scope c.args.text.now Grammar (not_utf8 c.args.text.now (omega arith) c.in_default.ensures.cases.0)
+returns-in_default-clause-grammar c _ = no_scope c.args.text.now Malformed (not_utf8 c.args.text.now (omega arith) c.in_default.ensures.cases.0)
 
 pub invariant_of-result : goal.invariant_of-result
 invariant_of-result c = subst (λ (s : List ℕ). scope_of s ≡ Some s) (is_printed c) (scope_text_again c.args.text.now (passes c))

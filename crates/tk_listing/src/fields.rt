@@ -1,0 +1,214 @@
+//! Writes the members of a fact's fields, in the order of its bytes.
+
+ghost use Rattle.std.specs.Prelude.{◌≡◌, ◌++◌, OnOk};
+ghost use Rattle.tk_listing.specs.Lines as spec;
+
+use crate::members::{
+    put_digits, put_dot, put_flag, put_hex, put_name, put_number, put_plain, put_text, put_time,
+    put_uris,
+};
+use std::alloc::AllocError;
+use tk_fact::{
+    Body, ClientAdded, ClientKind, CodeIssued, CodeRedeemed, ConsentGiven, MintedToken,
+    RefreshRotated, SubjectOut, TokenRevoked,
+};
+use tk_format::Writer;
+use tk_handle::{Kind, TokenId};
+use tk_match::Challenge;
+
+/// Writes the members of a fact's fields.
+#[tactic(auto, unfolding(crate::specs::Lines::fields_of))]
+pub(crate) fn put_fields(writer: &mut Writer, body: &Body) -> Result<(), AllocError>
+    ensures { OnOk result (writer.new ≡ writer.old ++ spec.fields_of body.now) }
+{
+    match body {
+        Body::ClientAdded(fields) => put_client(writer, fields),
+        Body::ClientRetired(fields) => put_dot(writer, b"client", fields.client),
+        Body::ConsentGiven(fields) => put_consent(writer, fields),
+        Body::ConsentWithdrawn(fields) => put_dot(writer, b"consent", fields.consent),
+        Body::CodeIssued(fields) => put_code(writer, fields),
+        Body::CodeRedeemed(fields) => put_redeemed(writer, fields),
+        Body::RefreshRotated(fields) => put_rotated(writer, fields),
+        Body::TokenRevoked(fields) => put_revoked(writer, fields),
+        Body::ReuseSeen(fields) => put_token(writer, fields.token),
+        Body::SubjectOut(fields) => put_out(writer, fields),
+    }
+}
+
+#[tactic(auto, unfolding(crate::specs::Lines::fields_of))]
+fn put_client(writer: &mut Writer, fields: &ClientAdded) -> Result<(), AllocError>
+    ensures { OnOk result
+        (writer.new ≡ writer.old ++ spec.fields_of (Body.ClientAdded fields.now)) }
+{
+    put_client_kind(writer, &fields.client_kind)?;
+    put_text(writer, b"scope", fields.scope.text().as_bytes())?;
+    put_uris(writer, b"uris", fields.redirects.uris())
+}
+
+// Writes the client kind, with the digest of the client's secret if it has one.
+fn put_client_kind(writer: &mut Writer, client_kind: &ClientKind) -> Result<(), AllocError>
+    ensures { OnOk result (writer.new ≡ writer.old ++ spec.client_kind_members client_kind.now) }
+{
+    match client_kind {
+        ClientKind::Public => put_plain(writer, b"client_kind", b"public"),
+        ClientKind::Confidential(digest) => put_secret(writer, b"confidential", digest),
+        ClientKind::Resource(digest) => put_secret(writer, b"resource", digest),
+    }
+}
+
+// Writes the client kind, and the digest of the client's secret.
+#[tactic(auto, unfolding(crate::specs::Lines::secret_members))]
+fn put_secret(writer: &mut Writer, kind: &[u8], digest: &[u8]) -> Result<(), AllocError>
+    ensures { OnOk result (writer.new ≡ writer.old ++ spec.secret_members kind.now digest.now) }
+{
+    put_plain(writer, b"client_kind", kind)?;
+    put_hex(writer, b"secret_digest", digest)
+}
+
+#[tactic(auto, unfolding(crate::specs::Lines::fields_of))]
+fn put_consent(writer: &mut Writer, fields: &ConsentGiven) -> Result<(), AllocError>
+    ensures { OnOk result
+        (writer.new ≡ writer.old ++ spec.fields_of (Body.ConsentGiven fields.now)) }
+{
+    put_dot(writer, b"client", fields.client)?;
+    put_text(writer, b"subject", fields.subject.as_bytes())?;
+    put_text(writer, b"scope", fields.scope.text().as_bytes())
+}
+
+#[tactic(auto, unfolding(crate::specs::Lines::fields_of))]
+fn put_code(writer: &mut Writer, fields: &CodeIssued) -> Result<(), AllocError>
+    ensures { OnOk result
+        (writer.new ≡ writer.old ++ spec.fields_of (Body.CodeIssued fields.now)) }
+{
+    put_dot(writer, b"client", fields.client)?;
+    put_dot(writer, b"consent", fields.consent)?;
+    put_hex(writer, b"digest", &fields.digest)?;
+    put_time(writer, b"start", fields.start)?;
+    put_time(writer, b"expiry", fields.expiry)?;
+    put_time(writer, b"family_end", fields.family_end)?;
+    put_text(writer, b"subject", fields.subject.as_bytes())?;
+    put_text(writer, b"scope", fields.scope.text().as_bytes())?;
+    put_text(writer, b"uri", fields.uri.as_bytes())?;
+    put_flag(writer, b"uri_sent", fields.sent)?;
+    put_challenge(writer, &fields.challenge)
+}
+
+// Writes the method and the text of a challenge, if there is one.
+#[tactic(auto, unfolding(crate::specs::Lines::challenge_members))]
+fn put_challenge(writer: &mut Writer, challenge: &Option<Challenge>) -> Result<(), AllocError>
+    ensures { OnOk result (writer.new ≡ writer.old ++ spec.challenge_members challenge.now) }
+{
+    match challenge {
+        Some(challenge) => { put_given(writer, challenge.is_s256(), challenge.text().as_bytes()) }
+        None => Ok(()),
+    }
+}
+
+// Writes the method and the text of a challenge.
+#[tactic(auto, unfolding(crate::specs::Lines::given_members))]
+fn put_given(writer: &mut Writer, is_s256: bool, text: &[u8]) -> Result<(), AllocError>
+    ensures { OnOk result (writer.new ≡ writer.old ++ spec.given_members is_s256 text.now) }
+{
+    put_method(writer, is_s256)?;
+    put_hex(writer, b"challenge", text)
+}
+
+// Writes the method of a challenge.
+#[tactic(auto, unfolding(crate::specs::Lines::method_member))]
+fn put_method(writer: &mut Writer, is_s256: bool) -> Result<(), AllocError>
+    ensures { OnOk result (writer.new ≡ writer.old ++ spec.method_member is_s256) }
+{
+    put_plain(writer, b"challenge_method", method_name(is_s256))
+}
+
+// Returns the name of a challenge's method.
+#[tactic(auto, unfolding(crate::specs::Lines::method_name))]
+fn method_name(is_s256: bool) -> &'static [u8]
+    ensures { result.now ≡ spec.method_name is_s256 }
+{
+    if is_s256 { b"S256" } else { b"plain" }
+}
+
+#[tactic(auto, unfolding(crate::specs::Lines::fields_of))]
+fn put_redeemed(writer: &mut Writer, fields: &CodeRedeemed) -> Result<(), AllocError>
+    ensures { OnOk result
+        (writer.new ≡ writer.old ++ spec.fields_of (Body.CodeRedeemed fields.now)) }
+{
+    put_dot(writer, b"code", fields.code)?;
+    put_time(writer, b"start", fields.start)?;
+    put_minted(writer, b"access_token", &fields.access)?;
+    put_minted(writer, b"refresh_token", &fields.refresh)
+}
+
+#[tactic(auto, unfolding(crate::specs::Lines::fields_of))]
+fn put_rotated(writer: &mut Writer, fields: &RefreshRotated) -> Result<(), AllocError>
+    ensures { OnOk result
+        (writer.new ≡ writer.old ++ spec.fields_of (Body.RefreshRotated fields.now)) }
+{
+    put_dot(writer, b"parent", fields.parent)?;
+    put_number(writer, b"generation", u64::from(fields.generation))?;
+    put_time(writer, b"start", fields.start)?;
+    put_minted(writer, b"access_token", &fields.access)?;
+    put_minted(writer, b"refresh_token", &fields.refresh)
+}
+
+// Writes a token that a fact mints, as an object.
+#[tactic(auto, unfolding(crate::specs::Lines::minted_member))]
+fn put_minted(writer: &mut Writer, name: &[u8], token: &MintedToken) -> Result<(), AllocError>
+    ensures { OnOk result (writer.new ≡ writer.old ++ spec.minted_member name.now token.now) }
+{
+    put_name(writer, name)?;
+    begin_digest(writer, &token.digest)?;
+    put_time(writer, b"expiry", token.expiry)?;
+    put_text(writer, b"scope", token.scope.text().as_bytes())?;
+    writer.put_bytes(b"}")
+}
+
+// Writes the beginning of an object with a digest.
+#[tactic(auto, unfolding(crate::specs::Lines::begun_digest))]
+fn begin_digest(writer: &mut Writer, digest: &[u8]) -> Result<(), AllocError>
+    ensures { OnOk result (writer.new ≡ writer.old ++ spec.begun_digest digest.now) }
+{
+    writer.put_bytes(b"{\"digest\":\"")?;
+    put_digits(writer, digest)?;
+    writer.put_bytes(b"\"")
+}
+
+#[tactic(auto, unfolding(crate::specs::Lines::fields_of))]
+fn put_revoked(writer: &mut Writer, fields: &TokenRevoked) -> Result<(), AllocError>
+    ensures { OnOk result
+        (writer.new ≡ writer.old ++ spec.fields_of (Body.TokenRevoked fields.now)) }
+{
+    put_token(writer, fields.token)?;
+    put_hex(writer, b"digest", &fields.digest)?;
+    put_dot(writer, b"client", fields.client)
+}
+
+// Writes the dot of the fact that minted a token, and the token's kind.
+#[tactic(auto, unfolding(crate::specs::Lines::token_members))]
+fn put_token(writer: &mut Writer, token: TokenId) -> Result<(), AllocError>
+    ensures { OnOk result (writer.new ≡ writer.old ++ spec.token_members token) }
+{
+    put_dot(writer, b"token", token.dot)?;
+    put_plain(writer, b"token_kind", token_kind(token.kind))
+}
+
+// Returns the name of a kind of token.
+fn token_kind(kind: Kind) -> &'static [u8]
+    ensures { result.now ≡ spec.token_kind kind }
+{
+    match kind {
+        Kind::Code => b"code",
+        Kind::Access => b"access_token",
+        Kind::Refresh => b"refresh_token",
+    }
+}
+
+#[tactic(auto, unfolding(crate::specs::Lines::fields_of))]
+fn put_out(writer: &mut Writer, fields: &SubjectOut) -> Result<(), AllocError>
+    ensures { OnOk result
+        (writer.new ≡ writer.old ++ spec.fields_of (Body.SubjectOut fields.now)) }
+{
+    put_text(writer, b"subject", fields.subject.as_bytes())?;
+    put_time(writer, b"moment", fields.moment)
+}

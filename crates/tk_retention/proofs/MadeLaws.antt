@@ -1,0 +1,223 @@
+-- What a fact that a region makes uses and mints. Key result:
+--   made_meets   its tokens end with their family, and what it uses was minted
+use Rattle.std.proofs.Common.{◌≡◌, ◌≢◌, ℕ, ◌≤◌, nat_lt, true, false, ◌&&◌, cond, List, [], ◌∷◌, Option, None, Some, is_some, IfSome, option_map, refl, sym, ap, subst, ◌∙◌}
+use Rattle.std.specs.FinMap as map
+use Rattle.std.specs.Option.{option_and_then}
+use Rattle.tk_handle.specs.declared.dot.Dot.{Dot}
+use Rattle.tk_handle.specs.declared.kind.Kind.{Kind}
+use Rattle.tk_handle.specs.declared.kind.Kind.TheVariants as kind
+use Rattle.tk_handle.specs.declared.token_id.TokenId.{TokenId}
+use Rattle.tk_family.specs.declared.link.Link.{Link}
+use Rattle.tk_family.specs.declared.link.Link.TheVariants.{Code, Redeems, Rotates}
+use Rattle.tk_family.specs.Families.{IsPath, IsUnder, named_by, use_of}
+use Rattle.tk_family.proofs.FamilyLaws.{IsUnder-one, IsUnder-within}
+use Rattle.tk_fact.specs.Tokens.{MintedFields, minted_of, uses_of}
+use Rattle.tk_fact.specs.declared.body.Body.{Body}
+use Rattle.tk_fact.specs.declared.body.Body.TheVariants as body
+use Rattle.tk_fact.specs.declared.code_issued.CodeIssued as issued
+use Rattle.tk_store.specs.FactSet.{FactSet, IsSubset}
+use Rattle.tk_store.specs.StoreFields.{StoreFields, held_facts}
+use Rattle.tk_store.proofs.PutLaws.{none_is_not_some, some_injective}
+use Rattle.tk_ledger.specs.Tokens.{link_of, links_in, issued_in, issued_at, minted_in}
+use Rattle.tk_ledger.proofs.TokenLaws.{from_some, links-below}
+use Rattle.tk_message.specs.Decision.{refused}
+use Rattle.tk_message.specs.Place.{next_in}
+use Rattle.tk_message.specs.RequestFields.{RequestFields}
+use Rattle.tk_message.specs.declared.decision.Decision.{Decision}
+use Rattle.tk_message.specs.declared.error_code.ErrorCode.TheVariants.{TemporarilyUnavailable}
+use Rattle.tk_message.specs.declared.place.Place.{Place}
+use Rattle.tk_message.specs.declared.request.Endpoint.{Endpoint}
+use Rattle.tk_message.specs.declared.request.Endpoint.TheVariants as endpoint
+use Rattle.tk_authorize.proofs.MadeLaws.{authorizes_alone, administers_alone}
+use Rattle.tk_grant.specs.Within.{IsCodeOf, IsWithin}
+use Rattle.tk_grant.proofs.MadeLaws.{grants_within}
+use Rattle.tk_query.proofs.MadeLaws.{revokes_alone}
+use Rattle.tk_region.specs.Decision.{decision_by}
+use Rattle.tk_region.specs.RegionFields.{RegionFields, place_in}
+use Rattle.tk_region.specs.Step.{at_dot, early_in, prepared_at, prepared_by, prepared_of}
+use Rattle.tk_retention.specs.StandsFor.{AddsOne, MeetsFamily}
+use Rattle.tk_retention.proofs.KeepingLaws.{minted_more}
+use Rattle.tk_retention.proofs.StandingLaws.{code_under}
+
+some_known : {A : Type 0} (o : Option A) (a : A) → o ≡ Some a → o ≢ None
+some_known o a h none = none_is_not_some a (sym none ∙ h)
+
+-- ---- the fact that is made
+
+-- a decision makes a fact that is within its family, if it makes one
+abbrev MakesWithin : FactSet → Decision → Type 0
+MakesWithin F d = IfSome d.made (IsWithin F)
+
+-- a fact that uses no token is within
+alone_within : (F : FactSet) (o : Option Body) → IfSome o (λ b. uses_of b ≡ None) → IfSome o (IsWithin F)
+alone_within F None alone = tt
+alone_within F (Some (body.CodeRedeemed f)) alone = absurd (none_is_not_some _ (sym alone))
+alone_within F (Some (body.RefreshRotated f)) alone = absurd (none_is_not_some _ (sym alone))
+alone_within F (Some b) alone = tt
+
+module _ (P : StoreFields) (place : Place) (now : ℕ) (words : List ℕ) (request : RequestFields) where
+  administered : MakesWithin (held_facts P) (decision_by endpoint.AddClient P place now words request)
+  administered = alone_within (held_facts P) (decision_by endpoint.AddClient P place now words request).made (administers_alone (held_facts P) place now request)
+
+  -- each decision makes a fact that is within its family, if it makes one
+  made_within : (e : Endpoint) → MakesWithin (held_facts P) (decision_by e P place now words request)
+  made_within endpoint.Authorize = alone_within (held_facts P) (decision_by endpoint.Authorize P place now words request).made (authorizes_alone (held_facts P) place now words request)
+  made_within endpoint.Token = grants_within P place now words request
+  made_within endpoint.Introspect = tt
+  made_within endpoint.Revoke = alone_within (held_facts P) (decision_by endpoint.Revoke P place now words request).made (revokes_alone P place now request)
+  made_within endpoint.AddClient = administered
+  made_within endpoint.ShowClient = administered
+  made_within endpoint.Retire = administered
+  made_within endpoint.Consent = administered
+  made_within endpoint.Withdraw = administered
+  made_within endpoint.SignOut = administered
+
+  prepares_at : (d : Decision) → MakesWithin (held_facts P) d → IfSome (prepared_at (next_in place) d).fact (λ f. IsWithin (held_facts P) f.1)
+  prepares_at d within = by d.made within
+    where
+      by : (o : Option Body) → IfSome o (IsWithin (held_facts P)) → IfSome (option_map (at_dot (next_in place)) o) (λ f. IsWithin (held_facts P) f.1)
+      by None x = tt
+      by (Some b) x = x
+
+  prepares_within : (cap : ℕ) (d : Decision) → MakesWithin (held_facts P) d → IfSome (prepared_by cap place d).fact (λ f. IsWithin (held_facts P) f.1)
+  prepares_within cap d within =
+      elim (is_some d.made && nat_lt cap place.next) as (λ t. IfSome (prepared_at (next_in place) (cond t (refused TemporarilyUnavailable) d)).fact (λ f. IsWithin (held_facts P) f.1)) [
+        | true ↦ tt
+        | false ↦ prepares_at d within
+      ]
+
+-- ---- what meets its family
+
+module _ (F U V : FactSet) (d : Dot) (b : Body) (part : IsSubset F U) (adds : AddsOne U d b V) where
+  grown : IsSubset F V
+  grown q c h = by (part q c h)
+    where
+      taken : map.get U q ≡ Some c → q ≡ d → ⊥
+      taken at same = none_is_not_some c (sym adds.free ∙ ap (map.get U) (sym same) ∙ at)
+
+      by : map.get U q ≡ Some c → map.get V q ≡ Some c
+      by at = adds.others q (λ same. taken at same) ∙ at
+
+  link_here : links_in (map.get V) d ≡ link_of b
+  link_here = ap (option_and_then link_of) adds.here
+
+  code_grown : (c : Dot) (code : issued.CodeIssued) → issued_at (map.get F) c ≡ Some code → issued_at (map.get V) c ≡ Some code
+  code_grown c code h =
+      let from = from_some issued_in (map.get F c) code h in
+      ap (option_and_then issued_in) (grown c from.0 from.1) ∙ from.2
+
+  -- a dot that names p is under the codes that p is under
+  above_code : (l : Link) (p c : Dot) → link_of b ≡ Some l → l ≢ Code → named_by l ≡ Some p → IsUnder (links_in (map.get V)) d c → IsUnder (links_in (map.get V)) p c
+  above_code l p c is other names under = by under.path under.leads
+    where
+      by : (ps : List Dot) → IsPath (links_in (map.get V)) d ps c → IsUnder (links_in (map.get V)) p c
+      by [] leads = absurd (other (some_injective l Code (sym is ∙ sym link_here ∙ ap (links_in (map.get V)) leads.0 ∙ leads.1)))
+      by (q ∷ ps) leads =
+          let same : leads.0.0.link ≡ l = some_injective leads.0.0.link l (sym leads.0.0.here ∙ link_here ∙ is) in
+          let here : q ≡ p = some_injective q p (sym leads.0.0.names ∙ ap named_by same ∙ names) in
+          subst (λ (x : Dot). IsUnder (links_in (map.get V)) x c) here (record { path = ps; leads = (leads.0.1, leads.1) })
+
+  code_itself : (c : Dot) (code : issued.CodeIssued) → issued_at (map.get F) c ≡ Some code → IsUnder (links_in (map.get V)) c c
+  code_itself c code h = code_under V c code (code_grown c code h)
+
+  -- the family of what is above ends at the moment
+  ends_by : (p root c : Dot) (moment : ℕ) (code : issued.CodeIssued) → IsUnder (links_in (map.get V)) p root → IsCodeOf F root moment
+      → IsUnder (links_in (map.get V)) p c → issued_at (map.get V) c ≡ Some code → moment ≡ code.family_end
+  ends_by p root c moment code under of under_c issues =
+      let same : c ≡ root = IsUnder-one (links_in (map.get V)) p c root under_c under in
+      let is : of.0 ≡ code = some_injective of.0 code (sym (code_grown root of.0 of.1) ∙ ap (issued_at (map.get V)) (sym same) ∙ issues) in
+      of.2 ∙ ap (λ (x : issued.CodeIssued). x.family_end) is
+
+  minted_here : (k : TokenId) → k.dot ≡ d → minted_in (map.get V) k ≡ minted_of b k.kind
+  minted_here k same = ap (λ (q : Dot). option_and_then (λ (x : Body). minted_of x k.kind) (map.get V q)) same ∙ ap (option_and_then (λ (x : Body). minted_of x k.kind)) adds.here
+
+  ends_within : (b' : Body) (access refresh : ℕ) (k : Kind) (m : MintedFields) (moment : ℕ) → k ≢ kind.Code
+      → ((x : MintedFields) → minted_of b' kind.Access ≡ Some x → x.expiry ≡ access) → ((x : MintedFields) → minted_of b' kind.Refresh ≡ Some x → x.expiry ≡ refresh)
+      → access ≤ moment → refresh ≤ moment → minted_of b' k ≡ Some m → m.expiry ≤ moment
+  ends_within b' access refresh kind.Code m moment other a r x y h = absurd (other refl)
+  ends_within b' access refresh kind.Access m moment other a r x y h = subst (λ n. n ≤ moment) (sym (a m h)) x
+  ends_within b' access refresh kind.Refresh m moment other a r x y h = subst (λ n. n ≤ moment) (sym (r m h)) y
+
+-- a fact that is no redemption and no rotation mints codes alone, and uses nothing
+abbrev Alone : Body → Type 0
+Alone b = ((k : Kind) → k ≢ kind.Code → minted_of b k ≡ None) × (use_of (link_of b) ≡ None)
+
+alone_meets : (U V : FactSet) (d : Dot) (b : Body) → AddsOne U d b V → Alone b → MeetsFamily U d V
+alone_meets U V d b adds alone = record {
+  cut = λ k m c code same other minted under issues. absurd (none_is_not_some m (sym (alone.0 k.kind other) ∙ sym (minted_here U U V d b (λ q x h. h) adds k same) ∙ minted));
+  named = λ k u. absurd (none_is_not_some k (sym alone.1 ∙ ap use_of (sym (link_here U U V d b (λ q x h. h) adds)) ∙ u));
+}
+
+codes_alone : (f : issued.CodeIssued) → Alone (body.CodeIssued f)
+codes_alone f = (none, refl)
+  where
+    none : (k : Kind) → k ≢ kind.Code → minted_of (body.CodeIssued f) k ≡ None
+    none kind.Code other = absurd (other refl)
+    none kind.Access other = refl
+    none kind.Refresh other = refl
+
+pub meets : (F U V : FactSet) (d : Dot) (b : Body) → IsSubset F U → AddsOne U d b V → IsWithin F b → MeetsFamily U d V
+meets F U V d (body.CodeRedeemed f) part adds within =
+    let b : Body = body.CodeRedeemed f in
+    let of = within.1 in
+    record {
+      cut = λ k m c code same other minted under_k issues.
+          let under = subst (λ (x : Dot). IsUnder (links_in (map.get V)) x c) same under_k in
+          let up = above_code F U V d b part adds (Redeems f.code) f.code c refl (λ e. no_code e) refl under in
+          let moment : within.0 ≡ code.family_end = ends_by F U V d b part adds f.code f.code c within.0 code (code_itself F U V d b part adds f.code of.0 of.1) of up issues in
+          subst (λ n. m.expiry ≤ n) moment
+          (ends_within F U V d b part adds b f.access.expiry f.refresh.expiry k.kind m within.0 other (λ x h. ap (λ (y : MintedFields). y.expiry) (sym (some_injective _ x h))) (λ x h. ap (λ (y : MintedFields). y.expiry) (sym (some_injective _ x h))) within.2 within.3
+          (sym (minted_here F U V d b part adds k same) ∙ minted));
+      named = λ k u.
+          let is : record { dot = f.code; kind = kind.Code } ≡ k = some_injective _ k (ap use_of (sym (link_here F U V d b part adds)) ∙ u) in
+          subst (λ (x : TokenId). minted_in (map.get U) x ≢ None) is (code_minted of.0 of.1);
+    }
+  where
+    no_code : Redeems f.code ≡ Code → ⊥
+    no_code e = cc
+
+    code_minted : (code : issued.CodeIssued) → issued_at (map.get F) f.code ≡ Some code → minted_in (map.get U) (record { dot = f.code; kind = kind.Code }) ≢ None
+    code_minted code h =
+        let from = from_some issued_in (map.get F f.code) code h in
+        by from.0 (part f.code from.0 from.1) from.2
+      where
+        by : (x : Body) → map.get U f.code ≡ Some x → issued_in x ≡ Some code → minted_in (map.get U) (record { dot = f.code; kind = kind.Code }) ≢ None
+        by (body.CodeIssued y) at is = some_known (minted_in (map.get U) (record { dot = f.code; kind = kind.Code })) _ (ap (option_and_then (λ (z : Body). minted_of z kind.Code)) at)
+        by x at is = absurd (none_is_not_some code is)
+meets F U V d (body.RefreshRotated f) part adds within =
+    let b : Body = body.RefreshRotated f in
+    let root = within.1 in
+    let moment = within.3 in
+    let of = within.4 in
+    record {
+      cut = λ k m c code same other minted under_k issues.
+          let under = subst (λ (x : Dot). IsUnder (links_in (map.get V)) x c) same under_k in
+          let up = above_code F U V d b part adds (Rotates f.parent f.generation) f.parent c refl (λ e. no_code e) refl under in
+          let old = IsUnder-within (links_in (map.get F)) (links_in (map.get V)) (links-below F V (grown F U V d b part adds)) f.parent root within.2 in
+          let ends : moment ≡ code.family_end = ends_by F U V d b part adds f.parent root c moment code old of up issues in
+          subst (λ n. m.expiry ≤ n) ends
+          (ends_within F U V d b part adds b f.access.expiry f.refresh.expiry k.kind m moment other (λ x h. ap (λ (y : MintedFields). y.expiry) (sym (some_injective _ x h))) (λ x h. ap (λ (y : MintedFields). y.expiry) (sym (some_injective _ x h))) within.5 within.6
+          (sym (minted_here F U V d b part adds k same) ∙ minted));
+      named = λ k u.
+          let is : record { dot = f.parent; kind = kind.Refresh } ≡ k = some_injective _ k (ap use_of (sym (link_here F U V d b part adds)) ∙ u) in
+          subst (λ (x : TokenId). minted_in (map.get U) x ≢ None) is
+          (minted_more F U part (record { dot = f.parent; kind = kind.Refresh }) (minted_in (map.get F) (record { dot = f.parent; kind = kind.Refresh })) refl within.0);
+    }
+  where
+    no_code : Rotates f.parent f.generation ≡ Code → ⊥
+    no_code e = cc
+meets F U V d (body.CodeIssued f) part adds within = alone_meets U V d (body.CodeIssued f) adds (codes_alone f)
+meets F U V d b part adds within = alone_meets U V d b adds (λ k other. refl, refl)
+
+-- a fact that a region makes ends with its family, and uses what was minted
+pub made_meets : (r : RegionFields) (U V : FactSet) (now : ℕ) (words : List ℕ) (request : RequestFields) → IsSubset (held_facts r.facts) U
+    → IfSome (prepared_of r now words request).fact (λ f. AddsOne U f.0 f.1 V → MeetsFamily U f.0 V)
+made_meets r U V now words request part =
+    elim (nat_lt now r.facts.horizon) as (λ t. IfSome (cond t (early_in (place_in r)) (prepared_by r.settings.cap (place_in r) (decision_by request.endpoint r.facts (place_in r) now words request))).fact (λ f. AddsOne U f.0 f.1 V → MeetsFamily U f.0 V)) [
+      | true ↦ tt
+      | false ↦ by _ (prepares_within r.facts (place_in r) now words request r.settings.cap (decision_by request.endpoint r.facts (place_in r) now words request) (made_within r.facts (place_in r) now words request request.endpoint))
+    ]
+  where
+    by : (o : Option (Dot × Body)) → IfSome o (λ f. IsWithin (held_facts r.facts) f.1) → IfSome o (λ f. AddsOne U f.0 f.1 V → MeetsFamily U f.0 V)
+    by None x = tt
+    by (Some f) x = λ adds. meets (held_facts r.facts) U V f.0 f.1 part adds x

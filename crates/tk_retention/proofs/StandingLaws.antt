@@ -1,0 +1,328 @@
+-- What holds of the facts that a store stands for holds of those that it holds, or the family is
+-- over. Key results, where P stands for F and U are all facts made:
+--   at_skipped, at_held, may_skip     what stands at a dot
+--   held_made, all_made, held_part    the sets within each other
+--   lasting_held                      a fact that is kept for no token is held
+--   skipped_over                      what is skipped is under a code whose family is over
+--   under_held, mint_held, code_held, ended_held, used_held, dead_held
+--                                     it is held, or the family is over
+use Rattle.std.proofs.Common.{◌≡◌, ◌≢◌, ◌⊎◌, inl, inr, ℕ, ◌≤◌, Bool, true, false, Option, None, Some, List, [], ◌∷◌, refl, sym, ap, subst, ◌∙◌}
+use Rattle.std.proofs.lemmas.Bool.{true≢false, cases_Bool}
+use Rattle.std.specs.Option.{option_and_then}
+use Rattle.std.specs.FinMap as map
+use Rattle.tk_handle.specs.declared.dot.Dot.{Dot}
+use Rattle.tk_handle.specs.declared.kind.Kind.TheVariants as kind
+use Rattle.tk_handle.specs.declared.token_id.TokenId.{TokenId}
+use Rattle.tk_family.specs.declared.link.Link.{Link}
+use Rattle.tk_family.specs.declared.link.Link.TheVariants.{Code, Redeems, Rotates}
+use Rattle.tk_family.specs.Families.{Links, used_by, named_by, grant_at, IsParent, IsTrail, IsPath, IsUnder, use_of, IsUsed, IsTwice, IsBad, IsDead}
+use Rattle.tk_family.proofs.FamilyLaws.{IsUnder-one, IsUnder-within, use_of-within}
+use Rattle.tk_fact.specs.Keeping.{kept_for}
+use Rattle.tk_fact.specs.Tokens.{MintedFields, minted_of}
+use Rattle.tk_fact.specs.declared.body.Body.{Body}
+use Rattle.tk_fact.specs.declared.body.Body.TheVariants as body
+use Rattle.tk_fact.specs.declared.code_issued.CodeIssued as issued
+use Rattle.tk_store.specs.FactSet.{FactSet, IsSubset}
+use Rattle.tk_store.specs.Slots.{Slot, Held, Skipped, held_slot, is_skipped, is_skipped_slot}
+use Rattle.tk_store.specs.StoreFields.{StoreFields, held_facts}
+use Rattle.tk_store.proofs.PutLaws.{none_is_not_some, some_injective}
+use Rattle.tk_store.proofs.SlotLaws.{get_held}
+use Rattle.tk_ledger.specs.Retention.{MaySkip}
+use Rattle.tk_ledger.specs.SignOuts.{IsSignedOut}
+use Rattle.tk_ledger.specs.Tokens.{link_of, links_in, issued_in, issued_at, minted_in, IsRevoked, IsEnded, IsReused, IsOut, IsStopped, IsMarked}
+use Rattle.tk_ledger.proofs.TokenLaws.{links-below, minted-below}
+use Rattle.tk_retention.specs.StandsFor.{SlotStands, StandsFor}
+
+-- the family of the code at c is over at the moment
+pub record IsOver (U : FactSet) (t : ℕ) (c : Dot) : Type 0 where
+  pub code : issued.CodeIssued
+  pub is : issued_at (map.get U) c ≡ Some code
+  pub over : code.family_end ≤ t
+
+-- ---- small facts
+
+pub none_some : {A : Type 0} (o : Option A) (a : A) → o ≡ None → o ≡ Some a → ⊥
+none_some o a n s = none_is_not_some a (sym n ∙ s)
+
+-- what makes a link is kept for a token of its own
+pub kept_linked : (d : Dot) (b : Body) (l : Link) (k : TokenId) → link_of b ≡ Some l → kept_for d b ≡ Some k → k.dot ≡ d
+kept_linked d (body.CodeIssued c) l k h e = ap (λ (x : TokenId). x.dot) (sym (some_injective _ k e))
+kept_linked d (body.CodeRedeemed r) l k h e = ap (λ (x : TokenId). x.dot) (sym (some_injective _ k e))
+kept_linked d (body.RefreshRotated r) l k h e = ap (λ (x : TokenId). x.dot) (sym (some_injective _ k e))
+kept_linked d b l k h e = absurd (none_is_not_some l h)
+
+grant_dot : (d : Dot) (l : Link) → (grant_at d l).dot ≡ d
+grant_dot d Code = refl
+grant_dot d (Redeems c) = refl
+grant_dot d (Rotates p g) = refl
+
+used_named : (l : Link) (k : TokenId) → used_by l ≡ Some k → named_by l ≡ Some k.dot
+used_named Code k h = absurd (none_is_not_some k h)
+used_named (Redeems c) k h = ap (λ (x : TokenId). Some x.dot) (some_injective _ k h)
+used_named (Rotates p g) k h = ap (λ (x : TokenId). Some x.dot) (some_injective _ k h)
+
+use_named : (o : Option Link) (k : TokenId) (l : Link) (p : Dot) → use_of o ≡ Some k → o ≡ Some l → named_by l ≡ Some p → k.dot ≡ p
+use_named None k l p u e n = absurd (none_is_not_some k u)
+use_named (Some m) k l p u e n = some_injective k.dot p (sym (used_named m k u) ∙ ap named_by (some_injective m l e) ∙ n)
+
+pub link_from : (o : Option Body) (b : Body) → o ≡ Some b → (l : Link) → option_and_then link_of o ≡ Some l → link_of b ≡ Some l
+link_from o b h l e = sym (ap (option_and_then link_of) h) ∙ e
+
+path_link : (f : Links) (d : Dot) (ps : List Dot) (c : Dot) → IsPath f d ps c → (l : Link) × (f d ≡ Some l)
+path_link f d [] c m = (Code, ap f m.0 ∙ m.1)
+path_link f d (p ∷ ps) c m = (m.0.0.link, m.0.0.here)
+
+used_link : (o : Option Link) (k : TokenId) → use_of o ≡ Some k → (l : Link) × (o ≡ Some l)
+used_link None k h = absurd (none_is_not_some k h)
+used_link (Some l) k h = (l, refl)
+
+under_at : (f : Links) (d e c : Dot) → d ≡ e → IsUnder f d c → IsUnder f e c
+under_at f d e c same u = subst (λ (q : Dot). IsUnder f q c) same u
+
+over_at : (U : FactSet) (t : ℕ) (b c : Dot) (code : issued.CodeIssued) → b ≡ c → issued_at (map.get U) b ≡ Some code → code.family_end ≤ t → IsOver U t c
+over_at U t b c code same is over = subst (λ (q : Dot). IsOver U t q) same (record { code = code; is = is; over = over })
+
+issues_link : (o : Option Body) (code : issued.CodeIssued) → option_and_then issued_in o ≡ Some code → option_and_then link_of o ≡ Some Code
+issues_link None code h = absurd (none_is_not_some code h)
+issues_link (Some (body.CodeIssued c)) code h = refl
+issues_link (Some b) code h = absurd (none_is_not_some code h)
+
+-- a code is under itself
+pub code_under : (F : FactSet) (c : Dot) (code : issued.CodeIssued) → issued_at (map.get F) c ≡ Some code → IsUnder (links_in (map.get F)) c c
+code_under F c code is = record { path = []; leads = (refl, issues_link (map.get F c) code is) }
+
+-- ---- what a slot stands for
+
+skipped_stands : (U : FactSet) (t : ℕ) (d : Dot) (o : Option Slot) (p : Option Body) → SlotStands U t d o p → is_skipped_slot o ≡ true → (p ≡ map.get U d) × MaySkip (map.get U) t d
+skipped_stands U t d None p s h = absurd (true≢false (sym h))
+skipped_stands U t d (Some (Held b)) p s h = absurd (true≢false (sym h))
+skipped_stands U t d (Some Skipped) p s h = s
+
+held_stands : (U : FactSet) (t : ℕ) (d : Dot) (o : Option Slot) (p : Option Body) → SlotStands U t d o p → is_skipped_slot o ≡ false → p ≡ held_slot o
+held_stands U t d None p s h = s
+held_stands U t d (Some (Held b)) p s h = s.0
+held_stands U t d (Some Skipped) p s h = absurd (true≢false h)
+
+slot_apart : (o : Option Slot) → is_skipped_slot o ≡ true → held_slot o ≡ None
+slot_apart None h = refl
+slot_apart (Some (Held b)) h = absurd (true≢false (sym h))
+slot_apart (Some Skipped) h = refl
+
+held_slot_made : (U : FactSet) (t : ℕ) (d : Dot) (o : Option Slot) (p : Option Body) → SlotStands U t d o p → (b : Body) → held_slot o ≡ Some b → map.get U d ≡ Some b
+held_slot_made U t d None p s b h = absurd (none_is_not_some b h)
+held_slot_made U t d (Some (Held c)) p s b h = s.1 ∙ h
+held_slot_made U t d (Some Skipped) p s b h = absurd (none_is_not_some b h)
+
+-- ---- where P stands for F
+
+module _ (P : StoreFields) (U F : FactSet) (S : StandsFor P U F) where
+  abbrev H : FactSet
+  H = held_facts P
+
+  pub at_skipped : (d : Dot) → is_skipped P.slots d ≡ true → map.get F d ≡ map.get U d
+  at_skipped d h = (skipped_stands U P.horizon d (map.get P.slots d) (map.get F d) (S d) h).0
+
+  pub may_skip : (d : Dot) → is_skipped P.slots d ≡ true → MaySkip (map.get U) P.horizon d
+  may_skip d h = (skipped_stands U P.horizon d (map.get P.slots d) (map.get F d) (S d) h).1
+
+  pub at_held : (d : Dot) → is_skipped P.slots d ≡ false → map.get F d ≡ map.get H d
+  at_held d h = held_stands U P.horizon d (map.get P.slots d) (map.get F d) (S d) h ∙ sym (get_held P.slots d)
+
+  pub apart : (d : Dot) → is_skipped P.slots d ≡ true → map.get H d ≡ None
+  apart d h = get_held P.slots d ∙ slot_apart (map.get P.slots d) h
+
+  pub held_made : IsSubset H U
+  held_made d b h = held_slot_made U P.horizon d (map.get P.slots d) (map.get F d) (S d) b (sym (get_held P.slots d) ∙ h)
+
+  pub all_made : IsSubset F U
+  all_made d b h = elim (cases_Bool (is_skipped P.slots d)) [
+    | inl skipped ↦ sym (at_skipped d skipped) ∙ h
+    | inr held ↦ held_made d b (sym (at_held d held) ∙ h)
+  ]
+
+  pub held_part : IsSubset H F
+  held_part d b h = elim (cases_Bool (is_skipped P.slots d)) [
+    | inl skipped ↦ absurd (none_some (map.get H d) b (apart d skipped) h)
+    | inr held ↦ at_held d held ∙ h
+  ]
+
+  -- a fact that is kept for no token is held
+  pub lasting_held : (d : Dot) (b : Body) → kept_for d b ≡ None → map.get F d ≡ Some b → map.get H d ≡ Some b
+  lasting_held d b none h = elim (cases_Bool (is_skipped P.slots d)) [
+    | inl skipped ↦
+        let may = may_skip d skipped in
+        let same : may.fact ≡ b = some_injective may.fact b (sym may.here ∙ sym (at_skipped d skipped) ∙ h) in
+        absurd (none_some (kept_for d b) may.token none (ap (kept_for d) (sym same) ∙ may.kept))
+    | inr held ↦ sym (at_held d held) ∙ h
+  ]
+
+  -- what is skipped is under a code whose family is over
+  pub skipped_over : (d c : Dot) → is_skipped P.slots d ≡ true → IsUnder (links_in (map.get U)) d c → IsOver U P.horizon c
+  skipped_over d c skipped under =
+      let may = may_skip d skipped in
+      let link = path_link (links_in (map.get U)) d under.path c under.leads in
+      let own : may.token.dot ≡ d = kept_linked d may.fact link.0 may.token (link_from (map.get U d) may.fact may.here link.0 link.1) may.kept in
+      let above : IsUnder (links_in (map.get U)) d may.root = under_at (links_in (map.get U)) may.token.dot d may.root own may.under.1 in
+      over_at U P.horizon may.root c may.code (IsUnder-one (links_in (map.get U)) d may.root c above under) may.issues may.over
+
+  made_up : (d c : Dot) → IsUnder (links_in (map.get F)) d c → IsUnder (links_in (map.get U)) d c
+  made_up d c u = IsUnder-within (links_in (map.get F)) (links_in (map.get U)) (links-below F U all_made) d c u
+
+  link_held : (d c : Dot) (l : Link) → links_in (map.get F) d ≡ Some l → IsUnder (links_in (map.get U)) d c → (links_in (map.get H) d ≡ Some l) ⊎ IsOver U P.horizon c
+  link_held d c l h under = elim (cases_Bool (is_skipped P.slots d)) [
+    | inl skipped ↦ inr (skipped_over d c skipped under)
+    | inr held ↦ inl (ap (option_and_then link_of) (sym (at_held d held)) ∙ h)
+  ]
+
+  parent_held : (e p c : Dot) → IsParent (links_in (map.get F)) e p → IsUnder (links_in (map.get U)) e c → IsUnder (links_in (map.get U)) p c → IsParent (links_in (map.get H)) e p ⊎ IsOver U P.horizon c
+  parent_held e p c a low high = elim (link_held e c a.link a.here low) [
+    | inr over ↦ inr over
+    | inl here ↦ elim (link_held p c a.above a.there high) [
+      | inr over ↦ inr over
+      | inl there ↦ inl (record { link = a.link; above = a.above; here = here; names = a.names; there = there; fitting = a.fitting })
+    ]
+  ]
+
+  made_under : (d : Dot) (ps : List Dot) (c : Dot) → IsPath (links_in (map.get F)) d ps c → IsUnder (links_in (map.get U)) d c
+  made_under d ps c m = made_up d c (record { path = ps; leads = m })
+
+  path_held : (d : Dot) (ps : List Dot) (c : Dot) → IsPath (links_in (map.get F)) d ps c → IsPath (links_in (map.get H)) d ps c ⊎ IsOver U P.horizon c
+  path_held d [] c m = elim (link_held c c Code m.1 (made_under c [] c (refl, m.1))) [ inl here ↦ inl (m.0, here) | inr over ↦ inr over ]
+  path_held d (p ∷ ps) c m = elim (parent_held d p c m.0.0 (made_under d (p ∷ ps) c m) (made_under p ps c (m.0.1, m.1))) [
+    | inr over ↦ inr over
+    | inl one ↦ elim (path_held p ps c (m.0.1, m.1)) [ inl more ↦ inl ((one, more.0), more.1) | inr over ↦ inr over ]
+  ]
+
+  -- a whole chain is held, or its family is over
+  pub under_held : (d c : Dot) → IsUnder (links_in (map.get F)) d c → IsUnder (links_in (map.get H)) d c ⊎ IsOver U P.horizon c
+  under_held d c u = elim (path_held d u.path c u.leads) [ inl held ↦ inl (record { path = u.path; leads = held }) | inr over ↦ inr over ]
+
+  user_over : (e c : Dot) (k : TokenId) (r : Dot) (ps : List Dot) → use_of (links_in (map.get U) e) ≡ Some k → IsPath (links_in (map.get U)) e ps r → IsUnder (links_in (map.get U)) k.dot c → r ≡ c
+  user_over e c k r [] u m under = absurd (none_some (use_of (links_in (map.get U) e)) k (ap use_of (ap (links_in (map.get U)) m.0 ∙ m.1)) u)
+  user_over e c k r (p ∷ ps) u m under =
+      let same : k.dot ≡ p = use_named (links_in (map.get U) e) k m.0.0.link p u m.0.0.here m.0.0.names in
+      IsUnder-one (links_in (map.get U)) p r c (record { path = ps; leads = (m.0.1, m.1) }) (under_at (links_in (map.get U)) k.dot p c same under)
+
+  made_use : (e : Dot) (k : TokenId) → use_of (links_in (map.get F) e) ≡ Some k → use_of (links_in (map.get U) e) ≡ Some k
+  made_use e k u = use_of-within (links_in (map.get F)) (links_in (map.get U)) (links-below F U all_made) e (links_in (map.get F) e) k refl u
+
+  -- a use is held, or the family is over
+  use_held : (e c : Dot) (k : TokenId) → use_of (links_in (map.get F) e) ≡ Some k → IsUnder (links_in (map.get U)) k.dot c → (use_of (links_in (map.get H) e) ≡ Some k) ⊎ IsOver U P.horizon c
+  use_held e c k u under = elim (cases_Bool (is_skipped P.slots e)) [
+    | inr held ↦ inl (ap (λ (o : Option Body). use_of (option_and_then link_of o)) (sym (at_held e held)) ∙ u)
+    | inl skipped ↦
+        let may = may_skip e skipped in
+        let above = used_link (links_in (map.get U) e) k (made_use e k u) in
+        let own : may.token.dot ≡ e = kept_linked e may.fact above.0 may.token (link_from (map.get U e) may.fact may.here above.0 above.1) may.kept in
+        let here : IsUnder (links_in (map.get U)) e may.root = under_at (links_in (map.get U)) may.token.dot e may.root own may.under.1 in
+        inr (over_at U P.horizon may.root c may.code (user_over e c k may.root here.path (made_use e k u) here.leads under) may.issues may.over)
+  ]
+
+  twice_held : (c : Dot) (k : TokenId) → IsTwice (links_in (map.get F)) k → IsUnder (links_in (map.get U)) k.dot c → IsTwice (links_in (map.get H)) k ⊎ IsOver U P.horizon c
+  twice_held c k t under = elim (use_held t.one c k t.by_one under) [
+    | inr over ↦ inr over
+    | inl one ↦ elim (use_held t.two c k t.by_two under) [
+      | inr over ↦ inr over
+      | inl two ↦ inl (record { one = t.one; two = t.two; apart = t.apart; by_one = one; by_two = two })
+    ]
+  ]
+
+  reuse_held : (c : Dot) (k : TokenId) → IsReused (map.get F) k → IsUnder (links_in (map.get U)) k.dot c → IsReused (map.get H) k ⊎ IsOver U P.horizon c
+  reuse_held c k s under = elim (cases_Bool (is_skipped P.slots s.place)) [
+    | inr held ↦ inl (record { place = s.place; reuse = s.reuse; held = sym (at_held s.place held) ∙ s.held; token = s.token })
+    | inl skipped ↦
+        let may = may_skip s.place skipped in
+        let fact : may.fact ≡ body.ReuseSeen s.reuse = some_injective may.fact (body.ReuseSeen s.reuse) (sym may.here ∙ sym (at_skipped s.place skipped) ∙ s.held) in
+        let token : may.token ≡ s.reuse.token = some_injective may.token s.reuse.token (sym may.kept ∙ ap (kept_for s.place) fact) in
+        let own : may.token.dot ≡ k.dot = ap (λ (x : TokenId). x.dot) (token ∙ s.token) in
+        let above : IsUnder (links_in (map.get U)) k.dot may.root = under_at (links_in (map.get U)) may.token.dot k.dot may.root own may.under.1 in
+        inr (over_at U P.horizon may.root c may.code (IsUnder-one (links_in (map.get U)) k.dot may.root c above under) may.issues may.over)
+  ]
+
+  pub mint_held : (c : Dot) (k : TokenId) (m : MintedFields) → minted_in (map.get F) k ≡ Some m → IsUnder (links_in (map.get U)) k.dot c → (minted_in (map.get H) k ≡ Some m) ⊎ IsOver U P.horizon c
+  mint_held c k m h under = elim (cases_Bool (is_skipped P.slots k.dot)) [
+    | inl skipped ↦ inr (skipped_over k.dot c skipped under)
+    | inr held ↦ inl (ap (option_and_then (λ (b : Body). minted_of b k.kind)) (sym (at_held k.dot held)) ∙ h)
+  ]
+
+  pub code_held : (c : Dot) (code : issued.CodeIssued) → issued_at (map.get F) c ≡ Some code → (issued_at (map.get H) c ≡ Some code) ⊎ IsOver U P.horizon c
+  code_held c code is = elim (cases_Bool (is_skipped P.slots c)) [
+    | inl skipped ↦ inr (skipped_over c c skipped (made_up c c (code_under F c code is)))
+    | inr held ↦ inl (ap (option_and_then issued_in) (sym (at_held c held)) ∙ is)
+  ]
+
+  revoked_held : (k : TokenId) (digest : List ℕ) (client : Dot) → IsRevoked (map.get F) k digest client → IsRevoked (map.get H) k digest client
+  revoked_held k digest client r = record {
+    place = r.place;
+    revocation = r.revocation;
+    held = lasting_held r.place (body.TokenRevoked r.revocation) refl r.held;
+    token = r.token;
+    digest_is = r.digest_is;
+    client_is = r.client_is;
+  }
+
+  signed_held : (subject : List ℕ) (moment : ℕ) → IsSignedOut (map.get F) subject moment → IsSignedOut (map.get H) subject moment
+  signed_held subject moment s = record {
+    place = s.place;
+    sign_out = s.sign_out;
+    held = lasting_held s.place (body.SubjectOut s.sign_out) refl s.held;
+    subject_is = s.subject_is;
+    not_before = s.not_before;
+  }
+
+  pub ended_held : (c : Dot) (k : TokenId) → IsEnded (map.get F) k → IsUnder (links_in (map.get U)) k.dot c → IsEnded (map.get H) k ⊎ IsOver U P.horizon c
+  ended_held c k e under =
+      let same : e.code ≡ c = IsUnder-one (links_in (map.get U)) k.dot e.code c (made_up k.dot e.code e.under) under in
+      elim (mint_held c k e.minted e.mints under) [
+        | inr over ↦ inr over
+        | inl mints ↦ elim (under_held k.dot e.code e.under) [
+          | inr over ↦ inr (subst (λ (q : Dot). IsOver U P.horizon q) same over)
+          | inl above ↦ elim (code_held e.code e.issued e.issues) [
+            | inr over ↦ inr (subst (λ (q : Dot). IsOver U P.horizon q) same over)
+            | inl is ↦ inl (record {
+              minted = e.minted;
+              code = e.code;
+              issued = e.issued;
+              mints = mints;
+              under = above;
+              issues = is;
+              by_client = revoked_held k e.minted.digest e.issued.client e.by_client;
+            })
+          ]
+        ]
+      ]
+
+  out_held : (c d : Dot) → IsOut (map.get F) d → IsUnder (links_in (map.get U)) d c → IsOut (map.get H) d ⊎ IsOver U P.horizon c
+  out_held c d x under =
+      let same : d ≡ c = IsUnder-one (links_in (map.get U)) d d c (made_up d d (code_under F d x.issued x.issues)) under in
+      elim (code_held d x.issued x.issues) [
+        | inr over ↦ inr (subst (λ (q : Dot). IsOver U P.horizon q) same over)
+        | inl is ↦ inl (record { issued = x.issued; issues = is; signed_out = signed_held x.issued.subject x.issued.start x.signed_out })
+      ]
+
+  marked_held : (c : Dot) (k : TokenId) → IsMarked (map.get F) k → IsUnder (links_in (map.get U)) k.dot c → IsMarked (map.get H) k ⊎ IsOver U P.horizon c
+  marked_held c k (inl seen) under = elim (reuse_held c k seen under) [ inl s ↦ inl (inl s) | inr over ↦ inr over ]
+  marked_held c k (inr (inl ended)) under = elim (ended_held c k ended.1 under) [ inl e ↦ inl (inr (inl (ended.0, e))) | inr over ↦ inr over ]
+  marked_held c k (inr (inr out)) under = elim (out_held c k.dot out.1 under) [ inl o ↦ inl (inr (inr (out.0, o))) | inr over ↦ inr over ]
+
+  why_held : (c : Dot) (k : TokenId) → IsMarked (map.get F) k ⊎ IsTwice (links_in (map.get F)) k → IsUnder (links_in (map.get U)) k.dot c → (IsMarked (map.get H) k ⊎ IsTwice (links_in (map.get H)) k) ⊎ IsOver U P.horizon c
+  why_held c k (inl marked) under = elim (marked_held c k marked under) [ inl m ↦ inl (inl m) | inr over ↦ inr over ]
+  why_held c k (inr twice) under = elim (twice_held c k twice under) [ inl t ↦ inl (inr t) | inr over ↦ inr over ]
+
+  -- a death is that of the facts that are held, or the family is over
+  pub dead_held : (c : Dot) → IsDead (links_in (map.get F)) (IsMarked (map.get F)) c → IsDead (links_in (map.get H)) (IsMarked (map.get H)) c ⊎ IsOver U P.horizon c
+  dead_held c x =
+      let made : IsUnder (links_in (map.get U)) x.member c = made_up x.member c x.under in
+      elim (under_held x.member c x.under) [
+        | inr over ↦ inr over
+        | inl under ↦ elim (link_held x.member c x.bad.link x.bad.here made) [
+          | inr over ↦ inr over
+          | inl here ↦ elim (why_held c (grant_at x.member x.bad.link) x.bad.why (under_at (links_in (map.get U)) x.member (grant_at x.member x.bad.link).dot c (sym (grant_dot x.member x.bad.link)) made)) [
+            | inr over ↦ inr over
+            | inl why ↦ inl (record { member = x.member; under = under; bad = record { link = x.bad.link; here = here; why = why } })
+          ]
+        ]
+      ]
+
+  pub used_held : (c : Dot) (k : TokenId) → IsUsed (links_in (map.get F)) k → IsUnder (links_in (map.get U)) k.dot c → IsUsed (links_in (map.get H)) k ⊎ IsOver U P.horizon c
+  used_held c k u under = elim (use_held u.user c k u.by under) [ inl held ↦ inl (record { user = u.user; by = held }) | inr over ↦ inr over ]

@@ -1,0 +1,55 @@
+//! The laws of standing for: functions with empty bodies.
+
+ghost use Rattle.tk_retention.specs.Laws.{
+  DecisionStands,
+  DropStands,
+  FactStands,
+  MadeMeets,
+  MarkStands,
+  MoreStands,
+  PruneStands,
+  RegionStands,
+  SoundStays,
+  StatusStands,
+};
+
+/// States a law: from its horizon on, a store answers a handle as the facts for which it stands do.
+///
+/// The two statuses are equal, or both are of the kind that every endpoint answers as a wrong
+/// handle.
+pub fn status_stands()
+    ensures { StatusStands }
+{}
+
+/// States a law: from its horizon on, a store decides each request as the facts for which it stands
+/// do. The replies are equal, and so are the facts that are made.
+pub fn decision_stands()
+    ensures { DecisionStands }
+{}
+
+/// States a law: from its horizon on, a region prepares for each request what the facts for which
+/// its store stands determine: the reply, the fact that is made, and the record of that fact.
+pub fn region_stands()
+    ensures { RegionStands }
+{}
+
+/// States a law: a store that was pruned stands for the facts that it stood for.
+pub fn prune_stands()
+    ensures { PruneStands }
+{}
+
+/// States a law: what a store stands for is kept when more facts are made, when a dot is skipped,
+/// when a fact comes, and when a fact is dropped at a skipped dot.
+pub fn standing_kept()
+    ensures made { MoreStands }
+    ensures mark { MarkStands }
+    ensures fact { FactStands }
+    ensures dropped { DropStands }
+{}
+
+/// States laws: all facts made stay sound with one more that ends with its family and uses a token
+/// that was minted, and each fact that a region makes is one.
+pub fn soundness_stays()
+    ensures stays { SoundStays }
+    ensures made { MadeMeets }
+{}

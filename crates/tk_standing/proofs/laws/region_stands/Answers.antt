@@ -1,5 +1,0 @@
-use Rattle.tk_standing.proofs.DecisionLaws.{region_stands}
-use Rattle.tk_standing.proofs.laws.region_stands.Goals as goal
-
-pub returns : goal.returns
-returns c = region_stands

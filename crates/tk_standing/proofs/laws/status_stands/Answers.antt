@@ -1,5 +1,0 @@
-use Rattle.tk_standing.proofs.StatusStandsLaws.{status_stands}
-use Rattle.tk_standing.proofs.laws.status_stands.Goals as goal
-
-pub returns : goal.returns
-returns c = status_stands
