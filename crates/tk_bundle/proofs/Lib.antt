@@ -1,2 +1,3 @@
+pub mod NewsLaws
 pub mod PageLaws
 pub mod PagingLaws

@@ -5,6 +5,7 @@
 --   Bundle        bundle, how a bundle is spelled; bundle_bytes
 --   Page          page_of, the first slots above a cursor that a vector does not cover
 --   Paging        PagesComplete, what a receiver of all pages knows
+--   News          changes, what a bundle changes of a store; record_of, its record in a log
 --   Front         walk, over the lengths of the first bundle of many bytes; IsCut
 --   ItemLaws      item_exact, an item has one spelling
 --   BundleLaws    bundle_exact, a bundle has one spelling
@@ -17,6 +18,7 @@ pub mod Front
 pub mod FrontLaws
 pub mod ItemLaws
 pub mod Items
+pub mod News
 pub mod Page
 pub mod Paging
 pub mod VersionLaws

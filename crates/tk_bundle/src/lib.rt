@@ -6,7 +6,8 @@
 //!
 //! - `make` writes a page: what a store knows, above a cursor, and a version vector does not cover.
 //!   `pages_complete` states that a receiver of all pages misses nothing.
-//! - `single` writes a record of a log: the bundle of one fact.
+//! - `single` writes a record of a log: the bundle of one fact. `news` writes that of a bundle that
+//!   is taken in: what a store doesn't drop of it, if the bundle changes the store.
 //! - `Bundle::read` reads bytes that may be hostile, and reserves no memory for a number that they
 //!   only claim.
 //! - `read_front` reads the first bundle of many, and tells apart bytes that end too early and
@@ -24,6 +25,7 @@
 #![tactic(auto)]
 
 mod bundle;
+mod changes;
 mod error;
 mod front;
 mod item;
@@ -33,6 +35,7 @@ mod paging;
 mod version;
 
 pub use bundle::{Bundle, none_begins_another, versions_told};
+pub use changes::news;
 pub use error::FrontError;
 pub use front::read_front;
 pub use item::Item;

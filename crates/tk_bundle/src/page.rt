@@ -135,7 +135,7 @@ fn horizon_with(newest: u8, horizon: Moment) -> Option<Moment>
 
 // Begins a bundle of `count` items, the newest of which has the given kind: the magic, the version,
 // the horizon if there is one, the count.
-fn begin_bundle(
+pub(crate) fn begin_bundle(
     alloc: Global,
     newest: u8,
     horizon: Option<Moment>,
@@ -207,7 +207,7 @@ fn write_item(
 }
 
 // Writes the mark of a dot: the length of a dot, and the dot.
-fn write_mark(dot: Dot, writer: &mut Writer) -> Result<(), AllocError>
+pub(crate) fn write_mark(dot: Dot, writer: &mut Writer) -> Result<(), AllocError>
     ensures written { OnOk result (writer.new ≡ writer.old ++ item.spell (mark_at dot)) }
     ensures fits { item.Fits (mark_at dot) }
 {

@@ -1,16 +1,17 @@
 -- A pushed bundle, if taken bundles are logged (own).
 --   bundle_to_log   the pushed bundle, if taken bundles are logged
---   IsBundle        the bytes are those of a bundle
---   IsNews          whether facts of a pushed bundle may be new
+--   kept_of         the record of a bundle, by the result of taking it in
+--   IsNews          the record of pushed bytes
 --   TellsTaken      the reply to a push is written
---   LogsAndTells    a bundle with news is logged, and then the reply is written
+--   LogsAndTells    the record is logged, and then the reply is written
 --   TakesAndLogs    a pushed bundle is taken in, logged and replied to
-use Rattle.std.specs.Prelude.{◌≡◌, ◌⊎◌, ℕ, Bool, true, false, nat_lt, List, [], Option, None, Some}
-use Rattle.std.specs.Prelude.{Result, Ok, Err, if◌then◌else◌}
+use Rattle.std.specs.Prelude.{◌≡◌, ◌⊎◌, ℕ, Bool, true, false, List, [], Option, None, Some}
+use Rattle.std.specs.Prelude.{Result, Ok, Err}
 use Rattle.std.specs.Io.KnownBytes.{Appends, Keeps}
 use Rattle.tk_put.specs.Put.{AppendsFront}
 use Rattle.tk_bundle.specs.BundleFields.{BundleFields}
 use Rattle.tk_bundle.specs.Bundle.{bundle, bundle_bytes}
+use Rattle.tk_bundle.specs.News.{news_of, record_of}
 use Rattle.tk_message.specs.ReplyFields.{ReplyFields}
 use Rattle.tk_message.specs.declared.status_code.StatusCode.{StatusCode}
 use Rattle.tk_region.specs.RegionFields.{RegionFields}
@@ -30,24 +31,32 @@ abbrev pub bundle_to_log : Bool → Arrival → Option (List ℕ)
 bundle_to_log true (Exchange (Push bytes)) = Some bytes
 bundle_to_log log_taken came = None
 
--- whether facts of a bundle that was read may be new, by the result of taking it in
-abbrev pub is_news : Result ℕ TakeError → Bool
-is_news (Ok n) = nat_lt 0 n
-is_news (Err take.Memory) = true
-is_news (Err error) = false
+-- the record of a bundle, by the result of taking it in: a bundle that is refused has none, and one
+-- may be in, in part, if memory ran out
+abbrev pub kept_of : Result ℕ TakeError → Option (List ℕ) → Option (List ℕ)
+kept_of (Ok n) news = news
+kept_of (Err take.Memory) news = news
+kept_of (Err error) news = None
 
--- the bytes are those of a bundle
-abbrev pub IsBundle : List ℕ → Type 0
-IsBundle bytes = (b : BundleFields) × bundle.Fits b × (bytes ≡ bundle_bytes b)
+-- the bytes are those of this bundle, and the record is what the region doesn't drop of it, if the
+-- bundle changes the region; a record can be read
+pub record IsNewsOf (old : RegionFields) (bytes : List ℕ) (taken : Result ℕ TakeError)
+    (logged : Option (List ℕ)) (b : BundleFields) : Type 0 where
+  pub fits : bundle.Fits b
+  pub spelled : bytes ≡ bundle_bytes b
+  pub news : logged ≡ kept_of taken (record_of old.facts b)
+  pub readable : bundle.Fits (news_of old.facts.slots b)
 
--- whether facts of a pushed bundle may be new; bytes that weren't read as a bundle change nothing
-abbrev pub IsNews : RegionFields → List ℕ → Result ℕ TakeError → Bool → RegionFields → Type 0
-IsNews old bytes taken news new =
-    ((news ≡ false) × (new ≡ old)) ⊎ ((news ≡ is_news taken) × IsBundle bytes)
+-- the record of pushed bytes: none if the region is unchanged, otherwise that of the bundle
+abbrev pub IsNews : RegionFields → List ℕ → Result ℕ TakeError → Option (List ℕ) → RegionFields
+    → Type 0
+IsNews old bytes taken logged new =
+    ((logged ≡ None) × (new ≡ old)) ⊎ ((b : BundleFields) × IsNewsOf old bytes taken logged b)
 
 -- the bytes that the log gains
-abbrev pub logged_of : Bool → List ℕ → List ℕ
-logged_of news bytes = if news then bytes else []
+abbrev pub logged_of : Option (List ℕ) → List ℕ
+logged_of None = []
+logged_of (Some bytes) = bytes
 
 -- the reply to a push is written; if memory runs out, nothing is written
 abbrev pub TellsTaken : Result ℕ TakeError → Change → Result StatusCode Fault → Type 0
@@ -60,22 +69,26 @@ TellsTaken taken writer (Err Write) =
 TellsTaken taken writer (Err Memory) = Keeps writer.before writer.after
 TellsTaken taken writer (Err fault) = ⊥
 
--- A bundle with news is logged, and then the reply is written. Log fault: the log has a beginning
--- of the bundle, the client nothing, and the edge is sealed. Without news the log isn't called.
-abbrev pub LogsAndTells : List ℕ → Result ℕ TakeError → Bool → Change → Type 0 → Change → Bool
+-- the log has a beginning of the record
+abbrev pub IsBegun : Option (List ℕ) → Change → Type 0
+IsBegun None log = ⊥
+IsBegun (Some bytes) log = AppendsFront log.before log.after bytes
+
+-- A record is logged, and then the reply is written. Log fault: the log has a beginning of the
+-- record, the client nothing, and the edge is sealed. Without a record the log isn't called.
+abbrev pub LogsAndTells : Option (List ℕ) → Result ℕ TakeError → Change → Type 0 → Change → Bool
     → Result StatusCode Fault → Type 0
-LogsAndTells bytes taken news log still writer sealed (Err Log) =
-    (news ≡ true) × AppendsFront log.before log.after bytes × Keeps writer.before writer.after
-    × (sealed ≡ true)
-LogsAndTells bytes taken news log still writer sealed result =
-    Appends log.before log.after (logged_of news bytes) × (news ≡ false → still)
+LogsAndTells logged taken log still writer sealed (Err Log) =
+    IsBegun logged log × Keeps writer.before writer.after × (sealed ≡ true)
+LogsAndTells logged taken log still writer sealed result =
+    Appends log.before log.after (logged_of logged) × (logged ≡ None → still)
     × TellsTaken taken writer result × (sealed ≡ false)
 
--- A pushed bundle is taken in or refused. If its facts may be new, the log gains its bytes before
+-- A pushed bundle is taken in or refused. If it changes the region, the log gains its record before
 -- the reply, and also if memory runs out.
 abbrev pub TakesAndLogs : List ℕ → RegionFields → RegionFields → Change → Type 0 → Change → Bool
     → Result StatusCode Fault → Type 0
 TakesAndLogs bytes old new log still writer sealed result =
     (taken : Result ℕ TakeError) × TakesBundle old bytes taken new
-    × (news : Bool) × IsNews old bytes taken news new
-    × LogsAndTells bytes taken news log still writer sealed result
+    × (logged : Option (List ℕ)) × IsNews old bytes taken logged new
+    × LogsAndTells logged taken log still writer sealed result

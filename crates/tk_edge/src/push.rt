@@ -1,13 +1,16 @@
-//! Takes in a pushed bundle, logs it if it may have brought facts, and replies: `take_and_log`.
+//! Takes in a pushed bundle, logs its record if it changes the region, and replies: `take_and_log`.
 
-ghost use Rattle.std.specs.Prelude.{◌≡◌, true, false, Err, OnErr};
-ghost use Rattle.std.specs.Option.{option_copied};
+ghost use Rattle.std.specs.Prelude.{◌≡◌, ◌≢◌, false, Err, None, OnErr, Some};
+ghost use Rattle.std.specs.Option.{option_copied, option_map};
+ghost use Rattle.tk_bundle.specs.Bundle.{bundle, bundle_bytes};
+ghost use Rattle.tk_message.specs.Place.{next_in};
 ghost use Rattle.tk_put.specs.Put.{Prints};
 ghost use Rattle.tk_edge.specs.Exchanges.{TakesBundle};
 ghost use Rattle.tk_edge.specs.Failures.{CountsFailure, Rose};
 ghost use Rattle.tk_edge.specs.Pushes as spec;
 ghost use Rattle.tk_edge.specs.Told.{IsFaultOfDevice};
-ghost use Rattle.tk_region.specs.Taking.{unread};
+ghost use Rattle.tk_region.specs.RegionFields.{place_in};
+ghost use Rattle.tk_region.specs.Taking.{TakesIn, unread};
 
 use crate::answer::answer_with;
 use crate::device::{Failed, Sink};
@@ -34,10 +37,10 @@ pub(crate) fn bundle_to_log<'a>(log_taken: bool, came: &'a Arrival) -> Option<&'
     }
 }
 
-// Takes a pushed bundle in, logs it if its facts may be new, and only then replies.
+// Takes a pushed bundle in, logs its record if it changes the region, and only then replies.
 //
-// The bundle is logged also if memory runs out, because writing takes no memory. A log that fails
-// seals the edge.
+// The record is logged also if memory runs out while the bundle is taken in, because writing takes
+// no memory. A log that fails seals the edge.
 pub(crate) fn take_and_log<L: Sink, W: Sink>(
     alloc: Global,
     region: &mut Region,
@@ -53,38 +56,68 @@ pub(crate) fn take_and_log<L: Sink, W: Sink>(
     ensures faults { IsFaultOfDevice result (L.failed log.old) (L.failed log.new)
         (W.failed writer.old) (W.failed writer.new) }
 {
-    let pushed = take_pushed(alloc, region, bytes);
-    if log_news(log, pushed.news, bytes).is_err() {
+    let Pushed { taken, news } = take_pushed(alloc, region, bytes);
+    if log_news(log, &news).is_err() {
         *sealed = true;
         return Err(Fault::Log);
     }
-    tell_taken(alloc, pushed.taken, writer)
+    tell_taken(alloc, taken, writer)
 }
 
-// The result of taking in a pushed bundle, and whether its facts may be new.
-#[derive(Clone, Copy)]
+// The result of taking in a pushed bundle, and the record of what it changed.
+#[derive(Drop)]
 struct Pushed {
     taken: Result<u16, TakeError>,
-    news: bool,
+    news: Option<Vec<u8>>,
 }
 
 // Takes in a pushed bundle.
 fn take_pushed(alloc: Global, region: &mut Region, bytes: &[u8]) -> Pushed
     ensures takes { TakesBundle region.old bytes.now result.taken region.new }
-    ensures news { spec.IsNews region.old bytes.now result.taken result.news region.new }
+    ensures news { spec.IsNews region.old bytes.now result.taken
+        (option_map (λ kept. kept.items) result.news) region.new }
 {
     match Bundle::read(alloc, bytes) {
-        Ok(sent) => {
-            let taken = region.take_bundle(sent);
-            Pushed {
-                taken,
-                news: is_news(taken),
-            }
-        }
+        Ok(sent) => take_read(alloc, region, sent),
         Err(error) => Pushed {
             taken: Err(unread(error)),
-            news: false,
+            news: None,
         },
+    }
+}
+
+// Takes in a bundle that was read. The record is made before, since the bundle moves into the
+// region. If there is no memory for the record, nothing is taken in.
+fn take_read(alloc: Global, region: &mut Region, sent: Bundle) -> Pushed
+    requires { bundle.Fits sent }
+    ensures number { region.new.number ≡ region.old.number }
+    ensures settings { region.new.settings ≡ region.old.settings }
+    ensures takes { TakesIn region.old.facts (next_in (place_in region.old)) (Some sent)
+        result.taken region.new.facts }
+    ensures news { spec.IsNews region.old (bundle_bytes sent) result.taken
+        (option_map (λ kept. kept.items) result.news) region.new }
+{
+    let Ok(news) = region.news(alloc, &sent) else {
+        return Pushed {
+            taken: Err(TakeError::Memory),
+            news: None,
+        };
+    };
+    let taken = region.take_bundle(sent);
+    Pushed {
+        taken,
+        news: kept(taken, news),
+    }
+}
+
+// Returns the record of a bundle, by the result of taking it in: a bundle that is refused has none.
+fn kept(taken: Result<u16, TakeError>, news: Option<Vec<u8>>) -> Option<Vec<u8>>
+    ensures { option_map (λ kept. kept.items) result
+        ≡ spec.kept_of taken (option_map (λ kept. kept.items) news) }
+{
+    match taken {
+        Ok(_) | Err(TakeError::Memory) => news,
+        Err(_) => None,
     }
 }
 
@@ -98,29 +131,18 @@ fn unread(error: ReadError) -> TakeError
     }
 }
 
-// Returns whether facts of a bundle may be new, by the result of taking it in.
-fn is_news(taken: Result<u16, TakeError>) -> bool
-    ensures { result ≡ spec.is_news taken }
-{
-    match taken {
-        Ok(count) => count > 0,
-        Err(TakeError::Memory) => true,
-        Err(_) => false,
-    }
-}
-
-// Writes a bundle with news to the log, and flushes it.
-fn log_news<L: Sink>(log: &mut L, news: bool, bytes: &[u8]) -> Result<(), Failed>
+// Writes the record, if there is one, to the log, and flushes it.
+fn log_news<L: Sink>(log: &mut L, news: &Option<Vec<u8>>) -> Result<(), Failed>
     ensures bytes { Prints result (L.holds log.old) (L.holds log.new)
-        (spec.logged_of news bytes.now) }
-    ensures still { news ≡ false → log.new ≡ log.old }
-    ensures news { OnErr result (news ≡ true) }
+        (spec.logged_of (option_map (λ kept. kept.items) news.now)) }
+    ensures still { news.now ≡ None → log.new ≡ log.old }
+    ensures news { OnErr result (news.now ≢ None) }
     ensures failures { CountsFailure result (L.failed log.old) (L.failed log.new) }
 {
-    if news {
-        return write_record(log, bytes);
+    match news {
+        Some(bytes) => write_record(log, bytes),
+        None => Ok(()),
     }
-    Ok(())
 }
 
 // Writes the reply to a push.

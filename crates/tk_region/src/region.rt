@@ -33,6 +33,7 @@ impl Model for Region {
 
 ghost use Rattle.std.specs.Prelude.{◌≡◌, ◌≤◌, IfOk, IfSome, None, OnErr, OnOk, Some};
 ghost use Rattle.std.specs.FinMap as map;
+ghost use Rattle.std.specs.Option.{option_map};
 ghost use Rattle.tk_format.specs.Format.{whole};
 ghost use Rattle.tk_handle.specs.Ranges.{greatest_serial};
 ghost use Rattle.tk_fact.specs.Check.{refusal_of};
@@ -41,6 +42,7 @@ ghost use Rattle.tk_store.specs.NextDot.{next_serial, next_dot};
 ghost use Rattle.tk_store.specs.StoreFields.{empty_store, held_facts, with_fact};
 ghost use Rattle.tk_ledger.specs.Retention.{Prunes};
 ghost use Rattle.tk_bundle.specs.Bundle.{bundle};
+ghost use Rattle.tk_bundle.specs.News.{news_of, record_of};
 ghost use Rattle.tk_bundle.specs.Page as pages;
 ghost use Rattle.tk_message.specs.Place.{next_in};
 ghost use Rattle.tk_region.specs.RegionFields.{place_in};
@@ -51,7 +53,7 @@ use crate::decision::decide_endpoint;
 use crate::step::{Handled, Prepared, prepare, refuse_early};
 use crate::take::{TakeError, take_bundle, unread};
 use std::alloc::{AllocError, Global};
-use tk_bundle::{Bundle, Page, make};
+use tk_bundle::{Bundle, Page, make, news};
 use tk_fact::Fact;
 use tk_handle::{Dot, Moment};
 use tk_message::{Place, Request};
@@ -242,6 +244,22 @@ impl Region {
     {
         let next = self.next_dot();
         take_bundle(next, &mut self.ledger, sent)
+    }
+
+    /// Returns the record of a bundle in a log of the region, before the region takes the bundle in:
+    /// the bundle without the facts at skipped dots, which the region drops.
+    ///
+    /// Returns None if the bundle changes nothing: it raises no horizon, has no unknown dot, and no
+    /// mark of a fact that is held.
+    pub fn news(&self, alloc: Global, sent: &Bundle) -> Result<Option<Vec<u8>>, AllocError>
+        requires { bundle.Fits sent.now }
+        ensures news { IfOk result (λ news. option_map (λ bytes. bytes.items) news
+            ≡ record_of self.now.facts sent.now) }
+
+        // A record can be read.
+        ensures fits { bundle.Fits (news_of self.now.facts.slots sent.now) }
+    {
+        news(alloc, self.ledger.store(), sent)
     }
 
     /// Raises the horizon to the moment, and skips all facts that are kept for a token of a family

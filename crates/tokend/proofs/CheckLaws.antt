@@ -22,6 +22,7 @@ use Rattle.tokend.specs.declared.load.LoadFault.TheVariants as load
 use Rattle.tokend.specs.declared.options.Check.{Check}
 use Rattle.tokend.specs.declared.options.Sources.{Sources}
 use Rattle.tokend.proofs.FactsLaws.{fault_in, is_bad, is_unread, later_fault, no_error}
+use Rattle.tokend.specs.Telling.{Writing}
 use Rattle.tokend.specs.declared.fault.Fault.{Fault}
 use Rattle.tokend.specs.declared.fault.Fault.TheVariants.{BadLine, BadLogFile, BadSeedFile, CannotListen, CannotOpen, CannotRead, CannotReadFile, Facts, Memory, Output, ScriptTooLong, SocketFailed, Words}
 
@@ -114,7 +115,7 @@ abbrev pub IsLoaded : Check → Option (List ℕ) → ℕ → ℕ → Type 0
 IsLoaded c input facts cut = (region : RegionFields) × Checks c input (Ok cut) region × (facts ≡ sets.len (held_facts region.facts))
 
 -- all sources can be loaded
-pub checked : (c : Check) (input : Option (List ℕ)) (output faults : Change) (facts cut : ℕ) → IsLoaded c input facts cut
+pub checked : (c : Check) (input : Option (List ℕ)) (output : Change) (faults : Writing) (facts cut : ℕ) → IsLoaded c input facts cut
     → Appends output.before output.after (loaded_text facts) → TellsDropped cut faults → ChecksFacts c input output faults
 checked c input output faults facts cut h printed told = record {
   cut = cut;

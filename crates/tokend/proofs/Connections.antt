@@ -91,17 +91,17 @@ uses_less P Q answer result f h = record { unused = λ none. f (h.unused none); 
 writes_less : (P Q : Type 0) (log writer : Change) (sealed : Bool) → (P → Q) → WritesNothing log P writer sealed → WritesNothing log Q writer sealed
 writes_less P Q log writer sealed f h = (h.0, h.1, h.2, f h.3)
 
-logs_less : (P Q : Type 0) (bytes : List ℕ) (taken : Result ℕ TakeError) (news : Bool) (log writer : Change) (sealed : Bool) (result : Result StatusCode Fault) → (P → Q)
-    → LogsAndTells bytes taken news log P writer sealed result → LogsAndTells bytes taken news log Q writer sealed result
-logs_less P Q bytes taken news log writer sealed (Ok status) f h = (h.0, λ none. f (h.1 none), h.2, h.3)
-logs_less P Q bytes taken news log writer sealed (Err Log) f h = h
-logs_less P Q bytes taken news log writer sealed (Err Write) f h = (h.0, λ none. f (h.1 none), h.2, h.3)
-logs_less P Q bytes taken news log writer sealed (Err Read) f h = (h.0, λ none. f (h.1 none), h.2, h.3)
-logs_less P Q bytes taken news log writer sealed (Err Memory) f h = (h.0, λ none. f (h.1 none), h.2, h.3)
+logs_less : (P Q : Type 0) (logged : Option (List ℕ)) (taken : Result ℕ TakeError) (log writer : Change) (sealed : Bool) (result : Result StatusCode Fault) → (P → Q)
+    → LogsAndTells logged taken log P writer sealed result → LogsAndTells logged taken log Q writer sealed result
+logs_less P Q logged taken log writer sealed (Ok status) f h = (h.0, λ none. f (h.1 none), h.2, h.3)
+logs_less P Q logged taken log writer sealed (Err Log) f h = h
+logs_less P Q logged taken log writer sealed (Err Write) f h = (h.0, λ none. f (h.1 none), h.2, h.3)
+logs_less P Q logged taken log writer sealed (Err Read) f h = (h.0, λ none. f (h.1 none), h.2, h.3)
+logs_less P Q logged taken log writer sealed (Err Memory) f h = (h.0, λ none. f (h.1 none), h.2, h.3)
 
 takes_less : (P Q : Type 0) (bytes : List ℕ) (old new : RegionFields) (log writer : Change) (sealed : Bool) (result : Result StatusCode Fault) → (P → Q)
     → TakesAndLogs bytes old new log P writer sealed result → TakesAndLogs bytes old new log Q writer sealed result
-takes_less P Q bytes old new log writer sealed result f h = (h.0, h.1, h.2, h.3, logs_less P Q bytes h.0 h.2 log writer sealed result f h.4)
+takes_less P Q bytes old new log writer sealed result f h = (h.0, h.1, h.2, h.3, logs_less P Q h.2 h.0 log writer sealed result f h.4)
 
 replied_less : (P Q : Type 0) (sent : Option (List ℕ)) (now : ℕ) (words : List ℕ) (came : Arrival) (region : Step) (log writer : Change) (sealed : Bool)
     (result : Result StatusCode Fault) → (P → Q) → RepliesTo sent now words came region log P writer sealed result → RepliesTo sent now words came region log Q writer sealed result

@@ -15,6 +15,7 @@ use Rattle.tk_listing.specs.declared.print.PrintFault.TheVariants as print
 use Rattle.tokend.specs.FactsRun.{BeginsFacts, IsBadSource, IsFactsFault, IsSourceFault, IsTold, IsToldAs, IsUnreadSource, PrintsEach, PrintsFacts, PrintsNamed, PrintsSource, PrintsSources, TellsDropped, with_cut}
 use Rattle.tokend.specs.Status.{LeavesBegun}
 use Rattle.tokend.specs.declared.options.Sources.{Sources}
+use Rattle.tokend.specs.Telling.{Writing}
 use Rattle.tokend.specs.declared.fault.Fault.{Fault}
 use Rattle.tokend.specs.declared.fault.Fault.TheVariants.{BadLine, BadLogFile, BadSeedFile, CannotListen, CannotOpen, CannotRead, CannotReadFile, Facts, Memory, Output, ScriptTooLong, SocketFailed, Words}
 
@@ -104,7 +105,7 @@ facts_fault s input fault old new h = by (map string_bytes s.names.items) h
     by [] h = source_fault _ input fault old new h
     by (name ∷ more) h = each_fault (name ∷ more) input fault old new h
 
-pub all_printed : (s : Sources) (input : Option (List ℕ)) (r : Result ℕ Fault) (cut : ℕ) (mid : Option (List ℕ)) (output faults : Change) → r ≡ Ok cut
+pub all_printed : (s : Sources) (input : Option (List ℕ)) (r : Result ℕ Fault) (cut : ℕ) (mid : Option (List ℕ)) (output : Change) (faults : Writing) → r ≡ Ok cut
     → PrintsSources s input r output.before mid → Keeps mid output.after → TellsDropped cut faults → PrintsFacts s input output faults
 all_printed s input r cut mid output faults is h kept told = record {
   cut = cut;

@@ -1,47 +1,53 @@
--- A log that gets the bundles taken in has all that its region holds. Key result:
---   keeps_all   LogKeepsAll
-use Rattle.std.proofs.Common.{◌≡◌, ◌≢◌, ℕ, zero, suc, Bool, true, false, List, [], ◌∷◌, ◌++◌, append-nil, append_assoc, length, take, Option, None, Some, option_map, Result, Ok, Err, inl, inr, refl, sym, ap, subst, arith, ◌∙◌, ◌+◌, cond}
-use Rattle.std.specs.Prelude.{◌⊎◌, IfSome, nat_lt}
-use Rattle.std.specs.FinMap as sets
+-- A log that gets the bundles taken in has all that its region made and took in, and is loaded whole
+-- behind the old log. Key results:
+--   keeps_all    LogKeepsAll
+--   loads_all    LogLoads
+use Rattle.std.proofs.Common.{◌≡◌, ◌≢◌, ℕ, ◌≤◌, max, zero, suc, Bool, true, false, ◌||◌, ◌&&◌, ◌==◌, nat_lt, nat_le, nat_eq, List, [], ◌∷◌, ◌++◌, append-nil, append_assoc, filter, length, take, Option, None, Some, option_map, Result, Ok, Err, inl, inr, refl, sym, ap, subst, arith, ◌∙◌, ◌+◌, cond}
+use Rattle.std.specs.Prelude.{◌⊎◌, IfSome, if◌then◌else◌}
+use Rattle.std.specs.FinMap as map
+use Rattle.std.specs.List.{list_any}
 use Rattle.std.specs.Io.KnownBytes.{Appends, Keeps}
-use Rattle.std.proofs.lemmas.Bool.{lt-ltb}
-use Rattle.std.proofs.lemmas.Grind.{flat_map-append}
+use Rattle.std.proofs.lemmas.Bool.Decides.{nat_tests}
 use Rattle.rand_chacha.specs.ChaCha.{ChaCha}
 use Rattle.tk_format.specs.Exact.{prefix_free, whole_again}
 use Rattle.tk_format.specs.Format.{whole}
 use Rattle.tk_handle.specs.declared.dot.Dot.{Dot}
 use Rattle.tk_handle.specs.Dot.{dot_cmp}
+use Rattle.tk_handle.specs.declared.token_id.TokenId.{TokenId}
+use Rattle.tk_fact.specs.Keeping.{is_passing, kept_for}
 use Rattle.tk_fact.specs.declared.body.Body.{Body}
-use Rattle.tk_store.specs.SlotJoining.{AllBelow}
-use Rattle.tk_store.specs.SlotOrder.{SlotBelow, SlotsBelow}
-use Rattle.tk_store.specs.Slots.{Slot, Slots, Held, Skipped, held_slot, with_slots}
+use Rattle.tk_fact.specs.declared.body.Body.TheVariants as bodies
+use Rattle.tk_store.specs.SlotJoining.{AllBelow, AllFit}
+use Rattle.tk_store.specs.SlotOrder.{SlotAgrees, SlotBelow, SlotsBelow}
+use Rattle.tk_store.specs.Slots.{Slot, Slots, Held, Skipped, held_slot, is_skipped_slot, joined_slot, with_slots}
 use Rattle.tk_store.specs.StoreFields.{StoreFields, held_facts, empty_store, with_fact}
-use Rattle.tk_store.proofs.FitLaws.{fit_below}
-use Rattle.tk_store.proofs.PutLaws.{by_dot}
 use Rattle.tk_store.proofs.SlotLaws.{get_held}
-use Rattle.tk_store.proofs.SlotOrderLaws.{slots_itself, slots_trans}
+use Rattle.tk_store.proofs.SlotOrderLaws.{below_itself, slots_itself, slots_trans}
 use Rattle.tk_bundle.specs.BundleFields.{BundleFields, Items, of_facts}
 use Rattle.tk_bundle.specs.Bundle.{bundle, bundle_bytes}
 use Rattle.tk_bundle.specs.BundleLaws.{bundle_exact}
-use Rattle.tk_bundle.specs.Front.{IsCut, walk}
-use Rattle.tk_bundle.specs.declared.error.FrontError.TheVariants as front
-use Rattle.tk_bundle.specs.FrontLaws.{walk_bundle}
+use Rattle.tk_bundle.specs.Front.{IsCut}
+use Rattle.tk_bundle.specs.News.{changes, changes_slots, counts, is_later, news_of, record_of as news_record}
+use Rattle.tk_ledger.specs.Retention.{MaySkip}
 use Rattle.tk_message.specs.Place.{next_in}
 use Rattle.tk_message.specs.declared.status_code.StatusCode.{StatusCode}
-use Rattle.tk_region.specs.RegionFields.{RegionFields, Gains, place_in}
+use Rattle.tk_message.specs.ReplyFields.{ReplyFields}
 use Rattle.tk_message.specs.RequestFields.{RequestFields}
+use Rattle.tk_region.specs.RegionFields.{RegionFields, Gains, place_in}
 use Rattle.tk_region.specs.Decision.{decision_of}
-use Rattle.tk_region.specs.Step.{early_in, prepared_by, prepared_of, record_of}
-use Rattle.tk_ledger.specs.Retention.{MaySkip}
-use Rattle.tk_region.specs.Taking.{TakesIn, items_taken, raised}
+use Rattle.tk_region.specs.Step.{IsNextFact, early_in, prepared_by, prepared_of, record_of}
+use Rattle.tk_region.specs.Taking.{TakesIn, has_unmade, is_unmade, items_taken, raised}
 use Rattle.tk_region.specs.declared.take.TakeError.{TakeError}
 use Rattle.tk_region.specs.declared.take.TakeError.TheVariants.{Malformed, OwnNumber, Conflict}
 use Rattle.tk_region.specs.declared.take.TakeError.TheVariants as Take
+use Rattle.tk_region.proofs.CapLaws.{next_unknown}
+use Rattle.tk_region.proofs.FitsLaws.{fits_differ}
+use Rattle.tk_region.proofs.TakeLaws.{Differs}
 use Rattle.tk_edge.specs.Answers.{IsRecorded, answer_by, fact_by}
 use Rattle.tk_edge.specs.Arrivals.{Answers}
 use Rattle.tk_edge.specs.EdgeFields.{EdgeFields}
-use Rattle.tk_edge.specs.Exchanges.{TakesBundle}
-use Rattle.tk_edge.specs.Pushes.{IsNews, bundle_to_log, is_news, logged_of}
+use Rattle.tk_edge.specs.Exchanges.{IsTakenReply, TakesBundle}
+use Rattle.tk_edge.specs.Pushes.{IsNews, IsNewsOf, bundle_to_log, kept_of, logged_of}
 use Rattle.tk_edge.specs.Served.{Asked, IsServed, RepliesTo, RunsOut}
 use Rattle.tk_edge.specs.Told.{AnswerFields, Change, record_in}
 use Rattle.tk_edge.specs.declared.edge.Served.{Served}
@@ -53,82 +59,14 @@ use Rattle.tk_edge.specs.declared.tell.Fault.{Fault}
 use Rattle.tk_edge.specs.declared.tell.Fault.TheVariants.{Read, Write, Log, Memory}
 use Rattle.tokend.specs.Connection.{AreConnections, IsConnection, Running, unknown}
 use Rattle.tokend.specs.Draw.{past_six, six}
-use Rattle.tokend.specs.KeptLog.{LogKeepsAll}
-use Rattle.tokend.specs.Loading.{AreBundles, TakesEach, log_bytes}
+use Rattle.tokend.specs.KeptLog.{AreAmong, AreCalm, AreLogged, HasLogged, IsCalm, IsFresh, IsHeldBy, IsNotRefused, IsTorn, KeepsSince, LogKeepsAll, LogLoads}
+use Rattle.tokend.specs.Loading.{AreBundles, BeginsWith, IsNoBundle, IsRefused, Loads, TakesEach, TakesFront, log_bytes}
 use Rattle.tokend.specs.Starting.{PrunesOld, edge_of}
-use Rattle.tk_region.proofs.FitsLaws.{fits_differ}
-use Rattle.tokend.proofs.KeptSlots.{HoldsAll, holds_less, items_held, items_below, below_more, below_first, nothing_new}
-
--- ---- the bundles of a log, and what holds them
-
--- the items of each bundle are below the slots
-abbrev HoldsEach : Slots → List BundleFields → Type 0
-HoldsEach U [] = Unit {0}
-HoldsEach U (b ∷ more) = AllBelow U b.items × HoldsEach U more
-
-holds_front : (U : Slots) (xs ys : List BundleFields) → HoldsEach U (xs ++ ys) → HoldsEach U xs
-holds_front U [] ys h = tt
-holds_front U (b ∷ xs) ys h = (h.0, holds_front U xs ys h.1)
-
-holds_rest : (U : Slots) (xs ys : List BundleFields) → HoldsEach U (xs ++ ys) → HoldsEach U ys
-holds_rest U [] ys h = h
-holds_rest U (b ∷ xs) ys h = holds_rest U xs ys h.1
-
-both_bundles : (xs ys : List BundleFields) → AreBundles xs → AreBundles ys → AreBundles (xs ++ ys)
-both_bundles [] ys a b = b
-both_bundles (x ∷ xs) ys a b = (a.0, both_bundles xs ys a.1 b)
-
-both_bytes : (xs ys : List BundleFields) → log_bytes (xs ++ ys) ≡ log_bytes xs ++ log_bytes ys
-both_bytes xs ys = flat_map-append bundle_bytes xs ys
-
--- a store with its horizon raised, and with items, has its slots with the items
-taken_slots : (P Q : StoreFields) (horizon : Option ℕ) (items : Items) → Q ≡ items_taken (raised P horizon) items → Q.slots ≡ with_slots P.slots items
-taken_slots P Q None items is = ap (λ (R : StoreFields). R.slots) is
-taken_slots P Q (Some moment) items is = ap (λ (R : StoreFields). R.slots) is
-
--- bundles that are taken in are known, and so is what was known before
-each_taken : (old : RegionFields) (bundles : List BundleFields) (new : RegionFields) → AreBundles bundles → TakesEach old bundles new
-    → SlotsBelow old.facts.slots new.facts.slots × HoldsEach new.facts.slots bundles
-each_taken old [] new fit same = (subst (λ r. SlotsBelow old.facts.slots r.facts.slots) (sym same) (slots_itself old.facts.slots), tt)
-each_taken old (b ∷ more) new fit h =
-    let rest = each_taken h.0 more new fit.1 h.2 in
-    let agree = h.1.1.takes.1 in
-    let is = taken_slots old.facts h.0.facts b.horizon b.items h.1.1.takes.2.0 in
-    let grown : SlotsBelow old.facts.slots h.0.facts.slots = subst (SlotsBelow old.facts.slots) (sym is) (fit_below old.facts.slots b.items agree) in
-    let below : AllBelow h.0.facts.slots b.items = subst (λ S. AllBelow S b.items) (sym is) (items_below old.facts.slots b.items (fits_differ b fit.0) agree) in
-    (slots_trans old.facts.slots h.0.facts.slots new.facts.slots grown rest.0, (below_more h.0.facts.slots new.facts.slots b.items rest.0 below, rest.1))
-
--- taking bundles in adds their facts alone
-each_within : (old : RegionFields) (bundles : List BundleFields) (new : RegionFields) (U : Slots) → TakesEach old bundles new
-    → HoldsAll U old.facts.slots → HoldsEach U bundles → HoldsAll U new.facts.slots
-each_within old [] new U same within held = subst (λ r. HoldsAll U r.facts.slots) (sym same) within
-each_within old (b ∷ more) new U h within held =
-    each_within h.0 more new U h.2
-    (subst (HoldsAll U) (sym (taken_slots old.facts h.0.facts b.horizon b.items h.1.1.takes.2.0)) (items_held U old.facts.slots b.items within held.0)) held.1
-
--- ---- bytes are the bundles of one list alone
-
-not_cut : (more : List ℕ) → Ok more ≡ Err front.Cut → ⊥
-not_cut more e = cc
-
-no_end : (gs : BundleFields) (more rest : List ℕ) → bundle.Fits gs → rest ≡ bundle_bytes gs ++ more → (rest ≡ []) ⊎ IsCut rest → ⊥
-no_end gs more rest fits e (inl none) = no_bytes (sym none ∙ e)
-  where
-    no_bytes : [] ≡ bundle_bytes gs ++ more → ⊥
-    no_bytes e = absurd (cc)
-no_end gs more rest fits e (inr cut) = not_cut more (sym (walk_bundle gs more fits) ∙ sym (ap walk e) ∙ cut)
-
-one_parse : (xs ys : List BundleFields) (rest : List ℕ) → AreBundles xs → AreBundles ys → (rest ≡ []) ⊎ IsCut rest
-    → log_bytes xs ++ rest ≡ log_bytes ys → xs ≡ ys
-one_parse [] [] rest fa fb end e = refl
-one_parse [] (gs ∷ ys) rest fa fb end e = absurd (no_end gs (log_bytes ys) rest fb.0 e end)
-one_parse (fs ∷ xs) [] rest fa fb end e =
-    absurd (no_end fs (log_bytes xs ++ rest) [] fa.0 (sym e ∙ append_assoc (bundle_bytes fs) (log_bytes xs) rest) (inl refl))
-one_parse (fs ∷ xs) (gs ∷ ys) rest fa fb end e =
-    let front = prefix_free bundle bundle_exact fs gs (log_bytes xs ++ rest) (log_bytes ys) fa.0 fb.0
-    (sym (append_assoc (bundle_bytes fs) (log_bytes xs) rest) ∙ e) in
-    let tail = one_parse xs ys rest fa.1 fb.1 end front.1 in
-    ap (λ f. f ∷ xs) front.0 ∙ ap (λ l. gs ∷ l) tail
+use Rattle.tokend.specs.declared.load.LoadFault.{LoadFault}
+use Rattle.tokend.specs.declared.load.LoadFault.TheVariants as load
+use Rattle.tokend.proofs.Connections.{connections_grow}
+use Rattle.tokend.proofs.KeptSlots.{IsFrom, below_first, below_more, below_some, fit_lower, fits_lower, from_items, first_unchanged, from_twice, items_below, items_from, items_lower, neither, unchanged}
+use Rattle.tokend.proofs.LogBundles.{EachBelow, IsAbove, IsNotLater, NoneLater, Parted, both_bundles, both_bytes, below_among, each_below, each_from, each_more, horizon_from, later_among, no_end, one_list, parted, taken_slots}
 
 -- what is logged of a prepared reply is the record of its fact, before the horizon too
 logged_is : (r : RegionFields) (now : ℕ) (words : List ℕ) (request : RequestFields)
@@ -140,14 +78,26 @@ logged_is r now words request = by_time (nat_lt now r.facts.horizon)
     by_time true = refl
     by_time false = refl
 
--- ---- what a connection adds to a log and a set
+-- ---- what a connection adds to a log and a store
 
--- the log gains a bundle, or nothing; slots that hold what was held, and know that bundle, hold what
--- is held
-abbrev Grows : Option (List ℕ) → Option (List ℕ) → StoreFields → StoreFields → Type 0
-Grows before after F G = (Appends before after [] × ((U : Slots) → HoldsAll U F.slots → HoldsAll U G.slots))
-    ⊎ ((b : BundleFields) × bundle.Fits b × Appends before after (bundle_bytes b)
-    × ((U : Slots) → HoldsAll U F.slots → AllBelow U b.items → HoldsAll U G.slots))
+-- the store is as it was
+record IsSame (F G : StoreFields) : Type 0 where
+  slots : (d : Dot) → map.get G.slots d ≡ map.get F.slots d
+  horizon : G.horizon ≡ F.horizon
+
+-- A bundle in the log says how a store became another. If memory didn't run out, what is below the
+-- store can take the bundle in, and stays below.
+record Brings (end : Result Served Fault) (F G : StoreFields) (b : BundleFields) : Type 0 where
+  fits : bundle.Fits b
+  from : (U : Slots) → AllBelow U b.items → (d : Dot) → IsFrom (map.get U d) (map.get F.slots d) (map.get G.slots d)
+  late : (u : ℕ) → IsNotLater b.horizon u → G.horizon ≤ max F.horizon u
+  loads : IsCalm end → (L : Slots) → SlotsBelow L F.slots → AllFit L b.items × SlotsBelow (with_slots L b.items) G.slots
+  known : IsCalm end → AllBelow G.slots b.items
+
+-- the log gains nothing and the store is as it was, or the log gains a bundle
+abbrev Grows : Result Served Fault → Option (List ℕ) → Option (List ℕ) → StoreFields → StoreFields → Type 0
+Grows end before after F G = (Appends before after [] × IsSame F G)
+    ⊎ ((b : BundleFields) × Appends before after (bundle_bytes b) × Brings end F G b)
 
 keeps_nothing : (before after : Option (List ℕ)) → Keeps before after → Appends before after []
 keeps_nothing None after h = tt
@@ -172,42 +122,70 @@ write_log e = cc
 write_memory : fails Write ≡ fails Memory → ⊥
 write_memory e = cc
 
-module _ (before after : Option (List ℕ)) (old new : RegionFields) where
+-- the items of a record
+abbrev one : Dot × Body → Items
+one f = (f.0, Held f.1) ∷ []
+
+all_items : Dot × Slot → Bool
+all_items i = true
+
+no_earlier : (h m : ℕ) → nat_lt h m ≡ false → max h m ≡ h
+no_earlier h m e = grind (arith, nat_tests)
+
+itself : (n u : ℕ) → n ≤ max n u
+itself n u = omega (arith)
+
+same_late : (m n u : ℕ) → m ≡ n → m ≤ max n u
+same_late m n u e = omega (arith, e)
+
+module _ (end : Result Served Fault) (before after : Option (List ℕ)) (old new : RegionFields) where
   abbrev F : StoreFields
   F = old.facts
 
   abbrev G : StoreFields
   G = new.facts
 
-  -- slots that hold what F holds hold what an equal store holds
-  same_held : G ≡ F → (U : Slots) → HoldsAll U F.slots → HoldsAll U G.slots
-  same_held e U within = subst (λ (P : StoreFields). HoldsAll U P.slots) (sym e) within
+  same_store : G ≡ F → IsSame F G
+  same_store e = record { slots = λ d. ap (λ (P : StoreFields). map.get P.slots d) e; horizon = ap (λ (P : StoreFields). P.horizon) e }
 
-  still : Appends before after [] → new ≡ old → Grows before after F G
-  still same e = inl (same, same_held (ap (λ (r : RegionFields). r.facts) e))
+  still : Appends before after [] → new ≡ old → Grows end before after F G
+  still same e = inl (same, same_store (ap (λ (r : RegionFields). r.facts) e))
 
-  gains_none : Appends before after [] → Gains old None new → Grows before after F G
-  gains_none same gains = inl (same, same_held gains.facts)
+  gains_none : Appends before after [] → Gains old None new → Grows end before after F G
+  gains_none same gains = inl (same, same_store gains.facts)
 
-  -- the record of the fact that was made
-  recorded : (o : Option (Dot × Body)) → Appends before after (record_in (option_map record_of o)) → Gains old o new → IfSome o IsRecorded
-      → Grows before after F G
-  recorded None same gains fits = gains_none same gains
-  recorded (Some f) more gains fits = inr (of_facts (f ∷ []), fits, more, λ U within all. subst (λ (P : StoreFields). HoldsAll U P.slots) (sym gains.facts) (made U within all.0))
+  -- the record of the fact that was made, at a dot that was unknown
+  made : (f : Dot × Body) → map.get F.slots f.0 ≡ None → G ≡ with_fact F f.0 f.1 → bundle.Fits (of_facts (f ∷ [])) → Brings end F G (of_facts (f ∷ []))
+  made f free is fits = record {
+    fits = fits;
+    from = λ U all d. subst (λ S. IsFrom (map.get U d) (map.get F.slots d) (map.get S d)) (sym slots_is) (items_from U F.slots (one f) all d);
+    late = λ u low. same_late G.horizon F.horizon u (ap (λ (P : StoreFields). P.horizon) is);
+    loads = λ calm L below. (
+      (fit_lower (map.get L f.0) (map.get F.slots f.0) (Held f.1) (below f.0) fit.0 no_mark, tt),
+      subst (SlotsBelow (with_slots L (one f))) (sym slots_is) (items_lower all_items L F.slots (one f) (tt, tt) below fit),
+    );
+    known = λ calm. subst (λ S. AllBelow S (one f)) (sym slots_is) (items_below F.slots (one f) (tt, tt) fit);
+  }
     where
-      is_body : (b c : Body) → Some (Held b) ≡ Some (Held c) → b ≡ c
-      is_body b c e = cc
+      slots_is : G.slots ≡ with_slots F.slots (one f)
+      slots_is = ap (λ (P : StoreFields). P.slots) is ∙ sym (ap (λ o. map.insert F.slots f.0 (joined_slot o (Held f.1))) free)
 
-      made : (U : Slots) → HoldsAll U F.slots → SlotBelow (Some (Held f.1)) (sets.get U f.0) → HoldsAll U (with_fact F f.0 f.1).slots
-      made U within below d b =
-          by_dot (λ o. o ≡ Some (Held b) → SlotBelow (Some (Held b)) (sets.get U d)) F.slots f.0 (Held f.1) d
-          (λ same e. subst (λ q. SlotBelow (Some (Held b)) (sets.get U q)) (sym same) (subst (λ c. SlotBelow (Some (Held c)) (sets.get U f.0)) (is_body f.1 b e) below)) (within d b)
+      fit : AllFit F.slots (one f)
+      fit = (subst (λ o. SlotAgrees o (Some (Held f.1))) (sym free) tt, tt)
+
+      no_mark : is_skipped_slot (map.get F.slots f.0) ≡ true → Held f.1 ≡ Skipped
+      no_mark e = absurd (sealed_clash (sym (ap is_skipped_slot free) ∙ e))
+
+  recorded : (o : Option (Dot × Body)) → Appends before after (record_in (option_map record_of o)) → Gains old o new → IfSome o (IsNextFact old) → IfSome o IsRecorded
+      → Grows end before after F G
+  recorded None same gains next fits = gains_none same gains
+  recorded (Some f) more gains next fits = inr (of_facts (f ∷ []), more, made f (next_unknown old f next) gains.facts fits)
 
   logged_as : (answer told : AnswerFields) → answer ≡ told → Appends before after (record_in answer.logged) → Appends before after (record_in told.logged)
   logged_as answer told is more = subst (λ (a : AnswerFields). Appends before after (record_in a.logged)) is more
 
   answered : (now : ℕ) (words : List ℕ) (came : Arrival) (answer : AnswerFields) → bundle_to_log true came ≡ None → Answers old now words came (Ok answer) new
-      → Appends before after (record_in answer.logged) → IfSome (fact_by old now words came) IsRecorded → Grows before after F G
+      → Appends before after (record_in answer.logged) → IfSome (fact_by old now words came) IsRecorded → Grows end before after F G
   answered now words (Exchange Vector) answer none h more fits = still (logged_as answer _ h.0.3 more) h.1
   answered now words (Exchange (Pull sent)) answer none h more fits = still (logged_as answer _ h.0 more) h.1
   answered now words (Exchange (Push sent)) answer none h more fits = absurd (cc)
@@ -215,108 +193,150 @@ module _ (before after : Option (List ℕ)) (old new : RegionFields) where
   answered now words (Refused why) answer none h more fits = gains_none (logged_as answer _ h.0 more) h.1
   answered now words (Request request) answer none h more fits =
       recorded (prepared_of old now words request).fact
-      (subst (λ o. Appends before after (record_in o)) (logged_is old now words request) (logged_as answer (answer_by old now words (Request request)) h.0 more)) h.1 fits
-
-  -- a store with the first items of a bundle
-  within_items : (b : BundleFields) (items : Items) → G ≡ items_taken (raised F b.horizon) items → (U : Slots) → HoldsAll U F.slots → AllBelow U items → HoldsAll U G.slots
-  within_items b items is U within all = subst (HoldsAll U) (sym (taken_slots F G b.horizon items is)) (items_held U F.slots items within all)
+      (subst (λ o. Appends before after (record_in o)) (logged_is old now words request) (logged_as answer (answer_by old now words (Request request)) h.0 more)) h.1 h.2 fits
 
   -- a bundle that was read is taken in, refused, or cut off
-  taken_in : (b : BundleFields) (taken : Result ℕ TakeError) → bundle.Fits b → Appends before after (logged_of (is_news taken) (bundle_bytes b))
-      → TakesIn F (next_in (place_in old)) (Some b) taken G → Grows before after F G
-  taken_in b (Ok zero) fits same k =
-      let is = taken_slots F G b.horizon b.items k.2.0 in
-      let size : sets.len F.slots + 0 ≡ sets.len (with_slots F.slots b.items) = k.2.1 ∙ ap sets.len is in
-      inl (same, λ U within. subst (HoldsAll U) (sym is) (holds_less U F.slots (with_slots F.slots b.items) (nothing_new F.slots b.items size) within))
-  taken_in b (Ok (suc n)) fits more k = inr (
-    b,
-    fits,
-    subst (λ t. Appends before after (logged_of t (bundle_bytes b))) (lt-ltb 0 (suc n) (omega arith)) more,
-    within_items b b.items k.2.0,
-  )
-  taken_in b (Err Take.Memory) fits more (inl same) = inr (b, fits, more, λ U within all. same_held same U within)
-  taken_in b (Err Take.Memory) fits more (inr k) = inr (b, fits, more, λ U within all. within_items b (take k.2.0 b.items) k.2.1 U within (below_first U k.2.0 b.items all))
-  taken_in b (Err OwnNumber) fits same k = inl (same, same_held k.1)
-  taken_in b (Err Conflict) fits same k = inl (same, same_held k.2)
-  taken_in b (Err Malformed) fits same k = absurd k
+  module _ (b : BundleFields) (fits : bundle.Fits b) (readable : bundle.Fits (news_of F.slots b)) where
+    -- the store with these of the bundle's items
+    abbrev IsWith : Items → Type 0
+    IsWith items = G ≡ items_taken (raised F b.horizon) items
 
-  pushed : (bytes : List ℕ) (taken : Result ℕ TakeError) (news : Bool) → TakesBundle old bytes taken new → IsNews old bytes taken news new
-      → Appends before after (logged_of news bytes) → Grows before after F G
-  pushed bytes taken news takes (inl none) more = still (subst (λ b. Appends before after (logged_of b bytes)) none.0 more) none.1
-  pushed bytes taken news takes (inr read) more =
-      let fs = read.1.0 in
-      let spelled = read.1.2 in
-      let whole_is : whole bundle bytes ≡ Some fs = ap (whole bundle) spelled ∙ whole_again bundle bundle_exact fs read.1.1 in
-      taken_in fs taken read.1.1
-      (subst (λ b. Appends before after (logged_of (is_news taken) b)) spelled (subst (λ b. Appends before after (logged_of b bytes)) read.0 more))
-      (subst (λ b. TakesIn F (next_in (place_in old)) b taken G) whole_is takes.takes)
+    whole_brings : IsWith b.items → AllFit F.slots b.items → Brings end F G (news_of F.slots b)
+    whole_brings is fit = record {
+      fits = readable;
+      from = λ U all d. subst (λ S. IsFrom (map.get U d) (map.get F.slots d) (map.get S d)) (sym slots_is) (from_items F.slots F.slots U b.items (λ d at. at) all d);
+      late = λ u low. horizon_from F G b.horizon b.items u is low;
+      loads = λ calm L below. (
+        fits_lower L F.slots b.items below fit,
+        subst (SlotsBelow (with_slots L (filter (counts F.slots) b.items))) (sym slots_is) (items_lower (counts F.slots) L F.slots b.items (fits_differ b fits) below fit),
+      );
+      known = λ calm. subst (λ S. AllBelow S (filter (counts F.slots) b.items)) (sym slots_is)
+          (below_some (with_slots F.slots b.items) (counts F.slots) b.items (items_below F.slots b.items (fits_differ b fits) fit));
+    }
+      where
+        slots_is : G.slots ≡ with_slots F.slots b.items
+        slots_is = taken_slots F G b.horizon b.items is
 
-  module _ (asked : Asked) (logs : asked.log_taken ≡ true) (quiet : Type 0) (writer : Change) where
-    abbrev log : Change
-    log = record { before = before; after = after }
+    part_brings : (k : ℕ) → (IsCalm end → ⊥) → IsWith (take k b.items) → Brings end F G (news_of F.slots b)
+    part_brings k short is = record {
+      fits = readable;
+      from = λ U all d. subst (λ S. IsFrom (map.get U d) (map.get F.slots d) (map.get S d)) (sym (taken_slots F G b.horizon (take k b.items) is))
+          (from_items F.slots F.slots U (take k b.items) (λ d at. at) (below_first U (counts F.slots) k b.items all) d);
+      late = λ u low. horizon_from F G b.horizon (take k b.items) u is low;
+      loads = λ calm. absurd (short calm);
+      known = λ calm. absurd (short calm);
+    }
 
-    replied : (sent : Option (List ℕ)) (came : Arrival) (result : Result StatusCode Fault) → bundle_to_log true came ≡ sent → result ≢ Err Log → result ≢ Err Memory
-        → RepliesTo sent asked.now asked.words came (record { before = old; after = new }) log quiet writer false result → Grows before after F G
-    replied None came (Ok status) is not_log not_memory h = answered asked.now asked.words came h.0 is h.1 h.2.1 h.4
-    replied None came (Err Write) is not_log not_memory h = answered asked.now asked.words came h.0 is h.1 h.2.0 h.4
-    replied None came (Err Read) is not_log not_memory h = absurd h
-    replied None came (Err Log) is not_log not_memory h = absurd (not_log refl)
-    replied None came (Err Memory) is not_log not_memory h = absurd (not_memory refl)
-    replied (Some bytes) came (Ok status) is not_log not_memory h = pushed bytes h.0 h.2 h.1 h.3 h.4.0
-    replied (Some bytes) came (Err Write) is not_log not_memory h = pushed bytes h.0 h.2 h.1 h.3 h.4.0
-    replied (Some bytes) came (Err Read) is not_log not_memory h = pushed bytes h.0 h.2 h.1 h.3 h.4.0
-    replied (Some bytes) came (Err Log) is not_log not_memory h = absurd (not_log refl)
-    replied (Some bytes) came (Err Memory) is not_log not_memory h = absurd (not_memory refl)
+    none_brings : (IsCalm end → ⊥) → G ≡ F → Brings end F G (news_of F.slots b)
+    none_brings short same = record {
+      fits = readable;
+      from = λ U all d. inl (ap (λ (P : StoreFields). map.get P.slots d) same);
+      late = λ u low. same_late G.horizon F.horizon u (ap (λ (P : StoreFields). P.horizon) same);
+      loads = λ calm. absurd (short calm);
+      known = λ calm. absurd (short calm);
+    }
 
-    ran_out : (b : Bool) → b ≡ true → RunsOut b asked (record { before = old; after = new }) log quiet writer false → Grows before after F G
-    ran_out false is h = absurd (cc)
-    ran_out true is (inl same) = still (keeps_nothing before after same.1.0) same.0
-    ran_out true is (inr h) = pushed h.0 h.2.0 h.2.2 h.2.1 h.2.3 h.2.4.0
+    -- a bundle that changes nothing
+    nothing_brought : IsWith b.items → changes F b ≡ false → IsSame F G
+    nothing_brought is none = record {
+      slots = λ d. ap (λ S. map.get S d) (taken_slots F G b.horizon b.items is) ∙ unchanged F.slots b.items each.1 d;
+      horizon = late b.horizon is each.0;
+    }
+      where
+        each : (is_later F.horizon b.horizon ≡ false) × (changes_slots F.slots b.items ≡ false)
+        each = neither (is_later F.horizon b.horizon) (changes_slots F.slots b.items) none
 
-    unsealed_log : (sent : Option (List ℕ)) (came : Arrival)
-        → RepliesTo sent asked.now asked.words came (record { before = old; after = new }) log quiet writer false (Err Log) → ⊥
-    unsealed_log None came h = sealed_clash h.2.2
-    unsealed_log (Some bytes) came h = sealed_clash h.4.3
+        late : (h : Option ℕ) → G ≡ items_taken (raised F h) b.items → is_later F.horizon h ≡ false → G.horizon ≡ F.horizon
+        late None is e = ap (λ (P : StoreFields). P.horizon) is
+        late (Some m) is e = ap (λ (P : StoreFields). P.horizon) is ∙ no_earlier F.horizon m e
 
-    as_logged : (came : Arrival) (result : Result StatusCode Fault)
-        → RepliesTo (bundle_to_log asked.log_taken came) asked.now asked.words came (record { before = old; after = new }) log quiet writer false result
-        → RepliesTo (bundle_to_log true came) asked.now asked.words came (record { before = old; after = new }) log quiet writer false result
-    as_logged came result h =
-        subst (λ b. RepliesTo (bundle_to_log b came) asked.now asked.words came (record { before = old; after = new }) log quiet writer false result) logs h
+    -- the record, by whether the bundle changes the store
+    by_record : (t : Bool) → changes F b ≡ t → Appends before after (logged_of (cond t (Some (bundle_bytes (news_of F.slots b))) None))
+        → (changes F b ≡ false → IsSame F G) → Brings end F G (news_of F.slots b) → Grows end before after F G
+    by_record true e more same brings = inr (news_of F.slots b, more, brings)
+    by_record false e more same brings = inl (more, same e)
 
-    served : (result : Result Served Fault) → IsServed asked (record { before = old; after = new }) log quiet writer false result → Grows before after F G
-    served (Ok (Done status)) h = replied (bundle_to_log true h.0) h.0 (Ok status) refl (ok_fault status Log) (ok_fault status Memory) (as_logged h.0 (Ok status) h.3)
-    served (Ok Nothing) h = still (keeps_nothing before after h.1.1.0) h.1.0
-    served (Err Log) h = absurd (unsealed_log (bundle_to_log asked.log_taken h.0) h.0 h.3)
-    served (Err Write) h = replied (bundle_to_log true h.0) h.0 (Err Write) refl write_log write_memory (as_logged h.0 (Err Write) h.3)
-    served (Err Read) h = still (keeps_nothing before after h.1.0) h.0
-    served (Err Memory) h = ran_out asked.log_taken logs h
+    part_same : (k : ℕ) → IsWith (take k b.items) → changes F b ≡ false → IsSame F G
+    part_same k is none = record {
+      slots = λ d. ap (λ S. map.get S d) (taken_slots F G b.horizon (take k b.items) is) ∙ unchanged F.slots (take k b.items) (first_unchanged F.slots k b.items each.1) d;
+      horizon = late b.horizon is each.0;
+    }
+      where
+        each : (is_later F.horizon b.horizon ≡ false) × (changes_slots F.slots b.items ≡ false)
+        each = neither (is_later F.horizon b.horizon) (changes_slots F.slots b.items) none
 
--- ---- connections, one after the other
+        late : (h : Option ℕ) → G ≡ items_taken (raised F h) (take k b.items) → is_later F.horizon h ≡ false → G.horizon ≡ F.horizon
+        late None is e = ap (λ (P : StoreFields). P.horizon) is
+        late (Some m) is e = ap (λ (P : StoreFields). P.horizon) is ∙ no_earlier F.horizon m e
 
--- the log has bundles, and slots that hold the start and know these hold what is held
-record Kept (start : Slots) (log : List ℕ) (held : Slots) : Type 0 where
-  bundles : List BundleFields
-  fit : AreBundles bundles
-  spelled : log ≡ log_bytes bundles
-  covers : (U : Slots) → HoldsAll U start → HoldsEach U bundles → HoldsAll U held
+    taken_in : (taken : Result ℕ TakeError) → (taken ≡ Err Take.Memory → IsCalm end → ⊥) → Appends before after (logged_of (kept_of taken (news_record F b)))
+        → TakesIn F (next_in (place_in old)) (Some b) taken G → Grows end before after F G
+    taken_in (Ok n) short more k = by_record (changes F b) refl more (nothing_brought k.2.0) (whole_brings k.2.0 k.1)
+    taken_in (Err Take.Memory) short more (inl same) = by_record (changes F b) refl more (λ _. same_store same) (none_brings (short refl) same)
+    taken_in (Err Take.Memory) short more (inr k) = by_part (changes F b) refl more
+      where
+        by_part : (t : Bool) → changes F b ≡ t → Appends before after (logged_of (cond t (Some (bundle_bytes (news_of F.slots b))) None)) → Grows end before after F G
+        by_part true e more = inr (news_of F.slots b, more, part_brings k.2.0 (short refl) k.2.1)
+        by_part false e more = inl (more, part_same k.2.0 k.2.1 e)
+    taken_in (Err OwnNumber) short same k = inl (same, same_store k.1)
+    taken_in (Err Conflict) short same k = inl (same, same_store k.2)
+    taken_in (Err Malformed) short same k = absurd k
 
-kept_more : (start : Slots) (l m : List ℕ) (F G : StoreFields) → Kept start l F.slots → Grows (Some l) (Some m) F G → Kept start m G.slots
-kept_more start l m F G kept (inl h) = record {
-  bundles = kept.bundles;
-  fit = kept.fit;
-  spelled = h.0 ∙ append-nil l ∙ kept.spelled;
-  covers = λ U from each. h.1 U (kept.covers U from each);
-}
-kept_more start l m F G kept (inr h) = record {
-  bundles = kept.bundles ++ h.0 ∷ [];
-  fit = both_bundles kept.bundles (h.0 ∷ []) kept.fit (h.1, tt);
-  spelled = h.2 ∙ ap (λ x. x ++ bundle_bytes h.0) kept.spelled
-      ∙ ap (λ x. log_bytes kept.bundles ++ x) (sym (append-nil (bundle_bytes h.0)))
-      ∙ sym (both_bytes kept.bundles (h.0 ∷ []));
-  covers = λ U from each.
-      h.3 U (kept.covers U from (holds_front U kept.bundles (h.0 ∷ []) each)) (holds_rest U kept.bundles (h.0 ∷ []) each).0;
-}
+  pushed : (bytes : List ℕ) (taken : Result ℕ TakeError) (logged : Option (List ℕ)) → (taken ≡ Err Take.Memory → IsCalm end → ⊥) → TakesBundle old bytes taken new
+      → IsNews old bytes taken logged new → Appends before after (logged_of logged) → Grows end before after F G
+  pushed bytes taken logged short takes (inl none) more = still (subst (λ o. Appends before after (logged_of o)) none.0 more) none.1
+  pushed bytes taken logged short takes (inr read) more =
+      let b = read.0 in
+      let whole_is : whole bundle bytes ≡ Some b = ap (whole bundle) read.1.spelled ∙ whole_again bundle bundle_exact b read.1.fits in
+      taken_in b read.1.fits read.1.readable taken short
+      (subst (λ o. Appends before after (logged_of o)) read.1.news more)
+      (subst (λ o. TakesIn F (next_in (place_in old)) o taken G) whole_is takes.takes)
+
+not_short : (end : Result Served Fault) (taken : Result ℕ TakeError) (reply : ReplyFields) → IsTakenReply taken reply → taken ≡ Err Take.Memory → IsCalm end → ⊥
+not_short end taken reply told is calm = subst (λ t. IsTakenReply t reply) is told
+
+module _ (before after : Option (List ℕ)) (old new : RegionFields) (asked : Asked) (logs : asked.log_taken ≡ true) (quiet : Type 0) (writer : Change) where
+  abbrev log : Change
+  log = record { before = before; after = after }
+
+  replied : (end : Result Served Fault) (sent : Option (List ℕ)) (came : Arrival) (result : Result StatusCode Fault) → bundle_to_log true came ≡ sent → result ≢ Err Log → result ≢ Err Memory
+      → RepliesTo sent asked.now asked.words came (record { before = old; after = new }) log quiet writer false result → Grows end before after old.facts new.facts
+  replied end None came (Ok status) is not_log not_memory h = answered end before after old new asked.now asked.words came h.0 is h.1 h.2.1 h.4
+  replied end None came (Err Write) is not_log not_memory h = answered end before after old new asked.now asked.words came h.0 is h.1 h.2.0 h.4
+  replied end None came (Err Read) is not_log not_memory h = absurd h
+  replied end None came (Err Log) is not_log not_memory h = absurd (not_log refl)
+  replied end None came (Err Memory) is not_log not_memory h = absurd (not_memory refl)
+  replied end (Some bytes) came (Ok status) is not_log not_memory h =
+      pushed end before after old new bytes h.0 h.2 (not_short end h.0 h.4.2.0 h.4.2.1) h.1 h.3 h.4.0
+  replied end (Some bytes) came (Err Write) is not_log not_memory h =
+      pushed end before after old new bytes h.0 h.2 (not_short end h.0 h.4.2.0 h.4.2.1) h.1 h.3 h.4.0
+  replied end (Some bytes) came (Err Read) is not_log not_memory h = absurd h.4.2
+  replied end (Some bytes) came (Err Log) is not_log not_memory h = absurd (not_log refl)
+  replied end (Some bytes) came (Err Memory) is not_log not_memory h = absurd (not_memory refl)
+
+  ran_out : (b : Bool) → b ≡ true → RunsOut b asked (record { before = old; after = new }) log quiet writer false → Grows (Err Memory) before after old.facts new.facts
+  ran_out false is h = absurd (cc)
+  ran_out true is (inl same) = still (Err Memory) before after old new (keeps_nothing before after same.1.0) same.0
+  ran_out true is (inr h) = pushed (Err Memory) before after old new h.0 h.2.0 h.2.2 (λ e calm. calm) h.2.1 h.2.3 h.2.4.0
+
+  unsealed_log : (sent : Option (List ℕ)) (came : Arrival)
+      → RepliesTo sent asked.now asked.words came (record { before = old; after = new }) log quiet writer false (Err Log) → ⊥
+  unsealed_log None came h = sealed_clash h.2.2
+  unsealed_log (Some bytes) came h = sealed_clash h.4.2
+
+  as_logged : (came : Arrival) (result : Result StatusCode Fault)
+      → RepliesTo (bundle_to_log asked.log_taken came) asked.now asked.words came (record { before = old; after = new }) log quiet writer false result
+      → RepliesTo (bundle_to_log true came) asked.now asked.words came (record { before = old; after = new }) log quiet writer false result
+  as_logged came result h =
+      subst (λ b. RepliesTo (bundle_to_log b came) asked.now asked.words came (record { before = old; after = new }) log quiet writer false result) logs h
+
+  served : (result : Result Served Fault) → IsServed asked (record { before = old; after = new }) log quiet writer false result → Grows result before after old.facts new.facts
+  served (Ok (Done status)) h = replied (Ok (Done status)) (bundle_to_log true h.0) h.0 (Ok status) refl (ok_fault status Log) (ok_fault status Memory) (as_logged h.0 (Ok status) h.3)
+  served (Ok Nothing) h = still (Ok Nothing) before after old new (keeps_nothing before after h.1.1.0) h.1.0
+  served (Err Log) h = absurd (unsealed_log (bundle_to_log asked.log_taken h.0) h.0 h.3)
+  served (Err Write) h = replied (Err Write) (bundle_to_log true h.0) h.0 (Err Write) refl write_log write_memory (as_logged h.0 (Err Write) h.3)
+  served (Err Read) h = still (Err Read) before after old new (keeps_nothing before after h.1.0) h.0
+  served (Err Memory) h = ran_out asked.log_taken logs h
 
 -- an edge that is sealed stays sealed
 stays : (words : ChaCha) (old : Running) (ends : List (Result Served Fault)) (new : Running) → AreConnections words true old ends new
@@ -325,49 +345,114 @@ stays words old [] new same e = ap (λ r. r.edge.sealed) same ∙ e
 stays words old (end ∷ ends) new h e = stays (past_six words) h.0 ends new h.2 (ap (λ x. x.sealed) (h.1.0.1.shut e).0 ∙ e)
 
 connection_grows : (now : ℕ) (words : List ℕ) (old new : EdgeFields) (log : Change) (result : Result Served Fault) → IsConnection now words true old new log result
-    → old.sealed ≡ false → new.sealed ≡ false → Grows log.before log.after old.region.facts new.region.facts
+    → old.sealed ≡ false → new.sealed ≡ false → Grows result log.before log.after old.region.facts new.region.facts
 connection_grows now words old new log result h open_old open_new =
     let asked : Asked = record { sync = old.sync; log_taken = true; known = None; now = now; words = words } in
     served log.before log.after old.region new.region asked refl (log.after ≡ log.before) unknown result
     (subst (λ b. IsServed asked (record { before = old.region; after = new.region }) log (log.after ≡ log.before) unknown b result) open_new (h.served open_old))
 
-some_after : (l : List ℕ) (after : Option (List ℕ)) (F G : StoreFields) → Grows (Some l) after F G → (m : List ℕ) × (after ≡ Some m)
-some_after l None F G (inl h) = absurd h.0
-some_after l None F G (inr h) = absurd h.2
-some_after l (Some m) F G h = (m, refl)
+-- ---- connections, one after the other
+
+-- each bundle fits what the bundles before it left
+abbrev FitsEach : Slots → List BundleFields → Type 0
+FitsEach L [] = Unit {0}
+FitsEach L (b ∷ more) = AllFit L b.items × FitsEach (with_slots L b.items) more
+
+abbrev with_each : Slots → List BundleFields → Slots
+with_each L [] = L
+with_each L (b ∷ more) = with_each (with_slots L b.items) more
+
+-- the bundles say how a store became another, over connections with these results
+record Through (ends : List (Result Served Fault)) (F G : StoreFields) (bundles : List BundleFields) : Type 0 where
+  fit : AreBundles bundles
+  from : (U : Slots) → EachBelow U bundles → (d : Dot) → IsFrom (map.get U d) (map.get F.slots d) (map.get G.slots d)
+  late : (u : ℕ) → NoneLater bundles u → G.horizon ≤ max F.horizon u
+  loads : AreCalm ends → (L : Slots) → SlotsBelow L F.slots → FitsEach L bundles × SlotsBelow (with_each L bundles) G.slots
+  known : AreCalm ends → EachBelow G.slots bundles
+
+same_through : (F G : StoreFields) → G ≡ F → Through [] F G []
+same_through F G is = record {
+  fit = tt;
+  from = λ U each d. inl (ap (λ (P : StoreFields). map.get P.slots d) is);
+  late = λ u late. same_late G.horizon F.horizon u (ap (λ (P : StoreFields). P.horizon) is);
+  loads = λ calm L below. (tt, subst (λ (P : StoreFields). SlotsBelow L P.slots) (sym is) below);
+  known = λ calm. tt;
+}
+
+below_same : (L : Slots) (F G : StoreFields) → IsSame F G → SlotsBelow L F.slots → SlotsBelow L G.slots
+below_same L F G same below d = subst (λ o. SlotBelow (map.get L d) o) (sym (same.slots d)) (below d)
+
+late_twice : (f m g u : ℕ) → g ≤ max m u → m ≤ max f u → g ≤ max f u
+late_twice f m g u h k = omega (arith, h, k)
+
+-- a connection that left the store as it was, before others
+after_same : (end : Result Served Fault) (ends : List (Result Served Fault)) (F M G : StoreFields) (bundles : List BundleFields) → IsSame F M → Through ends M G bundles → Through (end ∷ ends) F G bundles
+after_same end ends F M G bundles same rest = record {
+  fit = rest.fit;
+  from = λ U each d. subst (λ o. IsFrom (map.get U d) o (map.get G.slots d)) (same.slots d) (rest.from U each d);
+  late = λ u late. subst (λ n. G.horizon ≤ max n u) same.horizon (rest.late u late);
+  loads = λ calm L below. rest.loads calm.1 L (below_same L F M same below);
+  known = λ calm. rest.known calm.1;
+}
+
+-- a connection whose bundle was logged, before others
+after_bundle : (end : Result Served Fault) (ends : List (Result Served Fault)) (F M G : StoreFields) (b : BundleFields) (bundles : List BundleFields) → Brings end F M b → Through ends M G bundles
+    → SlotsBelow M.slots G.slots → Through (end ∷ ends) F G (b ∷ bundles)
+after_bundle end ends F M G b bundles brings rest grown = record {
+  fit = (brings.fits, rest.fit);
+  from = λ U each d. from_twice (map.get U d) (map.get F.slots d) (map.get M.slots d) (map.get G.slots d) (brings.from U each.0 d) (rest.from U each.1 d);
+  late = λ u late. late_twice F.horizon M.horizon G.horizon u (rest.late u late.1) (brings.late u late.0);
+  loads = λ calm L below.
+      let one = brings.loads calm.0 L below in
+      let more = rest.loads calm.1 (with_slots L b.items) one.1 in
+      ((one.0, more.0), more.1);
+  known = λ calm. (below_more M.slots G.slots b.items grown (brings.known calm.0), rest.known calm.1);
+}
+
+some_after : (end : Result Served Fault) (l : List ℕ) (after : Option (List ℕ)) (F G : StoreFields) → Grows end (Some l) after F G → (m : List ℕ) × (after ≡ Some m)
+some_after end l None F G (inl h) = absurd h.0
+some_after end l None F G (inr h) = absurd h.1
+some_after end l (Some m) F G h = (m, refl)
 
 one_log : (l m : List ℕ) → Some l ≡ Some m → l ≡ m
 one_log l m e = cc
 
-kept_through : (start : Slots) (words : ChaCha) (old : Running) (ends : List (Result Served Fault)) (new : Running) (l m : List ℕ)
-    → AreConnections words true old ends new → old.log ≡ Some l → new.log ≡ Some m → old.edge.sealed ≡ false → new.edge.sealed ≡ false
-    → Kept start l old.edge.region.facts.slots → Kept start m new.edge.region.facts.slots
-kept_through start words old [] new l m same old_log new_log open_old open_new kept =
-    subst (λ x. Kept start x new.edge.region.facts.slots) (one_log l m (sym old_log ∙ sym (ap (λ r. r.log) same) ∙ new_log))
-    (subst (λ r. Kept start l r.edge.region.facts.slots) (sym same) kept)
-kept_through start words old (end ∷ ends) new l m h old_log new_log open_old open_new kept =
-    elim h.0.edge.sealed as (λ b. h.0.edge.sealed ≡ b → Kept start m new.edge.region.facts.slots) [
+-- the bundles by which the log grew, over these connections
+abbrev Logs : List (Result Served Fault) → List ℕ → List ℕ → StoreFields → StoreFields → Type 0
+Logs ends l m F G = (bundles : List BundleFields) × (m ≡ l ++ log_bytes bundles) × Through ends F G bundles
+
+more_logged : (end : Result Served Fault) (ends : List (Result Served Fault)) (l k m : List ℕ) (F M G : StoreFields) → Grows end (Some l) (Some k) F M → SlotsBelow M.slots G.slots
+    → Logs ends k m M G → Logs (end ∷ ends) l m F G
+more_logged end ends l k m F M G (inl h) grown rest =
+    (rest.0, rest.1 ∙ ap (λ x. x ++ log_bytes rest.0) (h.0 ∙ append-nil l), after_same end ends F M G rest.0 h.1 rest.2)
+more_logged end ends l k m F M G (inr h) grown rest = (
+  h.0 ∷ rest.0,
+  rest.1 ∙ ap (λ x. x ++ log_bytes rest.0) h.1 ∙ append_assoc l (bundle_bytes h.0) (log_bytes rest.0),
+  after_bundle end ends F M G h.0 rest.0 h.2 rest.2 grown,
+)
+
+through : (words : ChaCha) (old : Running) (ends : List (Result Served Fault)) (new : Running) (l m : List ℕ) → AreConnections words true old ends new
+    → old.log ≡ Some l → new.log ≡ Some m → old.edge.sealed ≡ false → new.edge.sealed ≡ false → Logs ends l m old.edge.region.facts new.edge.region.facts
+through words old [] new l m same old_log new_log open_old open_new = (
+  [],
+  one_log m l (sym new_log ∙ ap (λ r. r.log) same ∙ old_log) ∙ sym (append-nil l),
+  same_through old.edge.region.facts new.edge.region.facts (ap (λ r. r.edge.region.facts) same),
+)
+through words old (end ∷ ends) new l m h old_log new_log open_old open_new =
+    elim h.0.edge.sealed as (λ b. h.0.edge.sealed ≡ b → Logs (end ∷ ends) l m old.edge.region.facts new.edge.region.facts) [
       | true ↦ λ e. absurd (sealed_clash (sym open_new ∙ stays (past_six words) h.0 ends new h.2 e))
       | false ↦ λ e.
           let F = old.edge.region.facts in
-          let G = h.0.edge.region.facts in
+          let M = h.0.edge.region.facts in
           let grows = connection_grows h.1.0.0 (six words) old.edge h.0.edge (record { before = old.log; after = h.0.log }) end h.1.0.1 open_old e in
-          let grown = subst (λ o. Grows o h.0.log F G) old_log grows in
-          let after = some_after l h.0.log F G grown in
-          kept_through start (past_six words) h.0 ends new after.0 m h.2 after.1 new_log e open_new
-          (kept_more start l after.0 F G kept (subst (λ o. Grows (Some l) o F G) after.1 grown))
+          let grown = subst (λ o. Grows end o h.0.log F M) old_log grows in
+          let after = some_after end l h.0.log F M grown in
+          more_logged end ends l after.0 m F M new.edge.region.facts (subst (λ o. Grows end (Some l) o F M) after.1 grown)
+          (connections_grow (past_six words) true h.0 ends new h.2).facts.slots
+          (through (past_six words) h.0 ends new after.0 m h.2 after.1 new_log e open_new)
     ] refl
 
-no_rest : (rest : List ℕ) → 0 ≡ length rest → rest ≡ []
-no_rest [] e = refl
-no_rest (b ∷ rest) e = absurd (omega (arith, e))
-
-none_is_some : (s : Slot) → None ≡ Some s → ⊥
-none_is_some s e = cc
-
--- slots that know nothing are held by any
-nothing_held : (P : StoreFields) (U : Slots) → P ≡ empty_store → HoldsAll U P.slots
-nothing_held P U is d b at = absurd (none_is_some (Held b) (sym (sets.get-empty dot_cmp d) ∙ ap (λ (Q : StoreFields). sets.get Q.slots d) (sym is) ∙ at))
+-- ---- before the first connection
 
 held_at : (o : Option Slot) (b : Body) → held_slot o ≡ Some b → o ≡ Some (Held b)
 held_at None b e = absurd (cc)
@@ -377,42 +462,230 @@ held_at (Some (Held c)) b e = ap (λ x. Some (Held x)) (is_body e)
     is_body e = cc
 held_at (Some Skipped) b e = absurd (cc)
 
-abbrev skipped : Slot
-skipped = Skipped
+passing_kept : (d : Dot) (b : Body) (k : TokenId) → kept_for d b ≡ Some k → is_passing b ≡ true
+passing_kept d (bodies.ClientAdded f) k e = absurd (cc)
+passing_kept d (bodies.ClientRetired f) k e = absurd (cc)
+passing_kept d (bodies.ConsentGiven f) k e = absurd (cc)
+passing_kept d (bodies.ConsentWithdrawn f) k e = absurd (cc)
+passing_kept d (bodies.CodeIssued f) k e = refl
+passing_kept d (bodies.CodeRedeemed f) k e = refl
+passing_kept d (bodies.RefreshRotated f) k e = refl
+passing_kept d (bodies.TokenRevoked f) k e = absurd (cc)
+passing_kept d (bodies.ReuseSeen f) k e = refl
+passing_kept d (bodies.SubjectOut f) k e = absurd (cc)
 
-skipped_held : (b : Body) → Some skipped ≡ Some (Held b) → ⊥
+-- a region that was pruned, or wasn't, knows what it knew, or has skipped it
+pruned_below : (moment count : Option ℕ) (full start : RegionFields) → PrunesOld moment full (Ok count) start → SlotsBelow full.facts.slots start.facts.slots
+pruned_below None count full start same = subst (λ (r : RegionFields). SlotsBelow full.facts.slots r.facts.slots) (sym same.1) (slots_itself full.facts.slots)
+pruned_below (Some moment) None full start none = absurd none
+pruned_below (Some moment) (Some n) full start pruned d = of (pruned.facts.keeps d)
+  where
+    of : (map.get start.facts.slots d ≡ map.get full.facts.slots d) ⊎ MaySkip (map.get (held_facts full.facts)) start.facts.horizon d
+        → SlotBelow (map.get full.facts.slots d) (map.get start.facts.slots d)
+    of (inl same) = subst (λ o. SlotBelow (map.get full.facts.slots d) o) (sym same) (below_itself (map.get full.facts.slots d))
+    of (inr may) =
+        let here = held_at (map.get full.facts.slots d) may.fact (sym (get_held full.facts.slots d) ∙ may.here) in
+        subst (λ o. SlotBelow o (map.get start.facts.slots d)) (sym here)
+        (subst (λ o. SlotBelow (Some (Held may.fact)) o) (sym (pruned.facts.skips d may)) (passing_kept d may.fact may.token may.kept))
+
+skipped_held : (b : Body) → Some Skipped ≡ Some (Held b) → ⊥
 skipped_held b e = absurd (cc)
 
 -- a region that was pruned, or wasn't, holds nothing that it didn't hold before
 pruned_less : (moment count : Option ℕ) (full start : RegionFields) → PrunesOld moment full (Ok count) start
-    → (d : Dot) (b : Body) → sets.get start.facts.slots d ≡ Some (Held b) → sets.get full.facts.slots d ≡ Some (Held b)
-pruned_less None count full start same d b at = subst (λ (r : RegionFields). sets.get r.facts.slots d ≡ Some (Held b)) same.1 at
+    → (d : Dot) (b : Body) → map.get start.facts.slots d ≡ Some (Held b) → map.get full.facts.slots d ≡ Some (Held b)
+pruned_less None count full start same d b at = subst (λ (r : RegionFields). map.get r.facts.slots d ≡ Some (Held b)) same.1 at
 pruned_less (Some moment) None full start none d b at = absurd none
 pruned_less (Some moment) (Some n) full start pruned d b at = of (pruned.facts.keeps d)
   where
-    of : (sets.get start.facts.slots d ≡ sets.get full.facts.slots d) ⊎ MaySkip (sets.get (held_facts full.facts)) start.facts.horizon d
-        → sets.get full.facts.slots d ≡ Some (Held b)
+    of : (map.get start.facts.slots d ≡ map.get full.facts.slots d) ⊎ MaySkip (map.get (held_facts full.facts)) start.facts.horizon d
+        → map.get full.facts.slots d ≡ Some (Held b)
     of (inl same) = sym same ∙ at
     of (inr may) = absurd (skipped_held b (sym (pruned.facts.skips d may) ∙ at))
 
+none_is_some : (s : Slot) → None ≡ Some s → ⊥
+none_is_some s e = cc
+
+-- a region without facts knows nothing
+knows_none : (P : StoreFields) (d : Dot) → P ≡ empty_store → map.get P.slots d ≡ None
+knows_none P d is = ap (λ (Q : StoreFields). map.get Q.slots d) is ∙ map.get-empty dot_cmp d
+
+-- what is held after bundles were taken in, by a region that held nothing, is below what is above
+-- the bundles
+first_below : (u s t : Option Slot) (b : Body) → IsFrom u s t → s ≡ None → t ≡ Some (Held b) → SlotBelow (Some (Held b)) u
+first_below u s t b (inl same) none at = absurd (none_is_some (Held b) (sym none ∙ sym same ∙ at))
+first_below u s t b (inr below) none at = subst (λ o. SlotBelow o u) at below
+
+-- ---- what another region has that has loaded the bundles
+
+skip_above : (u : Option Slot) → SlotBelow (Some Skipped) u → u ≡ Some Skipped
+skip_above None below = absurd below
+skip_above (Some (Held b)) below = absurd below
+skip_above (Some Skipped) below = refl
+
+log_from : (olds : List BundleFields) (region : RegionFields) (log : List ℕ) (h : HasLogged olds region log) → Logs h.ends [] log h.start.facts region.facts
+log_from olds region log h =
+    through h.words (record { edge = edge_of h.start; log = Some []; faults = h.faults }) h.ends (record { edge = edge_of region; log = Some log; faults = h.told }) [] log h.served refl refl refl refl
+
+-- the bundles of the log are those by which it grew
+log_is : (log : List ℕ) (news bundles : List BundleFields) → AreLogged log news → AreBundles bundles → log ≡ log_bytes bundles → bundles ≡ news
+log_is log news bundles logged fit is =
+    one_list log news bundles logged (record { fit = fit; rest = []; parts = is ∙ sym (append-nil (log_bytes bundles)); torn = inl refl })
+
 pub keeps_all : LogKeepsAll
-keeps_all old region log h new loaded dropped loads d body at =
+keeps_all olds region log h news logged bytes all are among_olds among_news new loaded dropped loads =
     let U = loaded.facts.slots in
-    let front = h.loaded.1 in
-    let kept = kept_through h.start.facts.slots h.words (record { edge = edge_of h.start; log = Some []; faults = h.faults }) h.ends
-    (record { edge = edge_of region; log = Some log; faults = h.told }) [] log h.served refl refl refl refl
-    (record { bundles = []; fit = tt; spelled = refl; covers = λ V from each. from }) in
-    let old_is : old ≡ log_bytes front.bundles =
-    front.parts ∙ ap (λ r. log_bytes front.bundles ++ r) (no_rest h.loaded.0 h.loaded.3) ∙ append-nil (log_bytes front.bundles) in
-    let both = front.bundles ++ kept.bundles in
-    let fit = both_bundles front.bundles kept.bundles front.fit kept.fit in
-    let all : old ++ log ≡ log_bytes both =
-    ap (λ x. x ++ log) old_is ∙ ap (λ x. log_bytes front.bundles ++ x) kept.spelled ∙ sym (both_bytes front.bundles kept.bundles) in
+    let grew = log_from olds region log h in
+    let through = subst (Through h.ends h.start.facts region.facts) (log_is log news grew.0 logged grew.2.fit grew.1) grew.2 in
     let back = loads.1 in
-    let same = one_parse back.bundles both loads.0 back.fit fit loads.2 (sym back.parts ∙ all) in
-    let each : HoldsEach U both = subst (HoldsEach U) same (each_taken new back.bundles loaded back.fit back.each).1 in
-    kept.covers U
-    (holds_less U h.full.facts.slots h.start.facts.slots (pruned_less h.moment h.count h.full h.start h.pruned)
-    (each_within h.first front.bundles h.full U front.each (nothing_held h.first.facts U h.empty) (holds_front U front.bundles kept.bundles each)))
-    (holds_rest U front.bundles kept.bundles each) d body
-    (held_at (sets.get region.facts.slots d) body (sym (get_held region.facts.slots d) ∙ at))
+    let same : all ≡ back.bundles = one_list bytes back.bundles all (record { fit = back.fit; rest = loads.0; parts = back.parts; torn = loads.2 }) are in
+    let above = each_below new back.bundles loaded back.fit back.each in
+    let each : EachBelow U all = subst (EachBelow U) (sym same) above.each in
+    let late : NoneLater all loaded.facts.horizon = subst (λ (bs : List BundleFields). NoneLater bs loaded.facts.horizon) (sym same) above.late in
+    let from = through.from U (below_among U news all among_news each) in
+    let old_from = each_from h.first olds h.full U h.loaded (below_among U olds all among_olds each) in
+    record {
+      held = λ d b at. held_by d b (held_at (map.get region.facts.slots d) b (sym (get_held region.facts.slots d) ∙ at)) (from d) (old_from d);
+      marks = λ d at. marked d at (from d);
+      horizon = through.late loaded.facts.horizon (later_among loaded.facts.horizon news all among_news late);
+    }
+  where
+    held_by : (d : Dot) (b : Body) → map.get region.facts.slots d ≡ Some (Held b) → IsFrom (map.get loaded.facts.slots d) (map.get h.start.facts.slots d) (map.get region.facts.slots d)
+        → IsFrom (map.get loaded.facts.slots d) (map.get h.first.facts.slots d) (map.get h.full.facts.slots d) → SlotBelow (Some (Held b)) (map.get loaded.facts.slots d)
+    held_by d b at (inr below) old = subst (λ o. SlotBelow o (map.get loaded.facts.slots d)) at below
+    held_by d b at (inl same) old =
+        first_below (map.get loaded.facts.slots d) (map.get h.first.facts.slots d) (map.get h.full.facts.slots d) b old (knows_none h.first.facts d h.empty)
+        (pruned_less h.moment h.count h.full h.start h.pruned d b (sym same ∙ at))
+
+    marked : (d : Dot) → map.get region.facts.slots d ≡ Some Skipped → IsFrom (map.get loaded.facts.slots d) (map.get h.start.facts.slots d) (map.get region.facts.slots d)
+        → (map.get h.start.facts.slots d ≡ Some Skipped) ⊎ (map.get loaded.facts.slots d ≡ Some Skipped)
+    marked d at (inl same) = inl (sym same ∙ at)
+    marked d at (inr below) = inr (skip_above (map.get loaded.facts.slots d) (subst (λ o. SlotBelow o (map.get loaded.facts.slots d)) at below))
+
+-- ---- the log is loaded behind the old log
+
+-- bundles that were taken in fit, each what the bundles before it left
+taken_fit : (old : RegionFields) (bundles : List BundleFields) (new : RegionFields) → TakesEach old bundles new
+    → FitsEach old.facts.slots bundles × (new.facts.slots ≡ with_each old.facts.slots bundles) × (new.number ≡ old.number)
+taken_fit old [] new same = (tt, ap (λ (r : RegionFields). r.facts.slots) same, ap (λ (r : RegionFields). r.number) same)
+taken_fit old (b ∷ more) new h =
+    let is = taken_slots old.facts h.0.facts b.horizon b.items h.1.1.takes.2.0 in
+    let rest = taken_fit h.0 more new h.2 in
+    ((h.1.1.takes.1, subst (λ S. FitsEach S more) is rest.0), rest.1 ∙ ap (λ S. with_each S more) is, rest.2 ∙ h.1.1.number)
+
+fits_both : (L : Slots) (xs ys : List BundleFields) → FitsEach L xs → FitsEach (with_each L xs) ys → FitsEach L (xs ++ ys)
+fits_both L [] ys h k = k
+fits_both L (x ∷ xs) ys h k = (h.0, fits_both (with_slots L x.items) xs ys h.1 k)
+
+fits_behind : (L : Slots) (xs : List BundleFields) (y : BundleFields) (ys : List BundleFields) → FitsEach L (xs ++ y ∷ ys) → AllFit (with_each L xs) y.items
+fits_behind L [] y ys h = h.0
+fits_behind L (x ∷ xs) y ys h = fits_behind (with_slots L x.items) xs y ys h.1
+
+each_both : (U : Slots) (xs ys : List BundleFields) → EachBelow U xs → EachBelow U ys → EachBelow U (xs ++ ys)
+each_both U [] ys h k = k
+each_both U (x ∷ xs) ys h k = (h.0, each_both U xs ys h.1 k)
+
+each_behind : (U : Slots) (xs : List BundleFields) (y : BundleFields) (ys : List BundleFields) → EachBelow U (xs ++ y ∷ ys) → AllBelow U y.items
+each_behind U [] y ys h = h.0
+each_behind U (x ∷ xs) y ys h = each_behind U xs y ys h.1
+
+known_above : (s : Slot) (u : Option Slot) → SlotBelow (Some s) u → u ≡ None → ⊥
+known_above s None below none = below
+known_above s (Some t) below none = none_is_some t (sym none)
+
+-- items at known dots are under no fresh number
+none_unmade : (number : ℕ) (next : Dot) (region : RegionFields) (items : Items) → IsFresh number region → next.region ≡ number → AllBelow region.facts.slots items → has_unmade next items ≡ false
+none_unmade number next region [] fresh at all = refl
+none_unmade number next region (i ∷ more) fresh at all =
+    ap (λ t. t || has_unmade next more) (other (nat_eq_false i.0.region next.region
+    (λ same. fresh i.0 (known_above i.1 (map.get region.facts.slots i.0) all.0) (same ∙ at))))
+    ∙ none_unmade number next region more fresh at all.1
+  where
+    nat_eq_false : (m n : ℕ) → (m ≡ n → ⊥) → nat_eq m n ≡ false
+    nat_eq_false m n differ = of (nat_eq m n) refl
+      where
+        of : (t : Bool) → nat_eq m n ≡ t → t ≡ false
+        of true e = absurd (differ (grind (arith, nat_tests)))
+        of false e = refl
+
+    other : nat_eq i.0.region next.region ≡ false → is_unmade next i.0 ≡ false
+    other e = ap (λ t. t && nat_le next.serial i.0.serial) e
+
+torn_is_cut : (rest : List ℕ) → IsTorn rest → IsCut rest
+torn_is_cut rest (inl none) = subst IsCut (sym none) refl
+torn_is_cut rest (inr cut) = cut
+
+-- the front of a rest that is these bundles and a torn end
+module _ (all back : List BundleFields) (rest cut : List ℕ) (torn : IsTorn cut) (p : Parted back all rest cut) where
+  -- a bundle at the front is the next of all
+  next_is : (b : BundleFields) → BeginsWith rest b → (ys : List BundleFields) × (all ≡ back ++ b ∷ ys)
+  next_is b begins = of p.more p.fit p.all p.left
+    where
+      of : (more : List BundleFields) → AreBundles more → all ≡ back ++ more → rest ≡ log_bytes more ++ cut → (ys : List BundleFields) × (all ≡ back ++ b ∷ ys)
+      of [] fit is left = absurd (no_end b begins.1.0 cut begins.0 (sym left ∙ begins.1.1) torn)
+      of (y ∷ ys) fit is left =
+          let first = prefix_free bundle bundle_exact b y begins.1.0 (log_bytes ys ++ cut) begins.0 fit.0
+          (sym begins.1.1 ∙ left ∙ append_assoc (bundle_bytes y) (log_bytes ys) cut) in
+          (ys, is ∙ ap (λ x. back ++ x ∷ ys) (sym first.0))
+
+  -- the rest is cut, or a bundle is at its front
+  some_front : IsNoBundle rest → ⊥
+  some_front none = of p.more p.fit p.left
+    where
+      of : (more : List BundleFields) → AreBundles more → rest ≡ log_bytes more ++ cut → ⊥
+      of [] fit left = none.0 (subst IsCut (sym left) (torn_is_cut cut torn))
+      of (y ∷ ys) fit left = none.1 y (fit.0, (log_bytes ys ++ cut, left ∙ append_assoc (bundle_bytes y) (log_bytes ys) cut))
+
+pub loads_all : LogLoads
+loads_all olds region log h calm news logged bytes are new loaded empty fresh result loads = by result loads
+  where
+    grew : Logs h.ends [] log h.start.facts region.facts
+    grew = log_from olds region log h
+
+    news_through : Through h.ends h.start.facts region.facts news
+    news_through = subst (Through h.ends h.start.facts region.facts) (log_is log news grew.0 logged grew.2.fit grew.1) grew.2
+
+    -- the slots of a region without facts
+    nothing : new.facts.slots ≡ h.first.facts.slots
+    nothing = ap (λ (P : StoreFields). P.slots) (empty ∙ sym h.empty)
+
+    old_fit : FitsEach h.first.facts.slots olds × (h.full.facts.slots ≡ with_each h.first.facts.slots olds) × (h.full.number ≡ h.first.number)
+    old_fit = taken_fit h.first olds h.full h.loaded
+
+    news_fit : FitsEach (with_each h.first.facts.slots olds) news
+    news_fit = (news_through.loads calm (with_each h.first.facts.slots olds)
+        (subst (λ S. SlotsBelow S h.start.facts.slots) old_fit.1 (pruned_below h.moment h.count h.full h.start h.pruned))).0
+
+    fits : FitsEach new.facts.slots (olds ++ news)
+    fits = subst (λ S. FitsEach S (olds ++ news)) (sym nothing) (fits_both h.first.facts.slots olds news old_fit.0 news_fit)
+
+    known : EachBelow region.facts.slots (olds ++ news)
+    known =
+        let above = each_below h.first olds h.full h.fit h.loaded in
+        let grown = slots_trans h.full.facts.slots h.start.facts.slots region.facts.slots (pruned_below h.moment h.count h.full h.start h.pruned)
+        (connections_grow h.words true (record { edge = edge_of h.start; log = Some []; faults = h.faults }) h.ends (record { edge = edge_of region; log = Some log; faults = h.told }) h.served).facts.slots in
+        each_both region.facts.slots olds news (each_more h.full.facts.slots region.facts.slots olds grown above.each) (news_through.known calm)
+
+    behind : (rest : List ℕ) → (front : TakesFront new bytes rest loaded) → Parted front.bundles (olds ++ news) rest are.rest
+    behind rest front = parted front.bundles (olds ++ news) rest are.rest front.fit are.fit are.torn (sym front.parts ∙ are.parts)
+
+    refused : (rest : List ℕ) → (front : TakesFront new bytes rest loaded) → IsRefused loaded rest → ⊥
+    refused rest front refused =
+        let next = next_is (olds ++ news) front.bundles rest are.rest are.torn (behind rest front) refused.0 refused.1 in
+        let taken = taken_fit new front.bundles loaded front.each in
+        why next.0 next.1 taken.1 taken.2 refused.2
+      where
+        why : (ys : List BundleFields) → (olds ++ news) ≡ front.bundles ++ refused.0 ∷ ys → loaded.facts.slots ≡ with_each new.facts.slots front.bundles → loaded.number ≡ new.number
+            → (has_unmade (next_in (place_in loaded)) refused.0.items ≡ true) ⊎ ¬ AllFit loaded.facts.slots refused.0.items → ⊥
+        why ys is slots number (inl unmade) =
+            sealed_clash (sym (none_unmade new.number (next_in (place_in loaded)) region refused.0.items fresh number
+            (each_behind region.facts.slots front.bundles refused.0 ys (subst (EachBelow region.facts.slots) is known))) ∙ unmade)
+        why ys is slots number (inr differs) =
+            differs (subst (λ S. AllFit S refused.0.items) (sym slots) (fits_behind new.facts.slots front.bundles refused.0 ys (subst (FitsEach new.facts.slots) is fits)))
+
+    by : (result : Result ℕ LoadFault) → Loads new bytes result loaded → IsNotRefused result
+    by (Ok dropped) h = tt
+    by (Err load.Memory) h = tt
+    by (Err load.Read) h = tt
+    by (Err (load.Malformed at)) h = some_front (olds ++ news) h.1.bundles h.0 are.rest are.torn (behind h.0 h.1) h.2
+    by (Err (load.Refused at)) h = refused h.0 h.1 h.2

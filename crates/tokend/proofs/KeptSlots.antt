@@ -1,56 +1,209 @@
--- What slots must know to hold what other slots hold, with items joined to them. Key results:
---   holds_below    slots above others hold what these hold
---   items_held     slots that hold others, and are above items, hold what the others hold with them
+-- What slots become with items joined to them. Key results:
+--   from_items     each slot is as it was, or below what is above the items
+--   unchanged      items that change nothing leave each slot
+--   fits_lower     items that fit, and weren't dropped, fit what is below
+--   items_lower    what is below stays below with the items
 --   items_below    items that fit are below the slots with them
---   nothing_new    items at known dots bring no fact
-use Rattle.std.proofs.Common.{◌≡◌, ◌≤◌, ◌+◌, ℕ, zero, suc, take, Bool, true, false, cond, [], ◌∷◌, Option, Some, None, inl, inr, refl, sym, ap, subst, ◌∙◌, arith}
+use Rattle.std.proofs.Common.{◌≡◌, ◌≤◌, ◌+◌, ℕ, zero, suc, take, filter, Bool, true, false, ◌||◌, not, cond, [], ◌∷◌, Option, Some, None, inl, inr, refl, sym, ap, subst, ◌∙◌, arith}
 use Rattle.std.specs.Prelude.{◌⊎◌}
 use Rattle.std.specs.FinMap as map
 use Rattle.tk_handle.specs.declared.dot.Dot.{Dot}
-use Rattle.tk_handle.specs.Dot.{dot_cmp_total}
 use Rattle.tk_fact.specs.declared.body.Body.{Body}
-use Rattle.tk_store.specs.Slots.{Slot, Slots, Held, Skipped, joined_slot, with_slots}
+use Rattle.tk_fact.specs.Keeping.{is_passing}
+use Rattle.tk_store.specs.Slots.{Slot, Slots, Held, Skipped, is_skipped, is_skipped_slot, joined_slot, with_slots}
 use Rattle.tk_store.specs.SlotOrder.{SlotBelow, SlotsBelow, SlotAgrees}
 use Rattle.tk_store.specs.SlotJoining.{AllBelow, AllFit}
 use Rattle.tk_store.proofs.FitLaws.{fit_below}
-use Rattle.tk_store.proofs.PutLaws.{by_dot, get_here, len_new}
+use Rattle.tk_store.proofs.PutLaws.{by_dot, get_here}
 use Rattle.tk_store.proofs.SlotOrderLaws.{below_trans, join_right}
-use Rattle.tk_bundle.specs.BundleFields.{Items}
+use Rattle.tk_bundle.specs.BundleFields.{Items, is_mark}
+use Rattle.tk_bundle.specs.News.{changes_slot, changes_slots, counts}
 use Rattle.tk_region.proofs.TakeLaws.{Avoids, Differs}
 
--- U holds each fact that S holds, or has skipped its dot
-abbrev pub HoldsAll : Slots → Slots → Type 0
-HoldsAll U S = (d : Dot) (b : Body) → map.get S d ≡ Some (Held b) → SlotBelow (Some (Held b)) (map.get U d)
+abbrev skipped : Slot
+skipped = Skipped
 
-pub holds_below : (S U : Slots) → SlotsBelow S U → HoldsAll U S
-holds_below S U below d b at = subst (λ o. SlotBelow o (map.get U d)) at (below d)
+abbrev joined : Slots → Dot × Slot → Slots
+joined S i = map.insert S i.0 (joined_slot (map.get S i.0) i.1)
 
--- slots that hold what these hold, of which they hold less
-pub holds_less : (U S T : Slots) → ((d : Dot) (b : Body) → map.get T d ≡ Some (Held b) → map.get S d ≡ Some (Held b)) → HoldsAll U S → HoldsAll U T
-holds_less U S T less h d b at = h d b (less d b at)
+-- ---- where a slot comes from
 
-is_slot : (s t : Slot) → Some s ≡ Some t → s ≡ t
-is_slot s t e = cc
+-- the slot is as it was, or is below what U knows
+abbrev pub IsFrom : Option Slot → Option Slot → Option Slot → Type 0
+IsFrom u s t = (t ≡ s) ⊎ SlotBelow t u
 
--- a fact that results from joining a slot was known, or is the slot's
-from_joining : (o : Option Slot) (s : Slot) (b : Body) → Some (joined_slot o s) ≡ Some (Held b) → (o ≡ Some (Held b)) ⊎ (s ≡ Held b)
-from_joining None s b e = inr (is_slot s (Held b) e)
-from_joining (Some (Held x)) (Held y) b e = inl e
-from_joining (Some (Held x)) Skipped b e = absurd (cc)
-from_joining (Some Skipped) s b e = absurd (cc)
+joined_from : (u o : Option Slot) (s : Slot) → SlotBelow (Some s) u → IsFrom u o (Some (joined_slot o s))
+joined_from u None s below = inr below
+joined_from u (Some (Held x)) (Held y) below = inl refl
+joined_from u (Some (Held x)) Skipped below = inr below
+joined_from u (Some Skipped) s below = inl refl
 
--- slots that hold others, and are above items, hold what the others hold with the items
-pub items_held : (U S : Slots) (items : Items) → HoldsAll U S → AllBelow U items → HoldsAll U (with_slots S items)
-items_held U S [] h all = h
-items_held U S (i ∷ more) h all = items_held U (map.insert S i.0 (joined_slot (map.get S i.0) i.1)) more one all.1
+pub from_twice : (u r s t : Option Slot) → IsFrom u r s → IsFrom u s t → IsFrom u r t
+from_twice u r s t h (inr below) = inr below
+from_twice u r s t (inl same) (inl again) = inl (again ∙ same)
+from_twice u r s t (inr below) (inl again) = inr (subst (λ o. SlotBelow o u) (sym again) below)
+
+-- what B skipped, S has skipped
+abbrev pub SkipsStay : Slots → Slots → Type 0
+SkipsStay B S = (d : Dot) → map.get B d ≡ Some skipped → map.get S d ≡ Some skipped
+
+joined_stays : (o : Option Slot) (s : Slot) → o ≡ Some skipped → Some (joined_slot o s) ≡ Some skipped
+joined_stays o s e = ap (λ p. Some (joined_slot p s)) e
+
+stays_joined : (B S : Slots) (i : Dot × Slot) → SkipsStay B S → SkipsStay B (joined S i)
+stays_joined B S i stays d at = by_dot (λ o. o ≡ Some skipped) S i.0 (joined_slot (map.get S i.0) i.1) d
+    (λ same. joined_stays (map.get S i.0) i.1 (stays i.0 (ap (map.get B) (sym same) ∙ at))) (stays d at)
+
+is_mark_of : (o : Option Slot) → is_skipped_slot o ≡ true → o ≡ Some skipped
+is_mark_of None e = absurd (cc)
+is_mark_of (Some (Held b)) e = absurd (cc)
+is_mark_of (Some Skipped) e = refl
+
+dropped_is : (B : Slots) (i : Dot × Slot) → counts B i ≡ false → map.get B i.0 ≡ Some skipped
+dropped_is B (d, Held b) e = is_mark_of (map.get B d) (of (is_skipped B d) e)
   where
-    here : (b : Body) → (map.get S i.0 ≡ Some (Held b)) ⊎ (i.1 ≡ Held b) → SlotBelow (Some (Held b)) (map.get U i.0)
-    here b (inl known) = h i.0 b known
-    here b (inr is) = subst (λ s. SlotBelow (Some s) (map.get U i.0)) is all.0
+    of : (t : Bool) → not t ≡ false → t ≡ true
+    of true e = refl
+    of false e = absurd (cc)
+dropped_is B (d, Skipped) e = absurd (cc)
 
-    one : HoldsAll U (map.insert S i.0 (joined_slot (map.get S i.0) i.1))
-    one d b = by_dot (λ o. o ≡ Some (Held b) → SlotBelow (Some (Held b)) (map.get U d)) S i.0 (joined_slot (map.get S i.0) i.1) d
-        (λ same e. subst (λ q. SlotBelow (Some (Held b)) (map.get U q)) (sym same) (here b (from_joining (map.get S i.0) i.1 b e))) (h d b)
+-- each slot is as it was, or below what is above the items that weren't dropped
+pub from_items : (B S U : Slots) (items : Items) → SkipsStay B S → AllBelow U (filter (counts B) items) → (d : Dot)
+    → IsFrom (map.get U d) (map.get S d) (map.get (with_slots S items) d)
+from_items B S U [] stays all d = inl refl
+from_items B S U (i ∷ more) stays all d = by (counts B i) refl all
+  where
+    step : IsFrom (map.get U i.0) (map.get S i.0) (Some (joined_slot (map.get S i.0) i.1)) → IsFrom (map.get U d) (map.get S d) (map.get (joined S i) d)
+    step here = by_dot (λ o. IsFrom (map.get U d) (map.get S d) o) S i.0 (joined_slot (map.get S i.0) i.1) d
+        (λ same. subst (λ q. IsFrom (map.get U q) (map.get S q) (Some (joined_slot (map.get S i.0) i.1))) (sym same) here) (inl refl)
+
+    by : (t : Bool) → counts B i ≡ t → AllBelow U (cond t (i ∷ filter (counts B) more) (filter (counts B) more))
+        → IsFrom (map.get U d) (map.get S d) (map.get (with_slots (joined S i) more) d)
+    by true e all =
+        from_twice (map.get U d) (map.get S d) (map.get (joined S i) d) (map.get (with_slots (joined S i) more) d)
+        (step (joined_from (map.get U i.0) (map.get S i.0) i.1 all.0)) (from_items B (joined S i) U more (stays_joined B S i stays) all.1 d)
+    by false e all =
+        let here : Some (joined_slot (map.get S i.0) i.1) ≡ map.get S i.0 =
+        joined_stays (map.get S i.0) i.1 (stays i.0 (dropped_is B i e)) ∙ sym (stays i.0 (dropped_is B i e)) in
+        from_twice (map.get U d) (map.get S d) (map.get (joined S i) d) (map.get (with_slots (joined S i) more) d)
+        (step (inl here)) (from_items B (joined S i) U more (stays_joined B S i stays) all d)
+
+-- each slot is as it was, or below what is above all items
+pub items_from : (U S : Slots) (items : Items) → AllBelow U items → (d : Dot) → IsFrom (map.get U d) (map.get S d) (map.get (with_slots S items) d)
+items_from U S [] all d = inl refl
+items_from U S (i ∷ more) all d =
+    from_twice (map.get U d) (map.get S d) (map.get (joined S i) d) (map.get (with_slots (joined S i) more) d)
+    (by_dot (λ o. IsFrom (map.get U d) (map.get S d) o) S i.0 (joined_slot (map.get S i.0) i.1) d
+    (λ same. subst (λ q. IsFrom (map.get U q) (map.get S q) (Some (joined_slot (map.get S i.0) i.1))) (sym same) (joined_from (map.get U i.0) (map.get S i.0) i.1 all.0)) (inl refl))
+    (items_from U (joined S i) more all.1 d)
+
+-- the first items of a list that are kept are among those that are
+pub below_first : (U : Slots) (p : Dot × Slot → Bool) (k : ℕ) (items : Items) → AllBelow U (filter p items) → AllBelow U (filter p (take k items))
+below_first U p zero items all = tt
+below_first U p (suc k) [] all = tt
+below_first U p (suc k) (i ∷ more) all = by (p i) all
+  where
+    by : (t : Bool) → AllBelow U (cond t (i ∷ filter p more) (filter p more)) → AllBelow U (cond t (i ∷ filter p (take k more)) (filter p (take k more)))
+    by true all = (all.0, below_first U p k more all.1)
+    by false all = below_first U p k more all
+
+-- ---- items that change nothing
+
+unchanged_slot : (o : Option Slot) (s : Slot) → changes_slot o s ≡ false → Some (joined_slot o s) ≡ o
+unchanged_slot None s e = absurd (cc)
+unchanged_slot (Some Skipped) s e = refl
+unchanged_slot (Some (Held b)) (Held c) e = refl
+unchanged_slot (Some (Held b)) Skipped e = absurd (cc)
+
+pub neither : (a b : Bool) → (a || b) ≡ false → (a ≡ false) × (b ≡ false)
+neither true b e = absurd (cc)
+neither false b e = (refl, e)
+
+same_items : (S T : Slots) (items : Items) → ((d : Dot) → map.get T d ≡ map.get S d) → changes_slots S items ≡ false → (d : Dot)
+    → map.get (with_slots T items) d ≡ map.get S d
+same_items S T [] same none d = same d
+same_items S T (i ∷ more) same none d =
+    let each = neither (changes_slot (map.get S i.0) i.1) (changes_slots S more) none in
+    same_items S (joined T i) more
+    (λ q. by_dot (λ o. o ≡ map.get S q) T i.0 (joined_slot (map.get T i.0) i.1) q
+    (λ at. ap (λ o. Some (joined_slot o i.1)) (same i.0) ∙ unchanged_slot (map.get S i.0) i.1 each.0 ∙ ap (map.get S) (sym at)) (same q))
+    each.1 d
+
+-- items that change nothing leave each slot
+pub unchanged : (S : Slots) (items : Items) → changes_slots S items ≡ false → (d : Dot) → map.get (with_slots S items) d ≡ map.get S d
+unchanged S items none d = same_items S S items (λ q. refl) none d
+
+-- the first items of a list that changes nothing change nothing
+pub first_unchanged : (S : Slots) (k : ℕ) (items : Items) → changes_slots S items ≡ false → changes_slots S (take k items) ≡ false
+first_unchanged S zero items e = refl
+first_unchanged S (suc k) [] e = refl
+first_unchanged S (suc k) (i ∷ more) e =
+    let each = neither (changes_slot (map.get S i.0) i.1) (changes_slots S more) e in
+    ap (λ t. t || changes_slots S (take k more)) each.0 ∙ first_unchanged S k more each.1
+
+-- ---- what is below
+
+not_held : (b : Body) → (true ≡ true → Held b ≡ skipped) → ⊥
+not_held b h = no (h refl)
+  where
+    no : Held b ≡ skipped → ⊥
+    no e = cc
+
+-- a slot that agrees with what is known, and isn't dropped, agrees with what is below that
+pub fit_lower : (l s : Option Slot) (x : Slot) → SlotBelow l s → SlotAgrees s (Some x) → (is_skipped_slot s ≡ true → x ≡ skipped) → SlotAgrees l (Some x)
+fit_lower None s x below agrees drop = tt
+fit_lower (Some (Held a)) None x below agrees drop = absurd below
+fit_lower (Some (Held a)) (Some (Held c)) (Held y) below agrees drop = below ∙ agrees
+fit_lower (Some (Held a)) (Some (Held c)) Skipped below agrees drop = ap is_passing below ∙ agrees
+fit_lower (Some (Held a)) (Some Skipped) (Held y) below agrees drop = absurd (not_held y drop)
+fit_lower (Some (Held a)) (Some Skipped) Skipped below agrees drop = below
+fit_lower (Some Skipped) None x below agrees drop = absurd below
+fit_lower (Some Skipped) (Some (Held c)) x below agrees drop = absurd below
+fit_lower (Some Skipped) (Some Skipped) (Held y) below agrees drop = absurd (not_held y drop)
+fit_lower (Some Skipped) (Some Skipped) Skipped below agrees drop = tt
+
+kept_drop : (S : Slots) (i : Dot × Slot) → counts S i ≡ true → is_skipped_slot (map.get S i.0) ≡ true → i.1 ≡ skipped
+kept_drop S (d, Held b) e mark = absurd (of (is_skipped S d) e mark)
+  where
+    of : (t : Bool) → not t ≡ true → t ≡ true → ⊥
+    of true e m = absurd (cc)
+    of false e m = absurd (cc)
+kept_drop S (d, Skipped) e mark = refl
+
+-- items that fit, and weren't dropped, fit what is below
+pub fits_lower : (L S : Slots) (items : Items) → SlotsBelow L S → AllFit S items → AllFit L (filter (counts S) items)
+fits_lower L S [] below fit = tt
+fits_lower L S (i ∷ more) below fit = by (counts S i) refl
+  where
+    by : (t : Bool) → counts S i ≡ t → AllFit L (cond t (i ∷ filter (counts S) more) (filter (counts S) more))
+    by true e = (fit_lower (map.get L i.0) (map.get S i.0) i.1 (below i.0) fit.0 (kept_drop S i e), fits_lower L S more below fit.1)
+    by false e = fits_lower L S more below fit.1
+
+both_joined : (l s : Option Slot) (x : Slot) → SlotBelow l s → SlotAgrees s (Some x) → SlotBelow (Some (joined_slot l x)) (Some (joined_slot s x))
+both_joined None None (Held y) below agrees = refl
+both_joined None None Skipped below agrees = tt
+both_joined None (Some (Held c)) (Held y) below agrees = sym agrees
+both_joined None (Some (Held c)) Skipped below agrees = tt
+both_joined None (Some Skipped) (Held y) below agrees = agrees
+both_joined None (Some Skipped) Skipped below agrees = tt
+both_joined (Some (Held a)) None x below agrees = absurd below
+both_joined (Some (Held a)) (Some (Held c)) (Held y) below agrees = below
+both_joined (Some (Held a)) (Some (Held c)) Skipped below agrees = tt
+both_joined (Some (Held a)) (Some Skipped) (Held y) below agrees = below
+both_joined (Some (Held a)) (Some Skipped) Skipped below agrees = tt
+both_joined (Some Skipped) None x below agrees = absurd below
+both_joined (Some Skipped) (Some (Held c)) x below agrees = absurd below
+both_joined (Some Skipped) (Some Skipped) x below agrees = tt
+
+one_joined : (l s : Option Slot) (x : Slot) → SlotBelow l s → SlotAgrees s (Some x) → SlotBelow l (Some (joined_slot s x))
+one_joined None s x below agrees = tt
+one_joined (Some (Held a)) None x below agrees = absurd below
+one_joined (Some (Held a)) (Some (Held c)) (Held y) below agrees = below
+one_joined (Some (Held a)) (Some (Held c)) Skipped below agrees = ap is_passing below ∙ agrees
+one_joined (Some (Held a)) (Some Skipped) x below agrees = below
+one_joined (Some Skipped) None x below agrees = absurd below
+one_joined (Some Skipped) (Some (Held c)) x below agrees = absurd below
+one_joined (Some Skipped) (Some Skipped) x below agrees = tt
 
 -- a slot at one dot keeps the agreement at others
 fits_after : (S : Slots) (d : Dot) (s : Slot) (items : Items) → Avoids d items → AllFit S items → AllFit (map.insert S d s) items
@@ -60,11 +213,41 @@ fits_after S d s (i ∷ items) v a = (
   fits_after S d s items v.1 a.1,
 )
 
+-- what is below stays below with the items, or with those of them that pass a test
+pub items_lower : (p : Dot × Slot → Bool) (L S : Slots) (items : Items) → Differs items → SlotsBelow L S → AllFit S items
+    → SlotsBelow (with_slots L (filter p items)) (with_slots S items)
+items_lower p L S [] differ below fit = below
+items_lower p L S (i ∷ more) differ below fit = by (p i)
+  where
+    later : AllFit (joined S i) more
+    later = fits_after S i.0 (joined_slot (map.get S i.0) i.1) more differ.0 fit.1
+
+    both : SlotsBelow (joined L i) (joined S i)
+    both q = by_dot (λ o. SlotBelow o (map.get (joined S i) q)) L i.0 (joined_slot (map.get L i.0) i.1) q
+        (λ same. subst (λ o. SlotBelow (Some (joined_slot (map.get L i.0) i.1)) o)
+        (sym (ap (map.get (joined S i)) same ∙ get_here S i.0 (joined_slot (map.get S i.0) i.1)))
+        (both_joined (map.get L i.0) (map.get S i.0) i.1 (below i.0) fit.0))
+        (one q)
+      where
+        one : SlotsBelow L (joined S i)
+        one q = by_dot (λ o. SlotBelow (map.get L q) o) S i.0 (joined_slot (map.get S i.0) i.1) q
+            (λ same. subst (λ d. SlotBelow (map.get L d) (Some (joined_slot (map.get S i.0) i.1))) (sym same)
+            (one_joined (map.get L i.0) (map.get S i.0) i.1 (below i.0) fit.0)) (below q)
+
+    above : SlotsBelow L (joined S i)
+    above q = by_dot (λ o. SlotBelow (map.get L q) o) S i.0 (joined_slot (map.get S i.0) i.1) q
+        (λ same. subst (λ d. SlotBelow (map.get L d) (Some (joined_slot (map.get S i.0) i.1))) (sym same)
+        (one_joined (map.get L i.0) (map.get S i.0) i.1 (below i.0) fit.0)) (below q)
+
+    by : (t : Bool) → SlotsBelow (with_slots L (cond t (i ∷ filter p more) (filter p more))) (with_slots (joined S i) more)
+    by true = items_lower p (joined L i) (joined S i) more differ.1 both later
+    by false = items_lower p L (joined S i) more differ.1 above later
+
 -- items that fit are below the slots with them
 pub items_below : (S : Slots) (items : Items) → Differs items → AllFit S items → AllBelow (with_slots S items) items
 items_below S [] v a = tt
 items_below S (i ∷ more) v a =
-    let T = map.insert S i.0 (joined_slot (map.get S i.0) i.1) in
+    let T = joined S i in
     let fit = fits_after S i.0 (joined_slot (map.get S i.0) i.1) more v.0 a.1 in
     let here : SlotBelow (Some i.1) (map.get T i.0) =
     subst (λ o. SlotBelow (Some i.1) o) (sym (get_here S i.0 (joined_slot (map.get S i.0) i.1))) (join_right (map.get S i.0) i.1 a.0) in
@@ -75,49 +258,11 @@ pub below_more : (S T : Slots) (items : Items) → SlotsBelow S T → AllBelow S
 below_more S T [] h all = tt
 below_more S T (i ∷ more) h all = (below_trans (Some i.1) (map.get S i.0) (map.get T i.0) all.0 (h i.0), below_more S T more h all.1)
 
-pub below_first : (U : Slots) (k : ℕ) (items : Items) → AllBelow U items → AllBelow U (take k items)
-below_first U zero items all = tt
-below_first U (suc k) [] all = tt
-below_first U (suc k) (i ∷ more) all = (all.0, below_first U k more all.1)
-
--- ---- the number of known dots
-
-no_less : (b : Bool) (n : ℕ) → n ≤ cond b n (n + 1)
-no_less true n = omega arith
-no_less false n = omega arith
-
-insert_no_less : (S : Slots) (d : Dot) (s : Slot) → map.len S ≤ map.len (map.insert S d s)
-insert_no_less S d s = subst (λ n. map.len S ≤ n) (sym (map.len-insert dot_cmp_total S d s)) (no_less (map.contains_key S d) (map.len S))
-
-with_no_less : (S : Slots) (items : Items) → map.len S ≤ map.len (with_slots S items)
-with_no_less S [] = omega arith
-with_no_less S (i ∷ more) =
-    omega (arith, insert_no_less S i.0 (joined_slot (map.get S i.0) i.1), with_no_less (map.insert S i.0 (joined_slot (map.get S i.0) i.1)) more)
-
--- items at known dots, which leave their number, bring no fact
-pub nothing_new : (S : Slots) (items : Items) → map.len S + 0 ≡ map.len (with_slots S items)
-    → (d : Dot) (b : Body) → map.get (with_slots S items) d ≡ Some (Held b) → map.get S d ≡ Some (Held b)
-nothing_new S [] size d b at = at
-nothing_new S (i ∷ more) size d b at =
-    let less = insert_no_less S i.0 (joined_slot (map.get S i.0) i.1) in
-    let rest = with_no_less (map.insert S i.0 (joined_slot (map.get S i.0) i.1)) more in
-    let there = nothing_new (map.insert S i.0 (joined_slot (map.get S i.0) i.1)) more (omega (arith, less, rest, size)) d b at in
-    by_dot (λ o. o ≡ Some (Held b) → map.get S d ≡ Some (Held b)) S i.0 (joined_slot (map.get S i.0) i.1) d
-    (λ same e. subst (λ q. map.get S q ≡ Some (Held b)) (sym same) (known (map.get S i.0) refl e)) (λ e. e) there
+-- of items below slots, those that pass a test are
+pub below_some : (U : Slots) (p : Dot × Slot → Bool) (items : Items) → AllBelow U items → AllBelow U (filter p items)
+below_some U p [] all = tt
+below_some U p (i ∷ more) all = by (p i)
   where
-    new : map.get S i.0 ≡ None → map.len (map.insert S i.0 (joined_slot (map.get S i.0) i.1)) ≡ map.len S + 1
-    new none = len_new S i.0 (joined_slot (map.get S i.0) i.1) none
-
-    known : (o : Option Slot) → map.get S i.0 ≡ o → Some (joined_slot (map.get S i.0) i.1) ≡ Some (Held b) → map.get S i.0 ≡ Some (Held b)
-    known None none e = absurd (omega (arith, new none, with_no_less (map.insert S i.0 (joined_slot (map.get S i.0) i.1)) more, size))
-    known (Some s) is e = elim (from_joining (map.get S i.0) i.1 b e) [
-      | inl was ↦ was
-      | inr mark ↦ was_held s is mark e
-    ]
-      where
-        was_held : (s : Slot) → map.get S i.0 ≡ Some s → i.1 ≡ Held b → Some (joined_slot (map.get S i.0) i.1) ≡ Some (Held b) → map.get S i.0 ≡ Some (Held b)
-        was_held (Held x) at mark e = at ∙ sym (ap (λ o. Some (joined_slot o i.1)) at ∙ ap (λ t. Some (joined_slot (Some (Held x)) t)) mark) ∙ e
-        was_held Skipped at mark e = absurd (skipped_clash (sym (ap (λ o. Some (joined_slot o i.1)) at) ∙ e))
-          where
-            skipped_clash : Some Skipped ≡ Some (Held b) → ⊥
-            skipped_clash e = cc
+    by : (t : Bool) → AllBelow U (cond t (i ∷ filter p more) (filter p more))
+    by true = (all.0, below_some U p more all.1)
+    by false = below_some U p more all.1

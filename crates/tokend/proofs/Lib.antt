@@ -7,9 +7,11 @@ pub mod FactsLaws
 pub mod Growing
 pub mod KeptLogs
 pub mod KeptSlots
+pub mod LogBundles
 pub mod Loads
 pub mod OneSet
 pub mod Runs
+pub mod ServiceLogs
 pub mod Services
 pub mod ScriptEvents
 pub mod Shows

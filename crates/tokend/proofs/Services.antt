@@ -1,19 +1,23 @@
 -- What a service has done, from what its parts do. Key results:
 --   listen_faults   a fault of the port or the output keeps a service from its first connection
---   with_some_log   connections with a log are connections with some log
+--   without_log     connections that were served without a log
+--   with_log        connections that were served with the log of a name
 --   has_opened      a service has run, from the prune on
 --   has_run         a service has run, from its start on
 --   service_run     a service has run, from its arguments on
-use Rattle.std.proofs.Common.{ℕ, Bool, Option, List, Result, Ok, Err}
-use Rattle.std.specs.Prelude.{IfErr, OnOk}
+--   opening_left    what a fault leaves of the output
+use Rattle.std.proofs.Common.{◌≡◌, ℕ, Bool, Option, Some, None, List, Result, Ok, Err, subst, sym}
+use Rattle.std.specs.Prelude.{IfErr, OnOk, String, string_bytes}
 use Rattle.rand_chacha.specs.ChaCha.{ChaCha}
 use Rattle.tk_edge.specs.EdgeFields.{EdgeFields}
 use Rattle.tk_edge.specs.Told.{Change}
 use Rattle.tk_region.specs.RegionFields.{RegionFields}
-use Rattle.tokend.specs.Connection.{ServesAll, ServesWithLog}
+use Rattle.tokend.specs.Connection.{Course, ServesLogged, ServesWith}
 use Rattle.tokend.specs.ServiceRun.{HasOpened, HasRun, IsServiceRun, with_region}
-use Rattle.tokend.specs.Serving.{Announces, IsListenFault, IsStartFault}
-use Rattle.tokend.specs.Starting.{IsStart, LoadsOld, PrunesOld}
+use Rattle.tokend.specs.Serving.{Announces, IsListenFault, IsStartFault, LeavesOpening, LeavesService}
+use Rattle.tokend.specs.Starting.{IsEmptyLog, IsStart, LoadsOld, PrunesOld}
+use Rattle.tokend.specs.Telling.{Writing}
+use Rattle.tokend.proofs.Runs.{begun_less}
 use Rattle.tokend.specs.declared.fault.Fault.{Fault}
 use Rattle.tokend.specs.declared.fault.Fault.TheVariants.{BadLine, BadLogFile, BadSeedFile, CannotListen, CannotOpen, CannotRead, CannotReadFile, Facts, Memory, Output, ScriptTooLong, SocketFailed, Words}
 use Rattle.tokend.specs.declared.options.Service.{Service}
@@ -37,27 +41,44 @@ pub listen_faults : {T : Type 0} (service : Service) (r : Result T Fault) → If
 listen_faults service (Ok x) h = tt
 listen_faults service (Err fault) h = listen_fault service fault h
 
-pub with_some_log : {T : Type 0} (words : ChaCha) (requests : Option ℕ) (log_taken : Bool) (edge end : EdgeFields) (log log_after told told_after : Option (List ℕ)) (r : Result T Fault)
-    → OnOk r (ServesAll words requests log_taken (record { edge = edge; log = log; faults = told }) (record { edge = end; log = log_after; faults = told_after }))
-    → OnOk r (ServesWithLog words requests log_taken edge told end told_after)
-with_some_log words requests log_taken edge end log log_after told told_after (Ok x) h = (record { before = log; after = log_after }, h)
-with_some_log words requests log_taken edge end log log_after told told_after (Err fault) h = tt
+module _ {L : Type 0} (kept : List ℕ → Option (List ℕ)) (holds : L → Option (List ℕ)) (opens : List ℕ → L → Type 0) where
+  -- connections that were served without a log
+  pub without_log : {A T : Type 0} (name : Option (String A)) (words : ChaCha) (requests : Option ℕ) (log_taken : Bool) (s : Course) (r : Result T Fault) → name ≡ None
+      → OnOk r (ServesWith words requests log_taken s (record { before = None; after = None })) → OnOk r (ServesLogged holds opens name words requests log_taken s)
+  without_log None words requests log_taken s (Ok x) none h = h
+  without_log (Some name) words requests log_taken s (Ok x) none h = absurd (cc)
+  without_log name words requests log_taken s (Err fault) none h = tt
 
-pub has_opened : {T : Type 0} (service : Service) (dropped : ℕ) (start : EdgeFields) (words : ChaCha) (pruned : Option ℕ) (region : RegionFields) (end : EdgeFields) (output faults : Change) (r : Result T Fault)
-    → PrunesOld service.prune start.region (Ok pruned) region → OnOk r (Announces (record { dropped = dropped; pruned = pruned }) service.port output.before output.after)
-    → OnOk r (ServesWithLog words service.requests service.log_taken (with_region start region) faults.before end faults.after)
-    → OnOk r (HasOpened service dropped start words output faults)
-has_opened service dropped start words pruned region end output faults (Ok x) prunes announced served =
-    record { pruned = pruned; region = region; prunes = prunes; announced = announced; end = end; served = served }
-has_opened service dropped start words pruned region end output faults (Err fault) prunes announced served = tt
+  -- connections that were served with the log of this name
+  pub with_log : {A T : Type 0} (name : Option (String A)) (file : String A) (words : ChaCha) (requests : Option ℕ) (log_taken : Bool) (s : Course) (opened closed : L) (r : Result T Fault) → name ≡ Some file
+      → opens (string_bytes file) opened → IsEmptyLog (holds opened)
+      → OnOk r (ServesWith words requests log_taken s (record { before = holds opened; after = holds closed })) → OnOk r (ServesLogged holds opens name words requests log_taken s)
+  with_log name file words requests log_taken s opened closed (Ok x) is named empty h =
+      subst (λ n. ServesLogged holds opens n words requests log_taken s) (sym is) (opened, closed, named, empty, h)
+  with_log name file words requests log_taken s opened closed (Err fault) is named empty h = tt
 
-pub has_run : {T : Type 0} (service : Service) (start : EdgeFields) (words : ChaCha) (dropped : ℕ) (region : RegionFields) (output faults : Change) (r : Result T Fault)
-    → LoadsOld service.load start.region (Ok dropped) region → OnOk r (HasOpened service dropped (with_region start region) words output faults)
-    → OnOk r (HasRun service start words output faults)
-has_run service start words dropped region output faults (Ok x) loaded opened = record { dropped = dropped; region = region; loaded = loaded; opened = opened }
-has_run service start words dropped region output faults (Err fault) loaded opened = tt
+  pub has_opened : {T : Type 0} (service : Service) (dropped : ℕ) (start : EdgeFields) (words : ChaCha) (pruned : Option ℕ) (region : RegionFields) (end : EdgeFields) (output : Change) (faults : Writing) (r : Result T Fault)
+      → PrunesOld service.prune start.region (Ok pruned) region → OnOk r (Announces (record { dropped = dropped; pruned = pruned }) service.port output.before output.after)
+      → OnOk r (ServesLogged holds opens service.log words service.requests service.log_taken (record { start = with_region start region; end = end; faults = faults }))
+      → OnOk r (HasOpened holds opens service dropped start words output faults)
+  has_opened service dropped start words pruned region end output faults (Ok x) prunes announced served =
+      record { pruned = pruned; region = region; prunes = prunes; announced = announced; end = end; served = served }
+  has_opened service dropped start words pruned region end output faults (Err fault) prunes announced served = tt
 
-pub service_run : {T : Type 0} (service : Service) (edge : EdgeFields) (words : ChaCha) (output faults : Change) (r : Result T Fault)
-    → IsStart service edge words → OnOk r (HasRun service edge words output faults) → OnOk r (IsServiceRun service output faults)
-service_run service edge words output faults (Ok x) start h = (edge, words, start, h)
-service_run service edge words output faults (Err fault) start h = tt
+  pub has_run : {T : Type 0} (service : Service) (start : EdgeFields) (words : ChaCha) (dropped : ℕ) (region : RegionFields) (output : Change) (faults : Writing) (r : Result T Fault)
+      → LoadsOld kept service.load start.region (Ok dropped) region → OnOk r (HasOpened holds opens service dropped (with_region start region) words output faults)
+      → OnOk r (HasRun kept holds opens service start words output faults)
+  has_run service start words dropped region output faults (Ok x) loaded opened = record { dropped = dropped; region = region; loaded = loaded; opened = opened }
+  has_run service start words dropped region output faults (Err fault) loaded opened = tt
+
+  pub service_run : {T : Type 0} (service : Service) (edge : EdgeFields) (words : ChaCha) (output : Change) (faults : Writing) (r : Result T Fault)
+      → IsStart service edge words → OnOk r (HasRun kept holds opens service edge words output faults) → OnOk r (IsServiceRun kept holds opens service output faults)
+  service_run service edge words output faults (Ok x) start h = record { edge = edge; words = words; start = start; run = h }
+  service_run service edge words output faults (Err fault) start h = tt
+
+-- what a fault leaves of the output, by what was dropped of the old log
+pub opening_left : {T : Type 0} (kept : List ℕ → Option (List ℕ)) (service : Service) (start region : RegionFields) (dropped : ℕ) (old new : Option (List ℕ)) (r : Result T Fault)
+    → LoadsOld kept service.load start (Ok dropped) region → IfErr r (λ fault. LeavesOpening service dropped fault old new)
+    → IfErr r (λ fault. LeavesService kept service start fault old new)
+opening_left kept service start region dropped old new (Ok x) loaded h = tt
+opening_left kept service start region dropped old new (Err fault) loaded h = begun_less _ _ fault old new (λ begun. (dropped, region, loaded, begun)) h

@@ -1,5 +1,5 @@
 -- What the program does if clap refuses the arguments, by the kind of clap's error.
-use Rattle.std.proofs.Common.{◌≡◌, ℕ, true, false, List, Option, Result, Ok, Err, subst, sym, ◌∙◌, inl, inr}
+use Rattle.std.proofs.Common.{◌≡◌, ℕ, true, false, List, Option, Result, Ok, Err, subst, sym, refl, ◌∙◌, inl, inr}
 use Rattle.std.specs.Prelude.{◌⊎◌, ◌≢◌, Bool, IfErr, OnOk, if◌then◌else◌}
 use Rattle.std.specs.Io.KnownBytes.{Keeps}
 use Rattle.clap.specs.Words.{Text, IsAmong, fault_of, kind_of, subcommand_of}
@@ -9,6 +9,8 @@ use Rattle.clap.specs.declared.error.kind.ErrorKind.TheVariants.{DisplayHelp, Di
 use Rattle.tokend.specs.CommandLine.{tokend_app}
 use Rattle.tokend.specs.ProgramRun.{IsDone, IsFaultFor, Leaves}
 use Rattle.tokend.specs.Task.{AsksToShow, IsNoShow, IsRefusalOf, lacks_log, missing_kind}
+use Rattle.tk_edge.specs.Told.{Change}
+use Rattle.tokend.specs.Telling.{Writer}
 use Rattle.tokend.specs.declared.fault.Fault.{Fault}
 use Rattle.tokend.specs.declared.fault.Fault.TheVariants.{Memory, Output, Words}
 
@@ -66,10 +68,11 @@ asks_to_show words kind ends (inr version) = inr (among words kind DisplayVersio
     not_missing : DisplayVersion ≡ MissingSubcommand → ⊥
     not_missing e = absurd (cc)
 
-pub shown_done : {T : Type 0} (words : List Text) (kind : ErrorKind) (r : Result T Fault) (input old new : Option (List ℕ)) → Ends words kind
-    → OnOk r (Shows kind) → OnOk r (IsDone words input old new)
-shown_done words kind (Ok x) input old new ends shows = inr (inr (asks_to_show words kind ends shows))
-shown_done words kind (Err fault) input old new ends shows = tt
+pub shown_done : {L T : Type 0} (kept : List ℕ → Option (List ℕ)) (holds : L → Option (List ℕ)) (opens : List ℕ → L → Type 0) (words : List Text) (kind : ErrorKind) (r : Result T Fault)
+    (input : Option (List ℕ)) (output : Change) (writer : Writer) → Ends words kind → OnOk r (Shows kind)
+    → OnOk r (IsDone kept holds opens words input output (record { before = writer; after = writer }))
+shown_done kept holds opens words kind (Ok x) input output writer ends shows = inr (inr (inr (asks_to_show words kind ends shows), refl))
+shown_done kept holds opens words kind (Err fault) input output writer ends shows = tt
 
 pub refused_fault : {T : Type 0} (words : List Text) (error : Error) (r : Result T Fault) (input old new : Option (List ℕ)) → Ends words (kind_of error)
     → IfErr r (Refuses error old new) → IfErr r (IsFaultFor words input)
@@ -83,13 +86,13 @@ refused_fault words error (Err fault) input old new ends (inr h) = of ends h.0
     of (inl memory) (inr told) = absurd (told.1 memory)
     of (inr refusal) (inr told) = subst (IsFaultFor words input) (sym told.0) (refusal, told.2)
 
-pub refused_left : {T : Type 0} (words : List Text) (error : Error) (r : Result T Fault) (input old new : Option (List ℕ)) → Ends words (kind_of error)
-    → IfErr r (Refuses error old new) → IfErr r (λ fault. Leaves words input fault old new)
-refused_left words error (Ok x) input old new ends h = tt
-refused_left words error (Err fault) input old new ends (inl h) =
-    subst (λ f. Leaves words input f old new) (sym h.0) (inr (inr (asks_to_show words (kind_of error) ends h.1)))
-refused_left words error (Err fault) input old new ends (inr h) = of h.0
+pub refused_left : {T : Type 0} (kept : List ℕ → Option (List ℕ)) (words : List Text) (error : Error) (r : Result T Fault) (input old new : Option (List ℕ)) → Ends words (kind_of error)
+    → IfErr r (Refuses error old new) → IfErr r (λ fault. Leaves kept words input fault old new)
+refused_left kept words error (Ok x) input old new ends h = tt
+refused_left kept words error (Err fault) input old new ends (inl h) =
+    subst (λ f. Leaves kept words input f old new) (sym h.0) (inr (inr (asks_to_show words (kind_of error) ends h.1)))
+refused_left kept words error (Err fault) input old new ends (inr h) = of h.0
   where
-    of : (fault ≡ Memory) ⊎ ((fault ≡ Words error) × (kind_of error ≢ OutOfMemory) × IsNoShow (kind_of error)) → Leaves words input fault old new
-    of (inl memory) = subst (λ f. Leaves words input f old new) (sym memory) h.1
-    of (inr told) = subst (λ f. Leaves words input f old new) (sym told.0) h.1
+    of : (fault ≡ Memory) ⊎ ((fault ≡ Words error) × (kind_of error ≢ OutOfMemory) × IsNoShow (kind_of error)) → Leaves kept words input fault old new
+    of (inl memory) = subst (λ f. Leaves kept words input f old new) (sym memory) h.1
+    of (inr told) = subst (λ f. Leaves kept words input f old new) (sym told.0) h.1

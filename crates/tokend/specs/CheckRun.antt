@@ -21,6 +21,7 @@ use Rattle.tk_region.specs.SettingsFields.{SettingsFields, greatest_access, grea
 use Rattle.tk_region.specs.SettingsFields.{greatest_code, greatest_family, greatest_refresh}
 use Rattle.tokend.specs.FactsRun.{IsBadSource, IsUnreadSource, TellsDropped, known_of, with_cut}
 use Rattle.tokend.specs.Loading.{Loads}
+use Rattle.tokend.specs.Telling.{Writing}
 use Rattle.tokend.specs.declared.fault.Fault.{Fault}
 use Rattle.tokend.specs.declared.fault.Fault.TheVariants.{Facts, Output}
 use Rattle.tokend.specs.declared.fault.FactsFault.TheVariants as facts
@@ -109,7 +110,8 @@ count_text region = loaded_text (facts_of.len (held_facts region.facts))
 
 -- all sources can be loaded: the number of facts was printed, and that of bytes that are dropped
 -- at the ends is written
-pub record ChecksFacts (c : Check) (input : Option (List ℕ)) (output faults : Change) : Type 0 where
+pub record ChecksFacts (c : Check) (input : Option (List ℕ)) (output : Change)
+    (faults : Writing) : Type 0 where
   pub cut : ℕ
   pub region : RegionFields
   pub checks : Checks c input (Ok cut) region

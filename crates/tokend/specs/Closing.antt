@@ -13,9 +13,9 @@ use Rattle.tokend.specs.declared.closing.ClosingStream.{ClosingStream}
 abbrev pub unknown_peer : Finds ClosingStream
 unknown_peer _ _ _ _ = Unit {0}
 
--- all connections were looked at, at some moment
-abbrev pub LooksAtAll : List (Held ClosingStream) → List (Held ClosingStream) → Type 0
-LooksAtAll old new = (now : ℕ) × AreLookedAt unknown_peer now old new
+-- all connections were looked at, at some moment; `finds` says what a look may find
+abbrev pub LooksAtAll : {P : Type 0} → Finds P → List (Held P) → List (Held P) → Type 0
+LooksAtAll finds old new = (now : ℕ) × AreLookedAt finds now old new
 
 -- one more connection was set aside, or nothing changed
 abbrev pub MaySetAside : List (Held ClosingStream) → List (Held ClosingStream) → Type 0
@@ -25,5 +25,5 @@ MaySetAside old new = (new ≡ old)
 
 -- before an accept all connections were looked at; then one may have been set aside
 abbrev pub LooksAndAdds : List (Held ClosingStream) → List (Held ClosingStream) → Type 0
-LooksAndAdds old new = (looked : List (Held ClosingStream)) × LooksAtAll old looked
+LooksAndAdds old new = (looked : List (Held ClosingStream)) × LooksAtAll unknown_peer old looked
     × MaySetAside looked new

@@ -7,7 +7,7 @@
 --   so_many         how many connections are served
 --   AreConnections  connections one after the other, by their results
 --   ServesAll       as many connections as requested were served
---   ServesWithLog   as many connections as requested were served, with some log
+--   ServesLogged    as many connections as requested were served, with the log of a name
 use Rattle.std.specs.Prelude.{
   ◌≡◌,
   ◌⊎◌,
@@ -22,15 +22,16 @@ use Rattle.std.specs.Prelude.{
   ◌∷◌,
   length,
   Option,
+  Some,
   None,
+  String,
+  string_bytes,
   Result,
   Ok,
   Err,
 }
 use Rattle.std.specs.Option.{unwrap_or}
-use Rattle.std.specs.Io.KnownBytes.{Keeps}
 use Rattle.rand_chacha.specs.ChaCha.{ChaCha}
-use Rattle.tk_put.specs.Put.{AppendsFront}
 use Rattle.tk_edge.specs.EdgeFields.{EdgeFields}
 use Rattle.tk_edge.specs.Served.{IsServed, IsTurnedAway}
 use Rattle.tk_edge.specs.Told.{Change}
@@ -39,6 +40,8 @@ use Rattle.tk_edge.specs.declared.tell.Fault.{Fault}
 use Rattle.tk_edge.specs.declared.tell.Fault.TheVariants.{Read}
 use Rattle.tokend.specs.Draw.{six, past_six}
 use Rattle.tokend.specs.Serving.{connection_fault}
+use Rattle.tokend.specs.Starting.{IsEmptyLog}
+use Rattle.tokend.specs.Telling.{Writer, Writes, Writing}
 
 -- the change of a socket, whose bytes are unknown
 abbrev pub unknown : Change
@@ -64,17 +67,17 @@ pub record IsConnection (now : ℕ) (words : List ℕ) (log_taken : Bool) (old n
   pub shut : old.sealed ≡ true → (new ≡ old) × (log.after ≡ log.before) × IsShutOut result
   pub sync : new.sync ≡ old.sync
 
--- a fault's line was written, or its beginning if the writer failed; nothing is written without a
--- fault
-abbrev pub Told : Result Served Fault → Option (List ℕ) → Option (List ℕ) → Type 0
-Told (Ok served) old new = Keeps old new
-Told (Err fault) old new = AppendsFront old new (connection_fault fault)
+-- a fault's line was written, or its beginning by a writer that failed; nothing is written without
+-- a fault
+abbrev pub Told : Result Served Fault → Writer → Writer → Type 0
+Told (Ok served) old new = new ≡ old
+Told (Err fault) old new = Writes old new (connection_fault fault)
 
--- an edge, with the bytes of its log and of the lines about faults
+-- an edge, with the bytes of its log and the writer of the lines about faults
 pub record Running : Type 0 where
   pub edge : EdgeFields
   pub log : Option (List ℕ)
-  pub faults : Option (List ℕ)
+  pub faults : Writer
 
 -- a connection was served at some moment
 abbrev pub Serves : List ℕ → Bool → Running → Result Served Fault → Running → Type 0
@@ -101,10 +104,27 @@ ServesAll words requests log_taken old new =
     (ends : List (Result Served Fault)) × (length ends ≡ so_many requests)
     × AreConnections words log_taken old ends new
 
--- as many connections as requested were served, with some log
-abbrev pub ServesWithLog : ChaCha → Option ℕ → Bool → EdgeFields → Option (List ℕ) → EdgeFields
-    → Option (List ℕ) → Type 0
-ServesWithLog words requests log_taken old told new told_after =
-    (log : Change) × ServesAll words requests log_taken
-    (record { edge = old; log = log.before; faults = told })
-    (record { edge = new; log = log.after; faults = told_after })
+-- An edge and the writer of the lines about faults, before and after its service.
+pub record Course : Type 0 where
+  pub start : EdgeFields
+  pub end : EdgeFields
+  pub faults : Writing
+
+-- as many connections as requested were served, with this log
+abbrev pub ServesWith : ChaCha → Option ℕ → Bool → Course → Change → Type 0
+ServesWith words requests log_taken s log =
+    ServesAll words requests log_taken
+    (record { edge = s.start; log = log.before; faults = s.faults.before })
+    (record { edge = s.end; log = log.after; faults = s.faults.after })
+
+-- As many connections as requested were served: with the log that was opened by this name, which
+-- was empty, or without a log, if there is no name. `holds` has the bytes of a log, if they are
+-- known, and `opens` which log a name opens.
+abbrev pub ServesLogged : {A L : Type 0} → (L → Option (List ℕ)) → (List ℕ → L → Type 0)
+    → Option (String A) → ChaCha → Option ℕ → Bool → Course → Type 0
+ServesLogged holds opens None words requests log_taken s =
+    ServesWith words requests log_taken s (record { before = None; after = None })
+ServesLogged {L = L} holds opens (Some name) words requests log_taken s =
+    (opened : L) × (closed : L) × opens (string_bytes name) opened × IsEmptyLog (holds opened)
+    × ServesWith words requests log_taken s
+    (record { before = holds opened; after = holds closed })

@@ -17,11 +17,11 @@ use Rattle.std.specs.Prelude.{if◌then◌else◌}
 use Rattle.std.specs.Io.KnownBytes.{Keeps}
 use Rattle.std.specs.Str.{bytes_eq}
 use Rattle.clap.specs.Words.{Text}
-use Rattle.tk_put.specs.Put.{AppendsFront}
 use Rattle.tk_edge.specs.Told.{Change}
 use Rattle.tk_listing.specs.Printing.{PrintsInput}
 use Rattle.tk_listing.specs.declared.print.PrintFault.{PrintFault}
 use Rattle.tk_listing.specs.declared.print.PrintFault.TheVariants as print
+use Rattle.tokend.specs.Telling.{Writes, Writing}
 use Rattle.tokend.specs.declared.fault.Fault.{Fault}
 use Rattle.tokend.specs.declared.fault.Fault.TheVariants.{Facts, Output}
 use Rattle.tokend.specs.declared.fault.FactsFault.TheVariants as facts
@@ -99,21 +99,22 @@ PrintsSources s input result old new =
 abbrev pub cut_text : ℕ → List ℕ
 cut_text cut = codes "tokend: dropped " ++ (decimal cut ++ codes " bytes\n")
 
--- if bytes are dropped, the line of their number is written, or a beginning of it
-abbrev pub TellsDropped : ℕ → Change → Type 0
+-- if bytes are dropped, the line of their number is written, or a beginning of it by a writer that
+-- failed; otherwise nothing is written
+abbrev pub TellsDropped : ℕ → Writing → Type 0
 TellsDropped cut told =
-    (cut ≡ 0 → Keeps told.before told.after)
-    × (0 < cut → AppendsFront told.before told.after (cut_text cut))
+    (cut ≡ 0 → told.after ≡ told.before)
+    × (0 < cut → Writes told.before told.after (cut_text cut))
 
 -- all sources are printed, the output is flushed, and the number of bytes that are dropped at their
 -- ends is written
-pub record PrintsFacts (s : Sources) (input : Option (List ℕ)) (output faults : Change) : Type 0
-  where
-    pub cut : ℕ
-    pub mid : Option (List ℕ)
-    pub prints : PrintsSources s input (Ok cut) output.before mid
-    pub kept : Keeps mid output.after
-    pub told : TellsDropped cut faults
+pub record PrintsFacts (s : Sources) (input : Option (List ℕ)) (output : Change)
+    (faults : Writing) : Type 0 where
+  pub cut : ℕ
+  pub mid : Option (List ℕ)
+  pub prints : PrintsSources s input (Ok cut) output.before mid
+  pub kept : Keeps mid output.after
+  pub told : TellsDropped cut faults
 
 -- the fault of a source ended the printing; the output may fail at any time
 abbrev pub IsEnd : Result ℕ Fault → Fault → Type 0

@@ -1,53 +1,160 @@
--- A log that gets the bundles taken in has all that its region holds (own).
+-- A log that gets the bundles taken in (own): it has all that its region made and took in since its
+-- start, and it is loaded whole behind the old log.
 --   IsHeldBy      each fact of one region is held by another, or skipped there
+--   AreLogged     bytes are these bundles, and perhaps the beginning of one more
+--   AreAmong      each bundle of one list is in another
 --   HasLogged     a region has served connections, and what its log has then
---   LogKeepsAll   a region that has loaded what another loaded, and that one's log, lacks none of
---                 its facts
-use Rattle.std.specs.Prelude.{◌≡◌, ℕ, true, List, [], ◌++◌, Option, Some, Result, Ok}
-use Rattle.std.specs.FinMap as sets
+--   KeepsSince    a region knows what another made and took in since its start
+--   LogKeepsAll   a region that has loaded the bundles of both logs, in any order, knows that
+--   LogLoads      the log is loaded behind the old log, and nothing in it is refused
+--   ServiceLogs   a service with a log has written such a log
+use Rattle.std.specs.Prelude.{◌≡◌, ◌≢◌, ◌⊎◌, ⊤, ℕ, ◌≤◌, true, max, List, [], ◌∷◌, ◌++◌}
+use Rattle.std.specs.Prelude.{Option, None, Some, IsSome, Result, Ok, Err}
+use Rattle.std.specs.FinMap as map
 use Rattle.rand_chacha.specs.ChaCha.{ChaCha}
 use Rattle.tk_handle.specs.declared.dot.Dot.{Dot}
 use Rattle.tk_fact.specs.declared.body.Body.{Body}
 use Rattle.tk_store.specs.SlotOrder.{SlotBelow}
-use Rattle.tk_store.specs.Slots.{Held}
+use Rattle.tk_store.specs.Slots.{Held, Skipped}
 use Rattle.tk_store.specs.StoreFields.{empty_store, held_facts}
+use Rattle.tk_bundle.specs.BundleFields.{BundleFields}
+use Rattle.tk_bundle.specs.Front.{IsCut}
 use Rattle.tk_region.specs.RegionFields.{RegionFields}
 use Rattle.tk_edge.specs.declared.edge.Served.{Served}
 use Rattle.tk_edge.specs.declared.tell.Fault.{Fault}
+use Rattle.tk_edge.specs.declared.tell.Fault.TheVariants as fault
 use Rattle.tokend.specs.Connection.{AreConnections}
-use Rattle.tokend.specs.Loading.{Loads}
+use Rattle.tokend.specs.Loading.{AreBundles, Loads, TakesEach, log_bytes}
+use Rattle.tk_edge.specs.Told.{Change}
+use Rattle.tokend.specs.ServiceRun.{IsServiceRun}
 use Rattle.tokend.specs.Starting.{PrunesOld, edge_of}
+use Rattle.tokend.specs.Telling.{Writer, Writing}
+use Rattle.tokend.specs.declared.load.LoadFault.{LoadFault}
+use Rattle.tokend.specs.declared.load.LoadFault.TheVariants as load
+use Rattle.tokend.specs.declared.options.Service.{Service}
 
 -- each fact of the first region is held by the second, or its dot is skipped there
 abbrev pub IsHeldBy : RegionFields → RegionFields → Type 0
 IsHeldBy a b =
-    (d : Dot) (body : Body) → sets.get (held_facts a.facts) d ≡ Some body
-    → SlotBelow (Some (Held body)) (sets.get b.facts.slots d)
+    (d : Dot) (body : Body) → map.get (held_facts a.facts) d ≡ Some body
+    → SlotBelow (Some (Held body)) (map.get b.facts.slots d)
 
--- A region without facts loaded an old log whole, was pruned if that was requested, and has served
--- connections over an edge whose log gets the bundles taken in. The edge isn't sealed, and the log,
--- which was empty, has these bytes.
-pub record HasLogged (old : List ℕ) (region : RegionFields) (log : List ℕ) : Type 0 where
-  pub first : RegionFields
-  pub empty : first.facts ≡ empty_store
-  pub full : RegionFields
-  pub loaded : Loads first old (Ok 0) full
-  pub moment : Option ℕ
-  pub count : Option ℕ
-  pub start : RegionFields
-  pub pruned : PrunesOld moment full (Ok count) start
-  pub words : ChaCha
-  pub faults : Option (List ℕ)
-  pub ends : List (Result Served Fault)
-  pub told : Option (List ℕ)
-  pub served : AreConnections words true
-      (record { edge = edge_of start; log = Some []; faults = faults }) ends
-      (record { edge = edge_of region; log = Some log; faults = told })
+-- the bytes are nothing, or the beginning of a bundle that was cut
+abbrev pub IsTorn : List ℕ → Type 0
+IsTorn bytes = (bytes ≡ []) ⊎ IsCut bytes
 
--- a region that has loaded what another loaded, and behind it that one's log, holds each fact that
--- the other held, or has skipped it
+-- the bytes are these bundles, one behind the other, and perhaps the beginning of one more
+pub record AreLogged (bytes : List ℕ) (bundles : List BundleFields) : Type 0 where
+  pub fit : AreBundles bundles
+  pub rest : List ℕ
+  pub parts : bytes ≡ log_bytes bundles ++ rest
+  pub torn : IsTorn rest
+
+-- the bundle is in the list
+abbrev pub IsIn : BundleFields → List BundleFields → Type 0
+IsIn b [] = ⊥
+IsIn b (x ∷ xs) = (x ≡ b) ⊎ IsIn b xs
+
+-- each bundle of the first list is in the second
+abbrev pub AreAmong : List BundleFields → List BundleFields → Type 0
+AreAmong [] all = Unit {0}
+AreAmong (b ∷ more) all = IsIn b all × AreAmong more all
+
+-- A region without facts took in the bundles of an old log, was pruned if that was requested, and
+-- has served connections over an edge whose log gets the bundles taken in. The edge isn't sealed,
+-- and the log, which was empty, has these bytes.
+pub record HasLogged (olds : List BundleFields) (region : RegionFields) (log : List ℕ) : Type 0
+  where
+    pub first : RegionFields
+    pub empty : first.facts ≡ empty_store
+    pub full : RegionFields
+    pub fit : AreBundles olds
+    pub loaded : TakesEach first olds full
+    pub moment : Option ℕ
+    pub count : Option ℕ
+    pub start : RegionFields
+    pub pruned : PrunesOld moment full (Ok count) start
+    pub words : ChaCha
+    pub faults : Writer
+    pub ends : List (Result Served Fault)
+    pub told : Writer
+    pub served : AreConnections words true
+        (record { edge = edge_of start; log = Some []; faults = faults }) ends
+        (record { edge = edge_of region; log = Some log; faults = told })
+
+-- What a region held, another holds or has skipped. What it skipped since its start, the other has
+-- skipped. Its horizon is that of its start, or isn't later than the other's.
+pub record KeepsSince (start region loaded : RegionFields) : Type 0 where
+  pub held : IsHeldBy region loaded
+  pub marks : (d : Dot) → map.get region.facts.slots d ≡ Some Skipped
+      → (map.get start.facts.slots d ≡ Some Skipped)
+      ⊎ (map.get loaded.facts.slots d ≡ Some Skipped)
+  pub horizon : region.facts.horizon ≤ max start.facts.horizon loaded.facts.horizon
+
+-- a region that has loaded the bundles of an old log and of the log that was written behind it, in
+-- any order, whatever else was among them and if the end is torn, knows what the writer knew
 abbrev pub LogKeepsAll : Type 0
 LogKeepsAll =
-    (old : List ℕ) (region : RegionFields) (log : List ℕ) → HasLogged old region log
-    → (new loaded : RegionFields) (dropped : ℕ) → Loads new (old ++ log) (Ok dropped) loaded
-    → IsHeldBy region loaded
+    (olds : List BundleFields) (region : RegionFields) (log : List ℕ)
+    → (h : HasLogged olds region log)
+    → (news : List BundleFields) → AreLogged log news
+    → (bytes : List ℕ) (all : List BundleFields) → AreLogged bytes all
+    → AreAmong olds all → AreAmong news all
+    → (new loaded : RegionFields) (dropped : ℕ) → Loads new bytes (Ok dropped) loaded
+    → KeepsSince h.start region loaded
+
+-- the connection didn't run out of memory
+abbrev pub IsCalm : Result Served Fault → Type 0
+IsCalm (Err fault.Memory) = ⊥
+IsCalm other = ⊤
+
+-- no connection ran out of memory
+abbrev pub AreCalm : List (Result Served Fault) → Type 0
+AreCalm [] = Unit {0}
+AreCalm (end ∷ ends) = IsCalm end × AreCalm ends
+
+-- no fact that the region knows is under this number
+abbrev pub IsFresh : ℕ → RegionFields → Type 0
+IsFresh number region =
+    (d : Dot) → map.get region.facts.slots d ≢ None → d.region ≢ number
+
+-- the log was loaded whole, or memory or the device failed: nothing in it was refused
+abbrev pub IsNotRefused : Result ℕ LoadFault → Type 0
+IsNotRefused (Ok dropped) = ⊤
+IsNotRefused (Err load.Memory) = ⊤
+IsNotRefused (Err load.Read) = ⊤
+IsNotRefused (Err (load.Malformed at)) = ⊥
+IsNotRefused (Err (load.Refused at)) = ⊥
+
+-- a region without facts, of a number that is fresh, loads the old log and behind it the log of a
+-- service that never ran out of memory, even if its end is torn: nothing is refused
+abbrev pub LogLoads : Type 0
+LogLoads =
+    (olds : List BundleFields) (region : RegionFields) (log : List ℕ)
+    → (h : HasLogged olds region log) → AreCalm h.ends
+    → (news : List BundleFields) → AreLogged log news
+    → (bytes : List ℕ) → AreLogged bytes (olds ++ news)
+    → (new loaded : RegionFields) → new.facts ≡ empty_store → IsFresh new.number region
+    → (result : Result ℕ LoadFault) → Loads new bytes result loaded → IsNotRefused result
+
+-- the bytes of each log are known
+abbrev pub KnowsLogs : {L : Type 0} → (L → Option (List ℕ)) → Type 0
+KnowsLogs {L = L} holds = (log : L) → (bytes : List ℕ) × (holds log ≡ Some bytes)
+
+-- a log has these bytes, and a region has served connections with it
+abbrev pub HasLog : {L : Type 0} → (L → Option (List ℕ)) → RegionFields → Type 0
+HasLog {L = L} holds region =
+    (olds : List BundleFields) × (bytes : List ℕ) × (log : L) × (holds log ≡ Some bytes)
+    × HasLogged olds region bytes
+
+-- A service that has run with a log, which gets the bundles taken in, has written such a log, if its
+-- edge isn't sealed at the end and the bytes of logs are known. `kept`, `holds` and `opens` are those
+-- of a service's run.
+abbrev pub ServiceLogs : {L : Type 0} → (List ℕ → Option (List ℕ)) → (L → Option (List ℕ))
+    → (List ℕ → L → Type 0) → Type 0
+ServiceLogs kept holds opens =
+    (service : Service) (output : Change) (faults : Writing)
+    → (ran : IsServiceRun kept holds opens service output faults)
+    → service.log_taken ≡ true → IsSome service.log → KnowsLogs holds
+    → ran.run.opened.end.sealed ≡ false
+    → HasLog holds ran.run.opened.end.region

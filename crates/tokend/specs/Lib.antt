@@ -2,6 +2,7 @@
 --   CommandLine   tokend_app, the command line as clap's contracts see it
 --   Task          Asks, the task that the arguments request
 --   Draw          six, the random words of a connection
+--   Telling       Writes, what lines about faults leave of their writer
 --   Script        AreEvents, the events of a script; words_at, their random words; IsFirstBad, its
 --                 first bad line
 --   Loading       Loads, what an old log brings to a region
@@ -24,6 +25,7 @@
 pub mod CommandLine
 pub mod Task
 pub mod Draw
+pub mod Telling
 pub mod Script
 pub mod Loading
 pub mod Starting

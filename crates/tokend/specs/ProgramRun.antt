@@ -1,7 +1,7 @@
 -- What a run of the program does.
 --   TellsFacts      facts were printed, or sources were checked
---   PrintsLines     the lines of a script, or of facts, were written
---   BeginsLines     a beginning of these lines was written
+--   PrintsLines     the lines of a script were written
+--   BeginsLines     a beginning of the lines of a script, or of facts, was written
 --   ServesAsked     a service that the arguments request has run
 --   BeginsToServe   a beginning of a service's announcement was written
 --   FailsToServe    a fault keeps a service from its first connection
@@ -10,10 +10,7 @@
 --   IsFaultFor      the faults that a run may have
 --   Leaves          what a fault leaves of the output
 --   Tells           what is written of a fault
---   TellsCut        the number of bytes that were dropped is written
---   IsQuiet         no fault is written
-use Rattle.std.specs.Prelude.{◌⊎◌, ⊤, ℕ, List, Option, IfSome}
-use Rattle.std.specs.Io.KnownBytes.{Keeps}
+use Rattle.std.specs.Prelude.{◌≡◌, ◌⊎◌, ⊤, ℕ, List, Option, IfSome}
 use Rattle.clap.specs.Words.{Text, kind_of}
 use Rattle.tk_region.specs.SettingsFields.{SettingsFields}
 use Rattle.tk_edge.specs.Told.{Change}
@@ -23,12 +20,10 @@ use Rattle.tokend.specs.Task.{
   script_task,
   loopback_task,
   Asks,
-  AsksToServe,
   AsksToShow,
   IsNoShow,
   IsRefusalOf,
 }
-use Rattle.tk_put.specs.Put.{AppendsFront}
 use Rattle.tokend.specs.ScriptRun.{
   in_world,
   PrintsScript,
@@ -36,7 +31,9 @@ use Rattle.tokend.specs.ScriptRun.{
   IsScriptFault,
 }
 use Rattle.tokend.specs.LoopbackRun.{by_loopback}
+use Rattle.tokend.specs.Starting.{first_region}
 use Rattle.tokend.specs.Status.{fault_text, LeavesBegun}
+use Rattle.tokend.specs.Telling.{Writer, Writes, Writing}
 use Rattle.tokend.specs.declared.fault.Fault.{Fault}
 use Rattle.tokend.specs.declared.fault.Fault.TheVariants.{Memory, Output, Words}
 use Rattle.tokend.specs.declared.options.Check.{Check as CheckValue}
@@ -47,7 +44,7 @@ use Rattle.tokend.specs.CheckRun.{BeginsCheck, ChecksFacts}
 use Rattle.tokend.specs.FactsRun.{BeginsFacts, IsFactsFault, PrintsFacts}
 
 -- the arguments request facts, which were printed, or a check, whose sources can be loaded
-abbrev pub TellsFacts : List Text → Option (List ℕ) → Change → Change → Type 0
+abbrev pub TellsFacts : List Text → Option (List ℕ) → Change → Writing → Type 0
 TellsFacts words input output faults =
     ((sources : Sources) × Asks words (Facts sources) × PrintsFacts sources input output faults)
     ⊎ ((check : CheckValue) × Asks words (Check check) × ChecksFacts check input output faults)
@@ -65,15 +62,13 @@ FailsToTell words fault =
     (((sources : Sources) × Asks words (Facts sources))
     ⊎ ((check : CheckValue) × Asks words (Check check))) × IsFactsFault fault
 
--- the arguments request a script, by sockets or not, or facts, and the lines were written
-abbrev pub PrintsLines : List Text → Option (List ℕ) → Option (List ℕ) → Option (List ℕ) → Type 0
-PrintsLines words input old new =
+-- the arguments request a script, by sockets or not, and its lines were written
+abbrev pub PrintsLines : List Text → Option (List ℕ) → Change → Type 0
+PrintsLines words input output =
     ((settings : SettingsFields) × Asks words (script_task settings)
-    × PrintsScript (in_world settings) input old new)
-    ⊎ (((settings : SettingsFields) × Asks words (loopback_task settings)
-    × PrintsScript (by_loopback settings) input old new)
-    ⊎ ((faults : Change)
-    × TellsFacts words input (record { before = old; after = new }) faults))
+    × PrintsScript (in_world settings) input output.before output.after)
+    ⊎ ((settings : SettingsFields) × Asks words (loopback_task settings)
+    × PrintsScript (by_loopback settings) input output.before output.after)
 
 -- the arguments request a script, by sockets or not, or facts, and a beginning of the lines was
 -- written before the fault
@@ -86,16 +81,21 @@ BeginsLines words input fault old new =
     × BeginsScript (by_loopback settings) input old new)
     ⊎ BeginsToTell words input fault old new)
 
--- the arguments request a service, and it has run: it was announced, and its connections were
--- served
-abbrev pub ServesAsked : List Text → Option (List ℕ) → Option (List ℕ) → Type 0
-ServesAsked words old new = (service : Service) × Asks words (Serve service)
-    × ((faults : Change) × IsServiceRun service (record { before = old; after = new }) faults)
+-- The arguments request a service, and it has run: it was announced, and its connections were
+-- served. `kept` has the bytes of the file of a name, if they are known, `holds` those of a log, and
+-- `opens` says which log a name opens.
+abbrev pub ServesAsked : {L : Type 0} → (List ℕ → Option (List ℕ)) → (L → Option (List ℕ))
+    → (List ℕ → L → Type 0) → List Text → Change → Writing → Type 0
+ServesAsked kept holds opens words output faults =
+    (service : Service) × Asks words (Serve service)
+    × IsServiceRun kept holds opens service output faults
 
 -- the arguments request a service, and a beginning of its announcement was written
-abbrev pub BeginsToServe : List Text → Option (List ℕ) → Option (List ℕ) → Type 0
-BeginsToServe words old new =
-    (service : Service) × Asks words (Serve service) × BeginsAnnouncement service old new
+abbrev pub BeginsToServe : (List ℕ → Option (List ℕ)) → List Text → Option (List ℕ)
+    → Option (List ℕ) → Type 0
+BeginsToServe kept words old new =
+    (service : Service) × Asks words (Serve service)
+    × BeginsAnnouncement kept service (first_region service) old new
 
 -- the arguments request a service that the fault keeps from its first connection
 abbrev pub FailsToServe : List Text → Fault → Type 0
@@ -112,11 +112,14 @@ FailsToRun words input fault =
     × IsScriptFault (by_loopback settings) input fault)
     ⊎ FailsToTell words fault)
 
--- the lines of a script were written, a service has run, or the arguments request help or the
--- version
-abbrev pub IsDone : List Text → Option (List ℕ) → Option (List ℕ) → Option (List ℕ) → Type 0
-IsDone words input old new =
-    PrintsLines words input old new ⊎ (ServesAsked words old new ⊎ AsksToShow words)
+-- Facts were told, or a service has run, each with what it wrote of faults. Or the lines of a script
+-- were written, or the arguments request help or the version: then nothing is written of faults.
+abbrev pub IsDone : {L : Type 0} → (List ℕ → Option (List ℕ)) → (L → Option (List ℕ))
+    → (List ℕ → L → Type 0) → List Text → Option (List ℕ) → Change → Writing → Type 0
+IsDone kept holds opens words input output faults =
+    TellsFacts words input output faults
+    ⊎ (ServesAsked kept holds opens words output faults
+    ⊎ ((PrintsLines words input output ⊎ AsksToShow words) × (faults.after ≡ faults.before)))
 
 -- The faults that a run may have. Memory and the output may fail in any run. Other faults are those
 -- of the arguments, of the script that they request, or of the service that they request.
@@ -128,22 +131,13 @@ IsFaultFor words input fault = FailsToServe words fault ⊎ FailsToRun words inp
 
 -- the output that failed has a beginning of what would have been printed, and the fault of a source
 -- of facts leaves the lines before it; other faults leave the output unchanged
-abbrev pub Leaves : List Text → Option (List ℕ) → Fault → Option (List ℕ) → Option (List ℕ) → Type 0
-Leaves words input fault old new =
+abbrev pub Leaves : (List ℕ → Option (List ℕ)) → List Text → Option (List ℕ) → Fault
+    → Option (List ℕ) → Option (List ℕ) → Type 0
+Leaves kept words input fault old new =
     LeavesBegun (BeginsLines words input fault old new
-    ⊎ (BeginsToServe words old new ⊎ AsksToShow words)) fault old new
+    ⊎ (BeginsToServe kept words old new ⊎ AsksToShow words)) fault old new
 
--- a beginning of the fault's line was written, or all of the line if the writer took it; clap
--- writes the faults of arguments
-abbrev pub Tells : Fault → Option (List ℕ) → Option (List ℕ) → Type 0
-Tells fault old new = IfSome (fault_text fault) (AppendsFront old new)
-
--- the arguments request facts or a check, and the number of bytes that were dropped is written
-abbrev pub TellsCut : List Text → Option (List ℕ) → Option (List ℕ) → Option (List ℕ) → Type 0
-TellsCut words input old new =
-    (output : Change) × TellsFacts words input output (record { before = old; after = new })
-
--- no fault is written, unless a service wrote those of its connections, or bytes of sources of
--- facts were dropped
-abbrev pub IsQuiet : List Text → Option (List ℕ) → Option (List ℕ) → Option (List ℕ) → Type 0
-IsQuiet words input old new = Keeps old new ⊎ (AsksToServe words ⊎ TellsCut words input old new)
+-- the fault's line was written, or its beginning by a writer that failed; clap writes the faults of
+-- arguments
+abbrev pub Tells : Fault → Writer → Writer → Type 0
+Tells fault old new = IfSome (fault_text fault) (Writes old new)

@@ -22,8 +22,8 @@ use Rattle.std.specs.Prelude.{
   Some,
   None,
   IsSome,
-  IfNone,
   is_some,
+  Ok,
   String,
   string_bytes,
   codes,
@@ -34,6 +34,8 @@ use Rattle.std.specs.Io.KnownBytes.{Appends}
 use Rattle.tk_put.specs.Put.{AppendsFront}
 use Rattle.tk_edge.specs.declared.tell.Fault.{Fault as EdgeFault}
 use Rattle.tk_edge.specs.declared.tell.Fault.TheVariants as edge
+use Rattle.tk_region.specs.RegionFields.{RegionFields}
+use Rattle.tokend.specs.Starting.{LoadsOld}
 use Rattle.tokend.specs.Status.{LeavesBegun}
 use Rattle.tokend.specs.declared.fault.Fault.{Fault}
 use Rattle.tokend.specs.declared.fault.Fault.TheVariants.{
@@ -95,10 +97,13 @@ BeginsOpening service dropped old new =
     (pruned : Option ℕ) × (is_some pruned ≡ is_some service.prune)
     × BeginsToAnnounce (record { dropped = dropped; pruned = pruned }) service.port old new
 
--- a beginning of a service's announcement was written; no byte is dropped without an old log
-abbrev pub BeginsAnnouncement : Service → Option (List ℕ) → Option (List ℕ) → Type 0
-BeginsAnnouncement service old new =
-    (dropped : ℕ) × IfNone service.load (dropped ≡ 0) × BeginsOpening service dropped old new
+-- a beginning of the announcement was written of a service that began with this region; the dropped
+-- bytes are those of its old log
+abbrev pub BeginsAnnouncement : (List ℕ → Option (List ℕ)) → Service → RegionFields
+    → Option (List ℕ) → Option (List ℕ) → Type 0
+BeginsAnnouncement kept service start old new =
+    (dropped : ℕ) × (region : RegionFields) × LoadsOld kept service.load start (Ok dropped) region
+    × BeginsOpening service dropped old new
 
 -- the line about a connection that ended in a fault
 abbrev pub connection_fault : EdgeFault → List ℕ
@@ -171,6 +176,7 @@ LeavesOpening service dropped fault old new =
 
 -- the output that failed has a beginning of the service's announcement; other faults leave the
 -- output unchanged
-abbrev pub LeavesService : Service → Fault → Option (List ℕ) → Option (List ℕ) → Type 0
-LeavesService service fault old new =
-    LeavesBegun (BeginsAnnouncement service old new) fault old new
+abbrev pub LeavesService : (List ℕ → Option (List ℕ)) → Service → RegionFields → Fault
+    → Option (List ℕ) → Option (List ℕ) → Type 0
+LeavesService kept service start fault old new =
+    LeavesBegun (BeginsAnnouncement kept service start old new) fault old new

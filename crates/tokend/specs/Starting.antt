@@ -5,18 +5,22 @@
 --   IsToldAs      the program's result of loading a log
 --   LoadsFile     what the file of a name brings
 --   LoadsOld      what the old log brings, if there is one
+--   IsEmptyLog    a log that was opened is empty
 --   PrunesOld     what a prune takes from the region that was loaded, if one is requested
 use Rattle.std.specs.Prelude.{
   ◌≡◌,
   ◌⊎◌,
+  ⊤,
   ℕ,
   true,
   false,
   List,
+  [],
   length,
   Option,
   Some,
   None,
+  IfSome,
   Result,
   Ok,
   Err,
@@ -68,17 +72,26 @@ IsToldAs name (Err Memory) told = told ≡ Err fault.Memory
 IsToldAs name (Err Read) (Err f) = IsUnread name f
 IsToldAs name (Err Read) (Ok dropped) = ⊥
 
--- the file can't be opened and the region is unchanged, or the log in the file is loaded
-abbrev pub LoadsFile : List ℕ → RegionFields → Result ℕ Fault → RegionFields → Type 0
-LoadsFile name old told new = (IsToldAs name (Err Read) told × (new ≡ old))
-    ⊎ ((log : List ℕ) × (result : Result ℕ LoadFault) × Loads old log result new
-    × IsToldAs name result told)
+-- the file can't be opened and the region is unchanged, or the log in the file is loaded; `known` is
+-- the file's bytes, if they are known
+abbrev pub LoadsFile : Option (List ℕ) → List ℕ → RegionFields → Result ℕ Fault → RegionFields
+    → Type 0
+LoadsFile known name old told new = (IsToldAs name (Err Read) told × (new ≡ old))
+    ⊎ ((log : List ℕ) × (result : Result ℕ LoadFault) × IfSome known (λ bytes. log ≡ bytes)
+    × Loads old log result new × IsToldAs name result told)
 
--- the old log of this name is loaded, if there is one
-abbrev pub LoadsOld : {A : Type 0} → Option (String A) → RegionFields → Result ℕ Fault
-    → RegionFields → Type 0
-LoadsOld None old told new = (told ≡ Ok 0) × (new ≡ old)
-LoadsOld (Some name) old told new = LoadsFile (string_bytes name) old told new
+-- the old log of this name is loaded, if there is one; `kept` has the bytes of the file of a name,
+-- if they are known
+abbrev pub LoadsOld : {A : Type 0} → (List ℕ → Option (List ℕ)) → Option (String A)
+    → RegionFields → Result ℕ Fault → RegionFields → Type 0
+LoadsOld kept None old told new = (told ≡ Ok 0) × (new ≡ old)
+LoadsOld kept (Some name) old told new =
+    LoadsFile (kept (string_bytes name)) (string_bytes name) old told new
+
+-- a log that was opened is empty, if its bytes are known
+abbrev pub IsEmptyLog : Option (List ℕ) → Type 0
+IsEmptyLog None = ⊤
+IsEmptyLog (Some bytes) = bytes ≡ []
 
 -- The region is pruned up to a moment, by which n facts went. Its number and settings are
 -- unchanged.

@@ -3,7 +3,6 @@
 ghost use Rattle.std.specs.Prelude.{◌≡◌, None, Ok, Err, OnErr, OnOk, IfErr, IfOk, false, map};
 ghost use Rattle.std.specs.Prelude.{codes, string_bytes};
 ghost use Rattle.std.specs.FinMap as sets;
-ghost use Rattle.std.specs.Io.KnownBytes.{Keeps};
 ghost use Rattle.std.specs.Str.{bytes_eq};
 ghost use Rattle.tk_handle.specs.Ranges.{IsRegion};
 ghost use Rattle.tk_put.specs.Put.{Prints};
@@ -24,6 +23,7 @@ ghost use Rattle.tokend.specs.CheckRun.{
 };
 ghost use Rattle.tokend.specs.FactsRun.{IsFactsFault, IsSourceFault, known_of};
 ghost use Rattle.tokend.specs.Status.{LeavesBegun};
+ghost use Rattle.tokend.specs.Telling.{writer_of};
 
 use crate::facts::{bad, tell_cut, unread};
 use crate::fault::{FactsFault, Fault};
@@ -34,6 +34,7 @@ use std::alloc::Global;
 use std::fs::OpenOptions;
 use std::io::{self, Read, Write};
 use std::rt::Files;
+use tk_edge::Counted;
 use tk_handle::RegionNumber;
 use tk_put::put_all;
 use tk_region::Region;
@@ -57,19 +58,22 @@ pub(crate) fn check_facts<R: AllocGlobal + Files, I: Read, O: Write, E: Write>(
     check: &Check,
     input: &mut I,
     output: &mut O,
-    faults: &mut E,
+    faults: &mut Counted<E>,
 ) -> Result<(), Fault>
     requires { IsRegion check.now.region }
     ensures done { OnOk result
         (ChecksFacts check.now (I.remaining input.old)
         (record { before = O.contents output.old; after = O.contents output.new })
-        (record { before = E.contents faults.old; after = E.contents faults.new })) }
+        (record {
+          before = writer_of E.contents faults.old;
+          after = writer_of E.contents faults.new;
+        })) }
     ensures fault { IfErr result IsFactsFault }
     ensures left { IfErr result
         (λ fault. LeavesBegun (BeginsCheck check.now (I.remaining input.old) fault
         (O.contents output.old) (O.contents output.new)) fault (O.contents output.old)
         (O.contents output.new)) }
-    ensures silent { OnErr result (Keeps (E.contents faults.old) (E.contents faults.new)) }
+    ensures silent { OnErr result (faults.new ≡ faults.old) }
 {
     let loaded = match load_all(rt, check, input) {
         Ok(loaded) => loaded,

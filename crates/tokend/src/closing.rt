@@ -56,12 +56,12 @@ fn read_arrived(mut stream: &TcpStream, piece: &mut [u8]) -> Arrived
 }
 
 /// Looks at the connections that are set aside, and closes those that are over.
-pub(crate) fn look_at_closing<C: Clock>(
+pub(crate) fn look_at_closing<C: Clock, P: Peer + Drop>(
     clock: &C,
-    closing: &mut ClosingSet<ClosingStream>,
+    closing: &mut ClosingSet<P>,
     piece: &mut [u8],
 )
-    ensures { LooksAtAll closing.old closing.new }
+    ensures { LooksAtAll P.finds closing.old closing.new }
 {
     // If the clock fails, no connection's time is over.
     let now = millis(clock).unwrap_or(0);

@@ -2,9 +2,7 @@
 
 ghost use Rattle.std.specs.Prelude.{◌≡◌, None, OnErr, OnOk, IfErr, false};
 ghost use Rattle.std.specs.Prelude.{map, string_bytes, codes};
-ghost use Rattle.std.specs.Io.KnownBytes.{Keeps};
 ghost use Rattle.std.specs.Str.{bytes_eq};
-ghost use Rattle.tk_put.specs.Put.{AppendsFront};
 ghost use Rattle.tokend.specs.FactsRun.{
   BeginsFacts,
   IsBadSource,
@@ -21,16 +19,18 @@ ghost use Rattle.tokend.specs.FactsRun.{
   known_of,
 };
 ghost use Rattle.tokend.specs.Status.{LeavesBegun};
+ghost use Rattle.tokend.specs.Telling.{Writes, writer_of};
 
 use crate::fault::{FactsFault, Fault};
 use crate::options::Sources;
+use crate::telling::say;
 use itoa::Buffer;
 use std::alloc::Global;
 use std::fs::OpenOptions;
 use std::io::{Read, Write};
 use std::rt::Files;
+use tk_edge::Counted;
 use tk_listing::{PrintFault, print_lines};
-use tk_put::put_all;
 
 /// Prints the facts of each source, in order, and flushes.
 ///
@@ -40,18 +40,21 @@ pub(crate) fn print_facts<R: AllocGlobal + Files, I: Read, O: Write, E: Write>(
     sources: &Sources,
     input: &mut I,
     output: &mut O,
-    faults: &mut E,
+    faults: &mut Counted<E>,
 ) -> Result<(), Fault>
     ensures done { OnOk result
         (PrintsFacts sources.now (I.remaining input.old)
         (record { before = O.contents output.old; after = O.contents output.new })
-        (record { before = E.contents faults.old; after = E.contents faults.new })) }
+        (record {
+          before = writer_of E.contents faults.old;
+          after = writer_of E.contents faults.new;
+        })) }
     ensures fault { IfErr result IsFactsFault }
     ensures left { IfErr result
         (λ fault. LeavesBegun (BeginsFacts sources.now (I.remaining input.old) fault
         (O.contents output.old) (O.contents output.new)) fault (O.contents output.old)
         (O.contents output.new)) }
-    ensures silent { OnErr result (Keeps (E.contents faults.old) (E.contents faults.new)) }
+    ensures silent { OnErr result (faults.new ≡ faults.old) }
 {
     let printed = print_sources(rt, sources, input, output);
     let flushed = output.flush();
@@ -65,24 +68,28 @@ pub(crate) fn print_facts<R: AllocGlobal + Files, I: Read, O: Write, E: Write>(
     }
 }
 
-/// Writes how many bytes are dropped, if any are. If `faults` fails, it has the beginning of the
+/// Writes how many bytes are dropped, if any are. If the writer fails, it has the beginning of the
 /// line.
-pub(crate) fn tell_cut<E: Write>(faults: &mut E, cut: u64)
+pub(crate) fn tell_cut<E: Write>(faults: &mut Counted<E>, cut: u64)
     ensures { TellsDropped cut
-        (record { before = E.contents faults.old; after = E.contents faults.new }) }
+        (record {
+          before = writer_of E.contents faults.old;
+          after = writer_of E.contents faults.new;
+        }) }
 {
     if cut != 0 {
-        put_cut(faults, cut);
+        say_cut(faults, cut);
     }
 }
 
 // Writes how many bytes are dropped.
-fn put_cut<E: Write>(faults: &mut E, cut: u64)
-    ensures { AppendsFront (E.contents faults.old) (E.contents faults.new) (cut_text cut) }
+fn say_cut<E: Write>(faults: &mut Counted<E>, cut: u64)
+    ensures { Writes (writer_of E.contents faults.old) (writer_of E.contents faults.new)
+        (cut_text cut) }
 {
     let mut digits = Buffer::new();
     let cut = digits.format(cut).as_bytes();
-    let _ = put_all(faults, &[b"tokend: dropped ", cut, b" bytes\n"]);
+    say(faults, &[b"tokend: dropped ", cut, b" bytes\n"]);
 }
 
 // Prints the facts of the sources, or of the standard input if there are none.

@@ -24,13 +24,13 @@
 //!   request.
 //! - `script`: the input as events.
 //! - `draw`: random words. `timed`: a connection's time limit.
-//! - `log_file`, `load`: logs, new and old.
+//! - `folder`: where logs are found and kept. `log_file`, `load`: logs, new and old.
 //! - `start`: a service before its first connection. `listen`: its port.
 //! - `serve`: its connections. `closing`: what is left of them after the reply.
 //! - `loopback`: a script's requests as connections.
 //! - `sources`, `facts`: the files whose facts are printed; their lines. `check`: whether they can
 //!   be loaded.
-//! - `fault`: what may go wrong, with its line and status.
+//! - `fault`: what may go wrong, with its line and status. `telling`: lines about faults.
 //! - `program`: the whole program, in order.
 //! - `promises`: the promises about regions.
 //!
@@ -43,6 +43,7 @@ mod command_line;
 mod draw;
 mod facts;
 mod fault;
+mod folder;
 mod listen;
 mod load;
 mod log_file;
@@ -54,20 +55,31 @@ mod script;
 mod serve;
 mod sources;
 mod start;
+mod telling;
 mod timed;
 mod words;
 
 use fault::Fault;
+use folder::Disk;
 use program::{finish, run_program};
 use std::io::BufWriter;
 use std::process::ExitCode;
+use tk_edge::Counted;
 use words::words;
 
 fn main(rt: HostRuntime) -> ExitCode {
-    let (mut input, mut faults) = (rt.stdin(), rt.stderr());
+    let (mut input, mut faults) = (rt.stdin(), Counted::new(rt.stderr()));
+    let folder = Disk { rt: &rt };
     let status = match (words(&rt), BufWriter::new(rt.alloc(), rt.stdout())) {
         (Ok(words), Ok(mut output)) => {
-            let status = run_program(&rt, words.as_slice(), &mut input, &mut output, &mut faults);
+            let status = run_program(
+                &rt,
+                &folder,
+                words.as_slice(),
+                &mut input,
+                &mut output,
+                &mut faults,
+            );
             // Dropping a buffer writes it once more, so the bytes that a failed output left are
             // taken out first.
             let _ = output.into_parts();

@@ -18,7 +18,7 @@ ghost use Rattle.std.specs.Io.KnownBytes.{Appends, Keeps};
 ghost use Rattle.tk_world.specs.Printed.{lines_text};
 ghost use Rattle.clap.specs.Words.{Text, kind_of};
 ghost use Rattle.clap.specs.declared.error.kind.ErrorKind.TheVariants as kind;
-ghost use Rattle.tokend.specs.ProgramRun.{IsDone, IsFaultFor, IsQuiet, Leaves, Tells};
+ghost use Rattle.tokend.specs.ProgramRun.{IsDone, IsFaultFor, Leaves, Tells};
 ghost use Rattle.tk_put.specs.Put.{AppendsFront, Prints};
 ghost use Rattle.tokend.specs.LoopbackRun.{by_loopback};
 ghost use Rattle.tokend.specs.ScriptRun.{
@@ -31,12 +31,14 @@ ghost use Rattle.tokend.specs.ScriptRun.{
 };
 ghost use Rattle.tokend.specs.Status.{status_of};
 ghost use Rattle.tokend.specs.Task.{Asks, IsNoShow};
+ghost use Rattle.tokend.specs.Telling.{writer_of};
 ghost use Rattle.tokend.specs.declared.fault.Fault.{Fault as FaultValue};
 ghost use Rattle.tokend.specs.declared.fault.Fault.TheVariants as fault;
 
 use crate::check::check_facts;
 use crate::facts::print_facts;
 use crate::fault::{Fault, tell};
+use crate::folder::Folder;
 use crate::loopback::{LONGEST, run_by_sockets};
 use crate::options::{Task, options};
 use crate::script::{read_events, read_script};
@@ -49,6 +51,7 @@ use std::io::{self, Read, Write};
 use std::net::{Net, TcpListener, TcpStream};
 use std::rt::Files;
 use std::time::Clock;
+use tk_edge::{Counted, Sink};
 use tk_world::{Event, Outcome, Settings, World, print_outcomes};
 
 /// Does the task that the arguments request, and returns the exit status.
@@ -57,83 +60,111 @@ use tk_world::{Event, Outcome, Settings, World, print_outcomes};
 /// failed, and 2 for bad arguments or a bad script, seed or log. A fault's line is written to
 /// `faults`, whose own failures are ignored. The output is written in small pieces and flushed at
 /// the end.
-pub(crate) fn run_program<R, S: AsStr, I: Read, O: Write, E: Write>(
+pub(crate) fn run_program<R, F, L, D, S, I, O, E>(
     rt: &R,
+    folder: &D,
     words: &[S],
     input: &mut I,
     output: &mut O,
-    faults: &mut E,
+    faults: &mut Counted<E>,
 ) -> u8
 where
     R: AllocGlobal + Files + Clock + Net<Listener = TcpListener, Stream = TcpStream>,
+    F: Read + Drop,
+    L: Sink + Drop,
+    D: Folder<F, L>,
+    S: AsStr,
+    I: Read,
+    O: Write,
+    E: Write,
     ensures status { result ≤ 2 }
     ensures done { result ≡ 0
-        → IsDone (map S.text words.now) (I.remaining input.old) (O.contents output.old)
-        (O.contents output.new) }
-    ensures quiet { result ≡ 0
-        → IsQuiet (map S.text words.now) (I.remaining input.old) (E.contents faults.old)
-        (E.contents faults.new) }
+        → IsDone (D.kept folder.now) (λ log. L.holds log) (D.opens folder.now)
+        (map S.text words.now) (I.remaining input.old)
+        (record { before = O.contents output.old; after = O.contents output.new })
+        (record {
+          before = writer_of E.contents faults.old;
+          after = writer_of E.contents faults.new;
+        }) }
 
     // Status 1: memory or a device may cause the fault, and the output has a beginning of what
     // would have been written.
     ensures broken { result ≡ 1
         → (fault : FaultValue) × (status_of fault ≡ 1)
         × IsFaultFor (map S.text words.now) (I.remaining input.old) fault
-        × Leaves (map S.text words.now) (I.remaining input.old) fault (O.contents output.old)
-        (O.contents output.new)
-        × Tells fault (E.contents faults.old) (E.contents faults.new) }
+        × Leaves (D.kept folder.now) (map S.text words.now) (I.remaining input.old) fault
+        (O.contents output.old) (O.contents output.new)
+        × Tells fault (writer_of E.contents faults.old) (writer_of E.contents faults.new) }
 
     // Status 2: the output has no new byte, or the lines before bad bytes of `facts`.
     ensures refused { result ≡ 2 → (fault : FaultValue) × (status_of fault ≡ 2)
         × IsFaultFor (map S.text words.now) (I.remaining input.old) fault
-        × Leaves (map S.text words.now) (I.remaining input.old) fault (O.contents output.old)
-        (O.contents output.new)
-        × Tells fault (E.contents faults.old) (E.contents faults.new) }
+        × Leaves (D.kept folder.now) (map S.text words.now) (I.remaining input.old) fault
+        (O.contents output.old) (O.contents output.new)
+        × Tells fault (writer_of E.contents faults.old) (writer_of E.contents faults.new) }
 {
-    finish(run(rt, words, input, output, faults), faults)
+    finish(run(rt, folder, words, input, output, faults), faults)
 }
 
 /// Returns the exit status of a run, and writes its fault, if any, to `faults`.
-pub(crate) fn finish<E: Write>(ran: Result<(), Fault>, faults: &mut E) -> u8
-    ensures { MatchResult ran (λ _. (result ≡ 0)
-        × Keeps (E.contents faults.old) (E.contents faults.new))
+pub(crate) fn finish<E: Write>(ran: Result<(), Fault>, faults: &mut Counted<E>) -> u8
+    ensures { MatchResult ran (λ _. (result ≡ 0) × (faults.new ≡ faults.old))
         (λ fault. (result ≡ status_of fault)
-        × Tells fault (E.contents faults.old) (E.contents faults.new)) }
+        × Tells fault (writer_of E.contents faults.old) (writer_of E.contents faults.new)) }
 {
     match ran {
         Ok(()) => 0,
         Err(fault) => {
-            let _ = tell(faults, &fault);
+            say_fault(faults, &fault);
             fault.status()
         }
     }
 }
 
+// Writes the line of a fault. If the writer fails, the failure is counted.
+fn say_fault<E: Write>(faults: &mut Counted<E>, fault: &Fault)
+    ensures { Tells fault.now (writer_of E.contents faults.old) (writer_of E.contents faults.new) }
+{
+    if tell(&mut faults.inner, fault).is_err() {
+        faults.failures = faults.failures.saturating_add(1);
+    }
+}
+
 // Does the task that the arguments request.
-fn run<R, S: AsStr, I: Read, O: Write, E: Write>(
+fn run<R, F, L, D, S, I, O, E>(
     rt: &R,
+    folder: &D,
     words: &[S],
     input: &mut I,
     output: &mut O,
-    faults: &mut E,
+    faults: &mut Counted<E>,
 ) -> Result<(), Fault>
 where
     R: AllocGlobal + Files + Clock + Net<Listener = TcpListener, Stream = TcpStream>,
+    F: Read + Drop,
+    L: Sink + Drop,
+    D: Folder<F, L>,
+    S: AsStr,
+    I: Read,
+    O: Write,
+    E: Write,
     ensures done { OnOk result
-        (IsDone (map S.text words.now) (I.remaining input.old) (O.contents output.old)
-        (O.contents output.new)) }
+        (IsDone (D.kept folder.now) (λ log. L.holds log) (D.opens folder.now)
+        (map S.text words.now) (I.remaining input.old)
+        (record { before = O.contents output.old; after = O.contents output.new })
+        (record {
+          before = writer_of E.contents faults.old;
+          after = writer_of E.contents faults.new;
+        })) }
     ensures fault { IfErr result (IsFaultFor (map S.text words.now) (I.remaining input.old)) }
     ensures left { IfErr result
-        (λ fault. Leaves (map S.text words.now) (I.remaining input.old) fault
+        (λ fault. Leaves (D.kept folder.now) (map S.text words.now) (I.remaining input.old) fault
         (O.contents output.old) (O.contents output.new)) }
-    ensures quiet { OnOk result
-        (IsQuiet (map S.text words.now) (I.remaining input.old) (E.contents faults.old)
-        (E.contents faults.new)) }
-    ensures silent { OnErr result (Keeps (E.contents faults.old) (E.contents faults.new)) }
+    ensures silent { OnErr result (faults.new ≡ faults.old) }
 {
     match options(rt.alloc(), words) {
         Ok(task) => {
-            let ran = run_task(rt, &task, input, output, faults);
+            let ran = run_task(rt, folder, &task, input, output, faults);
             drop(task);
             ran
         }
@@ -142,34 +173,44 @@ where
 }
 
 // Does a task. The clauses name the arguments that request it.
-fn run_task<R, I: Read, O: Write, E: Write>(
+fn run_task<R, F, L, D, I, O, E>(
     rt: &R,
+    folder: &D,
     task: &Task,
     input: &mut I,
     output: &mut O,
-    faults: &mut E,
+    faults: &mut Counted<E>,
 ) -> Result<(), Fault>
 where
     R: AllocGlobal + Files + Clock + Net<Listener = TcpListener, Stream = TcpStream>,
+    F: Read + Drop,
+    L: Sink + Drop,
+    D: Folder<F, L>,
+    I: Read,
+    O: Write,
+    E: Write,
     requires { (words : List Text) × Asks words task.now }
     ensures done { (words : List Text) → Asks words task.now
         → OnOk result
-        (IsDone words (I.remaining input.old) (O.contents output.old) (O.contents output.new)) }
+        (IsDone (D.kept folder.now) (λ log. L.holds log) (D.opens folder.now) words
+        (I.remaining input.old)
+        (record { before = O.contents output.old; after = O.contents output.new })
+        (record {
+          before = writer_of E.contents faults.old;
+          after = writer_of E.contents faults.new;
+        })) }
     ensures fault { (words : List Text) → Asks words task.now
         → IfErr result (IsFaultFor words (I.remaining input.old)) }
     ensures left { (words : List Text) → Asks words task.now
         → IfErr result
-        (λ fault. Leaves words (I.remaining input.old) fault (O.contents output.old)
-        (O.contents output.new)) }
-    ensures quiet { (words : List Text) → Asks words task.now
-        → OnOk result
-        (IsQuiet words (I.remaining input.old) (E.contents faults.old) (E.contents faults.new)) }
-    ensures silent { OnErr result (Keeps (E.contents faults.old) (E.contents faults.new)) }
+        (λ fault. Leaves (D.kept folder.now) words (I.remaining input.old) fault
+        (O.contents output.old) (O.contents output.new)) }
+    ensures silent { OnErr result (faults.new ≡ faults.old) }
 {
     match task {
         Task::Script(numbers) => run_script(rt.alloc(), numbers.settings(), input, output),
         Task::Loopback(numbers) => run_loopback(rt, numbers.settings(), input, output),
-        Task::Serve(service) => serve(rt, service, output, faults),
+        Task::Serve(service) => serve(rt, folder, service, output, faults),
         Task::Facts(sources) => print_facts(rt, sources, input, output, faults),
         Task::Check(check) => check_facts(rt, check, input, output, faults),
     }

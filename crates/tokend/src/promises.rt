@@ -2,8 +2,8 @@
 //!
 //! The contract of a function is the promise. Its body is one call of `tk_world`, and the promise
 //! is proved from the public contract of that call alone. The program calls none of these
-//! functions. The last promise is about a service and its log: it has no body, and is proved from
-//! what contracts say of connections and of loading a log.
+//! functions. The last three promises are about a service and its log: they have no body, and are
+//! proved from what contracts say of services, of connections and of loading a log.
 //!
 //! A world stands for a state with all facts that its regions made and took in, whatever they
 //! skipped since: `WorldStands` says how. Four promises are about a run from such a state, and name
@@ -11,7 +11,7 @@
 //! brought it about: that regions agree, that pruning changes no answer, and the two about inactive
 //! tokens.
 
-ghost use Rattle.std.specs.Prelude.{◌≡◌, ℕ, IfOk, MatchResult};
+ghost use Rattle.std.specs.Prelude.{◌≡◌, ℕ, IfOk, List, MatchResult, Option};
 ghost use Rattle.tk_store.specs.FactSet.{Agree, AllIn, FactSet, IsSubset};
 ghost use Rattle.tk_store.specs.Joining.{SameFacts};
 ghost use Rattle.tk_store.specs.StoreFields.{held_facts};
@@ -23,9 +23,10 @@ ghost use Rattle.tk_world.specs.State.{State, facts_in};
 ghost use Rattle.tk_world.specs.World.{seen_by};
 ghost use Rattle.tk_world.specs.WorldFields.{store_in};
 ghost use Rattle.tk_world.specs.WorldStands.{IsStanding, WorldStands};
-ghost use Rattle.tokend.specs.KeptLog.{LogKeepsAll};
+ghost use Rattle.tokend.specs.KeptLog.{LogKeepsAll, LogLoads, ServiceLogs};
 
 use std::alloc::AllocError;
+use tk_edge::Sink;
 use tk_world::{Event, Outcome, World};
 
 /// Facts stay: what a region had made and taken in before a run, it still stands for after the run.
@@ -149,13 +150,36 @@ pub fn an_error_changes_nothing(
     world.run(events)
 }
 
-/// A log that gets the bundles taken in keeps all that its region holds.
+/// A log that gets the bundles taken in keeps all that its region made and took in.
 ///
-/// A region without facts loads an old log whole, is pruned or not, and serves connections over an
-/// edge whose log gets the bundles taken in. A region that has loaded the old log, and behind it
-/// that log as it is after any connection, holds every fact that the first region held then, or has
-/// skipped it by a mark. That the load isn't refused is a premise. The promise leaves out an edge
-/// that is sealed, since its log has failed, and claims nothing of disks.
+/// A region without facts took in the bundles of an old log, was pruned or not, and serves
+/// connections over an edge whose log gets what is taken in. Another region has loaded the bundles
+/// of the old log and those of that log as it is after any connection: in any order, with others
+/// among them, the last one torn or not. It holds every fact that the first region held then, or has
+/// skipped it. It has skipped what the first region skipped since its start, and its horizon isn't
+/// earlier than any that the first region took over.
+///
+/// That the load isn't refused is a premise. The promise leaves out an edge that is sealed, since
+/// its log has failed, and claims nothing of disks.
 pub fn a_log_of_bundles_keeps_all()
     ensures { LogKeepsAll }
+{}
+
+/// A log that gets the bundles taken in is loaded again.
+///
+/// A region without facts, under a number that the writer knows no fact of, loads the old log and
+/// behind it the log as it is after any connection, torn or not: nothing is refused. The promise
+/// leaves out a writer that ran out of memory in some connection, and an edge that is sealed.
+pub fn a_log_of_bundles_is_loaded_again()
+    ensures { LogLoads }
+{}
+
+/// A service writes such a log: one that has run with `--log-taken` and whose edge isn't sealed at
+/// its end.
+///
+/// The bytes of logs must be known, as those of the machine's files aren't: what a file keeps is
+/// tested.
+pub fn a_service_writes_such_a_log<L: Sink>()
+    ensures { (kept : List ℕ → Option (List ℕ)) (opens : List ℕ → L → Type 0)
+        → ServiceLogs kept (λ log. L.holds log) opens }
 {}

@@ -2,15 +2,13 @@
 //! reply.
 
 ghost use Rattle.std.specs.Prelude.{◌≡◌, ℕ, IfErr, IfSome, OnOk, OnErr, Err};
-ghost use Rattle.std.specs.Io.KnownBytes.{Keeps};
 ghost use Rattle.tk_edge.specs.Failures.{Rose};
 ghost use Rattle.tk_handle.specs.Ranges.{IsMoment, IsRegion};
 ghost use Rattle.tk_region.specs.SettingsFields.{IsSettings};
 ghost use Rattle.tokend.specs.Closing.{LooksAndAdds, MaySetAside};
 ghost use Rattle.tokend.specs.CommandLine.{settings_of};
-ghost use Rattle.tokend.specs.Connection.{IsConnection, ServesAll, ServesWithLog, Told};
+ghost use Rattle.tokend.specs.Connection.{IsConnection, ServesLogged, ServesWith, Told};
 ghost use Rattle.tokend.specs.Growing.{Grows};
-ghost use Rattle.tk_put.specs.Put.{Prints};
 ghost use Rattle.tokend.specs.ServiceRun.{HasOpened, HasRun, IsServiceRun};
 ghost use Rattle.tokend.specs.Serving.{
   connection_fault,
@@ -22,53 +20,59 @@ ghost use Rattle.tokend.specs.Serving.{
   LeavesOpening,
   LeavesService,
 };
+ghost use Rattle.tokend.specs.Starting.{first_region};
+ghost use Rattle.tokend.specs.Telling.{Writes, writer_of};
 
 use crate::closing::{ClosingStream, close, look_at_closing, set_aside, wait_for_all};
 use crate::draw::draw;
 use crate::fault::Fault;
+use crate::folder::Folder;
 use crate::listen::{Opening, listen};
-use crate::log_file::open_log;
 use crate::options::Service;
 use crate::start::{Start, begin, load_old, prune_old};
+use crate::telling::say;
 use crate::timed::{TimedSink, TimedSource, millis};
 use rand_chacha::ChaCha20Rng;
 use std::alloc::Global;
-use std::io::{self, Write};
+use std::io::{self, Read, Write};
 use std::net::{Net, OpenListener, TcpListener, TcpStream};
-use std::rt::Files;
 use std::time::Clock;
 use tk_closing::ClosingSet;
-use tk_edge::{Discard, Edge, Fault as EdgeFault, HEAD_LIMIT, Served, Sink, Source};
+use tk_edge::{Counted, Discard, Edge, Fault as EdgeFault, HEAD_LIMIT, Served, Sink, Source};
 use tk_handle::Moment;
-use tk_put::put_all;
 
 /// Serves a region, for the given number of connections or without end.
 ///
 /// Faults that end the service happen before its first line is written. A fault of a connection is
 /// a line on `faults`, and ends that connection alone.
-pub(crate) fn serve<R, O: Write, E: Write>(
+pub(crate) fn serve<R, I: Read + Drop, L: Sink + Drop, D: Folder<I, L>, O: Write, E: Write>(
     rt: &R,
+    folder: &D,
     service: &Service,
     output: &mut O,
-    faults: &mut E,
+    faults: &mut Counted<E>,
 ) -> Result<(), Fault>
 where
-    R: AllocGlobal + Files + Clock + Net<Listener = TcpListener, Stream = TcpStream>,
+    R: AllocGlobal + Clock + Net<Listener = TcpListener, Stream = TcpStream>,
     requires settings { IsSettings (settings_of service.now.numbers) }
     requires region { IsRegion service.now.region }
     requires prune { IfSome service.now.prune IsMoment }
     ensures done { OnOk result
-        (IsServiceRun service.now
+        (IsServiceRun (D.kept folder.now) (λ log. L.holds log) (D.opens folder.now) service.now
         (record { before = O.contents output.old; after = O.contents output.new })
-        (record { before = E.contents faults.old; after = E.contents faults.new })) }
+        (record {
+          before = writer_of E.contents faults.old;
+          after = writer_of E.contents faults.new;
+        })) }
     ensures fault { IfErr result (IsServiceFault service.now) }
     ensures left { IfErr result
-        (λ fault. LeavesService service.now fault (O.contents output.old) (O.contents output.new)) }
-    ensures silent { OnErr result (Keeps (E.contents faults.old) (E.contents faults.new)) }
+        (λ fault. LeavesService (D.kept folder.now) service.now (first_region service.now) fault
+        (O.contents output.old) (O.contents output.new)) }
+    ensures silent { OnErr result (faults.new ≡ faults.old) }
 {
-    match begin(rt, service) {
+    match begin(rt.alloc(), folder, service) {
         Ok(mut start) => {
-            let served = load_and_serve(rt, service, &mut start, output, faults);
+            let served = load_and_serve(rt, folder, service, &mut start, output, faults);
             drop(start);
             served
         }
@@ -77,89 +81,114 @@ where
 }
 
 // Loads the old log, if there is one, and serves.
-fn load_and_serve<R, O: Write, E: Write>(
+fn load_and_serve<R, I: Read + Drop, L: Sink + Drop, D: Folder<I, L>, O: Write, E: Write>(
     rt: &R,
+    folder: &D,
     service: &Service,
     start: &mut Start,
     output: &mut O,
-    faults: &mut E,
+    faults: &mut Counted<E>,
 ) -> Result<(), Fault>
 where
-    R: AllocGlobal + Files + Clock + Net<Listener = TcpListener, Stream = TcpStream>,
+    R: AllocGlobal + Clock + Net<Listener = TcpListener, Stream = TcpStream>,
     requires { IfSome service.now.prune IsMoment }
-    ensures done { OnOk result (HasRun service.now start.old.edge start.old.words
+    ensures done { OnOk result
+        (HasRun (D.kept folder.now) (λ log. L.holds log) (D.opens folder.now) service.now
+        start.old.edge start.old.words
         (record { before = O.contents output.old; after = O.contents output.new })
-        (record { before = E.contents faults.old; after = E.contents faults.new })) }
+        (record {
+          before = writer_of E.contents faults.old;
+          after = writer_of E.contents faults.new;
+        })) }
     ensures fault { IfErr result (IsServiceFault service.now) }
     ensures left { IfErr result
-        (λ fault. LeavesService service.now fault (O.contents output.old) (O.contents output.new)) }
-    ensures silent { OnErr result (Keeps (E.contents faults.old) (E.contents faults.new)) }
+        (λ fault. LeavesService (D.kept folder.now) service.now start.old.edge.region fault
+        (O.contents output.old) (O.contents output.new)) }
+    ensures silent { OnErr result (faults.new ≡ faults.old) }
 {
-    match load_old(rt, start.edge.region_mut(), &service.load) {
-        Ok(dropped) => prune_and_serve(rt, service, dropped, start, output, faults),
+    match load_old(rt.alloc(), folder, start.edge.region_mut(), &service.load) {
+        Ok(dropped) => prune_and_serve(rt, folder, service, dropped, start, output, faults),
         Err(fault) => Err(fault),
     }
 }
 
 // Prunes the region, if requested, and serves. `dropped` is how many bytes of the old log were
 // dropped.
-fn prune_and_serve<R, O: Write, E: Write>(
+fn prune_and_serve<R, I: Read + Drop, L: Sink + Drop, D: Folder<I, L>, O: Write, E: Write>(
     rt: &R,
+    folder: &D,
     service: &Service,
     dropped: u64,
     start: &mut Start,
     output: &mut O,
-    faults: &mut E,
+    faults: &mut Counted<E>,
 ) -> Result<(), Fault>
 where
-    R: AllocGlobal + Files + Clock + Net<Listener = TcpListener, Stream = TcpStream>,
+    R: AllocGlobal + Clock + Net<Listener = TcpListener, Stream = TcpStream>,
     requires { IfSome service.now.prune IsMoment }
     ensures done { OnOk result
-        (HasOpened service.now dropped start.old.edge start.old.words
+        (HasOpened (λ log. L.holds log) (D.opens folder.now) service.now dropped start.old.edge
+        start.old.words
         (record { before = O.contents output.old; after = O.contents output.new })
-        (record { before = E.contents faults.old; after = E.contents faults.new })) }
+        (record {
+          before = writer_of E.contents faults.old;
+          after = writer_of E.contents faults.new;
+        })) }
     ensures fault { IfErr result (IsStartFault service.now) }
     ensures left { IfErr result
         (λ fault. LeavesOpening service.now dropped fault (O.contents output.old)
         (O.contents output.new)) }
-    ensures silent { OnErr result (Keeps (E.contents faults.old) (E.contents faults.new)) }
+    ensures silent { OnErr result (faults.new ≡ faults.old) }
 {
     match prune_old(rt.alloc(), start.edge.region_mut(), service.prune) {
         Ok(pruned) => {
             let opening = Opening { dropped, pruned };
-            log_and_serve(rt, service, opening, start, output, faults)
+            log_and_serve(rt, folder, service, opening, start, output, faults)
         }
         Err(fault) => Err(fault),
     }
 }
 
 // Opens the new log, if there is one, and serves.
-fn log_and_serve<R, O: Write, E: Write>(
+fn log_and_serve<R, I: Read + Drop, L: Sink + Drop, D: Folder<I, L>, O: Write, E: Write>(
     rt: &R,
+    folder: &D,
     service: &Service,
     opening: Opening,
     start: &mut Start,
     output: &mut O,
-    faults: &mut E,
+    faults: &mut Counted<E>,
 ) -> Result<(), Fault>
 where
-    R: AllocGlobal + Files + Clock + Net<Listener = TcpListener, Stream = TcpStream>,
+    R: AllocGlobal + Clock + Net<Listener = TcpListener, Stream = TcpStream>,
     ensures done { OnOk result
         (Announces opening service.now.port (O.contents output.old) (O.contents output.new)) }
     ensures served { OnOk result
-        (ServesWithLog start.old.words service.now.requests service.now.log_taken start.old.edge
-        (E.contents faults.old) start.new.edge (E.contents faults.new)) }
+        (ServesLogged (λ log. L.holds log) (D.opens folder.now) service.now.log start.old.words
+        service.now.requests service.now.log_taken
+        (record {
+          start = start.old.edge;
+          end = start.new.edge;
+          faults = record {
+            before = writer_of E.contents faults.old;
+            after = writer_of E.contents faults.new;
+          };
+        })) }
     ensures fault { IfErr result (IsStartFault service.now) }
     ensures left { IfErr result
         (λ fault. LeavesAnnouncement opening service.now.port fault (O.contents output.old)
         (O.contents output.new)) }
-    ensures silent { OnErr result (Keeps (E.contents faults.old) (E.contents faults.new)) }
+    ensures silent { OnErr result (faults.new ≡ faults.old) }
 {
     let Some(path) = &service.log else {
         return announce_and_serve(rt, service, opening, start, &mut Discard, output, faults);
     };
-    match open_log(rt, path) {
-        Ok(mut log) => announce_and_serve(rt, service, opening, start, &mut log, output, faults),
+    match folder.open_new(rt.alloc(), path) {
+        Ok(mut log) => {
+            let served = announce_and_serve(rt, service, opening, start, &mut log, output, faults);
+            drop(log);
+            served
+        }
         Err(fault) => Err(fault),
     }
 }
@@ -172,21 +201,28 @@ fn announce_and_serve<R, L: Sink, O: Write, E: Write>(
     start: &mut Start,
     log: &mut L,
     output: &mut O,
-    faults: &mut E,
+    faults: &mut Counted<E>,
 ) -> Result<(), Fault>
 where
     R: AllocGlobal + Clock + Net<Listener = TcpListener, Stream = TcpStream>,
     ensures done { OnOk result
         (Announces opening service.now.port (O.contents output.old) (O.contents output.new)) }
     ensures served { OnOk result
-        (ServesAll start.old.words service.now.requests service.now.log_taken
-        (record { edge = start.old.edge; log = L.holds log.old; faults = E.contents faults.old })
-        (record { edge = start.new.edge; log = L.holds log.new; faults = E.contents faults.new })) }
+        (ServesWith start.old.words service.now.requests service.now.log_taken
+        (record {
+          start = start.old.edge;
+          end = start.new.edge;
+          faults = record {
+            before = writer_of E.contents faults.old;
+            after = writer_of E.contents faults.new;
+          };
+        })
+        (record { before = L.holds log.old; after = L.holds log.new })) }
     ensures fault { IfErr result IsListenFault }
     ensures left { IfErr result
         (λ fault. LeavesAnnouncement opening service.now.port fault (O.contents output.old)
         (O.contents output.new)) }
-    ensures silent { OnErr result (Keeps (E.contents faults.old) (E.contents faults.new)) }
+    ensures silent { OnErr result (faults.new ≡ faults.old) }
 {
     match listen(rt, service.port, opening, output) {
         Ok(listener) => {
@@ -213,16 +249,23 @@ pub(crate) fn serve_on<R: AllocGlobal + Clock, L: Sink, E: Write>(
     edge: &mut Edge,
     log: &mut L,
     words: &mut ChaCha20Rng,
-    faults: &mut E,
+    faults: &mut Counted<E>,
 )
     // The region's number and settings are unchanged. What it knew of each dot it still knows, or
     // has skipped since.
     ensures grows { Grows edge.old.region edge.new.region }
     // Each connection begins with the state in which the one before ended, and with fresh random
     // words.
-    ensures connections { ServesAll words.old requests log_taken
-        (record { edge = edge.old; log = L.holds log.old; faults = E.contents faults.old })
-        (record { edge = edge.new; log = L.holds log.new; faults = E.contents faults.new }) }
+    ensures connections { ServesWith words.old requests log_taken
+        (record {
+          start = edge.old;
+          end = edge.new;
+          faults = record {
+            before = writer_of E.contents faults.old;
+            after = writer_of E.contents faults.new;
+          };
+        })
+        (record { before = L.holds log.old; after = L.holds log.new }) }
 {
     let mut buf = [0u8; HEAD_LIMIT];
     let mut closing = ClosingSet::new(rt.alloc());
@@ -243,13 +286,13 @@ pub(crate) fn serve_on<R: AllocGlobal + Clock, L: Sink, E: Write>(
     wait_for_all(rt, &mut closing, &mut buf);
 }
 
-// Writes the fault of a connection, if any. A writer that fails is ignored, and the next fault is
-// written nevertheless.
-fn tell_end<E: Write>(faults: &mut E, end: Result<Served, EdgeFault>)
-    ensures { Told end (E.contents faults.old) (E.contents faults.new) }
+// Writes the fault of a connection, if any. If the writer fails, the next fault is written
+// nevertheless.
+fn tell_end<E: Write>(faults: &mut Counted<E>, end: Result<Served, EdgeFault>)
+    ensures { Told end (writer_of E.contents faults.old) (writer_of E.contents faults.new) }
 {
     if let Err(fault) = end {
-        let _ = tell_fault(faults, fault);
+        tell_fault(faults, fault);
     }
 }
 
@@ -367,14 +410,14 @@ fn moment<C: Clock>(clock: &C) -> io::Result<Moment> {
 }
 
 // Writes the line of a connection's fault. If the writer fails, it has the beginning of the line.
-fn tell_fault<E: Write>(faults: &mut E, fault: EdgeFault) -> io::Result<()>
-    ensures { Prints result (E.contents faults.old) (E.contents faults.new)
+fn tell_fault<E: Write>(faults: &mut Counted<E>, fault: EdgeFault)
+    ensures { Writes (writer_of E.contents faults.old) (writer_of E.contents faults.new)
         (connection_fault fault) }
 {
     match fault {
-        EdgeFault::Read => put_all(faults, &[b"fault read\n"]),
-        EdgeFault::Write => put_all(faults, &[b"fault write\n"]),
-        EdgeFault::Log => put_all(faults, &[b"fault log\n"]),
-        EdgeFault::Memory => put_all(faults, &[b"fault memory\n"]),
+        EdgeFault::Read => say(faults, &[b"fault read\n"]),
+        EdgeFault::Write => say(faults, &[b"fault write\n"]),
+        EdgeFault::Log => say(faults, &[b"fault log\n"]),
+        EdgeFault::Memory => say(faults, &[b"fault memory\n"]),
     }
 }

@@ -11,14 +11,13 @@ ghost use Rattle.tokend.specs.declared.fault.Fault.TheVariants as fault;
 
 use crate::draw::generator;
 use crate::fault::{Fault, cannot_read};
+use crate::folder::Folder;
 use crate::load::{LoadFault, load};
 use crate::options::Service;
 use rand_chacha::ChaCha20Rng;
 use std::alloc::Global;
-use std::fs::OpenOptions;
 use std::io::{self, Read};
-use std::rt::Files;
-use tk_edge::Edge;
+use tk_edge::{Edge, Sink};
 use tk_handle::{Moment, RegionNumber};
 use tk_region::Region;
 
@@ -30,16 +29,20 @@ pub(crate) struct Start {
 }
 
 /// Returns the region without facts, with its random words made of the seed.
-pub(crate) fn begin<R: AllocGlobal + Files>(rt: &R, service: &Service) -> Result<Start, Fault>
+pub(crate) fn begin<I: Read + Drop, L: Sink, D: Folder<I, L>>(
+    alloc: Global,
+    folder: &D,
+    service: &Service,
+) -> Result<Start, Fault>
     requires settings { IsSettings (settings_of service.now.numbers) }
     requires region { IsRegion service.now.region }
     ensures start { IfOk result (λ start. IsStart service.now start.edge start.words) }
     ensures fault { IfErr result (IsSeedFault (string_bytes service.now.seed)) }
 {
-    match read_seed(rt, &service.seed) {
+    match read_seed(alloc, folder, &service.seed) {
         Ok(seed) => {
             let number = RegionNumber::new(service.region).unwrap();
-            let region = Region::new(rt.alloc(), number, service.numbers.settings());
+            let region = Region::new(alloc, number, service.numbers.settings());
             let (edge, words) = (Edge::new(region, true), generator(seed, number));
             Ok(Start { edge, words })
         }
@@ -48,15 +51,16 @@ pub(crate) fn begin<R: AllocGlobal + Files>(rt: &R, service: &Service) -> Result
 }
 
 /// Loads the old log of this name, if any, and returns how many bytes at its end were dropped.
-pub(crate) fn load_old<R: AllocGlobal + Files>(
-    rt: &R,
+pub(crate) fn load_old<I: Read + Drop, L: Sink, D: Folder<I, L>>(
+    alloc: Global,
+    folder: &D,
     region: &mut Region,
     load: &Option<String>,
 ) -> Result<u64, Fault>
-    ensures { LoadsOld load.now region.old result region.new }
+    ensures { LoadsOld (D.kept folder.now) load.now region.old result region.new }
 {
     match load {
-        Some(path) => load_file(rt, region, path),
+        Some(path) => load_file(alloc, folder, region, path),
         None => Ok(0),
     }
 }
@@ -84,14 +88,22 @@ pub(crate) fn prune_old(
 }
 
 // Loads the log of this name, and returns how many bytes at its end were dropped.
-fn load_file<R: AllocGlobal + Files>(rt: &R, region: &mut Region, path: &str) -> Result<u64, Fault>
-    ensures { LoadsFile path.now region.old result region.new }
+fn load_file<I: Read + Drop, L: Sink, D: Folder<I, L>>(
+    alloc: Global,
+    folder: &D,
+    region: &mut Region,
+    path: &str,
+) -> Result<u64, Fault>
+    ensures { LoadsFile (D.kept folder.now path.now) path.now region.old result region.new }
 {
-    let Ok(mut file) = OpenOptions::new().read(true).open(rt, path) else {
-        return told(rt.alloc(), path, Err(LoadFault::Read));
-    };
-    let loaded = load(rt.alloc(), region, &mut file);
-    told(rt.alloc(), path, loaded)
+    match folder.open_old(path) {
+        Ok(mut file) => {
+            let loaded = load(alloc, region, &mut file);
+            drop(file);
+            told(alloc, path, loaded)
+        }
+        Err(_) => told(alloc, path, Err(LoadFault::Read)),
+    }
 }
 
 // Returns the program's result of loading the log of this name.
@@ -107,22 +119,26 @@ fn told(alloc: Global, path: &str, loaded: Result<u64, LoadFault>) -> Result<u64
 }
 
 // Reads the 32 bytes of a seed file.
-fn read_seed<R: AllocGlobal + Files>(rt: &R, path: &str) -> Result<[u8; 32], Fault>
+fn read_seed<I: Read + Drop, L: Sink, D: Folder<I, L>>(
+    alloc: Global,
+    folder: &D,
+    path: &str,
+) -> Result<[u8; 32], Fault>
     ensures { IfErr result (IsSeedFault path.now) }
 {
-    let Ok(mut file) = OpenOptions::new().read(true).open(rt, path) else {
-        return Err(cannot_read(rt.alloc(), path));
+    let Ok(mut file) = folder.open_old(path) else {
+        return Err(cannot_read(alloc, path));
     };
     let mut seed = [0u8; 32];
     if let Err(error) = file.read_exact(&mut seed) {
         if error.kind() == io::ErrorKind::UnexpectedEof {
             return Err(Fault::BadSeedFile);
         }
-        return Err(cannot_read(rt.alloc(), path));
+        return Err(cannot_read(alloc, path));
     }
     match file.read(&mut [0u8; 1]) {
         Ok(0) => Ok(seed),
         Ok(_) => Err(Fault::BadSeedFile),
-        Err(_) => Err(cannot_read(rt.alloc(), path)),
+        Err(_) => Err(cannot_read(alloc, path)),
     }
 }

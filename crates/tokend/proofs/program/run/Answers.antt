@@ -1,6 +1,5 @@
 use Rattle.std.proofs.Common.{map}
 use Rattle.clap.specs.Words.{kind_of}
-use Rattle.tokend.proofs.Runs.{untold}
 use Rattle.tokend.proofs.Shows.{refused_fault, refused_left, shown_done}
 use Rattle.tokend.proofs.program.run.Goals as goal
 
@@ -16,12 +15,9 @@ returns-in-Ok-clause-fault g c = c.run_task-ran.ensures.fault (map g.S.AsStr.tex
 pub returns-in-Ok-clause-left : goal.returns-in-Ok-clause-left
 returns-in-Ok-clause-left g c = c.run_task-ran.ensures.left (map g.S.AsStr.text c.args.words.now) c.in-Ok.ensures.task
 
-pub returns-in-Ok-clause-quiet : goal.returns-in-Ok-clause-quiet
-returns-in-Ok-clause-quiet g c = c.run_task-ran.ensures.quiet (map g.S.AsStr.text c.args.words.now) c.in-Ok.ensures.task
-
 pub returns-in-Err-clause-done : goal.returns-in-Err-clause-done
 returns-in-Err-clause-done g c =
-    shown_done (map g.S.AsStr.text c.args.words.now) (kind_of c.in-Err.error) c.show_or_refuse.result _ _ _ c.in-Err.ensures.refused c.show_or_refuse.ensures.shown
+    shown_done (g.D.Folder.kept c.args.folder.now) g.L.Sink.holds (g.D.Folder.opens c.args.folder.now) (map g.S.AsStr.text c.args.words.now) (kind_of c.in-Err.error) c.show_or_refuse.result _ _ _ c.in-Err.ensures.refused c.show_or_refuse.ensures.shown
 
 pub returns-in-Err-clause-fault : goal.returns-in-Err-clause-fault
 returns-in-Err-clause-fault g c =
@@ -29,7 +25,4 @@ returns-in-Err-clause-fault g c =
 
 pub returns-in-Err-clause-left : goal.returns-in-Err-clause-left
 returns-in-Err-clause-left g c =
-    refused_left (map g.S.AsStr.text c.args.words.now) c.in-Err.error c.show_or_refuse.result _ _ _ c.in-Err.ensures.refused c.show_or_refuse.ensures.fault
-
-pub returns-in-Err-clause-quiet : goal.returns-in-Err-clause-quiet
-returns-in-Err-clause-quiet g c = untold (map g.S.AsStr.text c.args.words.now) _ c.show_or_refuse.result _
+    refused_left (g.D.Folder.kept c.args.folder.now) (map g.S.AsStr.text c.args.words.now) c.in-Err.error c.show_or_refuse.result _ _ _ c.in-Err.ensures.refused c.show_or_refuse.ensures.fault

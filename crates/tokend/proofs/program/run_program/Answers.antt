@@ -1,19 +1,23 @@
 use Rattle.std.proofs.Common.{map, arith}
-use Rattle.tokend.proofs.Runs.{ended_badly, ended_quietly, ended_refused, ended_well}
+use Rattle.tokend.specs.ProgramRun.{IsDone}
+use Rattle.tokend.specs.Telling.{writer_of}
+use Rattle.tokend.proofs.Runs.{ended_badly, ended_well}
 use Rattle.tokend.proofs.program.run_program.Goals as goal
 
 pub returns-clause-done : goal.returns-clause-done
-returns-clause-done g c = ended_well c.run.result c.finish.result _ _ c.finish.ensures c.run.ensures.done
-
-pub returns-clause-quiet : goal.returns-clause-quiet
-returns-clause-quiet g c = ended_quietly (map g.S.AsStr.text c.args.words.now) _ c.run.result c.finish.result _ _ _ c.finish.ensures c.run.ensures.quiet
+returns-clause-done g c =
+    ended_well (writer_of g.E.Write.contents)
+    (λ faults. IsDone (g.D.Folder.kept c.args.folder.now) g.L.Sink.holds (g.D.Folder.opens c.args.folder.now) (map g.S.AsStr.text c.args.words.now) (g.I.Read.remaining c.args.input.now)
+    (record { before = g.O.Write.contents c.args.output.now; after = g.O.Write.contents c.run.new.output })
+    (record { before = writer_of g.E.Write.contents c.args.faults.now; after = writer_of g.E.Write.contents faults }))
+    c.run.result c.finish.result c.run.new.faults c.finish.new.faults c.finish.ensures c.run.ensures.done
 
 pub returns-clause-broken : goal.returns-clause-broken
 returns-clause-broken g c =
-    λ e. ended_badly (map g.S.AsStr.text c.args.words.now) _ _ _ c.run.result c.finish.result 1 _ _ _ c.finish.ensures c.run.ensures.fault
-    c.run.ensures.left c.run.ensures.silent e (omega (arith))
+    λ e. ended_badly (g.D.Folder.kept c.args.folder.now) (map g.S.AsStr.text c.args.words.now) _ _ _ (writer_of g.E.Write.contents) c.run.result c.finish.result 1 c.args.faults.now c.run.new.faults c.finish.new.faults
+    c.finish.ensures c.run.ensures.fault c.run.ensures.left c.run.ensures.silent e (omega (arith))
 
 pub returns-clause-refused : goal.returns-clause-refused
 returns-clause-refused g c =
-    ended_refused (map g.S.AsStr.text c.args.words.now) _ _ _ c.run.result c.finish.result _ _ _ c.finish.ensures c.run.ensures.fault
-    c.run.ensures.left c.run.ensures.silent
+    λ e. ended_badly (g.D.Folder.kept c.args.folder.now) (map g.S.AsStr.text c.args.words.now) _ _ _ (writer_of g.E.Write.contents) c.run.result c.finish.result 2 c.args.faults.now c.run.new.faults c.finish.new.faults
+    c.finish.ensures c.run.ensures.fault c.run.ensures.left c.run.ensures.silent e (omega (arith))

@@ -1,12 +1,12 @@
 use Rattle.std.proofs.Common.{subst, sym, inl, inr}
 use Rattle.tokend.specs.Task.{script_task, loopback_task, Asks}
-use Rattle.tokend.proofs.Runs.{check_done, check_quiet, facts_done, facts_quiet, faults_of_task, left_by_check, left_by_facts, left_by_task, script_done, service_done, service_quiet, untold}
+use Rattle.tokend.proofs.Runs.{check_done, facts_done, faults_of_task, left_by_check, left_by_facts, left_by_task, script_done, service_done}
 use Rattle.tokend.proofs.program.run_task.Goals as goal
 
 pub returns-in-Script-clause-done : goal.returns-in-Script-clause-done
 returns-in-Script-clause-done g c = λ words asked.
     let asks = subst (λ s. Asks words (script_task s)) (sym c.settings.ensures) (subst (Asks words) c.in-Script.is asked) in
-    script_done words _ _ _ _ c.run_script.result (λ h. inl (c.settings.result, asks, h)) c.run_script.ensures.done
+    script_done (g.D.Folder.kept c.args.folder.now) g.L.Sink.holds (g.D.Folder.opens c.args.folder.now) words _ _ _ _ c.run_script.result (λ h. inl (c.settings.result, asks, h)) c.run_script.ensures.done
 
 pub returns-in-Script-clause-fault : goal.returns-in-Script-clause-fault
 returns-in-Script-clause-fault g c = λ words asked.
@@ -16,12 +16,12 @@ returns-in-Script-clause-fault g c = λ words asked.
 pub returns-in-Script-clause-left : goal.returns-in-Script-clause-left
 returns-in-Script-clause-left g c = λ words asked.
     let asks = subst (λ s. Asks words (script_task s)) (sym c.settings.ensures) (subst (Asks words) c.in-Script.is asked) in
-    left_by_task words _ _ _ _ c.run_script.result (λ h fault. inl (inl (c.settings.result, asks, h))) c.run_script.ensures.left
+    left_by_task (g.D.Folder.kept c.args.folder.now) words _ _ _ _ c.run_script.result (λ h fault. inl (inl (c.settings.result, asks, h))) c.run_script.ensures.left
 
 pub returns-in-Loopback-clause-done : goal.returns-in-Loopback-clause-done
 returns-in-Loopback-clause-done g c = λ words asked.
     let asks = subst (λ s. Asks words (loopback_task s)) (sym c.settings-in-Loopback.ensures) (subst (Asks words) c.in-Loopback.is asked) in
-    script_done words _ _ _ _ c.run_loopback.result (λ h. inr (inl (c.settings-in-Loopback.result, asks, h))) c.run_loopback.ensures.done
+    script_done (g.D.Folder.kept c.args.folder.now) g.L.Sink.holds (g.D.Folder.opens c.args.folder.now) words _ _ _ _ c.run_loopback.result (λ h. inr (c.settings-in-Loopback.result, asks, h)) c.run_loopback.ensures.done
 
 pub returns-in-Loopback-clause-fault : goal.returns-in-Loopback-clause-fault
 returns-in-Loopback-clause-fault g c = λ words asked.
@@ -31,12 +31,12 @@ returns-in-Loopback-clause-fault g c = λ words asked.
 pub returns-in-Loopback-clause-left : goal.returns-in-Loopback-clause-left
 returns-in-Loopback-clause-left g c = λ words asked.
     let asks = subst (λ s. Asks words (loopback_task s)) (sym c.settings-in-Loopback.ensures) (subst (Asks words) c.in-Loopback.is asked) in
-    left_by_task words _ _ _ _ c.run_loopback.result (λ h fault. inl (inr (inl (c.settings-in-Loopback.result, asks, h)))) c.run_loopback.ensures.left
+    left_by_task (g.D.Folder.kept c.args.folder.now) words _ _ _ _ c.run_loopback.result (λ h fault. inl (inr (inl (c.settings-in-Loopback.result, asks, h)))) c.run_loopback.ensures.left
 
 pub returns-in-Serve-clause-done : goal.returns-in-Serve-clause-done
 returns-in-Serve-clause-done g c = λ words asked.
     let asks = subst (Asks words) c.in-Serve.is asked in
-    service_done words _ _ _ _ c.in-Serve.service c.serve.result asks c.serve.ensures.done
+    service_done (g.D.Folder.kept c.args.folder.now) g.L.Sink.holds (g.D.Folder.opens c.args.folder.now) words _ _ _ c.in-Serve.service c.serve.result asks c.serve.ensures.done
 
 pub returns-in-Serve-clause-fault : goal.returns-in-Serve-clause-fault
 returns-in-Serve-clause-fault g c = λ words asked.
@@ -46,22 +46,11 @@ returns-in-Serve-clause-fault g c = λ words asked.
 pub returns-in-Serve-clause-left : goal.returns-in-Serve-clause-left
 returns-in-Serve-clause-left g c = λ words asked.
     let asks = subst (Asks words) c.in-Serve.is asked in
-    left_by_task words _ _ _ _ c.serve.result (λ h fault. inr (inl (c.in-Serve.service, asks, h))) c.serve.ensures.left
-
-pub returns-in-Serve-clause-quiet : goal.returns-in-Serve-clause-quiet
-returns-in-Serve-clause-quiet g c = λ words asked.
-    let asks = subst (Asks words) c.in-Serve.is asked in
-    service_quiet words _ _ _ c.serve.result (c.in-Serve.service, asks)
-
-pub returns-in-Script-clause-quiet : goal.returns-in-Script-clause-quiet
-returns-in-Script-clause-quiet g c = λ words asked. untold words _ c.run_script.result _
-
-pub returns-in-Loopback-clause-quiet : goal.returns-in-Loopback-clause-quiet
-returns-in-Loopback-clause-quiet g c = λ words asked. untold words _ c.run_loopback.result _
+    left_by_task (g.D.Folder.kept c.args.folder.now) words _ _ _ _ c.serve.result (λ h fault. inr (inl (c.in-Serve.service, asks, h))) c.serve.ensures.left
 
 pub returns-in-Facts-clause-done : goal.returns-in-Facts-clause-done
 returns-in-Facts-clause-done g c = λ words asked.
-    facts_done words _ _ _ _ c.in-Facts.sources c.print_facts.result (subst (Asks words) c.in-Facts.is asked) c.print_facts.ensures.done
+    facts_done (g.D.Folder.kept c.args.folder.now) g.L.Sink.holds (g.D.Folder.opens c.args.folder.now) words _ _ _ c.in-Facts.sources c.print_facts.result (subst (Asks words) c.in-Facts.is asked) c.print_facts.ensures.done
 
 pub returns-in-Facts-clause-fault : goal.returns-in-Facts-clause-fault
 returns-in-Facts-clause-fault g c = λ words asked.
@@ -70,15 +59,11 @@ returns-in-Facts-clause-fault g c = λ words asked.
 
 pub returns-in-Facts-clause-left : goal.returns-in-Facts-clause-left
 returns-in-Facts-clause-left g c = λ words asked.
-    left_by_facts words _ _ _ c.in-Facts.sources c.print_facts.result (subst (Asks words) c.in-Facts.is asked) c.print_facts.ensures.left
-
-pub returns-in-Facts-clause-quiet : goal.returns-in-Facts-clause-quiet
-returns-in-Facts-clause-quiet g c = λ words asked.
-    facts_quiet words _ _ _ _ c.in-Facts.sources c.print_facts.result (subst (Asks words) c.in-Facts.is asked) c.print_facts.ensures.done
+    left_by_facts (g.D.Folder.kept c.args.folder.now) words _ _ _ c.in-Facts.sources c.print_facts.result (subst (Asks words) c.in-Facts.is asked) c.print_facts.ensures.left
 
 pub returns-in-Check-clause-done : goal.returns-in-Check-clause-done
 returns-in-Check-clause-done g c = λ words asked.
-    check_done words _ _ _ _ c.in-Check.check c.check_facts.result (subst (Asks words) c.in-Check.is asked) c.check_facts.ensures.done
+    check_done (g.D.Folder.kept c.args.folder.now) g.L.Sink.holds (g.D.Folder.opens c.args.folder.now) words _ _ _ c.in-Check.check c.check_facts.result (subst (Asks words) c.in-Check.is asked) c.check_facts.ensures.done
 
 pub returns-in-Check-clause-fault : goal.returns-in-Check-clause-fault
 returns-in-Check-clause-fault g c = λ words asked.
@@ -87,8 +72,4 @@ returns-in-Check-clause-fault g c = λ words asked.
 
 pub returns-in-Check-clause-left : goal.returns-in-Check-clause-left
 returns-in-Check-clause-left g c = λ words asked.
-    left_by_check words _ _ _ c.in-Check.check c.check_facts.result (subst (Asks words) c.in-Check.is asked) c.check_facts.ensures.left
-
-pub returns-in-Check-clause-quiet : goal.returns-in-Check-clause-quiet
-returns-in-Check-clause-quiet g c = λ words asked.
-    check_quiet words _ _ _ _ c.in-Check.check c.check_facts.result (subst (Asks words) c.in-Check.is asked) c.check_facts.ensures.done
+    left_by_check (g.D.Folder.kept c.args.folder.now) words _ _ _ c.in-Check.check c.check_facts.result (subst (Asks words) c.in-Check.is asked) c.check_facts.ensures.left

@@ -1,0 +1,162 @@
+//! What a bundle changes of a store, and the record of that in a log: `news`.
+
+ghost use Rattle.std.specs.Prelude.{◌≡◌, ◌≤◌, ◌++◌, filter, length, IfOk, OnOk};
+ghost use Rattle.std.specs.FinMap as map;
+ghost use Rattle.std.specs.List.{AllByRecursion, flat_map};
+ghost use Rattle.std.specs.Option.{option_map};
+ghost use Rattle.tk_bundle.specs.Bundle.{bundle, max_items};
+ghost use Rattle.tk_bundle.specs.BundleFields.{is_mark};
+ghost use Rattle.tk_bundle.specs.Items.{item};
+ghost use Rattle.tk_bundle.specs.News as spec;
+ghost use Rattle.tk_bundle.specs.Versions.{newest_kind};
+
+use crate::bundle::Bundle;
+use crate::item::Item;
+use crate::page::{begin_bundle, write_mark};
+use crate::version::kind_in;
+use std::alloc::{AllocError, Global};
+use tk_format::Writer;
+use tk_handle::Moment;
+use tk_store::{FactStore, SlotRef};
+
+/// Returns the record of a bundle in the log of a store that is about to take the bundle in: the
+/// bundle without the facts at skipped dots, which the store drops. Returns None if the bundle
+/// changes nothing: it raises no horizon, has no unknown dot, and no mark of a fact that is held.
+pub fn news(alloc: Global, store: &FactStore, sent: &Bundle) -> Result<Option<Vec<u8>>, AllocError>
+    requires { bundle.Fits sent.now }
+    ensures news { IfOk result (λ news. option_map (λ bytes. bytes.items) news
+        ≡ spec.record_of store.now sent.now) }
+
+    // A record can be read.
+    ensures fits { bundle.Fits (spec.news_of store.now.slots sent.now) }
+{
+    if !changes(store, sent) {
+        return Ok(None);
+    }
+    let items = sent.items();
+    let newest = newest_kept(0, store, items);
+    let mut writer = begin_bundle(alloc, newest, sent.horizon(), count_kept(store, items))?;
+    write_kept(alloc, store, items, &mut writer)?;
+    Ok(Some(writer.into_bytes()))
+}
+
+// Returns whether taking in the bundle changes the store.
+fn changes(store: &FactStore, sent: &Bundle) -> bool
+    ensures { result ≡ spec.changes store.now sent.now }
+{
+    is_later(store.horizon(), sent.horizon()) || changes_slots(store, sent.items())
+}
+
+// Returns whether a bundle's horizon, if it has one, is later than the store's.
+fn is_later(horizon: Moment, sent: Option<Moment>) -> bool
+    ensures { result ≡ spec.is_later horizon sent }
+{
+    match sent {
+        Some(moment) => horizon.seconds() < moment.seconds(),
+        None => false,
+    }
+}
+
+// Returns whether an item changes what is known of its dot.
+fn changes_slots(store: &FactStore, items: &[Item]) -> bool
+    ensures { result ≡ spec.changes_slots store.now.slots items.now }
+{
+    items.iter().any(|item| changes_slot(store, item))
+}
+
+// Returns whether the item changes what is known of its dot.
+fn changes_slot(store: &FactStore, item: &Item) -> bool
+    ensures { result ≡ spec.changes_slot (map.get store.now.slots item.now.0) item.now.1 }
+{
+    match (store.slot(item.dot()), item.slot()) {
+        (None, _) => true,
+        (Some(SlotRef::Held(_)), SlotRef::Skipped) => true,
+        (Some(SlotRef::Held(_)), SlotRef::Held(_)) => false,
+        (Some(SlotRef::Skipped), _) => false,
+    }
+}
+
+// Returns whether the item isn't dropped when it is taken in.
+fn counts(store: &FactStore, item: &Item) -> bool
+    ensures { result ≡ spec.counts store.now.slots item.now }
+{
+    is_mark(item) || !store.skipped(item.dot())
+}
+
+fn is_mark(item: &Item) -> bool
+    ensures { result ≡ is_mark item.now }
+{
+    match item.slot() {
+        SlotRef::Held(_) => false,
+        SlotRef::Skipped => true,
+    }
+}
+
+// Returns the newest kind of the items that aren't dropped, or `last` if that is newer. Recurses
+// over at most 128 items, as the next two functions do.
+fn newest_kept(last: u8, store: &FactStore, items: &[Item]) -> u8
+    ensures { result ≡ newest_kind last (filter (spec.counts store.now.slots) items.now) }
+{
+    match items {
+        [] => last,
+        [first, rest @ ..] => {
+            if counts(store, first) {
+                newest_kept(last.max(kind_in(&first.slot())), store, rest)
+            } else {
+                newest_kept(last, store, rest)
+            }
+        }
+    }
+}
+
+// Returns the number of items that aren't dropped.
+fn count_kept(store: &FactStore, items: &[Item]) -> u16
+    requires { length items.now ≤ max_items }
+    ensures value { result ≡ length (filter (spec.counts store.now.slots) items.now) }
+    ensures short { result ≤ length items.now }
+{
+    match items {
+        [] => 0,
+        [first, rest @ ..] => {
+            if counts(store, first) {
+                count_kept(store, rest) + 1
+            } else {
+                count_kept(store, rest)
+            }
+        }
+    }
+}
+
+// Writes the items that aren't dropped.
+fn write_kept(
+    alloc: Global,
+    store: &FactStore,
+    items: &[Item],
+    writer: &mut Writer,
+) -> Result<(), AllocError>
+    requires { AllByRecursion item.Fits items.now }
+    ensures { OnOk result (writer.new ≡ writer.old ++ flat_map item.spell
+        (filter (spec.counts store.now.slots) items.now)) }
+{
+    let [first, rest @ ..] = items else {
+        return Ok(());
+    };
+    if counts(store, first) {
+        write_sent(alloc, first, writer)?;
+    }
+    write_kept(alloc, store, rest, writer)
+}
+
+// Writes an item.
+fn write_sent(alloc: Global, sent: &Item, writer: &mut Writer) -> Result<(), AllocError>
+    requires { item.Fits sent.now }
+    ensures { OnOk result (writer.new ≡ writer.old ++ item.spell sent.now) }
+{
+    match sent.slot() {
+        SlotRef::Held(fact) => {
+            fact.write_framed(alloc, writer)?;
+            Ok(())
+        }
+        SlotRef::Skipped => write_mark(sent.dot(), writer),
+    }
+}
