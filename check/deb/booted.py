@@ -7,6 +7,7 @@ import time
 import unittest
 
 from deb import made, machine
+from running.page import PAGE, chunks, sections
 
 CLIENT = "-d kind=public -d scope=read -d redirects=https://app.example/cb"
 CONFIGURATION = "TOKEND_PORT=%d\\nTOKEND_FIRST=%d\\nTOKEND_LAST=%d\\nTOKEND_PEERS=%s\\n"
@@ -146,6 +147,37 @@ class Booted(unittest.TestCase):
         self.assertLess(time.monotonic() - began, SOON)
         self.assertLess(self.kill(), SOON)
         self.assertEqual(self.has_failed(), "")
+
+    def test_memory_is_limited_by_a_drop_in_alone(self):
+        self.begin()
+        self.assertEqual(self.shown("OOMScoreAdjust"), "0")
+        self.assertEqual(self.shown("MemoryMax"), "infinity")
+        self.do("cd /etc/systemd/system && mkdir tokend@one.service.d && "
+                "cp /usr/share/doc/tokend/examples/systemd/memory.conf tokend@one.service.d && "
+                "systemctl daemon-reload && systemctl restart tokend@one")
+        self.assertEqual(self.shown("OOMScoreAdjust"), "-500")
+        self.assertEqual(self.shown("MemoryMax"), str(4 << 30))
+        self.assertIn(str(3 << 30), self.do("grep '^Max data size' /proc/%s/limits"
+                                            % self.shown("MainPID")))
+
+    def test_a_region_that_is_removed_leaves_nothing(self):
+        """By the commands of the runbook."""
+        self.begin(peers="http://127.0.0.1:7002")
+        self.configure("two", 7002, 101, "http://127.0.0.1:7001")
+        self.do("systemctl enable --now tokend@two; mkdir -p /var/lib/prometheus/node-exporter; "
+                "ln -s /run/tokend-metrics/two.prom "
+                "/var/lib/prometheus/node-exporter/tokend-two.prom; "
+                "systemctl start tokend-carry@two tokend-metrics@two")
+        traces = "find /run/tokend* /var/lib/prometheus /etc/systemd/system -name '*two*'"
+        self.assertGreater(len(self.do(traces).split()), 3)
+        with open(PAGE, encoding="utf-8") as file:
+            commands = chunks(sections(file.read())["Removing a region"])
+        self.do("set -e; one=http://127.0.0.1:7001 two=http://127.0.0.1:7002\n"
+                + "\n".join(it for it, _ in commands))
+        self.assertEqual(self.do(traces), "")
+        self.assertEqual(self.has_failed(), "")
+        self.assertEqual(self.do("systemctl list-units --plain --no-legend 'tokend*two*'"), "")
+        self.assertNotIn("7002", self.metrics())
 
     def test_an_upgrade_stops_nothing(self):
         self.begin()
