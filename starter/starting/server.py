@@ -118,7 +118,7 @@ def is_running(process):
 
 
 def wait(port, process):
-    """Whether a server replies on the port, once it does. It doesn't if the process ends before."""
+    """Waits until a server replies on the port or the process ends: returns whether one replied."""
     url = "http://127.0.0.1:%d" % port
     while True:
         try:
