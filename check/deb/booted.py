@@ -11,6 +11,7 @@ from running.page import PAGE, chunks, sections
 
 CLIENT = "-d kind=public -d scope=read -d redirects=https://app.example/cb"
 CONFIGURATION = "TOKEND_PORT=%d\\nTOKEND_FIRST=%d\\nTOKEND_LAST=%d\\nTOKEND_PEERS=%s\\n"
+# in the place of await-clock, as a container may not ask for the state of the clock
 GIVES_UP = "[Service]\\nExecStart=\\nExecStart=/bin/sh -c \"sleep 6; exit 1\"\\n"
 SOON = 5  # seconds that a start takes without a wait for the clock
 
