@@ -17,20 +17,23 @@ SOON = 5  # seconds that a start takes without a wait for the clock
 
 
 class Booted(unittest.TestCase):
+    lacking = None  # why no test can run here
+
     @classmethod
     def setUpClass(cls):
-        if made.TOOLS:
-            raise unittest.SkipTest("passed over: no " + " ".join(made.TOOLS))
-        if machine.lacking():
-            raise unittest.SkipTest("passed over, under systemd: " + machine.lacking())
+        cls.lacking = "no " + " ".join(made.TOOLS) if made.TOOLS else machine.lacking()
 
     def setUp(self):
+        if Booted.lacking:
+            self.skipTest("passed over, under systemd: " + Booted.lacking)
         folder = self.enterContext(tempfile.TemporaryDirectory())
         for version in "0.1.0", "0.1.1":
             shutil.copy(made.package(version), folder)
         self.machine = machine.Machine(folder)
         self.addCleanup(self.machine.end)
-        self.machine.boot()
+        if not self.machine.boots():
+            Booted.lacking = "systemd-nspawn doesn't boot here: " + self.machine.console()
+            self.skipTest("passed over, under systemd: " + Booted.lacking)
 
     def do(self, script, wanted=0):
         """What a script prints, which ends with a status."""

@@ -9,7 +9,6 @@ import shutil
 import signal
 import subprocess
 import time
-import unittest
 
 from deb import made
 
@@ -73,12 +72,14 @@ class Machine:
                                       stderr=subprocess.STDOUT)
         self.first = None
 
-    def boot(self):
-        """Waits until systemd is up. The tests are passed over if it doesn't come up here."""
-        if not self.until(lambda: self.run("systemctl is-system-running")[1].strip() in UP):
-            with open(self.said.name, encoding="utf-8", errors="replace") as file:
-                raise unittest.SkipTest("passed over: systemd-nspawn doesn't boot here: "
-                                        + file.read()[-500:])
+    def boots(self):
+        """Waits until systemd is up: returns whether it is."""
+        return self.until(lambda: self.run("systemctl is-system-running")[1].strip() in UP)
+
+    def console(self):
+        """The end of what it printed."""
+        with open(self.said.name, encoding="utf-8", errors="replace") as file:
+            return file.read()[-500:]
 
     def run(self, script, patience=PATIENCE):
         """The status and the output of a shell script in the container, as its root."""
