@@ -6,7 +6,7 @@ import tempfile
 import time
 import unittest
 
-from deb import made, machine
+from deb import fill, made, machine
 from running.page import PAGE, chunks, sections
 
 CLIENT = "-d kind=public -d scope=read -d redirects=https://app.example/cb"
@@ -27,8 +27,8 @@ class Booted(unittest.TestCase):
         if Booted.lacking:
             self.skipTest("passed over, under systemd: " + Booted.lacking)
         folder = self.enterContext(tempfile.TemporaryDirectory())
-        for version in "0.1.0", "0.1.1":
-            shutil.copy(made.package(version), folder)
+        for path in made.package("0.1.0"), made.package("0.1.1"), fill.__file__:
+            shutil.copy(path, folder)
         self.machine = machine.Machine(folder)
         self.addCleanup(self.machine.end)
         if not self.machine.boots():
@@ -163,6 +163,32 @@ class Booted(unittest.TestCase):
         self.assertEqual(self.shown("MemoryMax"), str(4 << 30))
         self.assertIn(str(3 << 30), self.do("grep '^Max data size' /proc/%s/limits"
                                             % self.shown("MainPID")))
+
+    def limit(self, megabytes):
+        """Sets how much memory the program may have."""
+        self.do("cd /etc/systemd/system && mkdir -p tokend@one.service.d && "
+                "printf '[Service]\\nLimitDATA=%dM\\n' >tokend@one.service.d/memory.conf && "
+                "systemctl daemon-reload" % megabytes)
+
+    def test_a_region_out_of_memory_goes_on_and_starts_with_more(self):
+        self.install()
+        self.configure()
+        self.limit(40)
+        self.do("systemctl enable --now tokend@one")
+        client = self.add_client()
+        pages = int(self.do("python3 /given/fill.py"))
+        self.assertGreater(pages, 9)
+        self.assertEqual(self.do("journalctl -u tokend@one -o cat -n 1 _TRANSPORT=stdout"),
+                         "fault memory\n")
+        self.assertTrue(self.has_client(client))
+        self.do("systemctl restart tokend@one", 1)
+        self.assertIn("\ntokend: memory\n", self.do("journalctl -u tokend@one -o cat"))
+        self.limit(80)
+        self.do("systemctl reset-failed tokend@one; systemctl start tokend@one")
+        self.assertTrue(self.has_client(client))
+        said = self.do("curl -s http://127.0.0.1:7001/sync/vector | tokend facts")
+        held = int(re.search(r'"region":50,"serial":(\d+)', said)[1])
+        self.assertGreaterEqual(held, pages * fill.FACTS)  # the last page may be logged too
 
     def test_a_region_that_is_removed_leaves_nothing(self):
         """By the commands of the runbook."""
