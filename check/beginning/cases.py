@@ -12,6 +12,10 @@ FAIL = """#!/bin/sh
 case "$*" in *log/00001.otb*) echo 'tokend: memory' >&2; exit 1 ;; esac
 exec "$REAL" "$@"
 """
+KILL = """#!/bin/sh
+case "$*" in *"--load "*"$UNLOADED --log "*) kill -9 $$ ;; esac
+exec "$REAL" "$@"
+"""
 SLOW = """#!/bin/sh
 case "$*" in *--requests*) ;; *) sleep 3 ;; esac
 exec "$REAL" "$@"
@@ -90,6 +94,22 @@ def program_that_fails_is_no_bad_log(room):
     wanted(room.number() == 1, "a start that was refused used a number")
 
 
+def log_of_a_site_without_memory_is_checked(room):
+    """The program is killed if it loads a log beside this start. The start itself goes well."""
+    first = room.start().listening()
+    first.add_client()
+    first.stop()
+    room.write("kill", KILL.encode(), 0o700)
+    killed = {"TOKEND": room.path("kill"), "REAL": room.program}
+    run = room.start(UNLOADED="log/00001.otb", **killed).listening()
+    wanted(run.vector() == {1: 1}, "another vector", run.vector())
+    run.stop()
+    room.write("site/peers.part", bundle(retirements(50, 1, 2)))
+    run = room.start(UNLOADED="peers.part", **killed).listening()
+    wanted(run.vector() == {1: 1}, "another vector", run.vector())
+    wanted("status -9: ; started without it" in run.errors(), "not said", run.errors())
+
+
 def whole_front_of_a_log_is_counted(room):
     """Of a log that ends in zeros, as some file systems leave it, or in a cut record."""
     good = bundle(retirements(7, 1, 2)) + bundle([], b"OTB3" + bytes(8))
@@ -139,6 +159,7 @@ def slow_start_is_waited_for(room):
     run.stop()
     waiting = Child(room, [START, "--wait"], variables)
     wanted(waiting.ended(5) == 1, "it waits for a process that has ended")
+    wanted(waiting.errors() == "", "the start's own message isn't the last", waiting.errors())
 
 
 def unit_kills_no_start(_):
@@ -264,7 +285,8 @@ def proxies_are_ignored(room):
 
 CASES = [
     later_start_has_all, cut_record_is_left_out, second_run_is_refused, option_uses_no_number,
-    setting_is_refused, program_that_fails_is_no_bad_log, whole_front_of_a_log_is_counted,
+    setting_is_refused, program_that_fails_is_no_bad_log,
+    log_of_a_site_without_memory_is_checked, whole_front_of_a_log_is_counted,
     history_that_is_bad_is_named, log_may_have_any_name, folders_have_spaces,
     silent_peer_is_passed_over, slow_start_is_waited_for, unit_kills_no_start,
     pages_that_came_are_kept, cut_page_of_a_killed_start_is_left_out,

@@ -56,6 +56,7 @@ def compact_keeps_all(room):
     done = compacted(room)
     wanted(done.ended() == 0, "not compacted", done.errors())
     wanted(marks_in(only_segment(room)) == 0, "pruned without a margin")
+    wanted(names_of(room, "site/load.otb"), "load.otb is gone, and no server said that it has it")
     run.stop()
     site.vector |= {3: 1, 50: 5}
     run = room.start().listening()
@@ -78,6 +79,7 @@ def compact_prunes_and_pushes(room):
            done.output)
     wanted(marks_in(only_segment(room)) == 2 * LOGINS, "not pruned")
     wanted(marks_of(run) == 2 * LOGINS, "not pushed", marks_of(run))
+    wanted(not names_of(room, "site/load.otb"), "load.otb has all that was pruned")
     wanted(room.read("site/log/00003.otb") == b"", "known marks were logged")
     site.is_as_ever(run)
     run.stop()

@@ -70,6 +70,13 @@ class Carriers(Case):
 
 
 class Clock(unittest.TestCase):
+    def test_a_wait_that_gave_up_is_no_failure_and_is_not_repeated(self):
+        """The unit stays as one that went well: no later start waits while the region is down."""
+        with open(UNITS + "/tokend-clock.service", encoding="utf-8") as file:
+            unit = settings(file.read())
+        self.assertEqual(unit.get("SuccessExitStatus"), ["1"])
+        self.assertEqual(unit.get("RemainAfterExit"), ["yes"])
+
     def setUp(self):
         self.clock, self.slept = loaded("systemd/await-clock"), []
 

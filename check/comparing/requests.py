@@ -175,7 +175,8 @@ def compare(program, seed):
     for name in sorted(names - set(re.findall(r"`([a-z]+(?:_[a-z]+)*)`", text_of(HTTP)))):
         differ(HTTP, "has no error `%s`" % name)
     compare_names(names)
-    statuses = set(re.findall(r"Status::\w+ => (\d+)", text_of("crates/tk_message/src/status.rt")))
+    codes = text_of("crates/tk_message/src/status_code.rt")
+    statuses = set(re.findall(r"StatusCode::\w+ => (\d+)", codes))
     counted = re.search(r"(\d+) codes and (\d+) statuses", text_of("docs/DEFINITIONS.md")).groups()
     same("docs/DEFINITIONS.md", "how many codes and statuses there are",
          (len(names), len(statuses)), tuple(int(n) for n in counted))

@@ -127,6 +127,19 @@ class Installed(unittest.TestCase):
         self.assertTrue(self.has_client(port, "c1-1"))
         self.assertEqual(self.add_client(port), "c2-1")
 
+    def test_each_unit_of_a_site_has_the_one_user(self):
+        """Also tokend-metrics@, which reads the site's folder. The clock's is of no site."""
+        self.install()
+        for name in sorted(it for it in os.listdir(self.path(UNITS)) if "@.service" in it):
+            lines = re.findall("(?m)^(?:Dynamic)?User=.*$", self.read(os.path.join(UNITS, name)))
+            self.assertEqual(lines, ["User=tokend"], name)
+
+    def test_a_file_that_was_changed_is_found(self):
+        self.install()
+        self.assertEqual(self.dpkg("--verify", "tokend"), "")
+        self.write("usr/lib/tokend/carry", "#!/bin/sh\n")
+        self.assertIn("/usr/lib/tokend/carry\n", self.dpkg("--verify", "tokend"))
+
     def test_the_user_is_made_once(self):
         self.install()
         self.dpkg("--unpack", made.package("0.1.0"))
@@ -162,6 +175,7 @@ class Installed(unittest.TestCase):
         client = self.add_client(port)
         said = self.install("0.1.1")
         self.assertIn("go on with the program of version 0.1.0", said)
+        self.assertNotIn("go on with the program", self.install("0.1.1"))
         self.assertIsNone(child.poll())
         self.assertTrue(self.has_client(port, client))
         self.assertEqual(self.read("etc/tokend/one.conf"), before)

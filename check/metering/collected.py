@@ -27,13 +27,13 @@ class Collected(SitesCase):
     def begin(self, first=1):
         return self.site(first)
 
-    def collect(self, site, peer_urls=()):
+    def collect(self, site, peer_urls=(), **more):
         """Runs the command, and returns the values by metric and labels without the site."""
         first, last = site.numbers.split("-")
         status, output, errors = self.run_script(
             COMMAND, "one", self.file, TOKEND_PORT=str(site.port), TOKEND_FIRST=first,
             TOKEND_LAST=last, TOKEND_PEERS=" ".join(peer_urls), SITE_DIRECTORY=str(site.folder),
-            RUN_DIRECTORY=self.folder)
+            RUN_DIRECTORY=self.folder, UNIT_DIRECTORY=self.folder, **more)
         self.assertEqual((status, output, errors), (0, "", ""))
         return self.values()
 
@@ -96,19 +96,58 @@ class Collected(SitesCase):
         self.assertEqual((found["up"], found["sealed"]), (0, 1))
         self.assertGreater(found["resident_bytes"], 0)
 
+    def end_carrier(self, name, port, moment):
+        """What the unit of a carrier leaves when it has ended well."""
+        done = os.path.join(self.folder, "tokend-carry-" + name, "done.%d" % port)
+        os.makedirs(os.path.dirname(done), exist_ok=True)
+        with open(done, "w", encoding="utf-8"):
+            os.utime(done, (moment, moment))
+
+    def carriers(self, site, peer_urls):
+        """When each carrier ended, by its name."""
+        name = 'last_carry_timestamp_seconds,carrier="'
+        return {it.removeprefix(name)[:-1]: value
+                for it, value in self.collect(site, peer_urls).items() if it.startswith(name)}
+
     def test_when_carriers_ended(self):
         one = self.begin()
-        self.assertFalse([it for it in self.collect(one) if "carry" in it])
-        name = 'last_carry_timestamp_seconds,carrier="%s"'
-        self.assertEqual(self.collect(one, [one.url])[name % "one"], 0)
-        for carrier, moment in ("two", 1000), ("three", 2000):
-            done = os.path.join(self.folder, "tokend-carry-" + carrier, "done")
-            os.makedirs(os.path.dirname(done))
-            with open(done, "w", encoding="utf-8"):
-                os.utime(done, (moment, moment))
-        found = self.collect(one, [one.url])
-        self.assertEqual({it: value for it, value in found.items() if "carry" in it},
-                         {name % "two": 1000, name % "three": 2000})
+        self.assertEqual(self.carriers(one, []), {})
+        self.assertEqual(self.carriers(one, [one.url]), {"one": 0})
+        self.end_carrier("two", one.port, 1000)
+        self.end_carrier("three", one.port, 2000)
+        self.assertEqual(self.carriers(one, [one.url]), {"two": 1000, "three": 2000})
+
+    def test_carriers_of_another_site_are_not_claimed(self):
+        one = self.begin()
+        self.end_carrier("one", one.port, 1000)
+        self.end_carrier("other", one.port + 1, 2000)
+        self.assertEqual(self.carriers(one, [one.url]), {"one": 1000})
+
+    def test_a_masked_carrier_is_none(self):
+        """Whether or not it has run, and its folder is there."""
+        one = self.begin()
+        os.symlink("/dev/null", os.path.join(self.folder, "tokend-carry@one.timer"))
+        self.assertEqual(self.carriers(one, [one.url]), {})
+        self.end_carrier("one", one.port, 1000)
+        self.end_carrier("two", one.port, 2000)
+        self.assertEqual(self.carriers(one, [one.url]), {"two": 2000})
+
+    @unittest.skipUnless(shutil.which("openssl"), "passed over: no openssl")
+    def test_when_certificates_expire(self):
+        one, name = self.begin(), 'certificate_expiry_timestamp_seconds,file="%s"'
+        folder = os.path.join(self.folder, "ca")
+        script = os.path.join(TOP, "examples/between-sites/certificates")
+        for words in (["ca", folder], ["site", folder, "one", "9"],
+                      ["site", folder, "late", "20000"]):  # beyond 2050 the form is another
+            subprocess.run([script, *words], check=True)
+        now, day = time.time(), 86_400
+        paths = [os.path.join(folder, it) for it in ("one.pem", "late.pem", "one.key", "gone")]
+        found = self.collect(one, TOKEND_CERTIFICATES=" ".join(paths))
+        self.assertLess(abs(found[name % paths[0]] - now - 9 * day), 60)
+        self.assertLess(abs(found[name % paths[1]] - now - 20_000 * day), 60)
+        self.assertEqual([found[name % it] for it in paths[2:]], [0, 0])
+        self.assertEqual(os.stat(paths[0]).st_mode & 0o777, 0o644)
+        self.assertEqual(os.stat(paths[2]).st_mode & 0o777, 0o600)
 
     def test_a_reader_never_sees_a_part(self):
         one = self.begin()

@@ -66,16 +66,35 @@ def check_port(port):
             raise Stop(FAILED, "port %d: %s" % (port, why)) from None
 
 
-def cut_bytes(settings, number, path):
-    """How many bytes at the end of a log are a cut record. Stops if it is no log."""
-    done = tried(settings, number, path)
+def refuse(path, done):
+    """Stops if the program found a file to be no log, or failed."""
     if done.returncode == 2:
         raise no_log(path, done.stderr.strip())
     if done.returncode:
         raise Stop(FAILED, "%s was not checked: the program ended with status %d: %s"
                    % (path, done.returncode, done.stderr.strip()))
-    cut = re.match(r"dropped (\d+) bytes\n", done.stdout)
+
+
+def cut_bytes(settings, path):
+    """How many bytes at the end of a log are a cut record. Stops if it is no log.
+
+    The program reads one bundle after the other and holds none, so a site that is out of memory
+    can start again.
+    """
+    try:
+        done = subprocess.run([settings.tokend, "facts", path], stdin=subprocess.DEVNULL,
+                              stdout=subprocess.DEVNULL, stderr=subprocess.PIPE, text=True,
+                              errors="replace", check=False)
+    except OSError as why:
+        raise Stop(SETTINGS, "%s can't be run: %s" % (settings.tokend, why)) from None
+    refuse(path, done)
+    cut = re.match(r"tokend: dropped (\d+) bytes\n", done.stderr)
     return int(cut[1]) if cut else 0
+
+
+def check_load(settings, number, path):
+    """Stops if the program can't load a file by itself. That takes memory for all of its facts."""
+    refuse(path, tried(settings, number, path))
 
 
 def become(settings, number, load, log):
@@ -99,13 +118,13 @@ def is_running(process):
 
 
 def wait(port, process):
-    """Returns once a server replies on the port. Stops if the process has ended before."""
+    """Waits until a server replies on the port or the process ends: returns whether one replied."""
     url = "http://127.0.0.1:%d" % port
     while True:
         try:
             Peer(url, time.monotonic() + 60).regions()
-            return
+            return True
         except FAULTS:
             if process and not is_running(process):
-                raise Stop(FAILED, "the start ended before it replied") from None
+                return False
         time.sleep(PAUSE)
