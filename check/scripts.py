@@ -19,8 +19,8 @@ HELD = re.compile(rb"bundle \d+ (\d+) \S+ end$")
 class Judge:
     """Runs scripts by one command, `script` or `loopback`, and finds what is wrong with a run."""
 
-    def __init__(self, lab, command):
-        self.lab, self.command = lab, command
+    def __init__(self, lab, command, options=()):
+        self.lab, self.command, self.options = lab, command, list(options)
         self.marks = self.count_marks()
 
     def count_marks(self):
@@ -34,7 +34,7 @@ class Judge:
         return both
 
     def run(self, script, **refusal):
-        return self.lab.run([self.command], script, **refusal)
+        return self.lab.run([self.command] + self.options, script, **refusal)
 
     def fresh(self, texts):
         """The lines of a run with enough memory."""

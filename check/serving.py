@@ -17,6 +17,7 @@ from server import body_of, facts_of, http, push, request_of, run_story
 
 PRUNED = " --prune 1702592000"  # the families of the old log are over at this moment
 PASSING = (5, 6, 7, 9)  # the kinds of facts that may be skipped
+DIGEST = slice(31, 63)  # of a code's fact
 REGION, OLD_REGION, OTHER_REGION, READER = 1, 2, 3, 9
 LOOK = "req 1 0 POST /introspect <c2-2:s3cret> - token="
 
@@ -105,6 +106,15 @@ class Scene:
         return Request("POST /sync/push of %d facts and marks" % len(items), push(items),
                        [push(front) for front in fronts])
 
+    def push_skipped(self):
+        """A push to a pruned server: another body at a skipped dot, marks, facts, known or new."""
+        code, *rest = [fact for fact in facts_of(self.old) if fact[MARK] in PASSING]
+        other = code[:DIGEST.start] + bytes(32) + code[DIGEST.stop:]
+        new = [fact[:MARK] if n % 2 and fact[MARK] in PASSING else fact
+               for n, fact in enumerate(self.pushed)]
+        items = [other, rest[0][:MARK], *rest[1:], *new]
+        return Request("POST /sync/push of %d items, some skipped" % len(items), push(items))
+
     def remembered(self, key, make):
         """The value of the key, which is made once."""
         with self.lock:
@@ -128,6 +138,13 @@ class Scene:
             with Server(self.lab, READER, facts) as server:
                 return server.ask_all(self.looks)
         return self.remembered(facts, make)
+
+    def loaded(self, facts, options):
+        """What a server of another number holds once it loaded this, or None if it refuses it."""
+        def make():
+            with Server(self.lab, READER, facts, options) as server:
+                return [server.port and facts_of(body_of(server.ask(PULL)))]
+        return self.remembered((facts, options), make)[0]
 
 
 class Talk:
@@ -189,25 +206,31 @@ def sweep(scene, request, is_whole, offset, stride):
     yield from refusal.sweep(scene.lab, title, trial, is_whole, offset, stride)
 
 
-def sweep_taken(scene, is_whole, offset, stride):
+def wrong_log(scene, held, log, options):
+    """What is wrong with a server of another number that loads these logs, or None."""
+    back = scene.loaded(log, options)
+    if back is None:
+        return "the log isn't loaded again"
+    lost = not set(held) <= set(back)
+    return "%d facts and marks are held, %d loaded" % (len(held), len(back)) if lost else None
+
+
+def sweep_taken(scene, request, options, is_whole, offset, stride):
     """Yields what is wrong with a log of bundles when allocations of a push fail.
 
-    A server of another number that loads the log must hold all that the pushed one holds.
+    A server of another number that loads the log must hold all that the pushed one holds, and have
+    the same marks.
     """
-    request = scene.push()
-
     def trial(at, span):
-        with Server(scene.lab, REGION, scene.old, " --log-taken") as server:
+        with Server(scene.lab, REGION, scene.old, " --log-taken" + options) as server:
             server.refuse(at, span)
             server.ask(request.sent)
             refused = server.refused()
             server.refuse(0, 0)
             held, log = facts_of(body_of(server.ask(PULL))), server.made()
-        back = facts_of(body_of(scene.read_back(scene.old + log)[1]))
-        lost = not set(held) <= set(back)
-        return refused, "%d facts are held, %d loaded" % (len(held), len(back)) if lost else None
+        return refused, wrong_log(scene, held, scene.old + log, options)
 
-    title = "serve, %s to a log of bundles" % request.title
+    title = "serve%s, %s to a log of bundles" % (options, request.title)
     yield from refusal.sweep(scene.lab, title, trial, is_whole, offset, stride)
 
 

@@ -10,6 +10,8 @@ A story is text, with an event of tokend's script on each line:
     follow R V D B  each event of region R from here on is followed by `pull R V D`. {B} is the
                     last of these bundles, and the bundles before it are its fronts
     follow          ends that
+    fronts B F..    {F} are the fronts of the bundle {B}, the shortest first
+    options TEXT    what the program is given behind the command
     asker ID:SECRET the resource server that asks about tokens in look-ups
     watch R..       the regions that look-ups ask; without such a line all of them
     other           the events below, up to the next such line, run only in variants in which they
@@ -55,7 +57,7 @@ class Story:
     """Events, groups of others that take an event's dot, and who asks about tokens."""
 
     def __init__(self, name):
-        self.name, self.events, self.others = name, [], []
+        self.name, self.events, self.others, self.options = name, [], [], []
         self.asker, self.watched = None, []
 
     def regions(self):
@@ -108,7 +110,7 @@ class Reader:
     """A story as far as it was read."""
 
     def __init__(self, name):
-        self.story, self.follows, self.pulled = Story(name), None, {}
+        self.story, self.follows, self.pulled, self.fronts = Story(name), None, {}, {}
         self.into = self.story.events
 
     def take(self, line):
@@ -117,6 +119,10 @@ class Reader:
             self.story.asker = words[1]
         elif words[0] == "watch":
             self.story.watched = words[1:]
+        elif words[0] == "options":
+            self.story.options = words[1:]
+        elif words[0] == "fronts":
+            self.fronts[words[1]] = words[2:]
         elif words[0] == "other":
             self.into = []
             self.story.others.append(self.into)
@@ -134,6 +140,8 @@ class Reader:
             pulled = self.pulled[bundle[1]]
             event.text = text.replace("{%s}" % bundle[1], "{%s}" % pulled[-1])
             event.fronts = pulled[:-1]
+        elif bundle:
+            event.fronts = self.fronts.get(bundle[1], [])
         self.into.append(event)
         if self.follows and event.region() == self.follows[0]:
             pulled = self.pulled.setdefault(self.follows[3], [])
