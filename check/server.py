@@ -46,11 +46,11 @@ def push(items):
     return http("POST", "/sync/push", body=bundle(items))
 
 
-def bundle(items):
+def bundle(items, horizon=HORIZON):
     """The bundle of items, facts or marks, in the order of their dots."""
     version = b"OTB1"
     if any(len(item) == MARK for item in items):
-        version = b"OTB3" + struct.pack(">Q", HORIZON)
+        version = b"OTB3" + struct.pack(">Q", horizon)
     elif any(item[10] == SUBJECT_OUT for item in items):
         version = b"OTB2"
     return (version + struct.pack(">H", len(items))

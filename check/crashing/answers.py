@@ -3,7 +3,7 @@ import base64
 import threading
 
 from measuring.facts import ACCESS, REFRESH
-from server import facts_of
+from server import MARK, facts_of
 
 DOT, NAME = slice(0, 10), slice(11, 22)  # of a fact: its dot, and the token that it names
 ROTATED, REVOKED, REUSED, SUBJECT_OUT = 7, 8, 9, 10  # the kinds of facts that end tokens
@@ -39,6 +39,33 @@ class Token:
         return self.is_sent or self.family.may_end
 
 
+class Passing:
+    """A fact that may be skipped. One that prunes alone skip may come back: see `is_kept`."""
+
+    by_dot = {}
+
+    def __init__(self, said, may_return):
+        self.said, self.may_return = said, may_return
+        self.by_dot[said[DOT]] = self
+
+
+def is_kept(at, said, got):
+    """Whether `got` is what was said of a dot, or what may have become of that.
+
+    If the logs have the mark of a code, and none of its redemption, a prune leaves the redemption:
+    it is under no code any more.
+    """
+    fact = Passing.by_dot.get(at)
+    if got == said or not fact:
+        return got == said
+    return got == at if said != at else fact.may_return and got == fact.said
+
+
+def read_horizon(page):
+    """The horizon of a page with marks; of another page 0."""
+    return int.from_bytes(page[4:12], "big") if page.startswith(b"OTB3") else 0
+
+
 def read_vector(said):
     """For each region of a vector, the serial up to which its facts are held."""
     entries = [said[at:at + 10] for at in range(6, len(said), 10)]
@@ -58,7 +85,7 @@ class Answers:
 
     def __init__(self):
         self.lock, self.told, self.used = threading.Lock(), {}, []
-        self.facts, self.vector = {}, {}
+        self.facts, self.vector, self.horizon = {}, {}, 0
 
     def knows(self, token):
         return token in self.told
@@ -87,9 +114,12 @@ class Answers:
                     self.told[it] = False
 
     def say_held(self, page):
-        """The site gave these facts, or replied to a push of them."""
+        """The site gave these facts and marks, or replied to a push of them. A mark stays."""
         with self.lock:
-            self.facts.update((it[DOT], it) for it in facts_of(page))
+            self.horizon = max(self.horizon, read_horizon(page))
+            for it in facts_of(page):
+                if self.facts.get(it[DOT]) != it[DOT]:
+                    self.facts[it[DOT]] = it
 
     def say_signed_out(self, family):
         """The site knows that a family's subject is signed out: tokens that arrive have ended."""
@@ -100,6 +130,8 @@ class Answers:
         """The site replied to a push of this page: its facts end tokens from now on."""
         self.say_held(page)
         for fact in facts_of(page):
+            if len(fact) == MARK:
+                continue
             kind, name = fact[10], fact[NAME]
             if kind == SUBJECT_OUT:
                 self.say_signed_out(Family.by_subject[fact[13:-8]])
@@ -129,10 +161,16 @@ class Answers:
 
     def missing_facts(self, held):
         """A line if facts that the site said it holds aren't among these, or are others."""
-        missing = sorted(dot for dot, fact in self.facts.items() if held.get(dot) != fact)
+        missing = sorted(dot for dot, fact in self.facts.items()
+                         if not is_kept(dot, fact, held.get(dot)))
         if missing:
             yield "of %d facts that were acknowledged %d are missing, the first is %s" % (
                 len(self.facts), len(missing), dot_text(missing[0]))
+
+    def lower_horizon(self, horizon):
+        """A line if the site's horizon was later before."""
+        if horizon < self.horizon:
+            yield "the horizon was %d, and is %d" % (self.horizon, horizon)
 
     def lower_entries(self, vector):
         """A line for each entry of the site's vector that was greater before."""

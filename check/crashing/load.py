@@ -206,9 +206,9 @@ class Load:
     def __init__(self, sites, clients):
         self.sites, self.pairs = sites, [([], []) for _ in range(clients)]
 
-    def start(self, moment):
+    def start(self, moment, *others):
         workers = [Client(self.sites, moment, *it) for it in self.pairs]
-        workers.append(Carrier(self.sites, moment))
+        workers += [Carrier(self.sites, moment), *others]
         for it in workers:
             it.start()
         return workers

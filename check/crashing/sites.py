@@ -3,7 +3,7 @@
 import os
 import random
 
-from crashing.answers import Answers
+from crashing.answers import Answers, read_horizon
 from measuring.asking import request
 from measuring.facts import end_of_bundle, whole_records
 from measuring.server import Server, push
@@ -94,8 +94,10 @@ class Site:
             count, cursor = len(items), items[-1][:MARK] if items else CURSOR
 
     def held(self):
-        """All facts of the region, by dot."""
-        return {it[:MARK]: it for page in self.pages(EMPTY_VECTOR) for it in facts_of(page)}
+        """All facts and marks of the region, by dot, and the horizon that its pages had."""
+        pages = list(self.pages(EMPTY_VECTOR))
+        return ({it[:MARK]: it for page in pages for it in facts_of(page)},
+                max(read_horizon(page) for page in pages))
 
 
 def carry(here, there, vector):
