@@ -9,7 +9,7 @@ import re
 from comparing.texts import ROOT, differ, text_of
 
 LISTED = re.compile(r"--   ([^\s,]+(?:, [^\s,]+)*),?(?: \.\.)?(?:  .*)?")
-RESULT = re.compile(r"\bKey results?: ([^\s,.]+)[,.](?:\s|$)")
+RESULT = re.compile(r"\bKey results?: `?([^\s,.`]+)`?[,.](?:\s|$)")
 DEFINED = re.compile(r"^ *(?:[a-z]+ +)*?(?:(?:record|data) +(\S+)|(\S+) +:(?= |$))", re.M)
 CASE = re.compile(r"^    ([A-Z]\w+)(?:,|\(.*\),| \{)$", re.M)  # of an enum
 
