@@ -207,19 +207,22 @@ def sweep(scene, request, is_whole, offset, stride):
 
 
 def wrong_log(scene, held, log, options):
-    """What is wrong with a server of another number that loads these logs, or None."""
+    """What is wrong with a server of another number that loads these logs, or None.
+
+    A server that prunes what it loaded may have skipped what the other one held.
+    """
     back = scene.loaded(log, options)
     if back is None:
         return "the log isn't loaded again"
-    lost = not set(held) <= set(back)
-    return "%d facts and marks are held, %d loaded" % (len(held), len(back)) if lost else None
+    lost = [it for it in held if it not in back and not (options and it[:MARK] in back)]
+    return "%d facts and marks of %d aren't loaded" % (len(lost), len(held)) if lost else None
 
 
 def sweep_taken(scene, request, options, is_whole, offset, stride):
     """Yields what is wrong with a log of bundles when allocations of a push fail.
 
-    A server of another number that loads the log must hold all that the pushed one holds, and have
-    the same marks.
+    A server of another number that loads the log must hold all that the pushed one holds, and skip
+    what that one skips.
     """
     def trial(at, span):
         with Server(scene.lab, REGION, scene.old, " --log-taken" + options) as server:
