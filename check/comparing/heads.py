@@ -1,15 +1,18 @@
 """The heads of specs and proof files: each name that a head lists is one that its file defines.
 
 A head is the comment that a file begins with. Its list has lines of names, a gap, and what they
-are. A list in a Lib.antt has files of its folder in the place of names.
+are. A list in a Lib.antt has files of its folder in the place of names, and behind the gap names
+that the file defines.
 """
 import os
 import re
 
 from comparing.texts import ROOT, differ, text_of
 
-LISTED = re.compile(r"--   ([^\s,]+(?:, [^\s,]+)*),?(?: \.\.)?(?:  .*)?")
+NAME = r"[^\s,]+"
+LISTED = re.compile(r"--   (%s(?:(?:, | \.\. )%s)*),?(?: \.\.)?(?:  .*)?" % (NAME, NAME))
 RESULT = re.compile(r"\bKey results?: `?([^\s,.`]+)`?[,.](?:\s|$)")
+BEHIND = re.compile(r"(?:^|[;,] )([A-Za-z]+_\w+|[A-Z][a-z]+[A-Z]\w+)(?=[,;.]|$)")
 DEFINED = re.compile(r"^ *(?:[a-z]+ +)*?(?:(?:record|data) +(\S+)|(\S+) +:(?= |$))", re.M)
 CASE = re.compile(r"^    ([A-Z]\w+)(?:,|\(.*\),| \{)$", re.M)  # of an enum
 
@@ -30,11 +33,13 @@ def head_of(text):
 
 
 def names_of(head):
-    """The names that a head lists."""
+    """The names that a head lists. A line of its list that isn't one stands for itself."""
     for line in head:
         listed = LISTED.fullmatch(line)
         if listed:
-            yield from listed[1].split(", ")
+            yield from re.split(r", | \.\. ", listed[1])
+        elif line.startswith("--   ") and line[5] != " ":
+            yield line
     yield from RESULT.findall(" ".join(it.removeprefix("-- ") for it in head))
 
 
@@ -61,11 +66,24 @@ def is_known(it, known):
     return it in known
 
 
+def compare_files(name, head):
+    """The names that a Lib.antt lists behind a file of its folder are in that file."""
+    for file, told in re.findall(r"^--   (\w+)  +(.*)$", "\n".join(head), re.M):
+        place = os.path.join(os.path.dirname(name), file + ".antt")
+        if os.path.exists(os.path.join(ROOT, place)):
+            known = known_to(place, text_of(place))
+            for it in BEHIND.findall(told):
+                if it not in known:
+                    differ(name, "it lists %s, which %s doesn't define" % (it, place))
+
+
 def compare():
     for name in files():
         text = text_of(name)
-        known = known_to(name, text)
-        missing = [it for it in names_of(head_of(text)) if not is_known(it, known)]
+        head, known = head_of(text), known_to(name, text)
+        if os.path.basename(name) == "Lib.antt":
+            compare_files(name, head)
+        missing = [it for it in names_of(head) if not is_known(it, known)]
         cases = set(cases_of(name)) if missing else ()
         for it in missing:
             if it not in cases:
