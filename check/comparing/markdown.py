@@ -6,7 +6,7 @@ import re
 from comparing.limits import documents
 from comparing.texts import README, ROOT, differ, text_of
 
-WIDTH, README_LINES, README_BYTES = 100, 130, 8192
+WIDTH, README_LINES, README_BYTES = 100, 140, 8192
 DEFINITIONS = "docs/DEFINITIONS.md"
 LINK = r"\[([^\]\n]*(?:\n[^\]\n]*)?)\]\(([^)\s]+)\)"
 # each is another word's place: "out of memory", "arguments", "random words", "N bytes"

@@ -36,7 +36,7 @@ def of_sources():
         errors[place + "N of FILE"] = bad
     errors[re.search(r'b"(tokend: dropped )"', text_of(FACTS))[1] + "N bytes"] = None
     same(FAULT, "faults without a line of their own", {"Words": 2, "Output": 1}, statuses)
-    for name in re.findall(r'EdgeFault::\w+ => put_all\(faults, &\[b"([^"\\]*)\\n"\]\)', serve):
+    for name in re.findall(r'EdgeFault::\w+ => say\(faults, &\[b"([^"\\]*)\\n"\]\)', serve):
         errors[name] = None
     output = {line_of(listen, name) for name in ("dropped_bytes", "pruned_facts", "port")}
     return output | {line_of(text_of(CHECK), "count")}, errors

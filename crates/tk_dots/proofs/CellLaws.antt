@@ -1,6 +1,6 @@
 -- A write at one place of one page is a write at one dot. Key results:
---   seen_put, seen_same, seen_taken, seen_set   the map after the write
---   paged_new, paged_over, paged_less ..        the number of values after the write
+--   seen_put, seen_same, seen_taken        the map after the write
+--   paged_new, paged_over, paged_less ..   the number of values after the write
 use Rattle.std.proofs.Common.{◌≡◌, ◌≢◌, ℕ, ◌+◌, ◌*◌, ◌/◌, ◌%◌, ◌-◌, ◌<◌, ◌≤◌, ◌==◌, ◌&&◌, Bool, true, false, cond, length, List, Option, Some, None, IsSome, is_some, option_map, refl, sym, ap, subst, ◌∙◌, inl, inr, arith, get_or}
 use Rattle.std.proofs.lemmas.Bool.{cases_Bool, cond-true, cond-false, cases_lt, and_parts, false_from_ne_true}
 use Rattle.std.proofs.lemmas.Bool.Decides.{nat_tests}

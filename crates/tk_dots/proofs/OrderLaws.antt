@@ -1,6 +1,6 @@
 -- The order of dots is that of their pages, and on one page that of their places. Key results:
---   on_page, no_page    the least dot above a dot is found on a page
---   last_is             the greatest serial of a region
+--   on_page   the least dot above a dot is found on a page
+--   last_is   the greatest serial of a region
 use Rattle.std.proofs.Common.{◌≡◌, ◌≢◌, ℕ, ◌+◌, ◌*◌, ◌/◌, ◌%◌, ◌-◌, ◌<◌, ◌≤◌, Bool, true, false, cond, length, List, [], ◌∷◌, slice_get, IfSome, Option, Some, None, IsSome, is_some, refl, sym, ap, subst, ◌∙◌, inl, inr, ◌⊎◌, arith, get_or}
 use Rattle.std.proofs.lemmas.List.{get_or_past}
 use Rattle.std.proofs.lemmas.Bool.{cases_Bool, cases_lt, false_from_ne_true}

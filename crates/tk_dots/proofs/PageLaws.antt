@@ -1,6 +1,5 @@
 -- The pages after one of them was written. Key results:
 --   cells_updated, pages_updated              a page is put, or written through
---   cells_taken, pages_taken                  a page without values is taken out
 --   page_one, page_put, page_set, page_taken  a page is as `IsPage` says after a write
 use Rattle.std.proofs.Common.{◌≡◌, ◌≢◌, ℕ, ◌+◌, ◌*◌, ◌-◌, ◌<◌, ◌≤◌, ◌==◌, ◌&&◌, max, Bool, true, false, cond, length, List, [], Option, Some, None, IsSome, is_some, Result, Ok, Err, OnOk, OnErr, refl, sym, ap, subst, ◌∙◌, inl, inr, arith, get_or}
 use Rattle.std.proofs.lemmas.List.{get_or_past}

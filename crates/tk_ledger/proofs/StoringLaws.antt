@@ -1,9 +1,8 @@
 -- What the store of a ledger knows after a call. Key results:
---   back_again      the store once a fact that was added is taken back
---   added_horizon   adding a fact leaves the horizon
---   free_adds       adding a fact at an unknown dot adds it to the facts that are held
---   shown_known     a look-up that finds a slot finds it where one is known
---   known_kept      adding a fact at a known dot changes nothing
+--   back_again    the store once a fact that was added is taken back
+--   free_adds     adding a fact at an unknown dot adds it to the facts that are held
+--   shown_known   a look-up that finds a slot finds it where one is known
+--   known_kept    adding a fact at a known dot changes nothing
 use Rattle.std.proofs.Common.{◌≡◌, true, Option, None, Some, is_some, Result, Ok, Err, sym, ap, subst, ◌∙◌}
 use Rattle.std.proofs.lemmas.Bool.{true≢false}
 use Rattle.std.specs.FinMap as map

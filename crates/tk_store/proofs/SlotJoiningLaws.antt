@@ -1,6 +1,6 @@
 -- Joining slots by their entries, one after another. Key results, each a step of a loop:
 --   compared_start, compared_more, compared_all, compared_not   whether the slots agree
---   joins_start, joins_fits, joins_passes, joins_next, joins_end, joins_low   joining each slot
+--   joins_start, joins_fits, joins_passes, joins_next, joins_end   joining each slot
 --   sought_start, sought_more, sought_all, sought_not           whether each slot is known
 use Rattle.std.proofs.Common.{◌≡◌, inl, inr, List, [], ◌∷◌, Option, Some, None, refl, sym, ap, subst, ◌∙◌}
 use Rattle.std.proofs.lemmas.Bool.{cases_Bool, cond-true, cond-false}

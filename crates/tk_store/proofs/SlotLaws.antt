@@ -2,7 +2,7 @@
 --   get_held                          what is held at a dot
 --   held_put, held_skip, held_taken   what is held after a slot was put or taken
 --   held_most                         no more facts are held than slots are known
---   held_none, held_whole             no slots, and slots none of which is a mark
+--   held_none                         no slots
 use Rattle.std.proofs.Common.{◌≡◌, ◌+◌, ◌-◌, ◌≤◌, Bool, true, false, cond, ◌&&◌, T, List, [], ◌∷◌, length, Option, Some, None, is_some, refl, sym, ap, subst, ◌∙◌, arith}
 use Rattle.std.proofs.lemmas.Bool.{true≢false}
 use Rattle.std.proofs.lemmas.Cmp.{tied_itself}

@@ -1,9 +1,9 @@
 -- Stores are ordered by what they know, and two that agree have a least store above both. Key
 -- results:
---   store_laws                     the contract of `stores_join`
---   whole_agree                    the contract of `whole_stores_agree`
---   join_left, join_right, least   a slot joined to what is known of its dot
---   get_joined                     what joined slots know of a dot
+--   store_laws                          the contract of `stores_join`
+--   whole_agree                         the contract of `whole_stores_agree`
+--   join_left, join_right, join_least   a slot joined to what is known of its dot
+--   get_joined                          what joined slots know of a dot
 use Rattle.std.proofs.Common.{◌≡◌, max, Bool, true, false, cond, ◌&&◌, T, List, [], ◌∷◌, Option, Some, None, Result, Ok, Err, refl, sym, ap, subst, ◌∙◌, arith}
 use Rattle.std.proofs.lemmas.Bool.{true≢false}
 use Rattle.std.specs.Ordering.{eq_by_cmp}

@@ -1,6 +1,5 @@
 -- A store in which nothing is skipped is its set of facts. Key results:
 --   whole_adds                    adding a fact to it is adding the fact to the set
---   whole_taken                   taking a fact back
 --   whole_front, whole_next       the front and the next serial are those of the set
 --   whole_beyond                  the dots that a vector does not cover are those of the set
 --   empty_held, known_kept        an empty store, and a call that changes nothing

@@ -1,7 +1,7 @@
 -- A change of one part of a world's fields is what an event does to the world. Key results:
 --   open_act, request_act, pull_act, deliver_act, prune_act
 --                                     the result of each part
---   held_at, region_at_index, sorted_after   the region at an index, and the order after a write there
+--   held_at, sorted_after             a region that is held, and the order after a write at an index
 --   settings_after, world_after       the settings and the world after a write at an index
 --   request_steps                     how a request ends is how its event ends
 --   ended                             what holds of the fields holds of the world

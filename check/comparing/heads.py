@@ -1,0 +1,72 @@
+"""The heads of specs and proof files: each name that a head lists is one that its file defines.
+
+A head is the comment that a file begins with. Its list has lines of names, a gap, and what they
+are. A list in a Lib.antt has files of its folder in the place of names.
+"""
+import os
+import re
+
+from comparing.texts import ROOT, differ, text_of
+
+LISTED = re.compile(r"--   ([^\s,]+(?:, [^\s,]+)*),?(?: \.\.)?(?:  .*)?")
+RESULT = re.compile(r"\bKey results?: ([^\s,]+),")
+DEFINED = re.compile(r"^ *(?:[a-z]+ +)*?(?:(?:record|data) +(\S+)|(\S+) +:(?= |$))", re.M)
+CASE = re.compile(r"^    ([A-Z]\w+)(?:,|\(.*\),| \{)$", re.M)  # of an enum
+
+
+def files():
+    """The specs and proofs of all crates."""
+    for crate in sorted(os.listdir(os.path.join(ROOT, "crates"))):
+        for part in "specs", "proofs":
+            for folder, _, names in os.walk(os.path.join(ROOT, "crates", crate, part)):
+                place = os.path.relpath(folder, ROOT)
+                yield from (os.path.join(place, it) for it in sorted(names)
+                            if it.endswith(".antt"))
+
+
+def head_of(text):
+    """The lines of the comment that a text begins with."""
+    return re.match(r"(?:--.*\n)*", text)[0].splitlines()
+
+
+def names_of(head):
+    """The names that a head lists."""
+    for line in head:
+        listed = LISTED.fullmatch(line)
+        if listed:
+            yield from listed[1].split(", ")
+    yield from RESULT.findall(" ".join(it.removeprefix("-- ") for it in head))
+
+
+def cases_of(name):
+    """The cases of the types of a crate's sources, of which specs have no file of their own."""
+    folder = os.path.join(ROOT, *name.split(os.sep)[:2], "src")
+    for place, _, names in os.walk(folder):
+        for it in names:
+            yield from CASE.findall(text_of(os.path.join(place, it)))
+
+
+def known_to(name, text):
+    """The names that a head of this file may list."""
+    if os.path.basename(name) == "Lib.antt":
+        beside = os.listdir(os.path.join(ROOT, os.path.dirname(name)))
+        return {it.removesuffix(".antt") for it in beside}
+    return {it.strip("◌") for both in DEFINED.findall(text) for it in both}
+
+
+def is_known(it, known):
+    """Whether a name is known; one that ends in `..` is how some known names begin."""
+    if it.endswith(".."):
+        return any(other.startswith(it[:-2]) for other in known)
+    return it in known
+
+
+def compare():
+    for name in files():
+        text = text_of(name)
+        known = known_to(name, text)
+        missing = [it for it in names_of(head_of(text)) if not is_known(it, known)]
+        cases = set(cases_of(name)) if missing else ()
+        for it in missing:
+            if it not in cases:
+                differ(name, "its head lists %s, which the file doesn't define" % it)
