@@ -3,7 +3,7 @@
 --   tied_still, tied_put, tied_mark, tied_revoke
 --                                         the forest after each kind of change
 --   top_code                              the code of a top
-use Rattle.std.proofs.Common.{◌≡◌, ◌⊎◌, inl, inr, ℕ, Bool, true, false, cond, List, Option, Some, None, refl, sym, ap, subst, ◌∙◌}
+use Rattle.std.proofs.Common.{◌≡◌, ◌⊎◌, inl, inr, Bool, true, false, cond, List, Option, Some, None, refl, sym, ap, subst, ◌∙◌}
 use Rattle.std.proofs.lemmas.Bool.{true≢false, cases_Bool, cond-true, cond-false}
 use Rattle.std.specs.Option.{option_and_then}
 use Rattle.std.specs.FinMap as map

@@ -13,15 +13,14 @@ use Rattle.tk_handle.specs.declared.token_id.TokenId.{TokenId}
 use Rattle.tk_family.specs.Dots.{has}
 use Rattle.tk_family.specs.ForestFacts.{ForestFacts}
 use Rattle.tk_fact.specs.declared.body.Body.{Body}
-use Rattle.tk_fact.specs.declared.body.Body.TheVariants.{SubjectOut}
 use Rattle.tk_fact.specs.declared.subject_out.SubjectOut as out
 use Rattle.tk_store.specs.FactSet.{FactSet}
 use Rattle.tk_store.proofs.PutLaws.{some_injective, none_is_not_some}
-use Rattle.tk_store.proofs.OneMoreLaws.{OneMore, cases_dots}
+use Rattle.tk_store.proofs.OneMoreLaws.{OneMore}
 use Rattle.tk_ledger.specs.Changes.{change_in, reuses_of}
 use Rattle.tk_ledger.specs.Index.{IsTied, IsCodes, code_cmp, code_key, codes_started, dots_of, Wakes}
 use Rattle.tk_ledger.specs.SignOuts.{IsSignedOut, IsFirstUnreached, sign_out_in, sign_out_at}
-use Rattle.tk_ledger.specs.Tokens.{issued_in, issued_at, IsOut, is_marked}
+use Rattle.tk_ledger.specs.Tokens.{issued_in, IsOut, is_marked}
 use Rattle.tk_ledger.specs.declared.change.Change.{Change}
 use Rattle.tk_ledger.specs.declared.change.Change.TheVariants as change
 use Rattle.tk_ledger.specs.declared.subject_keys.CodeKey.{CodeKey}
