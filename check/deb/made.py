@@ -70,6 +70,15 @@ class Made(unittest.TestCase):
         self.assertEqual(run(["dpkg-deb", "-x", package("0.1.0"), self.folder])[0], 0)
         self.assertEqual(content(self.folder + "/usr/bin/tokend"), content(PROGRAM))
 
+    def test_each_file_has_its_sum(self):
+        self.assertEqual(run(["dpkg-deb", "-R", package("0.1.0"), self.folder])[0], 0)
+        self.assertEqual(run(["md5sum", "--quiet", "-c", "DEBIAN/md5sums"], cwd=self.folder),
+                         (0, ""))
+        summed = {"/" + it[34:] for it in
+                  content(self.folder + "/DEBIAN/md5sums").decode().splitlines()}
+        self.assertEqual(summed, {name for name, line in self.listed(package("0.1.0")).items()
+                                  if line.startswith("-")})
+
     def test_what_is_inside(self):
         found = self.listed(package("0.1.0"))
         units = "tokend tokend-carry tokend-backup tokend-compact tokend-metrics".split()

@@ -131,6 +131,16 @@ def uses(parts):
     return it, text_of(["redemptions of a code", *(one + ", ms" for one in which)], rows)
 
 
+def signouts(parts):
+    it, rows = part(parts, "signouts"), []
+    pushes = ("one that stops all", "128 later ones", "128 early ones", "one that stops one",
+              "128 that stop all")
+    for size in it.numbers("codes (.*): one that stops all in ms"):
+        name = "codes %s: " % format(size, ",")
+        rows.append([format(size, ",")] + [it.cell("%s%s in ms" % (name, one)) for one in pushes])
+    return it, text_of(["codes of the subject", *(one + ", ms" for one in pushes)], rows)
+
+
 def push(parts):
     """A line for each size of a bundle and each server, the C servers among them."""
     it, rows = part(parts, "push"), []
@@ -247,7 +257,8 @@ def pruned(parts):
 ALL = {
     "speed": speed, "logged": logged, "calls": calls, "profile": profile, "proxied": proxied,
     "clients": clients, "growth": growth, "generations": generations, "memory": memory,
-    "start": start, "prunes": plain("prunes", ["a prune", ""]), "uses": uses, "push": push,
+    "start": start, "prunes": plain("prunes", ["a prune", ""]), "uses": uses,
+    "signouts": signouts, "push": push,
     "carried": plain("carried", ["`carry` to an empty server", ""]), "revoked": revoked,
     "fanned": fanned, "scaled": scaled, "spread": spread, "peers": peers, "beside": beside,
     "ledger": ledger, "pruned": pruned,

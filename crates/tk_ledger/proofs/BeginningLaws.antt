@@ -48,8 +48,8 @@ empty_indexed x te ce we re co ou se le = record {
   withdrawn_are = λ q. ap (λ (es : List Dot). list_any (is_at (dot_cmp q)) es) we ∙ sym (any_fact-empty (withdraws q));
   revocations_are = λ k g c. ap (λ (es : List Revocation). list_any (is_at (revocation_cmp (revocation_key k g c))) es) re ∙ sym (any_fact-empty (revokes k g c));
   codes_are = record {
-    listed = λ s q. no_code s q ∙ sym (ap (λ o. is_to s (option_and_then issued_in o)) (map.get-empty dot_cmp q));
-    ranged = λ s q h. absurd (true≢false (sym h ∙ no_code s q));
+    listed = λ s n q. no_code s n q ∙ sym (ap (λ o. is_to s n (option_and_then issued_in o)) (map.get-empty dot_cmp q));
+    ranged = λ s n q h. absurd (true≢false (sym h ∙ no_code s n q));
   };
   outs_are = record {
     listed = λ s l q. no_out s l q ∙ sym (ap (λ o. is_left_by s l (option_and_then sign_out_in o)) (map.get-empty dot_cmp q));
@@ -69,8 +69,8 @@ empty_indexed x te ce we re co ou se le = record {
     none_listed : (c : Dot) (s : List _) (q : Dot) → list_any (is_at (consent_cmp (consent_key c s q))) x.consents.keys ≡ false
     none_listed c s q = ap (λ (es : List ConsentKey). list_any (is_at (consent_cmp (consent_key c s q))) es) ce
 
-    no_code : (s : List _) (q : Dot) → list_any (is_at (code_cmp (code_key s q))) x.codes.keys ≡ false
-    no_code s q = ap (λ (es : List CodeKey). list_any (is_at (code_cmp (code_key s q))) es) co
+    no_code : (s : List _) (n : ℕ) (q : Dot) → list_any (is_at (code_cmp (code_key s n q))) x.codes.keys ≡ false
+    no_code s n q = ap (λ (es : List CodeKey). list_any (is_at (code_cmp (code_key s n q))) es) co
 
     no_out : (s : List _) (l : ℕ) (q : Dot) → list_any (is_at (out_cmp (out_key s l q))) x.outs.keys ≡ false
     no_out s l q = ap (λ (es : List OutKey). list_any (is_at (out_cmp (out_key s l q))) es) ou

@@ -6,6 +6,7 @@
 --   stored, stored_change, stored_back                       a fact at a free dot
 use Rattle.std.proofs.Common.{◌≡◌, ℕ, ◌≤◌, Bool, true, false, ◌&&◌, ◌||◌, ◌==◌, cond, List, Option, Some, None, Result, Ok, Err, OnOk, refl, sym, ap, subst, ◌∙◌}
 use Rattle.std.specs.Option.{option_and_then, option_map}
+use Rattle.std.specs.Prelude.{nat_le}
 use Rattle.std.specs.Ordering.{eq_by_cmp}
 use Rattle.std.specs.Str.{bytes_eq}
 use Rattle.std.specs.BTreeMap.{BTreeMap}
@@ -21,6 +22,7 @@ use Rattle.tk_family.specs.ForestFacts.{ForestFacts, links_at}
 use Rattle.tk_family.specs.Tops.{IsRaised}
 use Rattle.tk_family.proofs.LookUps.{link_put}
 use Rattle.tk_fact.specs.declared.body.Body.{Body}
+use Rattle.tk_fact.specs.declared.subject_out.SubjectOut as out
 use Rattle.tk_fact.specs.declared.token_revoked.TokenRevoked as revoked
 use Rattle.tk_store.specs.FactSet.{FactSet}
 use Rattle.tk_store.specs.Adding.{Adds}
@@ -29,9 +31,10 @@ use Rattle.tk_store.specs.declared.store.Added.TheVariants.{New, Held}
 use Rattle.tk_store.proofs.PutLaws.{some_injective, none_is_not_some, get_here, taken_back}
 use Rattle.tk_store.proofs.OneMoreLaws.{OneMore, more_remove}
 use Rattle.tk_ledger.specs.Bodies.{is_same_dot, is_same_token}
+use Rattle.tk_ledger.specs.SignOuts.{IsFirstUnreached, sign_out_at}
 use Rattle.tk_ledger.specs.Tokens.{link_of, links_in}
 use Rattle.tk_ledger.specs.Changes.{change_in, adds, retires_of, gives_to, withdraws_of, revokes_of, reuses_of}
-use Rattle.tk_ledger.specs.Index.{row_at, row_added, row_retired, is_at, IsClients, consent_cmp, consent_key, is_listed, IsConsents, IsWithdrawals, revocation_cmp, revocation_key, is_listed_revoked, IsRevocations, code_cmp, code_key, codes_of, dots_of, is_listed_code, IsCodes, out_cmp, out_key, left_after, is_listed_out, IsOuts, reuse_cmp, reuse_key, is_listed_reuse, IsReuses, IsTied, Wakes}
+use Rattle.tk_ledger.specs.Index.{row_at, row_added, row_retired, is_at, IsClients, consent_cmp, consent_key, is_listed, IsConsents, IsWithdrawals, revocation_cmp, revocation_key, is_listed_revoked, IsRevocations, code_cmp, code_key, codes_started, dots_of, is_listed_code, IsCodes, out_cmp, out_key, left_after, is_listed_out, IsOuts, reuse_cmp, reuse_key, is_listed_reuse, IsReuses, IsTied, Wakes}
 use Rattle.tk_ledger.specs.declared.change.Change.{Change}
 use Rattle.tk_ledger.specs.declared.change.Change.TheVariants as change
 use Rattle.tk_ledger.specs.declared.client_rows.ClientRow.{ClientRow}
@@ -46,7 +49,8 @@ use Rattle.tk_ledger.proofs.TableLaws.{clients_on, consents_on, Ranged, withdraw
 use Rattle.tk_ledger.proofs.SubjectKeyLaws.{code_tied, out_tied}
 use Rattle.tk_ledger.proofs.SubjectTableLaws.{issuing, issues_to, issues_none, signs_out_by, signs_none, unsigned_early, IsEarly, RangedCodes, RangedOuts, codes_on, codes_ranged, codes_alike, codes_back, outs_on, outs_ranged, outs_alike}
 use Rattle.tk_ledger.proofs.TokenLaws.{from_some}
-use Rattle.tk_ledger.proofs.ForestLaws.{puts, link-change, revoking, signs, links_still, links_put, tied_still, tied_put, tied_mark, tied_revoke, tied_out}
+use Rattle.tk_ledger.proofs.ForestLaws.{puts, link-change, revoking, signs, links_still, links_put, tied_still, tied_put, tied_mark, tied_revoke}
+use Rattle.tk_ledger.proofs.OutLaws.{tied_out}
 
 pub on_ok : {A E : Type 0} (r : Result A E) (P Q : Type 0) → OnOk r P → (P → Q) → OnOk r Q
 on_ok (Ok x) P Q h f = f h
@@ -121,9 +125,12 @@ links_before G d y x h none t q = still (changed G d y h)
     still : Changed G d y → map.get x.links q ≡ links_in (map.get G) q
     still c = t.links q ∙ links_still (map.remove G d) G d c.body c.more (ap puts c.is ∙ none) q
 
-pub out_ties : (G : FactSet) (d : Dot) (subject : List ℕ) (moment : ℕ) (codes : BTreeSet CodeKey) (x z : ForestFacts) → option_map change_in (map.get G d) ≡ Some (change.SignOut subject moment) → IsTied (map.remove G d) x → IsCodes G codes
-    → Wakes G x (has (dots_of (codes_of codes subject))) z → IsTied G z
-out_ties G d subject moment codes x z h t listed woke = let c = changed G d (change.SignOut subject moment) h in tied_out (map.remove G d) G d c.body subject moment codes x z c.more c.is t listed woke
+pub out_ties : (G : FactSet) (d : Dot) (subject : List ℕ) (moment first : ℕ) (codes : BTreeSet CodeKey) (x z : ForestFacts) → option_map change_in (map.get G d) ≡ Some (change.SignOut subject moment) → IsTied (map.remove G d) x → IsCodes G codes
+    → ((f : out.SubjectOut) → sign_out_at (map.get G) d ≡ Some f → IsFirstUnreached (map.get (map.remove G d)) f.subject first)
+    → Wakes G x (λ q. nat_le first moment && has (dots_of (codes_started codes subject first moment)) q) z → IsTied G z
+out_ties G d subject moment first codes x z h t listed left woke =
+    let c = changed G d (change.SignOut subject moment) h in
+    tied_out (map.remove G d) G d c.body subject moment first codes x z c.more c.held c.is t listed left woke
 
 pub quiet_ties : (G : FactSet) (d : Dot) (y : Change) (x : ForestFacts) → option_map change_in (map.get G d) ≡ Some y → puts y ≡ None → revoking y ≡ None → signs y ≡ false → ((k : TokenId) → reuses_of k y ≡ false) → IsTied (map.remove G d) x → IsTied G x
 quiet_ties G d y x h p r s m t = let c = changed G d y h in tied_still (map.remove G d) G d c.body x c.more (ap puts c.is ∙ p) (ap revoking c.is ∙ r) (ap signs c.is ∙ s) (λ k. ap (reuses_of k) c.is ∙ m k) t
@@ -188,12 +195,12 @@ pub same_revocations : (G : FactSet) (d : Dot) (y : Change) (t : BTreeSet Revoca
 same_revocations G d y t h none i = revocations_by G d y t t h i (λ k g c. sym (ap (λ b. b || is_listed_revoked t k g c) (none k g c)))
 
 codes_by : (G : FactSet) (d : Dot) (y : Change) (t u : BTreeSet CodeKey) → option_map change_in (map.get G d) ≡ Some y → IsCodes (map.remove G d) t → RangedCodes u
-    → ((subject : List ℕ) (q : Dot) → is_listed_code u subject q ≡ ((issues_to subject y && is_at d q) || is_listed_code t subject q))
+    → ((subject : List ℕ) (start : ℕ) (q : Dot) → is_listed_code u subject start q ≡ ((issues_to subject start y && is_at d q) || is_listed_code t subject start q))
     → IsCodes G u
 codes_by G d y t u h i ranged l =
     let x = changed G d y h in
     codes_on (map.remove G d) G d x.body t u x.more i ranged
-    (λ subject q. l subject q ∙ ap (λ z. (issues_to subject z && is_at d q) || is_listed_code t subject q) (sym x.is))
+    (λ subject start q. l subject start q ∙ ap (λ z. (issues_to subject start z && is_at d q) || is_listed_code t subject start q) (sym x.is))
 
 outs_by : (G : FactSet) (d : Dot) (y : Change) (t u : BTreeSet OutKey) → option_map change_in (map.get G d) ≡ Some y → IsOuts (map.remove G d) t → RangedOuts u → IsEarly y
     → ((subject : List ℕ) (left : ℕ) (q : Dot) → is_listed_out u subject left q ≡ ((signs_out_by subject left y && is_at d q) || is_listed_out t subject left q))
@@ -206,7 +213,7 @@ outs_by G d y t u h i ranged early l =
 -- a change that issues no code leaves the codes; a change that signs out nobody, the sign-outs
 pub same_codes : (G : FactSet) (d : Dot) (y : Change) (t : BTreeSet CodeKey) → option_map change_in (map.get G d) ≡ Some y → issuing y ≡ None → IsCodes (map.remove G d) t → IsCodes G t
 same_codes G d y t h none i = codes_by G d y t t h i i.ranged
-    (λ subject q. sym (ap (λ b. (b && is_at d q) || is_listed_code t subject q) (issues_none subject y none)))
+    (λ subject start q. sym (ap (λ b. (b && is_at d q) || is_listed_code t subject start q) (issues_none subject start y none)))
 
 pub same_outs : (G : FactSet) (d : Dot) (y : Change) (t : BTreeSet OutKey) → option_map change_in (map.get G d) ≡ Some y → signs y ≡ false → IsOuts (map.remove G d) t → IsOuts G t
 same_outs G d y t h none i = outs_by G d y t t h i i.ranged (unsigned_early y none)
@@ -250,22 +257,27 @@ reuse_row G d j t u h i here r = reuses_by G d (change.Mark j) t u h i (reuses_r
         ∙ ap (λ x. x || is_listed_reuse t k q) (reuse_tied j k d q)
 
 -- the table with the key of a code
-pub code_row : (G : FactSet) (d : Dot) (subject : List ℕ) (t u : BTreeSet CodeKey) → option_map change_in (map.get G d) ≡ Some (change.Issue subject) → IsCodes (map.remove G d) t → IsDot d
-    → ((k : CodeKey) → contains code_cmp u k ≡ cond (eq_by_cmp code_cmp (code_key subject d) k) true (contains code_cmp t k))
+pub code_row : (G : FactSet) (d : Dot) (subject : List ℕ) (start : ℕ) (t u : BTreeSet CodeKey) → option_map change_in (map.get G d) ≡ Some (change.Issue subject start) → IsCodes (map.remove G d) t → IsDot d
+    → ((k : CodeKey) → contains code_cmp u k ≡ cond (eq_by_cmp code_cmp (code_key subject start d) k) true (contains code_cmp t k))
     → IsCodes G u
-code_row G d subject t u h i here r = codes_by G d (change.Issue subject) t u h i (codes_ranged t u d (bytes_eq subject) here i.ranged own)
-    (λ g q. own g q ∙ ap (λ x. (bytes_eq subject g && x) || is_listed_code t g q) (sym (at_is_same d q)))
+code_row G d subject start t u h i here r =
+    codes_by G d (change.Issue subject start) t u h i (codes_ranged t u d (λ g n. bytes_eq subject g && (start == n)) here i.ranged own)
+    (λ g n q. own g n q ∙ ap (λ x. ((bytes_eq subject g && (start == n)) && x) || is_listed_code t g n q) (sym (at_is_same d q)))
   where
-    own : (g : List ℕ) (q : Dot) → is_listed_code u g q ≡ ((bytes_eq subject g && is_same_dot d q) || is_listed_code t g q)
-    own g q = r (code_key g q) ∙ or_cond (eq_by_cmp code_cmp (code_key subject d) (code_key g q)) (is_listed_code t g q)
-        ∙ ap (λ x. x || is_listed_code t g q) (code_tied subject g d q)
+    regroup : (a b c : Bool) → (a && (b && c)) ≡ ((a && b) && c)
+    regroup true b c = refl
+    regroup false b c = refl
+
+    own : (g : List ℕ) (n : ℕ) (q : Dot) → is_listed_code u g n q ≡ (((bytes_eq subject g && (start == n)) && is_same_dot d q) || is_listed_code t g n q)
+    own g n q = r (code_key g n q) ∙ or_cond (eq_by_cmp code_cmp (code_key subject start d) (code_key g n q)) (is_listed_code t g n q)
+        ∙ ap (λ x. x || is_listed_code t g n q) (code_tied subject g start n d q ∙ regroup (bytes_eq subject g) (start == n) (is_same_dot d q))
 
 -- the table after the key of a code was removed again
-pub code_dropped : (G : FactSet) (d : Dot) (subject : List ℕ) (t u v : BTreeSet CodeKey) → IsCodes (map.remove G d) t → map.get (map.remove G d) d ≡ None
-    → ((k : CodeKey) → contains code_cmp u k ≡ cond (eq_by_cmp code_cmp (code_key subject d) k) true (contains code_cmp t k))
-    → ((k : CodeKey) → contains code_cmp v k ≡ cond (eq_by_cmp code_cmp (code_key subject d) k) false (contains code_cmp u k))
+pub code_dropped : (G : FactSet) (d : Dot) (subject : List ℕ) (start : ℕ) (t u v : BTreeSet CodeKey) → IsCodes (map.remove G d) t → map.get (map.remove G d) d ≡ None
+    → ((k : CodeKey) → contains code_cmp u k ≡ cond (eq_by_cmp code_cmp (code_key subject start d) k) true (contains code_cmp t k))
+    → ((k : CodeKey) → contains code_cmp v k ≡ cond (eq_by_cmp code_cmp (code_key subject start d) k) false (contains code_cmp u k))
     → IsCodes (map.remove G d) v
-code_dropped G d subject t u v i free r s = codes_back (map.remove G d) d subject t u v free i (λ k. r k ∙ or_cond (eq_by_cmp code_cmp (code_key subject d) k) (contains code_cmp t k)) s
+code_dropped G d subject start t u v i free r s = codes_back (map.remove G d) d subject start t u v free i (λ k. r k ∙ or_cond (eq_by_cmp code_cmp (code_key subject start d) k) (contains code_cmp t k)) s
 
 -- the table with the key of a sign-out
 pub out_row : (G : FactSet) (d : Dot) (subject : List ℕ) (moment : ℕ) (t u : BTreeSet OutKey) → option_map change_in (map.get G d) ≡ Some (change.SignOut subject moment) → IsOuts (map.remove G d) t → IsDot d → moment ≤ greatest_moment

@@ -1,11 +1,12 @@
 -- One more fact stops the token that it revokes, the codes of the subject that it signs out, and
 -- tokens at dots that it brings under a code, but no other. Key result:
 --   marks_by_one   the marks after one more fact
-use Rattle.std.proofs.Common.{◌≡◌, ◌≢◌, ◌⊎◌, inl, inr, true, Option, Some, None, List, [], ◌∷◌, refl, sym, ap, subst, ◌∙◌}
+use Rattle.std.proofs.Common.{◌≡◌, ◌≢◌, ◌≤◌, ◌⊎◌, inl, inr, true, Option, Some, None, List, [], ◌∷◌, refl, sym, ap, subst, ◌∙◌}
 use Rattle.std.proofs.lemmas.Bool.{or_cases, or_left, or_right}
 use Rattle.std.specs.Option.{option_and_then}
 use Rattle.std.specs.FinMap as map
 use Rattle.tk_handle.specs.declared.dot.Dot.{Dot}
+use Rattle.tk_handle.specs.declared.kind.Kind.TheVariants as kind
 use Rattle.tk_handle.specs.declared.token_id.TokenId.{TokenId}
 use Rattle.tk_family.specs.declared.link.Link.{Link}
 use Rattle.tk_family.specs.declared.link.Link.TheVariants.{Code}
@@ -86,13 +87,15 @@ ended_by_one F G d b k m e = elim (cases_dots e.by_client.place d) [
     by_code None none apart = inr (inr (record { code = e.code; now = e.under; before = λ c u. none_is_not_some c (sym none ∙ code_of-complete (links_in (map.get F)) k.dot c u) }))
     by_code (Some c) at apart = inl (ended_before F G d b k c m e apart (code_of-sound (links_in (map.get F)) k.dot c at))
 
--- the body signs out the subject of a code
+-- the body signs out the subject of a code at its start, or later
 pub record SignsOut (G : FactSet) (b : Body) (k : TokenId) : Type 0 where
+  pub kind_is : k.kind ≡ kind.Code
   pub issued : issued.CodeIssued
   pub issues : issued_at (map.get G) k.dot ≡ Some issued
   pub sign_out : out.SubjectOut
   pub body : b ≡ SubjectOut sign_out
   pub subject_is : sign_out.subject ≡ issued.subject
+  pub not_before : issued.start ≤ sign_out.moment
 
 issued_link : (b : Body) (f : issued.CodeIssued) → issued_in b ≡ Some f → link_of b ≡ Some Code
 issued_link (CodeIssued x) f h = refl
@@ -112,14 +115,16 @@ under_none F d c free u =
 
 -- a code that one more fact stops is one of the subject that it signs out, or the one that it
 -- issues
-out_by_one : (F G : FactSet) (d : Dot) (b : Body) (k : TokenId) → OneMore F G d b → IsOut (map.get G) k.dot → IsOut (map.get F) k.dot ⊎ (SignsOut G b k ⊎ IsRaised (links_in (map.get F)) (links_in (map.get G)) k.dot)
-out_by_one F G d b k m o = elim (cases_dots o.signed_out.place d) [
+out_by_one : (F G : FactSet) (d : Dot) (b : Body) (k : TokenId) → k.kind ≡ kind.Code → OneMore F G d b → IsOut (map.get G) k.dot → IsOut (map.get F) k.dot ⊎ (SignsOut G b k ⊎ IsRaised (links_in (map.get F)) (links_in (map.get G)) k.dot)
+out_by_one F G d b k code m o = elim (cases_dots o.signed_out.place d) [
   | inl same ↦ inr (inl (record {
+    kind_is = code;
     issued = o.issued;
     issues = o.issues;
     sign_out = o.signed_out.sign_out;
     body = some_injective b (SubjectOut o.signed_out.sign_out) (sym m.here ∙ ap (map.get G) (sym same) ∙ o.signed_out.held);
     subject_is = o.signed_out.subject_is;
+    not_before = o.signed_out.not_before;
   }))
   | inr apart ↦ elim (cases_dots k.dot d) [
     | inl here ↦ inr (inr (record {
@@ -151,7 +156,7 @@ stopped_by_one F G d b k m (inl e) = elim (ended_by_one F G d b k m e.1) [
   | inr (inl revokes) ↦ inr (inl revokes)
   | inr (inr raised) ↦ inr (inr (inr raised))
 ]
-stopped_by_one F G d b k m (inr o) = elim (out_by_one F G d b k m o.1) [
+stopped_by_one F G d b k m (inr o) = elim (out_by_one F G d b k o.0 m o.1) [
   | inl old ↦ inl (inr (o.0, old))
   | inr new ↦ inr (inr new)
 ]

@@ -1,15 +1,13 @@
 -- The forest follows the set when that gets one more fact. Key results:
 --   tied_by                               the forest after any fact
---   tied_still, tied_put, tied_mark, tied_revoke, tied_out
+--   tied_still, tied_put, tied_mark, tied_revoke
 --                                         the forest after each kind of change
 --   top_code                              the code of a top
-use Rattle.std.proofs.Common.{◌≡◌, ◌⊎◌, inl, inr, ℕ, Bool, true, false, cond, List, Option, Some, None, refl, sym, ap, subst, ◌∙◌}
+use Rattle.std.proofs.Common.{◌≡◌, ◌⊎◌, inl, inr, Bool, true, false, cond, List, Option, Some, None, refl, sym, ap, subst, ◌∙◌}
 use Rattle.std.proofs.lemmas.Bool.{true≢false, cases_Bool, cond-true, cond-false}
 use Rattle.std.specs.Option.{option_and_then}
 use Rattle.std.specs.FinMap as map
 use Rattle.std.specs.FinSet as set
-use Rattle.std.specs.BTreeSet.{BTreeSet, contains}
-use Rattle.sha2.specs.Sha256.{sha256}
 use Rattle.tk_handle.specs.declared.dot.Dot.{Dot}
 use Rattle.tk_handle.specs.declared.token_id.TokenId.{TokenId}
 use Rattle.tk_family.specs.declared.link.Link.{Link}
@@ -31,22 +29,20 @@ use Rattle.tk_store.proofs.OneMoreLaws.{OneMore, more_subset, cases_dots, apart_
 use Rattle.tk_ledger.specs.Tokens.{link_of, links_in, reuse_of, is_marked}
 use Rattle.tk_ledger.specs.ByTop.{code_in_top}
 use Rattle.tk_ledger.specs.Changes.{change_in, reuses_of}
-use Rattle.tk_ledger.specs.Index.{IsTied, IsCodes, code_cmp, code_key, codes_of, dots_of, Wakes}
+use Rattle.tk_ledger.specs.Index.{IsTied, Wakes}
 use Rattle.tk_ledger.specs.declared.change.Change.{Change}
 use Rattle.tk_ledger.specs.declared.change.Change.TheVariants as change
-use Rattle.tk_ledger.specs.declared.subject_keys.CodeKey.{CodeKey}
 use Rattle.tk_ledger.proofs.TokenLaws.{is_marked-sound, is_marked-complete, IsMarked-below, links-below}
 use Rattle.tk_ledger.proofs.SameLaws.{same_token-true}
 use Rattle.tk_ledger.proofs.KeyLaws.{same_tests, at_itself}
 use Rattle.tk_ledger.proofs.EndingLaws.{Revokes, SignsOut, Stops, link_under, marks_by_one}
 use Rattle.tk_ledger.proofs.WakeLaws.{grant_place, wakes_none}
-use Rattle.tk_ledger.proofs.SubjectKeyLaws.{code_listed, in_codes}
 
 -- ---- a change and its body have the same link, revocation and sign-out
 
 -- the link that a change adds
 abbrev pub puts : Change → Option Link
-puts (change.Issue subject) = Some Code
+puts (change.Issue subject start) = Some Code
 puts (change.Put l) = Some l
 puts other = None
 
@@ -66,11 +62,6 @@ revoking other = None
 
 revoking-change : (b : Body) (k : TokenId) (r : Revokes b k) → revoking (change_in b) ≡ Some r.revocation
 revoking-change b k r = ap (λ (x : Body). revoking (change_in x)) r.body
-
--- the digest of the subject that a change signs out
-abbrev pub signed : Change → Option (List ℕ)
-signed (change.SignOut subject moment) = Some subject
-signed other = None
 
 -- the change is a sign-out
 abbrev pub signs : Change → Bool
@@ -124,38 +115,43 @@ Touches F G b k = (reuses_of k (change_in b) ≡ true) ⊎ Stops F G b k
 still_marked : (F G : FactSet) (d : Dot) (b : Body) → OneMore F G d b → (k : TokenId) → is_marked F k ≡ true → is_marked G k ≡ true
 still_marked F G d b m k h = is_marked-complete G k (IsMarked-below F G (more_subset F G d b m) k (is_marked-sound F k h))
 
--- a token that one more fact does not touch is marked as before
-pub same_mark : (F G : FactSet) (d : Dot) (b : Body) (k : TokenId) → OneMore F G d b → ¬ Touches F G b k → is_marked F k ≡ is_marked G k
-same_mark F G d b k m apart = same_tests (is_marked F k) (is_marked G k)
+-- a token that one more fact does not touch, or that was marked before, is marked as before
+pub same_mark : (F G : FactSet) (d : Dot) (b : Body) (k : TokenId) → OneMore F G d b → (Touches F G b k → is_marked F k ≡ true) → is_marked F k ≡ is_marked G k
+same_mark F G d b k m touched = same_tests (is_marked F k) (is_marked G k)
     (still_marked F G d b m k)
     (λ h. elim (marks_by_one F G d b k m h) [
       | inl before ↦ before
-      | inr (inl seen) ↦ absurd (apart (inl (sym (reuse-change k b) ∙ seen)))
-      | inr (inr more) ↦ absurd (apart (inr more.1))
+      | inr (inl seen) ↦ touched (inl (sym (reuse-change k b) ∙ seen))
+      | inr (inr more) ↦ touched (inr more.1)
     ])
 
--- the forest of one more fact, if the marks at all dots with a token that the fact touches were written
+-- the forest of one more fact, if the marks at all dots with a token that the fact touches were
+-- written, but for tokens that were marked before
 pub tied_by : (F G : FactSet) (d : Dot) (b : Body) (x y z : ForestFacts) (at : Dot → Bool) → OneMore F G d b → IsTied F x
     → ((q : Dot) → map.get y.links q ≡ links_in (map.get G) q) → y.marks ≡ x.marks → Wakes G y at z
-    → ((k : TokenId) → Touches F G b k → at k.dot ≡ true) → IsTied G z
-tied_by F G d b x y z at m t links same woke touched = record {
+    → ((q : Dot) → IsRaised (links_in (map.get F)) (links_in (map.get G)) q → at q ≡ true)
+    → ((k : TokenId) → Touches F G b k → (at k.dot ≡ true) ⊎ (is_marked F k ≡ true)) → IsTied G z
+tied_by F G d b x y z at m t links same woke raised touched = record {
   links = λ q. ap (λ s. map.get s q) woke.links ∙ links q;
   marks = λ q c l link under. by_test q c l link under (cases_Bool (at q));
 }
   where
-    untouched : (q : Dot) (l : Link) → at q ≡ false → ¬ Touches F G b (grant_at q l)
-    untouched q l apart x = true≢false (sym (touched (grant_at q l) x) ∙ (ap at (grant_place q l) ∙ apart))
+    marked : (q : Dot) (l : Link) → at q ≡ false → Touches F G b (grant_at q l) → is_marked F (grant_at q l) ≡ true
+    marked q l apart x = elim (touched (grant_at q l) x) [
+      | inl now ↦ absurd (true≢false (sym now ∙ (ap at (grant_place q l) ∙ apart)))
+      | inr before ↦ before
+    ]
 
     by_code : (q c : Dot) (l : Link) → at q ≡ false → links_in (map.get G) q ≡ Some l → IsUnder (links_in (map.get G)) q c
         → (o : Option Dot) → code_of (links_in (map.get F)) q ≡ o → set.contains x.marks (grant_at q l) ≡ is_marked G (grant_at q l)
     by_code q c l apart link under None none =
-        let raised : IsRaised (links_in (map.get F)) (links_in (map.get G)) q = record { code = c; now = under; before = λ e u. none_is_not_some e (sym none ∙ code_of-complete (links_in (map.get F)) q e u) } in
-        absurd (untouched q l apart (inr (inr (inr (subst (λ (p : Dot). IsRaised (links_in (map.get F)) (links_in (map.get G)) p) (sym (grant_place q l)) raised)))))
+        let here : IsRaised (links_in (map.get F)) (links_in (map.get G)) q = record { code = c; now = under; before = λ e u. none_is_not_some e (sym none ∙ code_of-complete (links_in (map.get F)) q e u) } in
+        absurd (true≢false (sym (raised q here) ∙ apart))
     by_code q c l apart link under (Some e) found =
         let before : IsUnder (links_in (map.get F)) q e = code_of-sound (links_in (map.get F)) q e found in
         let one : (j : Link) × (links_in (map.get F) q ≡ Some j) = link_under (links_in (map.get F)) q e before in
         let kept : one.0 ≡ l = some_injective one.0 l (sym (links-below F G (more_subset F G d b m) q one.0 one.1) ∙ link) in
-        t.marks q e l (one.1 ∙ ap (λ (j : Link). Some j) kept) before ∙ same_mark F G d b (grant_at q l) m (untouched q l apart)
+        t.marks q e l (one.1 ∙ ap (λ (j : Link). Some j) kept) before ∙ same_mark F G d b (grant_at q l) m (marked q l apart)
 
     by_test : (q c : Dot) (l : Link) → links_in (map.get G) q ≡ Some l → IsUnder (links_in (map.get G)) q c → (at q ≡ true) ⊎ (at q ≡ false) → set.contains z.marks (grant_at q l) ≡ is_marked G (grant_at q l)
     by_test q c l link under (inl now) = woke.here q c l now link under
@@ -177,16 +173,17 @@ unlinked : (F G : FactSet) (d : Dot) (b : Body) (q : Dot) {P : Type 0} → OneMo
 unlinked F G d b q m none r = absurd (unraised (links_in (map.get F)) (links_in (map.get G)) q (links_still F G d b m none) r)
 
 -- the forest after a change without a link, if the marks at all dots with a token that the change
--- reuses, revokes or signs out were written
-tied_quiet : (F G : FactSet) (d : Dot) (b : Body) (x z : ForestFacts) (at : Dot → Bool) → OneMore F G d b → puts (change_in b) ≡ None → IsTied F x → Wakes G x at z
+-- reuses, revokes or signs out were written, but for codes that were marked before
+pub tied_quiet : (F G : FactSet) (d : Dot) (b : Body) (x z : ForestFacts) (at : Dot → Bool) → OneMore F G d b → puts (change_in b) ≡ None → IsTied F x → Wakes G x at z
     → ((k : TokenId) → reuses_of k (change_in b) ≡ true → at k.dot ≡ true)
     → ((k : TokenId) → Revokes b k → at k.dot ≡ true)
-    → ((k : TokenId) → SignsOut G b k → at k.dot ≡ true) → IsTied G z
+    → ((k : TokenId) → SignsOut G b k → (at k.dot ≡ true) ⊎ (is_marked F k ≡ true)) → IsTied G z
 tied_quiet F G d b x z at m none t woke reuse revoke sign =
     tied_by F G d b x x z at m t (λ q. t.links q ∙ links_still F G d b m none q) refl woke
+    (λ q r. unlinked F G d b q m none r)
     (λ k touch. elim touch [
-      | inl seen ↦ reuse k seen
-      | inr (inl r) ↦ revoke k r
+      | inl seen ↦ inl (reuse k seen)
+      | inr (inl r) ↦ inl (revoke k r)
       | inr (inr (inl r)) ↦ sign k r
       | inr (inr (inr r)) ↦ unlinked F G d b k.dot m none r
     ])
@@ -203,11 +200,12 @@ pub tied_put : (F G : FactSet) (d : Dot) (b : Body) (l : Link) (x y z : ForestFa
     → Wakes G y (has ds) z → IsTied G z
 tied_put F G d b l x y z ds m is t links same all woke =
     tied_by F G d b x y z (has ds) m t links same woke
+    (λ q r. all q (raised_by (links_in (map.get F)) (links_in (map.get G)) (links_at x) (links_at y) q t.links links r))
     (λ k touch. elim touch [
       | inl seen ↦ absurd (true≢false (sym seen ∙ put_reuses (change_in b) l k is))
       | inr (inl r) ↦ unrevoked b k (put_revokes (change_in b) l is) r
       | inr (inr (inl r)) ↦ unsigned G b k (put_signs (change_in b) l is) r
-      | inr (inr (inr r)) ↦ all k.dot (raised_by (links_in (map.get F)) (links_in (map.get G)) (links_at x) (links_at y) k.dot t.links links r)
+      | inr (inr (inr r)) ↦ inl (all k.dot (raised_by (links_in (map.get F)) (links_in (map.get G)) (links_at x) (links_at y) k.dot t.links links r))
     ])
 
 -- the forest after a reuse, and the marks at the token's dot
@@ -227,21 +225,6 @@ tied_revoke F G d b f x z m is t woke =
     (λ k r. (let same : f ≡ r.revocation = some_injective f r.revocation (sym (ap revoking is) ∙ revoking-change b k r) in
     ap (λ (g : revoked.TokenRevoked). dot_eq k.dot g.token.dot) same ∙ ap (λ (t : TokenId). dot_eq k.dot t.dot) r.token ∙ at_itself k.dot))
     (λ k r. unsigned G b k (ap signs is) r)
-
--- the forest after a sign-out, and the marks at the subject's codes
-pub tied_out : (F G : FactSet) (d : Dot) (b : Body) (subject : List ℕ) (moment : ℕ) (codes : BTreeSet CodeKey) (x z : ForestFacts) → OneMore F G d b → change_in b ≡ change.SignOut subject moment → IsTied F x → IsCodes G codes
-    → Wakes G x (has (dots_of (codes_of codes subject))) z → IsTied G z
-tied_out F G d b subject moment codes x z m is t listed woke =
-    tied_quiet F G d b x z (has (dots_of (codes_of codes subject))) m (ap puts is) t woke
-    (λ k h. absurd (true≢false (sym h ∙ ap (reuses_of k) is)))
-    (λ k r. unrevoked b k (ap revoking is) r)
-    among_codes
-  where
-    among_codes : (k : TokenId) → SignsOut G b k → has (dots_of (codes_of codes subject)) k.dot ≡ true
-    among_codes k r =
-        let same : sha256 r.issued.subject ≡ subject = ap sha256 (sym r.subject_is) ∙ some_injective (sha256 r.sign_out.subject) subject (sym (ap (λ (c : Body). signed (change_in c)) r.body) ∙ ap signed is) in
-        let key = code_listed G codes k.dot r.issued listed r.issues in
-        in_codes codes subject k.dot (sym (ap (λ s. contains code_cmp codes (code_key s k.dot)) same) ∙ key.0) key.1
 
 -- ---- look-ups
 

@@ -3,7 +3,7 @@
 --   here_known, active_here                 a standing, and the status of an active token
 --   says_here, known_here, live_here, sound_here
 --                                           what the status means
-use Rattle.std.proofs.Common.{◌≡◌, ◌≢◌, ◌↔◌, ℕ, Bool, true, false, cond, Option, Some, None, refl, sym, ap, ◌∙◌}
+use Rattle.std.proofs.Common.{◌≡◌, ◌≢◌, ◌↔◌, ℕ, true, false, cond, Option, Some, None, refl, sym, ap, ◌∙◌}
 use Rattle.std.proofs.lemmas.Bool.{true≢false}
 use Rattle.std.specs.Option.{option_and_then}
 use Rattle.std.specs.FinMap as map
@@ -18,7 +18,7 @@ use Rattle.tk_store.proofs.PutLaws.{none_is_not_some}
 use Rattle.tk_store.proofs.SlotLaws.{get_held, whole_free}
 use Rattle.tk_ledger.specs.StandingFields.{StandingFields}
 use Rattle.tk_ledger.specs.Standings.{IsSound}
-use Rattle.tk_ledger.specs.Status.{status_by, status_in, status_here, minted_as, IsMintedToken, IsKnownToken, IsKnown, IsLive, IsActive, Says, SaysHere}
+use Rattle.tk_ledger.specs.Status.{status_by, status_in, status_here, minted_as, IsKnownToken, IsKnown, IsLive, IsActive, Says, SaysHere}
 use Rattle.tk_ledger.specs.Tokens.{minted_in, root_in}
 use Rattle.tk_ledger.specs.declared.status.Status.{Status}
 use Rattle.tk_ledger.specs.declared.status.Status.TheVariants.{Unseen, Wrong, Broken, Known}

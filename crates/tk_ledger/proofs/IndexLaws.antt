@@ -134,17 +134,17 @@ index_mark G d j x s z h i rows tied = record {
   tied = tied;
 }
 
-pub index_issue : (G : FactSet) (d : Dot) (subject : List ℕ) (x : Index) (s : BTreeSet CodeKey) (z : ForestFacts)
-    → option_map change_in (map.get G d) ≡ Some (change.Issue subject) → IsIndexed (map.remove G d) x → IsCodes G s → IsTied G z
+pub index_issue : (G : FactSet) (d : Dot) (subject : List ℕ) (start : ℕ) (x : Index) (s : BTreeSet CodeKey) (z : ForestFacts)
+    → option_map change_in (map.get G d) ≡ Some (change.Issue subject start) → IsIndexed (map.remove G d) x → IsCodes G s → IsTied G z
     → IsIndexed G (record { clients = x.clients; consents = x.consents; withdrawn = x.withdrawn; revocations = x.revocations; codes = s; outs = x.outs; reuses = x.reuses; forest = z })
-index_issue G d subject x s z h i rows tied = record {
-  clients_are = clients_by G d (change.Issue subject) x.clients x.clients h i.clients_are (λ q. refl) (λ q. refl);
-  consents_are = same_consents G d (change.Issue subject) x.consents h (λ _ _. refl) i.consents_are;
-  withdrawn_are = withdrawals_by G d (change.Issue subject) x.withdrawn x.withdrawn h i.withdrawn_are (λ q. refl);
-  revocations_are = same_revocations G d (change.Issue subject) x.revocations h (λ _ _ _. refl) i.revocations_are;
+index_issue G d subject start x s z h i rows tied = record {
+  clients_are = clients_by G d (change.Issue subject start) x.clients x.clients h i.clients_are (λ q. refl) (λ q. refl);
+  consents_are = same_consents G d (change.Issue subject start) x.consents h (λ _ _. refl) i.consents_are;
+  withdrawn_are = withdrawals_by G d (change.Issue subject start) x.withdrawn x.withdrawn h i.withdrawn_are (λ q. refl);
+  revocations_are = same_revocations G d (change.Issue subject start) x.revocations h (λ _ _ _. refl) i.revocations_are;
   codes_are = rows;
-  outs_are = same_outs G d (change.Issue subject) x.outs h refl i.outs_are;
-  reuses_are = same_reuses G d (change.Issue subject) x.reuses h (λ _. refl) i.reuses_are;
+  outs_are = same_outs G d (change.Issue subject start) x.outs h refl i.outs_are;
+  reuses_are = same_reuses G d (change.Issue subject start) x.reuses h (λ _. refl) i.reuses_are;
   tied = tied;
 }
 

@@ -10,6 +10,7 @@ pub mod IndexLaws
 pub mod KeyLaws
 pub mod KeySearchLaws
 pub mod LossLaws
+pub mod OutLaws
 pub mod RetentionLaws
 pub mod ReuseLaws
 pub mod SameLaws

@@ -3,7 +3,7 @@
 --   codes_less, reuses_less            the tables of codes and reuses without the key of the fact
 --   untied_link, untied_reuse          the forest after the loss of a link, and of a reuse
 --   lost_code, lost_link, lost_reuse   all tables, and the forest
-use Rattle.std.proofs.Common.{◌≡◌, ◌≢◌, ◌⊎◌, inl, inr, ℕ, Bool, true, false, ◌&&◌, ◌||◌, cond, if◌then◌else◌, List, Some, None, is_some, refl, sym, ap, subst, ◌∙◌}
+use Rattle.std.proofs.Common.{◌≡◌, ◌≢◌, ◌⊎◌, inl, inr, ℕ, Bool, true, false, ◌&&◌, ◌||◌, ◌==◌, cond, if◌then◌else◌, List, Some, None, is_some, refl, sym, ap, subst, ◌∙◌}
 use Rattle.std.proofs.lemmas.Bool.{true≢false, cases_Bool, cond-true, cond-false, and_parts}
 use Rattle.std.specs.Option.{option_and_then}
 use Rattle.std.specs.Ordering.{eq_by_cmp}
@@ -47,7 +47,7 @@ use Rattle.tk_ledger.proofs.ForestLaws.{puts, revoking, signs, Touches, same_mar
 use Rattle.tk_ledger.proofs.KeyLaws.{at_is_same, at_itself}
 use Rattle.tk_ledger.proofs.ReuseLaws.{reuse_tied, reused_on}
 use Rattle.tk_ledger.proofs.SameLaws.{same_dot-true, same_token-true}
-use Rattle.tk_ledger.proofs.SubjectKeyLaws.{code_tied}
+use Rattle.tk_ledger.proofs.SubjectKeyLaws.{code_tied, code_tied-dot}
 use Rattle.tk_ledger.proofs.SubjectTableLaws.{issuing, issues_to, issues_none, signs_none, issued_on, signed_on, without}
 use Rattle.tk_ledger.proofs.TableLaws.{withdraws-change, revokes-change, retires-change, added_on, given_on}
 use Rattle.tk_ledger.proofs.TokenLaws.{links-below}
@@ -82,7 +82,7 @@ outs_less F G d b t m none i = record {
 
 codes_kept : (F G : FactSet) (d : Dot) (b : Body) (t : BTreeSet CodeKey) → OneMore F G d b → issuing (change_in b) ≡ None → IsCodes G t → IsCodes F t
 codes_kept F G d b t m none i = record {
-  listed = λ s q. i.listed s q ∙ sym (issued_on F G d b s q (is_to s (issued_at (map.get F) q)) m refl) ∙ ap (λ a. (a && is_at d q) || is_to s (issued_at (map.get F) q)) (issues_none s (change_in b) none);
+  listed = λ s n q. i.listed s n q ∙ sym (issued_on F G d b s n q (is_to s n (issued_at (map.get F) q)) m refl) ∙ ap (λ a. (a && is_at d q) || is_to s n (issued_at (map.get F) q)) (issues_none s n (change_in b) none);
   ranged = i.ranged;
 }
 
@@ -99,33 +99,34 @@ fewer true b h = absurd (true≢false (sym h))
 fewer false b h = h
 
 -- the table without the key of a code
-codes_less : (F G : FactSet) (d : Dot) (b : Body) (subject : List ℕ) (t u : BTreeSet CodeKey) → OneMore F G d b → change_in b ≡ change.Issue subject → IsCodes G t
-    → ((k : CodeKey) → contains code_cmp u k ≡ cond (eq_by_cmp code_cmp (code_key subject d) k) false (contains code_cmp t k))
+codes_less : (F G : FactSet) (d : Dot) (b : Body) (subject : List ℕ) (start : ℕ) (t u : BTreeSet CodeKey) → OneMore F G d b → change_in b ≡ change.Issue subject start → IsCodes G t
+    → ((k : CodeKey) → contains code_cmp u k ≡ cond (eq_by_cmp code_cmp (code_key subject start d) k) false (contains code_cmp t k))
     → IsCodes F u
-codes_less F G d b subject t u m is i r = record {
+codes_less F G d b subject start t u m is i r = record {
   listed = listed;
-  ranged = λ g q h. i.ranged g q (fewer (eq_by_cmp code_cmp (code_key subject d) (code_key g q)) (is_listed_code t g q) (sym (r (code_key g q)) ∙ h));
+  ranged = λ g n q h. i.ranged g n q (fewer (eq_by_cmp code_cmp (code_key subject start d) (code_key g n q)) (is_listed_code t g n q) (sym (r (code_key g n q)) ∙ h));
 }
   where
-    tie : List ℕ → Dot → Bool
-    tie g q = eq_by_cmp code_cmp (code_key subject d) (code_key g q)
+    regroup : (a c e : Bool) → ((a && c) && e) ≡ (a && (c && e))
+    regroup true c e = refl
+    regroup false c e = refl
 
-    before : (g : List ℕ) (q : Dot) → is_listed_code t g q ≡ (eq_by_cmp code_cmp (code_key subject d) (code_key g q) || is_to g (issued_at (map.get F) q))
-    before g q =
-        i.listed g q ∙ sym (issued_on F G d b g q (is_to g (issued_at (map.get F) q)) m refl)
-        ∙ ap (λ y. (issues_to g y && is_at d q) || is_to g (issued_at (map.get F) q)) is
-        ∙ ap (λ a. (bytes_eq subject g && a) || is_to g (issued_at (map.get F) q)) (at_is_same d q)
-        ∙ ap (λ a. a || is_to g (issued_at (map.get F) q)) (sym (code_tied subject g d q))
+    before : (g : List ℕ) (n : ℕ) (q : Dot) → is_listed_code t g n q ≡ (eq_by_cmp code_cmp (code_key subject start d) (code_key g n q) || is_to g n (issued_at (map.get F) q))
+    before g n q =
+        i.listed g n q ∙ sym (issued_on F G d b g n q (is_to g n (issued_at (map.get F) q)) m refl)
+        ∙ ap (λ y. (issues_to g n y && is_at d q) || is_to g n (issued_at (map.get F) q)) is
+        ∙ ap (λ a. ((bytes_eq subject g && (start == n)) && a) || is_to g n (issued_at (map.get F) q)) (at_is_same d q)
+        ∙ ap (λ a. a || is_to g n (issued_at (map.get F) q)) (regroup (bytes_eq subject g) (start == n) (is_same_dot d q) ∙ sym (code_tied subject g start n d q))
 
-    gone : (g : List ℕ) (q : Dot) → eq_by_cmp code_cmp (code_key subject d) (code_key g q) ≡ true → is_to g (issued_at (map.get F) q) ≡ false
-    gone g q h =
-        let same : d ≡ q = same_dot-true d q (and_parts (bytes_eq subject g) (is_same_dot d q) (sym (code_tied subject g d q) ∙ h)).1 in
-        ap (λ e. is_to g (option_and_then issued_in e)) (ap (map.get F) (sym same) ∙ m.free)
+    gone : (g : List ℕ) (n : ℕ) (q : Dot) → eq_by_cmp code_cmp (code_key subject start d) (code_key g n q) ≡ true → is_to g n (issued_at (map.get F) q) ≡ false
+    gone g n q h =
+        let same : d ≡ q = code_tied-dot subject g start n d q h in
+        ap (λ e. is_to g n (option_and_then issued_in e)) (ap (map.get F) (sym same) ∙ m.free)
 
-    listed : (g : List ℕ) (q : Dot) → is_listed_code u g q ≡ is_to g (issued_at (map.get F) q)
-    listed g q =
-        r (code_key g q) ∙ ap (λ x. cond (eq_by_cmp code_cmp (code_key subject d) (code_key g q)) false x) (before g q)
-        ∙ without (eq_by_cmp code_cmp (code_key subject d) (code_key g q)) (is_to g (issued_at (map.get F) q)) (gone g q)
+    listed : (g : List ℕ) (n : ℕ) (q : Dot) → is_listed_code u g n q ≡ is_to g n (issued_at (map.get F) q)
+    listed g n q =
+        r (code_key g n q) ∙ ap (λ x. cond (eq_by_cmp code_cmp (code_key subject start d) (code_key g n q)) false x) (before g n q)
+        ∙ without (eq_by_cmp code_cmp (code_key subject start d) (code_key g n q)) (is_to g n (issued_at (map.get F) q)) (gone g n q)
 
 -- the table without the key of a reuse
 reuses_less : (F G : FactSet) (d : Dot) (b : Body) (j : TokenId) (t u : BTreeSet ReuseKey) → OneMore F G d b → change_in b ≡ change.Mark j → IsReuses G t
@@ -172,7 +173,7 @@ tied_less F G d b x y z at m t links kept woke touched = record {
         woke.there (grant_at q l) (ap at (grant_place q l) ∙ apart)
         ∙ kept (grant_at q l) (λ same. other (sym (grant_place q l) ∙ same))
         ∙ t.marks q c l (links-below F G (more_subset F G d b m) q l link) (IsUnder-within (links_in (map.get F)) (links_in (map.get G)) (links-below F G (more_subset F G d b m)) q c under)
-        ∙ sym (same_mark F G d b (grant_at q l) m (λ touch. touched (grant_at q l) touch (ap at (grant_place q l) ∙ apart) c (subst (λ (p : Dot). IsUnder (links_in (map.get F)) p c) (sym (grant_place q l)) under)))
+        ∙ sym (same_mark F G d b (grant_at q l) m (λ touch. absurd (touched (grant_at q l) touch (ap at (grant_place q l) ∙ apart) c (subst (λ (p : Dot). IsUnder (links_in (map.get F)) p c) (sym (grant_place q l)) under))))
 
 -- the forest without a link
 untied_link : (F G : FactSet) (d : Dot) (b : Body) (l : Link) (x y : ForestFacts) → OneMore F G d b → puts (change_in b) ≡ Some l → IsTied G x
@@ -222,18 +223,18 @@ loss F d y x w =
     let c : Changed w.before d y = changed w.before d y w.makes in
     record { before = w.before; body = c.body; is = c.is; more = subst (λ (S : FactSet). OneMore S w.before d c.body) (sym w.rest) c.more; indexed = w.indexed }
 
-pub lost_code : (F : FactSet) (d : Dot) (subject : List ℕ) (x : Index) (s : BTreeSet CodeKey) (z : ForestFacts) → WasIndexed F d (change.Issue subject) x
-    → ((k : CodeKey) → contains code_cmp s k ≡ cond (eq_by_cmp code_cmp (code_key subject d) k) false (contains code_cmp x.codes k))
+pub lost_code : (F : FactSet) (d : Dot) (subject : List ℕ) (start : ℕ) (x : Index) (s : BTreeSet CodeKey) (z : ForestFacts) → WasIndexed F d (change.Issue subject start) x
+    → ((k : CodeKey) → contains code_cmp s k ≡ cond (eq_by_cmp code_cmp (code_key subject start d) k) false (contains code_cmp x.codes k))
     → z.links ≡ map.remove x.forest.links d → ((k : TokenId) → set.contains z.marks k ≡ (if dot_eq d k.dot then false else set.contains x.forest.marks k))
     → IsIndexed F (record { clients = x.clients; consents = x.consents; withdrawn = x.withdrawn; revocations = x.revocations; codes = s; outs = x.outs; reuses = x.reuses; forest = z })
-lost_code F d subject x s z w r links marks =
-    let o : Loss F d (change.Issue subject) x = loss F d (change.Issue subject) x w in
+lost_code F d subject start x s z w r links marks =
+    let o : Loss F d (change.Issue subject start) x = loss F d (change.Issue subject start) x w in
     record {
       clients_are = clients_less F o.before d o.body x.clients o.more (ap adds o.is) (λ q. ap (retires_of q) o.is) o.indexed.clients_are;
       consents_are = consents_less F o.before d o.body x.consents o.more (λ c g. ap (gives_to c g) o.is) o.indexed.consents_are;
       withdrawn_are = withdrawals_less F o.before d o.body x.withdrawn o.more (λ q. ap (withdraws_of q) o.is) o.indexed.withdrawn_are;
       revocations_are = revocations_less F o.before d o.body x.revocations o.more (λ k g c. ap (revokes_of k g c) o.is) o.indexed.revocations_are;
-      codes_are = codes_less F o.before d o.body subject x.codes s o.more o.is o.indexed.codes_are r;
+      codes_are = codes_less F o.before d o.body subject start x.codes s o.more o.is o.indexed.codes_are r;
       outs_are = outs_less F o.before d o.body x.outs o.more (ap signs o.is) o.indexed.outs_are;
       reuses_are = reuses_kept F o.before d o.body x.reuses o.more (λ k. ap (reuses_of k) o.is) o.indexed.reuses_are;
       tied = untied_link F o.before d o.body Code x.forest z o.more (ap puts o.is) o.indexed.tied links marks;

@@ -2,8 +2,10 @@
 -- Key results:
 --   last_none, last_some, last_missing   the sign-out that is found is the last, or there is none
 --   last_tells                           a subject signed out at a moment or later, by its last
-use Rattle.std.proofs.Common.{◌≡◌, ◌≢◌, ◌⊎◌, inl, inr, ℕ, ◌<◌, ◌≤◌, true, false, List, Option, Some, None, refl, sym, ap, ◌∙◌, arith, eq-eqb}
-use Rattle.std.proofs.lemmas.Bool.{true≢false, false_from_ne_true, cases_Bool, eqb-true, ltb-true, ltb-false, leb-true, le-leb, and_parts, and_from}
+--   last_leaves                          the first moment that no sign-out reaches, by the last
+--   sign_out-gone, sign_out-kept         the sign-outs but for the one at a dot
+use Rattle.std.proofs.Common.{◌≡◌, ◌≢◌, ◌⊎◌, inl, inr, ℕ, ◌+◌, ◌<◌, ◌≤◌, true, false, List, Option, Some, None, refl, sym, ap, ◌∙◌, arith, eq-eqb}
+use Rattle.std.proofs.lemmas.Bool.{true≢false, false_from_ne_true, cases_Bool, eqb-true, ltb-true, ltb-false, leb-true, le-leb, and_parts, and_from, cond-true, cond-false}
 use Rattle.std.proofs.lemmas.Cmp.{ranked, by_ranked}
 use Rattle.std.proofs.lemmas.Slice.Eq.{bytes_eq-Decides}
 use Rattle.std.specs.BTreeMap.Range.{range_contains}
@@ -18,18 +20,22 @@ use Rattle.std.specs.declared.cmp.Ordering.TheVariants.{Less}
 use Rattle.std.specs.declared.ops.Bound.TheVariants.{Included}
 use Rattle.sha2.specs.Sha256.{sha256}
 use Rattle.tk_handle.specs.declared.dot.Dot.{Dot}
-use Rattle.tk_handle.specs.Dot.{dot_cmp}
+use Rattle.tk_handle.specs.Dot.{dot_cmp, dot_cmp_total}
 use Rattle.tk_handle.specs.Ranges.{greatest_moment}
+use Rattle.tk_family.specs.Dots.{dot_eq}
 use Rattle.tk_fact.specs.declared.body.Body.{Body}
 use Rattle.tk_fact.specs.declared.body.Body.TheVariants.{SubjectOut}
 use Rattle.tk_fact.specs.declared.subject_out.SubjectOut as out
 use Rattle.tk_store.specs.FactSet.{FactSet}
 use Rattle.tk_store.proofs.PutLaws.{some_injective, none_is_not_some}
+use Rattle.tk_store.proofs.OneMoreLaws.{apart_at}
+use Rattle.tk_ledger.specs.Bodies.{is_same_dot}
 use Rattle.tk_ledger.specs.Index.{IsOuts, least_dot, greatest_dot, left_after, out_cmp, out_key, outs_of, tells_by, tells_of}
-use Rattle.tk_ledger.specs.SignOuts.{IsSignedOut, is_signed_out, reaches, IsLastSignOut, sign_out_in, sign_out_at}
+use Rattle.tk_ledger.specs.SignOuts.{IsSignedOut, is_signed_out, reaches, IsLastSignOut, IsFirstUnreached, sign_out_in, sign_out_at}
 use Rattle.tk_ledger.specs.declared.subject_keys.OutKey.{OutKey}
-use Rattle.tk_ledger.proofs.KeyLaws.{same_tests}
+use Rattle.tk_ledger.proofs.KeyLaws.{same_tests, at_itself}
 use Rattle.tk_ledger.proofs.KeySearchLaws.{among, found_passes, none_passes, first_least}
+use Rattle.tk_ledger.proofs.SameLaws.{same_dot-true, same_dot-itself}
 use Rattle.tk_ledger.proofs.SubjectKeyLaws.{out_listed, outs_total, out_by, out_same, out_order, in_outs, of_subject}
 use Rattle.tk_ledger.proofs.TokenLaws.{from_some, is_signed_out-sound, is_signed_out-complete}
 
@@ -124,3 +130,35 @@ last_tells F subject (Some m) last moment = same_tests (is_signed_out F subject 
       subject_is = last.0.subject_is;
       not_before = omega (arith, leb-true moment m h, last.0.not_before);
     }))
+
+-- the first moment that no sign-out reaches is the one after the last, or the first of all
+abbrev pub after : Option ℕ → ℕ
+after None = 0
+after (Some m) = m + 1
+
+pub last_leaves : (F : FactSet) (subject : List ℕ) (last : Option ℕ) → IsLastSignOut (map.get F) subject last → IsFirstUnreached (map.get F) subject (after last)
+last_leaves F subject None none = record { unreached = none 0; reached = λ moment lt. absurd (below_none moment lt) }
+  where
+    below_none : (n : ℕ) → ¬ (n < 0)
+    below_none n lt = omega (arith, lt)
+last_leaves F subject (Some m) last = record {
+  unreached = λ s. past (last.1 (m + 1) s);
+  reached = λ moment lt. record {
+    place = last.0.place;
+    sign_out = last.0.sign_out;
+    held = last.0.held;
+    subject_is = last.0.subject_is;
+    not_before = omega (arith, lt, last.0.not_before);
+  };
+}
+  where
+    past : ¬ (m + 1 ≤ m)
+    past le = omega (arith, le)
+
+-- ---- the sign-outs but for the one at a dot
+
+pub sign_out-gone : (F : FactSet) (d q : Dot) → is_same_dot d q ≡ true → sign_out_at (map.get (map.remove F d)) q ≡ None
+sign_out-gone F d q same = ap (option_and_then sign_out_in) (map.get-remove dot_cmp_total F d q ∙ cond-true _ _ _ (ap (λ (p : Dot). dot_eq p d) (sym (same_dot-true d q same)) ∙ at_itself d))
+
+pub sign_out-kept : (F : FactSet) (d q : Dot) → is_same_dot d q ≡ false → sign_out_at (map.get (map.remove F d)) q ≡ sign_out_at (map.get F) q
+sign_out-kept F d q apart = ap (option_and_then sign_out_in) (map.get-remove dot_cmp_total F d q ∙ cond-false _ _ _ (apart_at q d (λ same. true≢false (sym (same_dot-itself d) ∙ ap (is_same_dot d) (sym same) ∙ apart))))

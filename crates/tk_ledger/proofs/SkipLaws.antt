@@ -13,13 +13,13 @@ use Rattle.std.specs.FinMap as map
 use Rattle.tk_handle.specs.declared.dot.Dot.{Dot}
 use Rattle.tk_handle.specs.Dot.{dot_cmp, dot_cmp_total}
 use Rattle.tk_family.specs.Dots.{dot_eq, has}
-use Rattle.tk_family.proofs.DotLaws.{cases_dots, dot_eq-apart, dot_eq-true, dot_eq-same}
+use Rattle.tk_family.proofs.DotLaws.{dot_eq-true, dot_eq-same}
 use Rattle.tk_fact.specs.Keeping.{kept_for, is_passing}
 use Rattle.tk_fact.specs.declared.body.Body.{Body}
 use Rattle.tk_fact.specs.declared.body.Body.TheVariants.{ClientAdded, ClientRetired, ConsentGiven, ConsentWithdrawn, CodeIssued, CodeRedeemed, RefreshRotated, TokenRevoked, ReuseSeen, SubjectOut}
 use Rattle.tk_handle.specs.declared.token_id.TokenId.{TokenId}
 use Rattle.tk_store.specs.Skipping.{Skips, MayGo, Lasts}
-use Rattle.tk_store.specs.Slots.{Slot, Slots, Held, Skipped, held_slot}
+use Rattle.tk_store.specs.Slots.{Slot, Held, Skipped, held_slot}
 use Rattle.tk_store.specs.StoreFields.{StoreFields, held_facts, with_skipped}
 use Rattle.tk_store.specs.declared.store.Added.{Added}
 use Rattle.tk_store.specs.declared.store.Added.TheVariants as added

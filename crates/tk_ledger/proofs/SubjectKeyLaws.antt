@@ -2,7 +2,8 @@
 --   code_tied, code_same, out_same, codes_total, outs_total
 --                                            keys tie exactly if they are equal
 --   codes_forward, outs_forward, out_order   the spans run forward
---   in_codes                                 the span has the dot of each code of the subject
+--   in_codes                                 the span has the dot of each code of the subject that
+--                                            starts in it
 --   in_outs, of_subject                      the span has the keys of the subject, and no others
 --   code_listed, out_listed                  the keys of a code and of a sign-out that are held
 use Rattle.std.proofs.Common.{◌≡◌, inl, inr, ℕ, ◌≤◌, ◌==◌, Bool, true, false, ◌&&◌, ◌||◌, not, List, [], ◌∷◌, Some, filter, refl, sym, ap, ◌∙◌, arith, eq-eqb}
@@ -28,7 +29,7 @@ use Rattle.tk_fact.specs.declared.code_issued.CodeIssued as issued
 use Rattle.tk_fact.specs.declared.subject_out.SubjectOut as out
 use Rattle.tk_store.specs.FactSet.{FactSet}
 use Rattle.tk_ledger.specs.Bodies.{is_same_dot}
-use Rattle.tk_ledger.specs.Index.{least_dot, greatest_dot, left_after, code_cmp, code_key, codes_of, dots_of, is_to, IsCodes, out_cmp, out_key, is_left_by, IsOuts}
+use Rattle.tk_ledger.specs.Index.{least_dot, greatest_dot, left_after, code_cmp, code_key, codes_started, dots_of, is_to, IsCodes, out_cmp, out_key, is_left_by, IsOuts}
 use Rattle.tk_ledger.specs.SignOuts.{sign_out_at}
 use Rattle.tk_ledger.specs.Tokens.{issued_at}
 use Rattle.tk_ledger.specs.declared.subject_keys.CodeKey.{CodeKey}
@@ -41,35 +42,56 @@ use Rattle.tk_ledger.proofs.SpanLaws.{number_le, from_first, to_last, not_past, 
 -- ---- codes
 
 pub codes_total : IsTotalOrder code_cmp
-codes_total = then_total (on_total (λ k. k.subject) nat_list_cmp_total) (on_total (λ k. k.code) dot_cmp_total)
+codes_total = then_total (on_total (λ k. k.subject) nat_list_cmp_total) (then_total (on_total (λ k. k.start) nat_cmp_total) (on_total (λ k. k.code) dot_cmp_total))
 
-pub code_tied : (g h : List ℕ) (d q : Dot) → eq_by_cmp code_cmp (code_key g d) (code_key h q) ≡ (bytes_eq g h && is_same_dot d q)
-code_tied g h d q =
-    both_tied (slice_cmp nat_cmp g h) (dot_cmp d q)
-    ∙ ap (λ x. x && is_eq (dot_cmp d q)) (bytes_tied g h)
-    ∙ ap (λ x. bytes_eq g h && x) (at_is_same d q)
+pub code_tied : (g h : List ℕ) (m n : ℕ) (d q : Dot) → eq_by_cmp code_cmp (code_key g m d) (code_key h n q) ≡ (bytes_eq g h && ((m == n) && is_same_dot d q))
+code_tied g h m n d q =
+    both_tied (slice_cmp nat_cmp g h) _
+    ∙ ap (λ x. is_eq (slice_cmp nat_cmp g h) && x) (both_tied (nat_cmp m n) (dot_cmp d q))
+    ∙ ap (λ x. x && (is_eq (nat_cmp m n) && is_eq (dot_cmp d q))) (bytes_tied g h)
+    ∙ ap (λ x. bytes_eq g h && (x && is_eq (dot_cmp d q))) (number_tied m n)
+    ∙ ap (λ x. bytes_eq g h && ((m == n) && x)) (at_is_same d q)
 
-code_by : (a b : CodeKey) → a.subject ≡ b.subject → a.code ≡ b.code → a ≡ b
-code_by a b h i = λ x. record { subject = h x; code = i x }
+-- keys that tie have one dot
+pub code_tied-dot : (g h : List ℕ) (m n : ℕ) (d q : Dot) → eq_by_cmp code_cmp (code_key g m d) (code_key h n q) ≡ true → d ≡ q
+code_tied-dot g h m n d q tie =
+    let p = and_parts (bytes_eq g h) ((m == n) && is_same_dot d q) (sym (code_tied g h m n d q) ∙ tie) in
+    same_dot-true d q (and_parts (m == n) (is_same_dot d q) p.1).1
+
+code_by : (a b : CodeKey) → a.subject ≡ b.subject → a.start ≡ b.start → a.code ≡ b.code → a ≡ b
+code_by a b h i j = λ x. record { subject = h x; start = i x; code = j x }
 
 pub code_same : (a b : CodeKey) → eq_by_cmp code_cmp a b ≡ true → a ≡ b
 code_same a b h =
-    let p = and_parts _ _ (sym (code_tied a.subject b.subject a.code b.code) ∙ h) in
-    code_by a b ((bytes_eq-Decides a.subject b.subject).0 p.0) (same_dot-true a.code b.code p.1)
+    let p = and_parts _ _ (sym (code_tied a.subject b.subject a.start b.start a.code b.code) ∙ h) in
+    let q = and_parts _ _ p.1 in
+    code_by a b ((bytes_eq-Decides a.subject b.subject).0 p.0) (eqb-true a.start b.start q.0) (same_dot-true a.code b.code q.1)
 
-code_order : (subject : List ℕ) (a b : Dot) → code_cmp (code_key subject a) (code_key subject b) ≡ dot_cmp a b
-code_order subject a b = ap (λ o. ordering_then o (dot_cmp a b)) (tied_itself nat_list_cmp_total subject)
+code_order : (subject : List ℕ) (m n : ℕ) (a b : Dot) → code_cmp (code_key subject m a) (code_key subject n b) ≡ ordering_then (nat_cmp m n) (dot_cmp a b)
+code_order subject m n a b = ap (λ o. ordering_then o (ordering_then (nat_cmp m n) (dot_cmp a b))) (tied_itself nat_list_cmp_total subject)
 
-pub codes_forward : (subject : List ℕ) (a b : CodeKey) → a ≡ code_key subject least_dot → b ≡ code_key subject greatest_dot → IsLeBy code_cmp a b
-codes_forward subject a b first last =
+pub codes_forward : (subject : List ℕ) (m n : ℕ) (a b : CodeKey) → m ≤ n → a ≡ code_key subject m least_dot → b ≡ code_key subject n greatest_dot → IsLeBy code_cmp a b
+codes_forward subject m n a b le first last =
     ap (λ (x : CodeKey). is_gt (code_cmp x b)) first
-    ∙ ap (λ (x : CodeKey). is_gt (code_cmp (code_key subject least_dot) x)) last
-    ∙ ap is_gt (code_order subject least_dot greatest_dot)
+    ∙ ap (λ (x : CodeKey). is_gt (code_cmp (code_key subject m least_dot) x)) last
+    ∙ ap is_gt (code_order subject m n least_dot greatest_dot)
+    ∙ elim (number_le m n le) [
+      | inl less ↦ ap (λ o. is_gt (ordering_then o (dot_cmp least_dot greatest_dot))) less
+      | inr same ↦ ap (λ o. is_gt (ordering_then o (dot_cmp least_dot greatest_dot))) same
+    ]
 
-in_span : (subject : List ℕ) (q : Dot) → IsDot q → range_contains code_cmp (Included (code_key subject least_dot)) (Included (code_key subject greatest_dot)) (code_key subject q) ≡ true
-in_span subject q h = and_from _ _
-    (ap is_le (code_order subject least_dot q) ∙ from_first q h)
-    (ap (λ o. not (is_lt o)) (code_order subject greatest_dot q ∙ dot_cmp_total.antisymm greatest_dot q) ∙ not_past (dot_cmp q greatest_dot) (to_last q h))
+in_span : (subject : List ℕ) (m n start : ℕ) (q : Dot) → m ≤ start → start ≤ n → IsDot q → range_contains code_cmp (Included (code_key subject m least_dot)) (Included (code_key subject n greatest_dot)) (code_key subject start q) ≡ true
+in_span subject m n start q above below h = and_from _ _
+    (ap is_le (code_order subject m start least_dot q) ∙ elim (number_le m start above) [
+      | inl less ↦ ap (λ o. is_le (ordering_then o (dot_cmp least_dot q))) less
+      | inr same ↦ ap (λ o. is_le (ordering_then o (dot_cmp least_dot q))) same ∙ from_first q h
+    ])
+    (ap (λ o. not (is_lt o)) (code_order subject n start greatest_dot q) ∙ ap (λ o. not (is_lt (ordering_then o (dot_cmp greatest_dot q)))) (nat_cmp_total.antisymm n start) ∙ elim (number_le start n below) [
+      | inl less ↦ ap (λ o. not (is_lt (ordering_then (ordering_reverse o) (dot_cmp greatest_dot q)))) less
+      | inr same ↦
+          ap (λ o. not (is_lt (ordering_then (ordering_reverse o) (dot_cmp greatest_dot q)))) same
+          ∙ ap (λ o. not (is_lt o)) (dot_cmp_total.antisymm greatest_dot q) ∙ not_past (dot_cmp q greatest_dot) (to_last q h)
+    ])
 
 kept_dot : (c : CodeKey → Bool) (k : CodeKey) (ks : List CodeKey) → among code_cmp k ks ≡ true → c k ≡ true → has (dots_of (filter c ks)) k.code ≡ true
 kept_dot c k [] at kept = absurd (true≢false (sym at))
@@ -92,9 +114,9 @@ kept_dot c k (x ∷ xs) at kept = elim (or_cases (is_at (code_cmp k) x) (among c
     or_later true b h = refl
     or_later false b h = h
 
--- the span of the digest has the dot of each code that is listed under the digest
-pub in_codes : (t : BTreeSet CodeKey) (subject : List ℕ) (d : Dot) → contains code_cmp t (code_key subject d) ≡ true → IsDot d → has (dots_of (codes_of t subject)) d ≡ true
-in_codes t subject d at ranged = kept_dot (range_contains code_cmp (Included (code_key subject least_dot)) (Included (code_key subject greatest_dot))) (code_key subject d) t.keys at (in_span subject d ranged)
+-- the span of the digest has the dot of each code that is listed under the digest and starts in it
+pub in_codes : (t : BTreeSet CodeKey) (subject : List ℕ) (m n start : ℕ) (d : Dot) → m ≤ start → start ≤ n → contains code_cmp t (code_key subject start d) ≡ true → IsDot d → has (dots_of (codes_started t subject m n)) d ≡ true
+in_codes t subject m n start d above below at ranged = kept_dot (range_contains code_cmp (Included (code_key subject m least_dot)) (Included (code_key subject n greatest_dot))) (code_key subject start d) t.keys at (in_span subject m n start d above below ranged)
 
 -- ---- sign-outs
 
@@ -148,12 +170,12 @@ of_subject subject e h = let p = and_parts _ _ h in sym (exact_bytes subject e.s
 -- ---- codes and sign-outs that are held are listed
 
 pub code_listed : (F : FactSet) (t : BTreeSet CodeKey) (d : Dot) (code : issued.CodeIssued) → IsCodes F t
-    → issued_at (map.get F) d ≡ Some code → (contains code_cmp t (code_key (sha256 code.subject) d) ≡ true) × IsDot d
-code_listed F t d code i h = (at, i.ranged (sha256 code.subject) d at)
+    → issued_at (map.get F) d ≡ Some code → (contains code_cmp t (code_key (sha256 code.subject) code.start d) ≡ true) × IsDot d
+code_listed F t d code i h = (at, i.ranged (sha256 code.subject) code.start d at)
   where
-    at : contains code_cmp t (code_key (sha256 code.subject) d) ≡ true
-    at = i.listed (sha256 code.subject) d ∙ ap (is_to (sha256 code.subject)) h
-        ∙ (bytes_eq-Decides (sha256 code.subject) (sha256 code.subject)).1 refl
+    at : contains code_cmp t (code_key (sha256 code.subject) code.start d) ≡ true
+    at = i.listed (sha256 code.subject) code.start d ∙ ap (is_to (sha256 code.subject) code.start) h
+        ∙ and_from _ _ ((bytes_eq-Decides (sha256 code.subject) (sha256 code.subject)).1 refl) (eq-eqb code.start code.start refl)
 
 pub out_listed : (F : FactSet) (t : BTreeSet OutKey) (d : Dot) (f : out.SubjectOut) → IsOuts F t
     → sign_out_at (map.get F) d ≡ Some f

@@ -29,28 +29,28 @@ use Rattle.tk_ledger.specs.declared.subject_keys.CodeKey.{CodeKey}
 use Rattle.tk_ledger.specs.declared.subject_keys.OutKey.{OutKey}
 use Rattle.tk_ledger.proofs.ForestLaws.{signs}
 use Rattle.tk_ledger.proofs.SameLaws.{same_dot-true}
-use Rattle.tk_ledger.proofs.SubjectKeyLaws.{code_tied}
+use Rattle.tk_ledger.proofs.SubjectKeyLaws.{code_tied-dot}
 use Rattle.tk_ledger.proofs.TableLaws.{own_on}
 
 -- ---- a change and its body have the same code and sign-out
 
--- the change issues a code to a subject with the digest
-abbrev pub issues_to : List ℕ → Change → Bool
-issues_to subject (change.Issue digest) = bytes_eq digest subject
-issues_to subject other = false
+-- the change issues a code to a subject with the digest, which starts at `start`
+abbrev pub issues_to : List ℕ → ℕ → Change → Bool
+issues_to subject start (change.Issue digest from) = bytes_eq digest subject && (from == start)
+issues_to subject start other = false
 
-issues-change : (subject : List ℕ) (b : Body) → is_to subject (issued_in b) ≡ issues_to subject (change_in b)
-issues-change subject (CodeIssued x) = refl
-issues-change subject body = refl
+issues-change : (subject : List ℕ) (start : ℕ) (b : Body) → is_to subject start (issued_in b) ≡ issues_to subject start (change_in b)
+issues-change subject start (CodeIssued x) = refl
+issues-change subject start body = refl
 
 -- the digest of the subject of the code that a change issues
 abbrev pub issuing : Change → Option (List ℕ)
-issuing (change.Issue subject) = Some subject
+issuing (change.Issue subject start) = Some subject
 issuing other = None
 
-pub issues_none : (subject : List ℕ) (y : Change) → issuing y ≡ None → issues_to subject y ≡ false
-issues_none subject (change.Issue digest) h = absurd (none_is_not_some digest (sym h))
-issues_none subject other h = refl
+pub issues_none : (subject : List ℕ) (start : ℕ) (y : Change) → issuing y ≡ None → issues_to subject start y ≡ false
+issues_none subject start (change.Issue digest from) h = absurd (none_is_not_some digest (sym h))
+issues_none subject start other h = refl
 
 -- the change signs out a subject with the digest, with `left` seconds left after the moment
 abbrev pub signs_out_by : List ℕ → ℕ → Change → Bool
@@ -78,39 +78,39 @@ moment-change body f h = absurd (none_is_not_some f h)
 
 -- each code that is listed is at a dot in range
 abbrev pub RangedCodes : BTreeSet CodeKey → Type 0
-RangedCodes t = (subject : List ℕ) (d : Dot) → is_listed_code t subject d ≡ true → IsDot d
+RangedCodes t = (subject : List ℕ) (start : ℕ) (d : Dot) → is_listed_code t subject start d ≡ true → IsDot d
 
-pub issued_on : (F G : FactSet) (d : Dot) (b : Body) (subject : List ℕ) (q : Dot) (x : Bool) → OneMore F G d b
-    → x ≡ is_to subject (issued_at (map.get F) q)
-    → ((issues_to subject (change_in b) && is_at d q) || x) ≡ is_to subject (issued_at (map.get G) q)
-issued_on F G d b subject q x m i =
-    own_on d q (issues_to subject (change_in b)) x (is_to subject (issued_at (map.get F) q)) (is_to subject (issued_at (map.get G) q))
-    (λ same. ap (λ e. is_to subject (option_and_then issued_in e)) (ap (map.get F) same ∙ m.free))
-    (λ same. ap (λ e. is_to subject (option_and_then issued_in e)) (ap (map.get G) same ∙ m.here) ∙ issues-change subject b)
-    (λ ne. ap (λ e. is_to subject (option_and_then issued_in e)) (m.there q ne))
+pub issued_on : (F G : FactSet) (d : Dot) (b : Body) (subject : List ℕ) (start : ℕ) (q : Dot) (x : Bool) → OneMore F G d b
+    → x ≡ is_to subject start (issued_at (map.get F) q)
+    → ((issues_to subject start (change_in b) && is_at d q) || x) ≡ is_to subject start (issued_at (map.get G) q)
+issued_on F G d b subject start q x m i =
+    own_on d q (issues_to subject start (change_in b)) x (is_to subject start (issued_at (map.get F) q)) (is_to subject start (issued_at (map.get G) q))
+    (λ same. ap (λ e. is_to subject start (option_and_then issued_in e)) (ap (map.get F) same ∙ m.free))
+    (λ same. ap (λ e. is_to subject start (option_and_then issued_in e)) (ap (map.get G) same ∙ m.here) ∙ issues-change subject start b)
+    (λ ne. ap (λ e. is_to subject start (option_and_then issued_in e)) (m.there q ne))
     i
 
 pub codes_on : (F G : FactSet) (d : Dot) (b : Body) (t u : BTreeSet CodeKey) → OneMore F G d b → IsCodes F t → RangedCodes u
-    → ((subject : List ℕ) (q : Dot) → is_listed_code u subject q ≡ ((issues_to subject (change_in b) && is_at d q) || is_listed_code t subject q))
+    → ((subject : List ℕ) (start : ℕ) (q : Dot) → is_listed_code u subject start q ≡ ((issues_to subject start (change_in b) && is_at d q) || is_listed_code t subject start q))
     → IsCodes G u
 codes_on F G d b t u m i ranged l = record {
-  listed = λ subject q. l subject q ∙ issued_on F G d b subject q (is_listed_code t subject q) m (i.listed subject q);
+  listed = λ subject start q. l subject start q ∙ issued_on F G d b subject start q (is_listed_code t subject start q) m (i.listed subject start q);
   ranged = ranged;
 }
 
 -- codes that are newly listed are in range if their dot is
-pub codes_ranged : (t u : BTreeSet CodeKey) (d : Dot) (n : List ℕ → Bool) → IsDot d → RangedCodes t
-    → ((subject : List ℕ) (q : Dot) → is_listed_code u subject q ≡ ((n subject && is_same_dot d q) || is_listed_code t subject q))
+pub codes_ranged : (t u : BTreeSet CodeKey) (d : Dot) (n : List ℕ → ℕ → Bool) → IsDot d → RangedCodes t
+    → ((subject : List ℕ) (start : ℕ) (q : Dot) → is_listed_code u subject start q ≡ ((n subject start && is_same_dot d q) || is_listed_code t subject start q))
     → RangedCodes u
-codes_ranged t u d n here before l subject q h = elim (or_cases (n subject && is_same_dot d q) (is_listed_code t subject q) (sym (l subject q) ∙ h)) [
-  | inl new ↦ subst (λ (x : Dot). IsDot x) (same_dot-true d q (and_parts (n subject) (is_same_dot d q) new).1) here
-  | inr old ↦ before subject q old
+codes_ranged t u d n here before l subject start q h = elim (or_cases (n subject start && is_same_dot d q) (is_listed_code t subject start q) (sym (l subject start q) ∙ h)) [
+  | inl new ↦ subst (λ (x : Dot). IsDot x) (same_dot-true d q (and_parts (n subject start) (is_same_dot d q) new).1) here
+  | inr old ↦ before subject start q old
 ]
 
 pub codes_alike : (F : FactSet) (t u : BTreeSet CodeKey) → IsCodes F t → ((k : CodeKey) → contains code_cmp u k ≡ contains code_cmp t k) → IsCodes F u
 codes_alike F t u i same = record {
-  listed = λ subject q. same (code_key subject q) ∙ i.listed subject q;
-  ranged = λ subject q h. i.ranged subject q (sym (same (code_key subject q)) ∙ h);
+  listed = λ subject start q. same (code_key subject start q) ∙ i.listed subject start q;
+  ranged = λ subject start q h. i.ranged subject start q (sym (same (code_key subject start q)) ∙ h);
 }
 
 -- a key that was put in and removed again leaves the other keys
@@ -118,24 +118,24 @@ pub without : (a b : Bool) → (a ≡ true → b ≡ false) → cond a false (a 
 without true b h = sym (h refl)
 without false b h = refl
 
-pub codes_back : (F : FactSet) (d : Dot) (subject : List ℕ) (t u v : BTreeSet CodeKey) → map.get F d ≡ None → IsCodes F t
-    → ((k : CodeKey) → contains code_cmp u k ≡ (eq_by_cmp code_cmp (code_key subject d) k || contains code_cmp t k))
-    → ((k : CodeKey) → contains code_cmp v k ≡ cond (eq_by_cmp code_cmp (code_key subject d) k) false (contains code_cmp u k))
+pub codes_back : (F : FactSet) (d : Dot) (subject : List ℕ) (start : ℕ) (t u v : BTreeSet CodeKey) → map.get F d ≡ None → IsCodes F t
+    → ((k : CodeKey) → contains code_cmp u k ≡ (eq_by_cmp code_cmp (code_key subject start d) k || contains code_cmp t k))
+    → ((k : CodeKey) → contains code_cmp v k ≡ cond (eq_by_cmp code_cmp (code_key subject start d) k) false (contains code_cmp u k))
     → IsCodes F v
-codes_back F d subject t u v free i r s = record {
-  listed = λ g q. back g q ∙ i.listed g q;
-  ranged = λ g q h. i.ranged g q (sym (back g q) ∙ h);
+codes_back F d subject start t u v free i r s = record {
+  listed = λ g n q. back g n q ∙ i.listed g n q;
+  ranged = λ g n q h. i.ranged g n q (sym (back g n q) ∙ h);
 }
   where
-    unlisted : (g : List ℕ) (q : Dot) → eq_by_cmp code_cmp (code_key subject d) (code_key g q) ≡ true → is_listed_code t g q ≡ false
-    unlisted g q tie =
-        let same : d ≡ q = same_dot-true d q (and_parts (bytes_eq subject g) (is_same_dot d q) (sym (code_tied subject g d q) ∙ tie)).1 in
-        i.listed g q ∙ ap (λ e. is_to g (option_and_then issued_in e)) (ap (map.get F) (sym same) ∙ free)
+    unlisted : (g : List ℕ) (n : ℕ) (q : Dot) → eq_by_cmp code_cmp (code_key subject start d) (code_key g n q) ≡ true → is_listed_code t g n q ≡ false
+    unlisted g n q tie =
+        let same : d ≡ q = code_tied-dot subject g start n d q tie in
+        i.listed g n q ∙ ap (λ e. is_to g n (option_and_then issued_in e)) (ap (map.get F) (sym same) ∙ free)
 
-    back : (g : List ℕ) (q : Dot) → is_listed_code v g q ≡ is_listed_code t g q
-    back g q =
-        let tie : Bool = eq_by_cmp code_cmp (code_key subject d) (code_key g q) in
-        s (code_key g q) ∙ ap (λ x. cond tie false x) (r (code_key g q)) ∙ without tie (is_listed_code t g q) (unlisted g q)
+    back : (g : List ℕ) (n : ℕ) (q : Dot) → is_listed_code v g n q ≡ is_listed_code t g n q
+    back g n q =
+        let tie : Bool = eq_by_cmp code_cmp (code_key subject start d) (code_key g n q) in
+        s (code_key g n q) ∙ ap (λ x. cond tie false x) (r (code_key g n q)) ∙ without tie (is_listed_code t g n q) (unlisted g n q)
 
 -- ---- sign-outs
 

@@ -26,13 +26,14 @@ use Rattle.tk_ledger.specs.declared.change.Change.{Change}
 use Rattle.tk_ledger.specs.declared.change.Change.TheVariants as change
 
 -- the change that the fact of a body makes. The key of a consent has its client and the digest of
--- its subject, the key of a code or sign-out that digest
+-- its subject, the key of a code that digest and its start, the key of a sign-out that digest and
+-- its moment
 abbrev pub change_in : Body → Change
 change_in (ClientAdded f) = change.Add
 change_in (ClientRetired f) = change.Retire f.client
 change_in (ConsentGiven f) = change.Give f.client (sha256 f.subject)
 change_in (ConsentWithdrawn f) = change.Withdraw f.consent
-change_in (CodeIssued f) = change.Issue (sha256 f.subject)
+change_in (CodeIssued f) = change.Issue (sha256 f.subject) f.start
 change_in (CodeRedeemed f) = change.Put (link.Redeems f.code)
 change_in (RefreshRotated f) = change.Put (link.Rotates f.parent f.generation)
 change_in (TokenRevoked f) = change.Revoke f

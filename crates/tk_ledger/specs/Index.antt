@@ -6,7 +6,7 @@
 --                                      each table has what the set has
 --   code_cmp, code_key                 the keys of codes, and their order
 --   out_cmp, out_key                   the keys of sign-outs, and their order
---   codes_of, outs_of                  the keys of one subject
+--   codes_started, outs_of             the keys of one subject
 --   dots_of                            the dots of codes
 --   IsCodes, IsOuts                    the tables of codes and of sign-outs have what the set has
 --   tells_of                           the sign-out of a key is one of the subject
@@ -59,7 +59,6 @@ use Rattle.tk_fact.specs.declared.body.Body.{Body}
 use Rattle.tk_fact.specs.declared.code_issued.CodeIssued as issued
 use Rattle.tk_fact.specs.declared.consent_given.ConsentGiven as given
 use Rattle.tk_fact.specs.declared.subject_out.SubjectOut as out
-use Rattle.tk_store.specs.StoreFields.{StoreFields, held_facts, IsWhole}
 use Rattle.tk_store.specs.FactSet.{FactSet}
 use Rattle.tk_ledger.specs.Bodies.{is_same_dot}
 use Rattle.tk_ledger.specs.Clients.{client_at, is_retired, consent_at, is_withdrawn}
@@ -171,19 +170,21 @@ IsRevocations F t = (k : TokenId) (digest : List ℕ) (client : Dot)
 
 -- ---- codes and sign-outs
 
--- the order of codes: by the digest of the subject, then by dot
+-- the order of codes: by the digest of the subject, then by start, then by dot
 abbrev pub code_cmp : CodeKey → CodeKey → Ordering
-code_cmp a b = ordering_then (slice_cmp nat_cmp a.subject b.subject) (dot_cmp a.code b.code)
+code_cmp a b =
+    ordering_then (slice_cmp nat_cmp a.subject b.subject)
+    (ordering_then (nat_cmp a.start b.start) (dot_cmp a.code b.code))
 
 -- the key of a code
-abbrev pub code_key : List ℕ → Dot → CodeKey
-code_key subject d = record { subject = subject; code = d }
+abbrev pub code_key : List ℕ → ℕ → Dot → CodeKey
+code_key subject start d = record { subject = subject; start = start; code = d }
 
--- the keys of the codes of a subject with the digest
-abbrev pub codes_of : BTreeSet CodeKey → List ℕ → List CodeKey
-codes_of t subject =
-    keys.keys_between code_cmp (Included (code_key subject least_dot))
-    (Included (code_key subject greatest_dot)) t
+-- the keys of the codes of a subject with the digest that start from `first` to `last`
+abbrev pub codes_started : BTreeSet CodeKey → List ℕ → ℕ → ℕ → List CodeKey
+codes_started t subject first last =
+    keys.keys_between code_cmp (Included (code_key subject first least_dot))
+    (Included (code_key subject last greatest_dot)) t
 
 -- the order of sign-outs: by the digest of the subject, then by the seconds left after the moment,
 -- then by dot. The last sign-out of a subject is first
@@ -210,20 +211,22 @@ outs_of t subject =
 abbrev pub dots_of : List CodeKey → List Dot
 dots_of ks = map_list (λ k. k.code) ks
 
--- the code was issued to a subject with the digest
-abbrev pub is_to : List ℕ → Option issued.CodeIssued → Bool
-is_to subject None = false
-is_to subject (Some code) = bytes_eq (sha256 code.subject) subject
+-- the code was issued to a subject with the digest, and starts at `start`
+abbrev pub is_to : List ℕ → ℕ → Option issued.CodeIssued → Bool
+is_to subject start None = false
+is_to subject start (Some code) = bytes_eq (sha256 code.subject) subject && (code.start == start)
 
--- the table has the code of the dot under the digest
-abbrev pub is_listed_code : BTreeSet CodeKey → List ℕ → Dot → Bool
-is_listed_code t subject d = keys.contains code_cmp t (code_key subject d)
+-- the table has the code of the dot under the digest and the start
+abbrev pub is_listed_code : BTreeSet CodeKey → List ℕ → ℕ → Dot → Bool
+is_listed_code t subject start d = keys.contains code_cmp t (code_key subject start d)
 
--- the table has each code that was issued, under the digest of its subject, and no other
+-- the table has each code that was issued, under the digest of its subject and its start, and no
+-- other
 pub record IsCodes (F : FactSet) (t : BTreeSet CodeKey) : Type 0 where
-  pub listed : (subject : List ℕ) (d : Dot)
-      → is_listed_code t subject d ≡ is_to subject (issued_at (map.get F) d)
-  pub ranged : (subject : List ℕ) (d : Dot) → is_listed_code t subject d ≡ true → IsDot d
+  pub listed : (subject : List ℕ) (start : ℕ) (d : Dot)
+      → is_listed_code t subject start d ≡ is_to subject start (issued_at (map.get F) d)
+  pub ranged : (subject : List ℕ) (start : ℕ) (d : Dot)
+      → is_listed_code t subject start d ≡ true → IsDot d
 
 -- a subject with the digest signed out, with `left` seconds left after the moment
 abbrev pub is_left_by : List ℕ → ℕ → Option out.SubjectOut → Bool

@@ -14,7 +14,7 @@ use Rattle.tk_ledger.specs.declared.index.Index.{Index}
 
 -- the change issues a code, redeems one, rotates a refresh token, or is a reuse
 abbrev pub passes : Change → Bool
-passes (change.Issue subject) = true
+passes (change.Issue subject start) = true
 passes (change.Put link) = true
 passes (change.Mark token) = true
 passes other = false

@@ -1,8 +1,24 @@
 -- Sign-outs: which subject signed out everywhere, and when (own).
 --   IsSignedOut, is_signed_out   a subject signed out at a moment, or later
 --   reaches, IsLastSignOut       the last moment at which a subject signed out, if any
+--   IsFirstUnreached             the first moment that no sign-out of a subject reaches
 --   sign_out_at                  the sign-out at a dot
-use Rattle.std.specs.Prelude.{◌≡◌, ◌≤◌, ℕ, Bool, false, ◌&&◌, nat_le, List, Option, Some, None}
+--   all_but                      the facts but for the one at a dot
+use Rattle.std.specs.Prelude.{
+  ◌≡◌,
+  ◌<◌,
+  ◌≤◌,
+  ℕ,
+  Bool,
+  false,
+  ◌&&◌,
+  nat_le,
+  List,
+  Option,
+  Some,
+  None,
+}
+use Rattle.std.specs.FinMap as map
 use Rattle.std.specs.Option.{option_and_then}
 use Rattle.std.specs.Str.{bytes_eq}
 use Rattle.tk_handle.specs.declared.dot.Dot.{Dot}
@@ -50,7 +66,18 @@ IsLastSignOut body_at subject (Some last) =
     IsSignedOut body_at subject last × ((moment : ℕ) → IsSignedOut body_at subject moment
     → moment ≤ last)
 
+-- the first moment that no sign-out of the subject reaches: the subject signed out at each moment
+-- before it, or later
+pub record IsFirstUnreached (body_at : Bodies) (subject : List ℕ) (first : ℕ) : Type 0 where
+  pub unreached : ¬ IsSignedOut body_at subject first
+  pub reached : (moment : ℕ) → moment < first → IsSignedOut body_at subject moment
+
 -- ---- sign-outs
+
+-- the facts but for the one at the dot, if a dot is given
+abbrev pub all_but : Option Dot → FactSet → FactSet
+all_but None F = F
+all_but (Some d) F = map.remove F d
 
 -- the sign-out that the body is, if it is one
 abbrev pub sign_out_in : Body → Option out.SubjectOut

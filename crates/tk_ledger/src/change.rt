@@ -19,8 +19,12 @@ pub(crate) enum Change {
     },
     // The consent that was given at the dot is withdrawn.
     Withdraw(Dot),
-    // A code is issued to the subject with the SHA-256 digest.
-    Issue([u8; 32]),
+    // A code is issued to a subject.
+    Issue {
+        // The SHA-256 digest of the subject.
+        subject: [u8; 32],
+        start: Moment,
+    },
     // A code is redeemed, or a refresh token rotated: the fact gets the link.
     Put(Link),
     // A client revokes a token.
@@ -62,7 +66,10 @@ pub(crate) fn change_of(body: &Body) -> Change
             subject: subject_digest(&fact.subject),
         },
         Body::ConsentWithdrawn(fact) => Change::Withdraw(fact.consent),
-        Body::CodeIssued(fact) => Change::Issue(subject_digest(&fact.subject)),
+        Body::CodeIssued(fact) => Change::Issue {
+            subject: subject_digest(&fact.subject),
+            start: fact.start,
+        },
         Body::CodeRedeemed(fact) => Change::Put(Link::Redeems(fact.code)),
         Body::RefreshRotated(fact) => Change::Put(Link::Rotates {
             parent: fact.parent,

@@ -43,8 +43,9 @@ use crate::client_rows::{add_client, retire_client};
 use crate::consent_keys::{give, withdraw};
 use crate::reuses::list_reuse;
 use crate::revocations::revoke;
+use crate::sign_outs::first_left;
 use crate::subject_keys::{drop_code, list_code, list_out};
-use crate::wake::{wake, wake_all, wake_codes};
+use crate::wake::{wake, wake_all, wake_started};
 use std::alloc::{AllocError, Global};
 use tk_fact::TokenRevoked;
 use tk_family::Link;
@@ -107,9 +108,10 @@ fn issue_code(
     forest: &mut Forest,
     dot: Dot,
     subject: &[u8; 32],
+    start: Moment,
 ) -> Result<(), AllocError>
     requires change { option_map change_in (map.get (held_facts facts.now) dot)
-        ≡ Some (change_as.Issue subject.now) }
+        ≡ Some (change_as.Issue subject.now start) }
     requires revocations { IsRevocations (held_facts facts.now) revocations.now }
     requires codes { IsCodes (map.remove (held_facts facts.now) dot) codes.old }
     requires outs { IsOuts (held_facts facts.now) outs.now }
@@ -120,13 +122,13 @@ fn issue_code(
     ensures codes_err { OnErr result (IsCodes (map.remove (held_facts facts.now) dot) codes.new) }
     ensures err { OnErr result (IsTied (map.remove (held_facts facts.now) dot) forest.new) }
 {
-    if let Err(error) = list_code(codes, subject, dot) {
+    if let Err(error) = list_code(codes, subject, start, dot) {
         return Err(error);
     }
     match put_link(facts, revocations, outs, reuses, forest, dot, Link::Code) {
         Ok(()) => Ok(()),
         Err(error) => {
-            drop_code(codes, subject, dot);
+            drop_code(codes, subject, start, dot);
             Err(error)
         }
     }
@@ -194,7 +196,9 @@ fn revoke_token(
     }
 }
 
-// Adds the key of a sign-out, and writes the marks at the subject's codes.
+// Adds the key of a sign-out, and writes the marks at the subject's codes that it stops: those that
+// no sign-out held before had stopped. A sign-out that is not later than one held before looks at
+// no code.
 fn sign_out(
     facts: &FactStore,
     revocations: &BTreeSet<Revocation>,
@@ -218,9 +222,21 @@ fn sign_out(
     ensures outs_err { OnErr result (IsOuts (map.remove (held_facts facts.now) dot) outs.new) }
     ensures err { OnErr result (IsTied (map.remove (held_facts facts.now) dot) forest.new) }
 {
+    let first = first_left(facts, outs, dot);
     match list_out(outs, subject, moment, dot) {
         Ok(()) => {
-            wake_codes(facts, revocations, codes, outs, reuses, forest, subject);
+            let last = moment.seconds();
+            wake_started(
+                facts,
+                revocations,
+                codes,
+                outs,
+                reuses,
+                forest,
+                subject,
+                first,
+                last,
+            );
             Ok(())
         }
         Err(error) => Err(error),
@@ -245,7 +261,7 @@ pub(crate) fn follow(
         Change::Retire(client) => retire_client(&mut index.clients, *client),
         Change::Give { client, subject } => give(&mut index.consents, *client, subject, dot),
         Change::Withdraw(consent) => withdraw(&mut index.withdrawn, *consent),
-        Change::Issue(subject) => issue_code(
+        Change::Issue { subject, start } => issue_code(
             facts,
             &index.revocations,
             &mut index.codes,
@@ -254,6 +270,7 @@ pub(crate) fn follow(
             &mut index.forest,
             dot,
             subject,
+            *start,
         ),
         Change::Put(link) => put_link(
             facts,

@@ -163,7 +163,7 @@ impl Ledger {
             ≡ reaches result moment }
         ensures meaning { IsLastSignOut (map.get (held_facts self.now)) subject.now result }
     {
-        last_sign_out(&self.store, &self.index.outs, subject)
+        last_sign_out(&self.store, &self.index.outs, None, subject)
     }
 
     /// Returns the status of a handle's token at the moment. Makes one to eight look-ups, and adds

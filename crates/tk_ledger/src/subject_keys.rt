@@ -2,10 +2,12 @@
 
 use tk_handle::Dot;
 
-// The key of a code: the SHA-256 digest of its subject, and its dot.
+// The key of a code: the SHA-256 digest of its subject, the second of its start, and its dot. The
+// codes of a subject are in the order of their starts.
 #[derive(Clone, Copy, PartialEq, Eq, PartialOrd, Ord)]
 pub(crate) struct CodeKey {
     pub(crate) subject: [u8; 32],
+    pub(crate) start: u64,
     pub(crate) code: Dot,
 }
 
@@ -47,11 +49,12 @@ use tk_handle::Moment;
 pub(crate) fn list_code(
     codes: &mut BTreeSet<CodeKey>,
     subject: &[u8; 32],
+    start: Moment,
     code: Dot,
 ) -> Result<(), AllocError>
-    ensures ok { OnOk result ((k : the_code)
-        → contains code_cmp codes.new k ≡ cond (eq_by_cmp code_cmp (code_key subject.now code) k)
-        true (contains code_cmp codes.old k)) }
+    ensures ok { OnOk result ((k : the_code) → contains code_cmp codes.new k
+        ≡ cond (eq_by_cmp code_cmp (code_key subject.now start code) k) true
+        (contains code_cmp codes.old k)) }
     ensures err { OnErr result ((k : the_code)
         → contains code_cmp codes.new k ≡ contains code_cmp codes.old k) }
     ensures ranged { IsDot code }
@@ -59,34 +62,38 @@ pub(crate) fn list_code(
     let _ranges = (code.region(), code.serial());
     codes.insert(CodeKey {
         subject: *subject,
+        start: start.seconds(),
         code,
     })?;
     Ok(())
 }
 
 // Removes the key of a code whose link could not be added.
-pub(crate) fn drop_code(codes: &mut BTreeSet<CodeKey>, subject: &[u8; 32], code: Dot)
+pub(crate) fn drop_code(codes: &mut BTreeSet<CodeKey>, subject: &[u8; 32], start: Moment, code: Dot)
     ensures { (k : the_code) → contains code_cmp codes.new k
-        ≡ cond (eq_by_cmp code_cmp (code_key subject.now code) k) false
+        ≡ cond (eq_by_cmp code_cmp (code_key subject.now start code) k) false
         (contains code_cmp codes.old k) }
 {
     codes.remove(&CodeKey {
         subject: *subject,
+        start: start.seconds(),
         code,
     });
 }
 
-// Returns the least and the greatest key that a code of the subject can have.
-pub(crate) fn code_span(subject: &[u8; 32]) -> (CodeKey, CodeKey)
-    ensures first { result.0 ≡ code_key subject.now least_dot }
-    ensures last { result.1 ≡ code_key subject.now greatest_dot }
+// Returns the least and the greatest key that a code of the subject can have which starts in the
+// seconds from `first` to `last`.
+pub(crate) fn code_span(subject: &[u8; 32], first: u64, last: u64) -> (CodeKey, CodeKey)
+    ensures first { result.0 ≡ code_key subject.now first least_dot }
+    ensures last { result.1 ≡ code_key subject.now last greatest_dot }
 {
     let (least, greatest) = dot_range();
-    let key = |code: Dot| CodeKey {
+    let key = |start: u64, code: Dot| CodeKey {
         subject: *subject,
+        start,
         code,
     };
-    (key(least), key(greatest))
+    (key(first, least), key(last, greatest))
 }
 
 // ---- sign-outs

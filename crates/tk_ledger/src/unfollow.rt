@@ -21,8 +21,8 @@ pub(crate) fn unfollow(facts: &FactStore, index: &mut Index, dot: Dot, change: &
     ensures { IsIndexed (held_facts facts.now) index.new }
 {
     match change {
-        Change::Issue(subject) => {
-            drop_code(&mut index.codes, subject, dot);
+        Change::Issue { subject, start } => {
+            drop_code(&mut index.codes, subject, *start, dot);
             index.forest.take(dot);
         }
         Change::Put(_) => index.forest.take(dot),

@@ -1,7 +1,7 @@
 //! The marks of codes and refresh tokens in a family: tokens whose reuse was seen, refresh tokens
 //! that their client revoked, and codes whose subject signed out, whichever fact arrives first.
 
-ghost use Rattle.std.specs.Prelude.{◌≡◌, IsSome, cond};
+ghost use Rattle.std.specs.Prelude.{◌≡◌, ◌≤◌, ◌&&◌, nat_le, IsSome, cond};
 ghost use Rattle.std.specs.Option.{option_map};
 ghost use Rattle.std.specs.FinMap as map;
 ghost use Rattle.std.specs.FinSet as set;
@@ -17,7 +17,7 @@ ghost use Rattle.tk_ledger.specs.Index.{
   IsOuts,
   IsReuses,
   Wakes,
-  codes_of,
+  codes_started,
   dots_of,
 };
 ghost use Rattle.tk_ledger.specs.Tokens as spec;
@@ -206,8 +206,9 @@ pub(crate) fn wake_all(
     }
 }
 
-// Writes the marks at the codes of a subject, by the digest of the subject.
-pub(crate) fn wake_codes(
+// Writes the marks at the codes of a subject that start in the seconds from `first` to `last`, by
+// the digest of the subject.
+fn wake_codes(
     facts: &FactStore,
     revocations: &BTreeSet<Revocation>,
     codes: &BTreeSet<CodeKey>,
@@ -215,6 +216,36 @@ pub(crate) fn wake_codes(
     reuses: &BTreeSet<ReuseKey>,
     forest: &mut Forest,
     subject: &[u8; 32],
+    first: u64,
+    last: u64,
+)
+    requires forward { first ≤ last }
+    requires revocations { IsRevocations (held_facts facts.now) revocations.now }
+    requires outs { IsOuts (held_facts facts.now) outs.now }
+    requires reuses { IsReuses (held_facts facts.now) reuses.now }
+    requires links { (q : the_dot)
+        → map.get forest.old.links q ≡ spec.links_in (map.get (held_facts facts.now)) q }
+    ensures { Wakes (held_facts facts.now) forest.old
+        (has (dots_of (codes_started codes.now subject.now first last))) forest.new }
+{
+    let (first, last) = code_span(subject, first, last);
+    for key in codes.range((Bound::Included(first), Bound::Included(last))) {
+        wake(facts, revocations, outs, reuses, forest, key.code);
+    }
+}
+
+// Writes the marks at the codes of a subject that start in the seconds from `first` to `last`. If
+// `first` is later than `last`, no code is looked at.
+pub(crate) fn wake_started(
+    facts: &FactStore,
+    revocations: &BTreeSet<Revocation>,
+    codes: &BTreeSet<CodeKey>,
+    outs: &BTreeSet<OutKey>,
+    reuses: &BTreeSet<ReuseKey>,
+    forest: &mut Forest,
+    subject: &[u8; 32],
+    first: u64,
+    last: u64,
 )
     requires revocations { IsRevocations (held_facts facts.now) revocations.now }
     requires outs { IsOuts (held_facts facts.now) outs.now }
@@ -222,10 +253,20 @@ pub(crate) fn wake_codes(
     requires links { (q : the_dot)
         → map.get forest.old.links q ≡ spec.links_in (map.get (held_facts facts.now)) q }
     ensures { Wakes (held_facts facts.now) forest.old
-        (has (dots_of (codes_of codes.now subject.now))) forest.new }
+        (λ q. nat_le first last && has (dots_of (codes_started codes.now subject.now first last)) q)
+        forest.new }
 {
-    let (first, last) = code_span(subject);
-    for key in codes.range((Bound::Included(first), Bound::Included(last))) {
-        wake(facts, revocations, outs, reuses, forest, key.code);
+    if first <= last {
+        wake_codes(
+            facts,
+            revocations,
+            codes,
+            outs,
+            reuses,
+            forest,
+            subject,
+            first,
+            last,
+        );
     }
 }

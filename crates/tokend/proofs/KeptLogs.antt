@@ -2,7 +2,7 @@
 -- behind the old log. Key results:
 --   keeps_all    LogKeepsAll
 --   loads_all    LogLoads
-use Rattle.std.proofs.Common.{◌≡◌, ◌≢◌, ℕ, ◌≤◌, max, zero, suc, Bool, true, false, ◌||◌, ◌&&◌, ◌==◌, nat_lt, nat_le, nat_eq, List, [], ◌∷◌, ◌++◌, append-nil, append_assoc, filter, length, take, Option, None, Some, option_map, Result, Ok, Err, inl, inr, refl, sym, ap, subst, arith, ◌∙◌, ◌+◌, cond}
+use Rattle.std.proofs.Common.{◌≡◌, ◌≢◌, ℕ, ◌≤◌, max, zero, suc, Bool, true, false, ◌||◌, ◌&&◌, ◌==◌, nat_lt, nat_le, List, [], ◌∷◌, ◌++◌, append-nil, append_assoc, filter, length, take, Option, None, Some, option_map, Result, Ok, Err, inl, inr, refl, sym, ap, subst, arith, ◌∙◌, ◌+◌, cond}
 use Rattle.std.specs.Prelude.{◌⊎◌, IfSome, if◌then◌else◌}
 use Rattle.std.specs.FinMap as map
 use Rattle.std.specs.List.{list_any}
@@ -593,23 +593,19 @@ known_above : (s : Slot) (u : Option Slot) → SlotBelow (Some s) u → u ≡ No
 known_above s None below none = below
 known_above s (Some t) below none = none_is_some t (sym none)
 
+no_tie : (m n : ℕ) → (m ≡ n → ⊥) → (m == n) ≡ false
+no_tie m n differ = elim (m == n) as (λ t. (m == n) ≡ t → t ≡ false) [
+  | true ↦ λ e. absurd (differ (grind (e, arith, nat_tests)))
+  | false ↦ λ e. refl
+] refl
+
 -- items at known dots are under no fresh number
 none_unmade : (number : ℕ) (next : Dot) (region : RegionFields) (items : Items) → IsFresh number region → next.region ≡ number → AllBelow region.facts.slots items → has_unmade next items ≡ false
 none_unmade number next region [] fresh at all = refl
 none_unmade number next region (i ∷ more) fresh at all =
-    ap (λ t. t || has_unmade next more) (other (nat_eq_false i.0.region next.region
+    ap (λ t. t || has_unmade next more) (ap (λ t. t && nat_le next.serial i.0.serial) (no_tie i.0.region next.region
     (λ same. fresh i.0 (known_above i.1 (map.get region.facts.slots i.0) all.0) (same ∙ at))))
     ∙ none_unmade number next region more fresh at all.1
-  where
-    nat_eq_false : (m n : ℕ) → (m ≡ n → ⊥) → nat_eq m n ≡ false
-    nat_eq_false m n differ = of (nat_eq m n) refl
-      where
-        of : (t : Bool) → nat_eq m n ≡ t → t ≡ false
-        of true e = absurd (differ (grind (arith, nat_tests)))
-        of false e = refl
-
-    other : nat_eq i.0.region next.region ≡ false → is_unmade next i.0 ≡ false
-    other e = ap (λ t. t && nat_le next.serial i.0.serial) e
 
 torn_is_cut : (rest : List ℕ) → IsTorn rest → IsCut rest
 torn_is_cut rest (inl none) = subst IsCut (sym none) refl

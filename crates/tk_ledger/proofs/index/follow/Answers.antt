@@ -19,13 +19,13 @@ pub put_link-requires-clause-reuses : goal.put_link-requires-clause-reuses
 put_link-requires-clause-reuses c = same_reuses (held_facts c.args.facts.now) c.args.dot (change.Put c.in-Put.link) c.args.index.now.reuses (c.requires.change ∙ ap (λ (x : Change). Some x) c.in-Put.is) (λ _. refl) c.requires.indexed.reuses_are
 
 pub issue_code-requires-clause-revocations : goal.issue_code-requires-clause-revocations
-issue_code-requires-clause-revocations c = same_revocations (held_facts c.args.facts.now) c.args.dot (change.Issue c.in-Issue.subject) c.args.index.now.revocations (c.requires.change ∙ ap (λ (x : Change). Some x) c.in-Issue.is) (λ _ _ _. refl) c.requires.indexed.revocations_are
+issue_code-requires-clause-revocations c = same_revocations (held_facts c.args.facts.now) c.args.dot (change.Issue c.in-Issue.subject c.in-Issue.start) c.args.index.now.revocations (c.requires.change ∙ ap (λ (x : Change). Some x) c.in-Issue.is) (λ _ _ _. refl) c.requires.indexed.revocations_are
 
 pub issue_code-requires-clause-outs : goal.issue_code-requires-clause-outs
-issue_code-requires-clause-outs c = same_outs (held_facts c.args.facts.now) c.args.dot (change.Issue c.in-Issue.subject) c.args.index.now.outs (c.requires.change ∙ ap (λ (x : Change). Some x) c.in-Issue.is) refl c.requires.indexed.outs_are
+issue_code-requires-clause-outs c = same_outs (held_facts c.args.facts.now) c.args.dot (change.Issue c.in-Issue.subject c.in-Issue.start) c.args.index.now.outs (c.requires.change ∙ ap (λ (x : Change). Some x) c.in-Issue.is) refl c.requires.indexed.outs_are
 
 pub issue_code-requires-clause-reuses : goal.issue_code-requires-clause-reuses
-issue_code-requires-clause-reuses c = same_reuses (held_facts c.args.facts.now) c.args.dot (change.Issue c.in-Issue.subject) c.args.index.now.reuses (c.requires.change ∙ ap (λ (x : Change). Some x) c.in-Issue.is) (λ _. refl) c.requires.indexed.reuses_are
+issue_code-requires-clause-reuses c = same_reuses (held_facts c.args.facts.now) c.args.dot (change.Issue c.in-Issue.subject c.in-Issue.start) c.args.index.now.reuses (c.requires.change ∙ ap (λ (x : Change). Some x) c.in-Issue.is) (λ _. refl) c.requires.indexed.reuses_are
 
 pub revoke_token-requires-clause-outs : goal.revoke_token-requires-clause-outs
 revoke_token-requires-clause-outs c = same_outs (held_facts c.args.facts.now) c.args.dot (change.Revoke c.in-Revoke.fact) c.args.index.now.outs (c.requires.change ∙ ap (λ (x : Change). Some x) c.in-Revoke.is) refl c.requires.indexed.outs_are
@@ -78,7 +78,7 @@ returns-in-Mark-clause-ok c = on_ok2 c.mark_token.result _ _ _ c.mark_token.ensu
 
 pub returns-in-Issue-clause-ok : goal.returns-in-Issue-clause-ok
 returns-in-Issue-clause-ok c = on_ok2 c.issue_code.result _ _ _ c.issue_code.ensures.codes c.issue_code.ensures.ok
-    (λ r t. index_issue (held_facts c.args.facts.now) c.args.dot c.in-Issue.subject c.args.index.now c.issue_code.new.codes c.issue_code.new.forest (c.requires.change ∙ ap (λ (x : Change). Some x) c.in-Issue.is) c.requires.indexed r t)
+    (λ r t. index_issue (held_facts c.args.facts.now) c.args.dot c.in-Issue.subject c.in-Issue.start c.args.index.now c.issue_code.new.codes c.issue_code.new.forest (c.requires.change ∙ ap (λ (x : Change). Some x) c.in-Issue.is) c.requires.indexed r t)
 
 pub returns-in-SignOut-clause-ok : goal.returns-in-SignOut-clause-ok
 returns-in-SignOut-clause-ok c = on_ok2 c.sign_out.result _ _ _ c.sign_out.ensures.outs c.sign_out.ensures.ok

@@ -7,13 +7,13 @@ pub returns-in-Err-clause-codes_err : goal.returns-in-Err-clause-codes_err
 returns-in-Err-clause-codes_err c = codes_same (held_facts c.args.facts.now) c.args.dot c.args.codes.now c.list_code.new.codes c.requires.codes c.in-Err.ensures.err
 
 pub put_link-requires-clause-link : goal.put_link-requires-clause-link
-put_link-requires-clause-link c = change_link (held_facts c.args.facts.now) c.args.dot (change.Issue c.args.subject.now) c.requires.change
+put_link-requires-clause-link c = change_link (held_facts c.args.facts.now) c.args.dot (change.Issue c.args.subject.now c.args.start) c.requires.change
 
 pub returns-in-Ok-clause-codes : goal.returns-in-Ok-clause-codes
-returns-in-Ok-clause-codes c = code_row (held_facts c.args.facts.now) c.args.dot c.args.subject.now c.args.codes.now c.list_code.new.codes c.requires.change c.requires.codes c.list_code.ensures.ranged c.in_default.ensures.ok
+returns-in-Ok-clause-codes c = code_row (held_facts c.args.facts.now) c.args.dot c.args.subject.now c.args.start c.args.codes.now c.list_code.new.codes c.requires.change c.requires.codes c.list_code.ensures.ranged c.in_default.ensures.ok
 
 pub returns-in-Err-put_link-clause-codes_err : goal.returns-in-Err-put_link-clause-codes_err
 returns-in-Err-put_link-clause-codes_err c =
-    code_dropped (held_facts c.args.facts.now) c.args.dot c.args.subject.now c.args.codes.now c.list_code.new.codes c.drop_code.new.codes c.requires.codes
-    (change_free (held_facts c.args.facts.now) c.args.dot (change.Issue c.args.subject.now) c.requires.change)
+    code_dropped (held_facts c.args.facts.now) c.args.dot c.args.subject.now c.args.start c.args.codes.now c.list_code.new.codes c.drop_code.new.codes c.requires.codes
+    (change_free (held_facts c.args.facts.now) c.args.dot (change.Issue c.args.subject.now c.args.start) c.requires.change)
     c.in_default.ensures.ok c.drop_code.ensures

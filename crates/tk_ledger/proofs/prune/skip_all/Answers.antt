@@ -1,4 +1,4 @@
-use Rattle.tk_ledger.proofs.SkipLaws.{skips_none, skips_more, skips_whole}
+use Rattle.tk_ledger.proofs.SkipLaws.{skips_more}
 use Rattle.tk_ledger.proofs.prune.skip_all.Goals as goal
 
 pub loop-dot-preserved : goal.loop-dot-preserved

@@ -11,7 +11,7 @@ use Rattle.tk_ledger.proofs.WakeLaws.{wakes_none, wakes_rest}
 use Rattle.tk_ledger.proofs.wake.wake_codes.Goals as goal
 
 pub range-key-items-requires : goal.range-key-items-requires
-range-key-items-requires c = codes_forward c.args.subject.now c.code_span-first.result.0 c.code_span-first.result.1 c.code_span-first.ensures.first c.code_span-first.ensures.last
+range-key-items-requires c = codes_forward c.args.subject.now c.args.first c.args.last c.code_span-first.result.0 c.code_span-first.result.1 c.requires.forward c.code_span-first.ensures.first c.code_span-first.ensures.last
 
 pub loop-key-init : goal.loop-key-init
 loop-key-init c = (
@@ -20,7 +20,7 @@ loop-key-init c = (
       (c.into_iter-key-iterator.ensures.into_iter_gives
       ∙ c.range-key-items.ensures.between tt
       ∙ ap (λ (e : CodeKey). keys_between code_cmp (Included e) (Included c.code_span-first.result.1) c.args.codes.now) c.code_span-first.ensures.first
-      ∙ ap (λ (e : CodeKey). keys_between code_cmp (Included (code_key c.args.subject.now least_dot)) (Included e) c.args.codes.now) c.code_span-first.ensures.last),
+      ∙ ap (λ (e : CodeKey). keys_between code_cmp (Included (code_key c.args.subject.now c.args.first least_dot)) (Included e) c.args.codes.now) c.code_span-first.ensures.last),
 )
 
 pub wake-requires-clause-links : goal.wake-requires-clause-links
