@@ -10,7 +10,7 @@ import re
 from comparing.texts import ROOT, differ, text_of
 
 NAME = r"[^\s,]+"
-LISTED = re.compile(r"--   (%s(?:(?:, | \.\. )%s)*),?(?: \.\.)?(?:  .*)?" % (NAME, NAME))
+LISTED = re.compile(r"--   (%s(?:(?:, | \.\. )%s)*),?(?: \.\.)?(?: .*)?" % (NAME, NAME))
 RESULT = re.compile(r"\bKey results?: `?([^\s,.`]+)`?[,.](?:\s|$)")
 BEHIND = re.compile(r"(?:^|[;,] )([A-Za-z]+_\w+|[A-Z][a-z]+[A-Z]\w+)(?=[,;.]|$)")
 DEFINED = re.compile(r"^ *(?:[a-z]+ +)*?(?:(?:record|data) +(\S+)|(\S+) +:(?= |$))", re.M)

@@ -1,9 +1,9 @@
 -- The entries of a vector as a list. Key results:
---   few              there are no more entries than regions
---   is_rising        a test of neighbours finds out whether the regions rise
---   rising_entries   a vector is the vector of its entries
---   more_written     writing one entry more
---   more_fits        the entries written so far, and one more, have a spelling
+--   few            there are no more entries than regions
+--   is_rising      a test of neighbours finds out whether the regions rise
+--   rising_entries a vector is the vector of its entries
+--   more_written   writing one entry more
+--   more_fits      the entries written so far, and one more, have a spelling
 use Rattle.std.proofs.Common.{◌≡◌, ℕ, suc, ◌+◌, ◌-◌, ◌<◌, ◌≤◌, Bool, true, false, ◌&&◌, T, nat_lt, List, [], ◌∷◌, ◌++◌, get_or, slice_get, length, take, Some, refl, sym, ap, subst, ◌∙◌, add-one, append_assoc, arith}
 use Rattle.std.specs.List.{AllByRecursion, IsAllAdjacentAnswer, flat_map}
 use Rattle.std.specs.Ordering.{nat_cmp, is_lt}
