@@ -144,6 +144,9 @@ impl Link {
     fn compact(&mut self, alloc: Global) -> Result<(), AllocError>
         ensures { self.new ≡ self.old }
     {
+        if self.used == 0 {
+            return Ok(());
+        }
         if self.used == self.input.len() {
             self.input.clear();
             self.used = 0;
