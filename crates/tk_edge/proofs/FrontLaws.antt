@@ -149,9 +149,17 @@ head_arrives sync bytes tail headers spans h came within at fits full e =
     sym (length-map (take spans.headers headers) (header_bytes bytes)) ∙ ap length at.fields
     ∙ length-map h.fields name_and_value in
     let reads = ReadsRequest-append bytes h (drop spans.len bytes) tail at.reads in
-    inr (h, drop spans.len bytes ++ tail, reads,
-    ((drop spans.len bytes ++ tail, reads), omega (arith, at.len, fits),
-    omega (arith, count, full, length-take spans.headers headers)), e)
+    inr (
+      h,
+      drop spans.len bytes ++ tail,
+      reads,
+      (
+        (drop spans.len bytes ++ tail, reads),
+        omega (arith, at.len, fits),
+        omega (arith, count, full, length-take spans.headers headers),
+      ),
+      e,
+    )
 
 -- a head at the front, with what was read of the bytes behind it
 pub front_heard : {E : Type 0} (sync : Bool) (bytes : List ℕ) (over : Bool)
@@ -224,9 +232,11 @@ none_of (x ∷ xs) e = absurd (omega (arith, e))
 pub front_arrives : (sync over : Bool) (bytes : List ℕ) (came : Arrival) (taken : ℕ)
     → HasCome sync bytes over came taken → (tail : List ℕ) → Follows over tail
     → Arrives sync (Some (bytes ++ tail)) came
-front_arrives sync over bytes came taken front tail follows =
-    (front.may, λ known is.
-    subst (λ (x : List ℕ). IsArrival sync x came) (some_inj is) (front.means tail follows))
+front_arrives sync over bytes came taken front tail follows = (
+  front.may,
+  λ known is.
+      subst (λ (x : List ℕ). IsArrival sync x came) (some_inj is) (front.means tail follows),
+)
   where
     some_inj : {a b : List ℕ} → Some a ≡ Some b → a ≡ b
     some_inj e = cc

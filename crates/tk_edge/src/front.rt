@@ -127,7 +127,15 @@ fn head_front(
         Judged::Vector => Ok(Front::Came(Arrival::Exchange(Exchange::Vector), spans.len)),
         Judged::Body(posted, size) => {
             let rest = &bytes[spans.len..];
-            body_front(alloc, posted, size as usize, spans.len, rest, is_over, &fields)
+            body_front(
+                alloc,
+                posted,
+                size as usize,
+                spans.len,
+                rest,
+                is_over,
+                &fields,
+            )
         }
     }
 }
