@@ -5,3 +5,4 @@ pub mod HeadLaws
 pub mod PushLaws
 pub mod RecordLaws
 pub mod StreamLaws
+pub mod FrontLaws

@@ -16,6 +16,8 @@
 --   Pushes       TakesAndLogs, a pushed bundle with its log
 --   EdgeFields   EdgeFields, what contracts see of an edge
 --   Served       IsServed, one connection is one step
+--   Fronts       IsFront, what the front of a connection's bytes means while more may follow
+--   FrontServed  IsFrontServed, what serving that front does
 --   Laws         HasOneMeaning, the meaning of a stream is unique
 pub mod Answers
 pub mod Arrivals
@@ -23,6 +25,8 @@ pub mod Bounds
 pub mod EdgeFields
 pub mod Exchanges
 pub mod Failures
+pub mod FrontServed
+pub mod Fronts
 pub mod HeadFields
 pub mod Heads
 pub mod Heard

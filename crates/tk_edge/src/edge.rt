@@ -1,6 +1,7 @@
 //! The edge: a region behind its connections.
 //!
-//! `Edge::answer` takes a request as bytes, `Edge::serve_one` serves a connection over devices.
+//! `Edge::answer` takes a request as bytes, `Edge::serve_one` serves a connection over devices, and
+//! `Edge::serve_front` serves the front of the bytes that have come over a connection.
 
 use std::marker::Model;
 use tk_region::Region;
@@ -35,8 +36,8 @@ pub enum Served {
     Done(StatusCode),
 }
 
-ghost use Rattle.std.specs.Prelude.{◌≡◌, ◌≢◌, ℕ, Bool, true, false, List, length, Option, Some};
-ghost use Rattle.std.specs.Prelude.{Err, IfOk, OnOk, OnErr};
+ghost use Rattle.std.specs.Prelude.{◌≡◌, ◌≢◌, true, false, length, None, Some, Err};
+ghost use Rattle.std.specs.Prelude.{IfOk, OnOk, OnErr};
 ghost use Rattle.std.specs.Borrow.{Lends, sem};
 ghost use Rattle.tk_region.specs.contracts.region.Region.{the_row as region_row};
 ghost use Rattle.tk_edge.specs.contracts.edge.Edge.{the_row as edge_row};
@@ -44,11 +45,10 @@ ghost use Rattle.tk_edge.specs.Answers.{refused_by};
 ghost use Rattle.tk_edge.specs.Arrivals.{Answers, IsShort};
 ghost use Rattle.tk_edge.specs.Bounds.{TakesAtMost, request_limit};
 ghost use Rattle.tk_edge.specs.Failures.{Rose};
-ghost use Rattle.tk_edge.specs.Told.{IsFaultOfDevice};
-ghost use Rattle.tk_edge.specs.Heard.{Arrives, IsArrival, MayArrive};
+ghost use Rattle.tk_edge.specs.FrontServed.{IsFrontServed, IsFrontTurnedAway};
+ghost use Rattle.tk_edge.specs.Heard.{IsArrival, MayArrive};
 ghost use Rattle.tk_edge.specs.Heads.{head_limit};
-ghost use Rattle.tk_edge.specs.Pushes.{bundle_to_log};
-ghost use Rattle.tk_edge.specs.Served.{IsServed, IsTurnedAway, Replies, RepliesTo};
+ghost use Rattle.tk_edge.specs.Served.{IsServed, IsTurnedAway};
 ghost use Rattle.tk_edge.specs.declared.hear.Arrival.{Arrival as AnyArrival};
 
 use crate::answer::{Answer, answer_arrival, refuse};
@@ -56,10 +56,9 @@ use crate::device::{Sink, Source};
 use crate::given::Given;
 use crate::head::HEAD_LIMIT;
 use crate::hear::{Arrival, HearError, hear};
-use crate::push::{bundle_to_log, take_and_log};
-use crate::put::put_whole;
 use crate::refusal::Refusal;
-use crate::tell::{Fault, tell};
+use crate::serving::{serve_arrival, serve_front_open, turn_away};
+use crate::tell::Fault;
 use std::alloc::{AllocError, Global};
 use tk_handle::Moment;
 use tk_message::StatusCode;
@@ -265,120 +264,68 @@ impl Edge {
             Err(HearError::Memory) => Err(Fault::Memory),
         }
     }
-}
 
-// Serves what arrived at an edge that isn't sealed.
-fn serve_arrival<L: Sink, W: Sink>(
-    alloc: Global,
-    region: &mut Region,
-    sealed: &mut bool,
-    log: &mut L,
-    log_taken: bool,
-    writer: &mut W,
-    now: Moment,
-    words: &[u64; 6],
-    came: Arrival,
-) -> Result<Served, Fault>
-    requires { sealed.old ≡ false }
-    ensures served { (sync : Bool) (known : Option (List ℕ)) → Arrives sync known came
-        → IsServed
-        (record {
-          sync = sync;
-          log_taken = log_taken;
-          known = known;
-          now = now;
-          words = words.now;
-        })
-        (record { before = region.old; after = region.new })
-        (record { before = L.holds log.old; after = L.holds log.new }) (log.new ≡ log.old)
-        (record { before = W.holds writer.old; after = W.holds writer.new }) sealed.new result }
-    ensures read { result ≢ Err Fault.Read }
-    ensures writer_fault { result ≡ Err Fault.Write
-        → Rose (W.failed writer.old) (W.failed writer.new) }
-    ensures log_fault { result ≡ Err Fault.Log → Rose (L.failed log.old) (L.failed log.new) }
-{
-    if is_silent(&came) {
-        return Ok(Served::Nothing);
-    }
-    match reply(
-        alloc, region, sealed, log, log_taken, writer, now, words, &came,
-    ) {
-        Ok(status) => Ok(Served::Done(status)),
-        Err(fault) => Err(fault),
-    }
-}
+    /// Serves the request at the front of the bytes that have come over a connection, if that
+    /// request is whole. Returns how serving it ended, and how many of the bytes it took.
+    ///
+    /// `is_over` is whether the client has ended its side, so that no more bytes follow. A request
+    /// is served as [`Edge::serve_one_logging`] serves it, whatever follows its bytes. If no
+    /// request is whole, the result is `None`: nothing is changed or written, and more bytes are
+    /// needed. A sealed edge takes all bytes, and writes the reply 503 temporarily_unavailable.
+    pub fn serve_front<L: Sink, W: Sink>(
+        &mut self,
+        alloc: Global,
+        bytes: &[u8],
+        is_over: bool,
+        writer: &mut W,
+        log: &mut L,
+        log_taken: bool,
+        now: Moment,
+        words: &[u64; 6],
+    ) -> Result<Option<(Served, usize)>, Fault>
+        ensures sync { self.new.sync ≡ self.old.sync }
 
-fn is_silent(came: &Arrival) -> bool
-    ensures silent { result ≡ true → came.now ≡ Arrival.Silence }
-    ensures spoke { result ≡ false → came.now ≢ Arrival.Silence }
-{
-    matches!(came, Arrival::Silence)
-}
+        ensures served { self.old.sealed ≡ false → IsFrontServed
+            (record {
+              sync = self.old.sync;
+              log_taken = log_taken;
+              known = None;
+              now = now;
+              words = words.now;
+            })
+            bytes.now is_over (record { before = self.old.region; after = self.new.region })
+            (record { before = L.holds log.old; after = L.holds log.new }) (log.new ≡ log.old)
+            (record { before = W.holds writer.old; after = W.holds writer.new }) self.new.sealed
+            result }
+        ensures turned_away { self.old.sealed ≡ true → IsFrontTurnedAway bytes.now
+            (record { before = W.holds writer.old; after = W.holds writer.new }) result }
+        ensures untouched { self.old.sealed ≡ true → (self.new ≡ self.old) × (log.new ≡ log.old) }
 
-// Replies to what arrived. A pushed bundle is logged, if taken bundles are.
-fn reply<L: Sink, W: Sink>(
-    alloc: Global,
-    region: &mut Region,
-    sealed: &mut bool,
-    log: &mut L,
-    log_taken: bool,
-    writer: &mut W,
-    now: Moment,
-    words: &[u64; 6],
-    came: &Arrival,
-) -> Result<StatusCode, Fault>
-    requires { sealed.old ≡ false }
-    ensures replies { RepliesTo (bundle_to_log log_taken came.now) now words.now came.now
-        (record { before = region.old; after = region.new })
-        (record { before = L.holds log.old; after = L.holds log.new }) (log.new ≡ log.old)
-        (record { before = W.holds writer.old; after = W.holds writer.new }) sealed.new result }
-    ensures faults { IsFaultOfDevice result (L.failed log.old) (L.failed log.new)
-        (W.failed writer.old) (W.failed writer.new) }
-{
-    match bundle_to_log(log_taken, came) {
-        Some(bytes) => take_and_log(alloc, region, sealed, log, writer, bytes),
-        None => answer_and_tell(alloc, region, sealed, log, writer, now, words, came),
-    }
-}
-
-// Answers what arrived, and writes the record to the log and the reply to the client.
-fn answer_and_tell<L: Sink, W: Sink>(
-    alloc: Global,
-    region: &mut Region,
-    sealed: &mut bool,
-    log: &mut L,
-    writer: &mut W,
-    now: Moment,
-    words: &[u64; 6],
-    came: &Arrival,
-) -> Result<StatusCode, Fault>
-    requires { sealed.old ≡ false }
-    ensures replies { Replies now words.now came.now
-        (record { before = region.old; after = region.new })
-        (record { before = L.holds log.old; after = L.holds log.new }) (log.new ≡ log.old)
-        (record { before = W.holds writer.old; after = W.holds writer.new }) sealed.new result }
-    ensures faults { IsFaultOfDevice result (L.failed log.old) (L.failed log.new)
-        (W.failed writer.old) (W.failed writer.new) }
-{
-    let Ok(answer) = answer_arrival(alloc, region, now, words, came) else {
-        return Err(Fault::Memory);
-    };
-    tell(&answer, sealed, log, writer)
-}
-
-// Writes the reply of a sealed edge.
-fn turn_away<W: Sink>(alloc: Global, writer: &mut W) -> Result<Served, Fault>
-    ensures turned_away { IsTurnedAway
-        (record { before = W.holds writer.old; after = W.holds writer.new }) result }
-    ensures writer_fault { result ≡ Err Fault.Write
-        → Rose (W.failed writer.old) (W.failed writer.new) }
-{
-    let Ok(away) = refuse(alloc, Refusal::Sealed) else {
-        return Err(Fault::Memory);
-    };
-    match put_whole(writer, &away.bytes) {
-        Ok(()) => Ok(Served::Done(away.status)),
-        Err(_) => Err(Fault::Write),
+        // No source is read, and a fault of a device is returned only if that device failed.
+        ensures read { result ≢ Err Fault.Read }
+        ensures writer_fault { result ≡ Err Fault.Write
+            → Rose (W.failed writer.old) (W.failed writer.new) }
+        ensures log_fault { result ≡ Err Fault.Log → Rose (L.failed log.old) (L.failed log.new) }
+    {
+        if self.sealed {
+            return match turn_away(alloc, writer) {
+                Ok(served) => Ok(Some((served, bytes.len()))),
+                Err(fault) => Err(fault),
+            };
+        }
+        serve_front_open(
+            alloc,
+            &mut self.region,
+            self.sync,
+            &mut self.sealed,
+            bytes,
+            is_over,
+            writer,
+            log,
+            log_taken,
+            now,
+            words,
+        )
     }
 }
 

@@ -165,7 +165,7 @@ fn fill<S: Source>(reader: &mut S, front: &[u8], body: &mut [u8]) -> Result<bool
 }
 
 // Makes the arrival of a whole body that is in the buffer of its head.
-fn lent(
+pub(crate) fn lent(
     alloc: Global,
     posted: Posted,
     body: &[u8],
@@ -207,7 +207,7 @@ fn kept(
 }
 
 // Makes the arrival of a whole request.
-fn asked(
+pub(crate) fn asked(
     alloc: Global,
     endpoint: Endpoint,
     form: &[u8],

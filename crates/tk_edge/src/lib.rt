@@ -12,14 +12,17 @@
 //! - [`Path`] and `judge`: which service a head requests, or the [`Refusal`] of it, by ordered
 //!   cases.
 //! - [`Arrival`]: what a stream means. An [`Exchange`] is with another region.
+//! - `front`: what the front of the bytes that have come means: an arrival, or more is needed.
 //! - `answer` makes the reply to an arrival, and `render` its bytes.
 //! - `tell` writes the record of a fact and only then the reply, or returns a [`Fault`].
 //! - `push` takes a pushed bundle in and logs it before the reply, if bundles are logged.
-//! - [`Edge`]: [`Edge::answer`] over bytes, [`Edge::serve_one`] over devices.
+//! - `serving`: serves an arrival, and the front of bytes.
+//! - [`Edge`]: [`Edge::answer`] over bytes, [`Edge::serve_one`] over devices, and
+//!   [`Edge::serve_front`] over the bytes that have come, as often as more do.
 //!
 //! The definitions are in `specs/`: `Judged` has the cases, `Heard` the meaning of a stream,
-//! `Answers` and `Exchanges` the replies, `Pushes` the log of bundles, and `Served` what one
-//! connection does.
+//! `Answers` and `Exchanges` the replies, `Pushes` the log of bundles, `Served` what one connection
+//! does, and `Fronts` and `FrontServed` what the front of its bytes means and does.
 #![tactic(auto)]
 
 mod answer;
@@ -29,6 +32,7 @@ mod device;
 mod edge;
 mod exchange;
 mod field;
+mod front;
 mod given;
 mod head;
 mod hear;
@@ -41,6 +45,7 @@ mod push;
 mod put;
 mod refusal;
 mod render;
+mod serving;
 mod tell;
 
 pub use answer::Answer;

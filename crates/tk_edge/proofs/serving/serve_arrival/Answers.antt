@@ -3,7 +3,7 @@ use Rattle.tk_edge.proofs.AnswerLaws.{served, faulted, unread, faults_as}
 use Rattle.tk_edge.specs.Pushes.{bundle_to_log}
 use Rattle.tk_edge.proofs.StreamLaws.{hears_nothing}
 use Rattle.tk_edge.specs.declared.tell.Fault.TheVariants.{Write, Log}
-use Rattle.tk_edge.proofs.edge.serve_arrival.Goals as goal
+use Rattle.tk_edge.proofs.serving.serve_arrival.Goals as goal
 
 pub returns-then-is_silent-clause-served : goal.returns-then-is_silent-clause-served
 returns-then-is_silent-clause-served g c = λ sync known arrives.

@@ -1,0 +1,290 @@
+-- The meaning of a front doesn't depend on what follows. Key results:
+--   front_heard     a head at the front, with what was read of the bytes behind it
+--   over_none       bytes without a head that are over
+--   full_none       as many bytes as a head may have, without a head
+--   error_none      bytes that can't become a head
+--   long_none       a head that is too long
+--   front_arrives   what came at the front arrives in a stream of these bytes and what follows
+--   size_at         the size of a request, by the parts of its head
+use Rattle.std.proofs.Common.{
+  ◌≡◌,
+  ◌⊎◌,
+  ℕ,
+  ◌+◌,
+  ◌-◌,
+  ◌<◌,
+  ◌≤◌,
+  Bool,
+  true,
+  false,
+  List,
+  [],
+  ◌∷◌,
+  ◌++◌,
+  length,
+  take,
+  drop,
+  map,
+  Option,
+  Some,
+  Result,
+  Ok,
+  Err,
+  IfOk,
+  nat_le,
+  inl,
+  inr,
+  refl,
+  sym,
+  ap,
+  ◌∙◌,
+  subst,
+  arith,
+  append-nil,
+  length-take,
+}
+use Rattle.std.proofs.lemmas.Bool.Decides.{nat_tests}
+use Rattle.std.proofs.lemmas.List.{length-drop, length-map, take_rest}
+use Rattle.httparse.specs.Grammar.{RequestHead, print_request, ReadsRequest, HasNoRequest}
+use Rattle.httparse.specs.Spans.{IsRequestAt, IsRequestWithin, RequestOverflows, header_bytes, name_and_value}
+use Rattle.httparse.specs.declared.spans.HeaderSpan.{HeaderSpan}
+use Rattle.httparse.specs.declared.spans.RequestSpans.{RequestSpans}
+use Rattle.httparse.proofs.GrammarLemmas.{ReadsRequest-append, request_unique}
+use Rattle.tk_params.specs.Params.{Pairs}
+use Rattle.tk_edge.specs.Bounds.{request_limit}
+use Rattle.tk_edge.specs.Fronts.{Follows, HasCome, IsCut, IsFewer, IsFront, IsFrontBy, IsOneRequest, IsTakenWithin, MayComeBy}
+use Rattle.tk_edge.specs.Fronts.{Takes, TakesIn, front_of, request_size, size_of}
+use Rattle.tk_edge.specs.Heads.{HasHead, head_limit, field_limit}
+use Rattle.tk_edge.specs.Heard.{Arrives, IsArrival, MayArrive, arrival_by, arrival_of, headless, posted_to}
+use Rattle.tk_edge.specs.Judged.{judged_of}
+use Rattle.tk_edge.specs.declared.front.Front.{Front}
+use Rattle.tk_edge.specs.declared.front.Front.TheVariants.{More, Came}
+use Rattle.tk_edge.specs.declared.hear.Arrival.{Arrival}
+use Rattle.tk_edge.specs.declared.hear.Arrival.TheVariants.{Silence, Refused, Request}
+use Rattle.tk_edge.specs.declared.exchange.Exchange.TheVariants as exchange
+use Rattle.tk_edge.specs.declared.hear.Arrival.TheVariants as arrival
+use Rattle.tk_message.specs.RequestFields.{RequestFields}
+use Rattle.tk_edge.specs.declared.hear.HearError.{HearError}
+use Rattle.tk_edge.specs.declared.judge.Judged.{Judged}
+use Rattle.tk_edge.specs.declared.judge.Judged.TheVariants.{Body}
+use Rattle.tk_edge.specs.declared.path.Posted.{Posted}
+use Rattle.tk_edge.specs.declared.path.Posted.TheVariants.{Form, Pull, Push}
+use Rattle.tk_edge.specs.declared.refusal.Refusal.TheVariants.{NoHead, ShortBody}
+use Rattle.tk_edge.proofs.HeadLaws.{no_head_of_none, no_short_head}
+use Rattle.tk_edge.proofs.StreamLaws.{form_in_front, has_one_meaning}
+
+-- a stream without a head ends too early
+cut_headless : (bytes : List ℕ) → IsCut (headless bytes)
+cut_headless [] = tt
+cut_headless (b ∷ bytes) = tt
+
+-- bytes without a head end too early
+pub partial_cut : (sync : Bool) (bytes : List ℕ) → HasNoRequest bytes
+    → (came : Arrival) → IsArrival sync bytes came → IsCut came
+partial_cut sync bytes none came (inl (n, e)) = subst IsCut (sym e) (cut_headless bytes)
+partial_cut sync bytes none came (inr (h, rest, reads, has, e)) = absurd (none h rest reads)
+
+-- no bytes, behind which nothing follows, are silence
+pub silent_front : (sync : Bool) (tail : List ℕ) → tail ≡ [] → IsArrival sync tail Silence
+silent_front sync tail e =
+    subst (λ (x : List ℕ). IsArrival sync x Silence) (sym e)
+    (inl (λ h has. no_head_of_none h has.0.0 has.0.1, refl))
+
+-- bytes that have no head, whatever follows
+pub headless_arrives : (sync : Bool) (bytes tail : List ℕ) → 0 < length bytes
+    → ((h : RequestHead) → HasHead (bytes ++ tail) head_limit field_limit h → ⊥)
+    → IsArrival sync (bytes ++ tail) (Refused NoHead)
+headless_arrives sync [] tail some none = absurd (omega arith)
+headless_arrives sync (b ∷ bytes) tail some none = inl (none, refl)
+
+-- bytes that have no head, whatever follows, are refused, and all of them are taken
+pub headless_comes : (sync : Bool) (bytes : List ℕ) (over : Bool)
+    → ((tail : List ℕ) → Follows over tail → IsArrival sync (bytes ++ tail) (Refused NoHead))
+    → HasCome sync bytes over (Refused NoHead) (length bytes)
+headless_comes sync bytes over means = record {
+  within = omega arith;
+  takes = refl;
+  may = tt;
+  means = means;
+}
+
+-- bytes without a head that are over
+pub over_none : (bytes tail : List ℕ) → HasNoRequest bytes → tail ≡ []
+    → (h : RequestHead) → HasHead (bytes ++ tail) head_limit field_limit h → ⊥
+over_none bytes tail none e h ((rest, reads), short, few) =
+    none h rest (subst (λ (x : List ℕ). ReadsRequest x h rest)
+    (ap (λ (t : List ℕ). bytes ++ t) e ∙ append-nil bytes) reads)
+
+-- so many bytes without a head
+pub full_none : (bytes tail : List ℕ) → HasNoRequest bytes → head_limit ≤ length bytes
+    → (h : RequestHead) → HasHead (bytes ++ tail) head_limit field_limit h → ⊥
+full_none bytes tail none full =
+    no_short_head (bytes ++ tail) bytes tail head_limit field_limit refl full none
+
+-- bytes that can't become a head with so many fields
+pub error_none : (bytes tail : List ℕ) → RequestOverflows field_limit bytes
+    → (h : RequestHead) → HasHead (bytes ++ tail) head_limit field_limit h → ⊥
+error_none bytes tail over h ((rest, reads), short, few) =
+    absurd (omega (arith, over tail h rest reads, few))
+
+-- a head that is too long
+pub long_none : (bytes tail : List ℕ) (headers : List HeaderSpan) (spans : RequestSpans)
+    (k : RequestHead) → IsRequestAt bytes headers spans k → head_limit < spans.len
+    → (h : RequestHead) → HasHead (bytes ++ tail) head_limit field_limit h → ⊥
+long_none bytes tail headers spans k at long h ((rest, reads), short, few) =
+    let known = ReadsRequest-append bytes k (drop spans.len bytes) tail at.reads in
+    let same = request_unique (bytes ++ tail) k h (drop spans.len bytes ++ tail) rest known reads in
+    let e : length (print_request k) ≡ length (print_request h) =
+    ap (λ (x : RequestHead). length (print_request x)) same.0 in
+    absurd (omega (arith, at.len, long, short, e))
+
+-- a head at the front, with what follows
+pub head_arrives : (sync : Bool) (bytes tail : List ℕ) (headers : List HeaderSpan)
+    (spans : RequestSpans) (h : RequestHead) (came : Arrival)
+    → IsRequestWithin bytes headers spans → IsRequestAt bytes headers spans h
+    → spans.len ≤ head_limit → length headers ≡ field_limit
+    → came ≡ arrival_of sync h (drop spans.len bytes ++ tail) → IsArrival sync (bytes ++ tail) came
+head_arrives sync bytes tail headers spans h came within at fits full e =
+    let count : length (take spans.headers headers) ≡ length h.fields =
+    sym (length-map (take spans.headers headers) (header_bytes bytes)) ∙ ap length at.fields
+    ∙ length-map h.fields name_and_value in
+    let reads = ReadsRequest-append bytes h (drop spans.len bytes) tail at.reads in
+    inr (
+      h,
+      drop spans.len bytes ++ tail,
+      reads,
+      (
+        (drop spans.len bytes ++ tail, reads),
+        omega (arith, at.len, fits),
+        omega (arith, count, full, length-take spans.headers headers),
+      ),
+      e,
+    )
+
+-- a head at the front, with what was read of the bytes behind it
+pub front_heard : {E : Type 0} (sync : Bool) (bytes : List ℕ) (over : Bool)
+    (headers : List HeaderSpan) (spans : RequestSpans) (h : RequestHead) (result : Result Front E)
+    → IsRequestWithin bytes headers spans → IsRequestAt bytes headers spans h
+    → spans.len ≤ head_limit → length headers ≡ field_limit
+    → IfOk result (IsFrontBy over (λ tail. arrival_of sync h (drop spans.len bytes ++ tail)))
+    → IfOk result (IsTakenWithin (length bytes)) → IfOk result (TakesIn sync bytes)
+    → IfOk result (IsFewer (length bytes) (request_limit sync)) → IfOk result (MayComeBy sync)
+    → IfOk result (IsFront sync bytes over)
+front_heard sync bytes over headers spans h (Ok More) within at fits full (open_yet, cut) taken
+    takes fewer may =
+    let whole = head_arrives sync bytes [] headers spans h (Refused ShortBody) within at fits full
+    (sym cut) in
+    let ends = subst (λ (x : List ℕ). IsArrival sync x (Refused ShortBody)) (append-nil bytes) whole in
+    record {
+      unended = open_yet;
+      fewer = fewer;
+      cut = λ came is. subst IsCut (has_one_meaning sync bytes (Refused ShortBody) came ends is) tt;
+    }
+front_heard sync bytes over headers spans h (Ok (Came came count)) within at fits full by taken
+    takes fewer may = record {
+      within = taken;
+      takes = takes;
+      may = may;
+      means = λ tail follows. head_arrives sync bytes tail headers spans h came within at fits full
+          (by tail follows);
+    }
+front_heard sync bytes over headers spans h (Err e) within at fits full by taken takes fewer may = tt
+
+-- a whole body, whatever follows it
+pub body_whole : (over : Bool) (posted : Posted) (size taken : ℕ) (front target : List ℕ)
+    (pairs : Pairs) (result : Result Arrival HearError) → size ≤ length front
+    → IfOk result (λ came. came ≡ posted_to posted (take size front) pairs)
+    → IfOk (front_of result taken)
+    (IsFrontBy over (λ tail. arrival_by target pairs (front ++ tail) (Body posted size)))
+body_whole over posted size taken front target pairs (Ok came) fits e = λ tail follows.
+    let facts = form_in_front front tail size fits in
+    rw (facts.0, facts.1) e
+body_whole over posted size taken front target pairs (Err error) fits e = tt
+
+-- a body that is not whole yet
+pub body_short : (posted : Posted) (size : ℕ) (front target : List ℕ) (pairs : Pairs)
+    → length front < size
+    → arrival_by target pairs (front ++ []) (Body posted size) ≡ Refused ShortBody
+body_short posted size front target pairs short =
+    let none : nat_le size (length front) ≡ false = grind (arith, nat_tests) in
+    rw (append-nil front, none) refl
+
+-- the same front, by another name of its meaning
+pub same_front : {E : Type 0} (over : Bool) (f g : List ℕ → Arrival) (result : Result Front E)
+    → ((tail : List ℕ) → f tail ≡ g tail) → IfOk result (IsFrontBy over f)
+    → IfOk result (IsFrontBy over g)
+same_front over f g (Ok More) e (open_yet, cut) = (open_yet, sym (e []) ∙ cut)
+same_front over f g (Ok (Came came taken)) e by = λ tail follows. by tail follows ∙ e tail
+same_front over f g (Err error) e by = tt
+
+-- what comes of a whole request
+pub may_come : (sync : Bool) (result : Result Arrival HearError) (taken : ℕ)
+    → IfOk result (MayArrive sync) → IfOk (front_of result taken) (MayComeBy sync)
+may_come sync (Ok came) taken may = may
+may_come sync (Err error) taken may = tt
+
+-- a list of no length is empty
+pub none_of : (xs : List ℕ) → length xs ≡ 0 → xs ≡ []
+none_of [] e = refl
+none_of (x ∷ xs) e = absurd (omega (arith, e))
+
+-- what came at the front arrives in a stream of these bytes and what follows
+pub front_arrives : (sync over : Bool) (bytes : List ℕ) (came : Arrival) (taken : ℕ)
+    → HasCome sync bytes over came taken → (tail : List ℕ) → Follows over tail
+    → Arrives sync (Some (bytes ++ tail)) came
+front_arrives sync over bytes came taken front tail follows = (
+  front.may,
+  λ known is.
+      subst (λ (x : List ℕ). IsArrival sync x came) (some_inj is) (front.means tail follows),
+)
+  where
+    some_inj : {a b : List ℕ} → Some a ≡ Some b → a ≡ b
+    some_inj e = cc
+
+-- the bytes from a place on are all but those before it
+pub rest_is_all : (bytes : List ℕ) (len : ℕ) → len ≤ length bytes
+    → length bytes ≡ len + length (take (length bytes - len) (drop len bytes))
+rest_is_all bytes len fits =
+    let long : length (take (length bytes - len) (drop len bytes)) ≡ length bytes - len =
+    ap length (take_rest bytes len) ∙ length-drop len bytes in
+    omega (arith, long, fits)
+
+-- the size of a request, by the parts of its head and what was judged of them
+pub size_at : (sync : Bool) (h : RequestHead) (len : ℕ) (method target : List ℕ) (judged : Judged)
+    → len ≡ length (print_request h) → method ≡ h.method → target ≡ h.target
+    → judged ≡ judged_of sync method target (map name_and_value h.fields)
+    → len + size_of judged ≡ request_size sync h
+size_at sync h len method target judged el em et ej =
+    let pairs = map name_and_value h.fields in
+    ap (λ n. n + size_of judged) el
+    ∙ ap (λ j. length (print_request h) + size_of j)
+    (ej ∙ ap (λ m. judged_of sync m target pairs) em ∙ ap (λ t. judged_of sync h.method t pairs) et)
+
+-- a whole request takes its size
+pub request_takes : (sync : Bool) (bytes : List ℕ) (taken : ℕ) (request : RequestFields)
+    (result : Result Arrival HearError) → IsOneRequest sync bytes taken
+    → IfOk result (λ came. came ≡ Request request) → IfOk (front_of result taken) (TakesIn sync bytes)
+request_takes sync bytes taken request (Ok came) one e =
+    subst (λ (x : Arrival). Takes sync bytes x taken) (sym e) one
+request_takes sync bytes taken request (Err error) one e = tt
+
+-- a whole body is that of a request or of an exchange, which takes its size
+pub posted_takes : (sync : Bool) (bytes : List ℕ) (taken : ℕ) (posted : Posted) (body : List ℕ)
+    (pairs : Pairs) (result : Result Arrival HearError) → IsOneRequest sync bytes taken
+    → IfOk result (λ came. came ≡ posted_to posted body pairs)
+    → IfOk (front_of result taken) (TakesIn sync bytes)
+posted_takes sync bytes taken posted body pairs (Ok came) one e =
+    subst (λ (x : Arrival). Takes sync bytes x taken) (sym e) (of posted)
+  where
+    of : (p : Posted) → Takes sync bytes (posted_to p body pairs) taken
+    of (Form endpoint) = one
+    of Pull = one
+    of Push = one
+posted_takes sync bytes taken posted body pairs (Err error) one e = tt
+
+-- fewer bytes than a limit are fewer than a greater one
+pub fewer_within : {E : Type 0} (many all limit most : ℕ) (result : Result Front E) → many ≡ all
+    → limit ≤ most → IfOk result (IsFewer many limit) → IfOk result (IsFewer all most)
+fewer_within many all limit most (Ok More) same less fewer = omega (arith, same, less, fewer)
+fewer_within many all limit most (Ok (Came came taken)) same less fewer = tt
+fewer_within many all limit most (Err error) same less fewer = tt

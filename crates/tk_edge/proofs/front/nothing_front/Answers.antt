@@ -1,0 +1,23 @@
+use Rattle.std.proofs.Common.{◌≡◌, [], true, false, rules, arith, refl}
+use Rattle.tk_edge.proofs.FrontLaws.{partial_cut, silent_front}
+use Rattle.tk_edge.proofs.HeadLaws.{no_head_of_none}
+use Rattle.tk_edge.proofs.front.nothing_front.Goals as goal
+
+pub returns-then-is_over : goal.returns-then-is_over
+returns-then-is_over c = λ sync.
+    let over : c.args.is_over ≡ true = search rules in
+    record {
+      within = omega arith;
+      takes = refl;
+      may = tt;
+      means = λ tail follows. silent_front sync tail (follows over);
+    }
+
+pub returns-else-is_over : goal.returns-else-is_over
+returns-else-is_over c = λ sync.
+    let over : c.args.is_over ≡ false = search rules in
+    record {
+      unended = over;
+      fewer = omega arith;
+      cut = λ came is. partial_cut sync [] no_head_of_none came is;
+    }

@@ -1,0 +1,119 @@
+-- What the front of a connection's bytes means while more may follow (own; the size of a request is
+-- that of RFC 9112, 6.3).
+--   Follows        what may follow the bytes
+--   IsCut          the meaning of a stream that ends too early
+--   request_size   how many bytes a request takes
+--   Takes          how many bytes were taken of what came
+--   IsPartial      no request is whole
+--   IsFront        what the front of bytes is: a meaning whatever follows, or no whole request
+--   IsFrontBy, IsTakenWithin, TakesIn, IsFewer, MayComeBy   parts of that
+use Rattle.std.specs.Prelude.{◌≡◌, ⊤, ℕ, ◌+◌, ◌<◌, ◌≤◌, Bool, true, false, List, [], ◌++◌, length}
+use Rattle.std.specs.Prelude.{map, Result, Ok, Err}
+use Rattle.httparse.specs.Grammar.{RequestHead, ReadsRequest, print_request}
+use Rattle.httparse.specs.Spans.{name_and_value}
+use Rattle.tk_edge.specs.Bounds.{request_limit}
+use Rattle.tk_edge.specs.Heard.{IsArrival, MayArrive}
+use Rattle.tk_edge.specs.Judged.{judged_of}
+use Rattle.tk_edge.specs.declared.front.Front.{Front}
+use Rattle.tk_edge.specs.declared.front.Front.TheVariants.{More, Came}
+use Rattle.tk_edge.specs.declared.hear.Arrival.{Arrival}
+use Rattle.tk_edge.specs.declared.hear.Arrival.TheVariants.{Silence, Refused, Request, Exchange}
+use Rattle.tk_edge.specs.declared.hear.HearError.{HearError}
+use Rattle.tk_edge.specs.declared.judge.Judged.{Judged}
+use Rattle.tk_edge.specs.declared.judge.Judged.TheVariants as judged
+use Rattle.tk_edge.specs.declared.refusal.Refusal.{Refusal}
+use Rattle.tk_edge.specs.declared.refusal.Refusal.TheVariants.{NoHead, ShortBody}
+
+-- what may follow the bytes: nothing once the client has ended its side
+abbrev pub Follows : Bool → List ℕ → Type 0
+Follows over tail = over ≡ true → tail ≡ []
+
+-- the refusal of a stream that ends too early
+abbrev pub IsCutBy : Refusal → Type 0
+IsCutBy NoHead = ⊤
+IsCutBy ShortBody = ⊤
+IsCutBy why = ⊥
+
+-- the meaning of a stream that ends too early
+abbrev pub IsCut : Arrival → Type 0
+IsCut Silence = ⊤
+IsCut (Refused why) = IsCutBy why
+IsCut (Request request) = ⊥
+IsCut (Exchange exchange) = ⊥
+
+-- how many bytes of a body a judged head requests; the body of a GET isn't read
+abbrev pub size_of : Judged → ℕ
+size_of (judged.Refused why) = 0
+size_of (judged.Query endpoint) = 0
+size_of judged.Vector = 0
+size_of (judged.Body posted n) = n
+
+-- how many bytes a request takes: its head, and the body that its length names (RFC 9112, 6.3)
+abbrev pub request_size : Bool → RequestHead → ℕ
+request_size sync h =
+    length (print_request h)
+    + size_of (judged_of sync h.method h.target (map name_and_value h.fields))
+
+-- the first bytes are one whole request, of this size
+abbrev pub IsOneRequest : Bool → List ℕ → ℕ → Type 0
+IsOneRequest sync bytes size =
+    (h : RequestHead) × (rest : List ℕ) × ReadsRequest bytes h rest × (size ≡ request_size sync h)
+
+-- How many bytes were taken of what came: those of the request and no more. A refusal takes all
+-- bytes, because nothing behind a refused request is read.
+abbrev pub Takes : Bool → List ℕ → Arrival → ℕ → Type 0
+Takes sync bytes Silence taken = taken ≡ 0
+Takes sync bytes (Refused why) taken = taken ≡ length bytes
+Takes sync bytes (Request request) taken = IsOneRequest sync bytes taken
+Takes sync bytes (Exchange exchange) taken = IsOneRequest sync bytes taken
+
+-- No request is whole: more bytes may follow, there are fewer than a request may have, and a stream
+-- that ended here would end too early.
+pub record IsPartial (sync : Bool) (bytes : List ℕ) (over : Bool) : Type 0 where
+  pub unended : over ≡ false
+  pub fewer : length bytes < request_limit sync
+  pub cut : (came : Arrival) → IsArrival sync bytes came → IsCut came
+
+-- what came at the front: it means the same whatever follows the bytes
+pub record HasCome (sync : Bool) (bytes : List ℕ) (over : Bool) (came : Arrival) (taken : ℕ)
+    : Type 0 where
+  pub within : taken ≤ length bytes
+  pub takes : Takes sync bytes came taken
+  pub may : MayArrive sync came
+  pub means : (tail : List ℕ) → Follows over tail → IsArrival sync (bytes ++ tail) came
+
+-- what the front of bytes is
+abbrev pub IsFront : Bool → List ℕ → Bool → Front → Type 0
+IsFront sync bytes over More = IsPartial sync bytes over
+IsFront sync bytes over (Came came taken) = HasCome sync bytes over came taken
+
+-- the front by the meaning of the bytes with what follows
+abbrev pub IsFrontBy : Bool → (List ℕ → Arrival) → Front → Type 0
+IsFrontBy over meaning More = (over ≡ false) × (meaning [] ≡ Refused ShortBody)
+IsFrontBy over meaning (Came came taken) =
+    (tail : List ℕ) → Follows over tail → came ≡ meaning tail
+
+-- what came takes at most the given number of bytes
+abbrev pub IsTakenWithin : ℕ → Front → Type 0
+IsTakenWithin most More = ⊤
+IsTakenWithin most (Came came taken) = taken ≤ most
+
+-- what came takes its bytes and no more
+abbrev pub TakesIn : Bool → List ℕ → Front → Type 0
+TakesIn sync bytes More = ⊤
+TakesIn sync bytes (Came came taken) = Takes sync bytes came taken
+
+-- if no request is whole, the bytes are fewer than the limit
+abbrev pub IsFewer : ℕ → ℕ → Front → Type 0
+IsFewer many limit More = many < limit
+IsFewer many limit (Came came taken) = ⊤
+
+-- an exchange comes only if regions exchange facts
+abbrev pub MayComeBy : Bool → Front → Type 0
+MayComeBy sync More = ⊤
+MayComeBy sync (Came came taken) = MayArrive sync came
+
+-- the front of a whole request, unless memory ran out for it
+abbrev pub front_of : Result Arrival HearError → ℕ → Result Front HearError
+front_of (Ok came) taken = Ok (Came came taken)
+front_of (Err error) taken = Err error

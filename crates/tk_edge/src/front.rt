@@ -1,0 +1,182 @@
+//! What the front of a connection's bytes means while more may follow: `hear_front`.
+
+use crate::hear::Arrival;
+
+/// What the front of bytes is.
+#[derive(Drop)]
+pub(crate) enum Front {
+    /// No request is whole: more bytes are needed.
+    More,
+    /// What arrived, and how many of the bytes it took.
+    Came(Arrival, usize),
+}
+
+ghost use Rattle.std.specs.Prelude.{◌≡◌, ◌++◌, ◌+◌, ◌^◌, ◌<◌, ◌≤◌, ℕ, Bool, List, [], length, drop};
+ghost use Rattle.std.specs.Prelude.{IfOk};
+ghost use Rattle.httparse.specs.Grammar.{RequestHead, HasNoRequest};
+ghost use Rattle.httparse.specs.Spans.{IsRequestAt, IsRequestWithin};
+ghost use Rattle.tk_params.specs.Params.{Pairs};
+ghost use Rattle.tk_edge.specs.Bounds.{request_limit};
+ghost use Rattle.tk_edge.specs.Fronts.{IsFewer, IsFront, IsFrontBy, IsOneRequest, IsTakenWithin};
+ghost use Rattle.tk_edge.specs.Fronts.{MayComeBy, TakesIn, front_of};
+ghost use Rattle.tk_edge.specs.HeadFields.{AreFields};
+ghost use Rattle.tk_edge.specs.Heads.{head_limit};
+ghost use Rattle.tk_edge.specs.Heard as spec;
+ghost use Rattle.tk_edge.specs.Judged.{MayPost};
+ghost use Rattle.tk_edge.specs.declared.judge.Judged.TheVariants.{Body};
+
+use crate::exchange::Exchange;
+use crate::field::{Fields, fields_of};
+use crate::head::HEAD_LIMIT;
+use crate::hear::{HearError, asked, lent};
+use crate::judge::{Judged, judge};
+use crate::path::{Posted, split_target};
+use crate::refusal::Refusal;
+use httparse::Status;
+use httparse::spans::{EMPTY_HEADER_SPAN, HeaderSpan, RequestSpans, parse_request};
+use std::alloc::Global;
+
+// Reads the request at the front of the bytes that have come, without a copy of its head. `is_over`
+// is whether no more bytes follow.
+pub(crate) fn hear_front(
+    alloc: Global,
+    sync: bool,
+    bytes: &[u8],
+    is_over: bool,
+) -> Result<Front, HearError>
+    ensures { IfOk result (IsFront sync bytes.now is_over) }
+{
+    if bytes.is_empty() {
+        return Ok(nothing_front(is_over));
+    }
+    let mut headers = [EMPTY_HEADER_SPAN; 64];
+    match parse_request(bytes, &mut headers) {
+        Ok(Status::Complete(spans)) => {
+            if spans.len > HEAD_LIMIT {
+                return Ok(headless_front(bytes));
+            }
+            head_front(alloc, sync, bytes, is_over, &headers, spans)
+        }
+        Ok(Status::Partial) => Ok(partial_front(bytes, is_over)),
+        Err(_) => Ok(headless_front(bytes)),
+    }
+}
+
+// Returns the front of no bytes.
+fn nothing_front(is_over: bool) -> Front
+    ensures { (sync : Bool) → IsFront sync [] is_over result }
+{
+    if is_over {
+        Front::Came(Arrival::Silence, 0)
+    } else {
+        Front::More
+    }
+}
+
+// Returns the front of bytes that have no whole head.
+fn partial_front(bytes: &[u8], is_over: bool) -> Front
+    requires some { 0 < length bytes.now }
+    requires none { HasNoRequest bytes.now }
+    ensures { (sync : Bool) → IsFront sync bytes.now is_over result }
+{
+    if is_over {
+        return headless_front(bytes);
+    }
+    if bytes.len() < HEAD_LIMIT {
+        return Front::More;
+    }
+    headless_front(bytes)
+}
+
+// Returns the front of bytes that can't become a head.
+fn headless_front(bytes: &[u8]) -> Front
+    ensures { result ≡ Front.Came (Arrival.Refused Refusal.NoHead) (length bytes.now) }
+{
+    Front::Came(Arrival::Refused(Refusal::NoHead), bytes.len())
+}
+
+// Returns the front of bytes that begin with a head.
+fn head_front(
+    alloc: Global,
+    sync: bool,
+    bytes: &[u8],
+    is_over: bool,
+    headers: &[HeaderSpan],
+    spans: RequestSpans,
+) -> Result<Front, HearError>
+    requires within { IsRequestWithin bytes.now headers.now spans }
+    requires short { spans.len ≤ head_limit }
+    ensures came { (h : RequestHead) → IsRequestAt bytes.now headers.now spans h
+        → IfOk result (IsFrontBy is_over
+        (λ tail. spec.arrival_of sync h (drop spans.len bytes.now ++ tail))) }
+    ensures within { IfOk result (IsTakenWithin (length bytes.now)) }
+    ensures takes { (h : RequestHead) → IsRequestAt bytes.now headers.now spans h
+        → IfOk result (TakesIn sync bytes.now) }
+    ensures fewer { IfOk result (IsFewer (length bytes.now) (request_limit sync)) }
+    ensures may { IfOk result (MayComeBy sync) }
+{
+    let fields = fields_of(bytes, &headers[..spans.headers]);
+    let method = spans.method.of(bytes);
+    let target = spans.path.of(bytes);
+    match judge(sync, method, target, &fields) {
+        Judged::Refused(why) => Ok(Front::Came(Arrival::Refused(why), bytes.len())),
+        Judged::Query(endpoint) => {
+            let query = split_target(target).1;
+            whole_front(asked(alloc, endpoint, query, &fields), spans.len)
+        }
+        Judged::Vector => Ok(Front::Came(Arrival::Exchange(Exchange::Vector), spans.len)),
+        Judged::Body(posted, size) => {
+            let rest = &bytes[spans.len..];
+            body_front(
+                alloc,
+                posted,
+                size as usize,
+                spans.len,
+                rest,
+                is_over,
+                &fields,
+            )
+        }
+    }
+}
+
+// Returns the front of a whole request, if there was memory for it.
+fn whole_front(came: Result<Arrival, HearError>, taken: usize) -> Result<Front, HearError>
+    ensures { result ≡ front_of came taken }
+{
+    match came {
+        Ok(came) => Ok(Front::Came(came, taken)),
+        Err(error) => Err(error),
+    }
+}
+
+// Returns the front of a body of this size. `taken` is the size of its head, and `rest` has the
+// bytes behind that head.
+fn body_front(
+    alloc: Global,
+    posted: Posted,
+    size: usize,
+    taken: usize,
+    rest: &[u8],
+    is_over: bool,
+    fields: &Fields<'_>,
+) -> Result<Front, HearError>
+    requires { taken + length rest.now < 2 ^ 64 }
+    ensures came { (target : List ℕ) (pairs : Pairs) → AreFields fields.now pairs
+        → IfOk result (IsFrontBy is_over
+        (λ tail. spec.arrival_by target pairs (rest.now ++ tail) (Body posted size))) }
+    ensures within { IfOk result (IsTakenWithin (taken + length rest.now)) }
+    ensures takes { (sync : Bool) (bytes : List ℕ) (pairs : Pairs) → AreFields fields.now pairs
+        → length bytes ≡ taken + length rest.now → IsOneRequest sync bytes (taken + size)
+        → IfOk result (TakesIn sync bytes) }
+    ensures fewer { IfOk result (IsFewer (taken + length rest.now) (taken + size)) }
+    ensures may { (sync : Bool) → MayPost sync posted → IfOk result (MayComeBy sync) }
+{
+    if size <= rest.len() {
+        return whole_front(lent(alloc, posted, &rest[..size], fields), taken + size);
+    }
+    if is_over {
+        return Ok(Front::Came(Arrival::Refused(Refusal::ShortBody), taken + rest.len()));
+    }
+    Ok(Front::More)
+}
