@@ -57,6 +57,6 @@ pub use head::HEAD_LIMIT;
 pub use hear::Arrival;
 pub use laws::{hears_all, one_meaning};
 pub use path::Path;
-pub use put::Discard;
+pub use put::{Discard, put_whole};
 pub use refusal::Refusal;
 pub use tell::Fault;

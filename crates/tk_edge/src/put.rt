@@ -5,8 +5,8 @@ ghost use Rattle.tk_put.specs.Put.{Prints};
 
 use crate::device::{Failed, Sink};
 
-// Puts all of the bytes. If the sink fails, it has taken only their beginning.
-pub(crate) fn put_whole<S: Sink>(sink: &mut S, bytes: &[u8]) -> Result<(), Failed>
+/// Puts all of the bytes. If the sink fails, it has taken only their beginning.
+pub fn put_whole<S: Sink>(sink: &mut S, bytes: &[u8]) -> Result<(), Failed>
     ensures bytes { Prints result (S.holds sink.old) (S.holds sink.new) bytes.now }
     ensures failures { CountsFailure result (S.failed sink.old) (S.failed sink.new) }
 {

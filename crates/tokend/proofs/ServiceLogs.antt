@@ -1,7 +1,7 @@
 -- A service that has run with a log has written a log as its promises want it. Key result:
 --   service_logs   ServiceLogs
 use Rattle.std.proofs.Common.{◌≡◌, ℕ, Bool, true, false, List, [], ◌∷◌, length, Option, None, Some, IsSome, Result, Ok, Err, inl, inr, refl, sym, ap, subst, ◌∙◌}
-use Rattle.std.specs.Prelude.{String, string_bytes}
+use Rattle.std.specs.Prelude.{IfSome, String, string_bytes}
 use Rattle.rand_chacha.specs.ChaCha.{ChaCha}
 use Rattle.tk_store.specs.StoreFields.{empty_store}
 use Rattle.tk_bundle.specs.BundleFields.{BundleFields}
@@ -11,8 +11,8 @@ use Rattle.tk_edge.specs.declared.edge.Served.{Served}
 use Rattle.tk_edge.specs.declared.tell.Fault.{Fault as EdgeFault}
 use Rattle.tokend.specs.Connection.{AreConnections, Course, Running, ServesAll, ServesLogged, ServesWith}
 use Rattle.tokend.specs.Draw.{past_six}
-use Rattle.tokend.specs.KeptLog.{HasLog, HasLogged, KnowsLogs, ServiceLogs}
-use Rattle.tokend.specs.Loading.{AreBundles, Loads, TakesEach}
+use Rattle.tokend.specs.KeptLog.{AreLogged, AreOld, HasLogged, HasWritten, IsLog, IsTorn, KnowsLogs, ServiceLogs}
+use Rattle.tokend.specs.Loading.{AreBundles, Loads, TakesEach, TakesFront}
 use Rattle.tokend.specs.ServiceRun.{with_region}
 use Rattle.tokend.specs.Starting.{IsEmptyLog, IsToldAs, LoadsFile, LoadsOld, PrunesOld, edge_of, first_edge}
 use Rattle.tokend.specs.Telling.{Writing}
@@ -21,25 +21,38 @@ use Rattle.tokend.specs.declared.load.LoadFault.{LoadFault}
 use Rattle.tokend.specs.declared.load.LoadFault.TheVariants as load
 
 -- the bundles that an old log brought
-abbrev Brought : RegionFields → RegionFields → Type 0
-Brought old new = (olds : List BundleFields) × AreBundles olds × TakesEach old olds new
+abbrev Brought : {A : Type 0} → (List ℕ → Option (List ℕ)) → Option (String A) → RegionFields → RegionFields → Type 0
+Brought kept name old new = (olds : List BundleFields) × AreBundles olds × TakesEach old olds new × AreOld kept name olds
 
 ok_err : (n : ℕ) (f : Fault) → Ok n ≡ Err f → ⊥
 ok_err n f e = absurd (cc)
 
-from_file : (known : Option (List ℕ)) (name : List ℕ) (old new : RegionFields) (dropped : ℕ) → LoadsFile known name old (Ok dropped) new → Brought old new
+-- the bundles of bytes that were loaded
+Fronts : Option (List ℕ) → RegionFields → RegionFields → Type 0
+Fronts known old new = (olds : List BundleFields) × AreBundles olds × TakesEach old olds new × IfSome known (λ bytes. AreLogged bytes olds)
+
+from_file : (known : Option (List ℕ)) (name : List ℕ) (old new : RegionFields) (dropped : ℕ) → LoadsFile known name old (Ok dropped) new → Fronts known old new
 from_file known name old new dropped (inl h) = absurd h.0
 from_file known name old new dropped (inr h) = of h.1 h.3 h.4
   where
-    of : (result : Result ℕ LoadFault) → Loads old h.0 result new → IsToldAs name result (Ok dropped) → Brought old new
-    of (Ok n) loads told = (loads.1.bundles, loads.1.fit, loads.1.each)
+    logged : (bytes : List ℕ) → (front : (rest : List ℕ) × TakesFront old bytes rest new × IsTorn rest) → AreLogged bytes front.1.bundles
+    logged bytes front = record { fit = front.1.fit; rest = front.0; parts = front.1.parts; torn = front.2 }
+
+    known_logged : (o : Option (List ℕ)) → (front : (rest : List ℕ) × TakesFront old h.0 rest new × IsTorn rest) → IfSome o (λ bytes. h.0 ≡ bytes) → IfSome o (λ bytes. AreLogged bytes front.1.bundles)
+    known_logged None front same = tt
+    known_logged (Some bytes) front same = subst (λ b. AreLogged b front.1.bundles) same (logged h.0 front)
+
+    of : (result : Result ℕ LoadFault) → Loads old h.0 result new → IsToldAs name result (Ok dropped) → Fronts known old new
+    of (Ok n) loads told =
+        let front = (loads.0, loads.1, loads.2) in
+        (loads.1.bundles, loads.1.fit, loads.1.each, known_logged known front h.2)
     of (Err (load.Malformed at)) loads told = absurd (ok_err dropped _ told)
     of (Err (load.Refused at)) loads told = absurd (ok_err dropped _ told)
     of (Err load.Memory) loads told = absurd (ok_err dropped _ told)
     of (Err load.Read) loads told = absurd told
 
-from_old : {A : Type 0} (kept : List ℕ → Option (List ℕ)) (name : Option (String A)) (old new : RegionFields) (dropped : ℕ) → LoadsOld kept name old (Ok dropped) new → Brought old new
-from_old kept None old new dropped h = ([], tt, h.1)
+from_old : {A : Type 0} (kept : List ℕ → Option (List ℕ)) (name : Option (String A)) (old new : RegionFields) (dropped : ℕ) → LoadsOld kept name old (Ok dropped) new → Brought kept name old new
+from_old kept None old new dropped h = ([], tt, h.1, refl)
 from_old kept (Some name) old new dropped h = from_file (kept (string_bytes name)) (string_bytes name) old new dropped h
 
 -- connections leave whether regions exchange facts
@@ -55,47 +68,57 @@ known_empty None bytes is empty = absurd (cc)
 known_empty (Some xs) bytes is empty = ap (λ l. Some l) empty
 
 module _ {L : Type 0} (kept : List ℕ → Option (List ℕ)) (holds : L → Option (List ℕ)) (opens : List ℕ → L → Type 0) where
-  logged : {A : Type 0} (name : Option (String A)) (words : ChaCha) (requests : Option ℕ) (first full start : RegionFields) (moment count : Option ℕ) (end : EdgeFields) (faults : Writing)
-      → first.facts ≡ empty_store → Brought first full → PrunesOld moment full (Ok count) start → IsSome name → KnowsLogs holds → end.sealed ≡ false
-      → ServesLogged holds opens name words requests true (record { start = edge_of start; end = end; faults = faults }) → HasLog holds end.region
-  logged None words requests first full start moment count end faults empty brought prunes some knows unsealed h = absurd (cc)
-  logged (Some name) words requests first full start moment count end faults empty brought prunes some knows unsealed h =
+  -- what the log of a name has, and what was logged in it
+  Written : {A : Type 0} → Option (String A) → List BundleFields → RegionFields → RegionFields → Writing → Type 0
+  Written name olds start end faults = (bytes : List ℕ) × IsLog holds opens name bytes
+      × ((logged : HasLogged olds end bytes) × (logged.start ≡ start) × (logged.faults ≡ faults.before) × (logged.told ≡ faults.after))
+
+  written : {A : Type 0} (name : Option (String A)) (words : ChaCha) (requests : Option ℕ) (first full start : RegionFields) (moment count : Option ℕ) (end : EdgeFields) (faults : Writing) (olds : List BundleFields)
+      → first.facts ≡ empty_store → AreBundles olds → TakesEach first olds full → PrunesOld moment full (Ok count) start → IsSome name → KnowsLogs holds → end.sealed ≡ false
+      → ServesLogged holds opens name words requests true (record { start = edge_of start; end = end; faults = faults }) → Written name olds start end.region faults
+  written None words requests first full start moment count end faults olds empty fit brought prunes some knows unsealed h = absurd (cc)
+  written (Some name) words requests first full start moment count end faults olds empty fit brought prunes some knows unsealed h =
       let opened = h.0 in
       let closed = h.1 in
       let connections = h.4 in
       let bytes = knows closed in
       let before = known_empty (holds opened) (knows opened).0 (knows opened).1 h.3 in
       let ends_at = as_edge end (sync_stays words true _ connections.0 _ connections.2) unsealed in (
-        brought.0,
         bytes.0,
-        closed,
-        bytes.1,
-        record {
-          first = first;
-          empty = empty;
-          full = full;
-          fit = brought.1;
-          loaded = brought.2;
-          moment = moment;
-          count = count;
-          start = start;
-          pruned = prunes;
-          words = words;
-          faults = faults.before;
-          ends = connections.0;
-          told = faults.after;
-          served = subst (λ (e : EdgeFields). AreConnections words true (record { edge = edge_of start; log = Some []; faults = faults.before }) connections.0 (record { edge = e; log = Some bytes.0; faults = faults.after })) ends_at
-              (subst (λ o. AreConnections words true (record { edge = edge_of start; log = Some []; faults = faults.before }) connections.0 (record { edge = end; log = o; faults = faults.after })) bytes.1
-              (subst (λ o. AreConnections words true (record { edge = edge_of start; log = o; faults = faults.before }) connections.0 (record { edge = end; log = holds closed; faults = faults.after })) before connections.2));
-        },
+        (opened, closed, h.2, before, bytes.1),
+        (
+          record {
+            first = first;
+            empty = empty;
+            full = full;
+            fit = fit;
+            loaded = brought;
+            moment = moment;
+            count = count;
+            start = start;
+            pruned = prunes;
+            words = words;
+            faults = faults.before;
+            ends = connections.0;
+            told = faults.after;
+            served = subst (λ (e : EdgeFields). AreConnections words true (record { edge = edge_of start; log = Some []; faults = faults.before }) connections.0 (record { edge = e; log = Some bytes.0; faults = faults.after })) ends_at
+                (subst (λ o. AreConnections words true (record { edge = edge_of start; log = Some []; faults = faults.before }) connections.0 (record { edge = end; log = o; faults = faults.after })) bytes.1
+                (subst (λ o. AreConnections words true (record { edge = edge_of start; log = o; faults = faults.before }) connections.0 (record { edge = end; log = holds closed; faults = faults.after })) before connections.2));
+          },
+          refl,
+          refl,
+          refl,
+        ),
       )
 
   pub service_logs : ServiceLogs kept holds opens
   service_logs service output faults ran taken some knows unsealed =
       let run = ran.run in
       let edge_is = ran.start.0 in
+      let old = from_old kept service.load ran.edge.region run.region run.dropped run.loaded in
       let started : with_region (with_region ran.edge run.region) run.opened.region ≡ edge_of run.opened.region = ap (λ (e : EdgeFields). with_region (with_region e run.region) run.opened.region) edge_is in
-      logged service.log ran.words service.requests ran.edge.region run.region run.opened.region service.prune run.opened.pruned run.opened.end faults
-      (ap (λ (e : EdgeFields). e.region.facts) edge_is) (from_old kept service.load ran.edge.region run.region run.dropped run.loaded) run.opened.prunes some knows unsealed
+      let w = written service.log ran.words service.requests ran.edge.region run.region run.opened.region service.prune run.opened.pruned run.opened.end faults old.0
+      (ap (λ (e : EdgeFields). e.region.facts) edge_is) old.1 old.2 run.opened.prunes some knows unsealed
       (subst (λ t. ServesLogged holds opens service.log ran.words service.requests t (record { start = edge_of run.opened.region; end = run.opened.end; faults = faults })) taken
-      (subst (λ (e : EdgeFields). ServesLogged holds opens service.log ran.words service.requests service.log_taken (record { start = e; end = run.opened.end; faults = faults })) started run.opened.served))
+      (subst (λ (e : EdgeFields). ServesLogged holds opens service.log ran.words service.requests service.log_taken (record { start = e; end = run.opened.end; faults = faults })) started run.opened.served)) in
+      record { olds = old.0; bytes = w.0; old = old.3; log = w.1; logged = w.2; begun = w.3; told = w.4 }

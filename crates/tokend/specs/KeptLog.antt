@@ -8,8 +8,9 @@
 --   LogKeepsAll   a region that has loaded the bundles of both logs, in any order, knows that
 --   LogLoads      the log is loaded behind the old log, and nothing in it is refused
 --   ServiceLogs   a service with a log has written such a log
-use Rattle.std.specs.Prelude.{◌≡◌, ◌≢◌, ◌⊎◌, ⊤, ℕ, ◌≤◌, true, max, List, [], ◌∷◌, ◌++◌}
-use Rattle.std.specs.Prelude.{Option, None, Some, IsSome, Result, Ok, Err}
+use Rattle.std.specs.Prelude.{◌≡◌, ◌≢◌, ◌⊎◌, ⊤, ℕ, ◌≤◌, true, false, max, List, [], ◌∷◌, ◌++◌}
+use Rattle.std.specs.Prelude.{Option, None, Some, IfSome, IsSome, Result, Ok, Err, String}
+use Rattle.std.specs.Prelude.{string_bytes}
 use Rattle.std.specs.FinMap as map
 use Rattle.rand_chacha.specs.ChaCha.{ChaCha}
 use Rattle.tk_handle.specs.declared.dot.Dot.{Dot}
@@ -141,13 +142,35 @@ LogLoads =
 abbrev pub KnowsLogs : {L : Type 0} → (L → Option (List ℕ)) → Type 0
 KnowsLogs {L = L} holds = (log : L) → (bytes : List ℕ) × (holds log ≡ Some bytes)
 
--- a log has these bytes, and a region has served connections with it
-abbrev pub HasLog : {L : Type 0} → (L → Option (List ℕ)) → RegionFields → Type 0
-HasLog {L = L} holds region =
-    (olds : List BundleFields) × (bytes : List ℕ) × (log : L) × (holds log ≡ Some bytes)
-    × HasLogged olds region bytes
+-- the bundles are those of the old log of this name, if its bytes are known, or there is no old log
+abbrev pub AreOld : {A : Type 0} → (List ℕ → Option (List ℕ)) → Option (String A)
+    → List BundleFields → Type 0
+AreOld kept None olds = olds ≡ []
+AreOld kept (Some name) olds =
+    IfSome (kept (string_bytes name)) (λ bytes. AreLogged bytes olds)
 
--- A service that has run with a log, which gets the bundles taken in, has written such a log, if its
+-- the log that was opened by this name has these bytes now
+abbrev pub IsLog : {A L : Type 0} → (L → Option (List ℕ)) → (List ℕ → L → Type 0)
+    → Option (String A) → List ℕ → Type 0
+IsLog holds opens None bytes = ⊥
+IsLog {L = L} holds opens (Some name) bytes =
+    (opened : L) × (closed : L) × opens (string_bytes name) opened
+    × (holds opened ≡ Some []) × (holds closed ≡ Some bytes)
+
+-- A service that has run has written a log: the bundles of its old log, the bytes of the log that
+-- it opened, and what that log has logged of the connections, with the writer of lines about faults.
+pub record HasWritten {L : Type 0} (kept : List ℕ → Option (List ℕ))
+    (holds : L → Option (List ℕ)) (opens : List ℕ → L → Type 0) (service : Service)
+    (start end : RegionFields) (faults : Writing) : Type 0 where
+  pub olds : List BundleFields
+  pub bytes : List ℕ
+  pub old : AreOld kept service.load olds
+  pub log : IsLog holds opens service.log bytes
+  pub logged : HasLogged olds end bytes
+  pub begun : logged.start ≡ start
+  pub told : (logged.faults ≡ faults.before) × (logged.told ≡ faults.after)
+
+-- A service that has run with a log, which gets what is taken in, has written such a log, if its
 -- edge isn't sealed at the end and the bytes of logs are known. `kept`, `holds` and `opens` are those
 -- of a service's run.
 abbrev pub ServiceLogs : {L : Type 0} → (List ℕ → Option (List ℕ)) → (L → Option (List ℕ))
@@ -157,4 +180,4 @@ ServiceLogs kept holds opens =
     → (ran : IsServiceRun kept holds opens service output faults)
     → service.log_taken ≡ true → IsSome service.log → KnowsLogs holds
     → ran.run.opened.end.sealed ≡ false
-    → HasLog holds ran.run.opened.end.region
+    → HasWritten kept holds opens service ran.run.opened.region ran.run.opened.end.region faults

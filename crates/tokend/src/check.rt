@@ -34,7 +34,7 @@ use std::alloc::Global;
 use std::fs::OpenOptions;
 use std::io::{self, Read, Write};
 use std::rt::Files;
-use tk_edge::Counted;
+use tk_edge::Sink;
 use tk_handle::RegionNumber;
 use tk_put::put_all;
 use tk_region::Region;
@@ -53,20 +53,20 @@ struct Loaded {
 /// and flushes.
 ///
 /// How many bytes are dropped at the ends of the sources is written to `faults`.
-pub(crate) fn check_facts<R: AllocGlobal + Files, I: Read, O: Write, E: Write>(
+pub(crate) fn check_facts<R: AllocGlobal + Files, I: Read, O: Write, F: Sink>(
     rt: &R,
     check: &Check,
     input: &mut I,
     output: &mut O,
-    faults: &mut Counted<E>,
+    faults: &mut F,
 ) -> Result<(), Fault>
     requires { IsRegion check.now.region }
     ensures done { OnOk result
         (ChecksFacts check.now (I.remaining input.old)
         (record { before = O.contents output.old; after = O.contents output.new })
         (record {
-          before = writer_of E.contents faults.old;
-          after = writer_of E.contents faults.new;
+          before = writer_of F.holds F.failed faults.old;
+          after = writer_of F.holds F.failed faults.new;
         })) }
     ensures fault { IfErr result IsFactsFault }
     ensures left { IfErr result

@@ -29,25 +29,25 @@ use std::alloc::Global;
 use std::fs::OpenOptions;
 use std::io::{Read, Write};
 use std::rt::Files;
-use tk_edge::Counted;
+use tk_edge::Sink;
 use tk_listing::{PrintFault, print_lines};
 
 /// Prints the facts of each source, in order, and flushes.
 ///
 /// How many bytes are dropped at the ends of the sources is written to `faults`.
-pub(crate) fn print_facts<R: AllocGlobal + Files, I: Read, O: Write, E: Write>(
+pub(crate) fn print_facts<R: AllocGlobal + Files, I: Read, O: Write, F: Sink>(
     rt: &R,
     sources: &Sources,
     input: &mut I,
     output: &mut O,
-    faults: &mut Counted<E>,
+    faults: &mut F,
 ) -> Result<(), Fault>
     ensures done { OnOk result
         (PrintsFacts sources.now (I.remaining input.old)
         (record { before = O.contents output.old; after = O.contents output.new })
         (record {
-          before = writer_of E.contents faults.old;
-          after = writer_of E.contents faults.new;
+          before = writer_of F.holds F.failed faults.old;
+          after = writer_of F.holds F.failed faults.new;
         })) }
     ensures fault { IfErr result IsFactsFault }
     ensures left { IfErr result
@@ -70,11 +70,11 @@ pub(crate) fn print_facts<R: AllocGlobal + Files, I: Read, O: Write, E: Write>(
 
 /// Writes how many bytes are dropped, if any are. If the writer fails, it has the beginning of the
 /// line.
-pub(crate) fn tell_cut<E: Write>(faults: &mut Counted<E>, cut: u64)
+pub(crate) fn tell_cut<F: Sink>(faults: &mut F, cut: u64)
     ensures { TellsDropped cut
         (record {
-          before = writer_of E.contents faults.old;
-          after = writer_of E.contents faults.new;
+          before = writer_of F.holds F.failed faults.old;
+          after = writer_of F.holds F.failed faults.new;
         }) }
 {
     if cut != 0 {
@@ -83,8 +83,8 @@ pub(crate) fn tell_cut<E: Write>(faults: &mut Counted<E>, cut: u64)
 }
 
 // Writes how many bytes are dropped.
-fn say_cut<E: Write>(faults: &mut Counted<E>, cut: u64)
-    ensures { Writes (writer_of E.contents faults.old) (writer_of E.contents faults.new)
+fn say_cut<F: Sink>(faults: &mut F, cut: u64)
+    ensures { Writes (writer_of F.holds F.failed faults.old) (writer_of F.holds F.failed faults.new)
         (cut_text cut) }
 {
     let mut digits = Buffer::new();

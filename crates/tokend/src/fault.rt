@@ -1,16 +1,18 @@
 //! Faults of the program (`Fault`), each with its line and its exit status.
 
-ghost use Rattle.std.specs.Prelude.{◌≡◌, ◌++◌, ◌∷◌, [], codes, decimal, string_bytes, IfSome};
+ghost use Rattle.std.specs.Prelude.{◌≡◌, ◌++◌, ◌∷◌, [], codes, decimal, string_bytes};
 ghost use Rattle.std.specs.IoError.{error_kind};
 ghost use Rattle.tokend.specs.declared.fault.Fault.TheVariants as fault;
-ghost use Rattle.tk_put.specs.Put.{Prints};
-ghost use Rattle.tokend.specs.Status.{facts_status, facts_text, fault_text, input_fault};
+ghost use Rattle.tokend.specs.Status.{facts_status, facts_text, input_fault};
+ghost use Rattle.tokend.specs.ProgramRun.{Tells};
 ghost use Rattle.tokend.specs.Status.{status_of, IsUnopened, IsUnread};
+ghost use Rattle.tokend.specs.Telling.{Writes, writer_of};
 
+use crate::telling::{Formatted, say};
 use itoa::Buffer;
 use std::alloc::{AllocError, AllocFailed, Global};
 use std::io::{self, Write};
-use tk_put::put_all;
+use tk_edge::Sink;
 
 /// Why the program ended early.
 #[derive(Drop)]
@@ -89,31 +91,38 @@ impl Fault {
 /// Writes a fault's line to `faults`.
 ///
 /// clap writes the faults of the arguments. An output that failed has no line, only its status. If
-/// `faults` fails, it has the beginning of the line.
-pub(crate) fn tell<E: Write>(faults: &mut E, fault: &Fault) -> io::Result<()>
-    ensures { IfSome (fault_text fault.now)
-        (Prints result (E.contents faults.old) (E.contents faults.new)) }
+/// `faults` fails, it has the beginning of the line, and the program goes on.
+pub(crate) fn tell<F: Sink>(faults: &mut F, fault: &Fault)
+    ensures { Tells fault.now (writer_of F.holds F.failed faults.old)
+        (writer_of F.holds F.failed faults.new) }
 {
     match fault {
-        Fault::Words(error) => write!(faults, "{error}"),
-        Fault::CannotRead => put_all(faults, &[b"tokend: cannot read -\n"]),
-        Fault::ScriptTooLong => put_all(faults, &[b"tokend: script too long\n"]),
+        Fault::Words(error) => show(faults, error),
+        Fault::CannotRead => say(faults, &[b"tokend: cannot read -\n"]),
+        Fault::ScriptTooLong => say(faults, &[b"tokend: script too long\n"]),
         Fault::BadLine(number) => tell_bad_line(faults, *number),
         Fault::CannotReadFile(name) => tell_name(faults, b"tokend: cannot read ", name),
         Fault::CannotOpen(name) => tell_name(faults, b"tokend: cannot open ", name),
-        Fault::CannotListen => put_all(faults, &[b"tokend: cannot listen\n"]),
-        Fault::SocketFailed => put_all(faults, &[b"tokend: socket failed\n"]),
-        Fault::BadSeedFile => put_all(faults, &[b"tokend: bad seed file\n"]),
-        Fault::BadLogFile => put_all(faults, &[b"tokend: bad log file\n"]),
+        Fault::CannotListen => say(faults, &[b"tokend: cannot listen\n"]),
+        Fault::SocketFailed => say(faults, &[b"tokend: socket failed\n"]),
+        Fault::BadSeedFile => say(faults, &[b"tokend: bad seed file\n"]),
+        Fault::BadLogFile => say(faults, &[b"tokend: bad log file\n"]),
         Fault::Facts(fault) => tell_facts(faults, fault),
-        Fault::Memory => put_all(faults, &[b"tokend: memory\n"]),
-        Fault::Output => put_all(faults, &[]),
+        Fault::Memory => say(faults, &[b"tokend: memory\n"]),
+        Fault::Output => say(faults, &[]),
     }
 }
 
+// Writes clap's text. No contract speaks of it.
+fn show<F: Sink>(faults: &mut F, error: &clap::Error) {
+    let mut text = Formatted { sink: faults };
+    let _ = write!(text, "{error}");
+}
+
 // Writes the line of a source whose facts weren't printed or loaded to its end.
-fn tell_facts<E: Write>(faults: &mut E, fault: &FactsFault) -> io::Result<()>
-    ensures { Prints result (E.contents faults.old) (E.contents faults.new) (facts_text fault.now) }
+fn tell_facts<F: Sink>(faults: &mut F, fault: &FactsFault)
+    ensures { Writes (writer_of F.holds F.failed faults.old) (writer_of F.holds F.failed faults.new)
+        (facts_text fault.now) }
 {
     match fault {
         FactsFault::Malformed(name, offset) => {
@@ -123,36 +132,36 @@ fn tell_facts<E: Write>(faults: &mut E, fault: &FactsFault) -> io::Result<()>
             tell_place(faults, b"tokend: refused bundle at ", *offset, name)
         }
         FactsFault::CannotReadFile(name) => tell_name(faults, b"tokend: cannot read ", name),
-        FactsFault::Memory => put_all(faults, &[b"tokend: memory\n"]),
+        FactsFault::Memory => say(faults, &[b"tokend: memory\n"]),
     }
 }
 
 // Writes the line of a fault at an offset of a source.
-fn tell_place<E: Write>(faults: &mut E, fault: &[u8], offset: u64, name: &String) -> io::Result<()>
-    ensures { Prints result (E.contents faults.old) (E.contents faults.new) (fault.now
-        ++ (decimal offset ++ (codes " of " ++ (string_bytes name.now ++ 10 ∷ [])))) }
+fn tell_place<F: Sink>(faults: &mut F, fault: &[u8], offset: u64, name: &String)
+    ensures { Writes (writer_of F.holds F.failed faults.old) (writer_of F.holds F.failed faults.new)
+        (fault.now ++ (decimal offset ++ (codes " of " ++ (string_bytes name.now ++ 10 ∷ [])))) }
 {
     let mut digits = Buffer::new();
     let offset = digits.format(offset).as_bytes();
-    put_all(faults, &[fault, offset, b" of ", name.as_bytes(), b"\n"])
+    say(faults, &[fault, offset, b" of ", name.as_bytes(), b"\n"])
 }
 
 // Writes the line of a bad line of the script.
-fn tell_bad_line<E: Write>(faults: &mut E, number: u64) -> io::Result<()>
-    ensures { Prints result (E.contents faults.old) (E.contents faults.new)
+fn tell_bad_line<F: Sink>(faults: &mut F, number: u64)
+    ensures { Writes (writer_of F.holds F.failed faults.old) (writer_of F.holds F.failed faults.new)
         (codes "tokend: bad line " ++ (decimal number ++ 10 ∷ [])) }
 {
     let mut digits = Buffer::new();
     let number = digits.format(number).as_bytes();
-    put_all(faults, &[b"tokend: bad line ", number, b"\n"])
+    say(faults, &[b"tokend: bad line ", number, b"\n"])
 }
 
 // Writes the line of a fault that names a file.
-fn tell_name<E: Write>(faults: &mut E, fault: &[u8], name: &String) -> io::Result<()>
-    ensures { Prints result (E.contents faults.old) (E.contents faults.new) (fault.now
-        ++ (string_bytes name.now ++ 10 ∷ [])) }
+fn tell_name<F: Sink>(faults: &mut F, fault: &[u8], name: &String)
+    ensures { Writes (writer_of F.holds F.failed faults.old) (writer_of F.holds F.failed faults.new)
+        (fault.now ++ (string_bytes name.now ++ 10 ∷ [])) }
 {
-    put_all(faults, &[fault, name.as_bytes(), b"\n"])
+    say(faults, &[fault, name.as_bytes(), b"\n"])
 }
 
 /// Returns the fault of a file that can't be read, or `Memory` if there is no memory for its name.

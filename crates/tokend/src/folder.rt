@@ -13,7 +13,7 @@ use std::rt::Files;
 use tk_edge::{Counted, Sink};
 
 /// Files by name: old logs that are read, and new logs that are written.
-pub(crate) trait Folder<I: Read, L: Sink> {
+pub trait Folder<I: Read, L: Sink> {
     // The bytes of the file of a name, if they are known; those of a disk are not.
     ghost kept: { Self → List ℕ → Option (List ℕ) };
 

@@ -43,7 +43,7 @@ mod command_line;
 mod draw;
 mod facts;
 mod fault;
-mod folder;
+pub mod folder;
 mod listen;
 mod load;
 mod log_file;

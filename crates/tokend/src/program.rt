@@ -51,7 +51,7 @@ use std::io::{self, Read, Write};
 use std::net::{Net, TcpListener, TcpStream};
 use std::rt::Files;
 use std::time::Clock;
-use tk_edge::{Counted, Sink};
+use tk_edge::Sink;
 use tk_world::{Event, Outcome, Settings, World, print_outcomes};
 
 /// Does the task that the arguments request, and returns the exit status.
@@ -60,31 +60,31 @@ use tk_world::{Event, Outcome, Settings, World, print_outcomes};
 /// failed, and 2 for bad arguments or a bad script, seed or log. A fault's line is written to
 /// `faults`, whose own failures are ignored. The output is written in small pieces and flushed at
 /// the end.
-pub(crate) fn run_program<R, F, L, D, S, I, O, E>(
+pub(crate) fn run_program<R, B, L, D, S, I, O, F>(
     rt: &R,
     folder: &D,
     words: &[S],
     input: &mut I,
     output: &mut O,
-    faults: &mut Counted<E>,
+    faults: &mut F,
 ) -> u8
 where
     R: AllocGlobal + Files + Clock + Net<Listener = TcpListener, Stream = TcpStream>,
-    F: Read + Drop,
+    B: Read + Drop,
     L: Sink + Drop,
-    D: Folder<F, L>,
+    D: Folder<B, L>,
     S: AsStr,
     I: Read,
     O: Write,
-    E: Write,
+    F: Sink,
     ensures status { result ≤ 2 }
     ensures done { result ≡ 0
-        → IsDone (D.kept folder.now) (λ log. L.holds log) (D.opens folder.now)
+        → IsDone (D.kept folder.now) L.holds (D.opens folder.now)
         (map S.text words.now) (I.remaining input.old)
         (record { before = O.contents output.old; after = O.contents output.new })
         (record {
-          before = writer_of E.contents faults.old;
-          after = writer_of E.contents faults.new;
+          before = writer_of F.holds F.failed faults.old;
+          after = writer_of F.holds F.failed faults.new;
         }) }
 
     // Status 1: memory or a device may cause the fault, and the output has a beginning of what
@@ -94,67 +94,58 @@ where
         × IsFaultFor (map S.text words.now) (I.remaining input.old) fault
         × Leaves (D.kept folder.now) (map S.text words.now) (I.remaining input.old) fault
         (O.contents output.old) (O.contents output.new)
-        × Tells fault (writer_of E.contents faults.old) (writer_of E.contents faults.new) }
+        × Tells fault (writer_of F.holds F.failed faults.old) (writer_of F.holds F.failed faults.new) }
 
     // Status 2: the output has no new byte, or the lines before bad bytes of `facts`.
     ensures refused { result ≡ 2 → (fault : FaultValue) × (status_of fault ≡ 2)
         × IsFaultFor (map S.text words.now) (I.remaining input.old) fault
         × Leaves (D.kept folder.now) (map S.text words.now) (I.remaining input.old) fault
         (O.contents output.old) (O.contents output.new)
-        × Tells fault (writer_of E.contents faults.old) (writer_of E.contents faults.new) }
+        × Tells fault (writer_of F.holds F.failed faults.old) (writer_of F.holds F.failed faults.new) }
 {
     finish(run(rt, folder, words, input, output, faults), faults)
 }
 
 /// Returns the exit status of a run, and writes its fault, if any, to `faults`.
-pub(crate) fn finish<E: Write>(ran: Result<(), Fault>, faults: &mut Counted<E>) -> u8
+pub(crate) fn finish<F: Sink>(ran: Result<(), Fault>, faults: &mut F) -> u8
     ensures { MatchResult ran (λ _. (result ≡ 0) × (faults.new ≡ faults.old))
         (λ fault. (result ≡ status_of fault)
-        × Tells fault (writer_of E.contents faults.old) (writer_of E.contents faults.new)) }
+        × Tells fault (writer_of F.holds F.failed faults.old) (writer_of F.holds F.failed faults.new)) }
 {
     match ran {
         Ok(()) => 0,
         Err(fault) => {
-            say_fault(faults, &fault);
+            tell(faults, &fault);
             fault.status()
         }
     }
 }
 
-// Writes the line of a fault. If the writer fails, the failure is counted.
-fn say_fault<E: Write>(faults: &mut Counted<E>, fault: &Fault)
-    ensures { Tells fault.now (writer_of E.contents faults.old) (writer_of E.contents faults.new) }
-{
-    if tell(&mut faults.inner, fault).is_err() {
-        faults.failures = faults.failures.saturating_add(1);
-    }
-}
-
 // Does the task that the arguments request.
-fn run<R, F, L, D, S, I, O, E>(
+fn run<R, B, L, D, S, I, O, F>(
     rt: &R,
     folder: &D,
     words: &[S],
     input: &mut I,
     output: &mut O,
-    faults: &mut Counted<E>,
+    faults: &mut F,
 ) -> Result<(), Fault>
 where
     R: AllocGlobal + Files + Clock + Net<Listener = TcpListener, Stream = TcpStream>,
-    F: Read + Drop,
+    B: Read + Drop,
     L: Sink + Drop,
-    D: Folder<F, L>,
+    D: Folder<B, L>,
     S: AsStr,
     I: Read,
     O: Write,
-    E: Write,
+    F: Sink,
     ensures done { OnOk result
-        (IsDone (D.kept folder.now) (λ log. L.holds log) (D.opens folder.now)
+        (IsDone (D.kept folder.now) L.holds (D.opens folder.now)
         (map S.text words.now) (I.remaining input.old)
         (record { before = O.contents output.old; after = O.contents output.new })
         (record {
-          before = writer_of E.contents faults.old;
-          after = writer_of E.contents faults.new;
+          before = writer_of F.holds F.failed faults.old;
+          after = writer_of F.holds F.failed faults.new;
         })) }
     ensures fault { IfErr result (IsFaultFor (map S.text words.now) (I.remaining input.old)) }
     ensures left { IfErr result
@@ -173,31 +164,31 @@ where
 }
 
 // Does a task. The clauses name the arguments that request it.
-fn run_task<R, F, L, D, I, O, E>(
+fn run_task<R, B, L, D, I, O, F>(
     rt: &R,
     folder: &D,
     task: &Task,
     input: &mut I,
     output: &mut O,
-    faults: &mut Counted<E>,
+    faults: &mut F,
 ) -> Result<(), Fault>
 where
     R: AllocGlobal + Files + Clock + Net<Listener = TcpListener, Stream = TcpStream>,
-    F: Read + Drop,
+    B: Read + Drop,
     L: Sink + Drop,
-    D: Folder<F, L>,
+    D: Folder<B, L>,
     I: Read,
     O: Write,
-    E: Write,
+    F: Sink,
     requires { (words : List Text) × Asks words task.now }
     ensures done { (words : List Text) → Asks words task.now
         → OnOk result
-        (IsDone (D.kept folder.now) (λ log. L.holds log) (D.opens folder.now) words
+        (IsDone (D.kept folder.now) L.holds (D.opens folder.now) words
         (I.remaining input.old)
         (record { before = O.contents output.old; after = O.contents output.new })
         (record {
-          before = writer_of E.contents faults.old;
-          after = writer_of E.contents faults.new;
+          before = writer_of F.holds F.failed faults.old;
+          after = writer_of F.holds F.failed faults.new;
         })) }
     ensures fault { (words : List Text) → Asks words task.now
         → IfErr result (IsFaultFor words (I.remaining input.old)) }

@@ -7,11 +7,11 @@
 //!
 //! A world stands for a state with all facts that its regions made and took in, whatever they
 //! skipped since: `WorldStands` says how. Four promises are about a run from such a state, and name
-//! it, so that a function that runs no events can't meet them. Four hold of any world, whatever
+//! it. Four hold of any world, whatever
 //! brought it about: that regions agree, that pruning changes no answer, and the two about inactive
 //! tokens.
 
-ghost use Rattle.std.specs.Prelude.{◌≡◌, ℕ, IfOk, List, MatchResult, Option};
+ghost use Rattle.std.specs.Prelude.{◌≡◌, ℕ, IfOk, MatchResult};
 ghost use Rattle.tk_store.specs.FactSet.{Agree, AllIn, FactSet, IsSubset};
 ghost use Rattle.tk_store.specs.Joining.{SameFacts};
 ghost use Rattle.tk_store.specs.StoreFields.{held_facts};
@@ -25,7 +25,9 @@ ghost use Rattle.tk_world.specs.WorldFields.{store_in};
 ghost use Rattle.tk_world.specs.WorldStands.{IsStanding, WorldStands};
 ghost use Rattle.tokend.specs.KeptLog.{LogKeepsAll, LogLoads, ServiceLogs};
 
+use crate::folder::Folder;
 use std::alloc::AllocError;
+use std::io::Read;
 use tk_edge::Sink;
 use tk_world::{Event, Outcome, World};
 
@@ -157,7 +159,7 @@ pub fn an_error_changes_nothing(
 /// of the old log and those of that log as it is after any connection: in any order, with others
 /// among them, the last one torn or not. It holds every fact that the first region held then, or has
 /// skipped it. It has skipped what the first region skipped since its start, and its horizon isn't
-/// earlier than any that the first region took over.
+/// earlier than any that the first region took over since its start.
 ///
 /// That the load isn't refused is a premise. The promise leaves out an edge that is sealed, since
 /// its log has failed, and claims nothing of disks.
@@ -174,12 +176,14 @@ pub fn a_log_of_bundles_is_loaded_again()
     ensures { LogLoads }
 {}
 
-/// A service writes such a log: one that has run with `--log-taken` and whose edge isn't sealed at
+/// A service writes such a log: one that has run with `--log-taken`, and whose edge isn't sealed at
 /// its end.
 ///
-/// The bytes of logs must be known, as those of the machine's files aren't: what a file keeps is
-/// tested.
-pub fn a_service_writes_such_a_log<L: Sink>()
-    ensures { (kept : List ℕ → Option (List ℕ)) (opens : List ℕ → L → Type 0)
-        → ServiceLogs kept (λ log. L.holds log) opens }
-{}
+/// The log is the one that it opened by the name in its arguments, which was empty. The bundles of
+/// the old log are those of the file of that name, if its bytes are known. The bytes of logs must be
+/// known, as those of the machine's files aren't: what a file keeps is tested.
+pub fn a_service_writes_such_a_log<I: Read, L: Sink, D: Folder<I, L>>(folder: &D)
+    ensures { ServiceLogs (D.kept folder.now) L.holds (D.opens folder.now) }
+{
+    let _folder = folder;
+}

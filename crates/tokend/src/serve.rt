@@ -38,19 +38,19 @@ use std::io::{self, Read, Write};
 use std::net::{Net, OpenListener, TcpListener, TcpStream};
 use std::time::Clock;
 use tk_closing::ClosingSet;
-use tk_edge::{Counted, Discard, Edge, Fault as EdgeFault, HEAD_LIMIT, Served, Sink, Source};
+use tk_edge::{Discard, Edge, Fault as EdgeFault, HEAD_LIMIT, Served, Sink, Source};
 use tk_handle::Moment;
 
 /// Serves a region, for the given number of connections or without end.
 ///
 /// Faults that end the service happen before its first line is written. A fault of a connection is
 /// a line on `faults`, and ends that connection alone.
-pub(crate) fn serve<R, I: Read + Drop, L: Sink + Drop, D: Folder<I, L>, O: Write, E: Write>(
+pub(crate) fn serve<R, I: Read + Drop, L: Sink + Drop, D: Folder<I, L>, O: Write, F: Sink>(
     rt: &R,
     folder: &D,
     service: &Service,
     output: &mut O,
-    faults: &mut Counted<E>,
+    faults: &mut F,
 ) -> Result<(), Fault>
 where
     R: AllocGlobal + Clock + Net<Listener = TcpListener, Stream = TcpStream>,
@@ -58,11 +58,11 @@ where
     requires region { IsRegion service.now.region }
     requires prune { IfSome service.now.prune IsMoment }
     ensures done { OnOk result
-        (IsServiceRun (D.kept folder.now) (λ log. L.holds log) (D.opens folder.now) service.now
+        (IsServiceRun (D.kept folder.now) L.holds (D.opens folder.now) service.now
         (record { before = O.contents output.old; after = O.contents output.new })
         (record {
-          before = writer_of E.contents faults.old;
-          after = writer_of E.contents faults.new;
+          before = writer_of F.holds F.failed faults.old;
+          after = writer_of F.holds F.failed faults.new;
         })) }
     ensures fault { IfErr result (IsServiceFault service.now) }
     ensures left { IfErr result
@@ -81,24 +81,24 @@ where
 }
 
 // Loads the old log, if there is one, and serves.
-fn load_and_serve<R, I: Read + Drop, L: Sink + Drop, D: Folder<I, L>, O: Write, E: Write>(
+fn load_and_serve<R, I: Read + Drop, L: Sink + Drop, D: Folder<I, L>, O: Write, F: Sink>(
     rt: &R,
     folder: &D,
     service: &Service,
     start: &mut Start,
     output: &mut O,
-    faults: &mut Counted<E>,
+    faults: &mut F,
 ) -> Result<(), Fault>
 where
     R: AllocGlobal + Clock + Net<Listener = TcpListener, Stream = TcpStream>,
     requires { IfSome service.now.prune IsMoment }
     ensures done { OnOk result
-        (HasRun (D.kept folder.now) (λ log. L.holds log) (D.opens folder.now) service.now
+        (HasRun (D.kept folder.now) L.holds (D.opens folder.now) service.now
         start.old.edge start.old.words
         (record { before = O.contents output.old; after = O.contents output.new })
         (record {
-          before = writer_of E.contents faults.old;
-          after = writer_of E.contents faults.new;
+          before = writer_of F.holds F.failed faults.old;
+          after = writer_of F.holds F.failed faults.new;
         })) }
     ensures fault { IfErr result (IsServiceFault service.now) }
     ensures left { IfErr result
@@ -114,25 +114,25 @@ where
 
 // Prunes the region, if requested, and serves. `dropped` is how many bytes of the old log were
 // dropped.
-fn prune_and_serve<R, I: Read + Drop, L: Sink + Drop, D: Folder<I, L>, O: Write, E: Write>(
+fn prune_and_serve<R, I: Read + Drop, L: Sink + Drop, D: Folder<I, L>, O: Write, F: Sink>(
     rt: &R,
     folder: &D,
     service: &Service,
     dropped: u64,
     start: &mut Start,
     output: &mut O,
-    faults: &mut Counted<E>,
+    faults: &mut F,
 ) -> Result<(), Fault>
 where
     R: AllocGlobal + Clock + Net<Listener = TcpListener, Stream = TcpStream>,
     requires { IfSome service.now.prune IsMoment }
     ensures done { OnOk result
-        (HasOpened (λ log. L.holds log) (D.opens folder.now) service.now dropped start.old.edge
+        (HasOpened L.holds (D.opens folder.now) service.now dropped start.old.edge
         start.old.words
         (record { before = O.contents output.old; after = O.contents output.new })
         (record {
-          before = writer_of E.contents faults.old;
-          after = writer_of E.contents faults.new;
+          before = writer_of F.holds F.failed faults.old;
+          after = writer_of F.holds F.failed faults.new;
         })) }
     ensures fault { IfErr result (IsStartFault service.now) }
     ensures left { IfErr result
@@ -150,28 +150,28 @@ where
 }
 
 // Opens the new log, if there is one, and serves.
-fn log_and_serve<R, I: Read + Drop, L: Sink + Drop, D: Folder<I, L>, O: Write, E: Write>(
+fn log_and_serve<R, I: Read + Drop, L: Sink + Drop, D: Folder<I, L>, O: Write, F: Sink>(
     rt: &R,
     folder: &D,
     service: &Service,
     opening: Opening,
     start: &mut Start,
     output: &mut O,
-    faults: &mut Counted<E>,
+    faults: &mut F,
 ) -> Result<(), Fault>
 where
     R: AllocGlobal + Clock + Net<Listener = TcpListener, Stream = TcpStream>,
     ensures done { OnOk result
         (Announces opening service.now.port (O.contents output.old) (O.contents output.new)) }
     ensures served { OnOk result
-        (ServesLogged (λ log. L.holds log) (D.opens folder.now) service.now.log start.old.words
+        (ServesLogged L.holds (D.opens folder.now) service.now.log start.old.words
         service.now.requests service.now.log_taken
         (record {
           start = start.old.edge;
           end = start.new.edge;
           faults = record {
-            before = writer_of E.contents faults.old;
-            after = writer_of E.contents faults.new;
+            before = writer_of F.holds F.failed faults.old;
+            after = writer_of F.holds F.failed faults.new;
           };
         })) }
     ensures fault { IfErr result (IsStartFault service.now) }
@@ -194,14 +194,14 @@ where
 }
 
 // Listens, prints the announcement, and serves.
-fn announce_and_serve<R, L: Sink, O: Write, E: Write>(
+fn announce_and_serve<R, L: Sink, O: Write, F: Sink>(
     rt: &R,
     service: &Service,
     opening: Opening,
     start: &mut Start,
     log: &mut L,
     output: &mut O,
-    faults: &mut Counted<E>,
+    faults: &mut F,
 ) -> Result<(), Fault>
 where
     R: AllocGlobal + Clock + Net<Listener = TcpListener, Stream = TcpStream>,
@@ -213,8 +213,8 @@ where
           start = start.old.edge;
           end = start.new.edge;
           faults = record {
-            before = writer_of E.contents faults.old;
-            after = writer_of E.contents faults.new;
+            before = writer_of F.holds F.failed faults.old;
+            after = writer_of F.holds F.failed faults.new;
           };
         })
         (record { before = L.holds log.old; after = L.holds log.new })) }
@@ -241,7 +241,7 @@ where
 /// Six random words are drawn for each connection before it is read. `log_taken` is whether bundles
 /// taken in are logged. A fault is a line on `faults`, whose own failures are ignored. If accepting
 /// or the clock fails, that counts as a connection with a read fault.
-pub(crate) fn serve_on<R: AllocGlobal + Clock, L: Sink, E: Write>(
+pub(crate) fn serve_on<R: AllocGlobal + Clock, L: Sink, F: Sink>(
     rt: &R,
     listener: &TcpListener,
     requests: Option<u64>,
@@ -249,7 +249,7 @@ pub(crate) fn serve_on<R: AllocGlobal + Clock, L: Sink, E: Write>(
     edge: &mut Edge,
     log: &mut L,
     words: &mut ChaCha20Rng,
-    faults: &mut Counted<E>,
+    faults: &mut F,
 )
     // The region's number and settings are unchanged. What it knew of each dot it still knows, or
     // has skipped since.
@@ -261,8 +261,8 @@ pub(crate) fn serve_on<R: AllocGlobal + Clock, L: Sink, E: Write>(
           start = edge.old;
           end = edge.new;
           faults = record {
-            before = writer_of E.contents faults.old;
-            after = writer_of E.contents faults.new;
+            before = writer_of F.holds F.failed faults.old;
+            after = writer_of F.holds F.failed faults.new;
           };
         })
         (record { before = L.holds log.old; after = L.holds log.new }) }
@@ -288,8 +288,8 @@ pub(crate) fn serve_on<R: AllocGlobal + Clock, L: Sink, E: Write>(
 
 // Writes the fault of a connection, if any. If the writer fails, the next fault is written
 // nevertheless.
-fn tell_end<E: Write>(faults: &mut Counted<E>, end: Result<Served, EdgeFault>)
-    ensures { Told end (writer_of E.contents faults.old) (writer_of E.contents faults.new) }
+fn tell_end<F: Sink>(faults: &mut F, end: Result<Served, EdgeFault>)
+    ensures { Told end (writer_of F.holds F.failed faults.old) (writer_of F.holds F.failed faults.new) }
 {
     if let Err(fault) = end {
         tell_fault(faults, fault);
@@ -410,8 +410,8 @@ fn moment<C: Clock>(clock: &C) -> io::Result<Moment> {
 }
 
 // Writes the line of a connection's fault. If the writer fails, it has the beginning of the line.
-fn tell_fault<E: Write>(faults: &mut Counted<E>, fault: EdgeFault)
-    ensures { Writes (writer_of E.contents faults.old) (writer_of E.contents faults.new)
+fn tell_fault<F: Sink>(faults: &mut F, fault: EdgeFault)
+    ensures { Writes (writer_of F.holds F.failed faults.old) (writer_of F.holds F.failed faults.new)
         (connection_fault fault) }
 {
     match fault {
