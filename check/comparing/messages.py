@@ -10,7 +10,7 @@ FAULT, SERVE = "crates/tokend/src/fault.rt", "crates/tokend/src/serve.rt"
 LISTEN, FACTS = "crates/tokend/src/listen.rt", "crates/tokend/src/facts.rt"
 CHECK = "crates/tokend/src/check.rt"
 START_PAGE = "docs/tokend-start.1"
-LINE = r'\bFault::(\w+)(?:\(\w+\))? => (?:put_all|tell_\w+)\(faults, [^"\n]*b"([^"]*)"'
+LINE = r'\bFault::(\w+)(?:\(\w+\))? => (?:say|tell_\w+)\(faults, [^"\n]*b"([^"]*)"'
 
 
 def statuses_of_sources(fault):

@@ -200,9 +200,10 @@ impl Edge {
     /// Serves one connection as [`Edge::serve_one`] does, and logs the bundles taken in if
     /// `log_taken` is true.
     ///
-    /// A pushed bundle with a new fact is then logged as it was sent, and flushed before the first
-    /// byte of its reply. If memory runs out, the log has a bundle whose facts may be in. The log
-    /// isn't called without a fact made or a bundle to log.
+    /// Of a pushed bundle that changes the region, the record is then logged and flushed before the
+    /// first byte of its reply: the bundle without the facts at skipped dots. If memory runs out, the
+    /// log may have a bundle whose items may be in. The log isn't called without a fact made or a
+    /// record of a bundle.
     pub fn serve_one_logging<S: Source, L: Sink, W: Sink>(
         &mut self,
         alloc: Global,

@@ -117,6 +117,7 @@ pub(crate) fn tell<F: Sink>(faults: &mut F, fault: &Fault)
 fn show<F: Sink>(faults: &mut F, error: &clap::Error) {
     let mut text = Formatted { sink: faults };
     let _ = write!(text, "{error}");
+    let Formatted { sink: _ } = text;
 }
 
 // Writes the line of a source whose facts weren't printed or loaded to its end.
