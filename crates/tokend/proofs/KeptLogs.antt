@@ -126,7 +126,7 @@ write_memory e = cc
 abbrev one : Dot × Body → Items
 one f = (f.0, Held f.1) ∷ []
 
-all_items : Dot × Slot → Bool
+abbrev all_items : Dot × Slot → Bool
 all_items i = true
 
 no_earlier : (h m : ℕ) → nat_lt h m ≡ false → max h m ≡ h
@@ -476,8 +476,8 @@ passing_kept d (bodies.SubjectOut f) k e = absurd (cc)
 
 -- a region that was pruned, or wasn't, knows what it knew, or has skipped it
 pruned_below : (moment count : Option ℕ) (full start : RegionFields) → PrunesOld moment full (Ok count) start → SlotsBelow full.facts.slots start.facts.slots
-pruned_below None count full start same = subst (λ (r : RegionFields). SlotsBelow full.facts.slots r.facts.slots) (sym same.1) (slots_itself full.facts.slots)
-pruned_below (Some moment) None full start none = absurd none
+pruned_below None count full start same d = subst (λ (r : RegionFields). SlotsBelow full.facts.slots r.facts.slots) (sym same.1) (slots_itself full.facts.slots) d
+pruned_below (Some moment) None full start none d = absurd none
 pruned_below (Some moment) (Some n) full start pruned d = of (pruned.facts.keeps d)
   where
     of : (map.get start.facts.slots d ≡ map.get full.facts.slots d) ⊎ MaySkip (map.get (held_facts full.facts)) start.facts.horizon d
@@ -666,18 +666,18 @@ loads_all olds region log h calm news logged bytes are new loaded empty fresh re
     behind rest front = parted front.bundles (olds ++ news) rest are.rest front.fit are.fit are.torn (sym front.parts ∙ are.parts)
 
     refused : (rest : List ℕ) → (front : TakesFront new bytes rest loaded) → IsRefused loaded rest → ⊥
-    refused rest front refused =
-        let next = next_is (olds ++ news) front.bundles rest are.rest are.torn (behind rest front) refused.0 refused.1 in
+    refused rest front none =
+        let next = next_is (olds ++ news) front.bundles rest are.rest are.torn (behind rest front) none.0 none.1 in
         let taken = taken_fit new front.bundles loaded front.each in
-        why next.0 next.1 taken.1 taken.2 refused.2
+        why next.0 next.1 taken.1 taken.2 none.2
       where
-        why : (ys : List BundleFields) → (olds ++ news) ≡ front.bundles ++ refused.0 ∷ ys → loaded.facts.slots ≡ with_each new.facts.slots front.bundles → loaded.number ≡ new.number
-            → (has_unmade (next_in (place_in loaded)) refused.0.items ≡ true) ⊎ ¬ AllFit loaded.facts.slots refused.0.items → ⊥
+        why : (ys : List BundleFields) → (olds ++ news) ≡ front.bundles ++ none.0 ∷ ys → loaded.facts.slots ≡ with_each new.facts.slots front.bundles → loaded.number ≡ new.number
+            → (has_unmade (next_in (place_in loaded)) none.0.items ≡ true) ⊎ ¬ AllFit loaded.facts.slots none.0.items → ⊥
         why ys is slots number (inl unmade) =
-            sealed_clash (sym (none_unmade new.number (next_in (place_in loaded)) region refused.0.items fresh number
-            (each_behind region.facts.slots front.bundles refused.0 ys (subst (EachBelow region.facts.slots) is known))) ∙ unmade)
+            sealed_clash (sym (none_unmade new.number (next_in (place_in loaded)) region none.0.items fresh number
+            (each_behind region.facts.slots front.bundles none.0 ys (subst (EachBelow region.facts.slots) is known))) ∙ unmade)
         why ys is slots number (inr differs) =
-            differs (subst (λ S. AllFit S refused.0.items) (sym slots) (fits_behind new.facts.slots front.bundles refused.0 ys (subst (FitsEach new.facts.slots) is fits)))
+            differs (subst (λ S. AllFit S none.0.items) (sym slots) (fits_behind new.facts.slots front.bundles none.0 ys (subst (FitsEach new.facts.slots) is fits)))
 
     by : (result : Result ℕ LoadFault) → Loads new bytes result loaded → IsNotRefused result
     by (Ok dropped) h = tt

@@ -71,22 +71,23 @@ dropped_is B (d, Skipped) e = absurd (cc)
 pub from_items : (B S U : Slots) (items : Items) → SkipsStay B S → AllBelow U (filter (counts B) items) → (d : Dot)
     → IsFrom (map.get U d) (map.get S d) (map.get (with_slots S items) d)
 from_items B S U [] stays all d = inl refl
-from_items B S U (i ∷ more) stays all d = by (counts B i) refl all
+from_items B S U (i ∷ more) stays all d = by (λ a. from_items B (joined S i) U more (stays_joined B S i stays) a d) (counts B i) refl all
   where
     step : IsFrom (map.get U i.0) (map.get S i.0) (Some (joined_slot (map.get S i.0) i.1)) → IsFrom (map.get U d) (map.get S d) (map.get (joined S i) d)
     step here = by_dot (λ o. IsFrom (map.get U d) (map.get S d) o) S i.0 (joined_slot (map.get S i.0) i.1) d
         (λ same. subst (λ q. IsFrom (map.get U q) (map.get S q) (Some (joined_slot (map.get S i.0) i.1))) (sym same) here) (inl refl)
 
-    by : (t : Bool) → counts B i ≡ t → AllBelow U (cond t (i ∷ filter (counts B) more) (filter (counts B) more))
+    by : (AllBelow U (filter (counts B) more) → IsFrom (map.get U d) (map.get (joined S i) d) (map.get (with_slots (joined S i) more) d))
+        → (t : Bool) → counts B i ≡ t → AllBelow U (cond t (i ∷ filter (counts B) more) (filter (counts B) more))
         → IsFrom (map.get U d) (map.get S d) (map.get (with_slots (joined S i) more) d)
-    by true e all =
+    by after true e all =
         from_twice (map.get U d) (map.get S d) (map.get (joined S i) d) (map.get (with_slots (joined S i) more) d)
-        (step (joined_from (map.get U i.0) (map.get S i.0) i.1 all.0)) (from_items B (joined S i) U more (stays_joined B S i stays) all.1 d)
-    by false e all =
+        (step (joined_from (map.get U i.0) (map.get S i.0) i.1 all.0)) (after all.1)
+    by after false e all =
         let here : Some (joined_slot (map.get S i.0) i.1) ≡ map.get S i.0 =
         joined_stays (map.get S i.0) i.1 (stays i.0 (dropped_is B i e)) ∙ sym (stays i.0 (dropped_is B i e)) in
         from_twice (map.get U d) (map.get S d) (map.get (joined S i) d) (map.get (with_slots (joined S i) more) d)
-        (step (inl here)) (from_items B (joined S i) U more (stays_joined B S i stays) all d)
+        (step (inl here)) (after all)
 
 -- each slot is as it was, or below what is above all items
 pub items_from : (U S : Slots) (items : Items) → AllBelow U items → (d : Dot) → IsFrom (map.get U d) (map.get S d) (map.get (with_slots S items) d)
@@ -101,11 +102,11 @@ items_from U S (i ∷ more) all d =
 pub below_first : (U : Slots) (p : Dot × Slot → Bool) (k : ℕ) (items : Items) → AllBelow U (filter p items) → AllBelow U (filter p (take k items))
 below_first U p zero items all = tt
 below_first U p (suc k) [] all = tt
-below_first U p (suc k) (i ∷ more) all = by (p i) all
+below_first U p (suc k) (i ∷ more) all = by (λ a. below_first U p k more a) (p i) all
   where
-    by : (t : Bool) → AllBelow U (cond t (i ∷ filter p more) (filter p more)) → AllBelow U (cond t (i ∷ filter p (take k more)) (filter p (take k more)))
-    by true all = (all.0, below_first U p k more all.1)
-    by false all = below_first U p k more all
+    by : (AllBelow U (filter p more) → AllBelow U (filter p (take k more))) → (t : Bool) → AllBelow U (cond t (i ∷ filter p more) (filter p more)) → AllBelow U (cond t (i ∷ filter p (take k more)) (filter p (take k more)))
+    by after true all = (all.0, after all.1)
+    by after false all = after all
 
 -- ---- items that change nothing
 
@@ -173,11 +174,11 @@ kept_drop S (d, Skipped) e mark = refl
 -- items that fit, and weren't dropped, fit what is below
 pub fits_lower : (L S : Slots) (items : Items) → SlotsBelow L S → AllFit S items → AllFit L (filter (counts S) items)
 fits_lower L S [] below fit = tt
-fits_lower L S (i ∷ more) below fit = by (counts S i) refl
+fits_lower L S (i ∷ more) below fit = by (fits_lower L S more below fit.1) (counts S i) refl
   where
-    by : (t : Bool) → counts S i ≡ t → AllFit L (cond t (i ∷ filter (counts S) more) (filter (counts S) more))
-    by true e = (fit_lower (map.get L i.0) (map.get S i.0) i.1 (below i.0) fit.0 (kept_drop S i e), fits_lower L S more below fit.1)
-    by false e = fits_lower L S more below fit.1
+    by : AllFit L (filter (counts S) more) → (t : Bool) → counts S i ≡ t → AllFit L (cond t (i ∷ filter (counts S) more) (filter (counts S) more))
+    by after true e = (fit_lower (map.get L i.0) (map.get S i.0) i.1 (below i.0) fit.0 (kept_drop S i e), after)
+    by after false e = after
 
 both_joined : (l s : Option Slot) (x : Slot) → SlotBelow l s → SlotAgrees s (Some x) → SlotBelow (Some (joined_slot l x)) (Some (joined_slot s x))
 both_joined None None (Held y) below agrees = refl
@@ -217,31 +218,28 @@ fits_after S d s (i ∷ items) v a = (
 pub items_lower : (p : Dot × Slot → Bool) (L S : Slots) (items : Items) → Differs items → SlotsBelow L S → AllFit S items
     → SlotsBelow (with_slots L (filter p items)) (with_slots S items)
 items_lower p L S [] differ below fit = below
-items_lower p L S (i ∷ more) differ below fit = by (p i)
+items_lower p L S (i ∷ more) differ below fit =
+    by (items_lower p (joined L i) (joined S i) more differ.1 both later) (items_lower p L (joined S i) more differ.1 above later) (p i)
   where
     later : AllFit (joined S i) more
     later = fits_after S i.0 (joined_slot (map.get S i.0) i.1) more differ.0 fit.1
-
-    both : SlotsBelow (joined L i) (joined S i)
-    both q = by_dot (λ o. SlotBelow o (map.get (joined S i) q)) L i.0 (joined_slot (map.get L i.0) i.1) q
-        (λ same. subst (λ o. SlotBelow (Some (joined_slot (map.get L i.0) i.1)) o)
-        (sym (ap (map.get (joined S i)) same ∙ get_here S i.0 (joined_slot (map.get S i.0) i.1)))
-        (both_joined (map.get L i.0) (map.get S i.0) i.1 (below i.0) fit.0))
-        (one q)
-      where
-        one : SlotsBelow L (joined S i)
-        one q = by_dot (λ o. SlotBelow (map.get L q) o) S i.0 (joined_slot (map.get S i.0) i.1) q
-            (λ same. subst (λ d. SlotBelow (map.get L d) (Some (joined_slot (map.get S i.0) i.1))) (sym same)
-            (one_joined (map.get L i.0) (map.get S i.0) i.1 (below i.0) fit.0)) (below q)
 
     above : SlotsBelow L (joined S i)
     above q = by_dot (λ o. SlotBelow (map.get L q) o) S i.0 (joined_slot (map.get S i.0) i.1) q
         (λ same. subst (λ d. SlotBelow (map.get L d) (Some (joined_slot (map.get S i.0) i.1))) (sym same)
         (one_joined (map.get L i.0) (map.get S i.0) i.1 (below i.0) fit.0)) (below q)
 
-    by : (t : Bool) → SlotsBelow (with_slots L (cond t (i ∷ filter p more) (filter p more))) (with_slots (joined S i) more)
-    by true = items_lower p (joined L i) (joined S i) more differ.1 both later
-    by false = items_lower p L (joined S i) more differ.1 above later
+    both : SlotsBelow (joined L i) (joined S i)
+    both q = by_dot (λ o. SlotBelow o (map.get (joined S i) q)) L i.0 (joined_slot (map.get L i.0) i.1) q
+        (λ same. subst (λ o. SlotBelow (Some (joined_slot (map.get L i.0) i.1)) o)
+        (sym (ap (map.get (joined S i)) same ∙ get_here S i.0 (joined_slot (map.get S i.0) i.1)))
+        (both_joined (map.get L i.0) (map.get S i.0) i.1 (below i.0) fit.0))
+        (above q)
+
+    by : SlotsBelow (with_slots (joined L i) (filter p more)) (with_slots (joined S i) more) → SlotsBelow (with_slots L (filter p more)) (with_slots (joined S i) more)
+        → (t : Bool) → SlotsBelow (with_slots L (cond t (i ∷ filter p more) (filter p more))) (with_slots (joined S i) more)
+    by taken left true = taken
+    by taken left false = left
 
 -- items that fit are below the slots with them
 pub items_below : (S : Slots) (items : Items) → Differs items → AllFit S items → AllBelow (with_slots S items) items
@@ -261,8 +259,8 @@ below_more S T (i ∷ more) h all = (below_trans (Some i.1) (map.get S i.0) (map
 -- of items below slots, those that pass a test are
 pub below_some : (U : Slots) (p : Dot × Slot → Bool) (items : Items) → AllBelow U items → AllBelow U (filter p items)
 below_some U p [] all = tt
-below_some U p (i ∷ more) all = by (p i)
+below_some U p (i ∷ more) all = by (below_some U p more all.1) (p i)
   where
-    by : (t : Bool) → AllBelow U (cond t (i ∷ filter p more) (filter p more))
-    by true = (all.0, below_some U p more all.1)
-    by false = below_some U p more all.1
+    by : AllBelow U (filter p more) → (t : Bool) → AllBelow U (cond t (i ∷ filter p more) (filter p more))
+    by after true = (all.0, after)
+    by after false = after

@@ -17,4 +17,5 @@ pub mod ScriptEvents
 pub mod Shows
 pub mod SocketLaws
 pub mod Tasks
+pub mod Tellings
 pub mod TypedNumber

@@ -28,7 +28,7 @@ ok_err : (n : ℕ) (f : Fault) → Ok n ≡ Err f → ⊥
 ok_err n f e = absurd (cc)
 
 -- the bundles of bytes that were loaded
-Fronts : Option (List ℕ) → RegionFields → RegionFields → Type 0
+abbrev Fronts : Option (List ℕ) → RegionFields → RegionFields → Type 0
 Fronts known old new = (olds : List BundleFields) × AreBundles olds × TakesEach old olds new × IfSome known (λ bytes. AreLogged bytes olds)
 
 from_file : (known : Option (List ℕ)) (name : List ℕ) (old new : RegionFields) (dropped : ℕ) → LoadsFile known name old (Ok dropped) new → Fronts known old new
@@ -44,7 +44,7 @@ from_file known name old new dropped (inr h) = of h.1 h.3 h.4
 
     of : (result : Result ℕ LoadFault) → Loads old h.0 result new → IsToldAs name result (Ok dropped) → Fronts known old new
     of (Ok n) loads told =
-        let front = (loads.0, loads.1, loads.2) in
+        let front : (rest : List ℕ) × TakesFront old h.0 rest new × IsTorn rest = (loads.0, loads.1, loads.2) in
         (loads.1.bundles, loads.1.fit, loads.1.each, known_logged known front h.2)
     of (Err (load.Malformed at)) loads told = absurd (ok_err dropped _ told)
     of (Err (load.Refused at)) loads told = absurd (ok_err dropped _ told)
@@ -69,7 +69,7 @@ known_empty (Some xs) bytes is empty = ap (λ l. Some l) empty
 
 module _ {L : Type 0} (kept : List ℕ → Option (List ℕ)) (holds : L → Option (List ℕ)) (opens : List ℕ → L → Type 0) where
   -- what the log of a name has, and what was logged in it
-  Written : {A : Type 0} → Option (String A) → List BundleFields → RegionFields → RegionFields → Writing → Type 0
+  abbrev Written : {A : Type 0} → Option (String A) → List BundleFields → RegionFields → RegionFields → Writing → Type 0
   Written name olds start end faults = (bytes : List ℕ) × IsLog holds opens name bytes
       × ((logged : HasLogged olds end bytes) × (logged.start ≡ start) × (logged.faults ≡ faults.before) × (logged.told ≡ faults.after))
 

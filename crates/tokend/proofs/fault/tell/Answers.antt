@@ -1,8 +1,14 @@
-use Rattle.std.proofs.Common.{rules}
+use Rattle.std.proofs.Common.{sym, subst}
+use Rattle.tokend.specs.ProgramRun.{Tells}
+use Rattle.tokend.specs.Telling.{writer_of}
 use Rattle.tokend.proofs.fault.tell.Goals as goal
 
 pub returns-in-CannotListen : goal.returns-in-CannotListen
-returns-in-CannotListen g c = search rules
+returns-in-CannotListen g c =
+    subst (λ fault. Tells fault (writer_of g.F.Sink.holds g.F.Sink.failed c.args.faults.now) (writer_of g.F.Sink.holds g.F.Sink.failed c.say-in-CannotListen.new.faults))
+    (sym c.in-CannotListen.is) c.say-in-CannotListen.ensures
 
 pub returns-in-SocketFailed : goal.returns-in-SocketFailed
-returns-in-SocketFailed g c = search rules
+returns-in-SocketFailed g c =
+    subst (λ fault. Tells fault (writer_of g.F.Sink.holds g.F.Sink.failed c.args.faults.now) (writer_of g.F.Sink.holds g.F.Sink.failed c.say-in-SocketFailed.new.faults))
+    (sym c.in-SocketFailed.is) c.say-in-SocketFailed.ensures

@@ -6,7 +6,17 @@ pub returns-in_default-clause-done : goal.returns-in_default-clause-done
 returns-in_default-clause-done g c = c.announce_and_serve.ensures.done
 
 pub returns-in_default-clause-served : goal.returns-in_default-clause-served
-returns-in_default-clause-served g c = ?
+returns-in_default-clause-served g c =
+    without_log g.L.Sink.holds (g.D.Folder.opens c.args.folder.now) c.args.service.now.log c.args.start.now.words c.args.service.now.requests c.args.service.now.log_taken
+    (record {
+      start = c.args.start.now.edge;
+      end = c.announce_and_serve.new.start.edge;
+      faults = record {
+        before = writer_of g.F.Sink.holds g.F.Sink.failed c.args.faults.now;
+        after = writer_of g.F.Sink.holds g.F.Sink.failed c.announce_and_serve.new.faults;
+      };
+    })
+    c.announce_and_serve.result c.in_default.is c.announce_and_serve.ensures.served
 
 pub returns-in_default-clause-fault : goal.returns-in_default-clause-fault
 returns-in_default-clause-fault g c = listen_faults c.args.service.now c.announce_and_serve.result c.announce_and_serve.ensures.fault

@@ -1,0 +1,38 @@
+-- What writing the pieces of a line leaves of its writer. Key results:
+--   say_writes    what pieces that were written, or not, come to
+--   pieces_then   the first piece was written, then the rest
+use Rattle.std.proofs.Common.{◌≡◌, ◌<◌, ◌≤◌, ℕ, Bool, true, false, List, [], ◌∷◌, length, drop, get_or, Option, Bor, Result, Ok, Err, inl, inr, refl, sym, ap, subst, ◌∙◌, arith}
+use Rattle.std.specs.Prelude.{nat_lt}
+use Rattle.std.proofs.lemmas.Bool.Decides.{nat_tests}
+use Rattle.std.specs.Io.KnownBytes.{Appends}
+use Rattle.tk_put.specs.Put.{Prints, joined_text}
+use Rattle.tk_edge.specs.Failures.{CountsFailure, Rose, greatest_count, one_more}
+use Rattle.tokend.specs.Telling.{Writer, Writes}
+use Rattle.tokend.proofs.Announcements.{prints_then}
+
+one_greater : (a : ℕ) → nat_lt a greatest_count ≡ true → a < one_more a
+one_greater a e = grind (e, arith, nat_tests)
+
+greatest : (a : ℕ) → nat_lt a greatest_count ≡ false → one_more a ≡ greatest_count
+greatest a e = grind (e, arith, nat_tests)
+
+-- one more failure raises the count, or the count is at its greatest
+rose : (a b : ℕ) → b ≡ one_more a → Rose a b
+rose a b is = by (nat_lt a greatest_count) refl
+  where
+    by : (t : Bool) → nat_lt a greatest_count ≡ t → Rose a b
+    by true e = inl (subst (λ n. a < n) (sym is) (one_greater a e))
+    by false e = inr (is ∙ greatest a e)
+
+-- what pieces that were written, or not, come to
+pub say_writes : {A E : Type 0} (r : Result A E) (old new : Writer) (text : List ℕ)
+    → Prints r old.bytes new.bytes text → CountsFailure r old.failed new.failed → Writes old new text
+say_writes (Ok x) old new text prints counts = inl (prints, counts)
+say_writes (Err e) old new text prints counts = inr (prints, rose old.failed new.failed counts)
+
+-- the first piece was written, then the rest
+pub pieces_then : {A E : Type 0} (r : Result A E) (old mid new : Option (List ℕ)) (pieces rest : List (Bor (List ℕ))) (other : Bor (List ℕ)) → 1 ≤ length pieces
+    → rest ≡ drop 1 pieces → Appends old mid (get_or pieces 0 other).now → Prints r mid new (joined_text rest) → Prints r old new (joined_text pieces)
+pieces_then r old mid new [] rest other some is done prints = absurd (omega (arith, some))
+pieces_then r old mid new (piece ∷ pieces) rest other some is done prints =
+    prints_then old mid new piece.now (joined_text pieces) r done (subst (λ ps. Prints r mid new (joined_text ps)) is prints)
