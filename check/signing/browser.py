@@ -98,7 +98,7 @@ class InABrowser(FrontCase):
         it.write("input[name=name]", "ann")
         it.write("input[name=password]", WORDS["ann"])
         it.click("button")
-        self.assertTrue(it.says("You are ann. The application %s asks for: read" % self.client))
+        self.assertTrue(it.says("You are ann. The application The <calendar> (c1-2) asks for: read"))
         self.assertEqual(it.run("return document.cookie"), "")
         if PICTURE:
             with open(PICTURE, "wb") as file:
