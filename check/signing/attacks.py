@@ -57,12 +57,13 @@ class Consents(FrontCase):
         self.assertEqual(self.consents(), before)
 
     def test_the_page_says_who_asks_and_where_it_leads(self):
-        self.client = self.add_client("https://x@calendar.example:8443/cb")
-        self.assertEqual(self.client, "c1-2")
+        self.add_client("https://calendar.example/cb")
+        self.client = self.add_client("https://x@mail.example:8443/cb")
+        self.assertEqual(self.client, "c1-3")
         cookie, _ = self.sign_in()
         page = self.ask("GET", self.wanted(), cookie).body
-        self.assertIn("The application <b>The &lt;calendar&gt; (c1-2)</b> asks for", page)
-        self.assertIn("lead to <b>calendar.example:8443</b>", page)
+        self.assertIn("The application <b>&lt;b&gt;Mail&lt;/b&gt; (c1-3)</b> asks for", page)
+        self.assertIn("lead to <b>mail.example:8443</b>", page)
         self.client = self.add_client("com.example.app:/cb")
         self.assertIn("lead to <b>com.example.app:</b>",
                       self.ask("GET", self.wanted(), cookie).body)

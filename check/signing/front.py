@@ -60,7 +60,7 @@ class FrontCase(Case):
                 subprocess.run([FOLDER + "/sign-in", "--user", name], input=word + "\n", text=True,
                                stdout=users, check=True)
         with open(self.path("names"), "w", encoding="utf-8") as names:
-            names.write("c1-2:The <calendar>\n")
+            names.write("c1-2:The calendar\nc1-3:<b>Mail</b>\n")
         self.begin(FOLDER + "/sign-in", str(self.pages), str(self.region.server.port),
                    self.path("users"), self.path("names"))
 
