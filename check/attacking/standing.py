@@ -1,0 +1,83 @@
+"""standing: attacks that work today. docs/SECURITY.md lists each as not stopped.
+
+A test that fails here is good news: then the line there is wrong, and both are to be mended.
+"""
+import base64
+import hashlib
+import os
+import urllib.parse
+
+from beginning.room import Room, retirements, wanted
+from carrying import peers
+from carrying.peers import Case, client, clients, dot, mark, text
+
+GREATEST = 253_402_300_799  # the last moment there is
+BUSY = (503, b'{"error":"temporarily_unavailable"}')
+
+
+def handle(region, serial):
+    """The text of an access token, of random words that nobody made."""
+    said = b"\1\2" + region.to_bytes(2, "big") + serial.to_bytes(8, "big") + os.urandom(24)
+    return base64.urlsafe_b64encode(said).decode()
+
+
+class ByStrangers(Case):
+    """By whoever reaches the front end."""
+
+    def test_a_revocation_of_an_invented_token_stays(self):
+        """The id of a public client is enough, and each makes a fact that no prune drops."""
+        it = self.tokend(1, *clients(3, 1))
+        for number in range(1, 11):
+            said = it.ask("/revoke", ("client_id=c3-1&token=" + handle(9, number)).encode())
+            self.assertEqual(said, (200, b""))
+        self.assertEqual(len(it.held()), 11)
+
+
+class ByOperators(Case):
+    """What a registration lets through."""
+
+    def test_a_redirection_uri_of_any_scheme(self):
+        it = self.tokend(1)
+        for uri in ("javascript:alert(1)", "data:text/html,x", "file:///x", "vbscript:x",
+                    "http://app.example/cb"):
+            form = urllib.parse.urlencode({"kind": "public", "scope": "read", "redirects": uri})
+            self.assertEqual(it.ask("/admin/client", form.encode())[0], 201, uri)
+
+
+class ByPeers(Case):
+    """By whoever may push."""
+
+    def test_a_horizon_ahead_stops_clients_and_is_carried_on(self):
+        one, two = self.tokend(1), self.tokend(2)
+        self.assertEqual(one.push([mark(9, 1)], GREATEST)[0], 200)
+        self.assertEqual(self.carry(one.url, two.url)[0], 0)
+        for it in one, two:
+            self.assertEqual(it.ask("/admin/client?client_id=c1-1"), BUSY)
+            self.assertEqual(it.ask("/sync/vector")[0], 200)
+
+    def test_a_forged_resource_server_introspects(self):
+        it = self.tokend(1)
+        secret = hashlib.sha256(b"guess").digest()
+        fact = dot((3, 1)) + b"\1\2" + secret + text(b"read") + b"\1" + text(b"https://a.test/")
+        self.assertEqual(it.push([fact])[0], 200)
+        form = b"client_id=c3-1&client_secret=guess&token=x"
+        self.assertEqual(it.ask("/introspect", form), (200, b'{"active":false}'))
+
+    def test_a_mark_of_a_fact_to_come_keeps_that_fact_out(self):
+        one, two = self.tokend(1), self.tokend(2)
+        self.assertEqual(two.push([mark(1, 1)], 0)[0], 200)
+        self.assertEqual(one.ask("/admin/signout", b"subject=ann")[0], 200)
+        self.assertEqual(self.carry(one.url, two.url)[0], 0)
+        self.assertEqual(two.page().facts, 0)
+
+    def test_a_fact_at_the_end_of_a_range_uses_all_numbers_up(self):
+        with Room(peers.PROGRAM) as room:
+            run = room.start().listening()
+            run.push(retirements(9, 1, 1))
+            run.stop()
+            wanted(room.start().ended() == 5, "a number is left")
+
+    def test_two_facts_at_one_dot_stay_apart(self):
+        one, two = self.tokend(1, client(3, 1, b"read")), self.tokend(2, client(3, 1, b"write"))
+        self.assertEqual(self.carry(one.url, two.url)[0], 0)
+        self.assertNotEqual(one.held(), two.held())
