@@ -3,10 +3,14 @@
 A test that fails here is good news: then the line there is wrong, and both are to be mended.
 """
 import base64
+import contextlib
 import hashlib
+import http.client
 import os
+import re
 import urllib.parse
 
+from bundles import MARK
 from beginning.room import Room, retirements, wanted
 from carrying import peers
 from carrying.peers import Case, client, clients, dot, mark, text
@@ -62,6 +66,41 @@ class ByPeers(Case):
         self.assertEqual(it.push([fact])[0], 200)
         form = b"client_id=c3-1&client_secret=guess&token=x"
         self.assertEqual(it.ask("/introspect", form), (200, b'{"active":false}'))
+
+    def redeem(self, it, code):
+        """What a redemption of the code gets, by the client c1-1."""
+        form = {"grant_type": "authorization_code", "code": code, "client_id": "c1-1",
+                "client_secret": "s3cret"}
+        return it.ask("/token", urllib.parse.urlencode(form).encode())[1].decode()
+
+    def is_active(self, it, token):
+        form = {"token": token, "client_id": "c1-1", "client_secret": "s3cret"}
+        said = it.ask("/introspect", urllib.parse.urlencode(form).encode())[1]
+        return b'"active":true' in said
+
+    def login(self, it):
+        """A code of ann, for a client that is added."""
+        it.ask("/admin/client", b"kind=confidential&secret=s3cret&scope=read"
+               b"&redirects=https://a.test/")
+        it.ask("/admin/consent", b"client_id=c1-1&subject=ann&scope=read")
+        link = http.client.HTTPConnection("127.0.0.1", it.server.port, timeout=10)
+        with contextlib.closing(link):
+            link.request("GET", "/authorize?response_type=code&client_id=c1-1", None,
+                         {"X-Subject": "ann"})
+            place = link.getresponse().getheader("Location")
+        return place.partition("code=")[2]
+
+    def test_a_mark_of_a_reuse_revives_its_family(self):
+        it = self.tokend(1)
+        code = self.login(it)
+        token = re.search('"access_token":"([^"]+)"', self.redeem(it, code))[1]
+        self.assertTrue(self.is_active(it, token))
+        before = it.held()
+        self.assertIn("invalid_grant", self.redeem(it, code))
+        self.assertFalse(self.is_active(it, token))
+        [reuse] = set(it.held()) - set(before)
+        self.assertEqual(it.push([reuse[:MARK]], 0)[0], 200)
+        self.assertTrue(self.is_active(it, token))
 
     def test_a_mark_of_a_fact_to_come_keeps_that_fact_out(self):
         one, two = self.tokend(1), self.tokend(2)
