@@ -36,6 +36,8 @@ class Consents(FrontCase):
         cookie, _ = self.sign_in(path=path)
         self.answer(self.ask("GET", path, cookie), cookie, "yes")
         self.assertEqual(self.ask("GET", other, cookie).place, "")
+        self.assertEqual(self.ask("GET", path + "&x=" + "a" * 7000, cookie).status, 404)
+        self.assertEqual(self.ask("GET", "/." + path, cookie).status, 404)
 
     def test_a_wrong_request_of_a_public_client_goes_on_to_its_error(self):
         self.client = self.add_public("https://app.example/cb")
