@@ -1,5 +1,6 @@
 """cases: what a start does that goes well, and one that doesn't. Each is a function of a room."""
 import os
+import re
 import shutil
 import signal
 import time
@@ -74,6 +75,33 @@ def setting_is_refused(room):
         wanted(Child(room, [START, *words]).ended() == 6, "not refused with status 6", words)
     variables = {"TOKEND_PORT": "7001", "TOKEND_FIRST": "1", "TOKEND_LAST": "9"}
     wanted(Child(room, [START], variables).ended() == 6, "no STATE_DIRECTORY isn't status 6")
+
+
+def folder_of_another_user_is_refused(room):
+    """Root, too, writes nothing where a link of that user could lead elsewhere."""
+    folder = "/usr"
+    if os.geteuid() == 0:
+        folder = room.path("site")
+        os.mkdir(folder)
+        os.chown(folder, 65534, 65534)
+    names = os.listdir(folder)
+    run = room.start(site=folder)
+    wanted(run.ended(5) == 6 and "another user" in run.errors(), "not refused", run.errors())
+    wanted(os.listdir(folder) == names, "files were made", os.listdir(folder))
+
+
+def start_by_hand_shows_nobody_its_seed(room):
+    """The commands of the manual page leave no file that another user can read."""
+    with open(os.path.join(ROOT, "docs/tokend.1"), encoding="utf-8") as file:
+        page = file.read().replace("\\-", "-")
+    lines = re.search(r"^[.]SH EXAMPLES\n[.]EX\n(.*?)[.]EE", page, re.S | re.M)[1]
+    lines = lines.replace("8080", "0").replace("log1", "log1 --requests 0")
+    os.symlink(room.program, room.path("tokend"))
+    run = Child(room, ["sh", "-c", "umask 022\n" + lines],
+                {"PATH": room.folder + ":" + os.environ["PATH"]})
+    wanted(run.ended() == 0, "the example ends otherwise", run.errors())
+    modes = {name: os.stat(room.path(name)).st_mode & 0o777 for name in ("seed", "log1")}
+    wanted(set(modes.values()) == {0o600}, "others can read", modes)
 
 
 def program_that_fails_is_no_bad_log(room):
@@ -285,7 +313,8 @@ def proxies_are_ignored(room):
 
 CASES = [
     later_start_has_all, cut_record_is_left_out, second_run_is_refused, option_uses_no_number,
-    setting_is_refused, program_that_fails_is_no_bad_log,
+    setting_is_refused, folder_of_another_user_is_refused, start_by_hand_shows_nobody_its_seed,
+    program_that_fails_is_no_bad_log,
     log_of_a_site_without_memory_is_checked, whole_front_of_a_log_is_counted,
     history_that_is_bad_is_named, log_may_have_any_name, folders_have_spaces,
     silent_peer_is_passed_over, slow_start_is_waited_for, unit_kills_no_start,

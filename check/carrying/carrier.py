@@ -1,5 +1,7 @@
 """carrier: runs of examples/carry/carry between servers, and with peers that misbehave."""
 import contextlib
+import fcntl
+import hashlib
 import os
 import re
 import shutil
@@ -267,6 +269,23 @@ class Runs(Case):
         self.assertRegex(errors, "^carry: another run holds .*lock\n$")
         go.set()
         self.assertEqual(first.wait(60), 0)
+
+    def test_no_lock_is_taken_where_others_can_hold_it(self):
+        """Somebody holds a lock of each name in a shared folder, and that stops nobody."""
+        one, two = self.tokend(1, client(3, 1)), self.tokend(2)
+        shared, own = self.folder + "/shared", self.folder + "/own"
+        os.mkdir(own, 0o700)
+        os.mkdir(shared)
+        os.chmod(shared, 0o1777)
+        name = hashlib.sha256(one.url.encode()).hexdigest()[:16]
+        for it in "carry-%s.lock" % name, "carry-%d-%s.lock" % (os.geteuid(), name):
+            held = self.stack.enter_context(open(os.path.join(shared, it), "wb"))
+            fcntl.flock(held, fcntl.LOCK_EX)
+        for home, status in (own, 0), (shared, 2):
+            said = self.run_script("carry/carry", "--wait", "0.3", one.url, two.url, HOME=home,
+                                   TMPDIR=shared)
+            self.assertEqual(said[0], status, said)
+        self.assertEqual(two.held(), [client(3, 1)])
 
     def test_signals_end_a_run(self):
         _, one, peer = self.slow()

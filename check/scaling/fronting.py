@@ -109,6 +109,19 @@ class Fronts(SitesCase):
                                            (200, b'{"active":false}')), body[:80])
         self.assertEqual(self.introspect(b"x=%00%26&" + mine)[::2], (200, b'{"active":false}'))
 
+    def test_guesses_of_a_secret_are_refused(self):
+        """A right one too, so that none is found; who only has no session isn't counted."""
+        self.enrol()
+        for _ in range(30):
+            self.assertEqual(self.front.ask("GET", "/authorize")[0], 401)
+        self.assertEqual(self.introspect({"token": ELSE})[0], 200)
+        said = [self.front.ask("POST", "/introspect", {"token": ELSE}, Authorization="Basic "
+                               + basic(self.client, "guess%d" % number))[0] for number in range(60)]
+        self.assertEqual((set(said), said[:20]), ({401, 429}, [401] * 20))
+        self.assertLess(said.count(401), 25)
+        self.assertEqual(self.introspect({"token": ELSE})[0], 429)
+        self.assertEqual(self.token({"grant_type": "refresh_token", "refresh_token": "x"})[0], 429)
+
     def test_bodies_without_length_or_too_long(self):
         self.enrol()
         said = self.front.ask("POST", "/introspect", b"7\r\ntoken=x\r\n0\r\n\r\n",

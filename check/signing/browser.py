@@ -24,7 +24,7 @@ class Browser:
         self.port, self.base = port, ""
         options = {"binary": CHROMIUM, "args": [
             "--headless=new", "--no-sandbox", "--disable-gpu", "--disable-dev-shm-usage",
-            "--ignore-certificate-errors", "--window-size=480,420", "--hide-scrollbars",
+            "--ignore-certificate-errors", "--window-size=480,560", "--hide-scrollbars",
             "--user-data-dir=" + folder]}
         said = self.ask("POST", "/session", {"capabilities": {"alwaysMatch": {
             "browserName": "chrome", "goog:chromeOptions": options,
@@ -98,7 +98,8 @@ class InABrowser(FrontCase):
         it.write("input[name=name]", "ann")
         it.write("input[name=password]", WORDS["ann"])
         it.click("button")
-        self.assertTrue(it.says("You are ann. The application %s asks for: read" % self.client))
+        self.assertTrue(it.says(
+            "You are ann. The application The calendar (c1-2) asks for: read"))
         self.assertEqual(it.run("return document.cookie"), "")
         if PICTURE:
             with open(PICTURE, "wb") as file:

@@ -59,8 +59,10 @@ class FrontCase(Case):
             for name, word in WORDS.items():
                 subprocess.run([FOLDER + "/sign-in", "--user", name], input=word + "\n", text=True,
                                stdout=users, check=True)
+        with open(self.path("names"), "w", encoding="utf-8") as names:
+            names.write("c1-2:The calendar\nc1-3:<b>Mail</b>\n")
         self.begin(FOLDER + "/sign-in", str(self.pages), str(self.region.server.port),
-                   self.path("users"))
+                   self.path("users"), self.path("names"))
 
     def begin_nginx(self):
         subprocess.run(
@@ -97,6 +99,9 @@ class FrontCase(Case):
     def add_client(self, place):
         return self.admin("/admin/client", kind="confidential", secret="s3cret",
                           scope="read write", redirects=place)
+
+    def add_public(self, place):
+        return self.admin("/admin/client", kind="public", scope="read", redirects=place)
 
     def wanted(self, **more):
         """The path of a request for a code."""

@@ -172,16 +172,17 @@ class Attacks(FrontCase):
         self.assertEqual(self.ask("GET", "/check", cookie).status, 404)
         self.assertEqual(self.ask("GET", "/consent", cookie,
                                   **{"X-Next": self.wanted()}).status, 403)
-        self.assertEqual(self.ask("POST", "/authorize", cookie, {"a": "b"}).status, 403)
+        self.assertEqual(self.ask("POST", "/authorize", cookie, {"a": "b"}).status, 405)
 
     def test_a_server_refreshes_for_all_its_users(self):
         """Of 200 requests from one address at once none is refused for its rate."""
         for path in "/token", "/introspect", "/revoke":
             with ThreadPoolExecutor(20) as pool:
                 statuses = set(pool.map(
-                    lambda _, path=path: self.ask("POST", path, form={"token": "x"}).status,
+                    lambda _, path=path: self.ask("POST", path, form={
+                        "token": "x", "client_id": self.client, "client_secret": "s3cret"}).status,
                     range(200)))
-            self.assertLessEqual(statuses, {200, 400, 401}, path)
+            self.assertLessEqual(statuses, {200, 400}, path)
 
     def test_guessing_is_slowed(self):
         statuses = [self.ask("GET", "/sign-in").status for _ in range(40)]

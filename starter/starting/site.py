@@ -71,6 +71,10 @@ class Site:
         if not os.path.isdir(folder):
             os.makedirs(folder)
             sync(os.path.dirname(folder))
+        owner = os.stat(folder).st_uid
+        if owner != os.geteuid():  # who could have put links there, and couldn't read the files
+            raise Stop(SETTINGS, "%s belongs to another user, %d: start the site as that one"
+                       % (folder, owner))
         for name in "log", "old", "history":
             os.makedirs(self.path(name), exist_ok=True)
         self.lock = os.open(self.path("lock"), os.O_RDWR | os.O_CREAT, 0o600)
