@@ -31,6 +31,8 @@ def common() -> str:
     if not found:
         raise Wrong("%s has no administration" % SCALE_OUT)
     text = replaced(text, "mod(16)", "mod(%d)" % SLOTS)
+    # a process that ends has each kept connection reply once more, and say that it closes
+    text = replaced(text, "    mode http\n", "    mode http\n    option idle-close-on-response\n")
     # a new process takes the listening sockets over from the old one by this socket
     return replaced(text, "level admin", "level admin expose-fd listeners")
 

@@ -43,7 +43,8 @@ def ask(site: Site, path: str, form: dict[str, str] | None = None) -> tuple[int,
             reply = link.getresponse()
             return reply.status, reply.read().decode(errors="replace").strip()
         except (OSError, http.client.HTTPException) as why:
-            raise Away("%s: %s" % (site.name, getattr(why, "strerror", None) or "no reply")) from why
+            said = getattr(why, "strerror", None) or "no reply"
+            raise Away("%s: %s" % (site.name, said)) from why
 
 
 def ask_first(sites: list[Site], path: str, form: dict[str, str]) -> tuple[int, str]:
@@ -76,7 +77,7 @@ def add_client(table: Table, form: dict[str, str], patience: float) -> str:
 # -- a sign-out
 
 def sign_out_at(sites: list[Site], subject: str) -> str:
-    """Signs a subject out at the first of a cell's sites that replies, and hands that to the others.
+    """Signs a subject out at the first of a cell's sites that replies, and hands that on.
 
     Returns what went wrong, or nothing. A site that is down has it from the others at its start.
     """

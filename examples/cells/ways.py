@@ -83,7 +83,7 @@ def carry_once(table: Table) -> int:
 
 
 class Carrier:
-    """Carries to a site again and again. It prints a line once a way fails, and once it is back."""
+    """Carries to a site again and again. Prints a line once a way fails, and once it is back."""
 
     def __init__(self, path: Path, target: str, pause: float) -> None:
         self.path, self.target, self.pause = path, target, pause
