@@ -1,4 +1,5 @@
 """carried: which facts are carried where, and what is found in the wrong place."""
+import time
 import urllib.parse
 
 from carrying.peers import client, clients, mark
@@ -74,6 +75,20 @@ class Carries(CellsCase):
         lines = [child.stdout.readline(), child.stdout.readline(), child.stdout.readline()]
         self.assertEqual(sorted(lines), ["a1 -> a2: again\n", "a2 -> a1: again\n",
                                          "dir1 -> a2: again\n"])
+
+    def test_an_item_that_is_refused_is_named_once(self):
+        self.write_table("dir1 directory 1-99 -", "a1 a 100-199 0-63", "a2 a 200-299 -")
+        self.up("dir1", "a1", "a2")
+        self.server("a2").push([client(190, 3, b"write")])  # above a gap: it comes each time
+        self.server("a1").push(clients(190, 1, 3))
+        child = self.beginning("carry", "--every", "0.05")
+        self.assertTrue(until(lambda: self.held_to("a2") == {190: 1}))
+        self.server("dir1").push(clients(90, 1))
+        self.assertTrue(until(lambda: 90 in self.held_to("a2")))  # by a later round
+        time.sleep(0.5)
+        child.kill()
+        self.assertEqual(sorted(child.communicate()[1].splitlines()), sorted(
+            "cells: %s refuses 190:3: 409 conflict" % self.server(it).url for it in ("a1", "a2")))
 
     def test_a_site_that_comes_into_the_table_is_carried_to(self):
         self.write_table("dir1 directory 1-99 -", "a1 a 100-199 0-63")

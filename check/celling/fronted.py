@@ -233,6 +233,18 @@ class Fronted(FrontedCase):
         self.up("b1")
         self.assertTrue(until(lambda: self.introspect(b_token) == (200, True)))
 
+    def test_a_move_to_a_site_that_haproxy_has_not_read(self):
+        with open(self.path, "a", encoding="ascii") as file:
+            file.write("c1 c %d 400-499 -\n" % free_port())
+        before = self.text()
+        words = "move", "--without-consents", "c1", "0-15"
+        self.assertEqual(self.cells(*words), (
+            1, "", "cells: HAProxy doesn't know c1 yet: `cells front` first\n"))
+        self.assertEqual(self.text(), before)
+        self.up("c1")
+        self.load()
+        self.assertEqual(self.done(*words), "slots 0-15 are at c1, with 0 consents\n")
+
     def test_files_that_haproxy_refuses_change_nothing(self):
         with open(self.file("users"), "a", encoding="ascii") as file:
             file.write("    nonsense\n")

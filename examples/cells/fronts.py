@@ -139,6 +139,12 @@ def tell(folder: Path, command: str) -> str:
     return said.decode().strip()
 
 
+def require(folder: Path, site: str) -> None:
+    """Refuses a site that a running HAProxy has not read yet: requests for it would be lost."""
+    if running(folder) and site not in tell(folder, "show backend").split():
+        raise Wrong("HAProxy doesn't know %s yet: `cells front` first" % site)
+
+
 def move(table: Table, folder: Path, slots: tuple[int, ...]) -> None:
     """Has a running HAProxy send new logins of these slots to their sites in the table."""
     write_maps(table, folder)

@@ -6,7 +6,7 @@ import sys
 import threading
 import time
 from pathlib import Path
-from typing import Iterator, NamedTuple, NoReturn, Optional
+from typing import Callable, Iterator, NamedTuple, NoReturn, Optional
 
 from bundles import GREATEST_SERIAL, MARK, Bundle, Dot, Vector, read_dot
 from servers import Access, Lost, Pushed, Server, pages, push_all
@@ -15,8 +15,15 @@ from tables import NUMBERS, Site, Table, Wrong, read_table
 ACCESS = Access(connect_time=2, reply_time=10, pauses=())
 
 
+def say(text: str) -> None:
+    """Prints a line at once, so that no line of another thread is in it."""
+    sys.stdout.write(text + "\n")
+    sys.stdout.flush()
+
+
 def complain(text: str) -> None:
-    print("cells: " + text, file=sys.stderr, flush=True)
+    sys.stderr.write("cells: %s\n" % text)
+    sys.stderr.flush()
 
 
 class Way(NamedTuple):
@@ -53,7 +60,7 @@ def some_of(page: Bundle, numbers: range) -> Optional[Bundle]:
     return Bundle(items, page.horizon if any(len(it) == MARK for it in items) else None)
 
 
-def take(way: Way) -> int:
+def take(way: Way, complain: Callable[[str], None] = complain) -> int:
     """Carries one way. Returns how many dots the target did not know."""
     pushed = Pushed()
     with Server(way.source.url, ACCESS) as one, Server(way.target.url, ACCESS) as other:
@@ -83,11 +90,20 @@ def carry_once(table: Table) -> int:
 
 
 class Carrier:
-    """Carries to a site again and again. Prints a line once a way fails, and once it is back."""
+    """Carries to a site again and again. Prints a line once a way fails, and once it is back.
+
+    An item that the site refuses is sent to it each time, and named once.
+    """
 
     def __init__(self, path: Path, target: str, pause: float) -> None:
         self.path, self.target, self.pause = path, target, pause
         self.lost: set[tuple[str, range]] = set()
+        self.complaints: set[str] = set()
+
+    def complain(self, text: str) -> None:
+        if text not in self.complaints:
+            self.complaints.add(text)
+            complain(text)
 
     def ways(self) -> list[Way]:
         with contextlib.suppress(OSError, Wrong):
@@ -97,14 +113,14 @@ class Carrier:
     def attempt(self, way: Way) -> None:
         key, names = (way.source.name, way.numbers), "%s -> %s" % (way.source.name, self.target)
         try:
-            take(way)
+            take(way, self.complain)
             if key in self.lost:
                 self.lost.discard(key)
-                print("%s: again" % names, flush=True)
+                say("%s: again" % names)
         except Lost as why:
             if key not in self.lost:
                 self.lost.add(key)
-                print("%s: %s" % (names, why), flush=True)
+                say("%s: %s" % (names, why))
 
     def run(self) -> NoReturn:
         while True:
