@@ -139,6 +139,13 @@ class SignOuts(Subjects):
         self.up("b1")
         self.assertEqual(self.outs("b1"), {1})
 
+    def test_the_directory_is_down(self):
+        self.up("a1", "a2", "b1")
+        status, output, _ = self.cells("sign-out", "--for", "0.1", "ann")
+        self.assertEqual(status, 1)
+        self.assertIn("directory: not yet: dir1: Connection refused\n", output)
+        self.assertEqual([self.outs(it) for it in ("a1", "b1")], [{100}, {300}])
+
     def test_another_site_of_a_cell_stands_in(self):
         self.up("dir1", "a2", "b1")
         ann = self.subjects(0, 15, 1)[0]

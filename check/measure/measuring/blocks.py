@@ -213,9 +213,10 @@ def cells(parts):
             line("of that of one cell", "bytes of the logins", share)]
     for kind in "introspect, kept", "introspect, new":
         rows.append(line(SCALED[kind] + ", a second", kind + ": requests a second", it.cell))
+        names = ["cells %d, %s" % (count, kind) for count in counts]
         rows.append(["median, 99th in µs"] + [
-            "%s, %s" % (it.number(name + ": median in µs"), it.number(name + ": 99th of 100 in µs"))
-            for name in ("cells %d, %s" % (count, kind) for count in counts)])
+            "%s, %s" % (it.number(name + ": median in µs"),
+                        it.number(name + ": 99th of 100 in µs")) for name in names])
     return it, text_of(["cells"] + [str(count) for count in counts], rows)
 
 
