@@ -107,5 +107,8 @@ class Settings(CellsCase):
                 (("add-client", "kind"), 1, "cells: kind is not NAME=VALUE\n")):
             self.assertEqual(self.cells(*words)[::2], (status, why))
         self.assertEqual(self.cells("carrot")[0], 2)
+        status, output, errors = self.cells("front")  # without who may sign in
+        self.assertEqual((status, output), (1, ""))
+        self.assertRegex(errors, r"^cells: \[Errno 2\] .*/users'\n$")
         os.unlink(self.path)
         self.assertEqual(self.cells("check")[0], 1)
