@@ -45,7 +45,7 @@ class FrontedCase(Subjects):
         self.tls = ssl.create_default_context(cafile=self.file("cert.pem"))
         with open(self.file("users"), "w", encoding="ascii") as file:
             file.writelines("    user %s insecure-password word\n" % it for it in USERS)
-        self.processes = set()
+        self.processes, self.asked = set(), 0
         self.addCleanup(self.end)
 
     def variables(self):
@@ -63,10 +63,16 @@ class FrontedCase(Subjects):
     def load(self):
         """Has HAProxy started, or read its files anew."""
         self.done("front")
-        with open(self.file("haproxy.pid"), encoding="ascii") as file:
-            self.processes.add(int(file.read()))
+        self.note()
+
+    def note(self):
+        """Notes the process of HAProxy, if there is one."""
+        if os.path.exists(self.file("haproxy.pid")):
+            with open(self.file("haproxy.pid"), encoding="ascii") as file:
+                self.processes.add(int(file.read()))
 
     def end(self):
+        self.note()  # `cells retire` starts one too
         for it in self.processes:
             try:
                 os.kill(it, signal.SIGKILL)
@@ -82,16 +88,22 @@ class FrontedCase(Subjects):
         one = link or (http.client.HTTPConnection("127.0.0.1", self.inner, timeout=30)
                        if is_inner else self.link())
         one.request(method, path, body, (FORM if body is not None else {}) | fields)
+        self.asked += one.port in (self.front, self.inner)
         reply = one.getresponse()
         said = reply.read()
         if not link:
             one.close()
         return reply.status, reply.getheader("Location"), said
 
-    def by(self):
-        """Which backend and site replied to each request, by HAProxy's log."""
+    def logged(self):
         with open(self.file("haproxy.out"), encoding="utf-8") as file:
             return re.findall(r"^\S+ (?:GET|POST) \S+ \d+ (\S+) ", file.read(), re.M)
+
+    def by(self):
+        """Which backend and site replied to each request. HAProxy logs it after its reply."""
+        self.assertTrue(until(lambda: len(self.logged()) >= self.asked))
+        self.assertEqual(len(self.logged()), self.asked)
+        return self.logged()
 
     def give(self, subject):
         """Gives a consent by the inner side, and returns its id."""
