@@ -196,6 +196,30 @@ def scaled(parts):
     return it, text_of(["sites"] + [str(count) for count in counts], rows)
 
 
+def cells(parts):
+    """A line for each size and each kind of connection, with a column for each number of cells."""
+    it = part(parts, "cells")
+    counts = it.numbers(r"cells (\d+), logins")
+
+    def line(label, name, cell):
+        return [label] + [cell("cells %d, %s" % (count, name)) for count in counts]
+
+    def share(name):
+        return "%.3f" % (it.median(name) / it.median("cells 1, bytes of the logins"))
+
+    rows = [line("logins of a site", "logins", it.number),
+            line("memory of the directory, bytes", "bytes of the directory", it.number),
+            line("memory of the logins, bytes", "bytes of the logins", it.number),
+            line("of that of one cell", "bytes of the logins", share)]
+    for kind in "introspect, kept", "introspect, new":
+        rows.append(line(SCALED[kind] + ", a second", kind + ": requests a second", it.cell))
+        names = ["cells %d, %s" % (count, kind) for count in counts]
+        rows.append(["median, 99th in µs"] + [
+            "%s, %s" % (it.number(name + ": median in µs"),
+                        it.number(name + ": 99th of 100 in µs")) for name in names])
+    return it, text_of(["cells"] + [str(count) for count in counts], rows)
+
+
 def spread(parts):
     """A line for each number of sites and kind of load."""
     it, what = part(parts, "scaled"), ("median", "90th of 100", "longest")
@@ -260,8 +284,8 @@ ALL = {
     "start": start, "prunes": plain("prunes", ["a prune", ""]), "uses": uses,
     "signouts": signouts, "push": push,
     "carried": plain("carried", ["`carry` to an empty server", ""]), "revoked": revoked,
-    "fanned": fanned, "scaled": scaled, "spread": spread, "peers": peers, "beside": beside,
-    "ledger": ledger, "pruned": pruned,
+    "fanned": fanned, "scaled": scaled, "spread": spread, "cells": cells, "peers": peers,
+    "beside": beside, "ledger": ledger, "pruned": pruned,
     "idle": plain("idle", ["behind a client that is", "the next one waited"]),
     "killed": plain("killed", ["SIGKILL under load", ""]),
     "day": paper.day, "breaks": paper.breaks, "left": paper.left}

@@ -121,4 +121,4 @@ module _ {L : Type 0} (kept : List ℕ → Option (List ℕ)) (holds : L → Opt
       (ap (λ (e : EdgeFields). e.region.facts) edge_is) old.1 old.2 run.opened.prunes some knows unsealed
       (subst (λ t. ServesLogged holds opens service.log ran.words service.requests t (record { start = edge_of run.opened.region; end = run.opened.end; faults = faults })) taken
       (subst (λ (e : EdgeFields). ServesLogged holds opens service.log ran.words service.requests service.log_taken (record { start = e; end = run.opened.end; faults = faults })) started run.opened.served)) in
-      record { olds = old.0; bytes = w.0; old = old.3; log = w.1; logged = w.2; begun = w.3; told = w.4 }
+      record { olds = old.0; bytes = w.0; old = old.3; log = w.1; logged = w.2.0; begun = w.2.1; told = (w.2.2, w.2.3) }

@@ -31,8 +31,7 @@ say_writes (Ok x) old new text prints counts = inl (prints, counts)
 say_writes (Err e) old new text prints counts = inr (prints, rose old.failed new.failed counts)
 
 -- the first piece was written, then the rest
-pub pieces_then : {A E : Type 0} (r : Result A E) (old mid new : Option (List ℕ)) (pieces rest : List (Bor (List ℕ))) (other : Bor (List ℕ)) → 1 ≤ length pieces
-    → rest ≡ drop 1 pieces → Appends old mid (get_or pieces 0 other).now → Prints r mid new (joined_text rest) → Prints r old new (joined_text pieces)
-pieces_then r old mid new [] rest other some is done prints = absurd (omega (arith, some))
-pieces_then r old mid new (piece ∷ pieces) rest other some is done prints =
-    prints_then old mid new piece.now (joined_text pieces) r done (subst (λ ps. Prints r mid new (joined_text ps)) is prints)
+pub pieces_then : {A E : Type 0} (r : Result A E) (old mid new : Option (List ℕ)) (pieces : List (Bor (List ℕ))) (other : Bor (List ℕ)) → 1 ≤ length pieces
+    → Appends old mid (get_or pieces 0 other).now → Prints r mid new (joined_text (drop 1 pieces)) → Prints r old new (joined_text pieces)
+pieces_then r old mid new [] other some done prints = absurd (omega (arith, some))
+pieces_then r old mid new (piece ∷ pieces) other some done prints = prints_then old mid new piece.now (joined_text pieces) r done prints
