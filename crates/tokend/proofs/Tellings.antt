@@ -1,7 +1,7 @@
 -- What writing the pieces of a line leaves of its writer. Key results:
 --   say_writes    what pieces that were written, or not, come to
 --   pieces_then   the first piece was written, then the rest
-use Rattle.std.proofs.Common.{◌≡◌, ◌<◌, ◌≤◌, ℕ, Bool, true, false, List, [], ◌∷◌, length, drop, get_or, Option, Bor, Result, Ok, Err, inl, inr, refl, sym, ap, subst, ◌∙◌, arith}
+use Rattle.std.proofs.Common.{◌≡◌, ◌<◌, ◌≤◌, ◌-◌, ℕ, suc, Bool, true, false, List, [], ◌∷◌, length, take, drop, get_or, Option, Bor, Result, Ok, Err, inl, inr, refl, sym, ap, subst, ◌∙◌, arith}
 use Rattle.std.specs.Prelude.{nat_lt}
 use Rattle.std.proofs.lemmas.Bool.Decides.{nat_tests}
 use Rattle.std.specs.Io.KnownBytes.{Appends}
@@ -30,8 +30,17 @@ pub say_writes : {A E : Type 0} (r : Result A E) (old new : Writer) (text : List
 say_writes (Ok x) old new text prints counts = inl (prints, counts)
 say_writes (Err e) old new text prints counts = inr (prints, rose old.failed new.failed counts)
 
+take_all : {A : Type 0} (xs : List A) → take (length xs) xs ≡ xs
+take_all [] = refl
+take_all (x ∷ xs) = ap (λ ys. x ∷ ys) (take_all xs)
+
+one_less : (n : ℕ) → suc n - 1 ≡ n
+one_less n = omega arith
+
 -- the first piece was written, then the rest
 pub pieces_then : {A E : Type 0} (r : Result A E) (old mid new : Option (List ℕ)) (pieces : List (Bor (List ℕ))) (other : Bor (List ℕ)) → 1 ≤ length pieces
-    → Appends old mid (get_or pieces 0 other).now → Prints r mid new (joined_text (drop 1 pieces)) → Prints r old new (joined_text pieces)
+    → Appends old mid (get_or pieces 0 other).now → Prints r mid new (joined_text (take (length pieces - 1) (drop 1 pieces))) → Prints r old new (joined_text pieces)
 pieces_then r old mid new [] other some done prints = absurd (omega (arith, some))
-pieces_then r old mid new (piece ∷ pieces) other some done prints = prints_then old mid new piece.now (joined_text pieces) r done prints
+pieces_then r old mid new (piece ∷ pieces) other some done prints =
+    prints_then old mid new piece.now (joined_text pieces) r done
+    (subst (λ ps. Prints r mid new (joined_text ps)) (ap (λ n. take n pieces) (one_less (length pieces)) ∙ take_all pieces) prints)
