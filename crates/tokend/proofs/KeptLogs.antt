@@ -2,10 +2,9 @@
 -- behind the old log. Key results:
 --   keeps_all    LogKeepsAll
 --   loads_all    LogLoads
-use Rattle.std.proofs.Common.{◌≡◌, ◌≢◌, ℕ, ◌≤◌, max, zero, suc, Bool, true, false, ◌||◌, ◌&&◌, ◌==◌, nat_lt, nat_le, List, [], ◌∷◌, ◌++◌, append-nil, append_assoc, filter, length, take, Option, None, Some, option_map, Result, Ok, Err, inl, inr, refl, sym, ap, subst, arith, ◌∙◌, ◌+◌, cond}
-use Rattle.std.specs.Prelude.{◌⊎◌, IfSome, if◌then◌else◌}
+use Rattle.std.proofs.Common.{◌≡◌, ◌≢◌, ℕ, ◌≤◌, max, Bool, true, false, ◌||◌, ◌&&◌, ◌==◌, nat_lt, nat_le, List, [], ◌∷◌, ◌++◌, append-nil, append_assoc, filter, take, Option, None, Some, option_map, Result, Ok, Err, inl, inr, refl, sym, ap, subst, arith, ◌∙◌, cond}
+use Rattle.std.specs.Prelude.{◌⊎◌, IfSome}
 use Rattle.std.specs.FinMap as map
-use Rattle.std.specs.List.{list_any}
 use Rattle.std.specs.Io.KnownBytes.{Appends, Keeps}
 use Rattle.std.proofs.lemmas.Bool.Decides.{nat_tests}
 use Rattle.rand_chacha.specs.ChaCha.{ChaCha}
@@ -36,18 +35,17 @@ use Rattle.tk_message.specs.RequestFields.{RequestFields}
 use Rattle.tk_region.specs.RegionFields.{RegionFields, Gains, place_in}
 use Rattle.tk_region.specs.Decision.{decision_of}
 use Rattle.tk_region.specs.Step.{IsNextFact, early_in, prepared_by, prepared_of, record_of}
-use Rattle.tk_region.specs.Taking.{TakesIn, has_unmade, is_unmade, items_taken, raised}
+use Rattle.tk_region.specs.Taking.{TakesIn, has_unmade, items_taken, raised}
 use Rattle.tk_region.specs.declared.take.TakeError.{TakeError}
 use Rattle.tk_region.specs.declared.take.TakeError.TheVariants.{Malformed, OwnNumber, Conflict}
 use Rattle.tk_region.specs.declared.take.TakeError.TheVariants as Take
 use Rattle.tk_region.proofs.CapLaws.{next_unknown}
 use Rattle.tk_region.proofs.FitsLaws.{fits_differ}
-use Rattle.tk_region.proofs.TakeLaws.{Differs}
 use Rattle.tk_edge.specs.Answers.{IsRecorded, answer_by, fact_by}
 use Rattle.tk_edge.specs.Arrivals.{Answers}
 use Rattle.tk_edge.specs.EdgeFields.{EdgeFields}
 use Rattle.tk_edge.specs.Exchanges.{IsTakenReply, TakesBundle}
-use Rattle.tk_edge.specs.Pushes.{IsNews, IsNewsOf, bundle_to_log, kept_of, logged_of}
+use Rattle.tk_edge.specs.Pushes.{IsNews, bundle_to_log, kept_of, logged_of}
 use Rattle.tk_edge.specs.Served.{Asked, IsServed, RepliesTo, RunsOut}
 use Rattle.tk_edge.specs.Told.{AnswerFields, Change, record_in}
 use Rattle.tk_edge.specs.declared.edge.Served.{Served}
@@ -59,14 +57,14 @@ use Rattle.tk_edge.specs.declared.tell.Fault.{Fault}
 use Rattle.tk_edge.specs.declared.tell.Fault.TheVariants.{Read, Write, Log, Memory}
 use Rattle.tokend.specs.Connection.{AreConnections, IsConnection, Running, unknown}
 use Rattle.tokend.specs.Draw.{past_six, six}
-use Rattle.tokend.specs.KeptLog.{AreAmong, AreCalm, AreLogged, HasLogged, IsCalm, IsFresh, IsHeldBy, IsNotRefused, IsTorn, KeepsSince, LogKeepsAll, LogLoads}
+use Rattle.tokend.specs.KeptLog.{AreCalm, AreLogged, HasLogged, IsCalm, IsFresh, IsNotRefused, IsTorn, LogKeepsAll, LogLoads}
 use Rattle.tokend.specs.Loading.{AreBundles, BeginsWith, IsNoBundle, IsRefused, Loads, TakesEach, TakesFront, log_bytes}
 use Rattle.tokend.specs.Starting.{PrunesOld, edge_of}
 use Rattle.tokend.specs.declared.load.LoadFault.{LoadFault}
 use Rattle.tokend.specs.declared.load.LoadFault.TheVariants as load
 use Rattle.tokend.proofs.Connections.{connections_grow}
 use Rattle.tokend.proofs.KeptSlots.{IsFrom, below_first, below_more, below_some, fit_lower, fits_lower, from_items, first_unchanged, from_twice, items_below, items_from, items_lower, neither, unchanged}
-use Rattle.tokend.proofs.LogBundles.{EachBelow, IsAbove, IsNotLater, NoneLater, Parted, both_bundles, both_bytes, below_among, each_below, each_from, each_more, horizon_from, later_among, no_end, one_list, parted, taken_slots}
+use Rattle.tokend.proofs.LogBundles.{EachBelow, IsNotLater, NoneLater, Parted, below_among, each_below, each_from, each_more, horizon_from, later_among, no_end, one_list, parted, taken_slots}
 
 -- what is logged of a prepared reply is the record of its fact, before the horizon too
 logged_is : (r : RegionFields) (now : ℕ) (words : List ℕ) (request : RequestFields)

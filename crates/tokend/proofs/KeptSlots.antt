@@ -4,7 +4,7 @@
 --   fits_lower     items that fit, and weren't dropped, fit what is below
 --   items_lower    what is below stays below with the items
 --   items_below    items that fit are below the slots with them
-use Rattle.std.proofs.Common.{◌≡◌, ◌≤◌, ◌+◌, ℕ, zero, suc, take, filter, Bool, true, false, ◌||◌, not, cond, [], ◌∷◌, Option, Some, None, inl, inr, refl, sym, ap, subst, ◌∙◌, arith}
+use Rattle.std.proofs.Common.{◌≡◌, ℕ, zero, suc, take, filter, Bool, true, false, ◌||◌, not, cond, [], ◌∷◌, Option, Some, None, inl, inr, refl, sym, ap, subst, ◌∙◌}
 use Rattle.std.specs.Prelude.{◌⊎◌}
 use Rattle.std.specs.FinMap as map
 use Rattle.tk_handle.specs.declared.dot.Dot.{Dot}
@@ -16,7 +16,7 @@ use Rattle.tk_store.specs.SlotJoining.{AllBelow, AllFit}
 use Rattle.tk_store.proofs.FitLaws.{fit_below}
 use Rattle.tk_store.proofs.PutLaws.{by_dot, get_here}
 use Rattle.tk_store.proofs.SlotOrderLaws.{below_trans, join_right}
-use Rattle.tk_bundle.specs.BundleFields.{Items, is_mark}
+use Rattle.tk_bundle.specs.BundleFields.{Items}
 use Rattle.tk_bundle.specs.News.{changes_slot, changes_slots, counts}
 use Rattle.tk_region.proofs.TakeLaws.{Avoids, Differs}
 

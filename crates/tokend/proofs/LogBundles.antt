@@ -3,22 +3,21 @@
 --   one_list      bytes are the bundles of one list alone
 --   each_below    bundles that were taken in are below what is known then
 --   each_from     each slot is as it was, or below what is above the bundles
-use Rattle.std.proofs.Common.{◌≡◌, ℕ, ◌≤◌, max, Bool, true, List, [], ◌∷◌, ◌++◌, append-nil, append_assoc, filter, Option, None, Some, Result, Ok, Err, inl, inr, refl, sym, ap, subst, arith, ◌∙◌}
-use Rattle.std.specs.Prelude.{◌⊎◌}
+use Rattle.std.proofs.Common.{◌≡◌, ℕ, ◌≤◌, max, List, [], ◌∷◌, ◌++◌, append-nil, append_assoc, Option, None, Some, Ok, Err, inl, inr, refl, sym, ap, subst, arith, ◌∙◌}
 use Rattle.std.specs.FinMap as map
 use Rattle.std.proofs.lemmas.Grind.{flat_map-append}
 use Rattle.tk_format.specs.Exact.{prefix_free}
 use Rattle.tk_handle.specs.declared.dot.Dot.{Dot}
-use Rattle.tk_store.specs.SlotJoining.{AllBelow, AllFit}
-use Rattle.tk_store.specs.SlotOrder.{SlotBelow, SlotsBelow}
-use Rattle.tk_store.specs.Slots.{Slot, Slots, with_slots}
+use Rattle.tk_store.specs.SlotJoining.{AllBelow}
+use Rattle.tk_store.specs.SlotOrder.{SlotsBelow}
+use Rattle.tk_store.specs.Slots.{Slots, with_slots}
 use Rattle.tk_store.specs.StoreFields.{StoreFields}
 use Rattle.tk_store.proofs.FitLaws.{fit_below}
 use Rattle.tk_store.proofs.SlotOrderLaws.{slots_itself, slots_trans}
 use Rattle.tk_bundle.specs.BundleFields.{BundleFields, Items}
 use Rattle.tk_bundle.specs.Bundle.{bundle, bundle_bytes}
 use Rattle.tk_bundle.specs.BundleLaws.{bundle_exact}
-use Rattle.tk_bundle.specs.Front.{IsCut, walk}
+use Rattle.tk_bundle.specs.Front.{walk}
 use Rattle.tk_bundle.specs.declared.error.FrontError.TheVariants as front
 use Rattle.tk_bundle.specs.FrontLaws.{walk_bundle}
 use Rattle.tk_region.specs.RegionFields.{RegionFields}

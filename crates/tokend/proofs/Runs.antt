@@ -8,7 +8,7 @@
 --   service_done      the program has done what the service did
 --   ended_well        a run without a fault has done that
 --   ended_badly       a run with a fault has that fault's status and line
-use Rattle.std.proofs.Common.{◌≡◌, ◌⊎◌, ℕ, List, length, Option, Some, None, Result, Ok, Err, subst, sym, ap, refl, inl, inr, arith, ◌<◌, ◌≤◌, ◌∙◌, ◌++◌}
+use Rattle.std.proofs.Common.{◌≡◌, ◌⊎◌, ℕ, List, length, Option, Some, None, Result, Ok, Err, subst, sym, refl, inl, inr, arith, ◌<◌, ◌≤◌, ◌∙◌}
 use Rattle.std.specs.Prelude.{IfSome, IfErr, OnOk, OnErr, MatchResult}
 use Rattle.std.specs.Io.KnownBytes.{Appends}
 use Rattle.clap.specs.Words.{Text}
@@ -23,7 +23,7 @@ use Rattle.tokend.specs.Task.{Asks, AsksToShow}
 use Rattle.tokend.specs.Script.{greatest_length, IsFaultOf, IsFirstBad}
 use Rattle.tokend.specs.ScriptRun.{in_world, IsReadFault, IsScript, IsScriptFault, IsScriptRun, LeavesScript, Mode, PrintsScript}
 use Rattle.tokend.specs.ProgramRun.{BeginsLines, BeginsToServe, FailsToRun, FailsToServe, IsDone, IsFaultFor, Leaves, PrintsLines, Tells}
-use Rattle.tokend.specs.Status.{fault_text, status_of, LeavesBegun}
+use Rattle.tokend.specs.Status.{status_of, LeavesBegun}
 use Rattle.tokend.specs.declared.options.Service.{Service}
 use Rattle.tokend.specs.declared.options.Task.TheVariants.{Serve}
 use Rattle.tokend.specs.declared.options.Task.TheVariants.{Check, Facts as PrintFacts}

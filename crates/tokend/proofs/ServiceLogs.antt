@@ -1,6 +1,6 @@
 -- A service that has run with a log has written a log as its promises want it. Key result:
 --   service_logs   ServiceLogs
-use Rattle.std.proofs.Common.{◌≡◌, ℕ, Bool, true, false, List, [], ◌∷◌, length, Option, None, Some, IsSome, Result, Ok, Err, inl, inr, refl, sym, ap, subst, ◌∙◌}
+use Rattle.std.proofs.Common.{◌≡◌, ℕ, Bool, true, false, List, [], ◌∷◌, Option, None, Some, IsSome, Result, Ok, Err, inl, inr, refl, ap, subst, ◌∙◌}
 use Rattle.std.specs.Prelude.{IfSome, String, string_bytes}
 use Rattle.rand_chacha.specs.ChaCha.{ChaCha}
 use Rattle.tk_store.specs.StoreFields.{empty_store}
@@ -9,12 +9,12 @@ use Rattle.tk_region.specs.RegionFields.{RegionFields}
 use Rattle.tk_edge.specs.EdgeFields.{EdgeFields}
 use Rattle.tk_edge.specs.declared.edge.Served.{Served}
 use Rattle.tk_edge.specs.declared.tell.Fault.{Fault as EdgeFault}
-use Rattle.tokend.specs.Connection.{AreConnections, Course, Running, ServesAll, ServesLogged, ServesWith}
+use Rattle.tokend.specs.Connection.{AreConnections, Running, ServesLogged}
 use Rattle.tokend.specs.Draw.{past_six}
-use Rattle.tokend.specs.KeptLog.{AreLogged, AreOld, HasLogged, HasWritten, IsLog, IsTorn, KnowsLogs, ServiceLogs}
+use Rattle.tokend.specs.KeptLog.{AreLogged, AreOld, HasLogged, IsLog, IsTorn, KnowsLogs, ServiceLogs}
 use Rattle.tokend.specs.Loading.{AreBundles, Loads, TakesEach, TakesFront}
 use Rattle.tokend.specs.ServiceRun.{with_region}
-use Rattle.tokend.specs.Starting.{IsEmptyLog, IsToldAs, LoadsFile, LoadsOld, PrunesOld, edge_of, first_edge}
+use Rattle.tokend.specs.Starting.{IsEmptyLog, IsToldAs, LoadsFile, LoadsOld, PrunesOld, edge_of}
 use Rattle.tokend.specs.Telling.{Writing}
 use Rattle.tokend.specs.declared.fault.Fault.{Fault}
 use Rattle.tokend.specs.declared.load.LoadFault.{LoadFault}

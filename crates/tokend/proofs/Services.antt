@@ -1,13 +1,12 @@
 -- What a service has done, from what its parts do. Key results:
 --   listen_faults   a fault of the port or the output keeps a service from its first connection
 --   without_log     connections that were served without a log
---   with_log        connections that were served with the log of a name
 --   has_opened      a service has run, from the prune on
 --   has_run         a service has run, from its start on
 --   service_run     a service has run, from its arguments on
 --   opening_left    what a fault leaves of the output
-use Rattle.std.proofs.Common.{◌≡◌, ℕ, Bool, Option, Some, None, List, Result, Ok, Err, subst, sym}
-use Rattle.std.specs.Prelude.{IfErr, OnOk, String, string_bytes}
+use Rattle.std.proofs.Common.{◌≡◌, ℕ, Bool, Option, Some, None, List, Result, Ok, Err}
+use Rattle.std.specs.Prelude.{IfErr, OnOk, String}
 use Rattle.rand_chacha.specs.ChaCha.{ChaCha}
 use Rattle.tk_edge.specs.EdgeFields.{EdgeFields}
 use Rattle.tk_edge.specs.Told.{Change}
@@ -15,7 +14,7 @@ use Rattle.tk_region.specs.RegionFields.{RegionFields}
 use Rattle.tokend.specs.Connection.{Course, ServesLogged, ServesWith}
 use Rattle.tokend.specs.ServiceRun.{HasOpened, HasRun, IsServiceRun, with_region}
 use Rattle.tokend.specs.Serving.{Announces, IsListenFault, IsStartFault, LeavesOpening, LeavesService}
-use Rattle.tokend.specs.Starting.{IsEmptyLog, IsStart, LoadsOld, PrunesOld}
+use Rattle.tokend.specs.Starting.{IsStart, LoadsOld, PrunesOld}
 use Rattle.tokend.specs.Telling.{Writing}
 use Rattle.tokend.proofs.Runs.{begun_less}
 use Rattle.tokend.specs.declared.fault.Fault.{Fault}
@@ -48,14 +47,6 @@ module _ {L : Type 0} (kept : List ℕ → Option (List ℕ)) (holds : L → Opt
   without_log None words requests log_taken s (Ok x) none h = h
   without_log (Some name) words requests log_taken s (Ok x) none h = absurd (cc)
   without_log name words requests log_taken s (Err fault) none h = tt
-
-  -- connections that were served with the log of this name
-  pub with_log : {A T : Type 0} (name : Option (String A)) (file : String A) (words : ChaCha) (requests : Option ℕ) (log_taken : Bool) (s : Course) (opened closed : L) (r : Result T Fault) → name ≡ Some file
-      → opens (string_bytes file) opened → IsEmptyLog (holds opened)
-      → OnOk r (ServesWith words requests log_taken s (record { before = holds opened; after = holds closed })) → OnOk r (ServesLogged holds opens name words requests log_taken s)
-  with_log name file words requests log_taken s opened closed (Ok x) is named empty h =
-      subst (λ n. ServesLogged holds opens n words requests log_taken s) (sym is) (opened, closed, named, empty, h)
-  with_log name file words requests log_taken s opened closed (Err fault) is named empty h = tt
 
   pub has_opened : {T : Type 0} (service : Service) (dropped : ℕ) (start : EdgeFields) (words : ChaCha) (pruned : Option ℕ) (region : RegionFields) (end : EdgeFields) (output : Change) (faults : Writing) (r : Result T Fault)
       → PrunesOld service.prune start.region (Ok pruned) region → OnOk r (Announces (record { dropped = dropped; pruned = pruned }) service.port output.before output.after)

@@ -1,5 +1,4 @@
-use Rattle.std.proofs.Common.{Ok, subst, sym}
-use Rattle.std.specs.Prelude.{IfErr}
+use Rattle.std.proofs.Common.{Ok, subst}
 use Rattle.tk_region.specs.RegionFields.{RegionFields}
 use Rattle.tokend.specs.Starting.{LoadsOld}
 use Rattle.tokend.specs.Telling.{writer_of}

@@ -1,5 +1,5 @@
 use Rattle.tokend.specs.Telling.{writer_of}
-use Rattle.tokend.proofs.Services.{listen_faults, with_log, without_log}
+use Rattle.tokend.proofs.Services.{listen_faults, without_log}
 use Rattle.tokend.proofs.serve.log_and_serve.Goals as goal
 
 pub returns-in_default-clause-done : goal.returns-in_default-clause-done
