@@ -1,10 +1,11 @@
 -- What writing the pieces of a line leaves of its writer. Key results:
 --   say_writes    what pieces that were written, or not, come to
 --   pieces_then   the first piece was written, then the rest
-use Rattle.std.proofs.Common.{◌≡◌, ◌<◌, ◌≤◌, ◌-◌, ℕ, suc, Bool, true, false, List, [], ◌∷◌, length, take, drop, get_or, Option, Bor, Result, Ok, Err, inl, inr, refl, sym, ap, subst, ◌∙◌, arith}
+--   after_none    nothing was written, then some bytes
+use Rattle.std.proofs.Common.{◌≡◌, ◌<◌, ◌≤◌, ◌-◌, ℕ, suc, Bool, true, false, List, [], ◌∷◌, ◌++◌, length, take, drop, get_or, Option, None, Some, Bor, Result, Ok, Err, inl, inr, refl, sym, ap, subst, ◌∙◌, arith}
 use Rattle.std.specs.Prelude.{nat_lt}
 use Rattle.std.proofs.lemmas.Bool.Decides.{nat_tests}
-use Rattle.std.specs.Io.KnownBytes.{Appends}
+use Rattle.std.specs.Io.KnownBytes.{Appends, Keeps}
 use Rattle.tk_put.specs.Put.{Prints, joined_text}
 use Rattle.tk_edge.specs.Failures.{CountsFailure, Rose, greatest_count, one_more}
 use Rattle.tokend.specs.Telling.{Writer, Writes}
@@ -44,3 +45,10 @@ pieces_then r old mid new [] other some done prints = absurd (omega (arith, some
 pieces_then r old mid new (piece ∷ pieces) other some done prints =
     prints_then old mid new piece.now (joined_text pieces) r done
     (subst (λ ps. Prints r mid new (joined_text ps)) (ap (λ n. take n pieces) (one_less (length pieces)) ∙ take_all pieces) prints)
+
+-- nothing was written, then some bytes
+pub after_none : (old mid new : Option (List ℕ)) (bytes : List ℕ) → Keeps old mid → Appends mid new bytes → Appends old new bytes
+after_none None mid new bytes kept done = tt
+after_none (Some x) None new bytes kept done = absurd kept
+after_none (Some x) (Some y) None bytes kept done = absurd done
+after_none (Some x) (Some y) (Some z) bytes kept done = done ∙ ap (λ l. l ++ bytes) kept

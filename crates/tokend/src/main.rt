@@ -64,11 +64,12 @@ use folder::Disk;
 use program::{finish, run_program};
 use std::io::BufWriter;
 use std::process::ExitCode;
+use telling::Steady;
 use tk_edge::Counted;
 use words::words;
 
 fn main(rt: HostRuntime) -> ExitCode {
-    let (mut input, mut faults) = (rt.stdin(), Counted::new(rt.stderr()));
+    let (mut input, mut faults) = (rt.stdin(), Counted::new(Steady { inner: rt.stderr() }));
     let folder = Disk { rt: &rt };
     let status = match (words(&rt), BufWriter::new(rt.alloc(), rt.stdout())) {
         (Ok(words), Ok(mut output)) => {
