@@ -3,8 +3,9 @@ import time
 import urllib.parse
 
 from carrying.peers import client, clients, mark
-from celling.machine import CellsCase, until
+from celling.machine import CellsCase
 from measuring.server import free_port
+from scaling.sites import until
 
 
 class Carries(CellsCase):

@@ -15,8 +15,8 @@ import urllib.parse
 from carrying.peers import clients
 from measuring.asking import basic
 from measuring.server import free_port
-from celling.machine import until
 from celling.moved import REDIRECT, Subjects
+from scaling.sites import until
 from tables import slot_of
 
 HAPROXY = shutil.which("haproxy", path=os.environ.get("PATH", "") + ":/usr/sbin")

@@ -1,6 +1,5 @@
 """machine: a table of sites on free ports, its sites, and runs of examples/cells/cells."""
 import os
-import time
 import urllib.parse
 from pathlib import Path
 from types import SimpleNamespace
@@ -8,20 +7,10 @@ from types import SimpleNamespace
 from carrying import peers
 from carrying.peers import Case, Tokend
 from measuring.server import free_port
+from scaling.sites import until
 from tables import read_table
 
-PATIENCE, STEP = 30, 0.02
 SCRIPT = "cells/cells"
-
-
-def until(what, patience=PATIENCE):
-    """Waits for a condition, and returns whether it was met."""
-    end = time.monotonic() + patience
-    while not what():
-        if time.monotonic() > end:
-            return False
-        time.sleep(STEP)
-    return True
 
 
 class CellsCase(Case):

@@ -4,7 +4,8 @@ import http.client
 import json
 import urllib.parse
 
-from celling.machine import CellsCase, until
+from celling.machine import CellsCase
+from scaling.sites import until
 from tables import slot_of
 
 REDIRECT = "https://a.test/"

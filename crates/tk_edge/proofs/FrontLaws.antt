@@ -115,13 +115,13 @@ over_none bytes tail none e h ((rest, reads), short, few) =
     none h rest (subst (λ (x : List ℕ). ReadsRequest x h rest)
     (ap (λ (t : List ℕ). bytes ++ t) e ∙ append-nil bytes) reads)
 
--- so many bytes without a head
+-- at the limit of a head, bytes without one get none from what follows
 pub full_none : (bytes tail : List ℕ) → HasNoRequest bytes → head_limit ≤ length bytes
     → (h : RequestHead) → HasHead (bytes ++ tail) head_limit field_limit h → ⊥
 full_none bytes tail none full =
     no_short_head (bytes ++ tail) bytes tail head_limit field_limit refl full none
 
--- bytes that can't become a head with so many fields
+-- bytes with too many fields get no head from what follows
 pub error_none : (bytes tail : List ℕ) → RequestOverflows field_limit bytes
     → (h : RequestHead) → HasHead (bytes ++ tail) head_limit field_limit h → ⊥
 error_none bytes tail over h ((rest, reads), short, few) =

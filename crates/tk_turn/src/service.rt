@@ -9,7 +9,7 @@ ghost use Rattle.tk_turn.specs.Outcomes.{taken_of, goes_on, is_end};
 pub enum Outcome {
     /// No request is whole.
     More,
-    /// A request was decided, which took so many bytes. The flag is whether another may follow.
+    /// A request was decided: how many bytes it has, and whether another may follow.
     Decided(usize, bool),
     /// The connection ends without a further reply.
     Ended,
