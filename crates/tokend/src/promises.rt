@@ -157,9 +157,9 @@ pub fn an_error_changes_nothing(
 /// A region without facts took in the bundles of an old log, was pruned or not, and serves
 /// connections over an edge whose log gets what is taken in. Another region has loaded the bundles
 /// of the old log and those of that log as it is after any connection: in any order, with others
-/// among them, the last one torn or not. It holds every fact that the first region held then, or has
-/// skipped it. It has skipped what the first region skipped since its start, and its horizon isn't
-/// earlier than any that the first region took over since its start.
+/// among them, the last one torn or not. It holds every fact that the first region held then, or
+/// has skipped it. It has skipped what the first region skipped since its start, and its horizon
+/// isn't earlier than any that the first region took over since its start.
 ///
 /// That the load isn't refused is a premise. The promise leaves out an edge that is sealed, since
 /// its log has failed, and claims nothing of disks.
@@ -180,8 +180,8 @@ pub fn a_log_of_bundles_is_loaded_again()
 /// its end.
 ///
 /// The log is the one that it opened by the name in its arguments, which was empty. The bundles of
-/// the old log are those of the file of that name, if its bytes are known. The bytes of logs must be
-/// known, as those of the machine's files aren't: what a file keeps is tested.
+/// the old log are those of the file of that name, if its bytes are known. The bytes of logs must
+/// be known, as those of the machine's files aren't: what a file keeps is tested.
 pub fn a_service_writes_such_a_log<I: Read, L: Sink, D: Folder<I, L>>(folder: &D)
     ensures { ServiceLogs (D.kept folder.now) L.holds (D.opens folder.now) }
 {
