@@ -5,9 +5,9 @@ They have no background, and colours that can be read on a light page and on a d
 import collections
 import subprocess
 
+from lib import Broken
 from measuring import paper
 from measuring.results import part, servers_of, states_of
-from measuring.rounds import Broken
 
 FILE, INK = "measured-%s.svg", "#808080"
 COLOURS = "#3d87d8", "#d97f26", "#3f9e6a", "#b65fae"

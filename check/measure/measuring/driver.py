@@ -7,9 +7,9 @@ import subprocess
 import tempfile
 import urllib.parse
 
-from measuring.asking import REDIRECT_TEXT
-from measuring.rounds import Absent, Broken
-from measuring.server import Process
+from lib import Absent, Broken
+from lib.asking import REDIRECT_TEXT
+from lib.server import Process
 
 HERE = os.path.dirname(os.path.abspath(__file__))
 WARM = 20  # requests of load.c that aren't counted, at most
@@ -82,6 +82,6 @@ class Driver:
             log = [] if how == "none" else [os.path.join(folder, "log")]
             server = Process([self.path("floor"), how, *log], folder)
             try:
-                yield server
+                yield server.listening()
             finally:
                 server.stop()

@@ -5,7 +5,7 @@ Its documents say how to start it with a file of SQLite, and how each setting is
 import http.client
 import json
 
-from measuring.rounds import Broken
+from lib import Broken
 
 TABLES = "/usr/share/doc/glewlwyd/database/init.sqlite3.sql.gz"
 CONFIGURATION = """

@@ -4,8 +4,8 @@ import shutil
 import signal
 import subprocess
 
-from measuring.rounds import Absent
-from measuring.server import Server
+from lib import Absent
+from lib.server import Server
 
 PATIENCE = 30
 
@@ -41,7 +41,7 @@ def run(program, folder, tool, kind, count):
     words = ["valgrind", "--tool=" + tool, "--log-file=" + os.path.join(folder, "said")]
     if tool == "callgrind":
         words.append("--callgrind-out-file=" + os.path.join(folder, "counted"))
-    server = Server(program, folder, "--log", os.path.join(folder, "log"), before=words)
+    server = Server(program, "--log", "{}/log", folder=folder, before=words)
     try:
         tokens = [server.enrol().log_in()]
         for _ in range(count):

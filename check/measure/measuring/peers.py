@@ -12,10 +12,11 @@ import sqlite3
 import subprocess
 import tempfile
 
+from lib import Absent, Broken
+from lib.asking import REDIRECT_TEXT, Asked, authorize, basic
+from lib.waiting import free_port, listens_soon
 from measuring import glewlwyd
-from measuring.asking import REDIRECT_TEXT, Asked, authorize, basic
-from measuring.rounds import Absent, Broken
-from measuring.server import PYTHON, free_port, listens_soon
+from measuring.rounds import PYTHON
 
 HERE = os.path.dirname(os.path.abspath(__file__))
 CLIENT, SECRET, PATIENCE = "measured", "s3cret", 30
@@ -32,7 +33,7 @@ def members(group):
                 yield pid, fields
 
 
-class Peer(Asked):
+class Other(Asked):
     """A server in a process group of its own, which goes with its folder."""
 
     name = copies = None  # copies: SQL that adds :count copies of the first login
@@ -89,7 +90,7 @@ class Peer(Asked):
                     self.child.wait(5)
 
 
-class Glewlwyd(Peer):
+class Glewlwyd(Other):
     """The OpenID Connect plugin of glewlwyd, which replaces a refresh token at each use."""
 
     name = "glewlwyd"
@@ -115,7 +116,7 @@ class Glewlwyd(Peer):
         self.authorize = authorize("/api/oidc/auth", CLIENT) + "&g_continue="
 
 
-class Application(Peer):
+class Application(Other):
     """An application of apps/ under gunicorn, with one worker."""
 
     module = packages = None

@@ -9,19 +9,12 @@ import os
 import signal
 import sys
 
+from lib import BUILT, Absent, Broken
+from lib.command import end
 from measuring import tables
 
 ABSENT = 3
-ROOT = os.path.normpath(os.path.join(os.path.dirname(__file__), "../../.."))
-BUILT = os.path.join(ROOT, "crates/tokend/out/tokend")
-
-
-class Absent(Exception):
-    """Something that a measurement needs isn't on this machine."""
-
-
-class Broken(Exception):
-    """A server didn't do what it must."""
+PYTHON = "/usr/bin/python3"  # the distribution's, which its packages are for
 
 
 def arguments(about, rounds):
@@ -51,11 +44,6 @@ def collect(measure, given):
             for name, number in measure(program, given.small).items():
                 rows.setdefault(name, [[] for _ in given.program])[at].append(number)
     return rows
-
-
-def end(*_):
-    """Ends the command as an exception does, so that its servers are stopped."""
-    raise SystemExit(143)
 
 
 def run(measure, about, rounds, read=arguments):

@@ -1,0 +1,37 @@
+"""Checks: the folders of check/ against its index and check/run, and paths below check/ that the
+documents name."""
+import os
+import re
+
+from lib import TOP
+from markdown import everything
+from texts import differ, rows, same, text_of
+
+INDEX, GATE, DOCUMENT = "check/README.md", "check/run", "docs/GATE.md"
+
+
+def folders():
+    """The names of all checks."""
+    top = os.path.join(TOP, "check")
+    return {it for it in os.listdir(top) if os.path.exists(os.path.join(top, it, "run"))}
+
+
+def compare_paths(name):
+    for path in re.findall(r"\bcheck/[\w./]*\w", text_of(name)):
+        if "NAME" not in path and not os.path.exists(os.path.join(TOP, path)):
+            differ(name, "there is no %s" % path)
+
+
+def compare():
+    listed = {re.search(r"\w+", it[0])[0]: it[-2] for it in rows(text_of(INDEX), "check | ")}
+    same(INDEX, "the checks", sorted(folders() | {"measure"}), sorted(listed))
+    run = re.findall(r"^check/(\w+)/run", text_of(GATE), re.M)
+    same(INDEX, "the checks of the gate", sorted(run),
+         sorted(name for name, part in listed.items() if part.startswith("yes")))
+    same(DOCUMENT, "the checks of the gate", run,
+         re.findall(r"^\| `check/(\w+)/run", text_of(DOCUMENT), re.M))
+    for name in sorted(folders()):
+        if not os.path.exists(os.path.join(TOP, "check", name, "README.md")):
+            differ("check/" + name, "has no README.md")
+    for name in everything() + [GATE]:
+        compare_paths(name)

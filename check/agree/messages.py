@@ -1,0 +1,114 @@
+"""Messages: the sources against OPERATING.md and the manual page.
+
+To each line, with K, N, P and FILE for what varies, its exit status; None if the program goes
+on."""
+import re
+
+from texts import OPERATING, PAGE, coded, rows, same, text_of
+
+FAULT, SERVE = "crates/tokend/src/fault.rt", "crates/tokend/src/serve.rt"
+LISTEN, FACTS = "crates/tokend/src/listen.rt", "crates/tokend/src/facts.rt"
+CHECK = "crates/tokend/src/check.rt"
+START_PAGE = "docs/tokend-start.1"
+LINE = r'\bFault::(\w+)(?:\(\w+\))? => (?:say|tell_\w+)\(faults, [^"\n]*b"([^"]*)"'
+
+
+def statuses_of_sources(fault):
+    arms = fault.split("impl Fault {", 1)[1].split("fn status(", 1)[1].split("\n    }\n", 1)[0]
+    statuses = {}
+    for names, number in re.findall(r"((?:\bFault::\w+(?:\(_\))?\s*\|?\s*)+)=> (\d)", arms):
+        for name in re.findall(r"Fault::(\w+)", names):
+            statuses[name] = int(number)
+    return statuses
+
+
+def of_sources():
+    fault, serve, listen = text_of(FAULT), text_of(SERVE), text_of(LISTEN)
+    statuses = statuses_of_sources(fault)
+    errors = {}
+    for name, line in re.findall(LINE, fault):
+        key = line.replace("\\n", "") + ("FILE" if line.endswith(" ") else "")
+        errors[key] = statuses.pop(name)
+    errors[re.search(r'b"(tokend: bad line )"', fault).group(1) + "K"] = statuses.pop("BadLine")
+    arm = r"FactsFault::Malformed\(_, _\) \| FactsFault::Refused\(_, _\) => (\d)"
+    bad = int(re.search(arm, fault)[1])
+    for place in re.findall(r'tell_place\(faults, b"([^"]*)"', fault):
+        errors[place + "N of FILE"] = bad
+    errors[re.search(r'b"(tokend: dropped )"', text_of(FACTS))[1] + "N bytes"] = None
+    same(FAULT, "faults without a line of their own", {"Words": 2, "Output": 1}, statuses)
+    for name in re.findall(r'EdgeFault::\w+ => say\(faults, &\[b"([^"\\]*)\\n"\]\)', serve):
+        errors[name] = None
+    output = {line_of(listen, name) for name in ("dropped_bytes", "pruned_facts", "port")}
+    return output | {line_of(text_of(CHECK), "count")}, errors
+
+
+def line_of(listen, name):
+    """The line that a function prints, with a letter for its number."""
+    pieces = listen.split("fn put_%s<" % name, 1)[1].split("\n}\n", 1)[0].rsplit("&[", 1)[1]
+    found = re.findall(r'b"([^"]*)"|(\w+)', pieces.split("]", 1)[0])
+    letter = "P" if name == "port" else "N"
+    return "".join(text or letter for text, _ in found).replace("\\n", "")
+
+
+def of_operating():
+    text = text_of(OPERATING)
+    output = {line for cells in rows(text, "on standard output | cause")
+              for line in coded(cells[0])}
+    errors = {line: int(cells[1]) if cells[1] else None
+              for cells in rows(text, "on standard error | status") for line in coded(cells[0])}
+    return output, errors
+
+
+def of_page(part):
+    text = text_of(PAGE).split(".SH %s\n" % part, 1)[1]
+    text = re.split(r"^\.SH ", text, maxsplit=1, flags=re.M)[0]
+    text = text.replace("\\-", "-").replace("\\~", "~")
+    lines = {}
+    for head, told in re.findall(r"^\.TP\n\.B\w* ?(.*)\n((?:(?!\.TP|\.PP).*\n?)*)", text, re.M):
+        status = re.search(r"Status (\d)\.", told)
+        words = head.replace('"', "")
+        if "~" in head:
+            words = words.replace(" ", "").replace("~", " ")
+        for line in words.split(" , "):
+            lines[line.strip()] = int(status.group(1)) if status else None
+    return lines
+
+
+def compare_errors(where, wanted, said):
+    for line in sorted(set(wanted) | set(said)):
+        same(where, "the status of `%s`" % line, wanted.get(line, "no line"),
+             said.get(line, "no line"))
+
+
+def compare_scripts():
+    """Statuses of the examples' scripts, in their sources and on their pages."""
+    start, page = text_of("starter/starting/stop.py"), text_of(START_PAGE)
+    wanted = set(re.findall(r"\d", re.search(r"^FAILED, .* = (.*)$", start, re.M)[1]))
+    said = page.split('.SH "EXIT STATUS"')[1].split(".SH ")[0]
+    same(START_PAGE, "the statuses", wanted, set(re.findall(r"^\.B (\d)$", said, re.M)))
+    wanted = set(re.findall(r'"(TOKEND\w*|STATE_DIRECTORY|MAINPID)"',
+                            text_of("starter/starting/settings.py")))
+    said = page.split(".SH ENVIRONMENT")[1].split(".SH ")[0]
+    same(START_PAGE, "the variables", wanted, set(re.findall(r"^\.B (\w+)$", said, re.M)))
+    carry = text_of("examples/carry/carry").split("Status 0")[1].split("\n\n")[0]
+    page = "examples/carry/README.md"
+    said = {cells[0] for cells in rows(text_of(page), "status | meaning")}
+    same(page, "the statuses", {"0"} | set(re.findall(r"(\d): ", carry)), said)
+
+
+def compare():
+    compare_scripts()
+    output, errors = of_sources()
+    plain = {line: status for line, status in errors.items() if line != "tokend: cannot read -"}
+    said_output, said_errors = of_operating()
+    same(OPERATING, "its lines on standard output", output, said_output)
+    compare_errors(OPERATING, plain, said_errors)
+    same(PAGE, "its lines on standard output", output, set(of_page('"STANDARD OUTPUT"')))
+    compare_errors(PAGE, plain, of_page('"STANDARD ERROR"'))
+    statuses = sorted({0} | {s for s in errors.values() if s is not None})
+    said = sorted(int(c[0]) for c in rows(text_of(OPERATING), "status | meaning"))
+    same(OPERATING, "its exit statuses", statuses, said)
+    page = text_of(PAGE).split('.SH "EXIT STATUS"', 1)[1].split(".SH ", 1)[0]
+    said = sorted(int(n) for n in re.findall(r"^\.TP\n\.B (\d)$", page, re.M))
+    same(PAGE, "its exit statuses", statuses, said)
+    return errors

@@ -1,0 +1,119 @@
+"""standing: attacks that work today. docs/SECURITY.md lists each as not stopped.
+
+A test that fails here is good news: then the line there is wrong, and both are to be mended.
+"""
+import base64
+import contextlib
+import hashlib
+import http.client
+import os
+import re
+import urllib.parse
+
+from lib.asking import ask_over
+from lib.cases import Case
+from lib.facts import MARK, client, clients, dot, mark, text
+
+GREATEST = 253_402_300_799  # the last moment there is
+BUSY = (503, b'{"error":"temporarily_unavailable"}')
+
+
+def handle(region, serial):
+    """The text of an access token, of random words that nobody made."""
+    said = b"\1\2" + region.to_bytes(2, "big") + serial.to_bytes(8, "big") + os.urandom(24)
+    return base64.urlsafe_b64encode(said).decode()
+
+
+class ByStrangers(Case):
+    """By whoever reaches the front end."""
+
+    def test_a_revocation_of_an_invented_token_stays(self):
+        """The id of a public client is enough, and each makes a fact that no prune drops."""
+        it = self.tokend(1, *clients(3, 1))
+        for number in range(1, 11):
+            said = it.ask("/revoke", ("client_id=c3-1&token=" + handle(9, number)).encode())
+            self.assertEqual(said, (200, b""))
+        self.assertEqual(len(it.held()), 11)
+
+
+class ByOperators(Case):
+    """What a registration lets through."""
+
+    def test_a_redirection_uri_of_any_scheme(self):
+        it = self.tokend(1)
+        for uri in ("javascript:alert(1)", "data:text/html,x", "file:///x", "vbscript:x",
+                    "http://app.example/cb"):
+            form = urllib.parse.urlencode({"kind": "public", "scope": "read", "redirects": uri})
+            self.assertEqual(it.ask("/admin/client", form.encode())[0], 201, uri)
+
+
+class ByPeers(Case):
+    """By whoever may push."""
+
+    def test_a_horizon_ahead_stops_clients_and_is_carried_on(self):
+        one, two = self.tokend(1), self.tokend(2)
+        self.assertEqual(one.push([mark(9, 1)], GREATEST)[0], 200)
+        self.assertEqual(self.carry(one.url, two.url)[0], 0)
+        for it in one, two:
+            self.assertEqual(it.ask("/admin/client?client_id=c1-1"), BUSY)
+            self.assertEqual(it.ask("/sync/vector")[0], 200)
+
+    def test_a_forged_resource_server_introspects(self):
+        it = self.tokend(1)
+        secret = hashlib.sha256(b"guess").digest()
+        fact = dot((3, 1)) + b"\1\2" + secret + text(b"read") + b"\1" + text(b"https://a.test/")
+        self.assertEqual(it.push([fact])[0], 200)
+        form = b"client_id=c3-1&client_secret=guess&token=x"
+        self.assertEqual(it.ask("/introspect", form), (200, b'{"active":false}'))
+
+    def redeem(self, it, code):
+        """What a redemption of the code gets, by the client c1-1."""
+        form = {"grant_type": "authorization_code", "code": code, "client_id": "c1-1",
+                "client_secret": "s3cret"}
+        return it.ask("/token", urllib.parse.urlencode(form).encode())[1].decode()
+
+    def is_active(self, it, token):
+        form = {"token": token, "client_id": "c1-1", "client_secret": "s3cret"}
+        said = it.ask("/introspect", urllib.parse.urlencode(form).encode())[1]
+        return b'"active":true' in said
+
+    def login(self, it):
+        """A code of ann, for a client that is added."""
+        it.ask("/admin/client", b"kind=confidential&secret=s3cret&scope=read"
+               b"&redirects=https://a.test/")
+        it.ask("/admin/consent", b"client_id=c1-1&subject=ann&scope=read")
+        link = http.client.HTTPConnection("127.0.0.1", it.port, timeout=10)
+        with contextlib.closing(link):
+            _, place, _ = ask_over(link, "GET", "/authorize?response_type=code&client_id=c1-1",
+                                   **{"X-Subject": "ann"})
+        return place.partition("code=")[2]
+
+    def test_a_mark_of_a_reuse_revives_its_family(self):
+        it = self.tokend(1)
+        code = self.login(it)
+        token = re.search('"access_token":"([^"]+)"', self.redeem(it, code))[1]
+        self.assertTrue(self.is_active(it, token))
+        before = it.held()
+        self.assertIn("invalid_grant", self.redeem(it, code))
+        self.assertFalse(self.is_active(it, token))
+        [reuse] = set(it.held()) - set(before)
+        self.assertEqual(it.push([reuse[:MARK]], 0)[0], 200)
+        self.assertTrue(self.is_active(it, token))
+
+    def test_a_mark_of_a_fact_to_come_keeps_that_fact_out(self):
+        one, two = self.tokend(1), self.tokend(2)
+        self.assertEqual(two.push([mark(1, 1)], 0)[0], 200)
+        self.assertEqual(one.ask("/admin/signout", b"subject=ann")[0], 200)
+        self.assertEqual(self.carry(one.url, two.url)[0], 0)
+        self.assertEqual(two.page().facts, 0)
+
+    def test_a_fact_at_the_end_of_a_range_uses_all_numbers_up(self):
+        it = self.site(1, count=9, script="../starter/tokend-start")
+        self.assertEqual(it.push(clients(9, 1))[0], 200)
+        it.stop()
+        self.assertEqual(it.begin(script="../starter/tokend-start").child.wait(30), 5)
+
+    def test_two_facts_at_one_dot_stay_apart(self):
+        one, two = self.tokend(1, client(3, 1, b"read")), self.tokend(2, client(3, 1, b"write"))
+        self.assertEqual(self.carry(one.url, two.url)[0], 0)
+        self.assertNotEqual(one.held(), two.held())

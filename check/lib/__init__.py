@@ -1,0 +1,19 @@
+"""lib: what several checks share.
+
+Each check's `run` puts the parent of this folder on Python's path. The modules of examples/carry,
+which read bundles and vectors, are found from here on too.
+"""
+import os
+import sys
+
+TOP = os.path.dirname(os.path.dirname(os.path.dirname(os.path.abspath(__file__))))
+BUILT = os.path.join(TOP, "crates/tokend/out/tokend")
+sys.path.insert(2, os.path.join(TOP, "examples/carry"))
+
+
+class Absent(Exception):
+    """Something that a check needs isn't on this machine."""
+
+
+class Broken(Exception):
+    """A server didn't do what it must."""

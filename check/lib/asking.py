@@ -1,0 +1,126 @@
+"""asking: requests to an OAuth 2.0 server on 127.0.0.1, and what its replies have."""
+import base64
+import contextlib
+import http.client
+import json
+import re
+import socket
+import urllib.parse
+
+from lib import Broken
+from lib.facts import REDIRECT
+
+REDIRECT_TEXT = REDIRECT.decode()
+FORM = {"Content-Type": "application/x-www-form-urlencoded"}
+
+
+def basic(name, secret):
+    return base64.b64encode(("%s:%s" % (name, secret)).encode()).decode()
+
+
+def request(method, target, body=b"", *headers):
+    lines = ["%s %s HTTP/1.1" % (method, target), "Host: tokend", *headers]
+    if method == "POST":
+        lines.append("Content-Length: %d" % len(body))
+    return "\r\n".join(lines + ["", ""]).encode() + body
+
+
+def body_of(reply):
+    return reply.partition(b"\r\n\r\n")[2]
+
+
+def exchange(port, sent, patience=60):
+    """What comes back of a connection that sends this and no more, until it ends or fails."""
+    said = b""
+    with contextlib.suppress(OSError):
+        with socket.create_connection(("127.0.0.1", port), patience) as peer:
+            peer.sendall(sent)
+            peer.shutdown(socket.SHUT_WR)
+            while piece := peer.recv(65536):
+                said += piece
+    return said
+
+
+def ask_over(link, method, path, body=None, **fields):
+    """Status, `Location` and body of a reply. A mapping is sent as a form."""
+    body = urllib.parse.urlencode(body) if isinstance(body, dict) else body
+    link.request(method, path, body, (FORM if body is not None else {}) | fields)
+    reply = link.getresponse()
+    return reply.status, reply.getheader("Location"), reply.read()
+
+
+def authorize(target, client_id):
+    """The target of an authorisation request of a client."""
+    return target + "?" + urllib.parse.urlencode({
+        "response_type": "code", "client_id": client_id, "scope": "read write",
+        "redirect_uri": REDIRECT_TEXT, "state": "xyz"})
+
+
+class Asked:
+    """A server that is asked. The fields without a value here are set once it is enrolled."""
+
+    port = client = resource = authorize = None
+    introspect, token, revoke = "/introspect", "/token", "/revoke"  # targets
+    subject = "X-Subject: ann"  # the header line of a browser that ann signed in with
+    closing = ()  # header lines that have a server close after its reply
+
+    @property
+    def url(self):
+        return "http://127.0.0.1:%d" % self.port
+
+    def ask(self, path, body=None):
+        """Status and body of the reply to a GET, or to a POST if there is a body."""
+        link = http.client.HTTPConnection("127.0.0.1", self.port, timeout=30)
+        with contextlib.closing(link):
+            link.request("POST" if body else "GET", path, body)
+            reply = link.getresponse()
+            return reply.status, reply.read()
+
+    def send(self, sent, patience=60):
+        """The status of the reply to a request, which must be whole, and the reply."""
+        with socket.create_connection(("127.0.0.1", self.port), patience) as peer:
+            peer.sendall(sent)
+            said = self.hear(peer)
+        head, _, body = said.partition(b"\r\n\r\n")
+        length = re.search(rb"(?i)\r\ncontent-length: (\d+)", head)
+        if not length or len(body) < int(length[1]):
+            raise ConnectionError("no whole reply")
+        return int(said[9:12]), said
+
+    def hear(self, peer):
+        """All that still comes on a connection."""
+        said = b""
+        while piece := peer.recv(65536):
+            said += piece
+        return said
+
+    def wanted(self, status, sent):
+        got, said = self.send(sent)
+        if got != status:
+            raise Broken("%r is answered %r" % (sent[:60], said[:300]))
+        return said
+
+    def form(self, target, fields, credentials=None, status=200):
+        """The members of the reply to a form, if it has any."""
+        headers = ["Content-Type: application/x-www-form-urlencoded", *self.closing]
+        if credentials:
+            headers.append("Authorization: Basic " + credentials)
+        sent = request("POST", target, urllib.parse.urlencode(fields).encode(), *headers)
+        body = body_of(self.wanted(status, sent))
+        return json.loads(body) if body else {}
+
+    def log_in(self, subject=None):
+        """The tokens of a code that ann's browser got, or another's, and the client redeemed."""
+        subject = subject or self.subject
+        said = self.wanted(302, request("GET", self.authorize, b"", subject, *self.closing))
+        code = re.search(rb"[?&]code=([\w.~-]+)", said)[1].decode()
+        fields = {"grant_type": "authorization_code", "code": code, "redirect_uri": REDIRECT_TEXT}
+        return self.form(self.token, fields, self.client)
+
+    def refresh(self, token, status=200):
+        """The tokens of a refresh, or what the refusal says."""
+        fields = {"grant_type": "refresh_token", "refresh_token": token}
+        return self.form(self.token, fields, self.client, status)
+
+    def is_active(self, token):
+        return self.form(self.introspect, {"token": token}, self.resource)["active"]

@@ -1,0 +1,184 @@
+"""facts: facts, marks and bundles as bytes of docs/FORMATS.md, and the handles of tokens.
+
+They are made here, and not by a server, so that a million families can be pushed to one.
+"""
+import base64
+import hashlib
+import itertools
+import struct
+import time
+
+LIFE, FAMILY = 86_400, 2_592_000
+CODE, ACCESS, REFRESH = 1, 2, 3
+SCOPE, REDIRECT = b"read write", b"https://app.example/callback"
+SUBJECT_OUT = 10  # the kind of fact that makes a bundle an OTB2
+MARK = 10  # the length of the mark of a skipped fact, its dot
+HORIZON = 1000  # a moment that is over
+ABSENT = 60000  # a region number that no site comes to
+CURSOR, EMPTY_VECTOR = bytes(10), b"OTV1\0\0"
+DOT = struct.Struct(">HQ")
+
+
+def text(words):
+    return struct.pack(">H", len(words)) + words
+
+
+def dot(pair):
+    return DOT.pack(*pair)
+
+
+def read_dot(name):
+    """The dot that the id of a client or a consent names, such as c1-1."""
+    region, serial = name[1:].split("-")
+    return int(region), int(serial)
+
+
+def token(kind, at):
+    return struct.pack(">BB", 1, kind) + dot(at) + bytes(24)
+
+
+def handle(kind, at):
+    """What a client has of the token that the fact at this dot minted."""
+    return base64.urlsafe_b64encode(token(kind, at)).decode()
+
+
+def digest(kind, at):
+    return hashlib.sha256(token(kind, at)).digest()
+
+
+def client(region, serial, scope=b"read"):
+    """A public client, which must stay."""
+    return dot((region, serial)) + b"\1\0" + text(scope) + b"\1" + text(b"https://a.test/")
+
+
+def clients(region, *serials):
+    return [client(region, it) for it in serials]
+
+
+def mark(region, serial):
+    return dot((region, serial))
+
+
+def code(at, end, subject):
+    """A code of a family that ends then. Its client and its consent needn't be known."""
+    times = struct.pack(">QQQ", 1000, 1060, end)
+    return (dot(at) + b"\5" + dot((ABSENT, 1)) + dot((ABSENT, 2)) + bytes(32) + times
+            + text(subject) + text(b"read") + text(REDIRECT) + b"\0\0")
+
+
+def redemption(at, of, end, moment=1010):
+    token = bytes(32) + struct.pack(">Q", end) + text(b"read")
+    return dot(at) + b"\6" + dot(of) + struct.pack(">Q", moment) + token + token
+
+
+class Maker:
+    """Makes facts of a region number, for a client and a consent that a server may have.
+
+    Serials begin with 1 and have no gap, since a vector covers facts up to the first one that is
+    missing. Client and consent are facts of another region. Each login has its own subject, unless
+    one is given. Only tokens of the consent's subject are active.
+    """
+
+    def __init__(self, region, client="c1-1", consent="g1-2", subject=None):
+        self.region, self.client, self.consent = region, read_dot(client), read_dot(consent)
+        self.serials, self.now, self.subject = itertools.count(1), int(time.time()), subject
+
+    def new_dot(self):
+        return self.region, next(self.serials)
+
+    def tokens(self, at):
+        access = digest(ACCESS, at) + struct.pack(">Q", self.now + LIFE) + text(SCOPE)
+        return access + digest(REFRESH, at) + struct.pack(">Q", self.now + FAMILY) + text(SCOPE)
+
+    def code(self):
+        """A code: its dot, and the fact."""
+        at = self.new_dot()
+        subject = self.subject or b"subject-%d" % (at[1] // 2)
+        times = struct.pack(">QQQ", self.now, self.now + 60, self.now + FAMILY)
+        return at, (dot(at) + b"\5" + dot(self.client) + dot(self.consent) + digest(CODE, at)
+                    + times + text(subject) + text(SCOPE) + text(REDIRECT) + b"\1\0")
+
+    def redemption(self, code):
+        """A redemption of the code at a dot: its own dot, and the fact."""
+        at = self.new_dot()
+        return at, dot(at) + b"\6" + dot(code) + struct.pack(">Q", self.now) + self.tokens(at)
+
+    def login(self):
+        """A code and its redemption: the redemption's dot, and both facts."""
+        code, given = self.code()
+        redemption, redeemed = self.redemption(code)
+        return redemption, [given, redeemed]
+
+    def rotation(self, parent, generation):
+        """The rotation of a dot's refresh token: its own dot, and the fact."""
+        at = self.new_dot()
+        return at, dot(at) + b"\7" + dot(parent) + struct.pack(">HQ", generation, self.now) + (
+            self.tokens(at))
+
+    def logins(self, count):
+        """The dots of N redemptions, and the facts of N logins."""
+        made = [self.login() for _ in range(count)]
+        return [at for at, _ in made], [fact for _, both in made for fact in both]
+
+    def chain(self, length):
+        """The last dot and the facts of a login that was refreshed N times."""
+        at, facts = self.login()
+        for generation in range(1, length + 1):
+            at, fact = self.rotation(at, generation)
+            facts.append(fact)
+        return at, facts
+
+
+def bundle(items, horizon=None):
+    """The bundle of items, facts or marks, in the order of their dots."""
+    version = b"OTB1"
+    if any(len(it) == MARK for it in items):
+        version = b"OTB3" + struct.pack(">Q", HORIZON if horizon is None else horizon)
+    elif any(it[MARK] == SUBJECT_OUT for it in items):
+        version = b"OTB2"
+    return version + struct.pack(">H", len(items)) + b"".join(map(text, items))
+
+
+def bundles(facts, size=128):
+    for at in range(0, len(facts), size):
+        yield bundle(facts[at:at + size])
+
+
+def records(items):
+    """A log with a record for each of these facts."""
+    return b"".join(bundles(items, 1))
+
+
+def facts_of(log):
+    """The items of bundles that are one behind the other."""
+    found, at = [], 0
+    while at < len(log):
+        at += 12 if log[at:at + 4] == b"OTB3" else 4
+        count, at = int.from_bytes(log[at:at + 2], "big"), at + 2
+        for _ in range(count):
+            length, at = int.from_bytes(log[at:at + 2], "big"), at + 2
+            found.append(log[at:at + length])
+            at += length
+    return found
+
+
+def marks_in(log):
+    return sum(len(it) == MARK for it in facts_of(log))
+
+
+def end_of_bundle(log, at):
+    """Where the bundle ends that begins at a place of a log; past the log, if it is cut."""
+    at += 12 if log[at:at + 4] == b"OTB3" else 4
+    count = int.from_bytes(log[at:at + 2], "big")
+    at += 2
+    for _ in range(count):
+        at += 2 + int.from_bytes(log[at:at + 2], "big")
+    return at
+
+
+def whole_records(log):
+    """How many bytes at the front of a log are whole bundles, of any number of facts each."""
+    at = 0
+    while (end := end_of_bundle(log, at)) <= len(log):
+        at = end
+    return at

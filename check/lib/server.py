@@ -1,0 +1,195 @@
+"""server: programs that serve on a free port, above all `tokend serve`."""
+import contextlib
+import os
+import re
+import select
+import signal
+import subprocess
+import tempfile
+import time
+
+from bundles import FROM_THE_START, Vector, read_bundle, read_vector, write_pull
+from lib import Absent, Broken
+from lib.asking import REDIRECT_TEXT, Asked, authorize, basic, body_of, request
+from lib.facts import CURSOR, EMPTY_VECTOR, MARK, bundle, facts_of
+
+PATIENCE = 600  # seconds that a start with a long history may take
+FULL = 128  # items of a page that isn't the last
+SECRET, WORD = "s3cret", "res0urce"
+
+
+def push(sent):
+    return request("POST", "/sync/push", sent)
+
+
+class Tokend(Asked):
+    """A region, by its port."""
+
+    def __init__(self, port):
+        self.port = port
+
+    def push(self, items, horizon=None):
+        """Status and body of the reply to one bundle."""
+        return self.ask("/sync/push", bundle(items, horizon))
+
+    def push_all(self, bundles):
+        for it in bundles:
+            self.wanted(200, push(it))
+
+    def vector(self):
+        return read_vector(self.ask("/sync/vector")[1])
+
+    def held_to(self):
+        """The vector, by region."""
+        return dict(self.vector().entries)
+
+    def page(self):
+        """The first page."""
+        return read_bundle(self.ask("/sync/pull", write_pull(FROM_THE_START, Vector()))[1])
+
+    def held(self):
+        """The items of the first page."""
+        return list(self.page().items)
+
+    def pages(self, vector=EMPTY_VECTOR):
+        """The pages, as bytes, of what a vector doesn't cover."""
+        cursor, count = CURSOR, FULL
+        while count == FULL:
+            page = body_of(self.wanted(200, request("POST", "/sync/pull", cursor + vector)))
+            yield page
+            items = facts_of(page)
+            count, cursor = len(items), items[-1][:MARK] if items else CURSOR
+
+
+class Child:
+    """A process, which is `child`."""
+
+    child = None
+
+    def used(self):
+        """Seconds of processor that the child has used."""
+        path = "/proc/%d/schedstat" % self.child.pid
+        if not os.path.exists(path):
+            raise Absent("the kernel has no %s" % path)
+        with open(path, encoding="ascii") as file:
+            return int(file.read().split()[0]) / 1e9
+
+    def resident(self):
+        """Bytes of memory that the child has."""
+        with open("/proc/%d/status" % self.child.pid, encoding="ascii") as file:
+            return next(int(it.split()[1]) * 1024 for it in file if it.startswith("VmRSS"))
+
+    def stop(self, kind=signal.SIGKILL):
+        if self.child.poll() is None:
+            self.child.send_signal(kind)
+        self.child.wait(PATIENCE)
+        if self.child.stdout:
+            self.child.stdout.close()
+
+
+class Process(Child, Asked):
+    """A child that prints where it listens, and its errors to a file of its folder."""
+
+    first_lines = re.compile(rb"(?:dropped \d+ bytes\n)?(?:pruned \d+\n)?"
+                             rb"listening 127\.0\.0\.1:(\d+)\n")
+
+    def __init__(self, words, folder, errors="errors", **options):
+        self.folder, self.errors_name, self.output = folder, errors, b""
+        with open(self.path(errors), "wb") as file:
+            self.child = subprocess.Popen(words, **{
+                "stdin": subprocess.DEVNULL, "bufsize": 0, "stdout": subprocess.PIPE,
+                "stderr": file} | options)
+
+    def path(self, name):
+        return os.path.join(self.folder, name)
+
+    def content(self, name):
+        with open(self.path(name), "rb") as file:
+            return file.read()
+
+    def errors(self):
+        return self.content(self.errors_name).decode(errors="replace")
+
+    def listening(self, patience=PATIENCE):
+        """Waits until it listens. What doesn't is ended."""
+        end = time.monotonic() + patience
+        while not (found := self.first_lines.fullmatch(self.output)):
+            left = max(0, end - time.monotonic())
+            is_there = select.select([self.child.stdout], [], [], left)[0]
+            piece = os.read(self.child.stdout.fileno(), 65536) if is_there else b""
+            if not piece:
+                self.give_up(is_there)
+            self.output += piece
+        self.port = int(found[1])
+        return self
+
+    def give_up(self, has_ended):
+        with contextlib.suppress(subprocess.TimeoutExpired):
+            self.child.wait(10 if has_ended else 0)
+        self.stop()
+        raise Broken("%s didn't start: %s" % (os.path.basename(self.child.args[0]), (
+            self.errors().strip() or "it printed %r" % self.output)))
+
+
+class Server(Process, Tokend):
+    """A running `tokend serve`, with a client, a resource server and a consent once enrolled."""
+
+    def __init__(self, program, *options, region=1, folder=None, load=None, before=(), **more):
+        """Starts it in a folder, or in one of its own; in an option, {} is that folder.
+
+        With `load`, it loads these bytes and has a log. Words may stand before the program, of a
+        command that starts it.
+        """
+        self.own = None if folder else tempfile.TemporaryDirectory()
+        folder = folder or self.own.name
+        seed, old, log = (os.path.join(folder, it) for it in ("seed", "old", "log"))
+        with open(seed, "wb") as file:
+            file.write(self.seed())
+        words = [*before, program, "serve", "--region", str(region), "--port", "0", "--seed", seed]
+        if load is not None:
+            with open(old, "wb") as file:
+                file.write(load)
+            words += ["--load", old, "--log", log]
+        super().__init__(words + [it.format(folder) for it in options], folder, **more)
+        try:
+            self.listening()
+        except BaseException:
+            self.end()
+            raise
+
+    def seed(self):
+        return os.urandom(32)
+
+    def end(self):
+        """Stops it; its own folder is gone then."""
+        self.stop()
+        if self.own:
+            self.own.cleanup()
+
+    def __enter__(self):
+        return self
+
+    def __exit__(self, *_):
+        self.end()
+
+    def logged(self):
+        return self.content("log")
+
+    def enrol(self):
+        """Adds a client, a resource server, and ann's consent to the client."""
+        rights = {"scope": "read write", "redirects": REDIRECT_TEXT}
+        self.client_id, self.resource_id = (
+            self.form("/admin/client", {"kind": kind, "secret": secret} | rights,
+                      status=201)["client_id"]
+            for kind, secret in (("confidential", SECRET), ("resource", WORD)))
+        given = {"client_id": self.client_id, "subject": "ann", "scope": "read write"}
+        self.consent_id = self.form("/admin/consent", given, status=201)["consent_id"]
+        self.client = basic(self.client_id, SECRET)
+        self.resource = basic(self.resource_id, WORD)
+        self.authorize = authorize("/authorize", self.client_id)
+        return self
+
+    def enrol_as(self, other):
+        """Goes on with the clients of another server, whose facts this one has."""
+        self.client, self.resource = other.client, other.resource
+        self.authorize = other.authorize

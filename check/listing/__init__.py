@@ -1,1 +1,0 @@
-"""listing: what `tokend facts` is compared with."""

@@ -1,0 +1,175 @@
+"""fronting: sites behind HAProxy, as examples/scale-out has it, without spread."""
+import contextlib
+import http.client
+import re
+import threading
+import unittest
+
+from lib.asking import ask_over, basic
+from lib.cases import Case
+from lib.fronts import FIRST, HAPROXY, Front, copy_maps
+from lib.waiting import until
+
+ELSE = "AQIAAQAAAAAAAAABAAAAAAAAAAAAAAAAAAAAAAAAAAAAAAAA"  # a token of region 1, never made
+
+
+class AskedFront(Front):
+    """HAProxy before some sites, with the maps of the example."""
+
+    def ask(self, method, path, body=None, is_inner=False, **fields):
+        """Status, `Location` and body of a reply. A mapping is sent as a form."""
+        link = http.client.HTTPConnection("127.0.0.1", self.inner if is_inner else self.port,
+                                          timeout=30)
+        with contextlib.closing(link):
+            return ask_over(link, method, path, body, **fields)
+
+    def by(self):
+        """Which backend and site replied to each request, by HAProxy's log."""
+        return re.findall(r"^\S+ (?:GET|POST) \S+ \d+ (\S+) ", self.said(), re.M)
+
+
+@unittest.skipUnless(HAPROXY, "passed over: no HAProxy (apt-get install haproxy)")
+class Fronts(Case):
+    def setUp(self):
+        super().setUp()
+        self.sites = {name: self.site(FIRST[name], is_up=False) for name in ("one", "two")}
+        self.assertTrue(until(lambda: all(it.is_up() for it in self.sites.values())))
+        copy_maps(self.folder)
+        self.front = AskedFront(self.folder, {name: it.port for name, it in self.sites.items()})
+        self.addCleanup(self.front.stop)
+        self.front.await_port()
+        # three and four aren't there, and HAProxy has noticed
+        self.assertTrue(until(lambda: "Server four/four is DOWN" in self.front.said()))
+
+    def meet(self):
+        """Brings the sites to the same facts."""
+        status, _, errors = self.carry(*(it.url for it in self.sites.values()))
+        self.assertEqual((status, errors), (0, ""))
+
+    def enrol(self):
+        """A client that both sites know, and dan's consent, which is made at his site, two."""
+        self.client = self.member("client_id", self.front.ask("POST", "/admin/client", {
+            "kind": "confidential", "secret": "s3cret", "scope": "read",
+            "redirects": "https://a.test/"}, True))
+        self.meet()
+        self.member("consent_id", self.front.ask("POST", "/admin/consent", {
+            "client_id": self.client, "subject": "dan", "scope": "read"}, True))
+        self.mine = {"Authorization": "Basic " + basic(self.client, "s3cret")}
+
+    def member(self, name, reply):
+        found = re.search(b'"%s":"([^"]+)"' % name.encode(), reply[2])
+        self.assertTrue(found, reply)
+        return found[1].decode()
+
+    def sign_in(self):
+        """Dan's access token and refresh token."""
+        _, where, _ = self.front.ask(
+            "GET", "/authorize?response_type=code&client_id=" + self.client,
+            Authorization="Basic " + basic("dan", "dan-word"))
+        said = self.token({"grant_type": "authorization_code", "code": where.split("code=")[1]})
+        return self.member("access_token", said), self.member("refresh_token", said)
+
+    def token(self, form):
+        return self.front.ask("POST", "/token", form, **self.mine)
+
+    def refresh(self, token):
+        return self.token({"grant_type": "refresh_token", "refresh_token": token})
+
+    def introspect(self, body):
+        return self.front.ask("POST", "/introspect", body, **self.mine)
+
+    def is_active(self, token):
+        status, _, said = self.introspect({"token": token})
+        self.assertEqual(status, 200)
+        return b'"active":true' in said
+
+    def test_no_spelling_leads_to_a_site_that_does_not_know(self):
+        self.enrol()
+        token = self.sign_in()[0]
+        self.meet()
+        self.front.ask("POST", "/revoke", {"token": token}, **self.mine)
+        mine = b"token=" + token.encode()
+        for body in (b"token=&" + mine, b"tok%65n=" + mine[6:], b"a=;token=" + mine[6:],
+                     b"a=;&" + mine, b"token=" + ELSE.encode() + b"&" + mine, b"token&" + mine,
+                     b"x=\0&token=&" + mine, b"x=\0&tok%65n=" + mine[6:], b"x=\0;" + mine,
+                     b"token=&x=\n&" + mine, b"\xff&token=&" + mine, b"&&" + mine, b"=&" + mine,
+                     b"Token=" + ELSE.encode() + b"&" + mine, b"?token=" + ELSE.encode() + b"&"
+                     + mine, b"token=&x=" + b"a" * 16000 + b"&" + mine,
+                     b"token=&" + b"a=b&" * 4000 + mine, mine + b"\0", mine + b"&token="):
+            status, _, said = self.introspect(body)
+            self.assertIn((status, said), ((400, b'{"error":"invalid_request"}'),
+                                           (200, b'{"active":false}')), body[:80])
+        self.assertEqual(self.introspect(b"x=%00%26&" + mine)[::2], (200, b'{"active":false}'))
+
+    def test_guesses_of_a_secret_are_refused(self):
+        """A right one too, so that none is found; who only has no session isn't counted."""
+        self.enrol()
+        for _ in range(30):
+            self.assertEqual(self.front.ask("GET", "/authorize")[0], 401)
+        self.assertEqual(self.introspect({"token": ELSE})[0], 200)
+        said = [self.front.ask("POST", "/introspect", {"token": ELSE}, Authorization="Basic "
+                               + basic(self.client, "guess%d" % number))[0] for number in range(60)]
+        self.assertEqual((set(said), said[:20]), ({401, 429}, [401] * 20))
+        self.assertLess(said.count(401), 25)
+        self.assertEqual(self.introspect({"token": ELSE})[0], 429)
+        self.assertEqual(self.token({"grant_type": "refresh_token", "refresh_token": "x"})[0], 429)
+
+    def test_bodies_without_length_or_too_long(self):
+        self.enrol()
+        said = self.front.ask("POST", "/introspect", b"7\r\ntoken=x\r\n0\r\n\r\n",
+                              **{"Transfer-Encoding": "chunked"}, **self.mine)
+        self.assertEqual(said[0], 411)
+        self.assertEqual(self.introspect(b"token=" + b"a" * 16379)[0], 413)
+        self.assertEqual(self.introspect(b"token=" + b"a" * 16378)[0], 200)
+
+    def test_the_next_site_stands_in_and_the_lost_one_comes_back(self):
+        self.enrol()
+        access, refresh = self.sign_in()
+        self.meet()
+        ended = threading.Event()
+        replies = []
+
+        def go_on():
+            while not ended.is_set():
+                replies.append(self.introspect({"token": access})[0])
+
+        threads = [threading.Thread(target=go_on) for _ in range(4)]
+        for it in threads:
+            it.start()
+        self.assertTrue(until(lambda: len(replies) > 20))
+        self.sites["two"].stop()
+        lost = len(replies)
+        self.assertTrue(until(lambda: len(replies) > lost + 50))
+        ended.set()
+        for it in threads:
+            it.join()
+        self.assertEqual(set(replies), {200})
+        self.assertEqual(set(self.front.by()[-20:]), {"two/one"})
+        self.assertEqual(self.refresh(refresh)[0], 200)
+        self.assertEqual(self.refresh(refresh)[0], 400)
+        self.assertFalse(self.is_active(access))
+        self.again(self.sites["two"], self.sites["one"])
+        self.assertTrue(until(lambda: self.is_active(access) or self.front.by()[-1] == "two/two"))
+        self.assertFalse(self.is_active(access))
+        self.assertEqual(self.front.by()[-1], "two/two")
+
+    def test_a_site_whose_log_fails_is_out(self):
+        two = self.sites["two"]
+        two.stop()
+        self.assertTrue(until(lambda: "Server two/two is DOWN" in self.front.said()))
+        two.begin(program=self.small(), script="../starter/tokend-start")
+        self.assertTrue(until(lambda: "Server two/two is UP" in self.front.said()))
+        self.enrol()
+        self.meet()
+        statuses = []
+        for _ in range(20):
+            _, where, _ = self.front.ask("GET", "/authorize?response_type=code&client_id="
+                                         + self.client, Authorization="Basic "
+                                         + basic("dan", "dan-word"))
+            code = where.partition("code=")[2]
+            statuses.append(self.token({"grant_type": "authorization_code", "code": code})[0])
+        self.assertEqual(two.ask("/sync/vector")[0], 503)
+        self.assertIn("fault log", two.said())
+        self.assertEqual(statuses[-8:], [200] * 8)
+        self.assertLessEqual(len([it for it in statuses if it != 200]), 1, statuses)
+        self.assertEqual(self.front.by()[-1], "one/one")

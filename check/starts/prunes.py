@@ -1,0 +1,74 @@
+"""prunes: a region that is pruned at its start. Each is a function of a room."""
+import os
+import time
+
+from families import LOGINS, OldLogins, marks_of
+from lib import TOP
+from room import CLIENT, Child, wanted
+
+DAY = "86400"
+CARRY = os.path.join(TOP, "examples", "carry", "carry")
+
+
+def start_prunes(room):
+    """Each start with a margin prunes, and one without loads all that the logs have."""
+    site = OldLogins(room)
+    run = room.start(TOKEND_PRUNE_MARGIN=DAY).listening()
+    wanted(run.output.startswith(b"pruned %d\n" % (2 * LOGINS)), "not pruned", run.output)
+    site.is_as_ever(run)
+    wanted(marks_of(run) == 2 * LOGINS, "another number of marks", marks_of(run))
+    wanted(run.add_client() == (2, 1), "it makes no fact")
+    run.stop()
+    run = room.start().listening()
+    wanted(run.output.startswith(b"listening"), "pruned without a margin", run.output)
+    wanted(run.held_to().get(2) == 1, "a fact of the pruned run is lost", run.held_to())
+    site.is_as_ever(run)
+    wanted(marks_of(run) == 0, "a mark is left", marks_of(run))
+
+
+def margin_is_refused(room):
+    """A margin that is too short, or none, or beside the option that it makes."""
+    for margin in ("86399", "x", "-1", "1000000000"):
+        status = room.start(TOKEND_PRUNE_MARGIN=margin).ended()
+        wanted(status == 6, "the status of %s" % margin, status)
+    run = room.start(TOKEND_PRUNE_MARGIN=DAY, TOKEND_OPTIONS="--prune 5")
+    wanted(run.ended() == 6, "two prunes aren't status 6", run.errors())
+    wanted(room.number() == 0, "a start that was refused used a number")
+    run = room.start(TOKEND_PRUNE_MARGIN="", TOKEND_OPTIONS="--prune 5").listening()
+    wanted(run.output.startswith(b"pruned 0\n"), "not pruned by the option", run.output)
+
+
+def horizon_passes(room):
+    """A region whose horizon is ahead replies 503, but to other regions, and then as ever."""
+    horizon = int(time.time()) + 3
+    run = room.serve(50, "--prune", str(horizon))
+    early = run.ask("/admin/client", CLIENT)
+    wanted(early == (503, b'{"error":"temporarily_unavailable"}'), "no 503", early)
+    wanted(run.ask("/sync/vector")[0] == 200, "no vector before the horizon")
+    while (said := run.ask("/admin/client", CLIENT))[0] == 503:
+        wanted(time.time() < horizon + 2, "503 behind the horizon")
+        time.sleep(0.1)
+    wanted(said[0] == 201 and time.time() >= horizon, "no reply at the horizon", said)
+    wanted(run.held_to() == {50: 1}, "a request before the horizon made a fact", run.held_to())
+
+
+def peers_differ_and_agree(room):
+    """An empty peer gets marks by `carry`; one that holds the facts keeps them until its own prune.
+    All of them answer alike."""
+    site = OldLogins(room)
+    run = room.start(TOKEND_PRUNE_MARGIN=DAY).listening()
+    full = room.serve(70, "--load", room.path("site/load.otb"))
+    empty = room.serve(71)
+    wanted(marks_of(full) == 0, "the peer has marks already")
+    urls = [it.url for it in (run, full, empty)]
+    done = Child(room, [CARRY, *urls])
+    wanted(done.ended() == 0, "not carried", done.errors())
+    for peer, marks in (full, 0), (empty, 2 * LOGINS), (run, 2 * LOGINS):
+        wanted(marks_of(peer) == marks, "another number of marks", marks_of(peer))
+        site.is_as_ever(peer)
+    again = Child(room, [CARRY, *urls])
+    wanted(again.ended() == 0 and again.output.count(b" 0 facts in 0 pages") == 4,
+           "facts go to a peer that has skipped them", again.output)
+
+
+CASES = [start_prunes, margin_is_refused, horizon_passes, peers_differ_and_agree]
