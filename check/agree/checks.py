@@ -11,9 +11,10 @@ INDEX, GATE, DOCUMENT = "check/README.md", "check/run", "docs/GATE.md"
 
 
 def folders():
-    """The names of all checks."""
+    """The names of all checks: `run` in its folder runs each, but measure, which has commands."""
     top = os.path.join(TOP, "check")
-    return {it for it in os.listdir(top) if os.path.exists(os.path.join(top, it, "run"))}
+    return sorted(it for it in os.listdir(top)
+                  if it == "measure" or os.path.exists(os.path.join(top, it, "run")))
 
 
 def compare_paths(name):
@@ -24,14 +25,15 @@ def compare_paths(name):
 
 def compare():
     listed = {re.search(r"\w+", it[0])[0]: it[-2] for it in rows(text_of(INDEX), "check | ")}
-    same(INDEX, "the checks", sorted(folders() | {"measure"}), sorted(listed))
+    same(INDEX, "the checks", folders(), sorted(listed))
     run = re.findall(r"^check/(\w+)/run", text_of(GATE), re.M)
     same(INDEX, "the checks of the gate", sorted(run),
          sorted(name for name, part in listed.items() if part.startswith("yes")))
     same(DOCUMENT, "the checks of the gate", run,
          re.findall(r"^\| `check/(\w+)/run", text_of(DOCUMENT), re.M))
-    for name in sorted(folders()):
+    for name in folders():
         if not os.path.exists(os.path.join(TOP, "check", name, "README.md")):
             differ("check/" + name, "has no README.md")
-    for name in everything() + [GATE]:
+    drivers = ["check/%s/run" % it for it in folders() if it != "measure"]
+    for name in everything() + [GATE] + drivers:
         compare_paths(name)

@@ -7,10 +7,10 @@ import resource
 import socket
 import subprocess
 
+from lib.asking import CLIENT
 from server import Server
 from texts import differ, same
 
-CLIENT = b"kind=public&scope=read&redirects=https://app.example/cb"
 NEW = ("POST", "/admin/client", (), CLIENT)
 
 

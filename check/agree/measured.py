@@ -22,6 +22,7 @@ def compare():
     compare_names("table", marked, blocks.ALL)
     if not len(set(marked)) == len(marked) == len(re.findall("<!-- ", text)) / 2:
         differ(DOCUMENT, "its marks of tables aren't one pair for each table")
-    commands = [it for it in os.listdir(FOLDER) if os.path.isfile(os.path.join(FOLDER, it))]
+    commands = [it for it in os.listdir(FOLDER)
+                if os.path.isfile(os.path.join(FOLDER, it)) and it != "README.md"]
     listed = re.findall(r"^\| `(\w+)` \|", text.partition("## Speed")[0], re.M)
     compare_names("command", listed, set(commands) - OTHERS)

@@ -1,6 +1,7 @@
 """HTTP.md: its examples are sent, and its tables compared with the replies."""
 import re
 
+from lib.asking import CLIENT
 from limits import documents
 from server import Server
 from texts import HTTP, coded, differ, rows, same, text_of
@@ -8,7 +9,6 @@ from texts import HTTP, coded, differ, rows, same, text_of
 HANDLE = r"\bAQ[EIM][A-Za-z0-9_-]{45}(?![A-Za-z0-9_-])"
 CLOCK = r"\b1[0-9]{9}\b"
 FORM = ("Content-Type: application/x-www-form-urlencoded",)
-CLIENT = b"kind=public&scope=read&redirects=https://app.example/cb"
 
 
 def unfolded(text):

@@ -3,14 +3,11 @@
 A test that fails here is good news: then the line there is wrong, and both are to be mended.
 """
 import base64
-import contextlib
 import hashlib
-import http.client
 import os
 import re
 import urllib.parse
 
-from lib.asking import ask_over
 from lib.cases import Case
 from lib.facts import MARK, client, clients, dot, mark, text
 
@@ -82,10 +79,8 @@ class ByPeers(Case):
         it.ask("/admin/client", b"kind=confidential&secret=s3cret&scope=read"
                b"&redirects=https://a.test/")
         it.ask("/admin/consent", b"client_id=c1-1&subject=ann&scope=read")
-        link = http.client.HTTPConnection("127.0.0.1", it.port, timeout=10)
-        with contextlib.closing(link):
-            _, place, _ = ask_over(link, "GET", "/authorize?response_type=code&client_id=c1-1",
-                                   **{"X-Subject": "ann"})
+        _, place, _ = it.ask_as("GET", "/authorize?response_type=code&client_id=c1-1",
+                                **{"X-Subject": "ann"})
         return place.partition("code=")[2]
 
     def test_a_mark_of_a_reuse_revives_its_family(self):

@@ -12,6 +12,7 @@ import unittest
 from lib.asking import ask_over, basic
 from lib.facts import clients
 from lib.fronts import HAPROXY
+from lib.server import Tokend
 from lib.tls import OPENSSL, make_certificate
 from lib.waiting import free_port, until
 from moved import REDIRECT, Subjects
@@ -75,8 +76,7 @@ class FrontedCase(Subjects):
 
     def ask(self, method, path, form=None, is_inner=False, link=None, **fields):
         """Status, `Location` and body of a reply."""
-        one = link or (http.client.HTTPConnection("127.0.0.1", self.inner, timeout=30)
-                       if is_inner else self.link())
+        one = link or (Tokend(self.inner).link() if is_inner else self.link())
         self.asked += one.port in (self.front, self.inner)
         said = ask_over(one, method, path, form, **fields)
         if not link:
@@ -274,7 +274,7 @@ class Grown(FrontedCase):
              "b1 b 300-399 32-63")
 
     def site_link(self, name):
-        return http.client.HTTPConnection("127.0.0.1", self.server(name).port, timeout=30)
+        return self.server(name).link()
 
     def test_two_sites_become_the_directory_of_two_cells(self):
         self.up("one", "two")

@@ -1,6 +1,4 @@
 """moved: subjects that move, are signed out in all cells, and cells that are retired."""
-import contextlib
-import http.client
 import json
 import urllib.parse
 
@@ -29,12 +27,10 @@ class Subjects(CellsCase):
         form = urllib.parse.urlencode({
             "response_type": "code", "client_id": self.client, "scope": scope,
             "code_challenge": "A" * 43, "code_challenge_method": "S256"})
-        link = http.client.HTTPConnection("127.0.0.1", self.server(name).port, timeout=30)
-        with contextlib.closing(link):
-            link.request("GET", "/authorize?" + form, headers={"X-Subject": subject})
-            reply = link.getresponse()
-        self.assertEqual(reply.status, 302, reply.headers)
-        return "?code=" in reply.headers["Location"]
+        status, place, _ = self.server(name).ask_as("GET", "/authorize?" + form,
+                                                    **{"X-Subject": subject})
+        self.assertEqual(status, 302)
+        return "?code=" in place
 
     def subjects(self, first, last, count):
         """Names whose slots are in a range."""

@@ -8,7 +8,7 @@ import random
 import time
 
 from answers import Passing
-from lib.facts import ABSENT, MARK, bundle, client, code, redemption, text
+from lib.facts import ELSEWHERE, MARK, bundle, client, code, redemption, text
 from lib.server import push
 from load import Worker
 
@@ -24,10 +24,10 @@ class Past:
         self.horizons = itertools.count(PRUNE)
 
     def new_client(self):
-        return client(ABSENT, next(self.serials))
+        return client(ELSEWHERE, next(self.serials))
 
     def new_family(self):
-        one, other = ((ABSENT, next(self.serials)) for _ in range(2))
+        one, other = ((ELSEWHERE, next(self.serials)) for _ in range(2))
         end = random.choice([OVER, LATER])
         items = [code(one, end, b"old"), redemption(other, one, end)]
         Passing(items[0], False)

@@ -12,6 +12,7 @@ from lib.facts import REDIRECT
 
 REDIRECT_TEXT = REDIRECT.decode()
 FORM = {"Content-Type": "application/x-www-form-urlencoded"}
+CLIENT = b"kind=public&scope=read&redirects=https://app.example/cb"
 
 
 def basic(name, secret):
@@ -68,13 +69,20 @@ class Asked:
     def url(self):
         return "http://127.0.0.1:%d" % self.port
 
+    def link(self):
+        return http.client.HTTPConnection("127.0.0.1", self.port, timeout=30)
+
     def ask(self, path, body=None):
         """Status and body of the reply to a GET, or to a POST if there is a body."""
-        link = http.client.HTTPConnection("127.0.0.1", self.port, timeout=30)
-        with contextlib.closing(link):
+        with contextlib.closing(self.link()) as link:
             link.request("POST" if body else "GET", path, body)
             reply = link.getresponse()
             return reply.status, reply.read()
+
+    def ask_as(self, method, path, body=None, **fields):
+        """Status, `Location` and body of the reply to a request with header fields."""
+        with contextlib.closing(self.link()) as link:
+            return ask_over(link, method, path, body, **fields)
 
     def send(self, sent, patience=60):
         """The status of the reply to a request, which must be whole, and the reply."""

@@ -14,7 +14,7 @@ SCOPE, REDIRECT = b"read write", b"https://app.example/callback"
 SUBJECT_OUT = 10  # the kind of fact that makes a bundle an OTB2
 MARK = 10  # the length of the mark of a skipped fact, its dot
 HORIZON = 1000  # a moment that is over
-ABSENT = 60000  # a region number that no site comes to
+ELSEWHERE = 60000  # a region number that no site comes to
 CURSOR, EMPTY_VECTOR = bytes(10), b"OTV1\0\0"
 DOT = struct.Struct(">HQ")
 
@@ -55,6 +55,10 @@ def clients(region, *serials):
     return [client(region, it) for it in serials]
 
 
+def retirement(at, of):
+    return dot(at) + b"\2" + dot(of)
+
+
 def mark(region, serial):
     return dot((region, serial))
 
@@ -62,7 +66,7 @@ def mark(region, serial):
 def code(at, end, subject):
     """A code of a family that ends then. Its client and its consent needn't be known."""
     times = struct.pack(">QQQ", 1000, 1060, end)
-    return (dot(at) + b"\5" + dot((ABSENT, 1)) + dot((ABSENT, 2)) + bytes(32) + times
+    return (dot(at) + b"\5" + dot((ELSEWHERE, 1)) + dot((ELSEWHERE, 2)) + bytes(32) + times
             + text(subject) + text(b"read") + text(REDIRECT) + b"\0\0")
 
 

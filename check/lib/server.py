@@ -1,5 +1,6 @@
 """server: programs that serve on a free port, above all `tokend serve`."""
 import contextlib
+import json
 import os
 import re
 import select
@@ -10,7 +11,7 @@ import time
 
 from bundles import FROM_THE_START, Vector, read_bundle, read_vector, write_pull
 from lib import Absent, Broken
-from lib.asking import REDIRECT_TEXT, Asked, authorize, basic, body_of, request
+from lib.asking import CLIENT, REDIRECT_TEXT, Asked, authorize, basic, body_of, request
 from lib.facts import CURSOR, EMPTY_VECTOR, MARK, bundle, facts_of
 
 PATIENCE = 600  # seconds that a start with a long history may take
@@ -35,6 +36,13 @@ class Tokend(Asked):
     def push_all(self, bundles):
         for it in bundles:
             self.wanted(200, push(it))
+
+    def add_client(self):
+        """Has the region make a fact, a client: returns its id."""
+        status, said = self.ask("/admin/client", CLIENT)
+        if status != 201:
+            raise Broken("no client was added: %d, %r" % (status, said))
+        return json.loads(said)["client_id"]
 
     def vector(self):
         return read_vector(self.ask("/sync/vector")[1])
@@ -92,6 +100,7 @@ class Process(Child, Asked):
 
     first_lines = re.compile(rb"(?:dropped \d+ bytes\n)?(?:pruned \d+\n)?"
                              rb"listening 127\.0\.0\.1:(\d+)\n")
+    begin_with = b"dropped ", b"pruned ", b"listening "
 
     def __init__(self, words, folder, errors="errors", **options):
         self.folder, self.errors_name, self.output = folder, errors, b""
@@ -117,15 +126,17 @@ class Process(Child, Asked):
             left = max(0, end - time.monotonic())
             is_there = select.select([self.child.stdout], [], [], left)[0]
             piece = os.read(self.child.stdout.fileno(), 65536) if is_there else b""
-            if not piece:
-                self.give_up(is_there)
             self.output += piece
+            lines = self.output.split(b"\n")[:-1]
+            if not piece or not all(it.startswith(self.begin_with) for it in lines):
+                self.give_up(10 if is_there and not piece else 0)
         self.port = int(found[1])
         return self
 
-    def give_up(self, has_ended):
+    def give_up(self, seconds):
+        """Ends it, unless it ends by itself within some seconds."""
         with contextlib.suppress(subprocess.TimeoutExpired):
-            self.child.wait(10 if has_ended else 0)
+            self.child.wait(seconds)
         self.stop()
         raise Broken("%s didn't start: %s" % (os.path.basename(self.child.args[0]), (
             self.errors().strip() or "it printed %r" % self.output)))

@@ -10,7 +10,6 @@ from lib.server import Child, Tokend
 from lib.waiting import free_port
 
 OUT = os.path.join(TOP, "examples/scale-out")
-CLIENT = b"kind=public&scope=read&redirects=https://a.test/"
 
 
 class Site(Child, Tokend):
@@ -52,8 +51,7 @@ class Site(Child, Tokend):
     def add(self, count=1):
         """Makes as many facts."""
         for _ in range(count):
-            status, said = self.ask("/admin/client", CLIENT)
-            assert status == 201, said
+            self.add_client()
 
     def write(self, number, data, folder="old"):
         """Adds to the log of a number."""

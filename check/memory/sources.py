@@ -1,6 +1,6 @@
 """sources: `tokend facts`, with and without --check, whose allocations fail.
 
-What the program must write with enough memory comes from a reader in Python, listing/reading.py.
+What the program must write with enough memory comes from a reader in Python, lib/reading.py.
 A program that ran out of memory has printed the lines of the first bundles and vectors, each whole,
 or of a check nothing.
 """

@@ -10,7 +10,7 @@ import time
 import unittest
 import urllib.request
 
-from lib import TOP
+from lib import TOP, Broken
 from lib.cases import Case
 from lib.waiting import free_port, until
 
@@ -83,7 +83,7 @@ class Collected(Case):
         one.stop()
         one.begin(program=self.small(), script="../starter/tokend-start")
         self.assertTrue(until(one.is_up), one.said())
-        with self.assertRaises((AssertionError, OSError, http.client.HTTPException)):
+        with self.assertRaises((Broken, OSError, http.client.HTTPException)):
             one.add(100)
         found = self.collect(one)
         self.assertEqual((found["up"], found["sealed"]), (0, 1))

@@ -14,7 +14,6 @@ from lib.unit import Unit
 from lib.waiting import free_port
 
 UNITS = "lib/systemd/system"
-CLIENT = "kind=public&scope=read&redirects=https://app.example/cb"
 
 
 @need_tools
@@ -73,11 +72,6 @@ class Installed(unittest.TestCase):
             self.fail("not up: %s%s" % (said, child.stdout.read()))
         return child
 
-    def add_client(self, port):
-        status, said = Tokend(port).ask("/admin/client", CLIENT)
-        self.assertEqual(status, 201, said)
-        return re.search(rb'"(c[0-9-]+)"', said)[1].decode()
-
     def has_client(self, port, client):
         return Tokend(port).ask("/admin/client?client_id=" + client)[0] == 200
 
@@ -104,14 +98,14 @@ class Installed(unittest.TestCase):
         self.install()
         port = self.configure()
         child = self.begin()
-        self.assertEqual(self.add_client(port), "c1-1")
+        self.assertEqual(Tokend(port).add_client(), "c1-1")
         log = self.path("var/lib/tokend/one/log/00001.otb")
         self.assertEqual(stat.S_IMODE(os.stat(log).st_mode), 0o600)
         child.kill()
         child.wait()
         self.begin()
         self.assertTrue(self.has_client(port, "c1-1"))
-        self.assertEqual(self.add_client(port), "c2-1")
+        self.assertEqual(Tokend(port).add_client(), "c2-1")
 
     def test_each_unit_of_a_site_has_the_one_user(self):
         """Also tokend-metrics@, which reads the site's folder. The clock's is of no site."""
@@ -139,7 +133,7 @@ class Installed(unittest.TestCase):
         one = self.configure("one", 1, one, "http://127.0.0.1:%d" % two)
         self.begin("two")
         self.begin()
-        client = self.add_client(one)
+        client = Tokend(one).add_client()
         status, said = self.unit("tokend-carry").run()
         self.assertEqual(status, 0, said)
         self.assertTrue(self.has_client(two, client))
@@ -158,7 +152,7 @@ class Installed(unittest.TestCase):
         port = self.configure()
         before = self.read("etc/tokend/one.conf")
         child = self.begin()
-        client = self.add_client(port)
+        client = Tokend(port).add_client()
         said = self.install("0.1.1")
         self.assertIn("go on with the program of version 0.1.0", said)
         self.assertNotIn("go on with the program", self.install("0.1.1"))
@@ -201,7 +195,7 @@ class Installed(unittest.TestCase):
         self.install()
         port = self.configure()
         child = self.begin()
-        client = self.add_client(port)
+        client = Tokend(port).add_client()
         child.kill()
         child.wait()
         self.dpkg("--purge", "tokend")
@@ -209,7 +203,7 @@ class Installed(unittest.TestCase):
         self.configure(port=port)
         self.begin()
         self.assertTrue(self.has_client(port, client))
-        self.assertEqual(self.add_client(port), "c2-1")
+        self.assertEqual(Tokend(port).add_client(), "c2-1")
 
     def test_units_are_those_of_the_example(self):
         """Each line of the hardening is in the package's unit."""

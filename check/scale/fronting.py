@@ -1,13 +1,12 @@
 """fronting: sites behind HAProxy, as examples/scale-out has it, without spread."""
-import contextlib
-import http.client
 import re
 import threading
 import unittest
 
-from lib.asking import ask_over, basic
+from lib.asking import basic
 from lib.cases import Case
 from lib.fronts import FIRST, HAPROXY, Front, copy_maps
+from lib.server import Tokend
 from lib.waiting import until
 
 ELSE = "AQIAAQAAAAAAAAABAAAAAAAAAAAAAAAAAAAAAAAAAAAAAAAA"  # a token of region 1, never made
@@ -18,10 +17,8 @@ class AskedFront(Front):
 
     def ask(self, method, path, body=None, is_inner=False, **fields):
         """Status, `Location` and body of a reply. A mapping is sent as a form."""
-        link = http.client.HTTPConnection("127.0.0.1", self.inner if is_inner else self.port,
-                                          timeout=30)
-        with contextlib.closing(link):
-            return ask_over(link, method, path, body, **fields)
+        it = Tokend(self.inner if is_inner else self.port)
+        return it.ask_as(method, path, body, **fields)
 
     def by(self):
         """Which backend and site replied to each request, by HAProxy's log."""

@@ -4,7 +4,8 @@ import time
 
 from families import LOGINS, OldLogins, marks_of
 from lib import TOP
-from room import CLIENT, Child, wanted
+from lib.asking import CLIENT
+from room import Child, wanted
 
 DAY = "86400"
 CARRY = os.path.join(TOP, "examples", "carry", "carry")

@@ -6,14 +6,13 @@ import subprocess
 import tempfile
 
 from lib import TOP, Broken
-from lib.facts import DOT
+from lib.facts import DOT, read_dot, retirement
 from lib.server import Process, Tokend
 from lib.waiting import PATIENCE, free_port
 
 START = os.environ.get("STARTER") or os.path.join(TOP, "starter", "tokend-start")
 BACKUP = os.environ.get("BACKUP") or os.path.join(TOP, "examples", "two-regions", "backup")
 COMPACT = os.environ.get("COMPACT") or os.path.join(TOP, "examples", "two-regions", "compact")
-CLIENT = "kind=public&scope=read&redirects=https://app.example/cb"
 
 
 def wanted(it, what, said=None):
@@ -23,8 +22,7 @@ def wanted(it, what, said=None):
 
 def retirements(region, first, last):
     """Facts of a region number, in the order of their serials."""
-    return [DOT.pack(region, serial) + b"\2" + DOT.pack(region, 1)
-            for serial in range(first, last + 1)]
+    return [retirement((region, it), (region, 1)) for it in range(first, last + 1)]
 
 
 def vector(**entries):
@@ -36,6 +34,7 @@ def vector(**entries):
 class Child(Process, Tokend):
     """A process of this case, with what it prints in files."""
 
+    begin_with = b""
     first_lines = re.compile(rb"(?s:.*\n)?listening 127\.0\.0\.1:(\d+)\n(?s:.*)")
 
     def __init__(self, room, words, environ=(), folder=None):
@@ -56,10 +55,7 @@ class Child(Process, Tokend):
 
     def add_client(self):
         """Has the server make a fact: the region number and the serial of it."""
-        status, said = self.ask("/admin/client", CLIENT)
-        wanted(status == 201, "no client was added", said)
-        region, serial = re.search(rb'"c(\d+)-(\d+)"', said).groups()
-        return int(region), int(serial)
+        return read_dot(super().add_client())
 
     def push(self, items, horizon=None):
         status, said = super().push(items, horizon)
