@@ -75,7 +75,7 @@ class Asked:
     def ask(self, path, body=None):
         """Status and body of the reply to a GET, or to a POST if there is a body."""
         with contextlib.closing(self.link()) as link:
-            link.request("POST" if body else "GET", path, body)
+            link.request("POST" if body else "GET", path, body or None)
             reply = link.getresponse()
             return reply.status, reply.read()
 

@@ -70,7 +70,7 @@ class Tokend(Asked):
 
 
 class Child:
-    """A process, which is `child`."""
+    """What runs a process, its `child`."""
 
     child = None
 
