@@ -18,9 +18,12 @@ def folders():
 
 
 def compare_paths(name):
+    """A path is there; a check is named by its command, but rows and measure by their folders."""
     for path in re.findall(r"\bcheck/[\w./]*\w", text_of(name)):
         if "NAME" not in path and not os.path.exists(os.path.join(TOP, path)):
             differ(name, "there is no %s" % path)
+        if path[6:] in set(folders()) - {"rows", "measure"}:
+            differ(name, "%s is a folder, and %s/run its command" % (path, path))
 
 
 def compare():
