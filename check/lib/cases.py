@@ -21,9 +21,9 @@ class Case(unittest.TestCase):
         self.addCleanup(self.stack.close)
         self.folder = self.stack.enter_context(tempfile.TemporaryDirectory())
 
-    def tokend(self, region, *items):
-        """A server that holds these items."""
-        server = self.stack.enter_context(Server(command.GIVEN.program, region=region))
+    def tokend(self, region, *items, options=()):
+        """A server with these options that holds these items."""
+        server = self.stack.enter_context(Server(command.GIVEN.program, *options, region=region))
         for at in range(0, len(items), FULL):
             self.assertEqual(server.push(items[at:at + FULL])[0], 200)
         return server
