@@ -17,7 +17,8 @@ PHRASES = (
     (r"\b1 to (\d+) (?:visible bytes|bytes of visible)", "subject, bytes"),
     (r"\b(\d+) to \d+ unreserved", "challenge and verifier, least bytes"),
     (r"\b\d+ to (\d+) unreserved", "challenge and verifier, bytes"),
-    (r"\b1 to (\d+) absolute URIs", "redirection URIs of a client"))
+    (r"\b1 to (\d+) absolute URIs", "redirection URIs of a client"),
+    (r"\bwhole (\d+) seconds after", "seconds of a request"))
 
 
 def value(path, name):
@@ -59,15 +60,14 @@ def documents():
 
 
 def compare_phrases(greatest):
-    limits = (greatest["milliseconds of a connection"], greatest["milliseconds it may last longer"])
+    millis = greatest["milliseconds of a request, and of its reply"]
+    greatest = greatest | {"seconds of a request": millis / 1000}
     for name in documents():
         text = text_of(name)
         for phrase, what in PHRASES:
             for n in re.findall(phrase, text):
                 if int(n) != greatest[what]:
                     differ(name, "%s isn't that of %s in %s" % (n, what, FORMATS))
-        if "five and a half seconds" in text and sum(limits) != 5500:
-            differ(name, "a connection has %d and %d milliseconds" % limits)
 
 
 def compare():

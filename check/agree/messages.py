@@ -6,7 +6,7 @@ import re
 
 from texts import OPERATING, PAGE, coded, rows, same, text_of
 
-FAULT, SERVE = "crates/tokend/src/fault.rt", "crates/tokend/src/serve.rt"
+FAULT, SERVER = "crates/tokend/src/fault.rt", "crates/tokend/src/server.rt"
 LISTEN, FACTS = "crates/tokend/src/listen.rt", "crates/tokend/src/facts.rt"
 CHECK = "crates/tokend/src/check.rt"
 START_PAGE = "docs/tokend-start.1"
@@ -23,7 +23,7 @@ def statuses_of_sources(fault):
 
 
 def of_sources():
-    fault, serve, listen = text_of(FAULT), text_of(SERVE), text_of(LISTEN)
+    fault, server, listen = text_of(FAULT), text_of(SERVER), text_of(LISTEN)
     statuses = statuses_of_sources(fault)
     errors = {}
     for name, line in re.findall(LINE, fault):
@@ -36,7 +36,7 @@ def of_sources():
         errors[place + "N of FILE"] = bad
     errors[re.search(r'b"(tokend: dropped )"', text_of(FACTS))[1] + "N bytes"] = None
     same(FAULT, "faults without a line of their own", {"Words": 2, "Output": 1}, statuses)
-    for name in re.findall(r'EdgeFault::\w+ => say\(faults, &\[b"([^"\\]*)\\n"\]\)', serve):
+    for name in re.findall(r'EdgeFault::\w+ => say\(faults, &\[b"([^"\\]*)\\n"\]\)', server):
         errors[name] = None
     output = {line_of(listen, name) for name in ("dropped_bytes", "pruned_facts", "port")}
     return output | {line_of(text_of(CHECK), "count")}, errors

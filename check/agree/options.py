@@ -11,6 +11,7 @@ from texts import OPERATING, PAGE, differ, rows, same, text_of
 OPTION = r"^ +(?:-\w, )?--([\w-]+)(?: <(\w+)>)?((?:.*\n(?! *(?:-\w, )?--))*.*)"
 OF_PAGE = r"^\.TP\n\.BI? --([\w-]+)(?: +\w+)?\n((?:(?!\.TP|\.S[SH]).*\n?)*)"
 FLAG = None, "off"  # an option without a value
+CHOICES = ("ahead",)  # options whose value is one of some words
 SPELLINGS = {"no log": "none", "without end": "none"}
 
 
@@ -50,7 +51,8 @@ def of_program(program, command):
         limits = range_in(told)
         default = re.search(r"\[default: ([^\]]*)\]", told)
         said = value_said("[required]" in told, default, limits)
-        same(where, "--%s's value" % name, "N" if limits else "FILE", value)
+        named = "N" if limits else "WORD" if name in CHOICES else "FILE"
+        same(where, "--%s's value" % name, named, value)
         options[name] = (limits, said)
     if not options:
         differ(where, "has no options")

@@ -1,6 +1,7 @@
 """standing: attacks that work today. docs/SECURITY.md lists each as not stopped.
 
 A test that fails here is good news: then the line there is wrong, and both are to be mended.
+Refused has the attacks that an option stops: they are tried with the option.
 """
 import base64
 import hashlib
@@ -112,3 +113,28 @@ class ByPeers(Case):
         one, two = self.tokend(1, client(3, 1, b"read")), self.tokend(2, client(3, 1, b"write"))
         self.assertEqual(self.carry(one.url, two.url)[0], 0)
         self.assertNotEqual(one.held(), two.held())
+
+
+class Refused(Case):
+    """By whoever may push, at servers with --ahead refused."""
+
+    def served(self, region, *items):
+        return self.tokend(region, *items, options=("--ahead", "refused"))
+
+    def test_a_horizon_ahead_changes_nothing(self):
+        it = self.served(1, *clients(3, 1))
+        before = it.vector()
+        self.assertEqual(it.push([mark(9, 1)], GREATEST), (409, b'{"error":"horizon_ahead"}'))
+        self.assertEqual(it.vector(), before)
+        self.assertEqual(it.ask("/admin/client?client_id=c3-1")[0], 200)
+
+    def test_a_stopped_region_stops_no_other(self):
+        one, two = self.tokend(1), self.served(2)
+        self.assertEqual(one.push([mark(9, 1)], GREATEST)[0], 200)
+        self.assertEqual(one.push([client(3, 1)])[0], 200)
+        status, output, errors = self.carry(two.url, one.url)
+        self.assertEqual(status, 1)
+        self.assertIn("takes no marks yet: 409 horizon_ahead", errors)
+        self.assertIn("1 facts in 1 pages, 1 new, 1 waiting, 1 marks", output)
+        self.assertEqual(two.held(), [client(3, 1)])
+        self.assertEqual(two.ask("/admin/client?client_id=c3-1")[0], 200)

@@ -61,6 +61,32 @@ class Servers(Case):
         self.assertEqual(one.vector(), two.vector())
         self.assertIn("0 facts in 0 pages", self.carry(two.url, one.url)[1])
 
+    def test_marks_ahead_wait_and_their_page_is_pushed_once(self):
+        horizon = int(time.time()) + 3
+        one = self.tokend(1, *clients(3, *range(1, 101)))
+        self.assertEqual(one.push([mark(3, 200), mark(3, 201)], horizon), (200, TOOK % 2))
+        two = self.tokend(2, options=("--ahead", "refused"))
+        status, output, errors = self.carry(two.url, one.url)
+        self.assertEqual(status, 1)
+        self.assertEqual(errors, "carry: %s takes no marks yet: 409 horizon_ahead\n" % two.url)
+        self.assertIn("100 facts in 1 pages, 100 new, 2 waiting, 2 marks", output)
+        self.assertEqual(two.held(), clients(3, *range(1, 101)))
+        time.sleep(max(0, horizon + 0.1 - time.time()))
+        status, output, errors = self.carry(two.url, one.url)
+        self.assertEqual((status, errors), (0, ""))
+        self.assertIn("0 facts in 1 pages, 2 new, 2 marks", output)
+        self.assertEqual(two.page().horizon, horizon)
+
+    def test_a_refused_fact_beside_marks_ahead_holds_no_other_back(self):
+        one = self.tokend(1, *clients(3, 1, 2, 3))
+        self.assertEqual(one.push([mark(3, 9)], int(time.time()) + 3600), (200, TOOK % 1))
+        two = self.tokend(2, client(3, 2, b"write"), options=("--ahead", "refused"))
+        status, output, errors = self.carry(two.url, one.url)
+        self.assertEqual(status, 3)
+        self.assertIn("carry: %s refuses 3:2: 409 conflict\n" % two.url, errors)
+        self.assertIn("3 facts in 1 pages, 2 new, 1 refused, 1 waiting, 1 marks", output)
+        self.assertEqual(two.held(), [client(3, 1), client(3, 2, b"write"), client(3, 3)])
+
     def test_a_refused_fact_holds_no_other_back(self):
         one = self.tokend(1, *clients(3, *range(1, 101)))
         two = self.tokend(2, client(3, 70, b"write"))

@@ -30,6 +30,29 @@ def body_of(reply):
     return reply.partition(b"\r\n\r\n")[2]
 
 
+def status_of(said):
+    """The status of a whole reply; None if it isn't whole."""
+    head, _, body = said.partition(b"\r\n\r\n")
+    length = re.search(rb"\r\nContent-Length: (\d+)", head)
+    return int(said[9:12]) if length and len(body) == int(length[1]) else None
+
+
+def connect(port, sent=b"", is_narrow=False, patience=60):
+    """A connection that has sent this.
+
+    A narrow one has room for little: of a long reply that its client doesn't read, the system takes
+    some 50 KB, and not all of it as it does otherwise.
+    """
+    peer = socket.socket()
+    peer.settimeout(patience)
+    if is_narrow:
+        peer.setsockopt(socket.SOL_SOCKET, socket.SO_RCVBUF, 4096)
+        peer.setsockopt(socket.IPPROTO_TCP, socket.TCP_MAXSEG, 536)
+    peer.connect(("127.0.0.1", port))
+    peer.sendall(sent)
+    return peer
+
+
 def exchange(port, sent, patience=60):
     """What comes back of a connection that sends this and no more, until it ends or fails."""
     said = b""

@@ -44,6 +44,14 @@ class Tokend(Asked):
             raise Broken("no client was added: %d, %r" % (status, said))
         return json.loads(said)["client_id"]
 
+    def fill(self):
+        """Adds the clients of a page as long as pages get."""
+        uris = " ".join("https://a.example/%d/" % n + "x" * 490 for n in range(8))
+        scope = " ".join("%d" % n + "s" * 30 for n in range(31))
+        for _ in range(FULL):
+            self.form("/admin/client", {"kind": "public", "scope": scope, "redirects": uris},
+                      status=201)
+
     def vector(self):
         return read_vector(self.ask("/sync/vector")[1])
 
@@ -118,6 +126,14 @@ class Process(Child, Asked):
 
     def errors(self):
         return self.content(self.errors_name).decode(errors="replace")
+
+    def open_connections(self):
+        """How many connections the child has open, which has one socket more: it listens."""
+        folder, count = "/proc/%d/fd" % self.child.pid, -1
+        for name in os.listdir(folder):
+            with contextlib.suppress(FileNotFoundError):  # it was closed meanwhile
+                count += os.readlink(os.path.join(folder, name)).startswith("socket:")
+        return count
 
     def listening(self, patience=PATIENCE):
         """Waits until it listens. What doesn't is ended."""

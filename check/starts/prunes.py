@@ -5,7 +5,8 @@ import time
 from families import LOGINS, OldLogins, marks_of
 from lib import TOP
 from lib.asking import CLIENT
-from room import Child, wanted
+from lib.facts import bundle, mark
+from room import Child, retirements, wanted
 
 DAY = "86400"
 CARRY = os.path.join(TOP, "examples", "carry", "carry")
@@ -72,4 +73,25 @@ def peers_differ_and_agree(room):
            "facts go to a peer that has skipped them", again.output)
 
 
-CASES = [start_prunes, margin_is_refused, horizon_passes, peers_differ_and_agree]
+def peer_ahead_stops_no_start(room):
+    """Of a peer whose horizon is ahead a start takes the facts alone, if it isn't to take all."""
+    horizon = int(time.time()) + 3600
+    marks = bundle([mark(51, 5)], horizon)
+    peer = room.serve(50)
+    peer.push(retirements(51, 1, 2))
+    said = peer.ask("/sync/push", marks)
+    wanted(said == (200, b'{"took":1}'), "the peer took no mark", said)
+    run = room.start(peers=[peer.url]).listening()
+    wanted(run.held_to() == {51: 2}, "the facts are not there", run.held_to())
+    wanted(run.add_client() == (1, 1), "it makes no fact")
+    wanted("started without its marks" in run.errors(), "nothing is said of it", run.errors())
+    said = run.ask("/sync/push", marks)
+    wanted(said == (409, b'{"error":"horizon_ahead"}'), "a horizon ahead was taken", said)
+    run.stop()
+    run = room.start(site="other", peers=[peer.url], TOKEND_OPTIONS="--ahead taken").listening()
+    said = run.ask("/admin/client", CLIENT)
+    wanted(said == (503, b'{"error":"temporarily_unavailable"}'), "no marks were taken", said)
+
+
+CASES = [start_prunes, margin_is_refused, horizon_passes, peers_differ_and_agree,
+         peer_ahead_stops_no_start]

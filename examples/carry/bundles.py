@@ -130,6 +130,10 @@ class Bundle:
         items = self.items[begin:end]
         return Bundle(items, self.horizon if _version(items) == MARKS else None)
 
+    def facts_alone(self) -> Bundle:
+        """The bundle of the facts, without the marks and the horizon."""
+        return Bundle(tuple(it for it in self.items if len(it) > MARK))
+
     def halves(self) -> tuple[Bundle, Bundle]:
         middle = len(self.items) // 2
         return self.part(0, middle), self.part(middle, len(self.items))

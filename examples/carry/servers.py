@@ -1,7 +1,8 @@
 """servers: requests to a running server, for its vector, its pages, and pushes of bundles.
 
 Each request may be repeated, so a request that fails is tried again. Lost is raised if no try
-helps, and Refused if the server takes requests, but not this bundle.
+helps, Refused if the server takes requests, but not this bundle, and Ahead if it does not take its
+horizon yet.
 """
 from __future__ import annotations
 
@@ -51,6 +52,10 @@ class Lost(Exception):
 
 class Refused(Exception):
     """A bundle that a server doesn't take: the status, and the error if the reply has one."""
+
+
+class Ahead(Refused):
+    """A bundle whose horizon is later than the server's clock."""
 
 
 class Silent(Exception):
@@ -192,6 +197,8 @@ class Server:
         """How many dots of the bundle the server didn't know."""
         path = "/sync/push"
         reply = self._ask(path, bundle.write())
+        if reply.status == 409 and reply.error == "horizon_ahead":
+            raise Ahead("409 horizon_ahead")
         if reply.status == 413 or (reply.status in (400, 409) and reply.error):
             raise Refused(("%d %s" % (reply.status, reply.error)).rstrip())
         took = re.fullmatch(rb'\{"took":(\d{1,3})\}\s*', reply.body)
@@ -317,20 +324,29 @@ def pages(source: Server, vector: Vector) -> Iterator[Bundle]:
 
 @dataclass
 class Pushed:
-    """What came of the items that were pushed: how many dots were new, how many items refused."""
+    """What came of the items that were pushed."""
 
-    new: int = 0
-    refused: int = 0
+    new: int = 0  # dots that the server didn't know
+    refused: int = 0  # items
+    waiting: int = 0  # marks whose horizon is later than the server's clock
 
 
 def push_all(target: Server, bundle: Bundle, pushed: Pushed,
              complain: Callable[[str], None]) -> None:
     """Pushes a bundle. A refused one is sent again in halves, down to single items.
 
-    So a refused item holds no other back.
+    So a refused item holds no other back. If the bundle's horizon is later than the server's clock,
+    its facts are pushed alone: its marks wait for a later run.
     """
     try:
         pushed.new += target.push(bundle)
+        return
+    except Ahead as refusal:
+        if not pushed.waiting:
+            complain("%s takes no marks yet: %s" % (target.url, refusal))
+        pushed.waiting += bundle.marks
+        if bundle.facts:
+            push_all(target, bundle.facts_alone(), pushed, complain)
         return
     except Refused as refusal:
         why = str(refusal)

@@ -4,6 +4,8 @@ import struct
 HEADS = {b"OTB1": 6, b"OTB2": 6, b"OTB3": 14}  # bytes before the first item
 ITEM = struct.Struct(">HHQ")  # an item's length and its dot
 DOT = struct.Struct(">HQ")
+HORIZON = struct.Struct(">Q")
+SIGN_OUT = 10  # the kind of a fact that only OTB2 has
 MOST_ITEMS, LEAST_BYTES, MOST_BYTES = 128, 10, 8192
 
 
@@ -90,6 +92,24 @@ def page_dots(page):
     if not found or found[0] != len(page):
         raise NoBundle("a page is no bundle")
     return found[1]
+
+
+def horizon_of(page):
+    """The horizon of a bundle that has marks; of any other bundle 0."""
+    return HORIZON.unpack_from(page, 4)[0] if page[:4] == b"OTB3" else 0
+
+
+def facts_alone(page):
+    """The bundle of the facts of a bundle, without its marks and its horizon."""
+    at, facts = HEADS[bytes(page[:4])], []
+    while at < len(page):
+        (length,) = struct.unpack_from(">H", page, at)
+        if length > DOT.size:
+            facts.append(page[at:at + 2 + length])
+        at += 2 + length
+    is_later = any(it[2 + DOT.size] == SIGN_OUT for it in facts)
+    head = b"OTB2" if is_later else b"OTB1"
+    return b"".join([head, struct.pack(">H", len(facts)), *facts])
 
 
 def vector_regions(vector):

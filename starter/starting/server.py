@@ -26,11 +26,18 @@ def seed():
         os.close(reader)
 
 
+def said_of_ahead(options):
+    """The value of --ahead in these options; nothing if they don't have it."""
+    found = re.search(r"(?:^| )--ahead[= ](\S*)", " ".join(options))
+    return found[1] if found else ""
+
+
 def words(settings, number, port, load, log, secret, prune):
     pruned = [] if prune is None else ["--prune", str(prune)]
+    ahead = [] if said_of_ahead(settings.options) else ["--ahead", "refused"]
     return [settings.tokend, "serve", "--region", str(number), "--port", str(port),
             "--seed", "/dev/fd/%d" % secret, "--load", load, "--log", log, "--log-taken",
-            *pruned, *settings.options]
+            *pruned, *ahead, *settings.options]
 
 
 def tried(settings, number, load, prune=None):

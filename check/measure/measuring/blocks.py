@@ -81,6 +81,21 @@ def clients(parts):
     return it, text_of(["clients"] + HEAD[1:], rows)
 
 
+CONNECTIONS = {"new": "a new one each", "kept": "kept"}
+
+
+def turns(parts):
+    """A line for each kind of request, log and number of clients, of all servers."""
+    it, rows = part(parts, "turns"), []
+    for what, how, log, many in it.found(r"(.*), (.*), (.*), clients (\d+): requests a second"):
+        name = "%s, %s, %s, clients %s: " % (what, how, log, many)
+        of = [name + "of the rate of " + other for other in ("C server", "Redis")]
+        rows.append([what, log, CONNECTIONS[how], *many_row(it, many, name)]
+                    + [it.number(one) if one in it.rows else "" for one in of])
+    return it, text_of(["request", "log", "connections", "clients"] + HEAD[1:]
+                       + ["of the C server's rate", "of Redis'"], rows)
+
+
 def growth(parts):
     it, rows = part(parts, "growth"), []
     for size in it.numbers("families (.*): memory in KiB"):
@@ -280,12 +295,12 @@ def pruned(parts):
 
 ALL = {
     "speed": speed, "logged": logged, "calls": calls, "profile": profile, "proxied": proxied,
-    "clients": clients, "growth": growth, "generations": generations, "memory": memory,
-    "start": start, "prunes": plain("prunes", ["a prune", ""]), "uses": uses,
+    "clients": clients, "turns": turns, "growth": growth, "generations": generations,
+    "memory": memory, "start": start, "prunes": plain("prunes", ["a prune", ""]), "uses": uses,
     "signouts": signouts, "push": push,
     "carried": plain("carried", ["`carry` to an empty server", ""]), "revoked": revoked,
     "fanned": fanned, "scaled": scaled, "spread": spread, "cells": cells, "peers": peers,
     "beside": beside, "ledger": ledger, "pruned": pruned,
-    "idle": plain("idle", ["behind a client that is", "the next one waited"]),
+    "idle": plain("idle", ["beside", "the longest that another request took"]),
     "killed": plain("killed", ["SIGKILL under load", ""]),
     "day": paper.day, "breaks": paper.breaks, "left": paper.left}

@@ -1,4 +1,4 @@
-"""driver: builds load.c, many.c and floor.c with the C compiler, and drives a server with them."""
+"""driver: builds the C programs beside it with the C compiler, and drives a server with them."""
 import contextlib
 import json
 import os
@@ -12,6 +12,7 @@ from lib.asking import REDIRECT_TEXT
 from lib.server import Process
 
 HERE = os.path.dirname(os.path.abspath(__file__))
+PROGRAMS = "load", "many", "floor", "crowd"
 WARM = 20  # requests of load.c that aren't counted, at most
 
 
@@ -24,16 +25,24 @@ class Driver:
         self.folder = tempfile.TemporaryDirectory()
 
     def __enter__(self):
-        for name in ("load", "many", "floor"):
-            subprocess.run(["cc", "-O2", "-pthread", "-o", self.path(name),
-                            os.path.join(HERE, name + ".c")], check=True)
+        for name in PROGRAMS:
+            self.build(name, name + ".c", "-pthread")
+        self.build("disk.so", "disk.c", "-shared", "-fPIC")
         return self
 
     def __exit__(self, *_):
         self.folder.cleanup()
 
+    def build(self, name, source, *options):
+        subprocess.run(["cc", "-O2", *options, "-o", self.path(name), os.path.join(HERE, source)],
+                       check=True)
+
     def path(self, name):
         return os.path.join(self.folder.name, name)
+
+    def disk(self, microseconds):
+        """The beginning of a command whose fdatasync takes so long."""
+        return ["env", "LD_PRELOAD=" + self.path("disk.so"), "DISK_MICROSECONDS=%d" % microseconds]
 
     def load(self, server, count, *words):
         """What a run of load prints, with the requests a second and the processor time of each."""
@@ -47,10 +56,15 @@ class Driver:
         count = max(len(requests) - WARM, 2 * len(requests) // 3)
         return self.load(server, count, "push", self.path("requests"))
 
-    def many(self, server, port, count, clients, how, tokens):
+    def many(self, server, port, count, clients, how, tokens, kind="introspect"):
         """The same of many, whose clients connect to a port: the server's, or that of a proxy."""
-        return self.run(server, "many", port, count, clients, how, server.resource,
+        return self.run(server, "many", port, count, clients, how, kind, server.client,
+                        server.resource, server.authorize, urllib.parse.quote_plus(REDIRECT_TEXT),
                         self.list_tokens(tokens))
+
+    def many_gets(self, server, count, clients, how):
+        """The same of a C server, which needs no tokens."""
+        return self.run(server, "many", server.port, count, clients, how, "get")
 
     def run(self, server, name, *words):
         before = server.used()
@@ -75,12 +89,19 @@ class Driver:
             file.writelines(it + "\n" for it in tokens)
         return self.path("tokens")
 
-    @contextlib.contextmanager
     def floor(self, how):
         """The C server: `none`, `append` or `sync` is what it does with a log."""
+        return self.serving(["floor", how], how != "none")
+
+    def crowd(self, how, has_log, before=()):
+        """The C server of many connections, kept or new. A log is synced once a turn."""
+        return self.serving(["crowd", how, "sync" if has_log else "none"], has_log, before)
+
+    @contextlib.contextmanager
+    def serving(self, words, has_log, before=()):
         with tempfile.TemporaryDirectory() as folder:
-            log = [] if how == "none" else [os.path.join(folder, "log")]
-            server = Process([self.path("floor"), how, *log], folder)
+            log = [os.path.join(folder, "log")] if has_log else []
+            server = Process([*before, self.path(words[0]), *words[1:], *log], folder)
             try:
                 yield server.listening()
             finally:

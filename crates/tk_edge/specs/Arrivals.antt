@@ -4,25 +4,27 @@
 use Rattle.std.specs.Prelude.{◌≡◌, ◌⊎◌, ℕ, Bool, List, Option, Result}
 use Rattle.std.specs.declared.alloc.AllocError.{AllocError}
 use Rattle.tk_region.specs.RegionFields.{RegionFields}
-use Rattle.tk_region.specs.declared.take.TakeError.{TakeError}
 use Rattle.tk_edge.specs.Answers.{AnswersBy, answer_by, fact_by}
-use Rattle.tk_edge.specs.Exchanges.{Exchanges, TakesBundle}
+use Rattle.tk_edge.specs.Exchanges.{Exchanges, Pushes}
 use Rattle.tk_edge.specs.Heard.{Arrives}
 use Rattle.tk_edge.specs.Told.{AnswerFields}
+use Rattle.tk_edge.specs.declared.ahead.PushError.{PushError}
 use Rattle.tk_edge.specs.declared.exchange.Exchange.TheVariants.{Push}
 use Rattle.tk_edge.specs.declared.hear.Arrival.{Arrival}
 use Rattle.tk_edge.specs.declared.hear.Arrival.TheVariants.{Exchange}
 
--- how replying to an arrival may end, at the moment and with the random words
-abbrev pub Answers : RegionFields → ℕ → List ℕ → Arrival → Result AnswerFields AllocError
+-- how replying to an arrival may end, at the moment and with the random words, by whether pushed
+-- bundles that are ahead are refused
+abbrev pub Answers : Bool → RegionFields → ℕ → List ℕ → Arrival → Result AnswerFields AllocError
     → RegionFields → Type 0
-Answers old now words (Exchange exchange) result new = Exchanges old exchange result new
-Answers old now words came result new =
+Answers refuses old now words (Exchange exchange) result new =
+    Exchanges refuses now old exchange result new
+Answers refuses old now words came result new =
     AnswersBy old (answer_by old now words came) (fact_by old now words came) result new
 
 -- the region is unchanged, or a bundle was pushed and some of its facts, from the first on, are in
-abbrev pub IsShort : Bool → Option (List ℕ) → RegionFields → RegionFields → Type 0
-IsShort sync known old new =
+abbrev pub IsShort : Bool → Bool → ℕ → Option (List ℕ) → RegionFields → RegionFields → Type 0
+IsShort sync refuses now known old new =
     (new ≡ old)
     ⊎ ((sent : List ℕ) × Arrives sync known (Exchange (Push sent))
-    × (taken : Result ℕ TakeError) × TakesBundle old sent taken new)
+    × (taken : Result ℕ PushError) × Pushes refuses now old sent taken new)

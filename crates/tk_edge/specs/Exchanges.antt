@@ -3,11 +3,12 @@
 --   page_reply      the reply to a pull: the bundle of a page
 --   unread_code     the name of the error for bytes that can't be read
 --   refusal_code    the name of the error for a bundle that isn't taken in
---   TakesBundle     a pushed bundle is taken in, refused, or cut off by lack of memory
+--   TakesBundle     the region takes a bundle in, or refuses it, or is cut off by lack of memory
+--   Pushes          a pushed bundle is refused because it is ahead, or goes to the region
 --   IsTakenReply    the reply to a push, by its result
 --   TakesAndTells   how a push may end
 --   Exchanges       how each of the three requests may end
-use Rattle.std.specs.Prelude.{◌≡◌, ℕ, List, Option, None, Some, Result, Ok, Err}
+use Rattle.std.specs.Prelude.{◌≡◌, ℕ, Bool, true, false, List, Option, None, Some, Result, Ok, Err}
 use Rattle.std.specs.declared.alloc.AllocError.{AllocError}
 use Rattle.tk_format.specs.Format.{whole}
 use Rattle.tk_format.specs.declared.error.ReadError.{ReadError}
@@ -31,9 +32,12 @@ use Rattle.tk_region.specs.Taking.{TakesIn}
 use Rattle.tk_region.specs.declared.take.TakeError.{TakeError}
 use Rattle.tk_region.specs.declared.take.TakeError.TheVariants.{Malformed, OwnNumber, Conflict}
 use Rattle.tk_region.specs.declared.take.TakeError.TheVariants.{Memory}
+use Rattle.tk_edge.specs.Ahead.{is_refused}
 use Rattle.tk_edge.specs.Answers.{rendered}
 use Rattle.tk_edge.specs.Pulls.{wanted}
 use Rattle.tk_edge.specs.Told.{AnswerFields}
+use Rattle.tk_edge.specs.declared.ahead.PushError.{PushError}
+use Rattle.tk_edge.specs.declared.ahead.PushError.TheVariants.{HorizonAhead, Take}
 use Rattle.tk_edge.specs.declared.exchange.Exchange.{Exchange}
 use Rattle.tk_edge.specs.declared.exchange.Exchange.TheVariants.{Vector, Pull, Push}
 use Rattle.tk_edge.specs.declared.pull.Wanted.{Wanted}
@@ -58,17 +62,34 @@ pub record TakesBundle (old : RegionFields) (bytes : List ℕ) (taken : Result �
   pub takes : TakesIn old.facts (next_in (place_in old)) (whole bundle bytes) taken
       new.facts
 
+-- the outcome of a push, by whether the bundle is refused because it is ahead: the region is then
+-- unchanged; otherwise the region takes the bundle in or refuses it
+abbrev pub PushesBy : Bool → RegionFields → List ℕ → Result ℕ PushError → RegionFields → Type 0
+PushesBy true old bytes (Err HorizonAhead) new = new ≡ old
+PushesBy true old bytes (Err (Take Memory)) new = new ≡ old
+PushesBy true old bytes taken new = ⊥
+PushesBy false old bytes (Ok n) new = TakesBundle old bytes (Ok n) new
+PushesBy false old bytes (Err (Take error)) new = TakesBundle old bytes (Err error) new
+PushesBy false old bytes (Err HorizonAhead) new = ⊥
+
+-- a pushed bundle is refused, if it is ahead of the moment and such bundles are refused; otherwise
+-- the region takes it in or refuses it
+abbrev pub Pushes : Bool → ℕ → RegionFields → List ℕ → Result ℕ PushError → RegionFields → Type 0
+Pushes refuses now old bytes taken new =
+    PushesBy (is_refused refuses now (whole bundle bytes)) old bytes taken new
+
 -- the name of the error for bytes that can't be read; out of memory has no name and gets no reply
 abbrev pub unread_code : ReadError → Option ErrorCode
 unread_code read.Malformed = Some code.Malformed
 unread_code read.Memory = None
 
 -- the name of the error for a bundle that isn't taken in; out of memory has no name
-abbrev pub refusal_code : TakeError → Option ErrorCode
-refusal_code Malformed = Some code.Malformed
-refusal_code OwnNumber = Some code.OwnNumber
-refusal_code Conflict = Some code.Conflict
-refusal_code Memory = None
+abbrev pub refusal_code : PushError → Option ErrorCode
+refusal_code (Take Malformed) = Some code.Malformed
+refusal_code HorizonAhead = Some code.HorizonAhead
+refusal_code (Take OwnNumber) = Some code.OwnNumber
+refusal_code (Take Conflict) = Some code.Conflict
+refusal_code (Take Memory) = None
 
 -- the reply is the error of this name; without a name no reply is right
 abbrev pub IsErrorReply : Option ErrorCode → ReplyFields → Type 0
@@ -76,26 +97,28 @@ IsErrorReply (Some name) reply = reply ≡ error_reply name
 IsErrorReply None reply = ⊥
 
 -- the reply to a push: how many facts were new, or why the bundle was refused
-abbrev pub IsTakenReply : Result ℕ TakeError → ReplyFields → Type 0
+abbrev pub IsTakenReply : Result ℕ PushError → ReplyFields → Type 0
 IsTakenReply (Ok n) reply = reply ≡ json_reply status.Ok (taken_body n)
 IsTakenReply (Err error) reply = IsErrorReply (refusal_code error) reply
 
 -- Success: the answer reports what became of the bundle. Out of memory: the bundle may still have
 -- been taken in, in whole or in part.
-abbrev pub TakesAndTells : RegionFields → List ℕ → Result AnswerFields AllocError → RegionFields
-    → Type 0
-TakesAndTells old bytes (Ok answer) new =
-    (taken : Result ℕ TakeError) × TakesBundle old bytes taken new × (reply : ReplyFields)
+abbrev pub TakesAndTells : Bool → ℕ → RegionFields → List ℕ → Result AnswerFields AllocError
+    → RegionFields → Type 0
+TakesAndTells refuses now old bytes (Ok answer) new =
+    (taken : Result ℕ PushError) × Pushes refuses now old bytes taken new × (reply : ReplyFields)
     × IsTakenReply taken reply × (answer ≡ rendered reply None None)
-TakesAndTells old bytes (Err e) new = (taken : Result ℕ TakeError) × TakesBundle old bytes taken new
+TakesAndTells refuses now old bytes (Err e) new =
+    (taken : Result ℕ PushError) × Pushes refuses now old bytes taken new
 
--- how a request of another region may end; only a push changes the region
-abbrev pub Exchanges : RegionFields → Exchange → Result AnswerFields AllocError → RegionFields
-    → Type 0
-Exchanges old Vector (Ok answer) new = TellsVector old.facts.slots answer × (new ≡ old)
-Exchanges old Vector (Err e) new = new ≡ old
-Exchanges old (Pull bytes) (Ok answer) new =
+-- how a request of another region may end, at the moment; only a push changes the region
+abbrev pub Exchanges : Bool → ℕ → RegionFields → Exchange → Result AnswerFields AllocError
+    → RegionFields → Type 0
+Exchanges refuses now old Vector (Ok answer) new =
+    TellsVector old.facts.slots answer × (new ≡ old)
+Exchanges refuses now old Vector (Err e) new = new ≡ old
+Exchanges refuses now old (Pull bytes) (Ok answer) new =
     (answer ≡ rendered (page_reply old.facts (whole wanted bytes)) None None)
     × (new ≡ old)
-Exchanges old (Pull bytes) (Err e) new = new ≡ old
-Exchanges old (Push bytes) result new = TakesAndTells old bytes result new
+Exchanges refuses now old (Pull bytes) (Err e) new = new ≡ old
+Exchanges refuses now old (Push bytes) result new = TakesAndTells refuses now old bytes result new

@@ -16,6 +16,7 @@ use Rattle.tk_edge.specs.declared.tell.Fault.{Fault}
 abbrev pub asked_by : Asked → List ℕ → List ℕ → Asked
 asked_by asked bytes tail = record {
   sync = asked.sync;
+  refuses_ahead = asked.refuses_ahead;
   log_taken = asked.log_taken;
   known = Some (bytes ++ tail);
   now = asked.now;

@@ -11,6 +11,7 @@
 --   Rendering    reply_bytes, the bytes of a reply
 --   Told         IsTold, the record is written and then the reply
 --   Answers      answer_by, the reply to a request; fact_by, the fact made for it
+--   Ahead        is_ahead, a bundle's horizon is later than the moment
 --   Exchanges    Exchanges, the reply to another region
 --   Arrivals     Answers, the reply to what arrived
 --   Pushes       TakesAndLogs, a pushed bundle with its log
@@ -19,6 +20,7 @@
 --   Fronts       IsFront, what the front of a connection's bytes means while more may follow
 --   FrontServed  IsFrontServed, what serving that front does
 --   Laws         HasOneMeaning, the meaning of a stream is unique
+pub mod Ahead
 pub mod Answers
 pub mod Arrivals
 pub mod Bounds

@@ -30,10 +30,11 @@ use Rattle.tk_edge.specs.declared.refusal.Refusal.TheVariants.{Sealed}
 use Rattle.tk_edge.specs.declared.tell.Fault.{Fault}
 use Rattle.tk_edge.specs.declared.tell.Fault.TheVariants.{Read, Write, Log, Memory}
 
--- a connection: whether regions exchange facts, whether taken bundles are logged, its bytes, if
--- known, the moment, and the random words
+-- a connection: whether regions exchange facts, whether pushed bundles that are ahead are refused,
+-- whether taken bundles are logged, its bytes, if known, the moment, and the random words
 pub record Asked : Type 0 where
   pub sync : Bool
+  pub refuses_ahead : Bool
   pub log_taken : Bool
   pub known : Option (List ℕ)
   pub now : ℕ
@@ -56,54 +57,55 @@ IsUntouched region log still writer sealed =
 
 -- the arrival is answered at the moment and with the random words: its facts are added, and the
 -- record, which can be read, and the reply are written
-abbrev pub AnswersAndTells : ℕ → List ℕ → Arrival → Step → Change → Type 0 → Change → Bool
+abbrev pub AnswersAndTells : Bool → ℕ → List ℕ → Arrival → Step → Change → Type 0 → Change → Bool
     → Result StatusCode Fault → Type 0
-AnswersAndTells now words came region log still writer sealed result =
-    (answer : AnswerFields) × Answers region.before now words came (Ok answer) region.after
+AnswersAndTells refuses now words came region log still writer sealed result =
+    (answer : AnswerFields) × Answers refuses region.before now words came (Ok answer) region.after
     × IsTold answer log writer sealed result × UsesLog answer still result
     × IfSome (fact_by region.before now words came) IsRecorded
 
 -- how serving an arrival may end, unless it is a bundle to log; if memory runs out, nothing is
 -- written
-abbrev pub Replies : ℕ → List ℕ → Arrival → Step → Change → Type 0 → Change → Bool
+abbrev pub Replies : Bool → ℕ → List ℕ → Arrival → Step → Change → Type 0 → Change → Bool
     → Result StatusCode Fault → Type 0
-Replies now words came region log still writer sealed (Ok status) =
-    AnswersAndTells now words came region log still writer sealed (Ok status)
-Replies now words came region log still writer sealed (Err Read) = ⊥
-Replies now words came region log still writer sealed (Err Write) =
-    AnswersAndTells now words came region log still writer sealed (Err Write)
-Replies now words came region log still writer sealed (Err Log) =
-    AnswersAndTells now words came region log still writer sealed (Err Log)
-Replies now words came region log still writer sealed (Err Memory) =
-    (e : AllocError) × Answers region.before now words came (Err e) region.after
+Replies refuses now words came region log still writer sealed (Ok status) =
+    AnswersAndTells refuses now words came region log still writer sealed (Ok status)
+Replies refuses now words came region log still writer sealed (Err Read) = ⊥
+Replies refuses now words came region log still writer sealed (Err Write) =
+    AnswersAndTells refuses now words came region log still writer sealed (Err Write)
+Replies refuses now words came region log still writer sealed (Err Log) =
+    AnswersAndTells refuses now words came region log still writer sealed (Err Log)
+Replies refuses now words came region log still writer sealed (Err Memory) =
+    (e : AllocError) × Answers refuses region.before now words came (Err e) region.after
     × WritesNothing log still writer sealed
 
 -- how serving an arrival may end, with the pushed bundle if taken bundles are logged
-abbrev pub RepliesTo : Option (List ℕ) → ℕ → List ℕ → Arrival → Step → Change → Type 0 → Change
-    → Bool → Result StatusCode Fault → Type 0
-RepliesTo None now words came region log still writer sealed result =
-    Replies now words came region log still writer sealed result
-RepliesTo (Some bytes) now words came region log still writer sealed result =
-    TakesAndLogs bytes region.before region.after log still writer sealed result
+abbrev pub RepliesTo : Option (List ℕ) → Bool → ℕ → List ℕ → Arrival → Step → Change → Type 0
+    → Change → Bool → Result StatusCode Fault → Type 0
+RepliesTo None refuses now words came region log still writer sealed result =
+    Replies refuses now words came region log still writer sealed result
+RepliesTo (Some bytes) refuses now words came region log still writer sealed result =
+    TakesAndLogs refuses now bytes region.before region.after log still writer sealed result
 
 -- some arrival that the source may send, which isn't silence, is answered and the reply is written
 abbrev pub IsAnswered : Asked → Step → Change → Type 0 → Change → Bool → Result StatusCode Fault
     → Type 0
 IsAnswered asked region log still writer sealed result =
     (came : Arrival) × Arrives asked.sync asked.known came × (came ≢ Silence)
-    × RepliesTo (bundle_to_log asked.log_taken came) asked.now asked.words came region log still
-    writer sealed result
+    × RepliesTo (bundle_to_log asked.log_taken came) asked.refuses_ahead asked.now asked.words came
+    region log still writer sealed result
 
 -- Memory ran out, and nothing is written. If taken bundles are logged, either nothing was changed,
 -- or a bundle was pushed and the log has it if its facts may be new.
 abbrev pub RunsOut : Bool → Asked → Step → Change → Type 0 → Change → Bool → Type 0
 RunsOut false asked region log still writer sealed =
-    IsShort asked.sync asked.known region.before region.after
+    IsShort asked.sync asked.refuses_ahead asked.now asked.known region.before region.after
     × WritesNothing log still writer sealed
 RunsOut true asked region log still writer sealed =
     IsUntouched region log still writer sealed
     ⊎ ((sent : List ℕ) × Arrives asked.sync asked.known (Exchange (Push sent))
-    × TakesAndLogs sent region.before region.after log still writer sealed (Err Memory))
+    × TakesAndLogs asked.refuses_ahead asked.now sent region.before region.after log still writer
+    sealed (Err Memory))
 
 -- what a connection to an edge that isn't sealed does, by its result
 abbrev pub IsServed : Asked → Step → Change → Type 0 → Change → Bool → Result Served Fault → Type 0

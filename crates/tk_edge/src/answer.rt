@@ -48,17 +48,18 @@ use tk_handle::Moment;
 use tk_message::{Reply, Request, Told};
 use tk_region::{Prepared, Region};
 
-// Replies to an arrival. `now` is the current moment, `words` the random words for new handles. If
-// memory runs out, the region is unchanged, except that the first facts of a pushed bundle may be
-// in.
+// Replies to an arrival. `refuses_ahead` is whether pushed bundles that are ahead are refused,
+// `now` is the current moment, and `words` are the random words for new handles. If memory runs
+// out, the region is unchanged, except that the first facts of a pushed bundle may be in.
 pub(crate) fn answer_arrival(
     alloc: Global,
     region: &mut Region,
+    refuses_ahead: bool,
     now: Moment,
     words: &[u64; 6],
     came: &Arrival,
 ) -> Result<Answer, AllocError>
-    ensures answers { Answers region.old now words.now came.now result region.new }
+    ensures answers { Answers refuses_ahead region.old now words.now came.now result region.new }
 
     // The record of the fact, if one was made, can be read.
     ensures recorded { OnOk result
@@ -68,7 +69,9 @@ pub(crate) fn answer_arrival(
         Arrival::Silence => Ok(silent(alloc)),
         Arrival::Refused(why) => refuse(alloc, *why),
         Arrival::Request(request) => answer_request(alloc, region, now, words, request),
-        Arrival::Exchange(exchange) => answer_exchange(alloc, region, exchange),
+        Arrival::Exchange(exchange) => {
+            answer_exchange(alloc, region, refuses_ahead, now, exchange)
+        }
     }
 }
 
@@ -99,8 +102,9 @@ fn answer_request(
     words: &[u64; 6],
     request: &Request,
 ) -> Result<Answer, AllocError>
-    ensures answers { Answers region.old now words.now (Arrival.Request request.now) result
-        region.new }
+    ensures answers { spec.AnswersBy region.old
+        (spec.answer_by region.old now words.now (Arrival.Request request.now))
+        (spec.fact_by region.old now words.now (Arrival.Request request.now)) result region.new }
     ensures recorded { OnOk result (IfSome
         (spec.fact_by region.old now words.now (Arrival.Request request.now)) spec.IsRecorded) }
 {

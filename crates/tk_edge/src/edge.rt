@@ -9,11 +9,13 @@ use tk_region::Region;
 /// A region behind its connections, over which other regions may exchange facts.
 ///
 /// An edge is sealed once its log has failed, because facts that it made later might be lost.
-/// Contracts see the region, whether regions exchange facts, and whether the edge is sealed.
+/// Contracts see the region, whether regions exchange facts, whether pushed bundles that are ahead
+/// are refused, and whether the edge is sealed.
 #[derive(Drop)]
 pub struct Edge {
     region: Region,
     sync: bool,
+    refuses_ahead: bool,
     sealed: bool,
 }
 
@@ -24,7 +26,12 @@ impl Model for Edge {
 
     ghost coded = { coded_edge };
 
-    ghost view = { λ e. record { region = e.region; sync = e.sync; sealed = e.sealed } };
+    ghost view = { λ e. record {
+      region = e.region;
+      sync = e.sync;
+      refuses_ahead = e.refuses_ahead;
+      sealed = e.sealed;
+    } };
 }
 
 /// How a connection ended without a fault.
@@ -68,12 +75,22 @@ impl Edge {
     ///
     /// If `sync` is true, the paths below `/sync/` let other regions ask for the region's vector,
     /// pull pages of what they lack and push bundles. If `sync` is false, these paths are unknown.
-    pub fn new(region: Region, sync: bool) -> Edge
-        ensures { result ≡ record { region = region; sync = sync; sealed = false } }
+    ///
+    /// If `refuses_ahead` is true, a pushed bundle whose horizon is later than the moment of the
+    /// request is refused: the reply is 409 `horizon_ahead`, nothing is logged, and the region is
+    /// unchanged. If `refuses_ahead` is false, the region takes such a bundle in as any other.
+    pub fn new(region: Region, sync: bool, refuses_ahead: bool) -> Edge
+        ensures { result ≡ record {
+          region = region;
+          sync = sync;
+          refuses_ahead = refuses_ahead;
+          sealed = false;
+        } }
     {
         Edge {
             region,
             sync,
+            refuses_ahead,
             sealed: false,
         }
     }
@@ -91,6 +108,7 @@ impl Edge {
             (λ region. record {
               region = region;
               sync = self.entry.now.sync;
+              refuses_ahead = self.entry.now.refuses_ahead;
               sealed = self.entry.now.sealed;
             })) }
         ensures value { result.now ≡ self.old.region }
@@ -103,6 +121,13 @@ impl Edge {
         ensures { result ≡ self.now.sealed }
     {
         self.sealed
+    }
+
+    /// Seals the edge, because its log has failed.
+    pub fn seal(&mut self)
+        ensures { self.new ≡ record self.old { sealed = true } }
+    {
+        self.sealed = true;
     }
 
     /// Handles one request, given as the bytes of a stream that then ends.
@@ -124,20 +149,30 @@ impl Edge {
     ) -> Result<Answer, AllocError>
         ensures answers { self.old.sealed ≡ false
             → OnOk result ((came : AnyArrival) × IsArrival self.old.sync bytes.now came
-            × Answers self.old.region now words.now came result self.new.region) }
+            × Answers self.old.refuses_ahead self.old.region now words.now came result
+            self.new.region) }
         ensures away { self.old.sealed ≡ true
             → IfOk result (λ answer. answer ≡ refused_by Refusal.Sealed) }
         ensures untouched { self.old.sealed ≡ true → self.new ≡ self.old }
         ensures sealed { self.new.sealed ≡ self.old.sealed }
         ensures sync { self.new.sync ≡ self.old.sync }
+        ensures refuses_ahead { self.new.refuses_ahead ≡ self.old.refuses_ahead }
         ensures err { OnErr result
-            (IsShort self.old.sync (Some bytes.now) self.old.region self.new.region) }
+            (IsShort self.old.sync self.old.refuses_ahead now (Some bytes.now) self.old.region
+            self.new.region) }
     {
         if self.sealed {
             return refuse(alloc, Refusal::Sealed);
         }
         let came = hear_bytes(alloc, self.sync, bytes)?;
-        answer_arrival(alloc, &mut self.region, now, words, &came)
+        answer_arrival(
+            alloc,
+            &mut self.region,
+            self.refuses_ahead,
+            now,
+            words,
+            &came,
+        )
     }
 
     /// Serves one connection: reads a request, logs its fact and writes the reply, in this order.
@@ -162,12 +197,14 @@ impl Edge {
         requires { length buf.old ≡ head_limit }
         ensures room { length buf.new ≡ length buf.old }
         ensures sync { self.new.sync ≡ self.old.sync }
+        ensures refuses_ahead { self.new.refuses_ahead ≡ self.old.refuses_ahead }
 
         // What holds after each result. If the source's bytes are unknown, some request was
         // answered.
         ensures served { self.old.sealed ≡ false → IsServed
             (record {
               sync = self.old.sync;
+              refuses_ahead = self.old.refuses_ahead;
               log_taken = false;
               known = S.coming reader.old;
               now = now;
@@ -218,10 +255,12 @@ impl Edge {
         requires { length buf.old ≡ head_limit }
         ensures room { length buf.new ≡ length buf.old }
         ensures sync { self.new.sync ≡ self.old.sync }
+        ensures refuses_ahead { self.new.refuses_ahead ≡ self.old.refuses_ahead }
 
         ensures served { self.old.sealed ≡ false → IsServed
             (record {
               sync = self.old.sync;
+              refuses_ahead = self.old.refuses_ahead;
               log_taken = log_taken;
               known = S.coming reader.old;
               now = now;
@@ -253,6 +292,7 @@ impl Edge {
             Ok(came) => serve_arrival(
                 alloc,
                 &mut self.region,
+                self.refuses_ahead,
                 &mut self.sealed,
                 log,
                 log_taken,
@@ -285,10 +325,12 @@ impl Edge {
         words: &[u64; 6],
     ) -> Result<Option<(Served, usize)>, Fault>
         ensures sync { self.new.sync ≡ self.old.sync }
+        ensures refuses_ahead { self.new.refuses_ahead ≡ self.old.refuses_ahead }
 
         ensures served { self.old.sealed ≡ false → IsFrontServed
             (record {
               sync = self.old.sync;
+              refuses_ahead = self.old.refuses_ahead;
               log_taken = log_taken;
               known = None;
               now = now;
@@ -318,6 +360,7 @@ impl Edge {
             alloc,
             &mut self.region,
             self.sync,
+            self.refuses_ahead,
             &mut self.sealed,
             bytes,
             is_over,

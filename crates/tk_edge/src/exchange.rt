@@ -36,10 +36,13 @@ ghost use Rattle.tk_edge.specs.Answers.{rendered};
 ghost use Rattle.tk_edge.specs.Exchanges as spec;
 ghost use Rattle.tk_edge.specs.Pulls.{wanted};
 
+use crate::ahead::PushError;
 use crate::answer::{Answer, answer_with};
 use crate::pull::read_wanted;
+use crate::push::take_pushed;
 use std::alloc::{AllocError, Global};
 use tk_format::ReadError;
+use tk_handle::Moment;
 use tk_message::{ErrorCode, Reply, Told, bytes_reply};
 use tk_region::{Region, TakeError};
 
@@ -58,18 +61,21 @@ impl Sent {
     }
 }
 
-// Replies to another region. If memory runs out, the first facts of a pushed bundle may be in.
+// Replies to another region. A pushed bundle that is ahead of the moment is refused, if
+// `refuses_ahead` is true. If memory runs out, the first facts of a pushed bundle may be in.
 pub(crate) fn answer_exchange(
     alloc: Global,
     region: &mut Region,
+    refuses_ahead: bool,
+    now: Moment,
     exchange: &Exchange,
 ) -> Result<Answer, AllocError>
-    ensures { spec.Exchanges region.old exchange.now result region.new }
+    ensures { spec.Exchanges refuses_ahead now region.old exchange.now result region.new }
 {
     match exchange {
         Exchange::Vector => tell_vector(alloc, region),
         Exchange::Pull(sent) => send_page(alloc, region, sent.bytes()),
-        Exchange::Push(sent) => take_bundle(alloc, region, sent.bytes()),
+        Exchange::Push(sent) => take_bundle(alloc, region, refuses_ahead, now, sent.bytes()),
     }
 }
 
@@ -127,22 +133,29 @@ fn unread_code(error: ReadError) -> Option<ErrorCode>
 }
 
 // The name of the error for a bundle that isn't taken in. Out of memory has no name.
-fn refusal_code(error: TakeError) -> Option<ErrorCode>
+fn refusal_code(error: PushError) -> Option<ErrorCode>
     ensures { result ≡ spec.refusal_code error }
 {
     match error {
-        TakeError::Malformed => Some(ErrorCode::Malformed),
-        TakeError::OwnNumber => Some(ErrorCode::OwnNumber),
-        TakeError::Conflict => Some(ErrorCode::Conflict),
-        TakeError::Memory => None,
+        PushError::Take(TakeError::Malformed) => Some(ErrorCode::Malformed),
+        PushError::HorizonAhead => Some(ErrorCode::HorizonAhead),
+        PushError::Take(TakeError::OwnNumber) => Some(ErrorCode::OwnNumber),
+        PushError::Take(TakeError::Conflict) => Some(ErrorCode::Conflict),
+        PushError::Take(TakeError::Memory) => None,
     }
 }
 
 // Takes a pushed bundle in, and replies with the number of new facts or the reason of a refusal.
-fn take_bundle(alloc: Global, region: &mut Region, bytes: &[u8]) -> Result<Answer, AllocError>
-    ensures { spec.TakesAndTells region.old bytes.now result region.new }
+fn take_bundle(
+    alloc: Global,
+    region: &mut Region,
+    refuses_ahead: bool,
+    now: Moment,
+    bytes: &[u8],
+) -> Result<Answer, AllocError>
+    ensures { spec.TakesAndTells refuses_ahead now region.old bytes.now result region.new }
 {
-    let taken = region.take_in(alloc, bytes);
+    let taken = take_pushed(alloc, region, refuses_ahead, now, bytes);
     let reply = taken_answer(alloc, taken)?;
     answer_with(alloc, &reply, None)
 }
@@ -150,7 +163,7 @@ fn take_bundle(alloc: Global, region: &mut Region, bytes: &[u8]) -> Result<Answe
 // Returns the reply to a push, by its result. Memory that ran out while taking in gets no reply.
 pub(crate) fn taken_answer(
     alloc: Global,
-    taken: Result<u16, TakeError>,
+    taken: Result<u16, PushError>,
 ) -> Result<Reply, AllocError>
     ensures { IfOk result (spec.IsTakenReply taken) }
 {

@@ -13,6 +13,7 @@
 //!   cases.
 //! - [`Arrival`]: what a stream means. An [`Exchange`] is with another region.
 //! - `front`: what the front of the bytes that have come means: an arrival, or more is needed.
+//! - `ahead` reads a pushed bundle, and may refuse one whose horizon is later than the moment.
 //! - `answer` makes the reply to an arrival, and `render` its bytes.
 //! - `tell` writes the record of a fact and only then the reply, or returns a [`Fault`].
 //! - `push` takes a pushed bundle in and logs it before the reply, if bundles are logged.
@@ -25,6 +26,7 @@
 //! does, and `Fronts` and `FrontServed` what the front of its bytes means and does.
 #![tactic(auto)]
 
+mod ahead;
 mod answer;
 mod body;
 mod counted;
@@ -48,6 +50,7 @@ mod render;
 mod serving;
 mod tell;
 
+pub use ahead::PushError;
 pub use answer::Answer;
 pub use counted::Counted;
 pub use device::{Failed, Sink, Source};
@@ -55,7 +58,7 @@ pub use edge::{Edge, Served};
 pub use exchange::{Exchange, Sent};
 pub use head::HEAD_LIMIT;
 pub use hear::Arrival;
-pub use laws::{hears_all, one_meaning};
+pub use laws::{hears_all, one_meaning, refused_is_lost, takes_as_region};
 pub use path::Path;
 pub use put::{Discard, put_whole};
 pub use refusal::Refusal;

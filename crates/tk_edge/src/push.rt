@@ -5,13 +5,15 @@ ghost use Rattle.std.specs.Option.{option_copied, option_map};
 ghost use Rattle.tk_bundle.specs.Bundle.{bundle, bundle_bytes};
 ghost use Rattle.tk_message.specs.Place.{next_in};
 ghost use Rattle.tk_put.specs.Put.{Prints};
-ghost use Rattle.tk_edge.specs.Exchanges.{TakesBundle};
+ghost use Rattle.tk_edge.specs.Ahead.{lifted};
+ghost use Rattle.tk_edge.specs.Exchanges.{Pushes};
 ghost use Rattle.tk_edge.specs.Failures.{CountsFailure, Rose};
 ghost use Rattle.tk_edge.specs.Pushes as spec;
 ghost use Rattle.tk_edge.specs.Told.{IsFaultOfDevice};
 ghost use Rattle.tk_region.specs.RegionFields.{place_in};
-ghost use Rattle.tk_region.specs.Taking.{TakesIn, unread};
+ghost use Rattle.tk_region.specs.Taking.{TakesIn};
 
+use crate::ahead::{PushError, lifted, read_pushed};
 use crate::answer::answer_with;
 use crate::device::{Failed, Sink};
 use crate::exchange::{Exchange, taken_answer};
@@ -20,7 +22,7 @@ use crate::put::put_whole;
 use crate::tell::{Fault, write_record};
 use std::alloc::Global;
 use tk_bundle::Bundle;
-use tk_format::ReadError;
+use tk_handle::Moment;
 use tk_message::StatusCode;
 use tk_region::{Region, TakeError};
 
@@ -37,6 +39,23 @@ pub(crate) fn bundle_to_log<'a>(log_taken: bool, came: &'a Arrival) -> Option<&'
     }
 }
 
+// Takes a pushed bundle in. The bundle is refused if it is ahead of the moment and such bundles are
+// refused.
+pub(crate) fn take_pushed(
+    alloc: Global,
+    region: &mut Region,
+    refuses_ahead: bool,
+    now: Moment,
+    bytes: &[u8],
+) -> Result<u16, PushError>
+    ensures { Pushes refuses_ahead now region.old bytes.now result region.new }
+{
+    match read_pushed(alloc, refuses_ahead, now, bytes) {
+        Ok(sent) => lifted(region.take_bundle(sent)),
+        Err(error) => Err(error),
+    }
+}
+
 // Takes a pushed bundle in, logs its record if it changes the region, and only then replies.
 //
 // The record is logged also if memory runs out while the bundle is taken in, because writing takes
@@ -47,16 +66,18 @@ pub(crate) fn take_and_log<L: Sink, W: Sink>(
     sealed: &mut bool,
     log: &mut L,
     writer: &mut W,
+    refuses_ahead: bool,
+    now: Moment,
     bytes: &[u8],
 ) -> Result<StatusCode, Fault>
     requires { sealed.old ≡ false }
-    ensures replies { spec.TakesAndLogs bytes.now region.old region.new
+    ensures replies { spec.TakesAndLogs refuses_ahead now bytes.now region.old region.new
         (record { before = L.holds log.old; after = L.holds log.new }) (log.new ≡ log.old)
         (record { before = W.holds writer.old; after = W.holds writer.new }) sealed.new result }
     ensures faults { IsFaultOfDevice result (L.failed log.old) (L.failed log.new)
         (W.failed writer.old) (W.failed writer.new) }
 {
-    let Pushed { taken, news } = take_pushed(alloc, region, bytes);
+    let Pushed { taken, news } = take_with_news(alloc, region, refuses_ahead, now, bytes);
     if log_news(log, &news).is_err() {
         *sealed = true;
         return Err(Fault::Log);
@@ -67,20 +88,26 @@ pub(crate) fn take_and_log<L: Sink, W: Sink>(
 // The result of taking in a pushed bundle, and the record of what it changed.
 #[derive(Drop)]
 struct Pushed {
-    taken: Result<u16, TakeError>,
+    taken: Result<u16, PushError>,
     news: Option<Vec<u8>>,
 }
 
-// Takes in a pushed bundle.
-fn take_pushed(alloc: Global, region: &mut Region, bytes: &[u8]) -> Pushed
-    ensures takes { TakesBundle region.old bytes.now result.taken region.new }
+// Takes in a pushed bundle as `take_pushed` does, and makes its record.
+fn take_with_news(
+    alloc: Global,
+    region: &mut Region,
+    refuses_ahead: bool,
+    now: Moment,
+    bytes: &[u8],
+) -> Pushed
+    ensures pushes { Pushes refuses_ahead now region.old bytes.now result.taken region.new }
     ensures news { spec.IsNews region.old bytes.now result.taken
         (option_map (λ kept. kept.items) result.news) region.new }
 {
-    match Bundle::read(alloc, bytes) {
+    match read_pushed(alloc, refuses_ahead, now, bytes) {
         Ok(sent) => take_read(alloc, region, sent),
         Err(error) => Pushed {
-            taken: Err(unread(error)),
+            taken: Err(error),
             news: None,
         },
     }
@@ -92,18 +119,18 @@ fn take_read(alloc: Global, region: &mut Region, sent: Bundle) -> Pushed
     requires { bundle.Fits sent }
     ensures number { region.new.number ≡ region.old.number }
     ensures settings { region.new.settings ≡ region.old.settings }
-    ensures takes { TakesIn region.old.facts (next_in (place_in region.old)) (Some sent)
+    ensures takes { spec.TakesSent region.old.facts (next_in (place_in region.old)) sent
         result.taken region.new.facts }
     ensures news { spec.IsNews region.old (bundle_bytes sent) result.taken
         (option_map (λ kept. kept.items) result.news) region.new }
 {
     let Ok(news) = region.news(alloc, &sent) else {
         return Pushed {
-            taken: Err(TakeError::Memory),
+            taken: Err(PushError::Take(TakeError::Memory)),
             news: None,
         };
     };
-    let taken = region.take_bundle(sent);
+    let taken = lifted(region.take_bundle(sent));
     Pushed {
         taken,
         news: kept(taken, news),
@@ -111,23 +138,13 @@ fn take_read(alloc: Global, region: &mut Region, sent: Bundle) -> Pushed
 }
 
 // Returns the record of a bundle, by the result of taking it in: a bundle that is refused has none.
-fn kept(taken: Result<u16, TakeError>, news: Option<Vec<u8>>) -> Option<Vec<u8>>
+fn kept(taken: Result<u16, PushError>, news: Option<Vec<u8>>) -> Option<Vec<u8>>
     ensures { option_map (λ kept. kept.items) result
         ≡ spec.kept_of taken (option_map (λ kept. kept.items) news) }
 {
     match taken {
-        Ok(_) | Err(TakeError::Memory) => news,
+        Ok(_) | Err(PushError::Take(TakeError::Memory)) => news,
         Err(_) => None,
-    }
-}
-
-// Returns the error for bytes that can't be read as a bundle.
-fn unread(error: ReadError) -> TakeError
-    ensures { result ≡ unread error }
-{
-    match error {
-        ReadError::Malformed => TakeError::Malformed,
-        ReadError::Memory => TakeError::Memory,
     }
 }
 
@@ -148,7 +165,7 @@ fn log_news<L: Sink>(log: &mut L, news: &Option<Vec<u8>>) -> Result<(), Failed>
 // Writes the reply to a push.
 fn tell_taken<W: Sink>(
     alloc: Global,
-    taken: Result<u16, TakeError>,
+    taken: Result<u16, PushError>,
     writer: &mut W,
 ) -> Result<StatusCode, Fault>
     ensures told { spec.TellsTaken taken

@@ -28,6 +28,7 @@ pub(crate) fn serve_front_open<L: Sink, W: Sink>(
     alloc: Global,
     region: &mut Region,
     sync: bool,
+    refuses_ahead: bool,
     sealed: &mut bool,
     bytes: &[u8],
     is_over: bool,
@@ -41,6 +42,7 @@ pub(crate) fn serve_front_open<L: Sink, W: Sink>(
     ensures served { IsFrontServed
         (record {
           sync = sync;
+          refuses_ahead = refuses_ahead;
           log_taken = log_taken;
           known = None;
           now = now;
@@ -58,7 +60,16 @@ pub(crate) fn serve_front_open<L: Sink, W: Sink>(
         Ok(Front::More) => Ok(None),
         Ok(Front::Came(came, taken)) => {
             match serve_arrival(
-                alloc, region, sealed, log, log_taken, writer, now, words, came,
+                alloc,
+                region,
+                refuses_ahead,
+                sealed,
+                log,
+                log_taken,
+                writer,
+                now,
+                words,
+                came,
             ) {
                 Ok(served) => Ok(Some((served, taken))),
                 Err(fault) => Err(fault),
@@ -72,6 +83,7 @@ pub(crate) fn serve_front_open<L: Sink, W: Sink>(
 pub(crate) fn serve_arrival<L: Sink, W: Sink>(
     alloc: Global,
     region: &mut Region,
+    refuses_ahead: bool,
     sealed: &mut bool,
     log: &mut L,
     log_taken: bool,
@@ -85,6 +97,7 @@ pub(crate) fn serve_arrival<L: Sink, W: Sink>(
         → IsServed
         (record {
           sync = sync;
+          refuses_ahead = refuses_ahead;
           log_taken = log_taken;
           known = known;
           now = now;
@@ -102,7 +115,16 @@ pub(crate) fn serve_arrival<L: Sink, W: Sink>(
         return Ok(Served::Nothing);
     }
     match reply(
-        alloc, region, sealed, log, log_taken, writer, now, words, &came,
+        alloc,
+        region,
+        refuses_ahead,
+        sealed,
+        log,
+        log_taken,
+        writer,
+        now,
+        words,
+        &came,
     ) {
         Ok(status) => Ok(Served::Done(status)),
         Err(fault) => Err(fault),
@@ -121,6 +143,7 @@ fn is_silent(came: &Arrival) -> bool
 fn reply<L: Sink, W: Sink>(
     alloc: Global,
     region: &mut Region,
+    refuses_ahead: bool,
     sealed: &mut bool,
     log: &mut L,
     log_taken: bool,
@@ -130,16 +153,35 @@ fn reply<L: Sink, W: Sink>(
     came: &Arrival,
 ) -> Result<StatusCode, Fault>
     requires { sealed.old ≡ false }
-    ensures replies { RepliesTo (bundle_to_log log_taken came.now) now words.now came.now
-        (record { before = region.old; after = region.new })
+    ensures replies { RepliesTo (bundle_to_log log_taken came.now) refuses_ahead now words.now
+        came.now (record { before = region.old; after = region.new })
         (record { before = L.holds log.old; after = L.holds log.new }) (log.new ≡ log.old)
         (record { before = W.holds writer.old; after = W.holds writer.new }) sealed.new result }
     ensures faults { IsFaultOfDevice result (L.failed log.old) (L.failed log.new)
         (W.failed writer.old) (W.failed writer.new) }
 {
     match bundle_to_log(log_taken, came) {
-        Some(bytes) => take_and_log(alloc, region, sealed, log, writer, bytes),
-        None => answer_and_tell(alloc, region, sealed, log, writer, now, words, came),
+        Some(bytes) => take_and_log(
+            alloc,
+            region,
+            sealed,
+            log,
+            writer,
+            refuses_ahead,
+            now,
+            bytes,
+        ),
+        None => answer_and_tell(
+            alloc,
+            region,
+            refuses_ahead,
+            sealed,
+            log,
+            writer,
+            now,
+            words,
+            came,
+        ),
     }
 }
 
@@ -147,6 +189,7 @@ fn reply<L: Sink, W: Sink>(
 fn answer_and_tell<L: Sink, W: Sink>(
     alloc: Global,
     region: &mut Region,
+    refuses_ahead: bool,
     sealed: &mut bool,
     log: &mut L,
     writer: &mut W,
@@ -155,14 +198,14 @@ fn answer_and_tell<L: Sink, W: Sink>(
     came: &Arrival,
 ) -> Result<StatusCode, Fault>
     requires { sealed.old ≡ false }
-    ensures replies { Replies now words.now came.now
+    ensures replies { Replies refuses_ahead now words.now came.now
         (record { before = region.old; after = region.new })
         (record { before = L.holds log.old; after = L.holds log.new }) (log.new ≡ log.old)
         (record { before = W.holds writer.old; after = W.holds writer.new }) sealed.new result }
     ensures faults { IsFaultOfDevice result (L.failed log.old) (L.failed log.new)
         (W.failed writer.old) (W.failed writer.new) }
 {
-    let Ok(answer) = answer_arrival(alloc, region, now, words, came) else {
+    let Ok(answer) = answer_arrival(alloc, region, refuses_ahead, now, words, came) else {
         return Err(Fault::Memory);
     };
     tell(&answer, sealed, log, writer)

@@ -1,4 +1,4 @@
--- The codes of errors (RFC 6749, 4.1.2.1 and 5.2). `not_found` is own, as are the last seven: they
+-- The codes of errors (RFC 6749, 4.1.2.1 and 5.2). `not_found` is own, as are the last eight: they
 -- are for requests that can't be read and for what regions exchange.
 --   error_row      the status and the name of an error
 --   error_status   the status of an error
@@ -22,6 +22,7 @@ use Rattle.tk_message.specs.declared.error_code.ErrorCode.TheVariants.{
   LengthRequired,
   TooLarge,
   Malformed,
+  HorizonAhead,
   OwnNumber,
   Conflict,
 }
@@ -43,6 +44,7 @@ error_row MethodNotAllowed = (status.MethodNotAllowed, codes "method_not_allowed
 error_row LengthRequired = (status.LengthRequired, codes "length_required")
 error_row TooLarge = (status.ContentTooLarge, codes "too_large")
 error_row Malformed = (status.BadRequest, codes "malformed")
+error_row HorizonAhead = (status.Conflict, codes "horizon_ahead")
 error_row OwnNumber = (status.Conflict, codes "own_number")
 error_row Conflict = (status.Conflict, codes "conflict")
 

@@ -36,6 +36,8 @@ pub enum ErrorCode {
     TooLarge,
     /// The bytes from another region are no vector or bundle (own).
     Malformed,
+    /// A bundle has a horizon that is later than the moment (own; RFC 9110, 15.5.10).
+    HorizonAhead,
     /// A bundle has a fact under the region's own number that the region did not make (own; RFC
     /// 9110, 15.5.10).
     OwnNumber,
@@ -63,6 +65,7 @@ impl ErrorCode {
             ErrorCode::LengthRequired => "length_required",
             ErrorCode::TooLarge => "too_large",
             ErrorCode::Malformed => "malformed",
+            ErrorCode::HorizonAhead => "horizon_ahead",
             ErrorCode::OwnNumber => "own_number",
             ErrorCode::Conflict => "conflict",
         }
@@ -87,7 +90,9 @@ impl ErrorCode {
             ErrorCode::MethodNotAllowed => StatusCode::MethodNotAllowed,
             ErrorCode::LengthRequired => StatusCode::LengthRequired,
             ErrorCode::TooLarge => StatusCode::ContentTooLarge,
-            ErrorCode::OwnNumber | ErrorCode::Conflict => StatusCode::Conflict,
+            ErrorCode::HorizonAhead | ErrorCode::OwnNumber | ErrorCode::Conflict => {
+                StatusCode::Conflict
+            }
         }
     }
 }

@@ -118,7 +118,7 @@ module _ (settings : SettingsFields) (rs : List EdgeFields) (bs : List BundleFie
   pub absent_at : IsGap nat_cmp (entries_of rs) r i → map.get (world settings rs bs).regions r ≡ None
   absent_at gap = get_at_gap nat_cmp_total (entries_of rs) sorted r i gap
 
-  module _ (gap : IsGap nat_cmp (entries_of rs) r i) (p : EdgeFields) (is : p ≡ record { region = record { number = r; settings = settings; facts = empty_store }; sync = false; sealed = false }) where
+  module _ (gap : IsGap nat_cmp (entries_of rs) r i) (p : EdgeFields) (is : p ≡ record { region = record { number = r; settings = settings; facts = empty_store }; sync = false; refuses_ahead = false; sealed = false }) where
     -- the entries after a region that knows nothing is inserted
     opened_entries : (new : List EdgeFields) → new ≡ insert rs i p → entries_of new ≡ insert (entries_of rs) i (r, empty_store)
     opened_entries new h = ap entries_of h ∙ entries_insert rs i p ∙ ap (λ x. insert (entries_of rs) i (entry_of x)) is
@@ -208,34 +208,36 @@ carried_number {F = F} way p q asked o a = by o a
     by (Err fault) (inr (heard, hears, m)) = made heard m
 
 -- if regions don't exchange facts, an arrival is heard
-heard_answer : (sync : Bool) (r new : RegionFields) (asked : AskedFields) (seen : AnswerFields) → sync ≡ false
-    → ((came : Arrival) × IsArrival sync asked.bytes came × Answers r asked.now asked.words came (Ok seen) new)
+heard_answer : (sync refuses : Bool) (r new : RegionFields) (asked : AskedFields) (seen : AnswerFields) → sync ≡ false
+    → ((came : Arrival) × IsArrival sync asked.bytes came × Answers refuses r asked.now asked.words came (Ok seen) new)
     → (heard : Arrival) × IsHeard asked.bytes heard × AnswersBy r (answer_by r asked.now asked.words heard) (fact_by r asked.now asked.words heard) (Ok seen) new
-heard_answer sync r new asked seen off (came, is, told) =
+heard_answer sync refuses r new asked seen off (came, is, told) =
     let there : IsArrival false asked.bytes came = subst (λ s. IsArrival s asked.bytes came) off is in
-    (came, there, answers_alone r asked.now asked.words came (Ok seen) new (all_heard asked.bytes came there) told)
+    (came, there, answers_alone refuses r asked.now asked.words came (Ok seen) new (all_heard asked.bytes came there) told)
 
 -- if regions don't exchange facts, running out of memory leaves the region unchanged
-pub untouched : (p q : EdgeFields) (bytes : List ℕ) → p.sync ≡ false → q.sealed ≡ p.sealed → q.sync ≡ p.sync → IsShort p.sync (Some bytes) p.region q.region → q ≡ p
-untouched p q bytes off sealed sync (inl same) =
-    ap (λ (r : RegionFields). record { region = r; sync = q.sync; sealed = q.sealed }) same
-    ∙ ap (λ b. record { region = p.region; sync = b; sealed = q.sealed }) sync
-    ∙ ap (λ b. record { region = p.region; sync = p.sync; sealed = b }) sealed
-untouched p q bytes off sealed sync (inr (sent, arrives, taken, took)) = absurd (clash (sym off ∙ arrives.0))
+pub untouched : (p q : EdgeFields) (now : ℕ) (bytes : List ℕ) → p.sync ≡ false → q.sealed ≡ p.sealed → q.sync ≡ p.sync → q.refuses_ahead ≡ p.refuses_ahead
+    → IsShort p.sync p.refuses_ahead now (Some bytes) p.region q.region → q ≡ p
+untouched p q now bytes off sealed sync ahead (inl same) =
+    ap (λ (r : RegionFields). record { region = r; sync = q.sync; refuses_ahead = q.refuses_ahead; sealed = q.sealed }) same
+    ∙ ap (λ b. record { region = p.region; sync = b; refuses_ahead = q.refuses_ahead; sealed = q.sealed }) sync
+    ∙ ap (λ b. record { region = p.region; sync = p.sync; refuses_ahead = b; sealed = q.sealed }) ahead
+    ∙ ap (λ b. record { region = p.region; sync = p.sync; refuses_ahead = p.refuses_ahead; sealed = b }) sealed
+untouched p q now bytes off sealed sync ahead (inr (sent, arrives, taken, took)) = absurd (clash (sym off ∙ arrives.0))
   where
     clash : false ≡ true → ⊥
     clash e = cc
 
 -- the answer of an edge, by what contracts see of it
-pub answered_part : (p q : EdgeFields) (asked : AskedFields) (told seen : AnswerFields) → told ≡ seen → p.sync ≡ false → q.sealed ≡ p.sealed → q.sync ≡ p.sync
-    → ((came : Arrival) × IsArrival p.sync asked.bytes came × Answers p.region asked.now asked.words came (Ok seen) q.region)
+pub answered_part : (p q : EdgeFields) (asked : AskedFields) (told seen : AnswerFields) → told ≡ seen → p.sync ≡ false → q.sealed ≡ p.sealed → q.sync ≡ p.sync → q.refuses_ahead ≡ p.refuses_ahead
+    → ((came : Arrival) × IsArrival p.sync asked.bytes came × Answers p.refuses_ahead p.region asked.now asked.words came (Ok seen) q.region)
     → (heard : Arrival) × IsHeard asked.bytes heard × IsReplied (answer_by p.region asked.now asked.words heard) told.status told.bytes × Makes p asked heard q
-answered_part p q asked told seen is off sealed sync came =
-    let a = heard_answer p.sync p.region q.region asked seen off came in (
+answered_part p q asked told seen is off sealed sync ahead came =
+    let a = heard_answer p.sync p.refuses_ahead p.region q.region asked seen off came in (
       a.0,
       a.1,
       (ap (λ (x : AnswerFields). x.status) (is ∙ a.2.0), ap (λ (x : AnswerFields). x.bytes) (is ∙ a.2.0)),
-      record { gains = a.2.1; next = a.2.2; sealed = sealed; sync = sync },
+      record { gains = a.2.1; next = a.2.2; sealed = sealed; sync = sync; refuses_ahead = ahead },
     )
 
 pub taken_number : (p q : EdgeFields) (b : BundleFields) (o : Outcome) → TakesBundle p.region b o q.region → q.sealed ≡ p.sealed → q.sync ≡ p.sync → (q.region.number ≡ p.region.number) × IsAsOpen p q

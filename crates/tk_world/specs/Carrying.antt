@@ -41,6 +41,7 @@ pub record Makes (old : EdgeFields) (asked : AskedFields) (heard : Arrival)
   pub next : IfSome (fact_by old.region asked.now asked.words heard) (IsNextFact old.region)
   pub sealed : new.sealed ≡ old.sealed
   pub sync : new.sync ≡ old.sync
+  pub refuses_ahead : new.refuses_ahead ≡ old.refuses_ahead
 
 -- the reply shows the answer to what was heard; if memory runs out, the edge is unchanged
 abbrev pub Answers : Way → EdgeFields → AskedFields → Outcome → EdgeFields → Type 0

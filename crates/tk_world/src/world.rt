@@ -247,7 +247,8 @@ impl World {
         match find_region(&self.regions, number) {
             Ok(_) => Outcome::NumberTaken,
             Err(at) => {
-                let edge = Edge::new(Region::new(self.alloc, number, self.settings), false);
+                let region = Region::new(self.alloc, number, self.settings);
+                let edge = Edge::new(region, false, false);
                 open_region(&mut self.regions, at, edge)
             }
         }

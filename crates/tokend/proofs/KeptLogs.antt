@@ -44,25 +44,30 @@ use Rattle.tk_region.proofs.FitsLaws.{fits_differ}
 use Rattle.tk_edge.specs.Answers.{IsRecorded, answer_by, fact_by}
 use Rattle.tk_edge.specs.Arrivals.{Answers}
 use Rattle.tk_edge.specs.EdgeFields.{EdgeFields}
-use Rattle.tk_edge.specs.Exchanges.{IsTakenReply, TakesBundle}
+use Rattle.tk_edge.specs.Ahead.{is_refused, lifted}
+use Rattle.tk_edge.specs.Exchanges.{IsTakenReply, Pushes, PushesBy, TakesBundle}
+use Rattle.tk_edge.specs.FrontServed.{asked_by}
 use Rattle.tk_edge.specs.Pushes.{IsNews, bundle_to_log, kept_of, logged_of}
 use Rattle.tk_edge.specs.Served.{Asked, IsServed, RepliesTo, RunsOut}
 use Rattle.tk_edge.specs.Told.{AnswerFields, Change, record_in}
 use Rattle.tk_edge.specs.declared.edge.Served.{Served}
 use Rattle.tk_edge.specs.declared.edge.Served.TheVariants.{Nothing, Done}
+use Rattle.tk_edge.specs.declared.ahead.PushError.{PushError}
+use Rattle.tk_edge.specs.declared.ahead.PushError.TheVariants as push
 use Rattle.tk_edge.specs.declared.exchange.Exchange.TheVariants.{Vector, Pull, Push}
 use Rattle.tk_edge.specs.declared.hear.Arrival.{Arrival}
 use Rattle.tk_edge.specs.declared.hear.Arrival.TheVariants.{Silence, Refused, Request, Exchange}
 use Rattle.tk_edge.specs.declared.tell.Fault.{Fault}
 use Rattle.tk_edge.specs.declared.tell.Fault.TheVariants.{Read, Write, Log, Memory}
-use Rattle.tokend.specs.Connection.{AreConnections, IsConnection, Running, unknown}
+use Rattle.tokend.specs.Decisions.{Asking, IsDecision, asked_of, gains}
 use Rattle.tokend.specs.Draw.{past_six, six}
 use Rattle.tokend.specs.KeptLog.{AreCalm, AreLogged, HasLogged, IsCalm, IsFresh, IsNotRefused, IsTorn, LogKeepsAll, LogLoads}
 use Rattle.tokend.specs.Loading.{AreBundles, BeginsWith, IsNoBundle, IsRefused, Loads, TakesEach, TakesFront, log_bytes}
 use Rattle.tokend.specs.Starting.{PrunesOld, edge_of}
+use Rattle.tokend.specs.Turns.{AreDecisions, AreTurns, Endings, IsKept, IsLost, IsTurn, Running, all_ends, past_each}
 use Rattle.tokend.specs.declared.load.LoadFault.{LoadFault}
 use Rattle.tokend.specs.declared.load.LoadFault.TheVariants as load
-use Rattle.tokend.proofs.Connections.{connections_grow}
+use Rattle.tokend.proofs.Turning.{decisions_grow, edge_stays, log_stays, turns_grow}
 use Rattle.tokend.proofs.KeptSlots.{IsFrom, below_first, below_more, below_some, fit_lower, fits_lower, from_items, first_unchanged, from_twice, items_below, items_from, items_lower, neither, unchanged}
 use Rattle.tokend.proofs.LogBundles.{EachBelow, IsNotLater, NoneLater, Parted, below_among, each_below, each_from, each_more, horizon_from, later_among, no_end, one_list, parted, taken_slots}
 
@@ -130,6 +135,10 @@ all_items i = true
 no_earlier : (h m : ℕ) → nat_lt h m ≡ false → max h m ≡ h
 no_earlier h m e = grind (arith, nat_tests)
 
+-- memory ran out while a pushed bundle was taken in
+abbrev short_push : Result ℕ PushError
+short_push = Err (push.Take Take.Memory)
+
 itself : (n u : ℕ) → n ≤ max n u
 itself n u = omega (arith)
 
@@ -182,14 +191,14 @@ module _ (end : Result Served Fault) (before after : Option (List ℕ)) (old new
   logged_as : (answer told : AnswerFields) → answer ≡ told → Appends before after (record_in answer.logged) → Appends before after (record_in told.logged)
   logged_as answer told is more = subst (λ (a : AnswerFields). Appends before after (record_in a.logged)) is more
 
-  answered : (now : ℕ) (words : List ℕ) (came : Arrival) (answer : AnswerFields) → bundle_to_log true came ≡ None → Answers old now words came (Ok answer) new
+  answered : (refuses : Bool) (now : ℕ) (words : List ℕ) (came : Arrival) (answer : AnswerFields) → bundle_to_log true came ≡ None → Answers refuses old now words came (Ok answer) new
       → Appends before after (record_in answer.logged) → IfSome (fact_by old now words came) IsRecorded → Grows end before after F G
-  answered now words (Exchange Vector) answer none h more fits = still (logged_as answer _ h.0.3 more) h.1
-  answered now words (Exchange (Pull sent)) answer none h more fits = still (logged_as answer _ h.0 more) h.1
-  answered now words (Exchange (Push sent)) answer none h more fits = absurd (cc)
-  answered now words Silence answer none h more fits = gains_none (logged_as answer _ h.0 more) h.1
-  answered now words (Refused why) answer none h more fits = gains_none (logged_as answer _ h.0 more) h.1
-  answered now words (Request request) answer none h more fits =
+  answered refuses now words (Exchange Vector) answer none h more fits = still (logged_as answer _ h.0.3 more) h.1
+  answered refuses now words (Exchange (Pull sent)) answer none h more fits = still (logged_as answer _ h.0 more) h.1
+  answered refuses now words (Exchange (Push sent)) answer none h more fits = absurd (cc)
+  answered refuses now words Silence answer none h more fits = gains_none (logged_as answer _ h.0 more) h.1
+  answered refuses now words (Refused why) answer none h more fits = gains_none (logged_as answer _ h.0 more) h.1
+  answered refuses now words (Request request) answer none h more fits =
       recorded (prepared_of old now words request).fact
       (subst (λ o. Appends before after (record_in o)) (logged_is old now words request) (logged_as answer (answer_by old now words (Request request)) h.0 more)) h.1 h.2 fits
 
@@ -267,7 +276,7 @@ module _ (end : Result Served Fault) (before after : Option (List ℕ)) (old new
         late None is e = ap (λ (P : StoreFields). P.horizon) is
         late (Some m) is e = ap (λ (P : StoreFields). P.horizon) is ∙ no_earlier F.horizon m e
 
-    taken_in : (taken : Result ℕ TakeError) → (taken ≡ Err Take.Memory → IsCalm end → ⊥) → Appends before after (logged_of (kept_of taken (news_record F b)))
+    taken_in : (taken : Result ℕ TakeError) → (lifted taken ≡ short_push → IsCalm end → ⊥) → Appends before after (logged_of (kept_of (lifted taken) (news_record F b)))
         → TakesIn F (next_in (place_in old)) (Some b) taken G → Grows end before after F G
     taken_in (Ok n) short more k = by_record (changes F b) refl more (nothing_brought k.2.0) (whole_brings k.2.0 k.1)
     taken_in (Err Take.Memory) short more (inl same) = by_record (changes F b) refl more (λ _. same_store same) (none_brings (short refl) same)
@@ -280,17 +289,34 @@ module _ (end : Result Served Fault) (before after : Option (List ℕ)) (old new
     taken_in (Err Conflict) short same k = inl (same, same_store k.2)
     taken_in (Err Malformed) short same k = absurd k
 
-  pushed : (bytes : List ℕ) (taken : Result ℕ TakeError) (logged : Option (List ℕ)) → (taken ≡ Err Take.Memory → IsCalm end → ⊥) → TakesBundle old bytes taken new
+  pushed : (refuses : Bool) (now : ℕ) (bytes : List ℕ) (taken : Result ℕ PushError) (logged : Option (List ℕ)) → (taken ≡ short_push → IsCalm end → ⊥) → Pushes refuses now old bytes taken new
       → IsNews old bytes taken logged new → Appends before after (logged_of logged) → Grows end before after F G
-  pushed bytes taken logged short takes (inl none) more = still (subst (λ o. Appends before after (logged_of o)) none.0 more) none.1
-  pushed bytes taken logged short takes (inr read) more =
-      let b = read.0 in
-      let whole_is : whole bundle bytes ≡ Some b = ap (whole bundle) read.1.spelled ∙ whole_again bundle bundle_exact b read.1.fits in
-      taken_in b read.1.fits read.1.readable taken short
-      (subst (λ o. Appends before after (logged_of o)) read.1.news more)
-      (subst (λ o. TakesIn F (next_in (place_in old)) o taken G) whole_is takes.takes)
+  pushed refuses now bytes taken logged short takes (inl none) more = still (subst (λ o. Appends before after (logged_of o)) none.0 more) none.1
+  pushed refuses now bytes taken logged short takes (inr read) more =
+      by (is_refused refuses now (whole bundle bytes)) taken short takes (subst (λ o. Appends before after (logged_of o)) read.1.news more)
+    where
+      b : BundleFields
+      b = read.0
 
-not_short : (end : Result Served Fault) (taken : Result ℕ TakeError) (reply : ReplyFields) → IsTakenReply taken reply → taken ≡ Err Take.Memory → IsCalm end → ⊥
+      whole_is : whole bundle bytes ≡ Some b
+      whole_is = ap (whole bundle) read.1.spelled ∙ whole_again bundle bundle_exact b read.1.fits
+
+      sent : (t : Result ℕ TakeError) → (lifted t ≡ short_push → IsCalm end → ⊥) → TakesBundle old bytes t new → Appends before after (logged_of (kept_of (lifted t) (news_record F b)))
+          → Grows end before after F G
+      sent t short takes more =
+          taken_in b read.1.fits read.1.readable t short more (subst (λ o. TakesIn F (next_in (place_in old)) o t G) whole_is takes.takes)
+
+      by : (r : Bool) (t : Result ℕ PushError) → (t ≡ short_push → IsCalm end → ⊥) → PushesBy r old bytes t new → Appends before after (logged_of (kept_of t (news_record F b)))
+          → Grows end before after F G
+      by true (Err push.HorizonAhead) short same more = still more same
+      by true (Err (push.Take Take.Memory)) short same more =
+          taken_in b read.1.fits read.1.readable (Err Take.Memory) short more (inl (ap (λ (r : RegionFields). r.facts) same))
+      by true t short same more = absurd same
+      by false (Ok n) short takes more = sent (Ok n) short takes more
+      by false (Err (push.Take error)) short takes more = sent (Err error) short takes more
+      by false (Err push.HorizonAhead) short takes more = absurd takes
+
+not_short : (end : Result Served Fault) (taken : Result ℕ PushError) (reply : ReplyFields) → IsTakenReply taken reply → taken ≡ short_push → IsCalm end → ⊥
 not_short end taken reply told is calm = subst (λ t. IsTakenReply t reply) is told
 
 module _ (before after : Option (List ℕ)) (old new : RegionFields) (asked : Asked) (logs : asked.log_taken ≡ true) (quiet : Type 0) (writer : Change) where
@@ -298,16 +324,16 @@ module _ (before after : Option (List ℕ)) (old new : RegionFields) (asked : As
   log = record { before = before; after = after }
 
   replied : (end : Result Served Fault) (sent : Option (List ℕ)) (came : Arrival) (result : Result StatusCode Fault) → bundle_to_log true came ≡ sent → result ≢ Err Log → result ≢ Err Memory
-      → RepliesTo sent asked.now asked.words came (record { before = old; after = new }) log quiet writer false result → Grows end before after old.facts new.facts
-  replied end None came (Ok status) is not_log not_memory h = answered end before after old new asked.now asked.words came h.0 is h.1 h.2.1 h.4
-  replied end None came (Err Write) is not_log not_memory h = answered end before after old new asked.now asked.words came h.0 is h.1 h.2.0 h.4
+      → RepliesTo sent asked.refuses_ahead asked.now asked.words came (record { before = old; after = new }) log quiet writer false result → Grows end before after old.facts new.facts
+  replied end None came (Ok status) is not_log not_memory h = answered end before after old new asked.refuses_ahead asked.now asked.words came h.0 is h.1 h.2.1 h.4
+  replied end None came (Err Write) is not_log not_memory h = answered end before after old new asked.refuses_ahead asked.now asked.words came h.0 is h.1 h.2.0 h.4
   replied end None came (Err Read) is not_log not_memory h = absurd h
   replied end None came (Err Log) is not_log not_memory h = absurd (not_log refl)
   replied end None came (Err Memory) is not_log not_memory h = absurd (not_memory refl)
   replied end (Some bytes) came (Ok status) is not_log not_memory h =
-      pushed end before after old new bytes h.0 h.2 (not_short end h.0 h.4.2.0 h.4.2.1) h.1 h.3 h.4.0
+      pushed end before after old new asked.refuses_ahead asked.now bytes h.0 h.2 (not_short end h.0 h.4.2.0 h.4.2.1) h.1 h.3 h.4.0
   replied end (Some bytes) came (Err Write) is not_log not_memory h =
-      pushed end before after old new bytes h.0 h.2 (not_short end h.0 h.4.2.0 h.4.2.1) h.1 h.3 h.4.0
+      pushed end before after old new asked.refuses_ahead asked.now bytes h.0 h.2 (not_short end h.0 h.4.2.0 h.4.2.1) h.1 h.3 h.4.0
   replied end (Some bytes) came (Err Read) is not_log not_memory h = absurd h.4.2
   replied end (Some bytes) came (Err Log) is not_log not_memory h = absurd (not_log refl)
   replied end (Some bytes) came (Err Memory) is not_log not_memory h = absurd (not_memory refl)
@@ -315,18 +341,18 @@ module _ (before after : Option (List ℕ)) (old new : RegionFields) (asked : As
   ran_out : (b : Bool) → b ≡ true → RunsOut b asked (record { before = old; after = new }) log quiet writer false → Grows (Err Memory) before after old.facts new.facts
   ran_out false is h = absurd (cc)
   ran_out true is (inl same) = still (Err Memory) before after old new (keeps_nothing before after same.1.0) same.0
-  ran_out true is (inr h) = pushed (Err Memory) before after old new h.0 h.2.0 h.2.2 (λ e calm. calm) h.2.1 h.2.3 h.2.4.0
+  ran_out true is (inr h) = pushed (Err Memory) before after old new asked.refuses_ahead asked.now h.0 h.2.0 h.2.2 (λ e calm. calm) h.2.1 h.2.3 h.2.4.0
 
   unsealed_log : (sent : Option (List ℕ)) (came : Arrival)
-      → RepliesTo sent asked.now asked.words came (record { before = old; after = new }) log quiet writer false (Err Log) → ⊥
+      → RepliesTo sent asked.refuses_ahead asked.now asked.words came (record { before = old; after = new }) log quiet writer false (Err Log) → ⊥
   unsealed_log None came h = sealed_clash h.2.2
   unsealed_log (Some bytes) came h = sealed_clash h.4.2
 
   as_logged : (came : Arrival) (result : Result StatusCode Fault)
-      → RepliesTo (bundle_to_log asked.log_taken came) asked.now asked.words came (record { before = old; after = new }) log quiet writer false result
-      → RepliesTo (bundle_to_log true came) asked.now asked.words came (record { before = old; after = new }) log quiet writer false result
+      → RepliesTo (bundle_to_log asked.log_taken came) asked.refuses_ahead asked.now asked.words came (record { before = old; after = new }) log quiet writer false result
+      → RepliesTo (bundle_to_log true came) asked.refuses_ahead asked.now asked.words came (record { before = old; after = new }) log quiet writer false result
   as_logged came result h =
-      subst (λ b. RepliesTo (bundle_to_log b came) asked.now asked.words came (record { before = old; after = new }) log quiet writer false result) logs h
+      subst (λ b. RepliesTo (bundle_to_log b came) asked.refuses_ahead asked.now asked.words came (record { before = old; after = new }) log quiet writer false result) logs h
 
   served : (result : Result Served Fault) → IsServed asked (record { before = old; after = new }) log quiet writer false result → Grows result before after old.facts new.facts
   served (Ok (Done status)) h = replied (Ok (Done status)) (bundle_to_log true h.0) h.0 (Ok status) refl (ok_fault status Log) (ok_fault status Memory) (as_logged h.0 (Ok status) h.3)
@@ -337,17 +363,30 @@ module _ (before after : Option (List ℕ)) (old new : RegionFields) (asked : As
   served (Err Memory) h = ran_out asked.log_taken logs h
 
 -- an edge that is sealed stays sealed
-stays : (words : ChaCha) (old : Running) (ends : List (Result Served Fault)) (new : Running) → AreConnections words true old ends new
-    → old.edge.sealed ≡ true → new.edge.sealed ≡ true
-stays words old [] new same e = ap (λ r. r.edge.sealed) same ∙ e
-stays words old (end ∷ ends) new h e = stays (past_six words) h.0 ends new h.2 (ap (λ x. x.sealed) (h.1.0.1.shut e).0 ∙ e)
+decisions_stay : (words : ChaCha) (old : EdgeFields) (ends : Endings) (records : List ℕ) (new : EdgeFields) → AreDecisions words true old ends records new → old.sealed ≡ true → new.sealed ≡ true
+decisions_stay words old [] records new h e = ap (λ (x : EdgeFields). x.sealed) h.0 ∙ e
+decisions_stay words old (end ∷ ends) records new h e =
+    decisions_stay (past_six words) h.0 ends h.2 new h.5 (ap (λ (x : EdgeFields). x.sealed) (h.3.4.shut e).0 ∙ e)
 
-connection_grows : (now : ℕ) (words : List ℕ) (old new : EdgeFields) (log : Change) (result : Result Served Fault) → IsConnection now words true old new log result
-    → old.sealed ≡ false → new.sealed ≡ false → Grows result log.before log.after old.region.facts new.region.facts
-connection_grows now words old new log result h open_old open_new =
-    let asked : Asked = record { sync = old.sync; log_taken = true; known = None; now = now; words = words } in
-    served log.before log.after old.region new.region asked refl (log.after ≡ log.before) unknown result
-    (subst (λ b. IsServed asked (record { before = old.region; after = new.region }) log (log.after ≡ log.before) unknown b result) open_new (h.served open_old))
+turn_stays : (words : ChaCha) (old : Running) (ends : Endings) (new : Running) → IsTurn words true old ends new → old.edge.sealed ≡ true → new.edge.sealed ≡ true
+turn_stays words old ends new h e = of h.log
+  where
+    of : IsKept old h.edge h.records h.told new ⊎ IsLost old h.edge h.records h.told new → new.edge.sealed ≡ true
+    of (inl kept) = ap (λ (x : EdgeFields). x.sealed) kept.edge ∙ decisions_stay words old.edge ends h.records h.edge h.decided e
+    of (inr lost) = ap (λ (x : EdgeFields). x.sealed) lost.edge
+
+turns_stay : (words : ChaCha) (old : Running) (turns : List Endings) (new : Running) → AreTurns words true old turns new → old.edge.sealed ≡ true → new.edge.sealed ≡ true
+turns_stay words old [] new same e = ap (λ (r : Running). r.edge.sealed) same ∙ e
+turns_stay words old (ends ∷ turns) new h e =
+    turns_stay (past_each words ends) h.1 turns new h.4 (ap (λ (x : EdgeFields). x.sealed) (edge_stays h.0 h.1 h.3) ∙ turn_stays words old ends h.0 h.2 e)
+
+decision_adds : (words : List ℕ) (old : EdgeFields) (end : Result Served Fault) (logged : List ℕ) (new : EdgeFields) → IsDecision words true old end logged new
+    → old.sealed ≡ false → new.sealed ≡ false → Grows end (Some []) (Some logged) old.region.facts new.region.facts
+decision_adds words old end logged new h open_old open_new =
+    let asking : Asking = record { words = words; log_taken = true; now = h.0; bytes = h.1; over = h.2 } in
+    let asked : Asked = asked_by (asked_of asking old) h.1 [] in
+    served (Some []) (Some logged) old.region new.region asked refl (logged ≡ []) (gains h.3) end
+    (subst (λ b. IsServed asked (record { before = old.region; after = new.region }) (gains logged) (logged ≡ []) (gains h.3) b end) open_new (h.4.served open_old [] (λ _. refl)))
 
 -- ---- connections, one after the other
 
@@ -407,48 +446,140 @@ after_bundle end ends F M G b bundles brings rest grown = record {
   known = λ calm. (below_more M.slots G.slots b.items grown (brings.known calm.0), rest.known calm.1);
 }
 
-some_after : (end : Result Served Fault) (l : List ℕ) (after : Option (List ℕ)) (F G : StoreFields) → Grows end (Some l) after F G → (m : List ℕ) × (after ≡ Some m)
-some_after end l None F G (inl h) = absurd h.0
-some_after end l None F G (inr h) = absurd h.1
-some_after end l (Some m) F G h = (m, refl)
-
 one_log : (l m : List ℕ) → Some l ≡ Some m → l ≡ m
 one_log l m e = cc
 
--- the bundles by which the log grew, over these connections
-abbrev Logs : List (Result Served Fault) → List ℕ → List ℕ → StoreFields → StoreFields → Type 0
-Logs ends l m F G = (bundles : List BundleFields) × (m ≡ l ++ log_bytes bundles) × Through ends F G bundles
+-- the records are these bundles, by which the store grew over these connections
+abbrev Logs : Endings → List ℕ → StoreFields → StoreFields → Type 0
+Logs ends records F G = (bundles : List BundleFields) × (records ≡ log_bytes bundles) × Through ends F G bundles
 
-more_logged : (end : Result Served Fault) (ends : List (Result Served Fault)) (l k m : List ℕ) (F M G : StoreFields) → Grows end (Some l) (Some k) F M → SlotsBelow M.slots G.slots
-    → Logs ends k m M G → Logs (end ∷ ends) l m F G
-more_logged end ends l k m F M G (inl h) grown rest =
-    (rest.0, rest.1 ∙ ap (λ x. x ++ log_bytes rest.0) (h.0 ∙ append-nil l), after_same end ends F M G rest.0 h.1 rest.2)
-more_logged end ends l k m F M G (inr h) grown rest = (
-  h.0 ∷ rest.0,
-  rest.1 ∙ ap (λ x. x ++ log_bytes rest.0) h.1 ∙ append_assoc l (bundle_bytes h.0) (log_bytes rest.0),
-  after_bundle end ends F M G h.0 rest.0 h.2 rest.2 grown,
+more_logged : (end : Result Served Fault) (ends : Endings) (first rest : List ℕ) (F M G : StoreFields) → Grows end (Some []) (Some first) F M → SlotsBelow M.slots G.slots
+    → Logs ends rest M G → Logs (end ∷ ends) (first ++ rest) F G
+more_logged end ends first rest F M G (inl h) grown more = (more.0, ap (λ x. x ++ rest) h.0 ∙ more.1, after_same end ends F M G more.0 h.1 more.2)
+more_logged end ends first rest F M G (inr h) grown more = (
+  h.0 ∷ more.0,
+  ap (λ x. x ++ rest) h.1 ∙ ap (λ x. bundle_bytes h.0 ++ x) more.1,
+  after_bundle end ends F M G h.0 more.0 h.2 more.2 grown,
 )
 
-through : (words : ChaCha) (old : Running) (ends : List (Result Served Fault)) (new : Running) (l m : List ℕ) → AreConnections words true old ends new
-    → old.log ≡ Some l → new.log ≡ Some m → old.edge.sealed ≡ false → new.edge.sealed ≡ false → Logs ends l m old.edge.region.facts new.edge.region.facts
-through words old [] new l m same old_log new_log open_old open_new = (
-  [],
-  one_log m l (sym new_log ∙ ap (λ r. r.log) same ∙ old_log) ∙ sym (append-nil l),
-  same_through old.edge.region.facts new.edge.region.facts (ap (λ r. r.edge.region.facts) same),
-)
-through words old (end ∷ ends) new l m h old_log new_log open_old open_new =
-    elim h.0.edge.sealed as (λ b. h.0.edge.sealed ≡ b → Logs (end ∷ ends) l m old.edge.region.facts new.edge.region.facts) [
-      | true ↦ λ e. absurd (sealed_clash (sym open_new ∙ stays (past_six words) h.0 ends new h.2 e))
+decisions_logged : (words : ChaCha) (old : EdgeFields) (ends : Endings) (records : List ℕ) (new : EdgeFields) → AreDecisions words true old ends records new
+    → old.sealed ≡ false → new.sealed ≡ false → Logs ends records old.region.facts new.region.facts
+decisions_logged words old [] records new h open_old open_new = ([], h.1, same_through old.region.facts new.region.facts (ap (λ (e : EdgeFields). e.region.facts) h.0))
+decisions_logged words old (end ∷ ends) records new h open_old open_new =
+    elim h.0.sealed as (λ b. h.0.sealed ≡ b → Logs (end ∷ ends) records old.region.facts new.region.facts) [
+      | true ↦ λ e. absurd (sealed_clash (sym open_new ∙ decisions_stay (past_six words) h.0 ends h.2 new h.5 e))
       | false ↦ λ e.
-          let F = old.edge.region.facts in
-          let M = h.0.edge.region.facts in
-          let grows = connection_grows h.1.0.0 (six words) old.edge h.0.edge (record { before = old.log; after = h.0.log }) end h.1.0.1 open_old e in
-          let grown = subst (λ o. Grows end o h.0.log F M) old_log grows in
-          let after = some_after end l h.0.log F M grown in
-          more_logged end ends l after.0 m F M new.edge.region.facts (subst (λ o. Grows end (Some l) o F M) after.1 grown)
-          (connections_grow (past_six words) true h.0 ends new h.2).facts.slots
-          (through (past_six words) h.0 ends new after.0 m h.2 after.1 new_log e open_new)
+          subst (λ r. Logs (end ∷ ends) r old.region.facts new.region.facts) (sym h.4)
+          (more_logged end ends h.1 h.2 old.region.facts h.0.region.facts new.region.facts (decision_adds (six words) old end h.1 h.0 h.3 open_old e)
+          (decisions_grow (past_six words) true h.0 ends h.2 new h.5).facts.slots
+          (decisions_logged (past_six words) h.0 ends h.2 new h.5 e open_new))
     ] refl
+
+calm_first : (xs ys : Endings) → AreCalm (xs ++ ys) → AreCalm xs
+calm_first [] ys h = tt
+calm_first (x ∷ xs) ys h = (h.0, calm_first xs ys h.1)
+
+calm_rest : (xs ys : Endings) → AreCalm (xs ++ ys) → AreCalm ys
+calm_rest [] ys h = h
+calm_rest (x ∷ xs) ys h = calm_rest xs ys h.1
+
+bundles_both : (xs ys : List BundleFields) → AreBundles xs → AreBundles ys → AreBundles (xs ++ ys)
+bundles_both [] ys h k = k
+bundles_both (x ∷ xs) ys h k = (h.0, bundles_both xs ys h.1 k)
+
+each_first : (U : Slots) (xs ys : List BundleFields) → EachBelow U (xs ++ ys) → EachBelow U xs
+each_first U [] ys h = tt
+each_first U (x ∷ xs) ys h = (h.0, each_first U xs ys h.1)
+
+each_rest : (U : Slots) (xs ys : List BundleFields) → EachBelow U (xs ++ ys) → EachBelow U ys
+each_rest U [] ys h = h
+each_rest U (x ∷ xs) ys h = each_rest U xs ys h.1
+
+late_first : (u : ℕ) (xs ys : List BundleFields) → NoneLater (xs ++ ys) u → NoneLater xs u
+late_first u [] ys h = tt
+late_first u (x ∷ xs) ys h = (h.0, late_first u xs ys h.1)
+
+late_rest : (u : ℕ) (xs ys : List BundleFields) → NoneLater (xs ++ ys) u → NoneLater ys u
+late_rest u [] ys h = h
+late_rest u (x ∷ xs) ys h = late_rest u xs ys h.1
+
+each_both : (U : Slots) (xs ys : List BundleFields) → EachBelow U xs → EachBelow U ys → EachBelow U (xs ++ ys)
+each_both U [] ys h k = k
+each_both U (x ∷ xs) ys h k = (h.0, each_both U xs ys h.1 k)
+
+with_both : (L : Slots) (xs ys : List BundleFields) → with_each L (xs ++ ys) ≡ with_each (with_each L xs) ys
+with_both L [] ys = refl
+with_both L (x ∷ xs) ys = with_both (with_slots L x.items) xs ys
+
+fits_both : (L : Slots) (xs ys : List BundleFields) → FitsEach L xs → FitsEach (with_each L xs) ys → FitsEach L (xs ++ ys)
+fits_both L [] ys h k = k
+fits_both L (x ∷ xs) ys h k = (h.0, fits_both (with_slots L x.items) xs ys h.1 k)
+
+log_both : (xs ys : List BundleFields) → log_bytes xs ++ log_bytes ys ≡ log_bytes (xs ++ ys)
+log_both [] ys = refl
+log_both (x ∷ xs) ys = append_assoc (bundle_bytes x) (log_bytes xs) (log_bytes ys) ∙ ap (λ l. bundle_bytes x ++ l) (log_both xs ys)
+
+-- the bundles of connections, and of later ones
+through_both : (xs ys : Endings) (F M G : StoreFields) (bs cs : List BundleFields) → Through xs F M bs → Through ys M G cs → SlotsBelow M.slots G.slots → Through (xs ++ ys) F G (bs ++ cs)
+through_both xs ys F M G bs cs h k grown = record {
+  fit = bundles_both bs cs h.fit k.fit;
+  from = λ U each d. from_twice (map.get U d) (map.get F.slots d) (map.get M.slots d) (map.get G.slots d) (h.from U (each_first U bs cs each) d) (k.from U (each_rest U bs cs each) d);
+  late = λ u late. late_twice F.horizon M.horizon G.horizon u (k.late u (late_rest u bs cs late)) (h.late u (late_first u bs cs late));
+  loads = λ calm L below.
+      let one = h.loads (calm_first xs ys calm) L below in
+      let two = k.loads (calm_rest xs ys calm) (with_each L bs) one.1 in
+      (fits_both L bs cs one.0 two.0, subst (λ S. SlotsBelow S G.slots) (sym (with_both L bs cs)) two.1);
+  known = λ calm. each_both G.slots bs cs (each_more M.slots G.slots bs grown (h.known (calm_first xs ys calm))) (k.known (calm_rest xs ys calm));
+}
+
+-- what a log of this length grew by, over turns
+abbrev Grew : List Endings → List ℕ → List ℕ → StoreFields → StoreFields → Type 0
+Grew turns l m F G = (bundles : List BundleFields) × (m ≡ l ++ log_bytes bundles) × Through (all_ends turns) F G bundles
+
+-- a turn whose edge isn't sealed behind it has kept its records
+kept_turn : (words : ChaCha) (old : Running) (ends : Endings) (new : Running) (l : List ℕ) → IsTurn words true old ends new → old.log ≡ Some l → old.edge.sealed ≡ false → new.edge.sealed ≡ false
+    → (records : List ℕ) × (new.log ≡ Some (l ++ records)) × Logs ends records old.edge.region.facts new.edge.region.facts
+kept_turn words old ends new l h old_log open_old open_new = of h.log
+  where
+    appended : (o : Option (List ℕ)) → Appends (Some l) o h.records → o ≡ Some (l ++ h.records)
+    appended None a = absurd a
+    appended (Some m) a = ap (λ x. Some x) a
+
+    of : IsKept old h.edge h.records h.told new ⊎ IsLost old h.edge h.records h.told new
+        → (records : List ℕ) × (new.log ≡ Some (l ++ records)) × Logs ends records old.edge.region.facts new.edge.region.facts
+    of (inl kept) = (
+      h.records,
+      appended new.log (subst (λ o. Appends o new.log h.records) old_log kept.log),
+      subst (λ (e : EdgeFields). Logs ends h.records old.edge.region.facts e.region.facts) (sym kept.edge)
+          (decisions_logged words old.edge ends h.records h.edge h.decided open_old (sym (ap (λ (e : EdgeFields). e.sealed) kept.edge) ∙ open_new)),
+    )
+    of (inr lost) = absurd (sealed_clash (sym open_new ∙ ap (λ (e : EdgeFields). e.sealed) lost.edge))
+
+through : (words : ChaCha) (old : Running) (turns : List Endings) (new : Running) (l m : List ℕ) → AreTurns words true old turns new
+    → old.log ≡ Some l → new.log ≡ Some m → old.edge.sealed ≡ false → new.edge.sealed ≡ false → Grew turns l m old.edge.region.facts new.edge.region.facts
+through words old [] new l m h old_log new_log open_old open_new = (
+  [],
+  one_log m l (sym new_log ∙ ap (λ (r : Running). r.log) h ∙ old_log) ∙ sym (append-nil l),
+  same_through old.edge.region.facts new.edge.region.facts (ap (λ (r : Running). r.edge.region.facts) h),
+)
+through words old (ends ∷ turns) new l m h old_log new_log open_old open_new =
+    elim h.0.edge.sealed as (λ b. h.0.edge.sealed ≡ b → Grew (ends ∷ turns) l m old.edge.region.facts new.edge.region.facts) [
+      | true ↦ λ e. absurd (sealed_clash (sym open_new ∙ turns_stay (past_each words ends) h.1 turns new h.4 (ap (λ (x : EdgeFields). x.sealed) same ∙ e)))
+      | false ↦ λ e.
+          let one = kept_turn words old ends h.0 l h.2 old_log open_old e in
+          let open_next : h.1.edge.sealed ≡ false = ap (λ (x : EdgeFields). x.sealed) same ∙ e in
+          let more = through (past_each words ends) h.1 turns new (l ++ one.0) m h.4 (log_stays h.0 h.1 h.3 ∙ one.1) new_log open_next open_new in
+          let rest = subst (λ (x : EdgeFields). Through (all_ends turns) x.region.facts new.edge.region.facts more.0) same more.2 in
+          let grown = subst (λ (x : EdgeFields). SlotsBelow x.region.facts.slots new.edge.region.facts.slots) same (turns_grow (past_each words ends) true h.1 turns new h.4).facts.slots in
+          let bundles = one.2 in (
+            bundles.0 ++ more.0,
+            more.1 ∙ append_assoc l one.0 (log_bytes more.0) ∙ ap (λ x. l ++ x) (ap (λ x. x ++ log_bytes more.0) bundles.1 ∙ log_both bundles.0 more.0),
+            through_both ends (all_ends turns) old.edge.region.facts h.0.edge.region.facts new.edge.region.facts bundles.0 more.0 bundles.2 rest grown,
+          )
+    ] refl
+  where
+    same : h.1.edge ≡ h.0.edge
+    same = edge_stays h.0 h.1 h.3
 
 -- ---- before the first connection
 
@@ -521,9 +652,9 @@ skip_above None below = absurd below
 skip_above (Some (Held b)) below = absurd below
 skip_above (Some Skipped) below = refl
 
-log_from : (olds : List BundleFields) (region : RegionFields) (log : List ℕ) (h : HasLogged olds region log) → Logs h.ends [] log h.start.facts region.facts
+log_from : (olds : List BundleFields) (region : RegionFields) (log : List ℕ) (h : HasLogged olds region log) → Grew h.turns [] log h.start.facts region.facts
 log_from olds region log h =
-    through h.words (record { edge = edge_of h.start; log = Some []; faults = h.faults }) h.ends (record { edge = edge_of region; log = Some log; faults = h.told }) [] log h.served refl refl refl refl
+    through h.words (record { edge = edge_of h.refuses h.start; log = Some []; faults = h.faults }) h.turns (record { edge = edge_of h.refuses region; log = Some log; faults = h.told }) [] log h.served refl refl refl refl
 
 -- the bundles of the log are those by which it grew
 log_is : (log : List ℕ) (news bundles : List BundleFields) → AreLogged log news → AreBundles bundles → log ≡ log_bytes bundles → bundles ≡ news
@@ -534,7 +665,7 @@ pub keeps_all : LogKeepsAll
 keeps_all olds region log h news logged bytes all are among_olds among_news new loaded dropped loads =
     let U = loaded.facts.slots in
     let grew = log_from olds region log h in
-    let through = subst (Through h.ends h.start.facts region.facts) (log_is log news grew.0 logged grew.2.fit grew.1) grew.2 in
+    let through = subst (Through (all_ends h.turns) h.start.facts region.facts) (log_is log news grew.0 logged grew.2.fit grew.1) grew.2 in
     let back = loads.1 in
     let same : all ≡ back.bundles = one_list bytes back.bundles all (record { fit = back.fit; rest = loads.0; parts = back.parts; torn = loads.2 }) are in
     let above = each_below new back.bundles loaded back.fit back.each in
@@ -571,17 +702,9 @@ taken_fit old (b ∷ more) new h =
     let rest = taken_fit h.0 more new h.2 in
     ((h.1.1.takes.1, subst (λ S. FitsEach S more) is rest.0), rest.1 ∙ ap (λ S. with_each S more) is, rest.2 ∙ h.1.1.number)
 
-fits_both : (L : Slots) (xs ys : List BundleFields) → FitsEach L xs → FitsEach (with_each L xs) ys → FitsEach L (xs ++ ys)
-fits_both L [] ys h k = k
-fits_both L (x ∷ xs) ys h k = (h.0, fits_both (with_slots L x.items) xs ys h.1 k)
-
 fits_behind : (L : Slots) (xs : List BundleFields) (y : BundleFields) (ys : List BundleFields) → FitsEach L (xs ++ y ∷ ys) → AllFit (with_each L xs) y.items
 fits_behind L [] y ys h = h.0
 fits_behind L (x ∷ xs) y ys h = fits_behind (with_slots L x.items) xs y ys h.1
-
-each_both : (U : Slots) (xs ys : List BundleFields) → EachBelow U xs → EachBelow U ys → EachBelow U (xs ++ ys)
-each_both U [] ys h k = k
-each_both U (x ∷ xs) ys h k = (h.0, each_both U xs ys h.1 k)
 
 each_behind : (U : Slots) (xs : List BundleFields) (y : BundleFields) (ys : List BundleFields) → EachBelow U (xs ++ y ∷ ys) → AllBelow U y.items
 each_behind U [] y ys h = h.0
@@ -633,11 +756,11 @@ module _ (all back : List BundleFields) (rest cut : List ℕ) (torn : IsTorn cut
 pub loads_all : LogLoads
 loads_all olds region log h calm news logged bytes are new loaded empty fresh result loads = by result loads
   where
-    grew : Logs h.ends [] log h.start.facts region.facts
+    grew : Grew h.turns [] log h.start.facts region.facts
     grew = log_from olds region log h
 
-    news_through : Through h.ends h.start.facts region.facts news
-    news_through = subst (Through h.ends h.start.facts region.facts) (log_is log news grew.0 logged grew.2.fit grew.1) grew.2
+    news_through : Through (all_ends h.turns) h.start.facts region.facts news
+    news_through = subst (Through (all_ends h.turns) h.start.facts region.facts) (log_is log news grew.0 logged grew.2.fit grew.1) grew.2
 
     -- the slots of a region without facts
     nothing : new.facts.slots ≡ h.first.facts.slots
@@ -657,7 +780,7 @@ loads_all olds region log h calm news logged bytes are new loaded empty fresh re
     known =
         let above = each_below h.first olds h.full h.fit h.loaded in
         let grown = slots_trans h.full.facts.slots h.start.facts.slots region.facts.slots (pruned_below h.moment h.count h.full h.start h.pruned)
-        (connections_grow h.words true (record { edge = edge_of h.start; log = Some []; faults = h.faults }) h.ends (record { edge = edge_of region; log = Some log; faults = h.told }) h.served).facts.slots in
+        (turns_grow h.words true (record { edge = edge_of h.refuses h.start; log = Some []; faults = h.faults }) h.turns (record { edge = edge_of h.refuses region; log = Some log; faults = h.told }) h.served).facts.slots in
         each_both region.facts.slots olds news (each_more h.full.facts.slots region.facts.slots olds grown above.each) (news_through.known calm)
 
     behind : (rest : List ℕ) → (front : TakesFront new bytes rest loaded) → Parted front.bundles (olds ++ news) rest are.rest

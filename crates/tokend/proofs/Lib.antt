@@ -1,7 +1,8 @@
 pub mod Announcements
 pub mod CheckLaws
 pub mod Commands
-pub mod Connections
+pub mod Connecting
+pub mod Deciding
 pub mod EventWords
 pub mod FactsLaws
 pub mod Growing
@@ -18,4 +19,5 @@ pub mod Shows
 pub mod SocketLaws
 pub mod Tasks
 pub mod Tellings
+pub mod Turning
 pub mod TypedNumber

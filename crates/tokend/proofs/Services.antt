@@ -11,7 +11,6 @@ use Rattle.rand_chacha.specs.ChaCha.{ChaCha}
 use Rattle.tk_edge.specs.EdgeFields.{EdgeFields}
 use Rattle.tk_edge.specs.Told.{Change}
 use Rattle.tk_region.specs.RegionFields.{RegionFields}
-use Rattle.tokend.specs.Connection.{Course, ServesLogged, ServesWith}
 use Rattle.tokend.specs.ServiceRun.{HasOpened, HasRun, IsServiceRun, with_region}
 use Rattle.tokend.specs.Serving.{Announces, IsListenFault, IsStartFault, LeavesOpening, LeavesService}
 use Rattle.tokend.specs.Starting.{IsStart, LoadsOld, PrunesOld}
@@ -19,12 +18,13 @@ use Rattle.tokend.specs.Telling.{Writing}
 use Rattle.tokend.proofs.Runs.{begun_less}
 use Rattle.tokend.specs.declared.fault.Fault.{Fault}
 use Rattle.tokend.specs.declared.fault.Fault.TheVariants.{BadLine, BadLogFile, BadSeedFile, CannotListen, CannotOpen, CannotRead, CannotReadFile, Facts, Memory, Output, ScriptTooLong, SocketFailed, Words}
+use Rattle.tokend.specs.Turns.{Course, ServesLogged, ServesWith}
 use Rattle.tokend.specs.declared.options.Service.{Service}
 
 listen_fault : (service : Service) (fault : Fault) → IsListenFault fault → IsStartFault service fault
 listen_fault service CannotListen h = tt
 listen_fault service Output h = tt
-listen_fault service Memory h = absurd h
+listen_fault service Memory h = tt
 listen_fault service (CannotOpen name) h = absurd h
 listen_fault service BadLogFile h = absurd h
 listen_fault service (Words error) h = absurd h

@@ -5,10 +5,10 @@ use Rattle.std.specs.Io.KnownBytes.{Keeps}
 use Rattle.clap.specs.Words.{Text, IsAmong, fault_of, kind_of, subcommand_of}
 use Rattle.clap.specs.declared.error.Error.{Error}
 use Rattle.clap.specs.declared.error.kind.ErrorKind.{ErrorKind}
-use Rattle.clap.specs.declared.error.kind.ErrorKind.TheVariants.{DisplayHelp, DisplayVersion, MissingRequiredArgument, MissingSubcommand, OutOfMemory}
+use Rattle.clap.specs.declared.error.kind.ErrorKind.TheVariants.{DisplayHelp, DisplayVersion, InvalidValue, MissingRequiredArgument, MissingSubcommand, OutOfMemory}
 use Rattle.tokend.specs.CommandLine.{tokend_app}
 use Rattle.tokend.specs.ProgramRun.{IsDone, IsFaultFor, Leaves}
-use Rattle.tokend.specs.Task.{AsksToShow, IsNoShow, IsRefusalOf, lacks_log, missing_kind}
+use Rattle.tokend.specs.Task.{AsksToShow, IsNoShow, IsRefusalOf, kind_missing, lacks_log, misnames_ahead, missing_kind}
 use Rattle.tk_edge.specs.Told.{Change}
 use Rattle.tokend.specs.Telling.{Writer}
 use Rattle.tokend.specs.declared.fault.Fault.{Fault}
@@ -28,45 +28,42 @@ Refuses error old new fault = ((fault ≡ Output) × Shows (kind_of error))
     ⊎ (((fault ≡ Memory) ⊎ ((fault ≡ Words error) × (kind_of error ≢ OutOfMemory) × IsNoShow (kind_of error))) × Keeps old new)
 
 -- the kind of arguments that name no task is neither help nor the version
-missing_else : (b : Bool) (k : ErrorKind) → (if b then MissingRequiredArgument else MissingSubcommand) ≡ k → (k ≡ MissingRequiredArgument) ⊎ (k ≡ MissingSubcommand)
-missing_else true k e = inl (sym e)
-missing_else false k e = inr (sym e)
+abbrev IsMissing : ErrorKind → Type 0
+IsMissing k = (k ≡ MissingRequiredArgument) ⊎ ((k ≡ InvalidValue) ⊎ (k ≡ MissingSubcommand))
 
-no_missing : (words : List Text) (k : ErrorKind) → (k ≡ MissingRequiredArgument → ⊥) → (k ≡ MissingSubcommand → ⊥) → missing_kind (subcommand_of tokend_app words) ≡ k → ⊥
-no_missing words k not_argument not_missing e =
-    elim (missing_else (lacks_log (subcommand_of tokend_app words)) k e) [
-      | inl is ↦ not_argument is
-      | inr is ↦ not_missing is
-    ]
+missing_else : (lacks misnames : Bool) (k : ErrorKind) → kind_missing lacks misnames ≡ k → IsMissing k
+missing_else true misnames k e = inl (sym e)
+missing_else false true k e = inr (inl (sym e))
+missing_else false false k e = inr (inr (sym e))
 
-among : (words : List Text) (kind k : ErrorKind) → Ends words kind → kind ≡ k → (k ≡ OutOfMemory → ⊥) → (k ≡ MissingRequiredArgument → ⊥) → (k ≡ MissingSubcommand → ⊥)
-    → IsAmong k (fault_of tokend_app words)
-among words kind k (inl memory) e not_memory not_argument not_missing = absurd (not_memory (sym e ∙ memory))
-among words kind k (inr (inl found)) e not_memory not_argument not_missing = subst (λ q. IsAmong q (fault_of tokend_app words)) e found
-among words kind k (inr (inr missing)) e not_memory not_argument not_missing =
-    absurd (no_missing words k not_argument not_missing (sym missing.0 ∙ e))
+no_missing : (words : List Text) (k : ErrorKind) → (IsMissing k → ⊥) → missing_kind (subcommand_of tokend_app words) ≡ k → ⊥
+no_missing words k not_missing e = not_missing (missing_else (lacks_log (subcommand_of tokend_app words)) (misnames_ahead (subcommand_of tokend_app words)) k e)
+
+among : (words : List Text) (kind k : ErrorKind) → Ends words kind → kind ≡ k → (k ≡ OutOfMemory → ⊥) → (IsMissing k → ⊥) → IsAmong k (fault_of tokend_app words)
+among words kind k (inl memory) e not_memory not_missing = absurd (not_memory (sym e ∙ memory))
+among words kind k (inr (inl found)) e not_memory not_missing = subst (λ q. IsAmong q (fault_of tokend_app words)) e found
+among words kind k (inr (inr missing)) e not_memory not_missing =
+    absurd (no_missing words k not_missing (sym missing.0 ∙ e))
 
 asks_to_show : (words : List Text) (kind : ErrorKind) → Ends words kind → Shows kind → AsksToShow words
-asks_to_show words kind ends (inl help) = inl (among words kind DisplayHelp ends help not_memory not_argument not_missing)
+asks_to_show words kind ends (inl help) = inl (among words kind DisplayHelp ends help not_memory not_missing)
   where
     not_memory : DisplayHelp ≡ OutOfMemory → ⊥
     not_memory e = absurd (cc)
 
-    not_argument : DisplayHelp ≡ MissingRequiredArgument → ⊥
-    not_argument e = absurd (cc)
-
-    not_missing : DisplayHelp ≡ MissingSubcommand → ⊥
-    not_missing e = absurd (cc)
-asks_to_show words kind ends (inr version) = inr (among words kind DisplayVersion ends version not_memory not_argument not_missing)
+    not_missing : IsMissing DisplayHelp → ⊥
+    not_missing (inl e) = absurd (cc)
+    not_missing (inr (inl e)) = absurd (cc)
+    not_missing (inr (inr e)) = absurd (cc)
+asks_to_show words kind ends (inr version) = inr (among words kind DisplayVersion ends version not_memory not_missing)
   where
     not_memory : DisplayVersion ≡ OutOfMemory → ⊥
     not_memory e = absurd (cc)
 
-    not_argument : DisplayVersion ≡ MissingRequiredArgument → ⊥
-    not_argument e = absurd (cc)
-
-    not_missing : DisplayVersion ≡ MissingSubcommand → ⊥
-    not_missing e = absurd (cc)
+    not_missing : IsMissing DisplayVersion → ⊥
+    not_missing (inl e) = absurd (cc)
+    not_missing (inr (inl e)) = absurd (cc)
+    not_missing (inr (inr e)) = absurd (cc)
 
 pub shown_done : {L T : Type 0} (kept : List ℕ → Option (List ℕ)) (holds : L → Option (List ℕ)) (opens : List ℕ → L → Type 0) (words : List Text) (kind : ErrorKind) (r : Result T Fault)
     (input : Option (List ℕ)) (output : Change) (writer : Writer) → Ends words kind → OnOk r (Shows kind)

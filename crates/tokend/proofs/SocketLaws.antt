@@ -22,16 +22,16 @@ module _ (asked : AskedFields) (old new : EdgeFields) (unsealed : old.sealed ≡
 
   -- what arrives at an edge that exchanges no facts is heard, and its answer was made
   made : (P : AnswerFields → Type 0) (came : Arrival) → Arrives old.sync None came → came ≢ Silence → (answer : AnswerFields)
-      → Answers old.region asked.now asked.words came (Ok answer) new.region → P answer → new.sealed ≡ false → new.sync ≡ old.sync → IsMade P
-  made P came may spoke answer answers holds sealed sync =
-      let by = answers_alone old.region asked.now asked.words came (Ok answer) new.region (subst (λ s. MayArrive s came) alone may.0) answers in (
+      → Answers old.refuses_ahead old.region asked.now asked.words came (Ok answer) new.region → P answer → new.sealed ≡ false → new.sync ≡ old.sync → new.refuses_ahead ≡ old.refuses_ahead → IsMade P
+  made P came may spoke answer answers holds sealed sync ahead =
+      let by = answers_alone old.refuses_ahead old.region asked.now asked.words came (Ok answer) new.region (subst (λ s. MayArrive s came) alone may.0) answers in (
         came,
         spoke,
         subst P by.0 holds,
-        record { gains = by.1; next = by.2; sealed = sealed ∙ sym unsealed; sync = sync },
+        record { gains = by.1; next = by.2; sealed = sealed ∙ sym unsealed; sync = sync; refuses_ahead = ahead },
       )
 
   pub connection_answers : (status : StatusCode) → IsConnection asked.now asked.words false old new unknown (Ok (Done status)) → IsMade (λ answer. status ≡ answer.status)
   connection_answers status h =
       let a = h.served unsealed in
-      made (λ answer. status ≡ answer.status) a.0 a.1 a.2 a.3.0 a.3.1 a.3.2.0 a.3.2.3 h.sync
+      made (λ answer. status ≡ answer.status) a.0 a.1 a.2 a.3.0 a.3.1 a.3.2.0 a.3.2.3 h.sync h.refuses_ahead

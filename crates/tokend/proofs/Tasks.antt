@@ -18,8 +18,8 @@ use Rattle.clap.specs.declared.error.Error.{Error}
 use Rattle.clap.specs.declared.error.kind.ErrorKind.TheVariants as kind
 use Rattle.tk_handle.specs.Ranges.{greatest_region}
 use Rattle.tk_region.specs.SettingsFields.{greatest_code, greatest_access, greatest_refresh, greatest_family, greatest_cap}
-use Rattle.tokend.specs.CommandLine.{HasCheck, HasFlag, HasNumber, HasNumbers, HasService, greatest_port, is_given, tokend_app}
-use Rattle.tokend.specs.Task.{Asks, IsFactsTask, IsNoCheck, IsNoService, IsNoTask, IsRefusalOf, IsTask, lacks_log, missing_kind}
+use Rattle.tokend.specs.CommandLine.{HasCheck, HasFlag, HasNumber, HasNumbers, HasService, greatest_port, is_given, is_misnamed, refusal_named, tokend_app}
+use Rattle.tokend.specs.Task.{Asks, IsFactsTask, IsNoCheck, IsNoService, IsNoTask, IsRefusalOf, IsTask, lacks_log, misnames_ahead, missing_kind}
 use Rattle.tokend.specs.declared.options.Numbers.{Numbers}
 use Rattle.tokend.specs.declared.options.Service.{Service}
 use Rattle.tokend.specs.declared.options.Task.{Task}
@@ -216,6 +216,11 @@ without_seed rows none service h =
     let both : None ≡ Some (string_bytes service.seed) = sym none ∙ h.seed in
     absurd (cc)
 
+pub without_refusal : (rows : List Row) → None ≡ refusal_named (first_of (codes "ahead") rows) → IsNoService rows
+without_refusal rows none service h =
+    let both : None ≡ Some service.refuses_ahead = none ∙ h.ahead in
+    absurd (cc)
+
 -- bundles taken in are to be logged without a log
 pub without_log : (rows : List Row) (flag : Bool) (log : Option (List ℕ)) → HasFlag rows (codes "log-taken") flag → flag ≡ true
     → first_of (codes "log") rows ≡ log → log ≡ None → IsNoService rows
@@ -240,6 +245,17 @@ text_missing f id text at = same text ∙ ap (λ o. not (is_some o)) (at ∙ fir
     same : (t : Option (Bor Text)) → not (is_some t) ≡ not (is_some (option_map (λ s. s.now) t))
     same None = refl
     same (Some s) = refl
+
+-- what is read of an option's text, by the rows
+pub by_text : {A : Type 0} (g : Option Text → A) (f : Found) (id : Text) (text : Option Text) → text ≡ first_value f id → g text ≡ g (first_of id (rows_of f))
+by_text g f id text at = ap g (at ∙ first_value-rows f id)
+
+-- the subcommand has another value of `--ahead`, and its rows are the ones found
+pub misnamed_given : (found : Option (Text × List Row)) (rows : List Row) (result : Bool) → option_map (λ p. p.1) found ≡ Some rows
+    → result ≡ is_misnamed (first_of (codes "ahead") rows) → result ≡ misnames_ahead found
+misnamed_given None rows result at is = absurd (cc)
+misnamed_given (Some (name, others)) rows result at is =
+    is ∙ ap (λ r. is_misnamed (first_of (codes "ahead") r)) (one_rows (Some (name, others)) rows others name at refl)
 
 -- the flag of an option's text
 pub flag_given : (f : Found) (id text : Text) (flag : Bool) → Some text ≡ first_value f id → flag ≡ bytes_eq text (codes "true") → HasFlag (rows_of f) id flag

@@ -2,12 +2,15 @@
 --   number_rule     an option with a number and a default
 --   range_rule      an option with a number in a range
 --   file_rule       an option with the name of a file
+--   word_rule       an option with a word and a default
 --   flag_rule       an option without a value
 --   setting_rules   the five settings of a region
 --   service_rules   the options of a service alone
 --   tokend_app      the whole program for clap
 --   IsDecimal       a text that stands for a number
 --   HasFlag         whether an option without a value was given
+--   refusal_named   whether bundles that are ahead are refused, by the value of `--ahead`
+--   is_misnamed     `--ahead` has neither of its two values
 --   HasNumbers      clap's matches have these five settings
 --   HasService      clap's matches have this service
 --   HasSources      clap's matches have these sources of facts
@@ -26,6 +29,9 @@ use Rattle.std.specs.Prelude.{
   IfSome,
   IfNone,
   IsSome,
+  if◌then◌else◌,
+  is_some,
+  not,
   String,
   codes,
   map,
@@ -103,6 +109,11 @@ abbrev pub file_rule : Text → Bool → Rule
 file_rule id is_wanted =
     record (new_rule id) { long = Some id; value_names = 1; required = is_wanted }
 
+-- the option `--id WORD`, with a default
+abbrev pub word_rule : Text → Text → Rule
+word_rule id default =
+    record (new_rule id) { long = Some id; value_names = 1; defaults = default ∷ [] }
+
 -- the option `--id`, without a value
 abbrev pub flag_rule : Text → Rule
 flag_rule id = record (new_rule id) { long = Some id; action = Some action.SetTrue }
@@ -111,6 +122,7 @@ flag_rule id = record (new_rule id) { long = Some id; action = Some action.SetTr
 abbrev pub choice_rule : Text → Takes → Rule
 choice_rule id takes.Nothing = flag_rule id
 choice_rule id (takes.File is_wanted) = file_rule id is_wanted
+choice_rule id (takes.Word default) = word_rule id default.now
 choice_rule id (takes.Range least greatest is_wanted) = range_rule id least greatest is_wanted
 choice_rule id (takes.Number greatest default) = number_rule id default.now greatest
 
@@ -138,8 +150,8 @@ abbrev pub loopback_app : App
 loopback_app = with_rules (new_app (codes "loopback")) setting_rules
 
 -- the options of a service: the region's number, the port and the seed, which are required; the
--- log, whether it gets bundles taken in, the old log, the moment of a prune and the number of
--- connections, which aren't
+-- log, whether it gets bundles taken in, the old log, the moment of a prune, what is done with
+-- bundles that are ahead, and the number of connections, which aren't
 abbrev pub service_rules : List Rule
 service_rules =
     range_rule (codes "region") 1 greatest_region true
@@ -149,6 +161,7 @@ service_rules =
     ∷ flag_rule (codes "log-taken")
     ∷ file_rule (codes "load") false
     ∷ range_rule (codes "prune") 0 greatest_moment false
+    ∷ word_rule (codes "ahead") (codes "taken")
     ∷ range_rule (codes "requests") 0 greatest_requests false
     ∷ []
 
@@ -215,6 +228,18 @@ is_given (Some text) = bytes_eq text (codes "true")
 abbrev pub HasFlag : List Row → Text → Bool → Type 0
 HasFlag rows id flag = flag ≡ is_given (first_of id rows)
 
+-- whether bundles that are ahead are refused, by the value of `--ahead`: `refused` or `taken`
+abbrev pub refusal_named : Option Text → Option Bool
+refusal_named None = None
+refusal_named (Some text) =
+    if bytes_eq text (codes "refused") then Some true
+    else (if bytes_eq text (codes "taken") then Some false else None)
+
+-- `--ahead` was given, and its value is neither of the two
+abbrev pub is_misnamed : Option Text → Bool
+is_misnamed None = false
+is_misnamed (Some text) = not (is_some (refusal_named (Some text)))
+
 -- the rows have these five settings, each in its range
 pub record HasNumbers (rows : List Row) (n : Numbers) : Type 0 where
   pub code : HasNumber rows (codes "code") 1 greatest_code n.code
@@ -223,8 +248,9 @@ pub record HasNumbers (rows : List Row) (n : Numbers) : Type 0 where
   pub family : HasNumber rows (codes "family") 1 greatest_family n.family
   pub cap : HasNumber rows (codes "cap") 1 greatest_cap n.cap
 
--- the rows have this service: the settings, each number in its range, the names of files, and
--- whether the log gets bundles taken in, for which there is a log
+-- the rows have this service: the settings, each number in its range, the names of files, whether
+-- the log gets bundles taken in, for which there is a log, and whether bundles that are ahead are
+-- refused
 pub record HasService (rows : List Row) (s : Service) : Type 0 where
   pub numbers : HasNumbers rows s.numbers
   pub region : HasNumber rows (codes "region") 1 greatest_region s.region
@@ -240,6 +266,7 @@ pub record HasService (rows : List Row) (s : Service) : Type 0 where
       → ¬ (HasNumber rows (codes "prune") 0 greatest_moment n))
   pub log_taken : HasFlag rows (codes "log-taken") s.log_taken
   pub logged : s.log_taken ≡ true → IsSome s.log
+  pub ahead : refusal_named (first_of (codes "ahead") rows) ≡ Some s.refuses_ahead
 
 -- the rows have these names of sources
 abbrev pub HasSources : List Row → Sources → Type 0

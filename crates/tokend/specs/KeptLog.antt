@@ -10,7 +10,7 @@
 --   ServiceLogs   a service with a log has written such a log
 use Rattle.std.specs.Prelude.{◌≡◌, ◌≢◌, ◌⊎◌, ⊤, ℕ, ◌≤◌, true, false, max, List, [], ◌∷◌, ◌++◌}
 use Rattle.std.specs.Prelude.{Option, None, Some, IfSome, IsSome, Result, Ok, Err, String}
-use Rattle.std.specs.Prelude.{string_bytes}
+use Rattle.std.specs.Prelude.{Bool, string_bytes}
 use Rattle.std.specs.FinMap as map
 use Rattle.rand_chacha.specs.ChaCha.{ChaCha}
 use Rattle.tk_handle.specs.declared.dot.Dot.{Dot}
@@ -24,12 +24,12 @@ use Rattle.tk_region.specs.RegionFields.{RegionFields}
 use Rattle.tk_edge.specs.declared.edge.Served.{Served}
 use Rattle.tk_edge.specs.declared.tell.Fault.{Fault}
 use Rattle.tk_edge.specs.declared.tell.Fault.TheVariants as fault
-use Rattle.tokend.specs.Connection.{AreConnections}
 use Rattle.tokend.specs.Loading.{AreBundles, Loads, TakesEach, log_bytes}
 use Rattle.tk_edge.specs.Told.{Change}
 use Rattle.tokend.specs.ServiceRun.{IsServiceRun}
 use Rattle.tokend.specs.Starting.{PrunesOld, edge_of}
 use Rattle.tokend.specs.Telling.{Writer, Writing}
+use Rattle.tokend.specs.Turns.{AreTurns, Endings, all_ends}
 use Rattle.tokend.specs.declared.load.LoadFault.{LoadFault}
 use Rattle.tokend.specs.declared.load.LoadFault.TheVariants as load
 use Rattle.tokend.specs.declared.options.Service.{Service}
@@ -75,13 +75,14 @@ pub record HasLogged (olds : List BundleFields) (region : RegionFields) (log : L
     pub count : Option ℕ
     pub start : RegionFields
     pub pruned : PrunesOld moment full (Ok count) start
+    pub refuses : Bool
     pub words : ChaCha
     pub faults : Writer
-    pub ends : List (Result Served Fault)
+    pub turns : List Endings
     pub told : Writer
-    pub served : AreConnections words true
-        (record { edge = edge_of start; log = Some []; faults = faults }) ends
-        (record { edge = edge_of region; log = Some log; faults = told })
+    pub served : AreTurns words true
+        (record { edge = edge_of refuses start; log = Some []; faults = faults }) turns
+        (record { edge = edge_of refuses region; log = Some log; faults = told })
 
 -- What a region held, another holds or has skipped. What it skipped since its start, the other has
 -- skipped. Its horizon is that of its start, or isn't later than the other's.
@@ -110,7 +111,7 @@ IsCalm (Err fault.Memory) = ⊥
 IsCalm other = ⊤
 
 -- no connection ran out of memory
-abbrev pub AreCalm : List (Result Served Fault) → Type 0
+abbrev pub AreCalm : Endings → Type 0
 AreCalm [] = Unit {0}
 AreCalm (end ∷ ends) = IsCalm end × AreCalm ends
 
@@ -132,7 +133,7 @@ IsNotRefused (Err (load.Refused at)) = ⊥
 abbrev pub LogLoads : Type 0
 LogLoads =
     (olds : List BundleFields) (region : RegionFields) (log : List ℕ)
-    → (h : HasLogged olds region log) → AreCalm h.ends
+    → (h : HasLogged olds region log) → AreCalm (all_ends h.turns)
     → (news : List BundleFields) → AreLogged log news
     → (bytes : List ℕ) → AreLogged bytes (olds ++ news)
     → (new loaded : RegionFields) → new.facts ≡ empty_store → IsFresh new.number region

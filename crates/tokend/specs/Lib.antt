@@ -9,9 +9,9 @@
 --   Starting      IsStart, the start of a service; PrunesOld, its prune
 --   Serving       Announces, the lines before a service's first connection; IsServiceFault, what
 --                 may prevent it
---   Connection    IsConnection, what a connection does to an edge, its log and the lines about
---                 faults
---   Closing       LooksAndAdds, what is done to the connections that are set aside
+--   Decisions     Decides, what a server decides of the bytes that have come
+--   Turns         AreTurns, what turns do to an edge, its log and the lines about faults
+--   Connection    IsConnection, what a connection of `loopback` does to an edge and its log
 --   ServiceRun    IsServiceRun, what a service that ended well has done
 --   Growing       Grows, what serving leaves of a region
 --   KeptLog       LogKeepsAll, a log of bundles has all that its region holds
@@ -30,8 +30,9 @@ pub mod Script
 pub mod Loading
 pub mod Starting
 pub mod Serving
+pub mod Decisions
+pub mod Turns
 pub mod Connection
-pub mod Closing
 pub mod ServiceRun
 pub mod Growing
 pub mod KeptLog

@@ -8,7 +8,7 @@ use Rattle.rand_chacha.specs.ChaCha.{ChaCha}
 use Rattle.tk_edge.specs.EdgeFields.{EdgeFields}
 use Rattle.tk_edge.specs.Told.{Change}
 use Rattle.tk_region.specs.RegionFields.{RegionFields}
-use Rattle.tokend.specs.Connection.{ServesLogged}
+use Rattle.tokend.specs.Turns.{ServesLogged}
 use Rattle.tokend.specs.Serving.{Announces}
 use Rattle.tokend.specs.Starting.{IsStart, LoadsOld, PrunesOld}
 use Rattle.tokend.specs.Telling.{Writing}
@@ -16,7 +16,13 @@ use Rattle.tokend.specs.declared.options.Service.{Service}
 
 -- the edge with another region
 abbrev pub with_region : EdgeFields → RegionFields → EdgeFields
-with_region edge region = record { region = region; sync = edge.sync; sealed = edge.sealed }
+with_region edge region =
+    record {
+      region = region;
+      sync = edge.sync;
+      refuses_ahead = edge.refuses_ahead;
+      sealed = edge.sealed;
+    }
 
 -- The region was pruned if that was requested, the announcement written, and as many connections
 -- as requested were served by the region that was left, with the service's log. Each connection has

@@ -141,9 +141,10 @@ IsFileFault service BadSeedFile = ⊤
 IsFileFault service BadLogFile = IsSome service.load ⊎ IsSome service.log
 IsFileFault service fault = ⊥
 
--- the faults of the port and the output
+-- the faults of the port, of memory for its connections, and of the output
 abbrev pub IsListenFault : Fault → Type 0
 IsListenFault CannotListen = ⊤
+IsListenFault Memory = ⊤
 IsListenFault Output = ⊤
 IsListenFault fault = ⊥
 

@@ -12,6 +12,7 @@ use Rattle.std.specs.Prelude.{
   ◌⊎◌,
   ⊤,
   ℕ,
+  Bool,
   true,
   false,
   List,
@@ -46,13 +47,15 @@ abbrev pub first_region : Service → RegionFields
 first_region service =
     record { number = service.region; settings = settings_of service.numbers; facts = empty_store }
 
--- an edge over which regions exchange facts, and that isn't sealed
-abbrev pub edge_of : RegionFields → EdgeFields
-edge_of region = record { region = region; sync = true; sealed = false }
+-- an edge over which regions exchange facts, and that isn't sealed; the flag is whether it refuses
+-- pushed bundles that are ahead
+abbrev pub edge_of : Bool → RegionFields → EdgeFields
+edge_of refuses region =
+    record { region = region; sync = true; refuses_ahead = refuses; sealed = false }
 
 -- the edge of the service's region, without facts
 abbrev pub first_edge : Service → EdgeFields
-first_edge service = edge_of (first_region service)
+first_edge service = edge_of service.refuses_ahead (first_region service)
 
 -- the generator at its first word: the seed is its key, and the region's number its stream
 abbrev pub first_words : List ℕ → ℕ → ChaCha

@@ -7,6 +7,7 @@
 --   IsFactsTask     the values of `facts` are those of this task
 --   IsNoCheck       a check is requested, and the values are no check's
 --   lacks_log       bundles taken in are to be logged without a log
+--   misnames_ahead  `--ahead` has neither of its two values
 --   missing_kind    the kind of the fault of arguments that name no task
 --   Asks            the arguments request this task
 --   AsksToServe     the arguments request a service
@@ -26,7 +27,7 @@ use Rattle.clap.specs.declared.error.kind.ErrorKind.TheVariants.{
 }
 use Rattle.tk_region.specs.SettingsFields.{SettingsFields}
 use Rattle.tokend.specs.CommandLine.{HasCheck, HasFlag, HasNumbers, HasService, HasSources}
-use Rattle.tokend.specs.CommandLine.{is_given, tokend_app}
+use Rattle.tokend.specs.CommandLine.{is_given, is_misnamed, tokend_app}
 use Rattle.tokend.specs.declared.fault.Fault.{Fault}
 use Rattle.tokend.specs.declared.fault.Fault.TheVariants.{Memory, Words}
 use Rattle.tokend.specs.declared.options.Check.{Check as CheckValue}
@@ -56,7 +57,8 @@ loopback_task s =
       cap = s.cap;
     })
 
--- the values are no service's: a required number, the seed or the log is missing
+-- the values are no service's: a required number, the seed or the log is missing, or `--ahead` has
+-- another value
 abbrev pub IsNoService : List Row → Type 0
 IsNoService rows = (service : Service) → ¬ (HasService rows service)
 
@@ -96,9 +98,20 @@ lacks_log (Some found) =
     is_given (first_of (codes "log-taken") found.1)
     && not (is_some (first_of (codes "log") found.1))
 
+-- the subcommand has an `--ahead` whose value is neither of the two
+abbrev pub misnames_ahead : Option (Text × List Row) → Bool
+misnames_ahead None = false
+misnames_ahead (Some found) = is_misnamed (first_of (codes "ahead") found.1)
+
+-- the kind of the fault by whether the log is missing and `--ahead` has another value
+abbrev pub kind_missing : Bool → Bool → ErrorKind
+kind_missing lacks misnames =
+    if lacks then MissingRequiredArgument
+    else (if misnames then InvalidValue else MissingSubcommand)
+
 -- the kind of the fault of arguments in which clap finds no fault, and which name no task
 abbrev pub missing_kind : Option (Text × List Row) → ErrorKind
-missing_kind found = if lacks_log found then MissingRequiredArgument else MissingSubcommand
+missing_kind found = kind_missing (lacks_log found) (misnames_ahead found)
 
 -- the arguments request this task: clap finds no fault in them, and they name the task
 abbrev pub Asks : List Text → Task → Type 0

@@ -162,7 +162,7 @@ fn serve_command<'a>(alloc: Global) -> Result<Command<'a>, AllocError>
     let serve = Command::new(alloc, "serve").about(
         "Serves requests over HTTP on 127.0.0.1, one connection after the other",
     );
-    let choices: [Choice<'a>; 8] = [
+    let choices: [Choice<'a>; 9] = [
         ("region", Takes::Range(1, Service::GREATEST_REGION, true),
             "The number of the region that is served, 1 to 65535, like no other's and never used again [required]"),
         ("port", Takes::Range(0, Service::GREATEST_PORT, true),
@@ -177,6 +177,8 @@ fn serve_command<'a>(alloc: Global) -> Result<Command<'a>, AllocError>
             "The log of an earlier run, whose facts are taken in first [default: none]"),
         ("prune", Takes::Range(0, Moment::GREATEST, false),
             "Skips all facts of families that are over at this moment, in seconds since 1970, 0 to 253402300799 [default: none]"),
+        ("ahead", Takes::Word("taken"),
+            "Whether a pushed bundle whose horizon is later than the clock is taken or refused"),
         ("requests", Takes::Range(0, Service::GREATEST_REQUESTS, false),
             "How many connections are served, 0 to 4294967295 [default: without end]"),
     ];
@@ -215,6 +217,8 @@ enum Takes<'a> {
     Nothing,
     // The name of a file. The flag is whether the option is required.
     File(bool),
+    // A word, with a default.
+    Word(&'a str),
     // A number from the first bound to the second. The flag is whether the option is required.
     Range(u64, u64, bool),
     // A number from 1 to the bound, with a default.
@@ -252,6 +256,7 @@ fn arg_of<'a>(alloc: Global, choice: Choice<'a>) -> Arg<'a>
     match takes {
         Takes::Nothing => arg.action(ArgAction::SetTrue),
         Takes::File(is_wanted) => arg.value_name("FILE").required(is_wanted),
+        Takes::Word(default) => arg.value_name("WORD").default_value(default),
         Takes::Range(least, greatest, is_wanted) => arg
             .value_name("N")
             .value_parser(ValueParser::Unsigned(least, greatest))

@@ -15,10 +15,12 @@ ghost use Rattle.tokend.specs.Serving.{
   LeavesAnnouncement,
 };
 
+use crate::connections::{Connections, NoRoom};
 use crate::fault::Fault;
 use itoa::Buffer;
+use mio::net::TcpListener;
 use std::io::{self, Write};
-use std::net::{Ipv4Addr, Net, OpenListener, TcpListener, TcpStream};
+use std::net::{Ipv4Addr, Net, SocketAddr};
 use tk_put::put_all;
 
 /// What a start announces of its region before it listens.
@@ -31,12 +33,12 @@ pub struct Opening {
 }
 
 /// Listens on the port, or on any free one for 0, and prints the announcement.
-pub(crate) fn listen<R: Net<Listener = TcpListener, Stream = TcpStream>, O: Write>(
+pub(crate) fn listen<R: AllocGlobal + Net, O: Write>(
     rt: &R,
     port: u16,
     opening: Opening,
     output: &mut O,
-) -> Result<TcpListener, Fault>
+) -> Result<Connections, Fault>
     ensures done { OnOk result
         (Announces opening port (O.contents output.old) (O.contents output.new)) }
     ensures fault { IfErr result IsListenFault }
@@ -44,15 +46,20 @@ pub(crate) fn listen<R: Net<Listener = TcpListener, Stream = TcpStream>, O: Writ
         (λ fault. LeavesAnnouncement opening port fault (O.contents output.old)
         (O.contents output.new)) }
 {
-    let Ok(listener) = TcpListener::bind(rt, (Ipv4Addr::new(127, 0, 0, 1), port)) else {
+    let asked = SocketAddr::from((Ipv4Addr::new(127, 0, 0, 1), port));
+    let Ok(listener) = TcpListener::bind(rt, asked) else {
         return Err(Fault::CannotListen);
     };
     let Ok(address) = listener.local_addr() else {
         return Err(Fault::CannotListen);
     };
-    match announce(output, opening, listened_on(port, address.port())) {
-        Ok(()) => Ok(listener),
-        Err(_) => Err(Fault::Output),
+    match Connections::new(rt, rt.alloc(), listener) {
+        Ok(connections) => match announce(output, opening, listened_on(port, address.port())) {
+            Ok(()) => Ok(connections),
+            Err(_) => Err(Fault::Output),
+        },
+        Err(NoRoom::Memory) => Err(Fault::Memory),
+        Err(NoRoom::System) => Err(Fault::CannotListen),
     }
 }
 

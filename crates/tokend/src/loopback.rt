@@ -3,18 +3,20 @@
 //! A world runs the events, as it does without sockets. `Sockets` carries the requests.
 
 ghost use Rattle.std.specs.Prelude.{◌≡◌, ◌≢◌, false, Err, IfOk, IfErr};
+ghost use Rattle.tk_edge.specs.Failures.{Rose};
 ghost use Rattle.tk_edge.specs.declared.tell.Fault.TheVariants as fault;
 ghost use Rattle.tk_world.specs.WorldFields.{new_world};
 ghost use Rattle.tokend.specs.Connection.{unknown, IsConnection};
 ghost use Rattle.tokend.specs.LoopbackRun.{by_sockets, IsSocketFault, RunsBySockets};
 
+use crate::closing::close;
 use crate::fault::Fault;
-use crate::serve::serve_at;
+use crate::timed::{TimedSink, TimedSource, millis};
 use std::alloc::Global;
 use std::io::{self, Read, Write};
 use std::net::{Ipv4Addr, Net, OpenListener, OpenStream, Shutdown, TcpListener, TcpStream};
 use std::time::Clock;
-use tk_edge::{Discard, Edge, Fault as EdgeFault, HEAD_LIMIT, Served};
+use tk_edge::{Discard, Edge, Fault as EdgeFault, HEAD_LIMIT, Served, Sink};
 use tk_handle::Moment;
 use tk_world::{Carrier, Event, Outcome, RunError, Settings, World};
 
@@ -125,6 +127,61 @@ fn serve_client<R: AllocGlobal + Clock>(
         Ok((stream, _)) => serve_at(rt, &stream, edge, &mut Discard, false, &mut buf, now, words),
         Err(_) => Err(EdgeFault::Read),
     }
+}
+
+// Serves one connection at a moment, and drops what its client still sends.
+fn serve_at<R: AllocGlobal + Clock, L: Sink>(
+    rt: &R,
+    stream: &TcpStream,
+    edge: &mut Edge,
+    log: &mut L,
+    log_taken: bool,
+    buf: &mut [u8; HEAD_LIMIT],
+    now: Moment,
+    words: &[u64; 6],
+) -> Result<Served, EdgeFault>
+    ensures connection { IsConnection now words.now log_taken edge.old edge.new
+        (record { before = L.holds log.old; after = L.holds log.new }) result }
+    ensures log_fault { result ≡ Err EdgeFault.Log → Rose (L.failed log.old) (L.failed log.new) }
+{
+    let Ok(since) = millis(rt) else {
+        return Err(EdgeFault::Read);
+    };
+    let served = serve_since(rt, stream, since, edge, log, log_taken, buf, now, words);
+    close(rt, stream, since, buf);
+    served
+}
+
+// Serves one connection that was accepted at `since`, at a moment, and ends its reply.
+fn serve_since<R: AllocGlobal + Clock, L: Sink>(
+    rt: &R,
+    stream: &TcpStream,
+    since: u64,
+    edge: &mut Edge,
+    log: &mut L,
+    log_taken: bool,
+    buf: &mut [u8; HEAD_LIMIT],
+    now: Moment,
+    words: &[u64; 6],
+) -> Result<Served, EdgeFault>
+    ensures connection { IsConnection now words.now log_taken edge.old edge.new
+        (record { before = L.holds log.old; after = L.holds log.new }) result }
+    ensures log_fault { result ≡ Err EdgeFault.Log → Rose (L.failed log.old) (L.failed log.new) }
+{
+    let Ok(mut source) = TimedSource::new(stream, rt, since) else {
+        return Err(EdgeFault::Read);
+    };
+    let mut sink = TimedSink::new(&source);
+    edge.serve_one_logging(
+        rt.alloc(),
+        &mut source,
+        &mut sink,
+        log,
+        log_taken,
+        buf,
+        now,
+        words,
+    )
 }
 
 // Reads the reply at the client's end, after the region's end is closed.

@@ -37,9 +37,12 @@
 //! The definitions are in `specs/`, listed in `Lib`.
 #![tactic(auto)]
 
+mod ahead;
 mod check;
 mod closing;
 mod command_line;
+mod connection;
+mod connections;
 mod draw;
 mod facts;
 mod fault;
@@ -51,12 +54,15 @@ mod loopback;
 mod options;
 mod program;
 pub mod promises;
+mod records;
 mod script;
 mod serve;
+mod server;
 mod sources;
 mod start;
 mod telling;
 mod timed;
+mod turns;
 mod words;
 
 use fault::Fault;

@@ -1,7 +1,6 @@
 //! The task that the arguments request: `options` reads a `Task` from them.
 
 ghost use Rattle.std.specs.Prelude.{◌≡◌, ◌⊎◌, ◌<◌, ◌^◌, ℕ, IfOk, IfErr, IfSome, IfNone, map, false};
-ghost use Rattle.std.specs.Prelude.{if◌then◌else◌};
 ghost use Rattle.clap.specs.Words.{kind_of, rows_of, found_of, subcommand_rows_of};
 ghost use Rattle.clap.specs.declared.error.kind.ErrorKind.TheVariants as kind;
 ghost use Rattle.tokend.specs.declared.options.Service.{Service as ServiceValue};
@@ -17,9 +16,10 @@ ghost use Rattle.tokend.specs.CommandLine.{
   HasText,
 };
 ghost use Rattle.tokend.specs.Task.{Asks, IsTask, IsNoService, IsNoTask, IsRefusalOf};
-ghost use Rattle.tokend.specs.Task.{lacks_log, missing_kind};
+ghost use Rattle.tokend.specs.Task.{kind_missing, lacks_log, missing_kind};
 ghost use Rattle.tokend.specs.declared.options.Numbers.{Numbers as NumbersValue};
 
+use crate::ahead::{misnames_ahead, read_refusal};
 use crate::command_line::tokend_command;
 use crate::sources::read_facts;
 use clap::error::ErrorKind;
@@ -97,6 +97,8 @@ pub struct Service {
     pub load: Option<String>,
     /// The moment up to which the region is pruned once the old log is loaded, if any.
     pub prune: Option<u64>,
+    /// Whether a pushed bundle is refused if its horizon is later than the moment of the request.
+    pub refuses_ahead: bool,
 }
 
 /// Reads the task of the arguments. The first argument is the program's name.
@@ -137,22 +139,28 @@ fn read_task(
 {
     match read_matches(alloc, matches) {
         Ok(Some(task)) => Ok(task),
-        Ok(None) => Err(no_task(command, lacks_log(matches))),
+        Ok(None) => Err(no_task(command, lacks_log(matches), misnames_ahead(matches))),
         Err(error) => Err(Error::from(error)),
     }
 }
 
 // Returns the error of arguments that name no task, or out of memory.
-fn no_task(command: &mut Command<'_>, lacks_log: bool) -> Error
+fn no_task(command: &mut Command<'_>, lacks_log: bool, misnames_ahead: bool) -> Error
     ensures { (kind_of result ≡ kind.OutOfMemory)
-        ⊎ (kind_of result
-        ≡ (if lacks_log then kind.MissingRequiredArgument else kind.MissingSubcommand)) }
+        ⊎ (kind_of result ≡ kind_missing lacks_log misnames_ahead) }
 {
     if lacks_log {
         return own_error(
             command,
             ErrorKind::MissingRequiredArgument,
             "--log-taken requires --log",
+        );
+    }
+    if misnames_ahead {
+        return own_error(
+            command,
+            ErrorKind::InvalidValue,
+            "--ahead takes 'taken' or 'refused'",
         );
     }
     own_error(
@@ -270,6 +278,9 @@ fn read_service(alloc: Global, matches: &ArgMatches<'_>) -> Result<Option<Servic
     let Some(port) = number(matches, "port", 0, Service::GREATEST_PORT) else {
         return Ok(None);
     };
+    let Some(refuses_ahead) = read_refusal(matches) else {
+        return Ok(None);
+    };
     let Some(seed) = read_text(alloc, matches, "seed")? else {
         return Ok(None);
     };
@@ -291,6 +302,7 @@ fn read_service(alloc: Global, matches: &ArgMatches<'_>) -> Result<Option<Servic
         log_taken,
         load,
         prune,
+        refuses_ahead,
     }))
 }
 

@@ -14,37 +14,34 @@ use crate::fault::{Fault, cannot_read};
 use crate::folder::Folder;
 use crate::load::{LoadFault, load};
 use crate::options::Service;
-use rand_chacha::ChaCha20Rng;
+use crate::server::Server;
 use std::alloc::Global;
 use std::io::{self, Read};
 use tk_edge::{Edge, Sink};
 use tk_handle::{Moment, RegionNumber};
 use tk_region::Region;
 
-/// A region at the start of its service, with its random words.
-#[derive(Drop)]
-pub(crate) struct Start {
-    pub edge: Edge,
-    pub words: ChaCha20Rng,
-}
-
-/// Returns the region without facts, with its random words made of the seed.
+/// Returns the region without facts, with its random words made of the seed. Nothing is to be
+/// served yet.
 pub(crate) fn begin<I: Read + Drop, L: Sink, D: Folder<I, L>>(
     alloc: Global,
     folder: &D,
     service: &Service,
-) -> Result<Start, Fault>
+) -> Result<Server, Fault>
     requires settings { IsSettings (settings_of service.now.numbers) }
     requires region { IsRegion service.now.region }
-    ensures start { IfOk result (λ start. IsStart service.now start.edge start.words) }
+    ensures start { IfOk result (λ server. IsStart service.now server.edge server.words) }
     ensures fault { IfErr result (IsSeedFault (string_bytes service.now.seed)) }
 {
     match read_seed(alloc, folder, &service.seed) {
         Ok(seed) => {
             let number = RegionNumber::new(service.region).unwrap();
             let region = Region::new(alloc, number, service.numbers.settings());
-            let (edge, words) = (Edge::new(region, true), generator(seed, number));
-            Ok(Start { edge, words })
+            let (edge, words) = (
+                Edge::new(region, true, service.refuses_ahead),
+                generator(seed, number),
+            );
+            Ok(Server::new(alloc, edge, words))
         }
         Err(fault) => Err(fault),
     }

@@ -6,8 +6,14 @@ ghost use Rattle.std.specs.Io.{ReadsAtMost, WritesAtMost};
 use std::io::{self, Read, Write};
 use std::net::{OpenStream, TcpStream};
 use std::time::{Clock, Duration};
-use tk_closing::LONGEST_MILLIS;
 use tk_edge::{Failed, Sink, Source};
+
+/// How long a client is waited for, in milliseconds: for its request since it was accepted, and for
+/// the end of its side since its reply.
+pub(crate) const LONGEST_MILLIS: u64 = 5_000;
+
+/// How many bytes a client may send behind its request. They are dropped.
+pub(crate) const MAX_DROPPED: usize = 65_536;
 
 /// How many milliseconds longer a connection may take, which saves setting the wait before each
 /// read.

@@ -1,5 +1,5 @@
 use Rattle.std.proofs.Common.{None, false}
-use Rattle.tokend.proofs.Connections.{unread}
+use Rattle.tokend.proofs.Connecting.{unread}
 use Rattle.tokend.proofs.loopback.serve_client.Goals as goal
 
 pub returns-in-Err-clause-connection : goal.returns-in-Err-clause-connection

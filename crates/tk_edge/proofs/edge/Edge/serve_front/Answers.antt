@@ -17,6 +17,7 @@ returns-clause-served g c = λ unsealed.
     subst (λ (e : EdgeFields). IsFrontServed
     (record {
       sync = e.sync;
+      refuses_ahead = e.refuses_ahead;
       log_taken = c.args.log_taken;
       known = None;
       now = c.args.now;

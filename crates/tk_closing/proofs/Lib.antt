@@ -1,3 +1,0 @@
--- The lemmas of this crate:
---   Looks   looks at connections, one after the other
-mod Looks

@@ -1,0 +1,73 @@
+//! Reads pushed bundles: `read_pushed` refuses one whose horizon is later than the moment, if the
+//! edge refuses such bundles.
+
+use tk_region::TakeError;
+
+/// The reason why a pushed bundle is not taken in (own). `HorizonAhead` is tested after `Malformed`
+/// and before `OwnNumber` and `Conflict`.
+#[derive(Clone, Copy)]
+pub enum PushError {
+    /// The bundle's horizon is later than the moment, and the edge refuses such bundles.
+    HorizonAhead,
+    /// The reason why the region does not take the bundle in.
+    Take(TakeError),
+}
+
+ghost use Rattle.std.specs.Prelude.{◌≡◌};
+ghost use Rattle.tk_edge.specs.Ahead as spec;
+ghost use Rattle.tk_region.specs.Taking.{unread};
+
+use std::alloc::Global;
+use tk_bundle::Bundle;
+use tk_format::ReadError;
+use tk_handle::Moment;
+
+// Reads a pushed bundle, and refuses it if it is ahead of the moment and such bundles are refused.
+pub(crate) fn read_pushed(
+    alloc: Global,
+    refuses_ahead: bool,
+    now: Moment,
+    bytes: &[u8],
+) -> Result<Bundle, PushError>
+    ensures { spec.ReadsPushed refuses_ahead now bytes.now result }
+{
+    match Bundle::read(alloc, bytes) {
+        Ok(sent) => {
+            if refuses_ahead && is_ahead(now, &sent) {
+                return Err(PushError::HorizonAhead);
+            }
+            Ok(sent)
+        }
+        Err(error) => Err(PushError::Take(unread(error))),
+    }
+}
+
+// Returns whether a bundle's horizon is later than the moment.
+fn is_ahead(now: Moment, sent: &Bundle) -> bool
+    ensures { result ≡ spec.is_ahead now sent.now }
+{
+    match sent.horizon() {
+        Some(horizon) => now.seconds() < horizon.seconds(),
+        None => false,
+    }
+}
+
+// Returns the error for bytes that can't be read as a bundle.
+fn unread(error: ReadError) -> TakeError
+    ensures { result ≡ unread error }
+{
+    match error {
+        ReadError::Malformed => TakeError::Malformed,
+        ReadError::Memory => TakeError::Memory,
+    }
+}
+
+// Returns the result of a push, by that of taking the bundle in.
+pub(crate) fn lifted(taken: Result<u16, TakeError>) -> Result<u16, PushError>
+    ensures { result ≡ spec.lifted taken }
+{
+    match taken {
+        Ok(count) => Ok(count),
+        Err(error) => Err(PushError::Take(error)),
+    }
+}

@@ -1,0 +1,343 @@
+-- What a server does over turns. Key results:
+--   goes_nowhere    nothing happened
+--   goes_at         another moment
+--   goes_both       one after the other
+--   goes_unread     a connection ended unread
+--   goes_unsent     a client didn't take its reply
+--   goes_kept       the requests of a turn were decided, and their records kept
+--   goes_lost       the requests of a turn were decided, and the log failed
+--   turns_grow      turns leave what the region knew
+use Rattle.std.proofs.Common.{◌≡◌, ◌≢◌, ℕ, ◌+◌, Bool, true, false, List, [], ◌∷◌, ◌++◌, append-nil, append_assoc, length, Option, Some, None, Result, Ok, Err, inl, inr, refl, sym, ap, subst, ◌∙◌, arith}
+use Rattle.std.specs.Prelude.{◌⊎◌, ◌<◌, get_or, set, MatchResult}
+use Rattle.std.specs.Io.KnownBytes.{Appends}
+use Rattle.std.proofs.KnownBytes.{Appends-nil}
+use Rattle.std.proofs.lemmas.List.{length-append}
+use Rattle.rand_chacha.specs.ChaCha.{ChaCha}
+use Rattle.tk_put.specs.Put.{AppendsFront}
+use Rattle.tk_turn.specs.declared.service.Outcome.{Outcome}
+use Rattle.tk_turn.specs.declared.service.Outcome.TheVariants.{More, Decided, Ended}
+use Rattle.tk_turn.specs.Links.{LinkFields}
+use Rattle.tk_turn.specs.Requests.{AreDecided, Request}
+use Rattle.tk_turn.specs.Turns.{AreDecidedAt, MayDecide, LogChange, State}
+use Rattle.tk_turn.specs.Turns as turn
+use Rattle.tk_edge.specs.EdgeFields.{EdgeFields}
+use Rattle.tk_edge.specs.declared.edge.Served.{Served}
+use Rattle.tk_edge.specs.declared.tell.Fault.{Fault}
+use Rattle.tk_edge.specs.declared.tell.Fault.TheVariants.{Write, Log}
+use Rattle.tokend.specs.Decisions.{Decides, Ends, IsUnread, Seals, Waits, fault_of}
+use Rattle.tokend.specs.Draw.{six, past_six}
+use Rattle.tokend.specs.Growing.{Grows}
+use Rattle.tokend.specs.Serving.{connection_fault}
+use Rattle.tokend.specs.Telling.{Writer, Writes}
+use Rattle.tokend.specs.Turns.{AreDecisions, AreTold, AreTurns, Endings, Goes, IsKept, IsLost, IsTurn, MayLackReply, Running, Site, Told, ToldOf, all_ends, past_each, running}
+use Rattle.tokend.specs.declared.server.Server.{Server}
+use Rattle.tokend.proofs.Deciding.{decision_grows, unread}
+use Rattle.tokend.proofs.Growing.{grows_same, grows_twice}
+
+-- ---- lists of endings
+
+past_both : (words : ChaCha) (xs ys : Endings) → past_each words (xs ++ ys) ≡ past_each (past_each words xs) ys
+past_both words [] ys = refl
+past_both words (x ∷ xs) ys = past_both (past_six words) xs ys
+
+pub all_both : (xs ys : List Endings) → all_ends (xs ++ ys) ≡ all_ends xs ++ all_ends ys
+all_both [] ys = refl
+all_both (x ∷ xs) ys = ap (λ l. x ++ l) (all_both xs ys) ∙ sym (append_assoc x (all_ends xs) (all_ends ys))
+
+decisions_both : (words : ChaCha) (log_taken : Bool) (old : EdgeFields) (xs : Endings) (first : List ℕ) (mid : EdgeFields) (ys : Endings) (rest : List ℕ) (new : EdgeFields)
+    → AreDecisions words log_taken old xs first mid → AreDecisions (past_each words xs) log_taken mid ys rest new → AreDecisions words log_taken old (xs ++ ys) (first ++ rest) new
+decisions_both words log_taken old [] first mid ys rest new h k =
+    subst (λ l. AreDecisions words log_taken old ys (l ++ rest) new) (sym h.1) (subst (λ o. AreDecisions words log_taken o ys rest new) h.0 k)
+decisions_both words log_taken old (x ∷ xs) first mid ys rest new h k = (
+  h.0,
+  h.1,
+  h.2 ++ rest,
+  h.3,
+  ap (λ l. l ++ rest) h.4 ∙ append_assoc h.1 h.2 rest,
+  decisions_both (past_six words) log_taken h.0 xs h.2 mid ys rest new h.5 k,
+)
+
+told_both : (xs ys : Endings) (old mid new : Writer) → AreTold xs old mid → AreTold ys mid new → AreTold (xs ++ ys) old new
+told_both [] ys old mid new h k = subst (λ o. AreTold ys o new) h k
+told_both (x ∷ xs) ys old mid new h k = (h.0, h.1, told_both xs ys h.0 mid new h.2 k)
+
+turns_both : (words : ChaCha) (log_taken : Bool) (old : Running) (xs : List Endings) (mid : Running) (ys : List Endings) (new : Running)
+    → AreTurns words log_taken old xs mid → AreTurns (past_each words (all_ends xs)) log_taken mid ys new → AreTurns words log_taken old (xs ++ ys) new
+turns_both words log_taken old [] mid ys new same k = subst (λ o. AreTurns words log_taken o ys new) same k
+turns_both words log_taken old (x ∷ xs) mid ys new h k = (
+  h.0,
+  h.1,
+  h.2,
+  h.3,
+  turns_both (past_each words x) log_taken h.1 xs mid ys new h.4 (subst (λ w. AreTurns w log_taken mid ys new) (past_both words x (all_ends xs)) k),
+)
+
+-- ---- what a server does, one after the other
+
+pub goes_nowhere : (site : Site) → Goes site site
+goes_nowhere site = record { turns = []; served = refl; words = refl; counted = omega arith; log_taken = refl; fault = refl }
+
+-- the moment at which requests are decided changes nothing else
+pub goes_at : (site : Site) (now : ℕ) → Goes site (record { server = record site.server { now = now }; log = site.log; faults = site.faults })
+goes_at site now = record { turns = []; served = refl; words = refl; counted = omega arith; log_taken = refl; fault = refl }
+
+pub goes_both : (old mid new : Site) → Goes old mid → Goes mid new → Goes old new
+goes_both old mid new h k =
+    let all : all_ends (h.turns ++ k.turns) ≡ all_ends h.turns ++ all_ends k.turns = all_both h.turns k.turns in
+    let many : length (all_ends (h.turns ++ k.turns)) ≡ length (all_ends h.turns) + length (all_ends k.turns) = ap length all ∙ length-append (all_ends h.turns) (all_ends k.turns) in
+    record {
+      turns = h.turns ++ k.turns;
+      served = turns_both old.server.words old.server.log_taken (running old) h.turns (running mid) k.turns (running new) h.served
+          (subst (λ w. AreTurns w old.server.log_taken (running mid) k.turns (running new)) h.words (subst (λ t. AreTurns mid.server.words t (running mid) k.turns (running new)) h.log_taken k.served));
+      words = k.words ∙ ap (λ w. past_each w (all_ends k.turns)) h.words ∙ sym (past_both old.server.words (all_ends h.turns) (all_ends k.turns)) ∙ ap (past_each old.server.words) (sym all);
+      counted = omega (arith, h.counted, k.counted, many);
+      log_taken = k.log_taken ∙ h.log_taken;
+      fault = k.fault ∙ h.fault;
+    }
+
+-- a connection ended unread: the server has the words behind, and one connection less
+pub goes_unread : (fault : Fault) (old : Server) (words : ChaCha) (left : ℕ) (log : Option (List ℕ)) (before after : Writer) → IsUnread fault → words ≡ past_six old.words → old.left ≡ left + 1
+    → Writes before after (connection_fault fault)
+    → Goes (record { server = old; log = log; faults = before }) (record { server = record old { words = words; left = left }; log = log; faults = after })
+goes_unread fault old words left log before after is drawn counted told = record {
+  turns = (Err fault ∷ []) ∷ [];
+  served =
+      let then : Running = record { edge = old.edge; log = log; faults = after } in (
+        then,
+        then,
+        record {
+          edge = old.edge;
+          records = [];
+          told = after;
+          decided = (old.edge, [], [], unread (six old.words) old.log_taken old.edge fault is, refl, (refl, refl));
+          lines = (after, told, refl);
+          log = inl (record { log = Appends-nil log; edge = refl; faults = refl });
+        },
+        inl refl,
+        refl,
+      );
+  words = drawn;
+  counted = omega (arith, counted);
+  log_taken = refl;
+  fault = refl;
+}
+
+pub goes_unsent : (server : Server) (log : Option (List ℕ)) (before after : Writer) → Writes before after (connection_fault Write)
+    → Goes (record { server = server; log = log; faults = before }) (record { server = server; log = log; faults = after })
+goes_unsent server log before after told = record {
+  turns = [] ∷ [];
+  served =
+      let then : Running = record { edge = server.edge; log = log; faults = before } in (
+        then,
+        record { edge = server.edge; log = log; faults = after },
+        record {
+          edge = server.edge;
+          records = [];
+          told = before;
+          decided = (refl, refl);
+          lines = refl;
+          log = inl (record { log = Appends-nil log; edge = refl; faults = refl });
+        },
+        inr (refl, refl, told),
+        refl,
+      );
+  words = refl;
+  counted = omega arith;
+  log_taken = refl;
+  fault = refl;
+}
+
+-- ---- the decisions of a turn
+
+-- A server decided connections, whose faults are told by the line of the last one. Nothing is
+-- decided behind a fault.
+record Went (old : Server) (logged : List ℕ) (new : Server) : Type 0 where
+  ends : Endings
+  decided : AreDecisions old.words old.log_taken old.edge ends logged new.edge
+  words : new.words ≡ past_each old.words ends
+  counted : old.left ≡ length ends + new.left
+  log_taken : new.log_taken ≡ old.log_taken
+  lines : old.fault ≡ None → (before after : Writer) → ToldOf new.fault before after → AreTold ends before after
+  stuck : (old.fault ≡ None → ⊥) → (ends ≡ []) × (new ≡ old)
+
+went_nowhere : (old : Server) (logged : List ℕ) (new : Server) → new ≡ old → logged ≡ [] → Went old logged new
+went_nowhere old logged new same none = record {
+  ends = [];
+  decided = (ap (λ s. s.edge) same, none);
+  words = ap (λ s. s.words) same;
+  counted = omega (arith, ap (λ s. s.left) same);
+  log_taken = ap (λ s. s.log_taken) same;
+  lines = λ told before after h. subst (λ o. ToldOf o before after) (ap (λ s. s.fault) same ∙ told) h;
+  stuck = λ _. (refl, same);
+}
+
+some_none : (f : Fault) → Some f ≡ None → ⊥
+some_none f e = cc
+
+lines_both : (old mid new : Server) (logged more : List ℕ) (h : Went old logged mid) (k : Went mid more new) → old.fault ≡ None → (before after : Writer)
+    → ToldOf new.fault before after → AreTold (h.ends ++ k.ends) before after
+lines_both old mid new logged more h k told before after t =
+    elim mid.fault as (λ o. mid.fault ≡ o → AreTold (h.ends ++ k.ends) before after) [
+      | None ↦ λ e. told_both h.ends k.ends before before after (h.lines told before before (subst (λ o. ToldOf o before before) (sym e) refl)) (k.lines e before after t)
+      | Some f ↦ λ e.
+          let s = k.stuck (λ none. some_none f (sym e ∙ none)) in
+          told_both h.ends k.ends before after after (h.lines told before after (subst (λ (x : Server). ToldOf x.fault before after) s.1 t))
+          (subst (λ l. AreTold l after after) (sym s.0) refl)
+    ] refl
+
+went_both : (old mid new : Server) (logged more : List ℕ) → Went old logged mid → Went mid more new → Went old (logged ++ more) new
+went_both old mid new logged more h k =
+    let many = length-append h.ends k.ends in
+    record {
+      ends = h.ends ++ k.ends;
+      decided = decisions_both old.words old.log_taken old.edge h.ends logged mid.edge k.ends more new.edge h.decided
+          (subst (λ w. AreDecisions w old.log_taken mid.edge k.ends more new.edge) h.words (subst (λ t. AreDecisions mid.words t mid.edge k.ends more new.edge) h.log_taken k.decided));
+      words = k.words ∙ ap (λ w. past_each w k.ends) h.words ∙ sym (past_both old.words h.ends k.ends);
+      counted = omega (arith, h.counted, k.counted, many);
+      log_taken = k.log_taken ∙ h.log_taken;
+      lines = lines_both old mid new logged more h k;
+      stuck = λ s.
+          let one = h.stuck s in
+          let two = k.stuck (λ none. s (sym (ap (λ x. x.fault) one.1) ∙ none)) in
+          (subst (λ l. l ++ k.ends ≡ []) (sym one.0) two.0, two.1 ∙ one.1);
+    }
+
+one_told : (end : Result Served Fault) (before after : Writer) → ToldOf (fault_of end) before after → AreTold (end ∷ []) before after
+one_told (Ok served) before after h = (before, refl, h)
+one_told (Err fault) before after h = (after, h, refl)
+
+went_end : (old : Server) (bytes : List ℕ) (over : Bool) (outcome : Outcome) (replied logged : List ℕ) (new : Server) → Ends old bytes over outcome replied logged new → Went old logged new
+went_end old bytes over outcome replied logged new h = record {
+  ends = h.end ∷ [];
+  decided = (new.edge, logged, [], (old.now, bytes, over, h.reply, h.decided), sym (append-nil logged), (refl, refl));
+  words = ap (λ s. s.words) h.moved;
+  counted = omega (arith, h.counted, ap (λ s. s.left) h.moved);
+  log_taken = ap (λ s. s.log_taken) h.moved;
+  lines = λ told before after t. one_told h.end before after (subst (λ o. ToldOf o before after) (ap (λ s. s.fault) h.moved) t);
+  stuck = λ s. absurd (s h.told);
+}
+
+went_one : (old : Server) (bytes : List ℕ) (over : Bool) (outcome : Outcome) (replied logged : List ℕ) (new : Server) → Decides old bytes over outcome replied logged new → Went old logged new
+went_one old bytes over More replied logged new h = went_nowhere old logged new h.same h.unlogged
+went_one old bytes over (Decided taken stays) replied logged new h = went_end old bytes over (Decided taken stays) replied logged new h
+went_one old bytes over Ended replied logged new h = went_end old bytes over Ended replied logged new h
+
+-- the requests of one connection
+went_each : (old : Server) (input : List ℕ) (over : Bool) (all : List Request) (last : Outcome) (replied logged : List ℕ) (new : Server) (rest : List ℕ)
+    → AreDecided Decides old input over all last replied logged new rest → Went old logged new
+went_each old input over [] last replied logged new rest h = absurd h
+went_each old input over (one ∷ []) last replied logged new rest h =
+    subst (λ l. Went old l new) (sym h.3) (went_one old input over one.outcome one.reply one.logged new h.0)
+went_each old input over (one ∷ next ∷ others) last replied logged new rest h =
+    subst (λ l. Went old l new) (sym h.6)
+    (went_both old h.0 new one.logged h.4 (went_one old input over one.outcome one.reply one.logged h.0 h.1)
+    (went_each h.0 _ over (next ∷ others) last h.3 h.4 new rest h.7))
+
+went_may : (old : Server) (before : LinkFields) (new : Server) (after : LinkFields) (logged : List ℕ) → MayDecide Decides old before new after logged → Went old logged new
+went_may old before new after logged (inl h) =
+    subst (λ l. Went old l new) (sym h.records)
+    (went_each old before.input before.is_over h.requests.all h.requests.last h.requests.replied h.requests.logged new after.input h.decided.decided)
+went_may old before new after logged (inr h) = went_nowhere old logged new h.1 h.3
+
+went_at : (places : List ℕ) (old : Server) (before : List LinkFields) (new : Server) (after : List LinkFields) (logged : List ℕ) → AreDecidedAt Decides places old before new after logged
+    → Went old logged new
+went_at [] old before new after logged h = went_nowhere old logged new h.0 h.2
+went_at (place ∷ places) old before new after logged h =
+    subst (λ l. Went old l new) (sym h.8)
+    (went_both old h.2 new h.3 h.4 (went_may old h.0 h.2 h.1 h.3 h.7) (went_at places h.2 (set before place h.1) new after h.4 h.9))
+
+-- ---- one turn
+
+module _ (places : List ℕ) (old new : State Server) (log : LogChange) (before told after : Writer) where
+  -- the server after its turn, whose fault is told
+  abbrev end : Server
+  end = record new.service { fault = None }
+
+  abbrev Gone : Type 0
+  Gone = Goes (record { server = old.service; log = log.before; faults = before }) (record { server = end; log = log.after; faults = after })
+
+  abbrev then : Running
+  then = record { edge = new.service.edge; log = log.after; faults = after }
+
+  -- a turn by what it decided, and what became of its records
+  gone : (mid : Server) (logged : List ℕ) → Went old.service logged mid → old.service.fault ≡ None → ToldOf mid.fault before told
+      → new.service.words ≡ mid.words → new.service.left ≡ mid.left → new.service.log_taken ≡ mid.log_taken
+      → IsKept (record { edge = old.service.edge; log = log.before; faults = before }) mid.edge logged told then
+      ⊎ IsLost (record { edge = old.service.edge; log = log.before; faults = before }) mid.edge logged told then → Gone
+  gone mid logged went untold lines words left log_taken became =
+      let all : went.ends ++ [] ≡ went.ends = append-nil went.ends in
+      let many : length (went.ends ++ []) ≡ length went.ends = ap length all in
+      record {
+        turns = went.ends ∷ [];
+        served = (
+          then,
+          then,
+          record {
+            edge = mid.edge;
+            records = logged;
+            told = told;
+            decided = went.decided;
+            lines = went.lines untold before told lines;
+            log = became;
+          },
+          inl refl,
+          refl,
+        );
+        words = words ∙ went.words ∙ sym (ap (past_each old.service.words) all);
+        counted = omega (arith, went.counted, left, many);
+        log_taken = log_taken ∙ went.log_taken;
+        fault = sym untold;
+      }
+
+  -- the records were kept
+  pub goes_kept : (mid : State Server) (logged : List ℕ) → AreDecidedAt Decides places old.service old.links mid.service mid.links logged → turn.IsKept places mid new log logged
+      → old.service.fault ≡ None → ToldOf new.service.fault before told → after ≡ told → Gone
+  goes_kept mid logged decided kept untold lines same =
+      gone mid.service logged (went_at places old.service old.links mid.service mid.links logged decided) untold
+      (subst (λ (x : Server). ToldOf x.fault before told) kept.service lines)
+      (ap (λ (x : Server). x.words) kept.service) (ap (λ (x : Server). x.left) kept.service) (ap (λ (x : Server). x.log_taken) kept.service)
+      (inl (record { log = kept.appended; edge = ap (λ (x : Server). x.edge) kept.service; faults = same }))
+
+  -- the log failed
+  pub goes_lost : (mid : State Server) (logged : List ℕ) → AreDecidedAt Decides places old.service old.links mid.service mid.links logged → turn.IsLost Seals places mid new log logged
+      → old.service.fault ≡ None → ToldOf new.service.fault before told → Writes told after (connection_fault Log) → Gone
+  goes_lost mid logged decided lost untold lines line =
+      gone mid.service logged (went_at places old.service old.links mid.service mid.links logged decided) untold
+      (subst (λ o. ToldOf o before told) (ap (λ (x : Server). x.fault) lost.service) lines)
+      (ap (λ (x : Server). x.words) lost.service) (ap (λ (x : Server). x.left) lost.service) (ap (λ (x : Server). x.log_taken) lost.service)
+      (inr (record { some = lost.some; log = lost.appended; edge = ap (λ (x : Server). x.edge) lost.service; faults = line }))
+
+-- ---- what turns leave of a region
+
+pub decisions_grow : (words : ChaCha) (log_taken : Bool) (old : EdgeFields) (ends : Endings) (records : List ℕ) (new : EdgeFields) → AreDecisions words log_taken old ends records new
+    → Grows old.region new.region
+decisions_grow words log_taken old [] records new h = grows_same old.region new.region (ap (λ (e : EdgeFields). e.region) h.0)
+decisions_grow words log_taken old (end ∷ ends) records new h =
+    grows_twice old.region h.0.region new.region (decision_grows (six words) log_taken old end h.1 h.0 h.3) (decisions_grow (past_six words) log_taken h.0 ends h.2 new h.5)
+
+turn_grows : (words : ChaCha) (log_taken : Bool) (old : Running) (ends : Endings) (new : Running) → IsTurn words log_taken old ends new → Grows old.edge.region new.edge.region
+turn_grows words log_taken old ends new h =
+    grows_twice old.edge.region h.edge.region new.edge.region (decisions_grow words log_taken old.edge ends h.records h.edge h.decided) (of h.log)
+  where
+    of : IsKept old h.edge h.records h.told new ⊎ IsLost old h.edge h.records h.told new → Grows h.edge.region new.edge.region
+    of (inl kept) = grows_same h.edge.region new.edge.region (ap (λ (e : EdgeFields). e.region) kept.edge)
+    of (inr lost) = grows_same h.edge.region new.edge.region (ap (λ (e : EdgeFields). e.region) lost.edge)
+
+-- a reply that is lost changes no edge
+pub edge_stays : (old new : Running) → MayLackReply old new → new.edge ≡ old.edge
+edge_stays old new (inl same) = ap (λ (r : Running). r.edge) same
+edge_stays old new (inr h) = h.0
+
+pub log_stays : (old new : Running) → MayLackReply old new → new.log ≡ old.log
+log_stays old new (inl same) = ap (λ (r : Running). r.log) same
+log_stays old new (inr h) = h.1
+
+pub turns_grow : (words : ChaCha) (log_taken : Bool) (old : Running) (turns : List Endings) (new : Running) → AreTurns words log_taken old turns new
+    → Grows old.edge.region new.edge.region
+turns_grow words log_taken old [] new same = grows_same old.edge.region new.edge.region (ap (λ (r : Running). r.edge.region) same)
+turns_grow words log_taken old (ends ∷ turns) new h =
+    grows_twice old.edge.region h.0.edge.region new.edge.region (turn_grows words log_taken old ends h.0 h.2)
+    (subst (λ (e : EdgeFields). Grows e.region new.edge.region) (edge_stays h.0 h.1 h.3) (turns_grow (past_each words ends) log_taken h.1 turns new h.4))
+
+pub server_grows : (old new : Site) → Goes old new → Grows old.server.edge.region new.server.edge.region
+server_grows old new h = turns_grow old.server.words old.server.log_taken (running old) h.turns (running new) h.served

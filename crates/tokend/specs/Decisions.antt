@@ -1,0 +1,170 @@
+-- What a server decides of the bytes that have come over its connections (own).
+--   IsDecided      what is decided of these bytes, at a moment
+--   IsDecision     what is decided of some bytes that have come, and the record of it
+--   FrontDecides   what serving the front of bytes decides
+--   Decides        what a server decides of the bytes of a connection
+--   Seals          a server whose log has failed is sealed
+-- Throughout, `words` are the six random words of a connection, `log_taken` is whether bundles taken
+-- in are logged, and `end` is how the connection ended.
+use Rattle.std.specs.Prelude.{◌≡◌, ◌≢◌, ◌⊎◌, ⊤, ℕ, ◌+◌, Bool, true, false, List, [], Option, Some, None}
+use Rattle.std.specs.Prelude.{Result, Ok, Err, length}
+use Rattle.tk_edge.specs.EdgeFields.{EdgeFields}
+use Rattle.tk_edge.specs.Fronts.{HasCome, IsPartial}
+use Rattle.tk_edge.specs.FrontServed.{IsServedBy}
+use Rattle.tk_edge.specs.Served.{Asked, IsTurnedAway}
+use Rattle.tk_edge.specs.Told.{Change}
+use Rattle.tk_edge.specs.declared.edge.Served.{Served}
+use Rattle.tk_edge.specs.declared.hear.Arrival.{Arrival}
+use Rattle.tk_edge.specs.declared.edge.Served.TheVariants.{Nothing, Done}
+use Rattle.tk_edge.specs.declared.tell.Fault.{Fault}
+use Rattle.tk_edge.specs.declared.tell.Fault.TheVariants.{Read, Memory}
+use Rattle.tk_turn.specs.declared.service.Outcome.{Outcome}
+use Rattle.tk_turn.specs.declared.service.Outcome.TheVariants.{More, Decided, Ended}
+use Rattle.tokend.specs.Draw.{six, past_six}
+use Rattle.tokend.specs.declared.server.Server.{Server}
+
+-- the change of a list in memory that gets these bytes
+abbrev pub gains : List ℕ → Change
+gains bytes = record { before = Some []; after = Some bytes }
+
+-- A connection whose bytes have come, at a moment.
+pub record Asking : Type 0 where
+  pub words : List ℕ
+  pub log_taken : Bool
+  pub now : ℕ
+  pub bytes : List ℕ
+  pub over : Bool
+
+-- the connection as this edge sees it
+abbrev pub asked_of : Asking → EdgeFields → Asked
+asked_of asking edge = record {
+  sync = edge.sync;
+  refuses_ahead = edge.refuses_ahead;
+  log_taken = asking.log_taken;
+  known = None;
+  now = asking.now;
+  words = asking.words;
+}
+
+-- What is decided of bytes that have come: an edge that isn't sealed serves them, whatever follows
+-- them. A sealed edge stays as it is, and turns them away. Or the connection ended unread.
+pub record IsDecided (asking : Asking) (old : EdgeFields) (end : Result Served Fault)
+    (reply logged : List ℕ) (new : EdgeFields) : Type 0 where
+  pub served : old.sealed ≡ false
+      → IsServedBy (asked_of asking old) asking.bytes asking.over
+      (record { before = old.region; after = new.region }) (gains logged) (logged ≡ [])
+      (gains reply) new.sealed end
+  pub shut : old.sealed ≡ true
+      → (new ≡ old) × (logged ≡ []) × (IsTurnedAway (gains reply) end ⊎ (end ≡ Err Read))
+  pub sync : new.sync ≡ old.sync
+  pub refuses_ahead : new.refuses_ahead ≡ old.refuses_ahead
+
+-- what is decided of some bytes that have come, at some moment, with its record
+abbrev pub IsDecision : List ℕ → Bool → EdgeFields → Result Served Fault → List ℕ → EdgeFields
+    → Type 0
+IsDecision words log_taken old end logged new =
+    (now : ℕ) × (bytes : List ℕ) × (over : Bool) × (reply : List ℕ)
+    × IsDecided (record {
+      words = words;
+      log_taken = log_taken;
+      now = now;
+      bytes = bytes;
+      over = over;
+    }) old end reply logged new
+
+-- how many bytes were taken of those that have come: those of one request and no more, or all by a
+-- sealed edge
+abbrev pub IsTaken : Asking → EdgeFields → ℕ → Type 0
+IsTaken asking old taken =
+    (old.sealed ≡ false
+    → (came : Arrival) × HasCome old.sync asking.bytes asking.over came taken)
+    × (old.sealed ≡ true → taken ≡ length asking.bytes)
+
+-- what serving the front of bytes decides: nothing, as no request is whole, or how the connection
+-- ended
+abbrev pub FrontDecides : Asking → EdgeFields → Result (Option (Served × ℕ)) Fault → List ℕ
+    → List ℕ → EdgeFields → Type 0
+FrontDecides asking old (Ok None) reply logged new =
+    (old.sealed ≡ false) × IsPartial old.sync asking.bytes asking.over
+    × (new ≡ old) × (reply ≡ []) × (logged ≡ [])
+FrontDecides asking old (Ok (Some end)) reply logged new =
+    IsTaken asking old end.1 × IsDecided asking old (Ok end.0) reply logged new
+FrontDecides asking old (Err fault) reply logged new =
+    IsDecided asking old (Err fault) reply logged new
+
+-- what is made of a connection that was served: no further request is read of it
+abbrev pub outcome_by : Served → ℕ → Outcome
+outcome_by Nothing taken = Ended
+outcome_by (Done status) taken = Decided taken false
+
+-- what is made of a connection that ended so
+abbrev pub IsOutcome : Result Served Fault → Asking → EdgeFields → Outcome → Type 0
+IsOutcome (Ok served) asking old outcome =
+    (taken : ℕ) × IsTaken asking old taken × (outcome ≡ outcome_by served taken)
+IsOutcome (Err fault) asking old outcome = outcome ≡ Ended
+
+-- the faults of a connection that ended before its request was whole
+abbrev pub IsUnread : Fault → Type 0
+IsUnread Read = ⊤
+IsUnread Memory = ⊤
+IsUnread fault = ⊥
+
+-- what may be sent of a reply: a fault leaves nothing of it
+abbrev pub sent_of : Result Served Fault → List ℕ → List ℕ
+sent_of (Ok served) reply = reply
+sent_of (Err fault) reply = []
+
+-- the fault of a connection, if any
+abbrev pub fault_of : Result Served Fault → Option Fault
+fault_of (Ok served) = None
+fault_of (Err fault) = Some fault
+
+-- a server after a connection that ended so: one less is left, and the next has the next words
+abbrev pub moved_on : Server → Result Served Fault → EdgeFields → ℕ → Server
+moved_on old end edge left = record old {
+  edge = edge;
+  words = past_six old.words;
+  left = left;
+  fault = fault_of end;
+}
+
+-- the bytes of a connection, as a server decides them
+abbrev pub asking_of : Server → List ℕ → Bool → Asking
+asking_of server bytes over = record {
+  words = six server.words;
+  log_taken = server.log_taken;
+  now = server.now;
+  bytes = bytes;
+  over = over;
+}
+
+-- a server decides how the connection ended
+pub record Ends (old : Server) (bytes : List ℕ) (over : Bool) (outcome : Outcome)
+    (replied logged : List ℕ) (new : Server) : Type 0 where
+  pub end : Result Served Fault
+  pub reply : List ℕ
+  pub told : old.fault ≡ None
+  pub decided : IsDecided (asking_of old bytes over) old.edge end reply logged new.edge
+  pub is_outcome : IsOutcome end (asking_of old bytes over) old.edge outcome
+  pub is_sent : replied ≡ sent_of end reply
+  pub left : ℕ
+  pub counted : old.left ≡ left + 1
+  pub moved : new ≡ moved_on old end new.edge left
+
+-- a server decides nothing: no request is whole, no connection is left to be served, or a fault
+-- isn't told yet
+pub record Waits (old : Server) (bytes : List ℕ) (over : Bool) (replied logged : List ℕ)
+    (new : Server) : Type 0 where
+  pub why : IsPartial old.edge.sync bytes over ⊎ ((old.left ≡ 0) ⊎ (old.fault ≢ None))
+  pub same : new ≡ old
+  pub unreplied : replied ≡ []
+  pub unlogged : logged ≡ []
+
+-- what a server decides of the bytes of a connection
+abbrev pub Decides : Server → List ℕ → Bool → Outcome → List ℕ → List ℕ → Server → Type 0
+Decides old bytes over More replied logged new = Waits old bytes over replied logged new
+Decides old bytes over outcome replied logged new = Ends old bytes over outcome replied logged new
+
+-- a server whose log has failed is sealed, and nothing else changes
+abbrev pub Seals : Server → Server → Type 0
+Seals old new = new ≡ record old { edge = record old.edge { sealed = true } }

@@ -1,0 +1,188 @@
+-- What the turns of a service do to its edge, its log and the lines about faults (own).
+--   past_each      the generator after the words of connections
+--   AreDecisions   connections are decided, one after the other
+--   AreTold        the lines about their faults
+--   IsTurn         the connections of a turn are decided, and their records are written at once
+--   AreTurns       turns, one after the other
+--   so_many        how many connections are served
+--   ServesAll      as many connections as requested were served
+--   ServesLogged   as many connections as requested were served, with the log of a name
+--   Goes           what a server does, with its log and the lines about faults
+use Rattle.std.specs.Prelude.{
+  ◌≡◌,
+  ◌≢◌,
+  ◌⊎◌,
+  ℕ,
+  ◌+◌,
+  ◌-◌,
+  ◌^◌,
+  true,
+  Bool,
+  List,
+  [],
+  ◌∷◌,
+  ◌++◌,
+  length,
+  Option,
+  Some,
+  None,
+  String,
+  string_bytes,
+  Result,
+  Ok,
+  Err,
+}
+use Rattle.std.specs.Option.{unwrap_or}
+use Rattle.std.specs.Io.KnownBytes.{Appends}
+use Rattle.rand_chacha.specs.ChaCha.{ChaCha}
+use Rattle.tk_put.specs.Put.{AppendsFront}
+use Rattle.tk_edge.specs.EdgeFields.{EdgeFields}
+use Rattle.tk_edge.specs.Told.{Change}
+use Rattle.tk_edge.specs.declared.edge.Served.{Served}
+use Rattle.tk_edge.specs.declared.tell.Fault.{Fault}
+use Rattle.tk_edge.specs.declared.tell.Fault.TheVariants.{Log, Write}
+use Rattle.tokend.specs.Decisions.{IsDecision}
+use Rattle.tokend.specs.Draw.{six, past_six}
+use Rattle.tokend.specs.Serving.{connection_fault}
+use Rattle.tokend.specs.Starting.{IsEmptyLog}
+use Rattle.tokend.specs.Telling.{Writer, Writes, Writing}
+use Rattle.tokend.specs.declared.server.Server.{Server}
+
+-- how the connections of a turn ended, in the order in which they were decided
+abbrev pub Endings : Type 0
+Endings = List (Result Served Fault)
+
+-- the generator after the words of these connections
+abbrev pub past_each : ChaCha → Endings → ChaCha
+past_each words [] = words
+past_each words (end ∷ ends) = past_each (past_six words) ends
+
+-- connections are decided, one after the other, each with the next six random words; their records
+-- are one behind the other
+abbrev pub AreDecisions : ChaCha → Bool → EdgeFields → Endings → List ℕ → EdgeFields → Type 0
+AreDecisions words log_taken old [] records new = (new ≡ old) × (records ≡ [])
+AreDecisions words log_taken old (end ∷ ends) records new =
+    (mid : EdgeFields) × (first : List ℕ) × (rest : List ℕ)
+    × IsDecision (six words) log_taken old end first mid × (records ≡ first ++ rest)
+    × AreDecisions (past_six words) log_taken mid ends rest new
+
+-- a fault's line was written, or its beginning by a writer that failed; nothing is written without
+-- a fault
+abbrev pub Told : Result Served Fault → Writer → Writer → Type 0
+Told (Ok served) old new = new ≡ old
+Told (Err fault) old new = Writes old new (connection_fault fault)
+
+-- this fault's line was written, if there is one
+abbrev pub ToldOf : Option Fault → Writer → Writer → Type 0
+ToldOf None old new = new ≡ old
+ToldOf (Some fault) old new = Writes old new (connection_fault fault)
+
+-- the faults of these connections were told, in order
+abbrev pub AreTold : Endings → Writer → Writer → Type 0
+AreTold [] old new = new ≡ old
+AreTold (end ∷ ends) old new = (mid : Writer) × Told end old mid × AreTold ends mid new
+
+-- an edge, with the bytes of its log and the writer of the lines about faults
+pub record Running : Type 0 where
+  pub edge : EdgeFields
+  pub log : Option (List ℕ)
+  pub faults : Writer
+
+-- the records are written behind what the log had; nothing is written of the log
+pub record IsKept (old : Running) (mid : EdgeFields) (records : List ℕ) (told : Writer)
+    (new : Running) : Type 0 where
+  pub log : Appends old.log new.log records
+  pub edge : new.edge ≡ mid
+  pub faults : new.faults ≡ told
+
+-- the log failed, so that it has a beginning of the records; the edge is sealed, and the fault told
+pub record IsLost (old : Running) (mid : EdgeFields) (records : List ℕ) (told : Writer)
+    (new : Running) : Type 0 where
+  pub some : records ≢ []
+  pub log : AppendsFront old.log new.log records
+  pub edge : new.edge ≡ record mid { sealed = true }
+  pub faults : Writes told new.faults (connection_fault Log)
+
+-- The connections of a turn are decided, one after the other. Their faults are told, and their
+-- records are written at once, or the log fails.
+pub record IsTurn (words : ChaCha) (log_taken : Bool) (old : Running) (ends : Endings)
+    (new : Running) : Type 0 where
+  pub edge : EdgeFields
+  pub records : List ℕ
+  pub told : Writer
+  pub decided : AreDecisions words log_taken old.edge ends records edge
+  pub lines : AreTold ends old.faults told
+  pub log : IsKept old edge records told new ⊎ IsLost old edge records told new
+
+-- nothing happened, or the line of a reply was written that its client didn't take
+abbrev pub MayLackReply : Running → Running → Type 0
+MayLackReply old new = (new ≡ old)
+    ⊎ ((new.edge ≡ old.edge) × (new.log ≡ old.log)
+    × Writes old.faults new.faults (connection_fault Write))
+
+-- turns, one after the other; behind each a reply may be lost
+abbrev pub AreTurns : ChaCha → Bool → Running → List Endings → Running → Type 0
+AreTurns words log_taken old [] new = new ≡ old
+AreTurns words log_taken old (ends ∷ turns) new =
+    (mid : Running) × (next : Running) × IsTurn words log_taken old ends mid
+    × MayLackReply mid next × AreTurns (past_each words ends) log_taken next turns new
+
+-- the connections of all turns
+abbrev pub all_ends : List Endings → Endings
+all_ends [] = []
+all_ends (ends ∷ turns) = ends ++ all_ends turns
+
+-- how many connections are served: as many as requested, or without end, for which the greatest
+-- `u64` stands
+abbrev pub so_many : Option ℕ → ℕ
+so_many requests = unwrap_or requests (2 ^ 64 - 1)
+
+-- as many connections as requested were served, from one state to the other
+abbrev pub ServesAll : ChaCha → Option ℕ → Bool → Running → Running → Type 0
+ServesAll words requests log_taken old new =
+    (turns : List Endings) × (length (all_ends turns) ≡ so_many requests)
+    × AreTurns words log_taken old turns new
+
+-- An edge and the writer of the lines about faults, before and after its service.
+pub record Course : Type 0 where
+  pub start : EdgeFields
+  pub end : EdgeFields
+  pub faults : Writing
+
+-- as many connections as requested were served, with this log
+abbrev pub ServesWith : ChaCha → Option ℕ → Bool → Course → Change → Type 0
+ServesWith words requests log_taken s log =
+    ServesAll words requests log_taken
+    (record { edge = s.start; log = log.before; faults = s.faults.before })
+    (record { edge = s.end; log = log.after; faults = s.faults.after })
+
+-- As many connections as requested were served: with the log that was opened by this name, which
+-- was empty, or without a log, if there is no name. `holds` has the bytes of a log, if they are
+-- known, and `opens` which log a name opens.
+abbrev pub ServesLogged : {A L : Type 0} → (L → Option (List ℕ)) → (List ℕ → L → Type 0)
+    → Option (String A) → ChaCha → Option ℕ → Bool → Course → Type 0
+ServesLogged holds opens None words requests log_taken s =
+    ServesWith words requests log_taken s (record { before = None; after = None })
+ServesLogged {L = L} holds opens (Some name) words requests log_taken s =
+    (opened : L) × (closed : L) × opens (string_bytes name) opened × IsEmptyLog (holds opened)
+    × ServesWith words requests log_taken s
+    (record { before = holds opened; after = holds closed })
+
+-- a server with the bytes of its log and the writer of the lines about faults
+pub record Site : Type 0 where
+  pub server : Server
+  pub log : Option (List ℕ)
+  pub faults : Writer
+
+-- what runs at a site
+abbrev pub running : Site → Running
+running site = record { edge = site.server.edge; log = site.log; faults = site.faults }
+
+-- A server takes turns: each connection has the next random words, and is one less to be served.
+pub record Goes (old new : Site) : Type 0 where
+  pub turns : List Endings
+  pub served : AreTurns old.server.words old.server.log_taken (running old) turns (running new)
+  pub words : new.server.words ≡ past_each old.server.words (all_ends turns)
+  pub counted : old.server.left ≡ length (all_ends turns) + new.server.left
+  pub log_taken : new.server.log_taken ≡ old.server.log_taken
+  pub fault : new.server.fault ≡ old.server.fault

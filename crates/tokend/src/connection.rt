@@ -1,0 +1,233 @@
+//! One connection: `Connection`, its socket and how far it is.
+
+ghost use Rattle.std.specs.Prelude.{◌≤◌, length};
+
+use crate::timed::{LONGEST_MILLIS, MAX_DROPPED};
+use mio::net::TcpStream;
+use mio::{Interest, Registry, Token};
+use std::alloc::Global;
+use std::io::{self, ErrorKind, Read};
+use std::net::Shutdown;
+use tk_turn::{Link, send};
+
+/// How many writes one turn makes to a connection at most.
+const MAX_WRITES: usize = 64;
+
+/// How long a client is waited for before it counts as idle, in milliseconds.
+const MIN_IDLE_MILLIS: u64 = 100;
+
+/// A connection is large if so many bytes have come that aren't decided.
+const LARGE: usize = 65_536;
+
+/// How far reading or sending went.
+#[derive(Clone, Copy, PartialEq, Eq)]
+pub(crate) enum Step {
+    /// The client must do something first.
+    Waits,
+    /// There is more to do.
+    GoesOn,
+    /// There is no memory for the bytes that came.
+    Short,
+    /// The connection is over.
+    Over,
+}
+
+/// The socket of a connection, and how far the connection is.
+#[derive(Drop)]
+pub(crate) struct Connection {
+    stream: TcpStream,
+    // Since when the client is waited for, in milliseconds.
+    since: u64,
+    // How many bytes were dropped that came behind the request.
+    dropped: usize,
+    /// Whether its request was decided.
+    pub is_decided: bool,
+    /// Whether it is in the list of this turn or the next one.
+    pub is_listed: bool,
+    /// Whether it counts as one of the large ones.
+    pub is_large: bool,
+    // Whether there is more to read or to send at once.
+    goes_on: bool,
+    // Whether the client's side has ended, so that reading goes on to the end.
+    is_ending: bool,
+    is_shut: bool,
+    is_registered: bool,
+    // Whether it is registered for room to write, too.
+    awaits_room: bool,
+}
+
+impl Connection {
+    /// Returns a connection that was accepted at `now`.
+    pub(crate) fn new(stream: TcpStream, now: u64) -> Connection {
+        Connection {
+            stream,
+            since: now,
+            dropped: 0,
+            is_decided: false,
+            is_listed: true,
+            is_large: false,
+            goes_on: false,
+            is_ending: false,
+            is_shut: false,
+            is_registered: false,
+            awaits_room: false,
+        }
+    }
+
+    /// Notes that the client's side has ended.
+    pub(crate) fn note_ending(&mut self) {
+        self.is_ending = true;
+    }
+
+    /// Returns whether the connection has become one of the large ones.
+    pub(crate) fn grows_large(&self, link: &Link) -> bool {
+        !self.is_large && link.waiting() >= LARGE
+    }
+
+    /// Returns since when an idle client is waited for: one that sends nothing, or that has its
+    /// reply. A client that has just come isn't idle.
+    pub(crate) fn idle_since(&self, link: &Link, now: u64) -> Option<u64> {
+        let is_idle = link.waiting() == 0 && link.sendable().is_empty();
+        let is_new = now.saturating_sub(self.since) < MIN_IDLE_MILLIS;
+        if is_idle && !is_new {
+            Some(self.since)
+        } else {
+            None
+        }
+    }
+
+    /// Returns whether the client was waited for long enough.
+    pub(crate) fn is_late(&self, now: u64) -> bool {
+        now.saturating_sub(self.since) >= LONGEST_MILLIS
+    }
+
+    /// Notes that the request is decided at `now`, from which on the client has time to take the
+    /// reply.
+    pub(crate) fn decide(&mut self, now: u64) {
+        self.is_decided = true;
+        self.since = now;
+    }
+
+    /// Reads a piece of what has come. What comes behind the request is dropped.
+    pub(crate) fn read(&mut self, alloc: Global, link: &mut Link, piece: &mut [u8]) -> Step {
+        let step = self.read_piece(alloc, link, piece);
+        self.goes_on = step == Step::GoesOn;
+        step
+    }
+
+    // Reads a piece of what has come, unless the client's side has ended.
+    fn read_piece(&mut self, alloc: Global, link: &mut Link, piece: &mut [u8]) -> Step {
+        if link.is_over() {
+            return Step::Waits;
+        }
+        match self.stream.read(piece) {
+            Ok(0) => {
+                link.end();
+                Step::Waits
+            }
+            Ok(count) => {
+                let is_full = count == piece.len();
+                match self.take(alloc, link, &piece[..count]) {
+                    Step::GoesOn if !is_full && !self.is_ending => Step::Waits,
+                    step => step,
+                }
+            }
+            Err(error) => step_of(&error),
+        }
+    }
+
+    // Takes in what has come.
+    fn take(&mut self, alloc: Global, link: &mut Link, bytes: &[u8]) -> Step {
+        if self.is_decided {
+            self.dropped = self.dropped.saturating_add(bytes.len());
+            return if self.dropped < MAX_DROPPED {
+                Step::GoesOn
+            } else {
+                Step::Over
+            };
+        }
+        match link.take_in(alloc, bytes) {
+            Ok(()) => Step::GoesOn,
+            Err(_) => Step::Short,
+        }
+    }
+
+    /// Goes on after a turn: sends the reply of a request that was decided. `is_stopped` is whether
+    /// the turn stopped early, so that whole requests may be left.
+    pub(crate) fn go_on(&mut self, link: &mut Link, is_stopped: bool) -> Step {
+        let step = if self.is_decided {
+            self.send(link)
+        } else if is_stopped {
+            Step::GoesOn
+        } else {
+            Step::Waits
+        };
+        match step {
+            Step::Waits if self.goes_on => Step::GoesOn,
+            step => step,
+        }
+    }
+
+    // Sends what may be sent, and then ends the own side.
+    fn send(&mut self, link: &mut Link) -> Step {
+        for _ in 0..MAX_WRITES {
+            if link.sendable().is_empty() {
+                return self.shut(link);
+            }
+            match send(link, &mut self.stream) {
+                Ok(0) => return Step::Over,
+                Ok(_) => {}
+                Err(error) => return step_of(&error),
+            }
+        }
+        Step::GoesOn
+    }
+
+    // Ends the own side. The connection is over once the client's side has ended too.
+    fn shut(&mut self, link: &Link) -> Step {
+        if !self.is_shut {
+            self.is_shut = true;
+            if self.stream.shutdown(Shutdown::Write).is_err() {
+                return Step::Over;
+            }
+        }
+        if link.is_over() {
+            Step::Over
+        } else {
+            Step::Waits
+        }
+    }
+
+    /// Has an event report when the client has sent more, or has room for more of the reply.
+    pub(crate) fn watch(
+        &mut self,
+        registry: &Registry,
+        token: Token,
+        link: &Link,
+    ) -> io::Result<()> {
+        let wants_room = !link.sendable().is_empty();
+        if self.is_registered && (!wants_room || self.awaits_room) {
+            return Ok(());
+        }
+        let interests = if wants_room {
+            Interest::READABLE | Interest::WRITABLE
+        } else {
+            Interest::READABLE
+        };
+        self.awaits_room = wants_room;
+        if self.is_registered {
+            return registry.reregister(&mut self.stream, token, interests);
+        }
+        self.is_registered = true;
+        registry.register(&mut self.stream, token, interests)
+    }
+}
+
+// Returns how far a connection is by the error of its socket.
+fn step_of(error: &io::Error) -> Step {
+    match error.kind() {
+        ErrorKind::WouldBlock => Step::Waits,
+        ErrorKind::Interrupted => Step::GoesOn,
+        _ => Step::Over,
+    }
+}

@@ -1,0 +1,274 @@
+//! What decides the requests of a service: `Server`.
+
+use rand_chacha::ChaCha20Rng;
+use std::alloc::Global;
+use tk_edge::{Edge, Fault as EdgeFault};
+use tk_handle::Moment;
+
+/// An edge with what the requests of its connections take: random words and a moment.
+#[derive(Drop)]
+pub(crate) struct Server {
+    /// Where memory is taken from.
+    pub alloc: Global,
+    /// The edge.
+    pub edge: Edge,
+    /// The random words. The next six are for the next connection that ends.
+    pub words: ChaCha20Rng,
+    /// Whether bundles taken in are logged.
+    pub log_taken: bool,
+    /// When the requests of a turn are decided.
+    pub now: Moment,
+    /// How many connections are still to be served.
+    pub left: u64,
+    /// The fault of a connection that isn't told yet. Until it is told, nothing is decided.
+    pub fault: Option<EdgeFault>,
+}
+
+ghost use Rattle.std.specs.Prelude.{◌≡◌, ◌+◌, ◌<◌, ◌++◌, ℕ, List, Option, None, Ok};
+ghost use Rattle.tokend.specs.Decisions.{outcome_by, Decides, FrontDecides, IsUnread, Seals};
+ghost use Rattle.tokend.specs.Serving.{connection_fault};
+ghost use Rattle.tokend.specs.Telling.{Writes, writer_of};
+ghost use Rattle.tokend.specs.Turns.{Goes, ToldOf};
+ghost use Rattle.tokend.specs.declared.server.Server.{Server as AnyServer};
+
+use crate::draw::draw;
+use crate::telling::say;
+use std::mem::replace;
+use tk_edge::{Counted, Served, Sink};
+use tk_turn::{Outcome, Service};
+
+/// How many bytes a record has at most that aren't of its request.
+const RECORD_ROOM: usize = 16_384;
+
+/// For how many bytes of a reply memory is taken before its request is decided.
+const REPLY_ROOM: usize = 4_096;
+
+impl Service for Server {
+    ghost decides = { Decides };
+
+    ghost seals = { Seals };
+
+    fn decide(
+        &mut self,
+        input: &[u8],
+        is_over: bool,
+        replies: &mut Vec<u8>,
+        records: &mut Vec<u8>,
+    ) -> Outcome {
+        if self.left == 0 || self.fault.is_some() {
+            return Outcome::More;
+        }
+        let mark = replies.len();
+        let mut next = copy(&self.words);
+        let words = draw(&mut next);
+        match self.serve_front(input, is_over, &words, replies, records) {
+            Ok(None) => Outcome::More,
+            Ok(Some((served, taken))) => {
+                self.move_on(next, None);
+                outcome_of(served, taken)
+            }
+            Err(fault) => {
+                replies.truncate(mark);
+                self.move_on(next, Some(fault));
+                Outcome::Ended
+            }
+        }
+    }
+
+    fn seal(&mut self) {
+        self.edge.seal();
+    }
+}
+
+// Makes room for the record of a request of this size, and for most replies. Returns whether there
+// was memory for it.
+fn make_room(records: &mut Vec<u8>, replies: &mut Vec<u8>, size: usize) -> bool
+    ensures records { records.new.items ≡ records.old.items }
+    ensures replies { replies.new.items ≡ replies.old.items }
+{
+    let room = size.saturating_add(RECORD_ROOM);
+    records.reserve(room).is_ok() && replies.reserve(REPLY_ROOM).is_ok()
+}
+
+// Returns a generator that gives the same words.
+fn copy(words: &ChaCha20Rng) -> ChaCha20Rng
+    ensures { result ≡ words.now }
+{
+    match words.clone() {
+        Ok(words) => words,
+        Err(_) => unreachable!("a generator has no memory of its own"),
+    }
+}
+
+// Returns what is made of a connection that was served. No further request is read of it.
+fn outcome_of(served: Served, taken: usize) -> Outcome
+    ensures { result ≡ outcome_by served taken }
+{
+    match served {
+        Served::Nothing => Outcome::Ended,
+        Served::Done(_) => Outcome::Decided(taken, false),
+    }
+}
+
+impl Server {
+    /// Returns a server that has no connection to serve.
+    pub(crate) fn new(alloc: Global, edge: Edge, words: ChaCha20Rng) -> Server
+        ensures edge { result.edge ≡ edge }
+        ensures words { result.words ≡ words }
+    {
+        Server {
+            alloc,
+            edge,
+            words,
+            log_taken: false,
+            now: Moment::new(0).unwrap(),
+            left: 0,
+            fault: None,
+        }
+    }
+
+    // Serves the request at the front of the bytes. The reply and the record go behind others. Room
+    // for both is made before, so that out of memory changes nothing and seals no edge.
+    fn serve_front(
+        &mut self,
+        input: &[u8],
+        is_over: bool,
+        words: &[u64; 6],
+        replies: &mut Vec<u8>,
+        records: &mut Vec<u8>,
+    ) -> Result<Option<(Served, usize)>, EdgeFault>
+        ensures decides { (reply logged : List ℕ)
+            × (replies.new.items ≡ replies.old.items ++ reply)
+            × (records.new.items ≡ records.old.items ++ logged)
+            × FrontDecides (record {
+              words = words.now;
+              log_taken = self.old.log_taken;
+              now = self.old.now;
+              bytes = input.now;
+              over = is_over;
+            }) self.old.edge result reply logged self.new.edge }
+        ensures others { self.new ≡ record self.old { edge = self.new.edge } }
+    {
+        if !make_room(records, replies, input.len()) {
+            return Err(EdgeFault::Memory);
+        }
+        let mut reply = Counted::new(replace(replies, Vec::new(self.alloc)));
+        let mut record = Counted::new(replace(records, Vec::new(self.alloc)));
+        let served = self.edge.serve_front(
+            self.alloc,
+            input,
+            is_over,
+            &mut reply,
+            &mut record,
+            self.log_taken,
+            self.now,
+            words,
+        );
+        *replies = reply.inner;
+        *records = record.inner;
+        served
+    }
+
+    // Notes that a connection has ended: the next one has the next words.
+    fn move_on(&mut self, next: ChaCha20Rng, fault: Option<EdgeFault>)
+        requires { 0 < self.old.left }
+        ensures { (left : ℕ) × (self.old.left ≡ left + 1)
+            × (self.new ≡ record self.old { words = next; left = left; fault = fault }) }
+    {
+        self.words = next;
+        self.left -= 1;
+        self.fault = fault;
+    }
+
+    /// Counts a connection that ended before its request was whole, if any is left to be served. It
+    /// couldn't be read, or there was no memory for its bytes.
+    pub(crate) fn miss<F: Sink>(&mut self, fault: EdgeFault, faults: &mut F)
+        requires { IsUnread fault }
+        ensures goes { (log : Option (List ℕ)) → Goes
+            (record {
+              server = self.old;
+              log = log;
+              faults = writer_of F.holds F.failed faults.old;
+            })
+            (record {
+              server = self.new;
+              log = log;
+              faults = writer_of F.holds F.failed faults.new;
+            }) }
+        ensures counted { 0 < self.old.left → self.new.left < self.old.left }
+    {
+        if self.left > 0 {
+            draw(&mut self.words);
+            self.left -= 1;
+            tell_fault(faults, fault);
+        }
+    }
+
+    /// Counts so many connections that ended before their requests were whole.
+    pub(crate) fn miss_each<F: Sink>(&mut self, count: u64, fault: EdgeFault, faults: &mut F)
+        requires { IsUnread fault }
+        ensures { (log : Option (List ℕ)) → Goes
+            (record {
+              server = self.old;
+              log = log;
+              faults = writer_of F.holds F.failed faults.old;
+            })
+            (record {
+              server = self.new;
+              log = log;
+              faults = writer_of F.holds F.failed faults.new;
+            }) }
+    {
+        for _ in 0..count {
+            self.miss(fault, faults);
+        }
+    }
+
+    /// Tells the fault of the last connection that was decided, if it had one.
+    pub(crate) fn tell<F: Sink>(&mut self, faults: &mut F) -> bool
+        ensures fault { self.new ≡ record self.old { fault = None } }
+        ensures told { ToldOf self.old.fault (writer_of F.holds F.failed faults.old)
+            (writer_of F.holds F.failed faults.new) }
+    {
+        match self.fault {
+            Some(fault) => {
+                self.fault = None;
+                tell_fault(faults, fault);
+                true
+            }
+            None => false,
+        }
+    }
+}
+
+/// Writes the line of a lost reply so many times.
+pub(crate) fn tell_each_unsent<F: Sink>(count: u64, faults: &mut F)
+    ensures { (server : AnyServer) (log : Option (List ℕ)) → Goes
+        (record {
+          server = server;
+          log = log;
+          faults = writer_of F.holds F.failed faults.old;
+        })
+        (record {
+          server = server;
+          log = log;
+          faults = writer_of F.holds F.failed faults.new;
+        }) }
+{
+    for _ in 0..count {
+        tell_fault(faults, EdgeFault::Write);
+    }
+}
+
+/// Writes the line of a connection's fault. If the writer fails, it has the beginning of the line.
+pub(crate) fn tell_fault<F: Sink>(faults: &mut F, fault: EdgeFault)
+    ensures { Writes (writer_of F.holds F.failed faults.old) (writer_of F.holds F.failed faults.new)
+        (connection_fault fault) }
+{
+    match fault {
+        EdgeFault::Read => say(faults, &[b"fault read\n"]),
+        EdgeFault::Write => say(faults, &[b"fault write\n"]),
+        EdgeFault::Log => say(faults, &[b"fault log\n"]),
+        EdgeFault::Memory => say(faults, &[b"fault memory\n"]),
+    }
+}
