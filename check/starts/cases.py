@@ -200,6 +200,10 @@ def unit_kills_no_start(_):
     wanted("TimeoutStartSec=infinity\n" in unit, "a start has a limit")
     wanted("--retry" not in unit, "a start has a limit by curl")
     wanted("RestartPreventExitStatus=2 3 4 5 6\n" in unit, "a start is repeated that is refused")
+    waited, most = (int(re.search(r"(?m)^%s=(\d+)$" % it, unit)[1]) for it in (
+        "Environment=TOKEND_AHEAD_SECONDS", "StartLimitBurst"))
+    wanted("Restart=on-failure\n" in unit and "StartLimitIntervalSec=1h\n" in unit
+           and waited * most > 3600, "starts with status 7 end at the limit", (waited, most))
 
 
 def pages_that_came_are_kept(room):

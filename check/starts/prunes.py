@@ -93,5 +93,53 @@ def peer_ahead_stops_no_start(room):
     wanted(said == (503, b'{"error":"temporarily_unavailable"}'), "no marks were taken", said)
 
 
+def file_ahead_ends_a_start(room):
+    """A start names each file whose horizon is ahead, and takes no number; unless it is to take
+    all. The next start goes well once the clock has passed the horizon."""
+    soon, far = int(time.time()) + 5, int(time.time()) + 3600
+    room.write("site/history/mine.otb", bundle([mark(51, 5)], far))
+    room.write("site/history/next.otb", bundle([mark(51, 4)], soon))
+    room.write("site/history/past.otb", bundle([mark(51, 3)], soon - 100))
+    run = room.start()
+    said = ["%s: its horizon is ahead of the clock: %s\n" % (
+        room.path("site/history", name), time.strftime("%Y-%m-%dT%H:%M:%SZ", time.gmtime(it)))
+            for name, it in (("mine.otb", far), ("next.otb", soon))]
+    wanted(run.ended(10) == 7 and all(it in run.errors() for it in said), "not named",
+           run.errors())
+    wanted("past.otb" not in run.errors(), "a horizon that has passed is named", run.errors())
+    wanted(room.number() == 0, "a start that was refused used a number")
+    os.unlink(room.path("site/history/mine.otb"))
+    wanted(room.start(TOKEND_AHEAD_SECONDS="0").ended(10) == 7, "another status")
+    time.sleep(max(0.0, soon - time.time()))
+    run = room.start().listening()
+    wanted(run.add_client() == (1, 1), "it makes no fact, or an earlier start took a number")
+
+
+def log_ahead_ends_a_start(room):
+    """A horizon that a run was pushed is in its log, and stops the next start."""
+    taken = {"TOKEND_OPTIONS": "--ahead taken"}
+    run = room.start(**taken).listening()
+    run.push([mark(51, 5)], int(time.time()) + 3600)
+    run.stop()
+    again = room.start()
+    wanted(again.ended(10) == 7 and "old/00001.otb" in again.errors(), "not named", again.errors())
+    wanted(room.number() == 1, "a start that was refused used a number")
+    said = room.start(**taken).listening().ask("/admin/client", CLIENT)
+    wanted(said == (503, b'{"error":"temporarily_unavailable"}'), "the horizon is lost", said)
+
+
+def start_waits_for_its_clock(room):
+    """With TOKEND_AHEAD_SECONDS a start waits for the horizon, and goes on by itself."""
+    horizon = int(time.time()) + 4
+    room.write("site/history/mine.otb", bundle([mark(51, 5)], horizon))
+    for text in ("x", "-1", "86401"):
+        wanted(room.start(TOKEND_AHEAD_SECONDS=text).ended() == 6, "not status 6", text)
+    run = room.start(TOKEND_AHEAD_SECONDS="60").listening()
+    wanted(time.time() >= horizon, "it didn't wait")
+    wanted("mine.otb: its horizon is ahead" in run.errors(), "not named", run.errors())
+    wanted(run.add_client() == (1, 1), "it makes no fact")
+
+
 CASES = [start_prunes, margin_is_refused, horizon_passes, peers_differ_and_agree,
-         peer_ahead_stops_no_start]
+         peer_ahead_stops_no_start, file_ahead_ends_a_start, log_ahead_ends_a_start,
+         start_waits_for_its_clock]

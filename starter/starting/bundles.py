@@ -22,10 +22,13 @@ def no_bundle(at):
 
 
 class Held:
-    """The dots that are held: of each region the serial up to which all are, and those above."""
+    """The dots that are held: of each region the serial up to which all are, and those above.
+
+    `horizon` is the latest of the bundles that were read.
+    """
 
     def __init__(self):
-        self.fronts, self.above = {}, {}
+        self.fronts, self.above, self.horizon = {}, {}, 0
 
     def add(self, region, serial):
         front = self.fronts.setdefault(region, 0)
@@ -80,6 +83,7 @@ def whole_bytes(data, held):
     """How many bytes the whole bundles at the front take. Adds their dots to those held."""
     at = 0
     while found := bundle_at(data, at):
+        held.horizon = max(held.horizon, horizon_of(data, at))
         at, dots = found
         for region, serial in dots:
             held.add(region, serial)
@@ -94,9 +98,9 @@ def page_dots(page):
     return found[1]
 
 
-def horizon_of(page):
-    """The horizon of a bundle that has marks; of any other bundle 0."""
-    return HORIZON.unpack_from(page, 4)[0] if page[:4] == b"OTB3" else 0
+def horizon_of(data, at=0):
+    """The horizon of the bundle at a place, if it has marks; of any other bundle 0."""
+    return HORIZON.unpack_from(data, at + 4)[0] if data[at:at + 4] == b"OTB3" else 0
 
 
 def facts_alone(page):

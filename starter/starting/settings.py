@@ -22,6 +22,7 @@ class Settings(typing.NamedTuple):
     peers: list
     seconds: int
     margin: typing.Optional[int]
+    patience: int
 
     def prune(self):
         """The moment up to which a run is pruned that starts now; None for no prune."""
@@ -84,4 +85,5 @@ def read(environ, arguments):
         os.path.abspath(folder), port_of(environ), range(first, last + 1),
         command(environ.get("TOKEND") or "tokend"), environ.get("TOKEND_OPTIONS", "").split(),
         environ.get("TOKEND_PEERS", "").split(),
-        number(seconds, 0, 86_400, "TOKEND_PEER_SECONDS"), margin_of(environ))
+        number(seconds, 0, 86_400, "TOKEND_PEER_SECONDS"), margin_of(environ),
+        number(environ.get("TOKEND_AHEAD_SECONDS") or "0", 0, 86_400, "TOKEND_AHEAD_SECONDS"))

@@ -109,15 +109,18 @@ class Site:
         return to
 
     def history(self):
-        """What is held, and the paths with how many bytes of each are whole bundles."""
-        held, parts = Held(), []
+        """What is held, the paths with how many bytes of each are whole bundles, and the horizon
+        of each path."""
+        held, parts, horizons = Held(), [], {}
         for path in self.segments("old", "history"):
+            held.horizon = 0
             with bytes_of(path) as data:
                 try:
                     parts.append((path, whole_bytes(data, held)))
                 except NoBundle as why:
                     raise no_log(path, why) from None
-        return held, parts
+            horizons[path] = held.horizon
+        return held, parts, horizons
 
     def write_load(self, parts):
         """The file of all parts, one behind the other."""

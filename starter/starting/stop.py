@@ -1,5 +1,5 @@
 """What ends a start, with the exit status that docs/tokend-start.1 lists."""
-FAILED, HELD, NO_LOG, NO_NUMBER, SETTINGS = 1, 3, 4, 5, 6
+FAILED, HELD, NO_LOG, NO_NUMBER, SETTINGS, AHEAD = 1, 3, 4, 5, 6, 7
 
 
 class Stop(Exception):
