@@ -12,6 +12,7 @@ import urllib.request
 
 from lib import TOP, Broken
 from lib.cases import Case
+from lib.facts import mark
 from lib.waiting import free_port, until
 
 EXPORTER = shutil.which("prometheus-node-exporter")
@@ -49,6 +50,7 @@ class Collected(Case):
         peer = ',peer="%s"' % two.url
         self.assertEqual(found["up"], 1)
         self.assertEqual(found["sealed"], 0)
+        self.assertEqual(found["serves_clients"], 1)
         self.assertEqual(found['facts,made_by="own"'], 3)
         self.assertEqual(found['facts,made_by="others"'], 0)
         self.assertEqual(found["lag_facts" + peer + ',lacking="here"'], 2)
@@ -72,7 +74,7 @@ class Collected(Case):
         began = time.monotonic()
         found = self.collect(one, [silent, "http://127.0.0.1:%d" % free_port()])
         self.assertLess(time.monotonic() - began, 15)
-        self.assertEqual((found["up"], found["sealed"]), (0, 0))
+        self.assertEqual((found["up"], found["sealed"], found["serves_clients"]), (0, 0, 0))
         self.assertEqual([value for it, value in found.items() if it.startswith("peer_up")],
                          [0, 0])
         self.assertEqual([it for it in found if "facts" in it or "resident" in it], [])
@@ -86,8 +88,22 @@ class Collected(Case):
         with self.assertRaises((Broken, OSError, http.client.HTTPException)):
             one.add(100)
         found = self.collect(one)
-        self.assertEqual((found["up"], found["sealed"]), (0, 1))
+        self.assertEqual((found["up"], found["sealed"], found["serves_clients"]), (0, 1, 0))
         self.assertGreater(found["resident_bytes"], 0)
+
+    def test_a_region_before_its_horizon(self):
+        """Other regions get replies, and clients get 503 until the horizon has passed."""
+        one = self.begin()
+        one.stop()
+        one.begin(script="../starter/tokend-start", options="--ahead taken")
+        self.assertTrue(until(one.is_up), one.said())
+        horizon = int(time.time()) + 6
+        self.assertEqual(one.push([mark(500, 1)], horizon)[0], 200)
+        found = self.collect(one)
+        self.assertLess(time.time(), horizon, "the machine was too slow to see it")
+        self.assertEqual((found["up"], found["sealed"], found["serves_clients"]), (1, 0, 0))
+        time.sleep(max(0.0, horizon - time.time()))
+        self.assertEqual(self.collect(one)["serves_clients"], 1)
 
     def end_carrier(self, name, port, moment):
         """What the unit of a carrier leaves when it has ended well."""
