@@ -7,9 +7,10 @@ from http.server import BaseHTTPRequestHandler, ThreadingHTTPServer
 class Peer:
     """A peer whose `reply` takes path and body, and returns a body, or status, fields and body.
 
-    If it returns None, or there is no `reply`, the connection ends without a reply, or never gets
-    one. Connections stay open, as those of a proxy, unless it drops each one unannounced. `asked`
-    and `bodies` have all paths and bodies, `connections` is how many connections there were.
+    Each reply has a Date, by this clock if the fields have none. If `reply` returns None, or there
+    is none, the connection ends without a reply, or never gets one. Connections stay open, as those
+    of a proxy, unless it drops each one unannounced. `asked` and `bodies` have all paths and
+    bodies, `connections` is how many connections there were.
     """
 
     def __init__(self, reply=None, tls=None, drops=False):
@@ -65,7 +66,7 @@ class Peer:
         if said is None:
             return True
         status, fields, said = said if isinstance(said, tuple) else (200, {}, said)
-        it.send_response(status)
+        (it.send_response_only if "Date" in fields else it.send_response)(status)
         for name, value in ({"Content-Length": len(said)} | fields).items():
             it.send_header(name, value)
         it.end_headers()

@@ -12,7 +12,8 @@ import time
 
 from families import LOGINS, OldLogins, marks_of
 from lib.facts import bundle, marks_in
-from room import COMPACT, Child, retirements, wanted
+from lib.peer import Peer
+from room import COMPACT, Child, dated, retirements, wanted
 from steps import KILLED
 
 DAY = ("--margin", "86400")
@@ -165,6 +166,40 @@ def compact_is_refused(room):
     site.is_as_ever(room.start().listening())
 
 
+def clock_ahead_compacts_nothing(room):
+    """A prune by a clock that is far ahead of a peer's, or up to a moment that is to come there."""
+    site = prepared(room)
+    room.start().listening().stop()
+    held, other, now = names_of(room, "site/*/*"), room.serve(70), int(time.time())
+    with Peer(dated(other, 302)) as late, Peer(dated(other, 250)) as near:
+        done = compacted(room, *DAY, TOKEND_PEERS="%s %s" % (near.url, late.url))
+        wanted(done.ended() == 4, "not status 4", done.errors())
+        wanted(done.errors().startswith("compact: %s: its clock is 30" % late.url)
+               and done.errors().endswith("seconds behind this one: nothing is pruned\n"),
+               "the peer isn't named", done.errors())
+        done = compacted(room, "--prune", str(now - 200), TOKEND_PEERS=near.url)
+        wanted(done.ended() == 4 and "the moment is later than its clock" in done.errors(),
+               "a moment to come isn't status 4", done.errors())
+        wanted(names_of(room, "site/*/*") == held, "the folder changed")
+        wanted(not os.path.exists(room.path("site/compact.new")), "its folder is left")
+        wanted(compacted(room, TOKEND_PEERS=late.url).ended() == 0, "compared without a prune")
+        done = compacted(room, *DAY, TOKEND_PEERS="%s %s" % (near.url, other.url))
+        wanted(done.ended() == 0 and not done.errors(), "not compacted", done.errors())
+    wanted(marks_in(only_segment(room)) == 2 * LOGINS, "not pruned")
+    wanted(compacted(room, TOKEND_PEERS="nowhere").ended() == 2, "no base URL isn't status 2")
+    site.is_as_ever(room.start().listening())
+
+
+def peer_away_stops_no_compact(room):
+    """A peer that isn't reached is named, and the prune goes on."""
+    prepared(room)
+    room.start().listening().stop()
+    done = compacted(room, *DAY, TOKEND_PEERS="http://127.0.0.1:%d" % room.port)
+    wanted(done.ended() == 0 and "its clock isn't known" in done.errors(), "not named",
+           done.errors())
+    wanted(marks_in(only_segment(room)) == 2 * LOGINS, "not pruned")
+
+
 def start_waits_for_a_swap(room):
     """A start that begins while files are replaced goes on once they are."""
     site = prepared(room)
@@ -210,5 +245,6 @@ def killed_compact_harms_no_start(room):
 
 CASES = [
     compact_keeps_all, compact_prunes_and_pushes, compact_takes_the_log_of_a_run,
-    compact_prunes_a_first_run, compact_is_refused, start_waits_for_a_swap,
+    compact_prunes_a_first_run, compact_is_refused, clock_ahead_compacts_nothing,
+    peer_away_stops_no_compact, start_waits_for_a_swap,
     killed_compact_harms_no_start]

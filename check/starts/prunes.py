@@ -1,12 +1,14 @@
 """prunes: a region that is pruned at its start. Each is a function of a room."""
 import os
+import re
 import time
 
 from families import LOGINS, OldLogins, marks_of
 from lib import TOP
 from lib.asking import CLIENT
 from lib.facts import bundle, mark
-from room import Child, retirements, wanted
+from lib.peer import Peer
+from room import Child, dated, retirements, wanted
 
 DAY = "86400"
 CARRY = os.path.join(TOP, "examples", "carry", "carry")
@@ -140,6 +142,43 @@ def start_waits_for_its_clock(room):
     wanted(run.add_client() == (1, 1), "it makes no fact")
 
 
+def clock_ahead_prunes_nothing(room):
+    """A start by a clock that is far ahead of a peer's goes on without its prune, and says so."""
+    site = OldLogins(room)
+    site.vector |= {70: 1}
+    other = room.serve(70)
+    other.add_client()
+    margin = {"TOKEND_PRUNE_MARGIN": DAY}
+    with Peer(dated(other, 302)) as late, Peer(dated(other, 0)) as right:
+        run = room.start(peers=[right.url, late.url], **margin).listening()
+        wanted(run.output.count(b"pruned") == 0, "pruned", run.output)
+        said = re.findall(r"(\S+): its clock is (\d+) seconds behind this one: nothing is pruned\n",
+                          run.errors())
+        wanted([(it, 300 < int(seconds) < 310) for it, seconds in said] == [(late.url, True)],
+               "the peer isn't named", run.errors())
+        site.is_as_ever(run)
+        wanted(marks_of(run) == 0, "a fact was pruned", marks_of(run))
+        run.stop()
+        run = room.start(peers=[right.url, late.url]).listening()
+        wanted("clock" not in run.errors(), "compared without a prune", run.errors())
+        run.stop()
+
+
+def clock_that_agrees_prunes(room):
+    """By a peer's clock that is behind by less, or ahead, and of a peer whose clock isn't known."""
+    site = OldLogins(room)
+    site.vector |= {70: 1}
+    other = room.serve(70)
+    other.add_client()
+    with (Peer(dated(other, 290)) as near, Peer(dated(other, -9000)) as ahead,
+          Peer(dated(other, 0, lambda *_, **__: "yesterday")) as strange):
+        run = room.start(peers=[near.url, ahead.url, strange.url, other.url],
+                         TOKEND_PRUNE_MARGIN=DAY).listening()
+        wanted(b"pruned %d\n" % (2 * LOGINS) in run.output, "not pruned", run.output)
+        wanted("clock" not in run.errors(), "a peer is named", run.errors())
+        site.is_as_ever(run)
+
+
 CASES = [start_prunes, margin_is_refused, horizon_passes, peers_differ_and_agree,
          peer_ahead_stops_no_start, file_ahead_ends_a_start, log_ahead_ends_a_start,
-         start_waits_for_its_clock]
+         start_waits_for_its_clock, clock_ahead_prunes_nothing, clock_that_agrees_prunes]

@@ -1,9 +1,11 @@
 """room: a folder for one case, in which a site is started by the starter that is tried."""
+import email.utils
 import os
 import re
 import shutil
 import subprocess
 import tempfile
+import time
 
 from lib import TOP, Broken
 from lib.facts import DOT, read_dot, retirement
@@ -29,6 +31,14 @@ def vector(**entries):
     """A vector of entries such as r5=9."""
     pairs = sorted((int(name[1:]), serial) for name, serial in entries.items())
     return b"OTV1" + len(pairs).to_bytes(2, "big") + b"".join(DOT.pack(*it) for it in pairs)
+
+
+def dated(server, seconds, spell=email.utils.formatdate):
+    """The replies of a server behind a proxy whose clock is as many seconds behind this one."""
+    def reply(path, body):
+        status, said = server.ask(path, body or None)
+        return status, {"Date": spell(time.time() - seconds, usegmt=True)}, said
+    return reply
 
 
 class Child(Process, Tokend):

@@ -8,6 +8,7 @@ from __future__ import annotations
 
 import argparse
 import contextlib
+import email.utils
 import http.client
 import os
 import re
@@ -121,6 +122,7 @@ class Reply:
     status: int
     body: bytes
     retry_after: str
+    date: str
 
     @property
     def is_passing(self) -> bool:
@@ -167,10 +169,15 @@ class Limit:
 
 
 class Server:
-    """A server by its base URL. Its connection stays open if it, or a proxy before it, agrees."""
+    """A server by its base URL. Its connection stays open if it, or a proxy before it, agrees.
+
+    `lead` is how many seconds this clock is ahead of the server's, by the Date field of the last
+    reply; None if that has none.
+    """
 
     def __init__(self, url: str, access: Access) -> None:
         self.url, self._access = url, access
+        self.lead: Optional[float] = None
         self._at = urllib.parse.urlsplit(url)
         self._link: Optional[http.client.HTTPConnection] = None
 
@@ -275,8 +282,10 @@ class Server:
             fields["Host"] = self._at.netloc
         with Limit(link.sock, self._access.reply_time) as limit:
             try:
+                moment = time.time()
                 link.request("GET" if body is None else "POST", target, body, fields)
                 reply = _read_reply(link.getresponse())
+                self.lead = _lead_over(reply.date, moment)
                 if not limit.is_over:
                     return reply
                 raise TimeoutError
@@ -298,6 +307,14 @@ def _text_of(error: Exception) -> str:
     return "".join(it if it.isprintable() else "?" for it in said[:MOST_SAID])
 
 
+def _lead_over(date: str, moment: float) -> Optional[float]:
+    """How many seconds a moment is after the one of a Date field; None if the field has none."""
+    try:
+        return moment - email.utils.mktime_tz(email.utils.parsedate_tz(date))
+    except (TypeError, ValueError, OverflowError):
+        return None
+
+
 def _read_reply(response: http.client.HTTPResponse) -> Reply:
     """The whole reply. One that is cut or too long is an error."""
     body = response.read(LONGEST_REPLY + 1)
@@ -305,7 +322,8 @@ def _read_reply(response: http.client.HTTPResponse) -> Reply:
         if len(body) > LONGEST_REPLY:
             raise http.client.HTTPException("a reply of over %d bytes" % LONGEST_REPLY)
         raise http.client.IncompleteRead(body, response.length)
-    return Reply(response.status, body, response.getheader("Retry-After", "0"))
+    return Reply(response.status, body, response.getheader("Retry-After", "0"),
+                 response.getheader("Date", ""))
 
 
 def pages(source: Server, vector: Vector) -> Iterator[Bundle]:

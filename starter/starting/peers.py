@@ -4,6 +4,7 @@ No proxy of the environment is used. Each request has an end of its own, and all
 have one, so a peer that is silent or slow can't hold up a start.
 """
 import contextlib
+import email.utils
 import http.client
 import signal
 import time
@@ -43,6 +44,14 @@ def connection_to(url):
     return kinds[url.scheme](url.hostname, url.port, timeout=SILENCE)
 
 
+def lead_over(date, moment):
+    """How many seconds a moment is after the one of a Date field; None if the field has none."""
+    try:
+        return moment - email.utils.mktime_tz(email.utils.parsedate_tz(date))
+    except (TypeError, ValueError, OverflowError):
+        return None
+
+
 def body_of(reply):
     if reply.status != 200:
         raise ValueError("status %d" % reply.status)
@@ -57,18 +66,26 @@ def body_of(reply):
 
 
 class Peer:
-    """A region at a base URL, which is asked up to the end of the time for all peers."""
+    """A region at a base URL, which is asked up to the end of the time for all peers.
+
+    `lead` is how many seconds this clock is ahead of the peer's, by the Date field of its last
+    reply; None if that has none.
+    """
 
     def __init__(self, url, end):
-        self.url, self.end = url, end
+        self.url, self.end, self.lead = url, end, None
 
     def ask(self, method, path, body=None):
         url = urllib.parse.urlsplit(self.url)
         with (at_most(min(LONGEST, self.end - time.monotonic())),
               contextlib.closing(connection_to(url)) as connection):
+            moment = time.time()
             connection.request(method, url.path.rstrip("/") + path, body,
                                {"Content-Type": "application/octet-stream"})
-            return body_of(connection.getresponse())
+            reply = connection.getresponse()
+            said = body_of(reply)
+            self.lead = lead_over(reply.getheader("Date"), moment)
+            return said
 
     def regions(self):
         """The numbers of which it holds facts."""
