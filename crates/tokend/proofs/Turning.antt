@@ -149,8 +149,8 @@ goes_unsent server log before after told = record {
 
 -- ---- the decisions of a turn
 
--- A server decided connections, whose faults are told by the line of the last one. Nothing is
--- decided behind a fault.
+-- Connections were decided, one after the other. Only the last one may have a fault, and its line
+-- tells it.
 record Went (old : Server) (logged : List ℕ) (new : Server) : Type 0 where
   ends : Endings
   decided : AreDecisions old.words old.log_taken old.edge ends logged new.edge
@@ -249,7 +249,7 @@ went_at (place ∷ places) old before new after logged h =
 -- ---- one turn
 
 module _ (places : List ℕ) (old new : State Server) (log : LogChange) (before told after : Writer) where
-  -- the server after its turn, whose fault is told
+  -- the server after its turn, when the line of its fault is written
   abbrev end : Server
   end = record new.service { fault = None }
 
