@@ -2,4 +2,8 @@ pub mod PlaceLaws
 pub mod CellLaws
 pub mod OrderLaws
 pub mod PageLaws
+pub mod RunLaws
+pub mod RunAddLaws
+pub mod RunWalkLaws
+pub mod MarkLaws
 pub mod SlotLaws

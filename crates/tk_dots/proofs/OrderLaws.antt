@@ -46,7 +46,7 @@ some_none x h = cc
 some_same : {A : Type 0} (x y : A) → Some x ≡ Some y → x ≡ y
 some_same x y h = cc
 
-is_less : (o : Ordering) → is_lt o ≡ true → o ≡ Less
+pub is_less : (o : Ordering) → is_lt o ≡ true → o ≡ Less
 is_less Less h = refl
 is_less Equal h = absurd (false≢true h)
 is_less Greater h = absurd (false≢true h)
@@ -56,7 +56,7 @@ lt_reverse Less = refl
 lt_reverse Equal = refl
 lt_reverse Greater = refl
 
-le_not_lt : (k q : Dot) → IsLeBy dot_cmp k q → is_lt (dot_cmp q k) ≡ false
+pub le_not_lt : (k q : Dot) → IsLeBy dot_cmp k q → is_lt (dot_cmp q k) ≡ false
 le_not_lt k q h = ap is_lt (dot_cmp_total.antisymm q k) ∙ lt_reverse (dot_cmp k q) ∙ h
 
 page_in : (k : Dot) (i : ℕ) → 0 < k.serial → i < span → page_of (dot_in k i) ≡ k

@@ -69,6 +69,14 @@ impl<V> DotMap<V> {
         get_in(&self.pages, page_of(dot), place_of(dot))
     }
 
+    // Returns the places of the page of a dot, or none if there is no page.
+    pub(crate) fn page(&self, dot: Dot) -> &[Option<V>] {
+        match self.pages.get(&page_of(dot)) {
+            Some(slots) => slots.as_slice(),
+            None => &[],
+        }
+    }
+
     /// Returns the number of values.
     pub fn len(&self) -> u64
         ensures { result ≡ maps.len self.now }

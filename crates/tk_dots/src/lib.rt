@@ -1,20 +1,28 @@
-//! A finite map from dots to values, in pages.
+//! Finite maps from dots, in pages, and a finite set of dots, in runs.
 //!
 //! The dots of a region follow one another, mostly without a gap. Values are kept in pages of 64
 //! dots each. A look-up finds the page in a small map of pages, and then the value by its place on
-//! the page. A page ends with its last value, so a lone dot takes up to 64 places.
+//! the page. A page ends with its last value, so a lone dot takes up to 64 places. A set of dots
+//! keeps those that follow one another as one run.
 //!
-//! - `dots`: `DotMap`, the map. Contracts see a finite map from dots to values.
+//! - `dots`: `DotMap`, a map. Contracts see a finite map from dots to values.
 //! - `place`: the page of a dot, and the place of a dot on its page.
 //! - `pages`: all pages, by their numbers.
 //! - `slots`: the places of one page.
+//! - `runs`: `DotRuns`, the set. Contracts see a finite set of dots.
+//! - `marks`: `MarkMap`, a map whose marks are kept in runs. Contracts see a finite map from dots to
+//!   values or marks.
 //!
-//! The definitions are in `specs/Pages.antt`.
+//! The definitions are in `specs/Pages.antt`, `specs/Runs.antt` and `specs/Marks.antt`.
 #![tactic(auto)]
 
 mod dots;
+mod marks;
 mod pages;
 mod place;
+mod runs;
 mod slots;
 
 pub use dots::DotMap;
+pub use marks::MarkMap;
+pub use runs::DotRuns;

@@ -41,7 +41,7 @@ fn skip_at(store: &mut FactStore, index: &mut Index, dot: Dot) -> Result<Added, 
     }
 }
 
-// Skips each dot of a list. Takes no memory, since the dots are known.
+// Skips each dot of a list. Can't run out of memory, since the dots are known.
 fn skip_all(store: &mut FactStore, index: &mut Index, dots: &[Dot])
     requires indexed { IsIndexed (held_facts store.old) index.old }
     requires may { AllMayGo store.old (has dots.now) }
@@ -72,7 +72,7 @@ impl Ledger {
     /// look-up then returns what the other facts determine.
     ///
     /// A fact that lasts is not skipped, and the ledger is unchanged then. If the dot is known, the
-    /// call takes no memory.
+    /// call can't run out of memory.
     pub fn skip(&mut self, dot: Dot) -> Result<Added, AddError>
         ensures skips { Skips self.old dot result self.new }
         ensures known { map.get self.old.slots dot ≢ None → result ≢ Err error.Memory }

@@ -161,6 +161,43 @@ module _ {X : Type 0} where
   front_empty v none r = subst (λ (n : ℕ). IsFrontAt {X = X} map.empty r n) (sym (ap (λ (w : Vector). entry w r) none ∙ entry_empty r))
       (front_from_next map.empty r 0 (λ k low le. absurd (omega arith)) (map.get-empty dot_cmp (dot_at r 1)))
 
+-- ---- a run of serials
+
+-- what is known at a dot and behind it
+pub known_from : (S : Slots) (d : Dot) (end : ℕ) → IsSome (map.get S d) → ((k : ℕ) → d.serial < k → k ≤ end → IsSome (map.get S (dot_at d.region k)))
+    → (k : ℕ) → d.serial ≤ k → k ≤ end → IsSome (map.get S (dot_at d.region k))
+known_from S d end here behind k from to = elim (cases_lt d.serial k) [
+  | inl lt ↦ behind k lt to
+  | inr ge ↦ subst (λ (x : Dot). IsSome (map.get S x)) (dot_by d k (omega (arith, ge, from))) here
+]
+  where
+    dot_by : (d : Dot) (k : ℕ) → k ≡ d.serial → d ≡ dot_at d.region k
+    dot_by d k e = λ i. record { region = d.region; serial = sym e i }
+
+module _ (S : Slots) (d : Dot) (free : map.get S d ≡ None) (x : Slot) where
+  without_new : map.remove (map.insert S d x) d ≡ S
+  without_new = taken_back S d x free
+
+  -- a slot that is not the next of its region leaves the front
+  pub past_put : (v : Vector) → IsFront S v → d.serial ≢ entry v d.region + 1 → IsFront (map.insert S d x) v
+  past_put v front other = front_put (map.insert S d x) d v (subst (λ (R : Slots). IsFront R v) (sym without_new) front) other
+
+  -- the next slot of a region moves the front to the end of the run behind it
+  pub past_advanced : (v : Vector) (end : ℕ) → IsFront S v → d.serial ≡ entry v d.region + 1 → d.serial ≤ end
+      → ((k : ℕ) → d.serial < k → k ≤ end → IsSome (map.get S (dot_at d.region k))) → map.get S (dot_at d.region (end + 1)) ≡ None
+      → IsFront (map.insert S d x) (raised v d.region end)
+  past_advanced v end front is from behind next = front_advanced (map.insert S d x) d v end (subst (λ (R : Slots). IsFront R v) (sym without_new) front) is from
+      (known_from (map.insert S d x) d end (ap is_some (get_here S d x))
+      (λ k lt to. by_dot IsSome S d x (dot_at d.region k) (λ _. refl) (behind k lt to)))
+      (by_dot (λ o. o ≡ None) S d x (dot_at d.region (end + 1)) (λ same. absurd (not_here same)) next)
+    where
+      not_here : dot_at d.region (end + 1) ≡ d → ⊥
+      not_here same = (let e : end + 1 ≡ d.serial = ap (λ (y : Dot). y.serial) same in absurd (omega (arith, e, from)))
+
+  -- the front without the slot again
+  pub past_lowered : (v : Vector) → IsFront (map.insert S d x) v → 0 < d.serial → IsFront S (lowered v d.region (d.serial - 1))
+  past_lowered v front some = subst (λ (R : Slots). IsFront R (lowered v d.region (d.serial - 1))) without_new (front_taken (map.insert S d x) d v front some)
+
 -- ---- the slots of a store and its front
 
 pub kept_nothing : (S : Slots) (v : Vector) → S ≡ map.empty → v ≡ map.empty → IsKept S v
@@ -188,13 +225,6 @@ kept_skipped S v d kept known = record {
   front_is = same_keys S (map.insert S d Skipped) v (λ q. by_dot (λ o. is_some o ≡ is_some (map.get S q)) S d Skipped q (λ same. sym known ∙ ap (λ (x : Dot). is_some (map.get S x)) (sym same)) refl) kept.front_is;
 }
 
--- a front that has not yet followed a new slot is the front of the slots without it
-pub before_new : (S R : Slots) (v : Vector) (d : Dot) (x : Slot) → map.get S d ≡ None → R ≡ map.insert S d x → IsFront S v → IsFront (map.remove R d) v
-before_new S R v d x free is front = subst (λ (Q : Slots). IsFront Q v) (sym (ap (λ (Q : Slots). map.remove Q d) is ∙ taken_back S d x free)) front
-
-pub new_known : (S R : Slots) (d : Dot) (x : Slot) → R ≡ map.insert S d x → IsSome (map.get R d)
-new_known S R d x is = subst IsSome (sym (ap (λ (Q : Slots). map.get Q d) is ∙ get_here S d x)) refl
-
 pub kept_new : (S R : Slots) (v w : Vector) (d : Dot) (b : Body) → IsKept S v → refusal_of b ≡ None → R ≡ map.insert S d (Held b) → IsFront R w → IsKept R w
 kept_new S R v w d b kept passes is front = record {
   sound = subst IsFactSet (sym (ap held_in is ∙ held_put S d b)) (IsFactSet-insert (held_in S) d b kept.sound passes);
@@ -206,11 +236,6 @@ kept_marked S R v w d kept is front = record {
   sound = subst IsFactSet (sym (ap held_in is ∙ held_skip S d)) (IsFactSet-remove (held_in S) d kept.sound);
   front_is = front;
 }
-
-pub kept_back : (S R Q : Slots) (v w : Vector) (d : Dot) (x : Slot) → IsKept S v → map.get S d ≡ None → R ≡ map.insert S d x → Q ≡ map.remove R d → w ≡ v → (Q ≡ S) × IsKept Q w
-kept_back S R Q v w d x kept free is rest same =
-    let whole : Q ≡ S = rest ∙ ap (λ (X : Slots). map.remove X d) is ∙ taken_back S d x free in
-    (whole, subst (λ (X : Slots). IsKept X w) (sym whole) (subst (IsKept S) (sym same) kept))
 
 -- a fact that was put is taken out
 pub put_taken : (S R Q : Slots) (d : Dot) (b : Body) → R ≡ map.insert S d (Held b) → Q ≡ without_fact R d (map.get R d) → Q ≡ map.remove R d

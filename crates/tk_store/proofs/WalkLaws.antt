@@ -15,6 +15,7 @@ use Rattle.tk_store.specs.declared.slot.SlotRef.{SlotRef}
 use Rattle.tk_store.specs.declared.slot.SlotRef.TheVariants as ref
 use Rattle.tk_store.specs.Slots.{Slot, Slots, Held, Skipped, held_entries, held_in}
 use Rattle.tk_store.specs.SlotShown.{shown_slot, HasDot}
+use Rattle.tk_store.specs.Table.{IsStep}
 use Rattle.tk_store.specs.Walk.{is_above, above}
 use Rattle.std.proofs.lemmas.Bool.{true≢false}
 use Rattle.tk_store.proofs.SlotLaws.{entries_held}
@@ -159,18 +160,9 @@ abbrev pub IsFirstHeld : SlotRef → Option (Dot × Body) → Type 0
 IsFirstHeld (ref.Held f) o = Some f.now ≡ o
 IsFirstHeld ref.Skipped o = Unit {0}
 
-pub first_held : (S : Slots) (place after : Option Dot) (d : Dot) (r : SlotRef) (rest : List (Dot × Slot)) → held_entries (above S place) ≡ held_entries (above S after)
-    → above S place ≡ (d, shown_slot r) ∷ rest → HasDot d r → IsFirstHeld r (slice_get (above (held_in S) after) 0)
-first_held S place after d (ref.Held f) rest passed on home =
-    ap (λ (q : Dot). Some (q, f.now.1)) home
-    ∙ sym (ap (λ (l : List (Dot × Body)). slice_get l 0) (held_above S after ∙ sym passed ∙ ap held_entries on))
-first_held S place after d ref.Skipped rest passed on home = tt
+pub step_held : (S : Slots) (place after : Option Dot) (d : Dot) (r : SlotRef) → above (held_in S) place ≡ above (held_in S) after → IsStep S place d r → IsFirstHeld r (slice_get (above (held_in S) after) 0)
+step_held S place after d (ref.Held f) same step = sym step ∙ ap (λ (l : List (Dot × Body)). slice_get l 0) same
+step_held S place after d ref.Skipped same step = tt
 
--- passing over a mark
-pub passed_on : (S : Slots) (place after : Option Dot) (d : Dot) (rest : List (Dot × Slot)) → held_entries (above S place) ≡ held_entries (above S after)
-    → above S place ≡ (d, Skipped) ∷ rest → held_entries rest ≡ held_entries (above S after)
-passed_on S place after d rest passed on = sym (ap held_entries on) ∙ passed
-
-pub none_held : (S : Slots) (place after : Option Dot) → held_entries (above S place) ≡ held_entries (above S after)
-    → above S place ≡ [] → None ≡ slice_get (above (held_in S) after) 0
-none_held S place after passed out = sym (ap (λ (l : List (Dot × Body)). slice_get l 0) (held_above S after ∙ sym passed ∙ ap held_entries out))
+pub none_held : (S : Slots) (place after : Option Dot) → above (held_in S) place ≡ above (held_in S) after → above (held_in S) place ≡ [] → ◌≡◌ {A = Option (Dot × Body)} None (slice_get (above (held_in S) after) 0)
+none_held S place after same out = sym (ap (λ (l : List (Dot × Body)). slice_get l 0) (sym same ∙ out))

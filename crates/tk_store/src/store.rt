@@ -153,7 +153,7 @@ impl FactStore {
     /// Skips a dot: drops the fact that is held there, and lets no fact be held there again.
     ///
     /// A fact that lasts is not skipped, and the store is unchanged then. If the dot is known, the
-    /// call takes no memory.
+    /// call can't run out of memory.
     pub fn skip(&mut self, dot: Dot) -> Result<Added, AddError>
         ensures skips { Skips self.old dot result self.new }
         ensures known { sets.get self.old.slots dot ≢ None → result ≢ Err error.Memory }
@@ -321,7 +321,7 @@ fn has_fact(slot: &SlotRef<'_>, fact: &Fact) -> bool
     }
 }
 
-// Adds a fact at a dot that is unknown. If memory runs out, the fact is taken out again.
+// Adds a fact at a dot that is unknown. If memory runs out, nothing changes.
 fn add_new(facts: &mut Table, front: &mut VersionVector, fact: Fact) -> Result<(), AllocError>
     requires free { sets.get facts.old fact.0 ≡ None }
     requires passes { refusal_of fact.1 ≡ None }
@@ -331,15 +331,20 @@ fn add_new(facts: &mut Table, front: &mut VersionVector, fact: Fact) -> Result<(
     ensures kept { IsKept facts.new front.new }
 {
     let dot = fact.dot;
-    facts.put(fact)?;
     if let Err(error) = advance(facts, front, dot) {
-        drop(facts.take(dot));
+        drop(fact);
         return Err(error);
     }
-    Ok(())
+    match facts.put(fact) {
+        Ok(()) => Ok(()),
+        Err(error) => {
+            front.lower(dot.region(), dot.serial() - 1);
+            Err(error)
+        }
+    }
 }
 
-// Skips a dot that is unknown. If memory runs out, the dot is unknown again.
+// Skips a dot that is unknown. If memory runs out, nothing changes.
 fn skip_new(facts: &mut Table, front: &mut VersionVector, dot: Dot) -> Result<(), AllocError>
     requires free { sets.get facts.old dot ≡ None }
     requires kept { IsKept facts.old front.old }
@@ -347,10 +352,14 @@ fn skip_new(facts: &mut Table, front: &mut VersionVector, dot: Dot) -> Result<()
     ensures err { OnErr result (facts.new ≡ facts.old) }
     ensures kept { IsKept facts.new front.new }
 {
-    facts.mark(dot)?;
     if let Err(error) = advance(facts, front, dot) {
-        facts.forget(dot);
         return Err(error);
     }
-    Ok(())
+    match facts.mark(dot) {
+        Ok(()) => Ok(()),
+        Err(error) => {
+            front.lower(dot.region(), dot.serial() - 1);
+            Err(error)
+        }
+    }
 }

@@ -2,21 +2,14 @@
 
 use std::alloc::{AllocError, Global};
 use std::marker::Model;
-use tk_dots::DotMap;
+use tk_dots::MarkMap;
 use tk_fact::Fact;
 use tk_handle::Dot;
-
-// What is kept at a dot: a fact in memory of its own, or the mark that one was skipped.
-#[derive(Drop)]
-pub(crate) enum Kept {
-    Fact(Box<Fact>),
-    Skipped,
-}
 
 // A map from dots to slots, each fact at its own dot.
 #[derive(Drop)]
 pub(crate) struct Table {
-    kept: DotMap<Kept>,
+    kept: MarkMap<Box<Fact>>,
     // The number of facts; marks do not count.
     held: u64,
     alloc: Global,
@@ -51,19 +44,19 @@ ghost use Rattle.tk_store.specs.Slots.{
   without_fact,
 };
 ghost use Rattle.tk_store.specs.SlotShown.{IsShown, WalksOn};
-ghost use Rattle.tk_store.specs.Table.{Shows};
+ghost use Rattle.tk_store.specs.Table.{PassesOn, Shows};
 ghost use Rattle.tk_store.specs.NextDot as next;
 
 use crate::slot::SlotRef;
 use tk_handle::RegionNumber;
 
 // Returns what is kept as a slot.
-fn slot_of(kept: &Kept) -> SlotRef<'_>
-    ensures { Shows result kept.now }
+fn slot_of(kept: Option<&Box<Fact>>) -> SlotRef<'_>
+    ensures { Shows result (option_copied kept.entry) }
 {
     match kept {
-        Kept::Fact(fact) => SlotRef::Held(&**fact),
-        Kept::Skipped => SlotRef::Skipped,
+        Some(fact) => SlotRef::Held(&**fact),
+        None => SlotRef::Skipped,
     }
 }
 
@@ -72,7 +65,7 @@ impl Table {
         ensures { result ≡ sets.empty }
     {
         Table {
-            kept: DotMap::new(alloc),
+            kept: MarkMap::new(alloc),
             held: 0,
             alloc,
         }
@@ -134,12 +127,12 @@ impl Table {
         ensures ok { OnOk result (self.new ≡ sets.insert self.old fact.0 (Held fact.1)) }
         ensures err { OnErr result (self.new ≡ self.old) }
     {
-        if self.kept.len() == u64::MAX {
+        if self.held == u64::MAX {
             return Err(AllocError);
         }
         let dot = fact.dot;
         let held = Box::new(self.alloc, fact)?;
-        self.kept.put(dot, Kept::Fact(held))?;
+        self.kept.put(dot, held)?;
         self.held += 1;
         Ok(())
     }
@@ -150,15 +143,15 @@ impl Table {
         ensures ok { OnOk result (self.new ≡ sets.insert self.old dot Skipped) }
         ensures err { OnErr result (self.new ≡ self.old) }
     {
-        self.kept.put(dot, Kept::Skipped)
+        self.kept.mark(dot)
     }
 
-    // Puts a mark in place of the fact at the dot. Takes no memory.
+    // Puts a mark in place of the fact at the dot. Can't fail.
     pub(crate) fn skip(&mut self, dot: Dot)
         requires { IsSome (held_slot (sets.get self.old dot)) }
         ensures { self.new ≡ sets.insert self.old dot Skipped }
     {
-        self.kept.set(dot, Kept::Skipped);
+        self.kept.skip(dot);
         self.held -= 1;
     }
 
@@ -168,25 +161,13 @@ impl Table {
             ≡ option_map (λ body. (dot, body)) (held_slot (sets.get self.old dot)) }
         ensures rest { self.new ≡ without_fact self.old dot (sets.get self.old dot) }
     {
-        if self.is_marked(dot) {
-            return None;
-        }
         match self.kept.take(dot) {
-            Some(Kept::Fact(fact)) => {
+            Some(fact) => {
                 self.held -= 1;
                 Some(Box::into_inner(fact))
             }
-            Some(Kept::Skipped) => unreachable!("a mark stays"),
             None => None,
         }
-    }
-
-    // Removes the mark at the dot, which makes the dot unknown. Takes no memory.
-    pub(crate) fn forget(&mut self, dot: Dot)
-        requires { sets.get self.old dot ≡ Some Skipped }
-        ensures { self.new ≡ sets.remove self.old dot }
-    {
-        drop(self.kept.take(dot));
     }
 
     // Returns the first slot above `after`, or the first of all if `after` is `None`.
@@ -194,6 +175,17 @@ impl Table {
         ensures { WalksOn self.now after result }
     {
         match self.kept.next_after(after) {
+            Some(next) => Some((next.0, slot_of(next.1))),
+            None => None,
+        }
+    }
+
+    // Returns a slot above `after` such that no fact is in between, or `None` if no fact is above.
+    // Passes over marks.
+    pub(crate) fn next_fact(&self, after: Option<Dot>) -> Option<(Dot, SlotRef<'_>)>
+        ensures { PassesOn self.now after result }
+    {
+        match self.kept.next_value(after) {
             Some(next) => Some((next.0, slot_of(next.1))),
             None => None,
         }
