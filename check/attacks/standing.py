@@ -45,6 +45,16 @@ class ByOperators(Case):
             self.assertEqual(it.ask("/admin/client", form.encode())[0], 201, uri)
 
 
+    def test_with_redirects_none_of_these_is_registered(self):
+        it = self.tokend(1, options=("--redirects", "https,loopback,app"))
+        for uri in ("javascript:alert(1)", "data:text/html,x", "file:///x", "vbscript:x",
+                    "http://app.example/cb"):
+            form = urllib.parse.urlencode({"kind": "public", "scope": "read", "redirects": uri})
+            said = it.ask("/admin/client", form.encode())
+            self.assertEqual(said, (400, b'{"error":"invalid_request"}'), uri)
+        self.assertEqual(it.held(), [])
+
+
 class ByPeers(Case):
     """By whoever may push."""
 
@@ -113,6 +123,52 @@ class ByPeers(Case):
         one, two = self.tokend(1, client(3, 1, b"read")), self.tokend(2, client(3, 1, b"write"))
         self.assertEqual(self.carry(one.url, two.url)[0], 0)
         self.assertNotEqual(one.held(), two.held())
+
+
+class Unseen(Case):
+    """By whoever reaches the front end, at servers with --revoke-unseen."""
+
+    def served(self, choice):
+        """A server that holds a public client c3-1 and a confidential one, c3-2."""
+        secret = hashlib.sha256(b"s3cret").digest()
+        fact = dot((3, 2)) + b"\1\1" + secret + text(b"read") + b"\1" + text(b"https://a.test/")
+        return self.tokend(1, *clients(3, 1), fact, options=("--revoke-unseen", choice))
+
+    def revoke(self, it, client):
+        return it.ask("/revoke", ("client_id=%s&token=%s" % (client, handle(9, 1))).encode())
+
+    def test_a_public_client_makes_no_revocation_of_an_invented_token(self):
+        for choice in ("authenticated", "none"):
+            it = self.served(choice)
+            for _ in range(10):
+                self.assertEqual(self.revoke(it, "c3-1"), BUSY)
+            self.assertEqual(len(it.held()), 2)
+
+    def test_a_client_with_a_secret_makes_one_unless_no_client_may(self):
+        it = self.served("authenticated")
+        self.assertEqual(self.revoke(it, "c3-2&client_secret=s3cret"), (200, b""))
+        self.assertEqual(len(it.held()), 3)
+        it = self.served("none")
+        self.assertEqual(self.revoke(it, "c3-2&client_secret=s3cret"), BUSY)
+        self.assertEqual(len(it.held()), 2)
+
+
+class Consents(Case):
+    """By a user who signed in, whose page passes on what it is sent."""
+
+    def given(self, *options):
+        """How many facts 100 requests for the same consent make."""
+        it = self.tokend(1, *clients(3, 1), options=options)
+        for _ in range(100):
+            said = it.ask("/admin/consent", b"client_id=c3-1&subject=ann&scope=read")
+            self.assertIn(said, ((201, said[1]), (200, b'{"consent_id":"g1-1"}')))
+        return len(it.held()) - 1
+
+    def test_a_consent_that_is_given_again_makes_a_fact(self):
+        self.assertEqual(self.given(), 100)
+
+    def test_a_consent_that_is_held_makes_none(self):
+        self.assertEqual(self.given("--consent", "held"), 1)
 
 
 class Refused(Case):

@@ -55,6 +55,15 @@ req 1 0 POST /admin/signout - - subject=ann
 req 1 0 POST /admin/retire - - client_id=c2-1
 """
 
+# requests that a region with these options decides otherwise than the profile; 9:1 is not known
+CHOICES = " --revoke-unseen none --consent held --redirects https,app"
+CHOSEN = """
+req 1 0 POST /revoke <c2-1:s3cret> - token=AQIACQAAAAAAAAABAAAAAAAAAAAAAAAAAAAAAAAAAAAAAAAA
+req 1 0 CONSENT ann
+req 1 0 POST /admin/client - - kind=public&scope=read&redirects=https://c.example/+a.b:/
+req 1 0 POST /admin/client - - kind=public&scope=read&redirects=https://c.example/+http://c.example/
+"""
+
 
 def events_of(text):
     return story.read("serve", written_out(text).replace("c1-1", "c2-1")).events
@@ -67,10 +76,14 @@ def families_of(count):
 
 
 class Request:
-    """What a connection sends, and what may have been done if it got no reply."""
+    """What a connection sends, and what may have been done if it got no reply.
 
-    def __init__(self, title, sent, cuts=()):
+    The server has these options.
+    """
+
+    def __init__(self, title, sent, cuts=(), options=""):
         self.title, self.sent, self.cuts = title, sent, [NOTHING] + list(cuts)
+        self.options = options
 
 
 class Scene:
@@ -90,6 +103,9 @@ class Scene:
         """All requests but the push."""
         for event in events_of(ASKED):
             yield Request(event.text[8:60], request_of(event.filled(self.names)))
+        for event in events_of(CHOSEN):
+            sent = request_of(event.filled(self.names))
+            yield Request(event.text[8:60] + CHOICES, sent, options=CHOICES)
         yield Request("GET /sync/vector", VECTOR)
         yield Request("POST /sync/pull", PULL)
 
@@ -185,7 +201,7 @@ def wrong(scene, talk, request):
     told = None
     for cut in request.cuts if talk.firsts[0] == b"" else [request.sent]:
         firsts = [cut] + [request.sent if it else NOTHING for it in talk.firsts[1:]]
-        told = talk.apart(scene.fresh(firsts, request))
+        told = talk.apart(scene.fresh(firsts, request, request.options))
         if told is None:
             return None
     return told
@@ -199,7 +215,7 @@ def sweep(scene, request, is_whole, offset, stride):
     firsts = [request.sent] * (2 if is_whole else 1)
 
     def trial(at, span):
-        with Server(scene.lab, REGION, scene.old) as server:
+        with Server(scene.lab, REGION, scene.old, request.options) as server:
             talk = Talk(scene, server, firsts, request, at, span)
         return talk.refused, wrong(scene, talk, request)
 

@@ -10,6 +10,7 @@ use Rattle.tk_message.specs.declared.decision.Decision.{Decision}
 use Rattle.tk_message.specs.declared.place.Place.{Place}
 use Rattle.tk_authorize.specs.Administered.{administered_of}
 use Rattle.tk_authorize.specs.Administration.{administered_by, administration_of}
+use Rattle.tk_authorize.specs.Chosen.{chosen}
 use Rattle.tk_authorize.specs.Authorization.{decided_by, authorization_of, kept_state}
 use Rattle.tk_authorize.specs.Judged.{judged_of}
 use Rattle.tk_authorize.specs.declared.administered.Administered.{Administered}
@@ -36,10 +37,11 @@ carried_out_alone place (administered.Shows client) = tt
 carried_out_alone place (administered.Retires client true) = refl
 carried_out_alone place (administered.Retires client false) = tt
 carried_out_alone place (administered.Consents consent) = refl
+carried_out_alone place (administered.HasConsent consent) = tt
 carried_out_alone place (administered.Withdraws consent true) = refl
 carried_out_alone place (administered.Withdraws consent false) = tt
 carried_out_alone place (administered.AlreadyOut subject) = tt
 carried_out_alone place (administered.SignsOut sign_out) = refl
 
 pub administers_alone : (F : FactSet) (place : Place) (now : ℕ) (request : RequestFields) → IfSome (administration_of F place now request).made (λ b. uses_of b ≡ None)
-administers_alone F place now request = carried_out_alone place (administered_of F now request)
+administers_alone F place now request = carried_out_alone place (chosen F place.choices (administered_of F now request))

@@ -7,6 +7,7 @@ use Rattle.tk_handle.specs.ClientId.{client_in}
 use Rattle.tk_handle.specs.ConsentId.{consent_in}
 use Rattle.tk_handle.specs.declared.dot.Dot.{Dot}
 use Rattle.tk_fact.specs.Subject.{is_subject}
+use Rattle.tk_fact.specs.declared.consent_given.ConsentGiven as given
 use Rattle.tk_match.specs.Pick.{Picked, Uri, Missing, Unknown, picked}
 use Rattle.tk_store.specs.FactSet.{FactSet}
 use Rattle.tk_ledger.specs.Clients.{consent_for}
@@ -15,11 +16,15 @@ use Rattle.tk_ledger.specs.ViewFields.{ClientFields, ConsentFields}
 use Rattle.tk_ledger.specs.Views.{client_view, consent_view}
 use Rattle.tk_params.specs.Params.{Pairs, value_of, has_twice}
 use Rattle.tk_message.specs.RequestFields.{RequestFields}
+use Rattle.tk_message.specs.declared.choices.Choices.{Choices}
+use Rattle.tk_message.specs.declared.choices.ConsentReuse.{ConsentReuse}
+use Rattle.tk_message.specs.declared.choices.ConsentReuse.TheVariants.{New, Held}
 use Rattle.tk_message.specs.declared.place.Place.{Place}
 use Rattle.tk_message.specs.declared.request.Endpoint.{Endpoint}
 use Rattle.tk_message.specs.declared.request.Endpoint.TheVariants as endpoint
 use Rattle.tk_authorize.specs.Administered.{shown_at, shown_by, shown_of, retired_at, retired_by, retired_of, client_named, consented_at, consented_to, consented_by, consented_of, consent_names, withdrawn_at, withdrawn_to, withdrawn_by, withdrawn_of, withdrawal_names, signed_out_at, signed_out_as, signed_out_by, signed_out_of, sign_out_names, administered_at, administered_of}
 use Rattle.tk_authorize.specs.Administration.{administered_by, administration_of}
+use Rattle.tk_authorize.specs.Chosen.{chosen, consented_again, held_or_given}
 use Rattle.tk_authorize.specs.Approval.{approval_by_consent, approval_by_subject, approval_of}
 use Rattle.tk_authorize.specs.Asked.{asked_of}
 use Rattle.tk_authorize.specs.Authorization.{decided_by, authorization_of, kept_state}
@@ -119,9 +124,29 @@ module _ (F G : FactSet) (now : ℕ) (views : (d : Dot) → client_view F d ≡ 
   administered_same endpoint.Withdraw params = ap (λ (x : Administered). cond (has_twice withdrawal_names params) (administered.Refused DuplicateParameter) x) (withdrawn_same (value_of (codes "consent_id") params))
   administered_same endpoint.SignOut params = ap (λ (x : Administered). cond (has_twice sign_out_names params) (administered.Refused DuplicateParameter) x) (signed_out_same (value_of (codes "subject") params))
 
+-- judgements by the choices
+module _ (F G : FactSet) (grants : (client : Dot) (subject scope : List ℕ) → consent_for F client subject scope ≡ consent_for G client subject scope) where
+  again_same : (choice : ConsentReuse) (consent : given.ConsentGiven) → consented_again F choice consent ≡ consented_again G choice consent
+  again_same New consent = refl
+  again_same Held consent = ap (λ (o : Option Dot). held_or_given o consent) (grants consent.client consent.subject consent.scope)
+
+  chosen_same : (choices : Choices) (a : Administered) → chosen F choices a ≡ chosen G choices a
+  chosen_same choices (administered.Consents consent) = again_same choices.consent consent
+  chosen_same choices (administered.Refused why) = refl
+  chosen_same choices (administered.Registers client) = refl
+  chosen_same choices (administered.Shows client) = refl
+  chosen_same choices (administered.Retires client live) = refl
+  chosen_same choices (administered.HasConsent consent) = refl
+  chosen_same choices (administered.Withdraws consent live) = refl
+  chosen_same choices (administered.AlreadyOut subject) = refl
+  chosen_same choices (administered.SignsOut sign_out) = refl
+
 pub administrations_same : (F G : FactSet) (place : Place) (now : ℕ) (request : RequestFields)
     → ((d : Dot) → client_view F d ≡ client_view G d)
     → ((d : Dot) → consent_view F d ≡ consent_view G d)
     → ((subject : List ℕ) (moment : ℕ) → is_signed_out F subject moment ≡ is_signed_out G subject moment)
+    → ((client : Dot) (subject scope : List ℕ) → consent_for F client subject scope ≡ consent_for G client subject scope)
     → administration_of F place now request ≡ administration_of G place now request
-administrations_same F G place now request views consents outs = ap (administered_by place) (administered_same F G now views consents outs request.endpoint request.params)
+administrations_same F G place now request views consents outs grants =
+    ap (λ (a : Administered). administered_by place (chosen F place.choices a)) (administered_same F G now views consents outs request.endpoint request.params)
+    ∙ ap (administered_by place) (chosen_same F G grants place.choices (administered_of G now request))

@@ -2,7 +2,8 @@
 --   code_of             the error code of a refusal
 --   decided_..          the decision by a judgement of one kind
 --   administered_by     the decision by a judgement
---   administration_of   the decision of a request: the judgement of specs/Administered, carried out
+--   administration_of   the decision of a request: the judgement of specs/Administered
+--                       and specs/Chosen, carried out
 use Rattle.std.specs.Prelude.{ℕ, Bool, Some, None, if◌then◌else◌}
 use Rattle.tk_handle.specs.declared.dot.Dot.{Dot}
 use Rattle.tk_fact.specs.declared.body.Body.TheVariants.{
@@ -40,11 +41,13 @@ use Rattle.tk_authorize.specs.declared.administered.Administered.TheVariants.{
   Shows,
   Retires,
   Consents,
+  HasConsent,
   Withdraws,
   AlreadyOut,
   SignsOut,
 }
 use Rattle.tk_authorize.specs.Administered.{administered_of}
+use Rattle.tk_authorize.specs.Chosen.{chosen}
 
 -- the error code of a refusal
 abbrev pub code_of : AdminRefusal → ErrorCode
@@ -89,6 +92,10 @@ decided_consented place consent =
       made = Some (ConsentGiven consent);
     }
 
+-- a consent that is held and good serves: no fact is made
+abbrev pub decided_held : Dot → Decision
+decided_held consent = answered (json_reply status.Ok (consent_body consent))
+
 -- a consent is withdrawn. A consent that is not live makes no fact
 abbrev pub decided_withdrawn : Dot → Bool → Decision
 decided_withdrawn consent live = record {
@@ -110,10 +117,12 @@ administered_by place (Registers client) = decided_registered place client
 administered_by place (Shows client) = decided_shown client
 administered_by place (Retires client live) = decided_retired client live
 administered_by place (Consents consent) = decided_consented place consent
+administered_by place (HasConsent consent) = decided_held consent
 administered_by place (Withdraws consent live) = decided_withdrawn consent live
 administered_by place (AlreadyOut subject) = answered (json_reply status.Ok (subject_body subject))
 administered_by place (SignsOut sign_out) = decided_out sign_out
 
 -- the decision of an administration request
 abbrev pub administration_of : FactSet → Place → ℕ → RequestFields → Decision
-administration_of F place now request = administered_by place (administered_of F now request)
+administration_of F place now request =
+    administered_by place (chosen F place.choices (administered_of F now request))

@@ -9,6 +9,7 @@
 --   Registered      LeadsToClient, a reply leads to a registered URI or to no URI
 -- For administration requests:
 --   Administered        administered_of, the cases of each endpoint in their order
+--   Chosen              chosen, a judgement by the region's choices
 --   Administration      administration_of, the decision of a request
 --   SoundAdministered   IsSoundAdministered, the fact that a judgement makes passes its check
 pub mod Administered
@@ -17,6 +18,7 @@ pub mod Approval
 pub mod Asked
 pub mod Authorization
 pub mod Challenge
+pub mod Chosen
 pub mod Denial
 pub mod Judged
 pub mod Refusal

@@ -10,6 +10,7 @@ use Rattle.tk_authorize.specs.declared.administered.Administered.TheVariants.{
   Shows,
   Retires,
   Consents,
+  HasConsent,
   Withdraws,
   AlreadyOut,
   SignsOut,
@@ -22,6 +23,7 @@ IsSoundAdministered (Registers client) = refusal_of (ClientAdded client) ≡ Non
 IsSoundAdministered (Shows client) = Unit {0}
 IsSoundAdministered (Retires client live) = Unit {0}
 IsSoundAdministered (Consents consent) = refusal_of (ConsentGiven consent) ≡ None
+IsSoundAdministered (HasConsent consent) = Unit {0}
 IsSoundAdministered (Withdraws consent live) = Unit {0}
 IsSoundAdministered (AlreadyOut subject) = Unit {0}
 IsSoundAdministered (SignsOut sign_out) = refusal_of (SubjectOut sign_out) ≡ None

@@ -14,6 +14,8 @@ pub(crate) enum Administered {
     // Retires the client, unless it is retired already: the flag is whether the client is live.
     Retires(Dot, bool),
     Consents(ConsentGiven),
+    // The consent at the dot is held and good.
+    HasConsent(Dot),
     // Withdraws the consent, unless it is withdrawn already: the flag is whether the consent is
     // live.
     Withdraws(Dot, bool),

@@ -9,6 +9,7 @@ ghost use Rattle.tk_authorize.specs.Administration as spec;
 ghost use Rattle.tk_authorize.specs.SoundAdministered.{IsSoundAdministered};
 
 use crate::administered::{Administered, ShownClient, administer};
+use crate::chosen::choose;
 use std::alloc::{AllocError, Global};
 use tk_fact::{
     Body, ClientAdded, ClientRetired, ConsentGiven, ConsentWithdrawn, Subject, SubjectOut,
@@ -21,8 +22,10 @@ use tk_message::{Decision, Place, Request, StatusCode, Told};
 /// request makes, if any.
 ///
 /// Administrators add, show and retire clients, give and withdraw consents, and sign subjects out
-/// everywhere. A request for another endpoint is `not_found`. Whether the sender may administer is
-/// not examined: the front end must see to that. Returns an error if memory runs out.
+/// everywhere. The region's choices say which redirection URIs a new client may have, and whether a
+/// consent is given again if one that is held is good. A request for another endpoint is
+/// `not_found`. Whether the sender may administer is not examined: the front end must see to that.
+/// Returns an error if memory runs out.
 pub fn decide_admin(
     alloc: Global,
     ledger: &Ledger,
@@ -37,7 +40,8 @@ pub fn decide_admin(
     ensures passes { IfOk result (λ d. Passes d.made) }
 {
     let administered = administer(alloc, ledger, now, request)?;
-    decide_by(alloc, place, administered)
+    let chosen = choose(alloc, ledger, place.choices, administered)?;
+    decide_by(alloc, place, chosen)
 }
 
 // Decides a request by its judgement.
@@ -56,6 +60,7 @@ fn decide_by(
         Administered::Shows(shown) => decide_shown(alloc, &shown),
         Administered::Retires(client, live) => decide_retired(alloc, client, live),
         Administered::Consents(consent) => decide_consented(alloc, place, consent),
+        Administered::HasConsent(consent) => decide_held(alloc, consent),
         Administered::Withdraws(consent, live) => decide_withdrawn(alloc, consent, live),
         Administered::AlreadyOut(subject) => decide_already_out(alloc, &subject),
         Administered::SignsOut(sign_out) => decide_out(alloc, sign_out),
@@ -116,6 +121,14 @@ fn decide_consented(
         reply,
         made: Some(Body::ConsentGiven(consent)),
     })
+}
+
+// Names a consent that is held and good, without a fact.
+fn decide_held(alloc: Global, consent: Dot) -> Result<Decision, AllocError>
+    ensures { IfOk result (λ d. d ≡ spec.decided_held consent) }
+{
+    let reply = Told::Consent(StatusCode::Ok, consent).reply(alloc)?;
+    Ok(Decision::answer(reply))
 }
 
 // Withdraws a consent. A consent that is not live makes no fact.

@@ -18,8 +18,8 @@
 //!
 //! In reading order: `Refusal`, `Denial`, `challenge`, `Asked`, `Approval`, `Judged`,
 //! `decide_authorize`; then `AdminRefusal`, `registration`, `clients`, `consents`, `sign_outs`,
-//! `Administered`, `decide_admin`. The definitions are in `specs/`: for authorisation one file for
-//! each of these names, for administration `Administered` and `Administration`.
+//! `Administered`, `chosen`, `decide_admin`. The definitions are in `specs/`: for authorisation one
+//! file for each of these names, for administration `Administered`, `Chosen` and `Administration`.
 #![tactic(auto)]
 
 mod admin_refusal;
@@ -29,6 +29,7 @@ mod approval;
 mod asked;
 mod authorization;
 mod challenge;
+mod chosen;
 mod clients;
 mod consents;
 mod denial;

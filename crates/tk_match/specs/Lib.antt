@@ -1,11 +1,13 @@
 -- The definitions of this crate, by file:
 --   Redirects   is_uri, a text may be kept; redirects_refusal and registration_refusal, why a list
 --               is refused
+--   RedirectKinds   is_listed, a text is read as a URL of one of some kinds
 --   Pick        picked, which registered URI a request means
 --   ReplyUri    reply_of, the URI that a browser is sent back to
 --   Challenge   challenge_of, the challenge of a method and a text; Meets, a verifier meets a
 --               challenge
 pub mod Challenge
 pub mod Pick
+pub mod RedirectKinds
 pub mod Redirects
 pub mod ReplyUri

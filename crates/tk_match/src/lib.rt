@@ -4,6 +4,7 @@
 //!
 //! - `Uri`, a redirection URI, byte for byte;
 //! - `Redirects`, the redirection URIs of a client, and which lists may be registered;
+//! - `RedirectKinds`, kinds of URIs that a region may register alone;
 //! - `Pick`, which registered URI a request means;
 //! - `reply_uri`, the URI that a browser is sent back to;
 //! - `Challenge`, which a client later meets with a verifier.
@@ -12,17 +13,20 @@
 //! are equal if their bytes are: nothing is normalised, and a port never varies. The crate `url`
 //! defines which texts are absolute URLs. No claim is made about the time that a comparison takes.
 //!
-//! The definitions are in `specs/`: `Redirects`, `Pick`, `ReplyUri`, `Challenge`.
+//! The definitions are in `specs/`: `Redirects`, `RedirectKinds`, `Pick`, `ReplyUri`,
+//! `Challenge`.
 #![tactic(auto)]
 
 mod challenge;
 mod pick;
+mod redirect_kinds;
 mod redirects;
 mod reply;
 mod uri;
 
 pub use challenge::{Challenge, ChallengeError};
 pub use pick::Pick;
+pub use redirect_kinds::RedirectKinds;
 pub use redirects::{RedirectError, Redirects};
 pub use reply::reply_uri;
 pub use uri::Uri;

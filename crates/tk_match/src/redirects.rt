@@ -56,10 +56,12 @@ ghost use Rattle.std.specs.List.{list_all};
 ghost use Rattle.std.specs.Option.{option_copied};
 ghost use Rattle.std.specs.Str.{IsUtf8};
 ghost use Rattle.tk_match.specs.Pick.{picked, shown_pick, IfUri};
+ghost use Rattle.tk_match.specs.RedirectKinds.{is_listed};
 ghost use Rattle.tk_match.specs.Redirects.{is_uri, redirects_refusal, redirects_of};
 ghost use Rattle.tk_match.specs.Redirects.{registration_refusal, is_absolute, ReadsAsUrl, Refuses};
 
 use crate::pick::{Pick, only_uri, registered_uri};
+use crate::redirect_kinds::{RedirectKinds, are_listed};
 use std::alloc::{AllocError, Global};
 
 /// The greatest number of URIs of a client, counting equal ones. This limit is our own.
@@ -121,6 +123,15 @@ impl Redirects {
         }
         let uris = read_each(alloc, uris)?;
         Ok(Redirects { uris })
+    }
+
+    /// Returns whether each URI is of one of the kinds.
+    ///
+    /// Fails if memory runs out, or if a URL is too long for `url`.
+    pub fn are_among(&self, alloc: Global, kinds: RedirectKinds) -> Result<bool, AllocError>
+        ensures { IfOk result (λ listed. listed ≡ list_all (is_listed kinds) self.now) }
+    {
+        are_listed(alloc, kinds, self.uris())
     }
 
     /// Returns the URIs in the order of their registration.

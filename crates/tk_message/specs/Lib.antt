@@ -6,14 +6,16 @@
 --   StatusCode       status_number, the number of a status
 --   ErrorCode        error_row, the status and the name of an error
 --   Bodies           the JSON bodies of replies, as values
+--   Choices          profile_choices, what the profile does if it leaves a choice
 --   ReplyFields      ReplyFields, what contracts see of a reply
 --   Reply            json_reply, and the replies without JSON
 --   Told             told, the reply that says something in JSON
---   Decision         answered, refused, decisions without a fact; Passes
+--   Decision         answered, refused, postponed, decisions without a fact; Passes
 --   Place            next_in, the dot of the next fact
 pub mod Authentication
 pub mod Bodies
 pub mod Caller
+pub mod Choices
 pub mod Decision
 pub mod ErrorCode
 pub mod Place

@@ -1,40 +1,48 @@
 -- Replies (RFC 6749, 4.1.2 for redirects, 5.2 for errors; RFC 7662, 2.2, for introspection; RFC
 -- 7009, 2.2, for a status alone; bytes are own).
---   asks_credentials   a status asks for credentials
---   json_reply         a status and a JSON body
---   error_reply        an error, by its code
---   redirect_reply     a redirect to the client
---   inactive_reply     a token that is not active
---   empty_reply        a status alone
---   bytes_reply        other bytes, such as a bundle
-use Rattle.std.specs.Prelude.{ℕ, Bool, true, false, List, [], ◌∷◌, codes, Option, Some, None}
+--   asks_by          what a status asks of the client
+--   json_reply       a status and a JSON body
+--   error_reply      an error, by its code
+--   later_reply      a request that may be sent again later
+--   redirect_reply   a redirect to the client
+--   inactive_reply   a token that is not active
+--   empty_reply      a status alone
+--   bytes_reply      other bytes, such as a bundle
+use Rattle.std.specs.Prelude.{ℕ, List, [], ◌∷◌, codes, Option, Some, None}
 use Rattle.serde_json.specs.Data.{Data}
 use Rattle.serde_json.specs.Written.{compact_text}
 use Rattle.tk_match.specs.ReplyUri.{reply_of}
 use Rattle.tk_message.specs.declared.status_code.StatusCode.{StatusCode}
 use Rattle.tk_message.specs.declared.status_code.StatusCode.TheVariants.{Ok, Found, Unauthorized}
 use Rattle.tk_message.specs.declared.error_code.ErrorCode.{ErrorCode}
+use Rattle.tk_message.specs.declared.error_code.ErrorCode.TheVariants.{TemporarilyUnavailable}
+use Rattle.tk_message.specs.declared.reply.Asks.{Asks}
+use Rattle.tk_message.specs.declared.reply.Asks.TheVariants as asks
 use Rattle.tk_message.specs.ErrorCode.{error_status, error_name}
 use Rattle.tk_message.specs.Bodies.{error_body, inactive_body}
 use Rattle.tk_message.specs.ReplyFields.{ReplyFields, Nothing, JsonText, OtherBytes}
 
--- a reply with the status asks for credentials: every 401 does (RFC 6749, 5.2)
-abbrev pub asks_credentials : StatusCode → Bool
-asks_credentials Unauthorized = true
-asks_credentials status = false
+-- what a reply with the status asks of the client: every 401 asks for credentials (RFC 6749, 5.2)
+abbrev pub asks_by : StatusCode → Asks
+asks_by Unauthorized = asks.Credentials
+asks_by status = asks.Nothing
 
 -- a status and the body's text, without spaces and without a redirect
 abbrev pub json_reply : StatusCode → Data → ReplyFields
 json_reply status body = record {
   status = status;
   location = None;
-  www = asks_credentials status;
+  asks = asks_by status;
   content = JsonText (compact_text body);
 }
 
 -- the reply for an error: its status and its name
 abbrev pub error_reply : ErrorCode → ReplyFields
 error_reply code = json_reply (error_status code) (error_body (error_name code))
+
+-- the reply for a request that may be sent again later (RFC 7009, 2.2.1)
+abbrev pub later_reply : ReplyFields
+later_reply = record (error_reply TemporarilyUnavailable) { asks = asks.Retry }
 
 -- a pair, and the state behind it, if there is one
 abbrev pub with_state : List ℕ → List ℕ → Option (List ℕ) → List (List ℕ × List ℕ)
@@ -46,7 +54,7 @@ abbrev pub redirect_reply : List ℕ → List ℕ → List ℕ → Option (List 
 redirect_reply uri name value state = record {
   status = Found;
   location = Some (reply_of uri (with_state name value state));
-  www = false;
+  asks = asks.Nothing;
   content = Nothing;
 }
 
@@ -59,7 +67,7 @@ abbrev pub empty_reply : StatusCode → ReplyFields
 empty_reply status = record {
   status = status;
   location = None;
-  www = asks_credentials status;
+  asks = asks_by status;
   content = Nothing;
 }
 
@@ -68,6 +76,6 @@ abbrev pub bytes_reply : List ℕ → ReplyFields
 bytes_reply bytes = record {
   status = Ok;
   location = None;
-  www = false;
+  asks = asks.Nothing;
   content = OtherBytes bytes;
 }

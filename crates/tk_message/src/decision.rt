@@ -4,7 +4,7 @@ ghost use Rattle.std.specs.Prelude.{◌≡◌, IfOk};
 ghost use Rattle.tk_message.specs.Decision as spec;
 
 use crate::error_code::ErrorCode;
-use crate::reply::Reply;
+use crate::reply::{Asks, Reply};
 use crate::told::Told;
 use std::alloc::{AllocError, Global};
 use tk_fact::Body;
@@ -32,5 +32,17 @@ impl Decision {
     {
         let reply = Told::Error(code).reply(alloc)?;
         Ok(Decision::answer(reply))
+    }
+
+    /// Returns the reply, without a fact, that the client may send the request again later (RFC
+    /// 7009, 2.2.1); an error if memory runs out.
+    pub fn postpone(alloc: Global) -> Result<Decision, AllocError>
+        ensures { IfOk result (λ decision. decision ≡ spec.postponed) }
+    {
+        let reply = Told::Error(ErrorCode::TemporarilyUnavailable).reply(alloc)?;
+        Ok(Decision::answer(Reply {
+            asks: Asks::Retry,
+            ..reply
+        }))
     }
 }

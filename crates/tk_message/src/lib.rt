@@ -8,19 +8,21 @@
 //! - `Told` is what a JSON reply says. No other crate makes JSON: `Told::reply` writes every one,
 //!   and each body is defined in `specs/Bodies.antt`.
 //! - A `Decision` is a reply, and the fact that the request makes, if any.
-//! - A `Place` is the dot of that fact, and how long tokens live.
+//! - A `Place` is the dot of that fact, how long tokens live, and the `Choices` of the region.
 //!
 //! The crates above decide what a request gets, and in which order its errors are sought.
 //!
 //! In reading order: `Endpoint`, `Request`, `Auth`, `Caller`, `scope_asked`, `StatusCode`,
-//! `ErrorCode`, `Reply`, `Told`, `Lives`, `Place`, `Decision`. The definitions are in `specs/`, by
-//! the name of the file: `RequestFields`, `Authentication`, `Caller`, `ScopeAsked`, `StatusCode`,
-//! `ErrorCode`, `Bodies`, `ReplyFields`, `Reply`, `Told`, `Place`, `Decision`.
+//! `ErrorCode`, `Reply`, `Told`, `Lives`, `Choices`, `Place`, `Decision`. The definitions are in
+//! `specs/`, by the name of the file: `RequestFields`, `Authentication`, `Caller`, `ScopeAsked`,
+//! `StatusCode`, `ErrorCode`, `Bodies`, `ReplyFields`, `Reply`, `Told`, `Choices`, `Place`,
+//! `Decision`.
 #![tactic(auto)]
 
 mod authentication;
 mod bodies;
 mod caller;
+mod choices;
 mod decision;
 mod error_code;
 mod place;
@@ -32,12 +34,14 @@ mod told;
 
 pub use authentication::{Auth, authenticate};
 pub use caller::{Caller, find_caller};
+pub use choices::{Choices, ConsentReuse, UnseenRevocation};
 pub use decision::Decision;
 pub use error_code::ErrorCode;
 pub use place::{Lives, Place};
-pub use reply::{Payload, Reply, bytes_reply, empty_reply, handle_string, redirect_reply};
+pub use reply::{Asks, Payload, Reply, bytes_reply, empty_reply, handle_string, redirect_reply};
 pub use request::{Endpoint, Request};
 pub use scope::scope_asked;
 pub use status_code::StatusCode;
+pub use tk_match::RedirectKinds;
 pub use tk_params::{Credentials, CredentialsError, One, Params};
 pub use told::Told;

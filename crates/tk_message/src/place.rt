@@ -1,8 +1,10 @@
-//! The place of a decision: the region, the dot of its next fact, and the lives of tokens.
+//! The place of a decision: the region, the dot of its next fact, the lives of tokens, and what the
+//! region does if the profile leaves a choice.
 
 ghost use Rattle.std.specs.Prelude.{◌≡◌};
 ghost use Rattle.tk_message.specs.Place.{next_in};
 
+use crate::choices::Choices;
 use tk_handle::{Dot, RegionNumber, Serial};
 
 /// How long codes, tokens and families live, in seconds (own).
@@ -18,7 +20,8 @@ pub struct Lives {
     pub family: u64,
 }
 
-/// The place of a decision (own): a region, the dot of its next fact, and the lives of tokens.
+/// The place of a decision (own): a region, the dot of its next fact, the lives of tokens, and the
+/// region's choices.
 #[derive(Drop)]
 pub struct Place {
     /// The region's number.
@@ -27,17 +30,25 @@ pub struct Place {
     pub next: Serial,
     /// How long the tokens that the region issues live.
     pub lives: Lives,
+    /// What the region does if the profile leaves a choice.
+    pub choices: Choices,
 }
 
 impl Place {
     /// Returns the place of the region whose next fact gets the dot.
-    pub fn new(next: Dot, lives: Lives) -> Place
-        ensures { result ≡ record { number = next.region; next = next.serial; lives = lives } }
+    pub fn new(next: Dot, lives: Lives, choices: Choices) -> Place
+        ensures { result ≡ record {
+          number = next.region;
+          next = next.serial;
+          lives = lives;
+          choices = choices;
+        } }
     {
         Place {
             number: next.region(),
             next: Serial::new(next.serial()).unwrap(),
             lives,
+            choices,
         }
     }
 

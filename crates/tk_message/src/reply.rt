@@ -10,10 +10,21 @@ pub struct Reply {
     pub status: StatusCode,
     /// The URI that a redirect sends the client to.
     pub location: Option<String>,
-    /// Whether the reply has a `WWW-Authenticate` field (RFC 6749, 5.2).
-    pub www: bool,
+    /// What the reply asks of the client by a header field.
+    pub asks: Asks,
     /// The content of the reply.
     pub body: Payload,
+}
+
+/// What a reply asks of the client by a header field.
+#[derive(Clone, Copy)]
+pub enum Asks {
+    /// The reply has no such field.
+    Nothing,
+    /// `WWW-Authenticate`: the client is to prove itself (RFC 6749, 5.2).
+    Credentials,
+    /// `Retry-After`: the client may send the request again later (RFC 9110, 10.2.3).
+    Retry,
 }
 
 /// The content of a reply.
@@ -37,7 +48,7 @@ impl Model for Reply {
     ghost view = { λ r. record {
       status = r.status;
       location = option_map string_bytes r.location;
-      www = r.www;
+      asks = r.asks;
       content = content_of r.body;
     } };
 }
@@ -51,22 +62,25 @@ use std::alloc::{AllocError, Global};
 use tk_handle::Handle;
 use tk_match::reply_uri;
 
-// Returns whether a reply with the status asks for credentials.
-pub(crate) fn asks_credentials(status: StatusCode) -> bool
-    ensures { result ≡ spec.asks_credentials status }
+// Returns what a reply with the status asks of the client: credentials if the status is 401.
+pub(crate) fn asks_by(status: StatusCode) -> Asks
+    ensures { result ≡ spec.asks_by status }
 {
-    matches!(status, StatusCode::Unauthorized)
+    match status {
+        StatusCode::Unauthorized => Asks::Credentials,
+        _ => Asks::Nothing,
+    }
 }
 
 /// Returns a reply with a status and no content. No memory is allocated.
 pub fn empty_reply(status: StatusCode) -> Reply
     ensures { result ≡ spec.empty_reply status }
 {
-    let www = asks_credentials(status);
+    let asks = asks_by(status);
     Reply {
         status,
         location: None,
-        www,
+        asks,
         body: Payload::Empty,
     }
 }
@@ -90,7 +104,7 @@ pub fn redirect_reply(
     Ok(Reply {
         status: StatusCode::Found,
         location: Some(location),
-        www: false,
+        asks: Asks::Nothing,
         body: Payload::Empty,
     })
 }
@@ -113,7 +127,7 @@ pub fn bytes_reply(bytes: Vec<u8>) -> Reply
     Reply {
         status: StatusCode::Ok,
         location: None,
-        www: false,
+        asks: Asks::Nothing,
         body: Payload::Bytes(bytes),
     }
 }

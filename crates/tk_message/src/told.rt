@@ -42,7 +42,7 @@ use crate::bodies::{
     access_body, client_body, consent_body, one_member, one_text, refresh_body, shown_body,
     token_body,
 };
-use crate::reply::{Payload, Reply, asks_credentials};
+use crate::reply::{Payload, Reply, asks_by};
 use serde_json::Value;
 use std::alloc::{AllocError, Global};
 
@@ -57,7 +57,7 @@ impl Told<'_> {
         Ok(Reply {
             status,
             location: None,
-            www: asks_credentials(status),
+            asks: asks_by(status),
             body: Payload::Json(text),
         })
     }

@@ -34,6 +34,7 @@ use Rattle.tk_message.specs.Reply.{empty_reply}
 use Rattle.tk_message.specs.RequestFields.{RequestFields}
 use Rattle.tk_message.specs.declared.caller.Caller.{Caller}
 use Rattle.tk_message.specs.declared.caller.Caller.TheVariants as caller
+use Rattle.tk_message.specs.declared.choices.UnseenRevocation.{UnseenRevocation}
 use Rattle.tk_message.specs.declared.decision.Decision.{Decision}
 use Rattle.tk_message.specs.declared.place.Place.{Place}
 use Rattle.tk_message.specs.declared.status_code.StatusCode.TheVariants.{Ok}
@@ -41,13 +42,13 @@ use Rattle.tk_query.specs.Caller.{known_names}
 use Rattle.tk_query.specs.Introspected.{sees, is_live, active, introspected_by_standing, introspected_by_status, introspected_by_kind, introspected_by_handle, introspected_by_text, introspected_as, introspected_by_client, introspected_by_caller}
 use Rattle.tk_query.specs.Introspection.{told, introspection_of}
 use Rattle.tk_query.specs.Revocation as whole
-use Rattle.tk_query.specs.Revoked.{revocation_of, revoked_unless_held, revoked_of_client, revoked_by_state, revoked_by_status, is_own, revoked_by_kind, revoked_by_handle, revoked_by_text, revoked_by_caller}
+use Rattle.tk_query.specs.Revoked.{revocation_of, may_revoke_unseen, revoked_unless_held, revoked_unseen, revoked_of_client, revoked_by_state, revoked_by_status, is_own, revoked_by_kind, revoked_by_handle, revoked_by_text, revoked_by_caller}
 use Rattle.tk_query.specs.declared.idle.Idle.TheVariants as idle
 use Rattle.tk_query.specs.declared.introspected.Introspected.{Introspected}
 use Rattle.tk_query.specs.declared.introspected.Introspected.TheVariants.{Inactive}
 use Rattle.tk_query.specs.declared.refusal.Refusal.TheVariants as refusal
 use Rattle.tk_query.specs.declared.revoked.Revocation.{Revocation}
-use Rattle.tk_query.specs.declared.revoked.Revocation.TheVariants.{Refused, Done, Revokes}
+use Rattle.tk_query.specs.declared.revoked.Revocation.TheVariants.{Refused, Done, Revokes, Later}
 
 -- ---- introspection
 
@@ -116,13 +117,13 @@ introspections_alike P Q now request alike views same =
 abbrev decides : Revocation → Decision
 decides = whole.revoked_by
 
-past_done : (F : FactSet) (own : Bool) (now : ℕ) (fact : TokenRevoked) (h : Handle) (s : Status) → h.id.kind ≢ kind.Code → IsLost now h s → decides (revoked_by_status F own now fact s) ≡ answered (empty_reply Ok)
-past_done F own now fact h Unseen other lost = absurd lost
-past_done F own now fact h Wrong other lost = refl
-past_done F own now fact h (Broken expiry) other lost = ap (λ t. decides (cond t (Done idle.Past) (revoked_unless_held F fact))) (le-leb expiry now lost.1)
-past_done F own now fact h (Known s) other lost = ap (λ t. decides (cond t (Done idle.Past) (revoked_by_state F fact s.client s.state))) (le-leb s.expiry now (lost.1 other))
+past_done : (F : FactSet) (choice : UnseenRevocation) (own : Bool) (now : ℕ) (fact : TokenRevoked) (h : Handle) (s : Status) → h.id.kind ≢ kind.Code → IsLost now h s → decides (revoked_by_status F choice own now fact s) ≡ answered (empty_reply Ok)
+past_done F choice own now fact h Unseen other lost = absurd lost
+past_done F choice own now fact h Wrong other lost = refl
+past_done F choice own now fact h (Broken expiry) other lost = ap (λ t. decides (cond t (Done idle.Past) (revoked_unless_held F fact))) (le-leb expiry now lost.1)
+past_done F choice own now fact h (Known s) other lost = ap (λ t. decides (cond t (Done idle.Past) (revoked_by_state F fact s.client s.state))) (le-leb s.expiry now (lost.1 other))
 
-module _ (F G : FactSet) (fact : TokenRevoked) (held : is_revoked F fact.token fact.digest fact.client ≡ is_revoked G fact.token fact.digest fact.client) where
+module _ (F G : FactSet) (fact : TokenRevoked) (held : is_revoked F fact.token fact.digest fact.client ≡ is_revoked G fact.token fact.digest fact.client) (viewed : client_view F fact.client ≡ client_view G fact.client) where
   unless_same : revoked_unless_held F fact ≡ revoked_unless_held G fact
   unless_same = ap (λ t. cond t (Done idle.Revoked) (Revokes fact)) held
 
@@ -138,34 +139,40 @@ module _ (F G : FactSet) (fact : TokenRevoked) (held : is_revoked F fact.token f
   by_state_same client state.Ended = of_client_same client
   by_state_same client state.Live = of_client_same client
 
-  by_status_same : (own : Bool) (now : ℕ) (s : Status) → revoked_by_status F own now fact s ≡ revoked_by_status G own now fact s
-  by_status_same own now Wrong = refl
-  by_status_same own now Unseen = ap (λ (x : Revocation). cond own (Done idle.NeverMinted) x) unless_same
-  by_status_same own now (Broken expiry) = ap (λ (x : Revocation). cond (nat_le expiry now) (Done idle.Past) x) unless_same
-  by_status_same own now (Known s) = ap (λ (x : Revocation). cond (nat_le s.expiry now) (Done idle.Past) x) (by_state_same s.client s.state)
+  unseen_same : (choice : UnseenRevocation) → revoked_unseen F choice fact ≡ revoked_unseen G choice fact
+  unseen_same choice =
+      ap (λ (o : Option ClientFields). cond (may_revoke_unseen choice o) (revoked_unless_held F fact) (cond (is_revoked F fact.token fact.digest fact.client) (Done idle.Revoked) Later)) viewed
+      ∙ ap (λ t. cond (may_revoke_unseen choice (client_view G fact.client)) (cond t (Done idle.Revoked) (Revokes fact)) (cond t (Done idle.Revoked) Later)) held
 
-module _ (P Q : StoreFields) (number now : ℕ) (alike : (h : Handle) → AnsweredAlike now h (status_here P now h) (status_here Q now h))
-    (held : (k : TokenId) (digest : List ℕ) (client : Dot) → is_revoked (held_facts P) k digest client ≡ is_revoked (held_facts Q) k digest client) where
-  by_status : (own : Bool) (fact : TokenRevoked) (h : Handle) → h.id.kind ≢ kind.Code → (s r : Status) → AnsweredAlike now h s r → decides (revoked_by_status (held_facts P) own now fact s) ≡ decides (revoked_by_status (held_facts Q) own now fact r)
+  by_status_same : (choice : UnseenRevocation) (own : Bool) (now : ℕ) (s : Status) → revoked_by_status F choice own now fact s ≡ revoked_by_status G choice own now fact s
+  by_status_same choice own now Wrong = refl
+  by_status_same choice own now Unseen = ap (λ (x : Revocation). cond own (Done idle.NeverMinted) x) (unseen_same choice)
+  by_status_same choice own now (Broken expiry) = ap (λ (x : Revocation). cond (nat_le expiry now) (Done idle.Past) x) unless_same
+  by_status_same choice own now (Known s) = ap (λ (x : Revocation). cond (nat_le s.expiry now) (Done idle.Past) x) (by_state_same s.client s.state)
+
+module _ (P Q : StoreFields) (place : Place) (now : ℕ) (alike : (h : Handle) → AnsweredAlike now h (status_here P now h) (status_here Q now h))
+    (held : (k : TokenId) (digest : List ℕ) (client : Dot) → is_revoked (held_facts P) k digest client ≡ is_revoked (held_facts Q) k digest client)
+    (views : (d : Dot) → client_view (held_facts P) d ≡ client_view (held_facts Q) d) where
+  by_status : (own : Bool) (fact : TokenRevoked) (h : Handle) → h.id.kind ≢ kind.Code → (s r : Status) → AnsweredAlike now h s r → decides (revoked_by_status (held_facts P) place.choices.unseen own now fact s) ≡ decides (revoked_by_status (held_facts Q) place.choices.unseen own now fact r)
   by_status own fact h other s r (inl same) =
-      ap decides (by_status_same (held_facts P) (held_facts Q) fact (held fact.token fact.digest fact.client) own now s)
-      ∙ ap (λ (x : Status). decides (revoked_by_status (held_facts Q) own now fact x)) same
-  by_status own fact h other s r (inr lost) = past_done (held_facts P) own now fact h s other lost.0 ∙ sym (past_done (held_facts Q) own now fact h r other lost.1)
+      ap decides (by_status_same (held_facts P) (held_facts Q) fact (held fact.token fact.digest fact.client) (views fact.client) place.choices.unseen own now s)
+      ∙ ap (λ (x : Status). decides (revoked_by_status (held_facts Q) place.choices.unseen own now fact x)) same
+  by_status own fact h other s r (inr lost) = past_done (held_facts P) place.choices.unseen own now fact h s other lost.0 ∙ sym (past_done (held_facts Q) place.choices.unseen own now fact h r other lost.1)
 
-  by_kind : (client : Dot) (h : Handle) (k : Kind) → h.id.kind ≡ k → decides (revoked_by_kind P number now client h k) ≡ decides (revoked_by_kind Q number now client h k)
+  by_kind : (client : Dot) (h : Handle) (k : Kind) → h.id.kind ≡ k → decides (revoked_by_kind P place now client h k) ≡ decides (revoked_by_kind Q place now client h k)
   by_kind client h kind.Code is = refl
-  by_kind client h kind.Access is = by_status (is_own number h) (revocation_of h kind.Access client) h (λ code. (let e : kind.Access ≡ kind.Code = sym is ∙ code in cc)) (status_here P now h) (status_here Q now h) (alike h)
-  by_kind client h kind.Refresh is = by_status (is_own number h) (revocation_of h kind.Refresh client) h (λ code. (let e : kind.Refresh ≡ kind.Code = sym is ∙ code in cc)) (status_here P now h) (status_here Q now h) (alike h)
+  by_kind client h kind.Access is = by_status (is_own place.number h) (revocation_of h kind.Access client) h (λ code. (let e : kind.Access ≡ kind.Code = sym is ∙ code in cc)) (status_here P now h) (status_here Q now h) (alike h)
+  by_kind client h kind.Refresh is = by_status (is_own place.number h) (revocation_of h kind.Refresh client) h (λ code. (let e : kind.Refresh ≡ kind.Code = sym is ∙ code in cc)) (status_here P now h) (status_here Q now h) (alike h)
 
-  by_handle : (client : Dot) (o : Option Handle) → decides (revoked_by_handle P number now client o) ≡ decides (revoked_by_handle Q number now client o)
+  by_handle : (client : Dot) (o : Option Handle) → decides (revoked_by_handle P place now client o) ≡ decides (revoked_by_handle Q place now client o)
   by_handle client None = refl
   by_handle client (Some h) = by_kind client h h.id.kind refl
 
-  by_text : (client : Dot) (o : Option (List ℕ)) → decides (revoked_by_text P number now client o) ≡ decides (revoked_by_text Q number now client o)
+  by_text : (client : Dot) (o : Option (List ℕ)) → decides (revoked_by_text P place now client o) ≡ decides (revoked_by_text Q place now client o)
   by_text client None = refl
   by_text client (Some text) = by_handle client (handle_in text)
 
-  by_caller : (params : Pairs) (c : Caller) → decides (revoked_by_caller P number now params c) ≡ decides (revoked_by_caller Q number now params c)
+  by_caller : (params : Pairs) (c : Caller) → decides (revoked_by_caller P place now params c) ≡ decides (revoked_by_caller Q place now params c)
   by_caller params caller.DuplicateParameter = refl
   by_caller params caller.MixedCredentials = refl
   by_caller params caller.InvalidClient = refl
@@ -174,8 +181,9 @@ module _ (P Q : StoreFields) (number now : ℕ) (alike : (h : Handle) → Answer
 pub revocations_alike : (P Q : StoreFields) (place : Place) (now : ℕ) (request : RequestFields)
     → ((h : Handle) → AnsweredAlike now h (status_here P now h) (status_here Q now h))
     → ((k : TokenId) (digest : List ℕ) (client : Dot) → is_revoked (held_facts P) k digest client ≡ is_revoked (held_facts Q) k digest client)
+    → ((d : Dot) → client_view (held_facts P) d ≡ client_view (held_facts Q) d)
     → caller_of (held_facts P) known_names request ≡ caller_of (held_facts Q) known_names request
     → whole.revocation_of P place now request ≡ whole.revocation_of Q place now request
-revocations_alike P Q place now request alike held same =
-    ap (λ (c : Caller). decides (revoked_by_caller P place.number now request.params c)) same
-    ∙ by_caller P Q place.number now alike held request.params (caller_of (held_facts Q) known_names request)
+revocations_alike P Q place now request alike held views same =
+    ap (λ (c : Caller). decides (revoked_by_caller P place now request.params c)) same
+    ∙ by_caller P Q place now alike held views request.params (caller_of (held_facts Q) known_names request)

@@ -10,12 +10,13 @@ use Rattle.tk_query.specs.Caller.{known_names}
 use Rattle.tk_query.specs.Revocation.{revoked_by, revocation_of}
 use Rattle.tk_query.specs.Revoked.{revoked_by_caller}
 use Rattle.tk_query.specs.declared.revoked.Revocation.{Revocation}
-use Rattle.tk_query.specs.declared.revoked.Revocation.TheVariants.{Refused, Done, Revokes}
+use Rattle.tk_query.specs.declared.revoked.Revocation.TheVariants.{Refused, Done, Revokes, Later}
 
 revoked_alone : (r : Revocation) → IfSome (revoked_by r).made (λ b. uses_of b ≡ None)
 revoked_alone (Refused why) = tt
 revoked_alone (Done why) = tt
+revoked_alone Later = tt
 revoked_alone (Revokes fact) = refl
 
 pub revokes_alone : (P : StoreFields) (place : Place) (now : ℕ) (request : RequestFields) → IfSome (revocation_of P place now request).made (λ b. uses_of b ≡ None)
-revokes_alone P place now request = revoked_alone (revoked_by_caller P place.number now request.params (caller_of (held_facts P) known_names request))
+revokes_alone P place now request = revoked_alone (revoked_by_caller P place now request.params (caller_of (held_facts P) known_names request))

@@ -67,12 +67,13 @@ IntrospectionsAlike = (P Q : StoreFields) (now : ℕ) (request : RequestFields)
     → caller_of (held_facts P) known_names request ≡ caller_of (held_facts Q) known_names request
     → introspection_of P now request ≡ introspection_of Q now request
 
--- two stores that answer each handle alike, and have the same revocations, decide a revocation
--- request alike
+-- two stores that answer each handle alike, and have the same revocations and clients, decide a
+-- revocation request alike
 abbrev pub RevocationsAlike : Type 0
 RevocationsAlike = (P Q : StoreFields) (place : Place) (now : ℕ) (request : RequestFields)
     → ((h : Handle) → AnsweredAlike now h (status_here P now h) (status_here Q now h))
     → ((k : TokenId) (digest : List ℕ) (client : Dot) → is_revoked (held_facts P) k digest client
     ≡ is_revoked (held_facts Q) k digest client)
+    → ((d : Dot) → client_view (held_facts P) d ≡ client_view (held_facts Q) d)
     → caller_of (held_facts P) known_names request ≡ caller_of (held_facts Q) known_names request
     → revocation_of P place now request ≡ revocation_of Q place now request

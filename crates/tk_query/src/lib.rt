@@ -5,9 +5,9 @@
 //! law `says_active` states that the reply reports exactly the active tokens that the sender may
 //! see.
 //!
-//! `decide_revoke` decides a request to `/revoke`. The fact that a client revoked a token is made
-//! whether or not its region has seen the token. The outcome is a `Revocation`: a `Refusal`, an
-//! `Idle` if nothing is left to revoke, or the fact.
+//! `decide_revoke` decides a request to `/revoke`. Who may revoke a token of another region that
+//! this region has not seen is one of the region's `Choices`. The outcome is a `Revocation`: a
+//! `Refusal`, an `Idle` if nothing is left to revoke, the fact, or `Later`.
 //!
 //! In reading order: `Refusal`, `Introspected`, `decide_introspect`, `Idle`, `Revocation`,
 //! `decide_revoke`, `says_active`, `queries_alike`. The definitions are in `specs/`, by the name of

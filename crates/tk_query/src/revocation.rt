@@ -17,7 +17,8 @@ use tk_message::{Decision, Place, Request, StatusCode, empty_reply};
 /// client revoked the token, if there is something to revoke.
 ///
 /// A client may revoke a token in advance, before the region has the fact that minted it, unless
-/// the token would be of the place's own region. If nothing is left to revoke, the reply is the one
+/// the token would be of the place's own region, or the region's choice refuses the client. A
+/// client that is refused may try again later. If nothing is left to revoke, the reply is the one
 /// to a revocation, and no fact is made. Returns an error if memory runs out.
 pub fn decide_revoke(
     alloc: Global,
@@ -33,7 +34,7 @@ pub fn decide_revoke(
     ensures passes { IfOk result (λ d. Passes d.made) }
 {
     let caller = caller_here(alloc, ledger, request)?;
-    let revocation = revoke(ledger, place.number, now, &request.params, caller);
+    let revocation = revoke(ledger, place, now, &request.params, caller);
     decide_by(alloc, revocation)
 }
 
@@ -46,6 +47,7 @@ fn decide_by(alloc: Global, revocation: Revocation) -> Result<Decision, AllocErr
     match revocation {
         Revocation::Refused(why) => Decision::refuse(alloc, why.code()),
         Revocation::Done(_) => Ok(Decision::answer(empty_reply(StatusCode::Ok))),
+        Revocation::Later => Decision::postpone(alloc),
         Revocation::Revokes(fact) => Ok(Decision {
             reply: empty_reply(StatusCode::Ok),
             made: Some(Body::TokenRevoked(fact)),

@@ -28,13 +28,15 @@ coded_region =
     (coded× coded_ℕ (coded× coded_settings coded_store)) (λ r. (r.number, (r.settings, r.facts)))
     (λ p. record { number = p.0; settings = p.1.0; facts = p.1.1 }) (λ _. refl)
 
--- the place of a region's next decision: its number, its next serial, and the lives of its settings
+-- the place of a region's next decision: its number, its next serial, and the lives and choices of
+-- its settings
 abbrev pub place_in : RegionFields → Place
 place_in r =
     record {
       number = r.number;
       next = next_serial r.facts.slots r.number;
       lives = lives_of r.settings;
+      choices = r.settings.choices;
     }
 
 -- the region's own dots, of facts held and skipped, have serials up to the cap, which leaves one

@@ -1,5 +1,5 @@
--- What contracts see of settings: four lives, in seconds, and the serial cap (own).
---   SettingsFields   the lives and the cap
+-- What contracts see of settings: four lives, in seconds, the serial cap, and choices (own).
+--   SettingsFields   the lives, the cap and the choices
 --   lives_of         the four lives
 --   IsSettings       each number is in its range
 --   greatest_code, greatest_access, greatest_refresh, greatest_family, greatest_cap
@@ -7,15 +7,19 @@
 use Rattle.std.specs.Prelude.{ℕ, ◌-◌, ◌<◌, ◌≤◌, refl}
 use Rattle.std.specs.Coded.{Coded, code_by, coded×, coded_ℕ}
 use Rattle.tk_handle.specs.Ranges.{greatest_serial}
+use Rattle.tk_message.specs.Choices.{coded_choices}
+use Rattle.tk_message.specs.declared.choices.Choices.{Choices}
 use Rattle.tk_message.specs.declared.place.Lives.{Lives}
 
--- the lives of a code, an access token, a refresh token and a family, and the cap
+-- the lives of a code, an access token, a refresh token and a family, the cap, and what the region
+-- does if the profile leaves a choice
 pub record SettingsFields : Type 0 where
   pub code : ℕ
   pub access : ℕ
   pub refresh : ℕ
   pub family : ℕ
   pub cap : ℕ
+  pub choices : Choices
 
 -- the four lives
 abbrev pub lives_of : SettingsFields → Lives
@@ -53,16 +57,18 @@ pub record IsSettings (s : SettingsFields) : Type 0 where
   pub family : IsUpTo greatest_family s.family
   pub cap : IsUpTo greatest_cap s.cap
 
--- the code of settings, from the codes of their numbers
+-- the code of settings, from the codes of their numbers and choices
 abbrev pub coded_settings : Coded SettingsFields
 coded_settings =
-    code_by (ℕ × (ℕ × (ℕ × (ℕ × ℕ))))
-    (coded× coded_ℕ (coded× coded_ℕ (coded× coded_ℕ (coded× coded_ℕ coded_ℕ))))
-    (λ s. (s.code, (s.access, (s.refresh, (s.family, s.cap)))))
+    code_by (ℕ × (ℕ × (ℕ × (ℕ × (ℕ × Choices)))))
+    (coded× coded_ℕ
+    (coded× coded_ℕ (coded× coded_ℕ (coded× coded_ℕ (coded× coded_ℕ coded_choices)))))
+    (λ s. (s.code, (s.access, (s.refresh, (s.family, (s.cap, s.choices))))))
     (λ p. record {
       code = p.0;
       access = p.1.0;
       refresh = p.1.1.0;
       family = p.1.1.1.0;
-      cap = p.1.1.1.1;
+      cap = p.1.1.1.1.0;
+      choices = p.1.1.1.1.1;
     }) (λ _. refl)

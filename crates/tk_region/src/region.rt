@@ -135,7 +135,11 @@ impl Region {
     pub(crate) fn place(&self) -> Place
         ensures { result ≡ place_in self.now }
     {
-        Place::new(self.next_dot(), self.settings.lives())
+        Place::new(
+            self.next_dot(),
+            self.settings.lives(),
+            self.settings.choices(),
+        )
     }
 
     /// Returns the horizon: the moment up to which facts of families that are over may have been

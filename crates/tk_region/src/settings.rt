@@ -1,9 +1,9 @@
-//! The settings of a region: four lives and the serial cap, each in its range.
+//! The settings of a region: four lives and the serial cap, each in its range, and choices.
 
 use std::marker::Model;
 
-/// The lives of tokens and families, in seconds, and the serial cap, up to which a region makes
-/// facts (own).
+/// The lives of tokens and families, in seconds, the serial cap, up to which a region makes facts,
+/// and what the region does if the profile leaves a choice (own).
 #[derive(Clone, Copy)]
 pub struct Settings {
     code: u64,
@@ -11,6 +11,7 @@ pub struct Settings {
     refresh: u64,
     family: u64,
     cap: u64,
+    choices: Choices,
 }
 
 impl Model for Settings {
@@ -24,6 +25,7 @@ impl Model for Settings {
       refresh = s.refresh;
       family = s.family;
       cap = s.cap;
+      choices = s.choices;
     } };
 
     ghost invariant = { λ s. IsSettings (record {
@@ -32,6 +34,7 @@ impl Model for Settings {
       refresh = s.refresh;
       family = s.family;
       cap = s.cap;
+      choices = s.choices;
     }) };
 
     ghost inverse = { λ s. record {
@@ -40,15 +43,17 @@ impl Model for Settings {
       refresh = s.refresh;
       family = s.family;
       cap = s.cap;
+      choices = s.choices;
     } };
 }
 
 ghost use Rattle.std.specs.Prelude.{◌≡◌, ◌↔◌, IsTrue};
 ghost use Rattle.std.specs.Option.{SomeIff};
+ghost use Rattle.tk_message.specs.Choices.{profile_choices};
 ghost use Rattle.tk_region.specs.SettingsFields.{IsSettings, IsUpTo, lives_of, greatest_cap};
 
 use tk_handle::Serial;
-use tk_message::Lives;
+use tk_message::{Choices, Lives};
 
 impl Settings {
     /// The greatest life of a code, in seconds: ten minutes.
@@ -66,7 +71,8 @@ impl Settings {
     /// The greatest cap. The serial above it is left for the dot of the next fact.
     pub const GREATEST_CAP: u64 = Serial::GREATEST - 1;
 
-    /// Returns the settings, or None if one of the numbers is out of its range.
+    /// Returns the settings with the profile's choices, or None if one of the numbers is out of its
+    /// range.
     ///
     /// Each number is at least 1. A code lives at most 600 seconds, an access token 86,400, a
     /// refresh token 31,536,000, a family 315,360,000. The cap is at most the greatest serial less
@@ -78,6 +84,7 @@ impl Settings {
           refresh = refresh;
           family = family;
           cap = cap;
+          choices = profile_choices;
         }))
             (record {
               code = code;
@@ -85,6 +92,7 @@ impl Settings {
               refresh = refresh;
               family = family;
               cap = cap;
+              choices = profile_choices;
             }) }
     {
         let in_range = is_up_to(Settings::GREATEST_CODE, code)
@@ -101,7 +109,15 @@ impl Settings {
             refresh,
             family,
             cap,
+            choices: Choices::profile(),
         })
+    }
+
+    /// Returns these settings with other choices.
+    pub fn with_choices(self, choices: Choices) -> Settings
+        ensures { result ≡ record self { choices = choices } }
+    {
+        Settings { choices, ..self }
     }
 
     // Returns how long tokens and families live.
@@ -114,6 +130,13 @@ impl Settings {
             refresh: self.refresh,
             family: self.family,
         }
+    }
+
+    // Returns what the region does if the profile leaves a choice.
+    pub(crate) fn choices(&self) -> Choices
+        ensures { result ≡ self.now.choices }
+    {
+        self.choices
     }
 
     /// Returns the cap: the greatest serial at which a region makes a fact.

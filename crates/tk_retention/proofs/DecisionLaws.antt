@@ -54,7 +54,7 @@ module _ (P : StoreFields) (U F : FactSet) (S : StandsFor P U F) (sound : AreSou
 
   administered : (request : RequestFields) → administration_of H place now request ≡ administration_of (held_facts (whole_store F)) place now request
   administered request =
-      administrations_same H F place now request (client_view_same P U F S) (consent_view_same P U F S) (signed_out_same P U F S)
+      administrations_same H F place now request (client_view_same P U F S) (consent_view_same P U F S) (signed_out_same P U F S) (consent_for_same P U F S)
       ∙ ap (λ (G : FactSet). administration_of G place now request) (sym back)
 
   by_endpoint : (e : Endpoint) (request : RequestFields) → decision_by e P place now words request ≡ decision_by e (whole_store F) place now words request
@@ -66,6 +66,7 @@ module _ (P : StoreFields) (U F : FactSet) (S : StandsFor P U F) (sound : AreSou
   by_endpoint endpoint.Revoke request =
       revocations_alike P (whole_store F) place now request alike
       (λ k digest client. revoked_same P U F S k digest client ∙ ap (λ (G : FactSet). is_revoked G k digest client) (sym back))
+      view_back
       (caller_back queries.known_names request)
   by_endpoint endpoint.AddClient request = administered request
   by_endpoint endpoint.ShowClient request = administered request

@@ -52,7 +52,7 @@ module _ (n : ℕ) (settings : SettingsFields) (U F : FactSet) (P Q : StoreField
   serials_same = next_same P.slots F (stands_dots P U F SP) n ∙ sym (next_same Q.slots F (stands_dots Q U F SQ) n)
 
   pub places_same : place_in (region_of P) ≡ place_in (region_of Q)
-  places_same = ap (λ (m : ℕ). record { number = n; next = m; lives = lives_of settings }) serials_same
+  places_same = ap (λ (m : ℕ). record { number = n; next = m; lives = lives_of settings; choices = settings.choices }) serials_same
 
   module _ (now : ℕ) (words : List ℕ) (both : nat_lt now P.horizon ≡ nat_lt now Q.horizon) where
     from_horizon : (h : ℕ) → nat_lt now h ≡ false → h ≤ now

@@ -1,0 +1,73 @@
+-- What a region does if the profile leaves a choice (own).
+--   profile_choices   what the profile does
+--   coded_choices     the code of choices
+use Rattle.std.specs.Prelude.{◌≡◌, Bool, true, false, Option, Some, None, refl}
+use Rattle.std.specs.Coded.{Coded, code_by, coded×, coded_bool, coded_option}
+use Rattle.tk_match.specs.declared.redirect_kinds.RedirectKinds.{RedirectKinds}
+use Rattle.tk_message.specs.declared.choices.Choices.{Choices}
+use Rattle.tk_message.specs.declared.choices.ConsentReuse.{ConsentReuse}
+use Rattle.tk_message.specs.declared.choices.ConsentReuse.TheVariants.{New, Held}
+use Rattle.tk_message.specs.declared.choices.UnseenRevocation.{UnseenRevocation}
+use Rattle.tk_message.specs.declared.choices.UnseenRevocation.TheVariants.{
+  Any,
+  Authenticated,
+  Nobody,
+}
+
+-- what the profile does: any client revokes a token that has not been seen, each consent is new,
+-- and each absolute URL may be registered
+abbrev pub profile_choices : Choices
+profile_choices = record { unseen = Any; consent = New; redirects = None }
+
+-- ---- codes
+
+abbrev pub unseen_code : UnseenRevocation → Option Bool
+unseen_code Any = None
+unseen_code Authenticated = Some true
+unseen_code Nobody = Some false
+
+abbrev pub unseen_coded : Option Bool → UnseenRevocation
+unseen_coded None = Any
+unseen_coded (Some true) = Authenticated
+unseen_coded (Some false) = Nobody
+
+pub unseen_again : (x : UnseenRevocation) → unseen_coded (unseen_code x) ≡ x
+unseen_again Any = refl
+unseen_again Authenticated = refl
+unseen_again Nobody = refl
+
+-- the code of who may revoke an unseen token
+abbrev pub coded_unseen : Coded UnseenRevocation
+coded_unseen =
+    code_by (Option Bool) (coded_option coded_bool) unseen_code unseen_coded unseen_again
+
+abbrev pub consent_code : ConsentReuse → Bool
+consent_code New = false
+consent_code Held = true
+
+abbrev pub consent_coded : Bool → ConsentReuse
+consent_coded false = New
+consent_coded true = Held
+
+pub consent_again : (x : ConsentReuse) → consent_coded (consent_code x) ≡ x
+consent_again New = refl
+consent_again Held = refl
+
+-- the code of what is done with a consent that is given again
+abbrev pub coded_consent : Coded ConsentReuse
+coded_consent = code_by Bool coded_bool consent_code consent_coded consent_again
+
+-- the code of kinds of redirection URIs
+abbrev pub coded_kinds : Coded RedirectKinds
+coded_kinds =
+    code_by (Bool × (Bool × Bool)) (coded× coded_bool (coded× coded_bool coded_bool))
+    (λ k. (k.https, (k.loopback, k.app)))
+    (λ p. record { https = p.0; loopback = p.1.0; app = p.1.1 }) (λ _. refl)
+
+-- the code of choices
+abbrev pub coded_choices : Coded Choices
+coded_choices =
+    code_by (UnseenRevocation × (ConsentReuse × Option RedirectKinds))
+    (coded× coded_unseen (coded× coded_consent (coded_option coded_kinds)))
+    (λ c. (c.unseen, (c.consent, c.redirects)))
+    (λ p. record { unseen = p.0; consent = p.1.0; redirects = p.1.1 }) (λ _. refl)

@@ -1,0 +1,54 @@
+//! What a region does if the profile leaves a choice: `Choices`.
+
+/// What a region does if the profile leaves a choice (own).
+#[derive(Clone, Copy)]
+pub struct Choices {
+    /// Who may revoke a token of another region that this region has not seen.
+    pub unseen: UnseenRevocation,
+    /// What a region does if a consent is given again.
+    pub consent: ConsentReuse,
+    /// The kinds of redirection URIs that a client may have; None for every absolute URL.
+    pub redirects: Option<RedirectKinds>,
+}
+
+/// Who may revoke a token of another region that this region has not seen (RFC 7009, 2.2.1 and 5).
+///
+/// Each such revocation makes a fact that is never pruned, whether or not there is such a token.
+#[derive(Clone, Copy)]
+pub enum UnseenRevocation {
+    /// Any client. A public client proves itself by its id, which is no secret.
+    Any,
+    /// A client that proved a secret.
+    Authenticated,
+    /// No client.
+    Nobody,
+}
+
+/// What a region does if a subject gives a client a consent, and a consent that is held is good
+/// (own).
+#[derive(Clone, Copy)]
+pub enum ConsentReuse {
+    /// A new consent is given each time, with an id of its own.
+    New,
+    /// The consent that is held serves, and no fact is made.
+    Held,
+}
+
+ghost use Rattle.std.specs.Prelude.{◌≡◌};
+ghost use Rattle.tk_message.specs.Choices.{profile_choices};
+
+use tk_match::RedirectKinds;
+
+impl Choices {
+    /// Returns what the profile does: any client revokes an unseen token, each consent is new, and
+    /// each absolute URL may be registered.
+    pub fn profile() -> Choices
+        ensures { result ≡ profile_choices }
+    {
+        Choices {
+            unseen: UnseenRevocation::Any,
+            consent: ConsentReuse::New,
+            redirects: None,
+        }
+    }
+}
