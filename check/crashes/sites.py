@@ -28,7 +28,7 @@ class Region(Server):
         said = peer.recv(65536)
         if not any(it in said for it in LOOKS):
             self.replied()
-        return said + super().hear(peer)
+        return super().hear(peer, said)
 
 
 class Runs:

@@ -37,6 +37,13 @@ def status_of(said):
     return int(said[9:12]) if length and len(body) == int(length[1]) else None
 
 
+def is_whole(said):
+    """Whether a reply has come, with its body."""
+    head, end, body = said.partition(b"\r\n\r\n")
+    length = re.search(rb"(?i)\r\ncontent-length: (\d+)", head)
+    return bool(end and length) and len(body) >= int(length[1])
+
+
 def connect(port, sent=b"", is_narrow=False, patience=60):
     """A connection that has sent this.
 
@@ -112,16 +119,13 @@ class Asked:
         with socket.create_connection(("127.0.0.1", self.port), patience) as peer:
             peer.sendall(sent)
             said = self.hear(peer)
-        head, _, body = said.partition(b"\r\n\r\n")
-        length = re.search(rb"(?i)\r\ncontent-length: (\d+)", head)
-        if not length or len(body) < int(length[1]):
+        if not is_whole(said):
             raise ConnectionError("no whole reply")
         return int(said[9:12]), said
 
-    def hear(self, peer):
-        """All that still comes on a connection."""
-        said = b""
-        while piece := peer.recv(65536):
+    def hear(self, peer, said=b""):
+        """What came on a connection and what still comes, up to the end of a reply."""
+        while not is_whole(said) and (piece := peer.recv(65536)):
             said += piece
         return said
 

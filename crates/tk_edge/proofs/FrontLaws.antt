@@ -6,46 +6,13 @@
 --   long_none       a head that is too long
 --   front_arrives   what came at the front arrives in a stream of these bytes and what follows
 --   size_at         the size of a request, by the parts of its head
-use Rattle.std.proofs.Common.{
-  ◌≡◌,
-  ◌⊎◌,
-  ℕ,
-  ◌+◌,
-  ◌-◌,
-  ◌<◌,
-  ◌≤◌,
-  Bool,
-  true,
-  false,
-  List,
-  [],
-  ◌∷◌,
-  ◌++◌,
-  length,
-  take,
-  drop,
-  map,
-  Option,
-  Some,
-  Result,
-  Ok,
-  Err,
-  IfOk,
-  nat_le,
-  inl,
-  inr,
-  refl,
-  sym,
-  ap,
-  ◌∙◌,
-  subst,
-  arith,
-  append-nil,
-  length-take,
-}
+--   stays_at        whether the connection may stay behind it, by the parts of its head
+--   some_taken      a request behind which a connection stays took some bytes
+use Rattle.std.proofs.Common.{◌≡◌, ℕ, ◌+◌, ◌-◌, ◌<◌, ◌≤◌, Bool, true, false, List, [], ◌∷◌, ◌++◌, length, take, drop, map, Some, Result, Ok, Err, IfOk, nat_le, nat_lt, inl, inr, refl, sym, ap, ◌∙◌, subst, arith, append-nil, length-take}
 use Rattle.std.proofs.lemmas.Bool.Decides.{nat_tests}
 use Rattle.std.proofs.lemmas.List.{length-drop, length-map, take_rest}
 use Rattle.httparse.specs.Grammar.{RequestHead, print_request, ReadsRequest, HasNoRequest}
+use Rattle.httparse.specs.Grammar.{IsRequestHead}
 use Rattle.httparse.specs.Spans.{IsRequestAt, IsRequestWithin, RequestOverflows, header_bytes, name_and_value}
 use Rattle.httparse.specs.declared.spans.HeaderSpan.{HeaderSpan}
 use Rattle.httparse.specs.declared.spans.RequestSpans.{RequestSpans}
@@ -57,11 +24,12 @@ use Rattle.tk_edge.specs.Fronts.{Takes, TakesIn, front_of, request_size, size_of
 use Rattle.tk_edge.specs.Heads.{HasHead, head_limit, field_limit}
 use Rattle.tk_edge.specs.Heard.{Arrives, IsArrival, MayArrive, arrival_by, arrival_of, headless, posted_to}
 use Rattle.tk_edge.specs.Judged.{judged_of}
+use Rattle.tk_edge.specs.Staying.{stays_by, stays_open}
 use Rattle.tk_edge.specs.declared.front.Front.{Front}
 use Rattle.tk_edge.specs.declared.front.Front.TheVariants.{More, Came}
+use Rattle.tk_edge.specs.declared.front.Taken.{Taken}
 use Rattle.tk_edge.specs.declared.hear.Arrival.{Arrival}
 use Rattle.tk_edge.specs.declared.hear.Arrival.TheVariants.{Silence, Refused, Request}
-use Rattle.tk_edge.specs.declared.exchange.Exchange.TheVariants as exchange
 use Rattle.tk_edge.specs.declared.hear.Arrival.TheVariants as arrival
 use Rattle.tk_message.specs.RequestFields.{RequestFields}
 use Rattle.tk_edge.specs.declared.hear.HearError.{HearError}
@@ -90,6 +58,16 @@ silent_front sync tail e =
     subst (λ (x : List ℕ). IsArrival sync x Silence) (sym e)
     (inl (λ h has. no_head_of_none h has.0.0 has.0.1, refl))
 
+-- no bytes, behind which nothing follows, come as silence
+pub silent_comes : (sync over : Bool) → over ≡ true
+    → HasCome sync [] over Silence (record { size = 0; stays = false })
+silent_comes sync over is = record {
+  within = omega arith;
+  takes = (refl, refl);
+  may = tt;
+  means = λ tail follows. silent_front sync tail (follows is);
+}
+
 -- bytes that have no head, whatever follows
 pub headless_arrives : (sync : Bool) (bytes tail : List ℕ) → 0 < length bytes
     → ((h : RequestHead) → HasHead (bytes ++ tail) head_limit field_limit h → ⊥)
@@ -100,10 +78,10 @@ headless_arrives sync (b ∷ bytes) tail some none = inl (none, refl)
 -- bytes that have no head, whatever follows, are refused, and all of them are taken
 pub headless_comes : (sync : Bool) (bytes : List ℕ) (over : Bool)
     → ((tail : List ℕ) → Follows over tail → IsArrival sync (bytes ++ tail) (Refused NoHead))
-    → HasCome sync bytes over (Refused NoHead) (length bytes)
+    → HasCome sync bytes over (Refused NoHead) (record { size = length bytes; stays = false })
 headless_comes sync bytes over means = record {
   within = omega arith;
-  takes = refl;
+  takes = (refl, refl);
   may = tt;
   means = means;
 }
@@ -191,7 +169,7 @@ front_heard sync bytes over headers spans h (Ok (Came came count)) within at fit
 front_heard sync bytes over headers spans h (Err e) within at fits full by taken takes fewer may = tt
 
 -- a whole body, whatever follows it
-pub body_whole : (over : Bool) (posted : Posted) (size taken : ℕ) (front target : List ℕ)
+pub body_whole : (over : Bool) (posted : Posted) (size : ℕ) (taken : Taken) (front target : List ℕ)
     (pairs : Pairs) (result : Result Arrival HearError) → size ≤ length front
     → IfOk result (λ came. came ≡ posted_to posted (take size front) pairs)
     → IfOk (front_of result taken)
@@ -218,7 +196,7 @@ same_front over f g (Ok (Came came taken)) e by = λ tail follows. by tail follo
 same_front over f g (Err error) e by = tt
 
 -- what comes of a whole request
-pub may_come : (sync : Bool) (result : Result Arrival HearError) (taken : ℕ)
+pub may_come : (sync : Bool) (result : Result Arrival HearError) (taken : Taken)
     → IfOk result (MayArrive sync) → IfOk (front_of result taken) (MayComeBy sync)
 may_come sync (Ok came) taken may = may
 may_come sync (Err error) taken may = tt
@@ -229,7 +207,7 @@ none_of [] e = refl
 none_of (x ∷ xs) e = absurd (omega (arith, e))
 
 -- what came at the front arrives in a stream of these bytes and what follows
-pub front_arrives : (sync over : Bool) (bytes : List ℕ) (came : Arrival) (taken : ℕ)
+pub front_arrives : (sync over : Bool) (bytes : List ℕ) (came : Arrival) (taken : Taken)
     → HasCome sync bytes over came taken → (tail : List ℕ) → Follows over tail
     → Arrives sync (Some (bytes ++ tail)) came
 front_arrives sync over bytes came taken front tail follows = (
@@ -260,8 +238,16 @@ size_at sync h len method target judged el em et ej =
     ∙ ap (λ j. length (print_request h) + size_of j)
     (ej ∙ ap (λ m. judged_of sync m target pairs) em ∙ ap (λ t. judged_of sync h.method t pairs) et)
 
+-- whether the connection may stay behind a request, by the parts of its head and what was judged
+pub stays_at : (sync : Bool) (h : RequestHead) (minor : ℕ) (method target : List ℕ) (pairs : Pairs)
+    (judged : Judged) (stays : Bool) → minor ≡ h.minor → method ≡ h.method → target ≡ h.target
+    → pairs ≡ map name_and_value h.fields → judged ≡ judged_of sync method target pairs
+    → stays ≡ stays_by minor pairs judged → stays ≡ stays_open sync h
+stays_at sync h minor method target pairs judged stays en em et ep ej es =
+    es ∙ ap (stays_by minor pairs) ej ∙ rw (en, em, et, ep) refl
+
 -- a whole request takes its size
-pub request_takes : (sync : Bool) (bytes : List ℕ) (taken : ℕ) (request : RequestFields)
+pub request_takes : (sync : Bool) (bytes : List ℕ) (taken : Taken) (request : RequestFields)
     (result : Result Arrival HearError) → IsOneRequest sync bytes taken
     → IfOk result (λ came. came ≡ Request request) → IfOk (front_of result taken) (TakesIn sync bytes)
 request_takes sync bytes taken request (Ok came) one e =
@@ -269,7 +255,7 @@ request_takes sync bytes taken request (Ok came) one e =
 request_takes sync bytes taken request (Err error) one e = tt
 
 -- a whole body is that of a request or of an exchange, which takes its size
-pub posted_takes : (sync : Bool) (bytes : List ℕ) (taken : ℕ) (posted : Posted) (body : List ℕ)
+pub posted_takes : (sync : Bool) (bytes : List ℕ) (taken : Taken) (posted : Posted) (body : List ℕ)
     (pairs : Pairs) (result : Result Arrival HearError) → IsOneRequest sync bytes taken
     → IfOk result (λ came. came ≡ posted_to posted body pairs)
     → IfOk (front_of result taken) (TakesIn sync bytes)
@@ -281,6 +267,32 @@ posted_takes sync bytes taken posted body pairs (Ok came) one e =
     of Pull = one
     of Push = one
 posted_takes sync bytes taken posted body pairs (Err error) one e = tt
+
+-- a head has some bytes, as no bytes are none
+some_head : (h : RequestHead) → IsRequestHead h → 0 < length (print_request h)
+some_head h valid =
+    elim (nat_lt 0 (length (print_request h))) as (λ t. nat_lt 0 (length (print_request h)) ≡ t
+    → 0 < length (print_request h)) [
+      | true ↦ λ e. grind (e, arith, nat_tests)
+      | false ↦ λ e.
+          let none : length (print_request h) ≡ 0 = grind (e, arith, nat_tests) in
+          absurd (no_head_of_none h []
+          (valid, sym (append-nil (print_request h) ∙ none_of (print_request h) none)))
+    ] refl
+
+-- a request behind which a connection stays took some bytes
+pub some_taken : (sync : Bool) (bytes : List ℕ) (came : Arrival) (taken : Taken)
+    → Takes sync bytes came taken → taken.stays ≡ true → 0 < taken.size
+some_taken sync bytes Silence taken h stays = absurd (false_true (sym h.1 ∙ stays))
+  where
+    false_true : false ≡ true → ⊥
+    false_true e = cc
+some_taken sync bytes (Refused why) taken h stays = absurd (false_true (sym h.1 ∙ stays))
+  where
+    false_true : false ≡ true → ⊥
+    false_true e = cc
+some_taken sync bytes (Request request) taken h stays = omega (arith, h.3, some_head h.0 h.2.0)
+some_taken sync bytes (arrival.Exchange exchange) taken h stays = omega (arith, h.3, some_head h.0 h.2.0)
 
 -- fewer bytes than a limit are fewer than a greater one
 pub fewer_within : {E : Type 0} (many all limit most : ℕ) (result : Result Front E) → many ≡ all

@@ -2,6 +2,7 @@ pub mod AnswerLaws
 pub mod BodyLaws
 pub mod BoundLaws
 pub mod HeadLaws
+pub mod OpenReplyLaws
 pub mod PushLaws
 pub mod RecordLaws
 pub mod StreamLaws

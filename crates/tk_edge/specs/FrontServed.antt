@@ -4,11 +4,13 @@
 --   IsFrontTurnedAway   what a sealed edge does
 -- Throughout, `still` is the statement that the log is as it was before, because no call reached
 -- it.
-use Rattle.std.specs.Prelude.{◌≡◌, ℕ, Bool, List, ◌++◌, length, Option, None, Some, Result, Ok, Err}
+use Rattle.std.specs.Prelude.{◌≡◌, ℕ, Bool, false, List, ◌++◌, length, Option, None, Some}
+use Rattle.std.specs.Prelude.{Result, Ok, Err}
 use Rattle.tk_edge.specs.Fronts.{Follows, HasCome, IsPartial}
 use Rattle.tk_edge.specs.Served.{Asked, IsServed, IsTurnedAway, IsUntouched, Step}
 use Rattle.tk_edge.specs.Told.{Change}
 use Rattle.tk_edge.specs.declared.edge.Served.{Served}
+use Rattle.tk_edge.specs.declared.front.Taken.{Taken}
 use Rattle.tk_edge.specs.declared.hear.Arrival.{Arrival}
 use Rattle.tk_edge.specs.declared.tell.Fault.{Fault}
 
@@ -33,7 +35,7 @@ IsServedBy asked bytes over region log still writer sealed result =
 -- What serving the front of a connection's bytes does: no request is whole and nothing changed; or
 -- what came is served, and takes its bytes; or a fault.
 abbrev pub IsFrontServed : Asked → List ℕ → Bool → Step → Change → Type 0 → Change → Bool
-    → Result (Option (Served × ℕ)) Fault → Type 0
+    → Result (Option (Served × Taken)) Fault → Type 0
 IsFrontServed asked bytes over region log still writer sealed (Ok None) =
     IsPartial asked.sync bytes over × IsUntouched region log still writer sealed
 IsFrontServed asked bytes over region log still writer sealed (Ok (Some end)) =
@@ -42,9 +44,10 @@ IsFrontServed asked bytes over region log still writer sealed (Ok (Some end)) =
 IsFrontServed asked bytes over region log still writer sealed (Err fault) =
     IsServedBy asked bytes over region log still writer sealed (Err fault)
 
--- what a sealed edge does: the reply is that of `Sealed`, and all bytes are taken
-abbrev pub IsFrontTurnedAway : List ℕ → Change → Result (Option (Served × ℕ)) Fault → Type 0
+-- what a sealed edge does: the reply is that of `Sealed`, all bytes are taken, and the connection
+-- ends
+abbrev pub IsFrontTurnedAway : List ℕ → Change → Result (Option (Served × Taken)) Fault → Type 0
 IsFrontTurnedAway bytes writer (Ok None) = ⊥
 IsFrontTurnedAway bytes writer (Ok (Some end)) =
-    (end.1 ≡ length bytes) × IsTurnedAway writer (Ok end.0)
+    (end.1 ≡ record { size = length bytes; stays = false }) × IsTurnedAway writer (Ok end.0)
 IsFrontTurnedAway bytes writer (Err fault) = IsTurnedAway writer (Err fault)

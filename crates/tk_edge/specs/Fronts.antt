@@ -3,7 +3,7 @@
 --   Follows        what may follow the bytes
 --   IsCut          the meaning of a stream that ends too early
 --   request_size   how many bytes a request takes
---   Takes          how many bytes were taken of what came
+--   Takes          what was taken of what came, and whether the connection may stay
 --   IsPartial      no request is whole
 --   IsFront        what the front of bytes is: a meaning whatever follows, or no whole request
 --   IsFrontBy, IsTakenWithin, TakesIn, IsFewer, MayComeBy   parts of that
@@ -14,8 +14,10 @@ use Rattle.httparse.specs.Spans.{name_and_value}
 use Rattle.tk_edge.specs.Bounds.{request_limit}
 use Rattle.tk_edge.specs.Heard.{IsArrival, MayArrive}
 use Rattle.tk_edge.specs.Judged.{judged_of}
+use Rattle.tk_edge.specs.Staying.{stays_open}
 use Rattle.tk_edge.specs.declared.front.Front.{Front}
 use Rattle.tk_edge.specs.declared.front.Front.TheVariants.{More, Came}
+use Rattle.tk_edge.specs.declared.front.Taken.{Taken}
 use Rattle.tk_edge.specs.declared.hear.Arrival.{Arrival}
 use Rattle.tk_edge.specs.declared.hear.Arrival.TheVariants.{Silence, Refused, Request, Exchange}
 use Rattle.tk_edge.specs.declared.hear.HearError.{HearError}
@@ -54,16 +56,18 @@ request_size sync h =
     length (print_request h)
     + size_of (judged_of sync h.method h.target (map name_and_value h.fields))
 
--- the first bytes are one whole request, of this size
-abbrev pub IsOneRequest : Bool → List ℕ → ℕ → Type 0
-IsOneRequest sync bytes size =
-    (h : RequestHead) × (rest : List ℕ) × ReadsRequest bytes h rest × (size ≡ request_size sync h)
+-- the bytes that were taken are one whole request, behind which the connection may stay as its head
+-- says
+abbrev pub IsOneRequest : Bool → List ℕ → Taken → Type 0
+IsOneRequest sync bytes taken =
+    (h : RequestHead) × (rest : List ℕ) × ReadsRequest bytes h rest
+    × (taken.size ≡ request_size sync h) × (taken.stays ≡ stays_open sync h)
 
--- How many bytes were taken of what came: those of the request and no more. A refusal takes all
--- bytes, because nothing behind a refused request is read.
-abbrev pub Takes : Bool → List ℕ → Arrival → ℕ → Type 0
-Takes sync bytes Silence taken = taken ≡ 0
-Takes sync bytes (Refused why) taken = taken ≡ length bytes
+-- What was taken of what came: the bytes of the request and no more. A refusal takes all bytes and
+-- ends the connection, because nothing behind a refused request is read.
+abbrev pub Takes : Bool → List ℕ → Arrival → Taken → Type 0
+Takes sync bytes Silence taken = (taken.size ≡ 0) × (taken.stays ≡ false)
+Takes sync bytes (Refused why) taken = (taken.size ≡ length bytes) × (taken.stays ≡ false)
 Takes sync bytes (Request request) taken = IsOneRequest sync bytes taken
 Takes sync bytes (Exchange exchange) taken = IsOneRequest sync bytes taken
 
@@ -75,9 +79,9 @@ pub record IsPartial (sync : Bool) (bytes : List ℕ) (over : Bool) : Type 0 whe
   pub cut : (came : Arrival) → IsArrival sync bytes came → IsCut came
 
 -- what came at the front: it means the same whatever follows the bytes
-pub record HasCome (sync : Bool) (bytes : List ℕ) (over : Bool) (came : Arrival) (taken : ℕ)
+pub record HasCome (sync : Bool) (bytes : List ℕ) (over : Bool) (came : Arrival) (taken : Taken)
     : Type 0 where
-  pub within : taken ≤ length bytes
+  pub within : taken.size ≤ length bytes
   pub takes : Takes sync bytes came taken
   pub may : MayArrive sync came
   pub means : (tail : List ℕ) → Follows over tail → IsArrival sync (bytes ++ tail) came
@@ -96,7 +100,7 @@ IsFrontBy over meaning (Came came taken) =
 -- what came takes at most the given number of bytes
 abbrev pub IsTakenWithin : ℕ → Front → Type 0
 IsTakenWithin most More = ⊤
-IsTakenWithin most (Came came taken) = taken ≤ most
+IsTakenWithin most (Came came taken) = taken.size ≤ most
 
 -- what came takes its bytes and no more
 abbrev pub TakesIn : Bool → List ℕ → Front → Type 0
@@ -114,6 +118,6 @@ MayComeBy sync More = ⊤
 MayComeBy sync (Came came taken) = MayArrive sync came
 
 -- the front of a whole request, unless memory ran out for it
-abbrev pub front_of : Result Arrival HearError → ℕ → Result Front HearError
+abbrev pub front_of : Result Arrival HearError → Taken → Result Front HearError
 front_of (Ok came) taken = Ok (Came came taken)
 front_of (Err error) taken = Err error

@@ -1,8 +1,8 @@
--- The fields of a head that tokend reads (RFC 9110, 5.1, 8.3, 8.6 and 11.6.2; RFC 9112, 6.1;
+-- The fields of a head that tokend reads (RFC 9110, 5.1, 7.6.1, 8.3, 8.6 and 11.6.2; RFC 9112, 6.1;
 -- `X-Subject` is own).
 --   values_named   the values under a name, in any case
 --   IsField        a field is absent, has one value, or is repeated
---   AreFields      the five fields, among names and values
+--   AreFields      the six fields, among names and values
 --   has_repeats    one of the four fields is repeated that may be given only once
 use Rattle.std.specs.Prelude.{◌≡◌, ℕ, ◌≤◌, ◌||◌, Bool, nat_le, List, [], ◌∷◌, length, map, filter}
 use Rattle.std.specs.Prelude.{codes}
@@ -42,13 +42,18 @@ type_in pairs = values_named (codes "content-type") pairs
 abbrev pub coding_in : Pairs → List (List ℕ)
 coding_in pairs = values_named (codes "transfer-encoding") pairs
 
--- the five fields that tokend reads, among the names and values of a head
+-- the values of Connection
+abbrev pub connection_in : Pairs → List (List ℕ)
+connection_in pairs = values_named (codes "connection") pairs
+
+-- the six fields that tokend reads, among the names and values of a head
 pub record AreFields (fields : Fields) (pairs : Pairs) : Type 0 where
   pub authorization : IsField fields.authorization (authorization_in pairs)
   pub subject : IsField fields.subject (subject_in pairs)
   pub size : IsField fields.length (length_in pairs)
   pub kind : IsField fields.kind (type_in pairs)
   pub coding : IsField fields.coding (coding_in pairs)
+  pub connection : IsField fields.connection (connection_in pairs)
 
 -- a field is given twice or more often
 abbrev pub repeats : List (List ℕ) → Bool

@@ -5,6 +5,7 @@
 --   Paths        path_named, the paths that are served; service_at, what each serves
 --   MediaType    is_form, whether Content-Type is a form's
 --   Judged       judged_of, what a head requests or the first rule that it breaks
+--   Staying      stays_open, a connection stays behind the reply to a head
 --   Bounds       TakesAtMost, how much of a source a request takes
 --   Heard        IsArrival, the meaning of a stream; IsHeard, if regions don't exchange facts
 --   Pulls        wanted, the format of a pull
@@ -19,6 +20,7 @@
 --   Served       IsServed, one connection is one step
 --   Fronts       IsFront, what the front of a connection's bytes means while more may follow
 --   FrontServed  IsFrontServed, what serving that front does
+--   OpenReply    IsOpenReply, the reply over a connection that stays
 --   Laws         HasOneMeaning, the meaning of a stream is unique
 pub mod Ahead
 pub mod Answers
@@ -35,10 +37,12 @@ pub mod Heard
 pub mod Judged
 pub mod Laws
 pub mod MediaType
+pub mod OpenReply
 pub mod Paths
 pub mod PullLaws
 pub mod Pulls
 pub mod Pushes
 pub mod Rendering
 pub mod Served
+pub mod Staying
 pub mod Told

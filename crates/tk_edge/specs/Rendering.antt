@@ -1,13 +1,15 @@
 -- The bytes of a reply (RFC 9112, 4; RFC 9110, 15 for the reasons; RFC 6749, 5.1 for what may not
--- be stored, 5.2 for the challenge).
+-- be stored, 5.2 for the challenge; RFC 9110, 10.2.3 for the time of a retry).
 --   reason_of     the reason phrase of a status
 --   body_of       the bytes of a reply's body
 --   reply_bytes   the whole reply, with the methods allowed, if it names them
-use Rattle.std.specs.Prelude.{ℕ, Bool, true, false, List, [], ◌∷◌, length, codes, decimal, Option}
+use Rattle.std.specs.Prelude.{ℕ, List, [], ◌∷◌, length, codes, decimal, Option}
 use Rattle.std.specs.List.{concat}
 use Rattle.tk_put.specs.Put.{field_line}
 use Rattle.tk_message.specs.ReplyFields.{ReplyFields, Content, Nothing, JsonText, OtherBytes}
 use Rattle.tk_message.specs.StatusCode.{status_number}
+use Rattle.tk_message.specs.declared.reply.Asks.{Asks}
+use Rattle.tk_message.specs.declared.reply.Asks.TheVariants as asks
 use Rattle.tk_message.specs.declared.status_code.StatusCode.{StatusCode}
 use Rattle.tk_message.specs.declared.status_code.StatusCode.TheVariants.{
   Ok,
@@ -54,18 +56,20 @@ type_line Nothing = []
 type_line (JsonText bytes) = where_any bytes (codes "Content-Type: application/json\r\n")
 type_line (OtherBytes bytes) = where_any bytes (codes "Content-Type: application/octet-stream\r\n")
 
--- the line of the challenge, if the reply asks for credentials
-abbrev pub challenge_line : Bool → List ℕ
-challenge_line true = codes "WWW-Authenticate: Basic realm=\"tokend\"\r\n"
-challenge_line false = []
+-- the line of what the reply asks of the client: the challenge, or the seconds until a retry (own:
+-- ten, in which a carrier brings the facts of other regions)
+abbrev pub asks_line : Asks → List ℕ
+asks_line asks.Nothing = []
+asks_line asks.Credentials = codes "WWW-Authenticate: Basic realm=\"tokend\"\r\n"
+asks_line asks.Retry = codes "Retry-After: 10\r\n"
 
 -- the parts of a reply, joined in their order
 abbrev pub assembly : List ℕ → List ℕ → List ℕ → List ℕ → List ℕ → List ℕ → List ℕ → List ℕ → List ℕ
-assembly number reason type_of_body len challenge location allow body = concat (
+assembly number reason type_of_body len asks_of_client location allow body = concat (
     codes "HTTP/1.1 " ∷ number ∷ codes " " ∷ reason ∷ codes "\r\n" ∷ type_of_body
     ∷ codes "Content-Length: " ∷ len
     ∷ codes "\r\nCache-Control: no-store\r\nPragma: no-cache\r\nConnection: close\r\n"
-    ∷ challenge ∷ location ∷ allow ∷ codes "\r\n" ∷ body ∷ [])
+    ∷ asks_of_client ∷ location ∷ allow ∷ codes "\r\n" ∷ body ∷ [])
 
 -- the whole reply, with the methods allowed, if it names them
 abbrev pub reply_bytes : ReplyFields → Option (List ℕ) → List ℕ
@@ -73,5 +77,5 @@ reply_bytes reply allowed =
     let body = body_of reply.content in
     assembly (decimal (status_number reply.status)) (reason_of reply.status)
     (type_line reply.content) (decimal (length body))
-    (challenge_line reply.www) (field_line (codes "Location: ") reply.location)
+    (asks_line reply.asks) (field_line (codes "Location: ") reply.location)
     (field_line (codes "Allow: ") allowed) body

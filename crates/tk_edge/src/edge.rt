@@ -60,6 +60,7 @@ ghost use Rattle.tk_edge.specs.declared.hear.Arrival.{Arrival as AnyArrival};
 
 use crate::answer::{Answer, answer_arrival, refuse};
 use crate::device::{Sink, Source};
+use crate::front::{Taken, ending};
 use crate::given::Given;
 use crate::head::HEAD_LIMIT;
 use crate::hear::{Arrival, HearError, hear};
@@ -307,12 +308,15 @@ impl Edge {
     }
 
     /// Serves the request at the front of the bytes that have come over a connection, if that
-    /// request is whole. Returns how serving it ended, and how many of the bytes it took.
+    /// request is whole. Returns how serving it ended, and what it took of the bytes.
     ///
     /// `is_over` is whether the client has ended its side, so that no more bytes follow. A request
     /// is served as [`Edge::serve_one_logging`] serves it, whatever follows its bytes. If no
     /// request is whole, the result is `None`: nothing is changed or written, and more bytes are
     /// needed. A sealed edge takes all bytes, and writes the reply 503 temporarily_unavailable.
+    ///
+    /// Each reply says `Connection: close`. If the connection may stay, [`keep_open`] takes that
+    /// line out.
     pub fn serve_front<L: Sink, W: Sink>(
         &mut self,
         alloc: Global,
@@ -323,7 +327,7 @@ impl Edge {
         log_taken: bool,
         now: Moment,
         words: &[u64; 6],
-    ) -> Result<Option<(Served, usize)>, Fault>
+    ) -> Result<Option<(Served, Taken)>, Fault>
         ensures sync { self.new.sync ≡ self.old.sync }
         ensures refuses_ahead { self.new.refuses_ahead ≡ self.old.refuses_ahead }
 
@@ -352,7 +356,7 @@ impl Edge {
     {
         if self.sealed {
             return match turn_away(alloc, writer) {
-                Ok(served) => Ok(Some((served, bytes.len()))),
+                Ok(served) => Ok(Some((served, ending(bytes.len())))),
                 Err(fault) => Err(fault),
             };
         }

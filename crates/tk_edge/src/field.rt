@@ -19,7 +19,7 @@ pub(crate) enum Field<'b> {
     Twice,
 }
 
-// The five fields that tokend reads.
+// The six fields that tokend reads.
 #[derive(Clone, Copy)]
 pub(crate) struct Fields<'b> {
     pub(crate) authorization: Field<'b>,
@@ -27,6 +27,7 @@ pub(crate) struct Fields<'b> {
     pub(crate) length: Field<'b>,
     pub(crate) kind: Field<'b>,
     pub(crate) coding: Field<'b>,
+    pub(crate) connection: Field<'b>,
 }
 
 // Finds the fields that tokend reads among the headers of a head.
@@ -40,6 +41,7 @@ pub(crate) fn fields_of<'b>(buf: &'b [u8], headers: &[HeaderSpan]) -> Fields<'b>
         length: value_named(buf, headers, b"content-length"),
         kind: value_named(buf, headers, b"content-type"),
         coding: value_named(buf, headers, b"transfer-encoding"),
+        connection: value_named(buf, headers, b"connection"),
     }
 }
 

@@ -2,17 +2,26 @@
 
 use crate::hear::Arrival;
 
+/// What was taken of the bytes of a connection.
+#[derive(Clone, Copy)]
+pub struct Taken {
+    /// How many bytes were taken: those of one request, or all.
+    pub size: usize,
+    /// Whether the connection may stay open behind the reply (RFC 9112, 9.3).
+    pub stays: bool,
+}
+
 /// What the front of bytes is.
 #[derive(Drop)]
 pub(crate) enum Front {
     /// No request is whole: more bytes are needed.
     More,
-    /// What arrived, and how many of the bytes it took.
-    Came(Arrival, usize),
+    /// What arrived, and what it took of the bytes.
+    Came(Arrival, Taken),
 }
 
 ghost use Rattle.std.specs.Prelude.{◌≡◌, ◌++◌, ◌+◌, ◌^◌, ◌<◌, ◌≤◌, ℕ, Bool, List, [], length, drop};
-ghost use Rattle.std.specs.Prelude.{IfOk};
+ghost use Rattle.std.specs.Prelude.{IfOk, false};
 ghost use Rattle.httparse.specs.Grammar.{RequestHead, HasNoRequest};
 ghost use Rattle.httparse.specs.Spans.{IsRequestAt, IsRequestWithin};
 ghost use Rattle.tk_params.specs.Params.{Pairs};
@@ -32,6 +41,7 @@ use crate::hear::{HearError, asked, lent};
 use crate::judge::{Judged, judge};
 use crate::path::{Posted, split_target};
 use crate::refusal::Refusal;
+use crate::staying::stays_by;
 use httparse::Status;
 use httparse::spans::{EMPTY_HEADER_SPAN, HeaderSpan, RequestSpans, parse_request};
 use std::alloc::Global;
@@ -67,7 +77,7 @@ fn nothing_front(is_over: bool) -> Front
     ensures { (sync : Bool) → IsFront sync [] is_over result }
 {
     if is_over {
-        Front::Came(Arrival::Silence, 0)
+        Front::Came(Arrival::Silence, ending(0))
     } else {
         Front::More
     }
@@ -90,9 +100,17 @@ fn partial_front(bytes: &[u8], is_over: bool) -> Front
 
 // Returns the front of bytes that can't become a head.
 fn headless_front(bytes: &[u8]) -> Front
-    ensures { result ≡ Front.Came (Arrival.Refused Refusal.NoHead) (length bytes.now) }
+    ensures { result ≡ Front.Came (Arrival.Refused Refusal.NoHead)
+        (record { size = length bytes.now; stays = false }) }
 {
-    Front::Came(Arrival::Refused(Refusal::NoHead), bytes.len())
+    Front::Came(Arrival::Refused(Refusal::NoHead), ending(bytes.len()))
+}
+
+// Returns that so many bytes were taken of a connection that ends.
+pub(crate) fn ending(size: usize) -> Taken
+    ensures { result ≡ record { size = size; stays = false } }
+{
+    Taken { size, stays: false }
 }
 
 // Returns the front of bytes that begin with a head.
@@ -118,30 +136,27 @@ fn head_front(
     let fields = fields_of(bytes, &headers[..spans.headers]);
     let method = spans.method.of(bytes);
     let target = spans.path.of(bytes);
-    match judge(sync, method, target, &fields) {
-        Judged::Refused(why) => Ok(Front::Came(Arrival::Refused(why), bytes.len())),
+    let judged = judge(sync, method, target, &fields);
+    let head = Taken {
+        size: spans.len,
+        stays: stays_by(spans.version, &fields, &judged),
+    };
+    match judged {
+        Judged::Refused(why) => Ok(Front::Came(Arrival::Refused(why), ending(bytes.len()))),
         Judged::Query(endpoint) => {
             let query = split_target(target).1;
-            whole_front(asked(alloc, endpoint, query, &fields), spans.len)
+            whole_front(asked(alloc, endpoint, query, &fields), head)
         }
-        Judged::Vector => Ok(Front::Came(Arrival::Exchange(Exchange::Vector), spans.len)),
+        Judged::Vector => Ok(Front::Came(Arrival::Exchange(Exchange::Vector), head)),
         Judged::Body(posted, size) => {
             let rest = &bytes[spans.len..];
-            body_front(
-                alloc,
-                posted,
-                size as usize,
-                spans.len,
-                rest,
-                is_over,
-                &fields,
-            )
+            body_front(alloc, posted, size as usize, head, rest, is_over, &fields)
         }
     }
 }
 
 // Returns the front of a whole request, if there was memory for it.
-fn whole_front(came: Result<Arrival, HearError>, taken: usize) -> Result<Front, HearError>
+fn whole_front(came: Result<Arrival, HearError>, taken: Taken) -> Result<Front, HearError>
     ensures { result ≡ front_of came taken }
 {
     match came {
@@ -150,33 +165,39 @@ fn whole_front(came: Result<Arrival, HearError>, taken: usize) -> Result<Front, 
     }
 }
 
-// Returns the front of a body of this size. `taken` is the size of its head, and `rest` has the
-// bytes behind that head.
+// Returns the front of a body of this size. `head` is what was taken by its head, and `rest` has
+// the bytes behind that.
 fn body_front(
     alloc: Global,
     posted: Posted,
     size: usize,
-    taken: usize,
+    head: Taken,
     rest: &[u8],
     is_over: bool,
     fields: &Fields<'_>,
 ) -> Result<Front, HearError>
-    requires { taken + length rest.now < 2 ^ 64 }
+    requires { head.size + length rest.now < 2 ^ 64 }
     ensures came { (target : List ℕ) (pairs : Pairs) → AreFields fields.now pairs
         → IfOk result (IsFrontBy is_over
         (λ tail. spec.arrival_by target pairs (rest.now ++ tail) (Body posted size))) }
-    ensures within { IfOk result (IsTakenWithin (taken + length rest.now)) }
+    ensures within { IfOk result (IsTakenWithin (head.size + length rest.now)) }
     ensures takes { (sync : Bool) (bytes : List ℕ) (pairs : Pairs) → AreFields fields.now pairs
-        → length bytes ≡ taken + length rest.now → IsOneRequest sync bytes (taken + size)
+        → length bytes ≡ head.size + length rest.now
+        → IsOneRequest sync bytes (record { size = head.size + size; stays = head.stays })
         → IfOk result (TakesIn sync bytes) }
-    ensures fewer { IfOk result (IsFewer (taken + length rest.now) (taken + size)) }
+    ensures fewer { IfOk result (IsFewer (head.size + length rest.now) (head.size + size)) }
     ensures may { (sync : Bool) → MayPost sync posted → IfOk result (MayComeBy sync) }
 {
     if size <= rest.len() {
-        return whole_front(lent(alloc, posted, &rest[..size], fields), taken + size);
+        let taken = Taken {
+            size: head.size + size,
+            stays: head.stays,
+        };
+        return whole_front(lent(alloc, posted, &rest[..size], fields), taken);
     }
     if is_over {
-        return Ok(Front::Came(Arrival::Refused(Refusal::ShortBody), taken + rest.len()));
+        let all = ending(head.size + rest.len());
+        return Ok(Front::Came(Arrival::Refused(Refusal::ShortBody), all));
     }
     Ok(Front::More)
 }

@@ -7,7 +7,7 @@ ghost use Rattle.tk_edge.specs.Rendering as spec;
 
 use itoa::Buffer;
 use std::alloc::{AllocError, Global};
-use tk_message::{Payload, Reply, StatusCode};
+use tk_message::{Asks, Payload, Reply, StatusCode};
 use tk_put::{field_line, joined};
 
 // Renders the whole reply. `allowed` is the value of its `Allow`, if it has one.
@@ -30,7 +30,7 @@ pub(crate) fn render(
         reason_of(reply.status),
         type_line(&reply.body),
         len.format(body.len()).as_bytes(),
-        challenge_line(reply.www),
+        asks_line(reply.asks),
         &location,
         &allow,
         body,
@@ -90,13 +90,13 @@ fn reason_of(status: StatusCode) -> &'static [u8]
     }
 }
 
-fn challenge_line(www: bool) -> &'static [u8]
-    ensures { result.now ≡ spec.challenge_line www }
+fn asks_line(asks: Asks) -> &'static [u8]
+    ensures { result.now ≡ spec.asks_line asks }
 {
-    if www {
-        b"WWW-Authenticate: Basic realm=\"tokend\"\r\n"
-    } else {
-        b""
+    match asks {
+        Asks::Nothing => b"",
+        Asks::Credentials => b"WWW-Authenticate: Basic realm=\"tokend\"\r\n",
+        Asks::Retry => b"Retry-After: 10\r\n",
     }
 }
 
@@ -107,13 +107,13 @@ fn assembled<'a>(
     reason: &'a [u8],
     type_line: &'a [u8],
     len: &'a [u8],
-    challenge: &'a [u8],
+    asks: &'a [u8],
     location: &'a [u8],
     allow: &'a [u8],
     body: &'a [u8],
 ) -> Result<Vec<u8>, AllocError>
     ensures { IfOk result (λ bytes. bytes.items
-        ≡ spec.assembly number.now reason.now type_line.now len.now challenge.now location.now
+        ≡ spec.assembly number.now reason.now type_line.now len.now asks.now location.now
         allow.now body.now) }
 {
     joined(
@@ -128,7 +128,7 @@ fn assembled<'a>(
             b"Content-Length: ",
             len,
             b"\r\nCache-Control: no-store\r\nPragma: no-cache\r\nConnection: close\r\n",
-            challenge,
+            asks,
             location,
             allow,
             b"\r\n",

@@ -12,7 +12,7 @@ ghost use Rattle.tk_edge.specs.Told.{IsFaultOfDevice};
 use crate::answer::{answer_arrival, refuse};
 use crate::device::Sink;
 use crate::edge::Served;
-use crate::front::{Front, hear_front};
+use crate::front::{Front, Taken, hear_front};
 use crate::hear::Arrival;
 use crate::push::{bundle_to_log, take_and_log};
 use crate::put::put_whole;
@@ -37,7 +37,7 @@ pub(crate) fn serve_front_open<L: Sink, W: Sink>(
     log_taken: bool,
     now: Moment,
     words: &[u64; 6],
-) -> Result<Option<(Served, usize)>, Fault>
+) -> Result<Option<(Served, Taken)>, Fault>
     requires { sealed.old ≡ false }
     ensures served { IsFrontServed
         (record {

@@ -2,7 +2,7 @@
 --   served_grows   a connection leaves what the region knew
 --   unread         a connection that wasn't read changes nothing
 --   served_less    a log that is unchanged, by less than the whole of it
-use Rattle.std.proofs.Common.{◌≡◌, ℕ, Bool, true, false, List, Option, Some, None, Result, Ok, Err, inl, inr, refl}
+use Rattle.std.proofs.Common.{ℕ, Bool, true, false, List, Option, Some, None, Result, Ok, Err, inl, inr, refl}
 use Rattle.std.proofs.KnownBytes.{Keeps-refl}
 use Rattle.tk_region.specs.RegionFields.{RegionFields}
 use Rattle.tk_edge.specs.Answers.{fact_by}

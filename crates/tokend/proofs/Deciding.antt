@@ -1,40 +1,44 @@
 -- What is decided of the front of bytes, apart from the replies and records before it. Key results:
 --   front_decides   what serving the front of bytes decides
 --   unread          a connection that ended unread decides nothing
+--   parted          a kept connection that ended behind its last reply decides nothing
 --   short           no memory decides nothing
 --   decision_grows  a decision leaves what the region knew
---   served_ends     a server decides a connection that was served
---   fault_ends      a server decides a connection that ended by a fault
-use Rattle.std.proofs.Common.{◌≡◌, ℕ, ◌+◌, ◌≤◌, Bool, true, false, List, [], ◌++◌, append-nil, length, take, Option, Some, None, Result, Ok, Err, inl, inr, refl, sym, ap, subst, ◌∙◌, arith}
-use Rattle.std.specs.Prelude.{◌⊎◌}
+--   may_stay        a connection stays only behind a request that lets it
+--   served_ends     a server decides a request that was served
+--   fault_ends      a server decides a request that ended by a fault
+use Rattle.std.proofs.Common.{◌≡◌, ℕ, ◌+◌, ◌≤◌, Bool, true, false, List, [], ◌++◌, append-nil, length, take, drop, Option, Some, None, Result, Ok, Err, inl, inr, refl, sym, ap, subst, ◌∙◌, arith}
+use Rattle.std.specs.Prelude.{◌<◌, ◌&&◌}
 use Rattle.std.specs.Io.KnownBytes.{Appends, Keeps}
 use Rattle.std.specs.Prelude.{is_some}
-use Rattle.std.proofs.Math.Seq.{take-append_seam}
-use Rattle.std.proofs.lemmas.List.{append_cancel_left}
+use Rattle.std.proofs.Math.Seq.{drop-append_seam, take-append_seam}
+use Rattle.std.proofs.lemmas.List.{append_cancel_left, length-append}
 use Rattle.rand_chacha.specs.ChaCha.{ChaCha}
 use Rattle.tk_put.specs.Put.{AppendsFront}
-use Rattle.tk_turn.specs.Outcomes.{taken_of}
+use Rattle.tk_turn.specs.Outcomes.{goes_on, taken_of}
 use Rattle.tk_turn.specs.declared.service.Outcome.{Outcome}
 use Rattle.tk_turn.specs.declared.service.Outcome.TheVariants.{Ended}
 use Rattle.tk_message.specs.declared.status_code.StatusCode.{StatusCode}
 use Rattle.tk_edge.specs.EdgeFields.{EdgeFields}
-use Rattle.tk_edge.specs.Fronts.{Follows}
+use Rattle.tk_edge.specs.OpenReply.{IsOpenReply}
 use Rattle.tk_edge.specs.FrontServed.{IsFrontServed, IsFrontTurnedAway, IsServedBy, asked_by}
-use Rattle.tk_edge.specs.Pushes.{IsBegun, LogsAndTells, TakesAndLogs, TellsTaken, bundle_to_log}
+use Rattle.tk_edge.specs.Pushes.{IsBegun, LogsAndTells, TellsTaken, bundle_to_log}
 use Rattle.tk_edge.specs.Served.{Asked, IsServed, IsTurnedAway, RepliesTo, RunsOut, Step, WritesNothing}
 use Rattle.tk_edge.specs.Told.{AnswerFields, Change, IsTold}
 use Rattle.tk_edge.specs.declared.ahead.PushError.{PushError}
 use Rattle.tk_edge.specs.declared.hear.Arrival.{Arrival}
 use Rattle.tk_edge.specs.declared.edge.Served.{Served}
 use Rattle.tk_edge.specs.declared.edge.Served.TheVariants.{Nothing, Done}
+use Rattle.tk_edge.specs.declared.front.Taken.{Taken}
 use Rattle.tk_edge.specs.declared.tell.Fault.{Fault}
 use Rattle.tk_edge.specs.declared.tell.Fault.TheVariants.{Read, Write, Log, Memory}
-use Rattle.tokend.specs.Decisions.{Asking, Decides, Ends, FrontDecides, IsDecided, IsDecision, IsTaken, IsUnread, asked_of, asking_of, gains, outcome_by}
+use Rattle.tokend.specs.Decisions.{Asking, Decides, Ending, Ends, FrontDecides, IsDecided, IsDecision, IsOutcome, IsReplied, IsTaken, IsUnread, MayStay, asked_of, asking_of, ended_if, gains, outcome_by}
 use Rattle.tokend.specs.Draw.{six, past_six}
 use Rattle.tokend.specs.Growing.{Grows}
 use Rattle.tokend.specs.declared.server.Server.{Server}
 use Rattle.tokend.proofs.Connecting.{served_grows, uses_less}
 use Rattle.tokend.proofs.Growing.{grows_same}
+use Rattle.tk_edge.proofs.FrontLaws.{some_taken}
 
 -- ---- what is behind other bytes
 
@@ -205,10 +209,10 @@ same_edge : (old new : EdgeFields) → new.region ≡ old.region → new.sync �
 same_edge old new region sync refuses sealed = λ i. record { region = region i; sync = sync i; refuses_ahead = refuses i; sealed = sealed i }
 
 module _ (asking : Asking) (old new : EdgeFields) (a n c w : List ℕ) (still : Type 0) (unchanged : still → n ≡ a) (sync : new.sync ≡ old.sync) (refuses : new.refuses_ahead ≡ old.refuses_ahead) where
-  abbrev Decided : Result (Option (Served × ℕ)) Fault → Type 0
+  abbrev Decided : Result (Option (Served × Taken)) Fault → Type 0
   Decided result = (reply : List ℕ) × (logged : List ℕ) × (w ≡ c ++ reply) × (n ≡ a ++ logged) × FrontDecides asking old result reply logged new
 
-  abbrev Fronts : Result (Option (Served × ℕ)) Fault → Type 0
+  abbrev Fronts : Result (Option (Served × Taken)) Fault → Type 0
   Fronts result = IsFrontServed (asked_of asking old) asking.bytes asking.over (record { before = old.region; after = new.region }) (memory a n) still (memory c w) new.sealed result
 
   abbrev By : Result Served Fault → Type 0
@@ -228,7 +232,7 @@ module _ (asking : Asking) (old new : EdgeFields) (a n c w : List ℕ) (still : 
         refuses_ahead = refuses;
       }
 
-  unsealed_front : (result : Result (Option (Served × ℕ)) Fault) → old.sealed ≡ false → Fronts result → Decided result
+  unsealed_front : (result : Result (Option (Served × Taken)) Fault) → old.sealed ≡ false → Fronts result → Decided result
   unsealed_front (Ok None) unsealed h = (
     [],
     [],
@@ -252,7 +256,7 @@ module _ (asking : Asking) (old new : EdgeFields) (a n c w : List ℕ) (still : 
         refuses_ahead = refuses;
       }
 
-  shut_front : (result : Result (Option (Served × ℕ)) Fault) → old.sealed ≡ true → (new ≡ old) × still → IsFrontTurnedAway asking.bytes (memory c w) result → Decided result
+  shut_front : (result : Result (Option (Served × Taken)) Fault) → old.sealed ≡ true → (new ≡ old) × still → IsFrontTurnedAway asking.bytes (memory c w) result → Decided result
   shut_front (Ok None) shut same h = absurd h
   shut_front (Ok (Some end)) shut same h =
       let b = away_behind a n c w still new.sealed (Ok end.0) h.1 in
@@ -261,7 +265,7 @@ module _ (asking : Asking) (old new : EdgeFields) (a n c w : List ℕ) (still : 
       let b = away_behind a n c w still new.sealed (Err fault) h in
       (b.0, [], b.1, unchanged same.1 ∙ sym (append-nil a), away (Err fault) shut same h)
 
-  pub front_decides : (result : Result (Option (Served × ℕ)) Fault) → (old.sealed ≡ false → Fronts result) → (old.sealed ≡ true → IsFrontTurnedAway asking.bytes (memory c w) result)
+  pub front_decides : (result : Result (Option (Served × Taken)) Fault) → (old.sealed ≡ false → Fronts result) → (old.sealed ≡ true → IsFrontTurnedAway asking.bytes (memory c w) result)
       → (old.sealed ≡ true → (new ≡ old) × still) → Decided result
   front_decides result opened turned same =
       elim old.sealed as (λ b. old.sealed ≡ b → Decided result) [
@@ -281,7 +285,7 @@ out_of_memory true asked edge unsealed = inl (refl, (refl, refl, unsealed, refl)
 unread_by : (asking : Asking) (edge : EdgeFields) (fault : Fault) → IsUnread fault → IsDecided asking edge (Err fault) [] [] edge
 unread_by asking edge Read h = record {
   served = λ unsealed tail follows. (refl, (refl, refl, unsealed, refl));
-  shut = λ _. (refl, refl, inr refl);
+  shut = λ _. (refl, refl, inr tt);
   sync = refl;
   refuses_ahead = refl;
 }
@@ -294,9 +298,31 @@ unread_by asking edge Memory h = record {
 unread_by asking edge Write h = absurd h
 unread_by asking edge Log h = absurd h
 
-pub unread : (words : List ℕ) (log_taken : Bool) (edge : EdgeFields) (fault : Fault) → IsUnread fault → IsDecision words log_taken edge (Err fault) [] edge
+pub unread : (words : List ℕ) (log_taken : Bool) (edge : EdgeFields) (fault : Fault) → IsUnread fault → IsDecision words log_taken edge (record { end = Err fault; stays = false }) [] edge
 unread words log_taken edge fault h =
-    (0, [], false, [], unread_by (record { words = words; log_taken = log_taken; now = 0; bytes = []; over = false }) edge fault h)
+    (0, [], false, [], unread_by (record { words = words; log_taken = log_taken; now = 0; bytes = []; over = false }) edge fault h, tt)
+
+-- a kept connection ended behind its last reply: nothing more came
+pub parted : (words : List ℕ) (log_taken : Bool) (edge : EdgeFields) → IsDecision words log_taken edge (record { end = Ok Nothing; stays = false }) [] edge
+parted words log_taken edge = (
+  0,
+  [],
+  true,
+  [],
+  record {
+    served = λ unsealed tail follows. (λ bytes is. none_comes bytes tail (follows refl) is, (refl, (refl, refl, unsealed, refl)));
+    shut = λ _. (refl, refl, inr tt);
+    sync = refl;
+    refuses_ahead = refl;
+  },
+  tt,
+)
+  where
+    none_comes : (bytes tail : List ℕ) → tail ≡ [] → Some tail ≡ Some bytes → bytes ≡ []
+    none_comes bytes tail none is = sym (some_inj is) ∙ none
+      where
+        some_inj : Some tail ≡ Some bytes → tail ≡ bytes
+        some_inj e = cc
 
 -- no memory for the reply and the record: nothing is changed
 pub short : (asking : Asking) (edge : EdgeFields) → IsDecided asking edge (Err Memory) [] [] edge
@@ -304,20 +330,20 @@ short asking edge = unread_by asking edge Memory tt
 
 -- ---- what a decision leaves of a region
 
-pub decision_grows : (words : List ℕ) (log_taken : Bool) (old : EdgeFields) (end : Result Served Fault) (logged : List ℕ) (new : EdgeFields) → IsDecision words log_taken old end logged new
+pub decision_grows : (words : List ℕ) (log_taken : Bool) (old : EdgeFields) (ending : Ending) (logged : List ℕ) (new : EdgeFields) → IsDecision words log_taken old ending logged new
     → Grows old.region new.region
-decision_grows words log_taken old end logged new h =
+decision_grows words log_taken old ending logged new h =
     elim old.sealed as (λ b. old.sealed ≡ b → Grows old.region new.region) [
       | true ↦ λ e. subst (λ (n : EdgeFields). Grows old.region n.region) (sym (h.4.shut e).0) (grows_same old.region old.region refl)
       | false ↦ λ e.
           let asking : Asking = record { words = words; log_taken = log_taken; now = h.0; bytes = h.1; over = h.2 } in
-          served_grows (asked_by (asked_of asking old) h.1 []) old.region new.region (gains logged) (logged ≡ []) (gains h.3) new.sealed end (h.4.served e [] (λ _. refl))
+          served_grows (asked_by (asked_of asking old) h.1 []) old.region new.region (gains logged) (logged ≡ []) (gains h.3) new.sealed ending.end (h.4.served e [] (λ _. refl))
     ] refl
 
 -- ---- what a server makes of that
 
 -- what serving the front decided, once the result is known
-pub as_served : (asking : Asking) (old new : EdgeFields) (found : Option (Served × ℕ)) (served : Served) (taken : ℕ) (reply logged : List ℕ) → found ≡ Some (served, taken)
+pub as_served : (asking : Asking) (old new : EdgeFields) (found : Option (Served × Taken)) (served : Served) (taken : Taken) (reply logged : List ℕ) → found ≡ Some (served, taken)
     → FrontDecides asking old (Ok found) reply logged new → FrontDecides asking old (Ok (Some (served, taken))) reply logged new
 as_served asking old new found served taken reply logged is h = subst (λ o. FrontDecides asking old (Ok o) reply logged new) is h
 
@@ -330,24 +356,62 @@ pub front_stays : (old reply all : List ℕ) (mark : ℕ) → all ≡ old ++ rep
 front_stays old reply all mark is at =
     ap (take mark) is ∙ ap (λ n. take n (old ++ reply)) at ∙ take-append_seam old reply ∙ sym (append-nil old)
 
-taken_within : (asking : Asking) (old : EdgeFields) (taken : ℕ) → IsTaken asking old taken → taken ≤ length asking.bytes
+-- the place where a reply begins is within the replies
+pub front_within : (old reply all : List ℕ) (mark : ℕ) → all ≡ old ++ reply → mark ≡ length old → mark ≤ length all
+front_within old reply all mark is at = omega (arith, ap length is, length-append old reply, at)
+
+taken_within : (asking : Asking) (old : EdgeFields) (taken : Taken) → IsTaken asking old taken → taken.size ≤ length asking.bytes
 taken_within asking old taken h =
-    elim old.sealed as (λ b. old.sealed ≡ b → taken ≤ length asking.bytes) [
-      | true ↦ λ e. omega (arith, h.1 e)
+    elim old.sealed as (λ b. old.sealed ≡ b → taken.size ≤ length asking.bytes) [
+      | true ↦ λ e. omega (arith, ap (λ (t : Taken). t.size) (h.1 e))
       | false ↦ λ e. (h.0 e).1.within
     ] refl
 
-pub outcome_within : (asking : Asking) (old : EdgeFields) (served : Served) (taken : ℕ) (outcome : Outcome) → IsTaken asking old taken → outcome ≡ outcome_by served taken
-    → taken_of outcome ≤ length asking.bytes
-outcome_within asking old Nothing taken outcome h is = subst (λ o. taken_of o ≤ length asking.bytes) (sym is) (omega arith)
-outcome_within asking old (Done status) taken outcome h is = subst (λ o. taken_of o ≤ length asking.bytes) (sym is) (taken_within asking old taken h)
+taken_some : (asking : Asking) (old : EdgeFields) (taken : Taken) → IsTaken asking old taken → taken.stays ≡ true → 0 < taken.size
+taken_some asking old taken h stays =
+    elim old.sealed as (λ b. old.sealed ≡ b → 0 < taken.size) [
+      | true ↦ λ e. absurd (clash (sym stays ∙ ap (λ (t : Taken). t.stays) (h.1 e)))
+      | false ↦ λ e. let come = h.0 e in some_taken old.sync asking.bytes come.0 taken come.1.takes stays
+    ] refl
 
-pub ends_decides : (old : Server) (bytes : List ℕ) (over : Bool) (served : Served) (taken : ℕ) (outcome : Outcome) (replied logged : List ℕ) (new : Server) → outcome ≡ outcome_by served taken
+pub outcome_within : (asking : Asking) (old : EdgeFields) (keeps : Bool) (served : Served) (taken : Taken) (outcome : Outcome) → IsTaken asking old taken → outcome ≡ outcome_by keeps served taken
+    → taken_of outcome ≤ length asking.bytes
+outcome_within asking old keeps Nothing taken outcome h is = subst (λ o. taken_of o ≤ length asking.bytes) (sym is) (omega arith)
+outcome_within asking old keeps (Done status) taken outcome h is = subst (λ o. taken_of o ≤ length asking.bytes) (sym is) (taken_within asking old taken h)
+
+both_true : (a b : Bool) → (a && b) ≡ true → b ≡ true
+both_true true b e = e
+both_true false b e = absurd (clash (sym e))
+
+pub outcome_some : (asking : Asking) (old : EdgeFields) (keeps : Bool) (served : Served) (taken : Taken) (outcome : Outcome) → IsTaken asking old taken → outcome ≡ outcome_by keeps served taken
+    → goes_on outcome ≡ true → 0 < taken_of outcome
+outcome_some asking old keeps Nothing taken outcome h is on = absurd (clash (sym on ∙ ap goes_on is))
+outcome_some asking old keeps (Done status) taken outcome h is on =
+    subst (λ o. 0 < taken_of o) (sym is) (taken_some asking old taken h (both_true keeps taken.stays (sym (ap goes_on is) ∙ on)))
+
+pub ends_decides : (old : Server) (bytes : List ℕ) (over keeps : Bool) (served : Served) (taken : Taken) (outcome : Outcome) (replied logged : List ℕ) (new : Server) → outcome ≡ outcome_by keeps served taken
     → Ends old bytes over outcome replied logged new → Decides old bytes over outcome replied logged new
-ends_decides old bytes over Nothing taken outcome replied logged new is h =
+ends_decides old bytes over keeps Nothing taken outcome replied logged new is h =
     subst (λ o. Decides old bytes over o replied logged new) (sym is) (subst (λ o. Ends old bytes over o replied logged new) is h)
-ends_decides old bytes over (Done status) taken outcome replied logged new is h =
+ends_decides old bytes over keeps (Done status) taken outcome replied logged new is h =
     subst (λ o. Decides old bytes over o replied logged new) (sym is) (subst (λ o. Ends old bytes over o replied logged new) is h)
+
+-- a connection stays only behind a request that lets it
+pub may_stay : (keeps : Bool) (end : Result Served Fault) (asking : Asking) (old : EdgeFields) (outcome : Outcome) → IsOutcome keeps end asking old outcome → MayStay asking old (goes_on outcome)
+may_stay keeps (Err fault) asking old outcome is = subst (λ o. MayStay asking old (goes_on o)) (sym is) tt
+may_stay keeps (Ok Nothing) asking old outcome h = subst (λ o. MayStay asking old (goes_on o)) (sym h.2) tt
+may_stay keeps (Ok (Done status)) asking old outcome h =
+    subst (λ o. MayStay asking old (goes_on o)) (sym h.2)
+    (elim (keeps && h.0.stays) as (λ b. (keeps && h.0.stays) ≡ b → MayStay asking old b) [
+      | true ↦ λ e. (h.0, h.1, both_true keeps h.0.stays e)
+      | false ↦ λ e. tt
+    ] refl)
+
+-- no connection stays unless connections are kept
+pub none_stays : (keeps : Bool) (end : Result Served Fault) (asking : Asking) (old : EdgeFields) (outcome : Outcome) → IsOutcome keeps end asking old outcome → keeps ≡ false → goes_on outcome ≡ false
+none_stays keeps (Err fault) asking old outcome is off = ap goes_on is
+none_stays keeps (Ok Nothing) asking old outcome h off = ap goes_on h.2
+none_stays keeps (Ok (Done status)) asking old outcome h off = ap goes_on h.2 ∙ ap (λ b. b && h.0.stays) off
 
 -- the server that moved on, by its steps
 pub has_moved : (old mid new : Server) (next : ChaCha) (left : ℕ) (fault : Option Fault) → mid ≡ record old { edge = mid.edge } → new ≡ record mid { words = next; left = left; fault = fault }
@@ -356,14 +420,15 @@ has_moved old mid new next left fault one two words =
     let alloc = ap (λ (s : Server). s.alloc) two ∙ ap (λ (s : Server). s.alloc) one in
     let drawn = ap (λ (s : Server). s.words) two ∙ words in
     let logs = ap (λ (s : Server). s.log_taken) two ∙ ap (λ (s : Server). s.log_taken) one in
+    let keeps = ap (λ (s : Server). s.keeps) two ∙ ap (λ (s : Server). s.keeps) one in
     let now = ap (λ (s : Server). s.now) two ∙ ap (λ (s : Server). s.now) one in
     let many = ap (λ (s : Server). s.left) two in
     let told = ap (λ (s : Server). s.fault) two in
-    λ i. record { alloc = alloc i; edge = new.edge; words = drawn i; log_taken = logs i; now = now i; left = many i; fault = told i }
+    λ i. record { alloc = alloc i; edge = new.edge; words = drawn i; log_taken = logs i; keeps = keeps i; now = now i; left = many i; fault = told i }
 
 module _ (old mid new : Server) (bytes : List ℕ) (over : Bool) (next : ChaCha) (left : ℕ) (words : List ℕ) (reply logged : List ℕ)
     (untold : old.fault ≡ None) (six_words : words ≡ six old.words) (past_words : next ≡ past_six old.words)
-    (counted : old.left ≡ left + 1) (one : mid ≡ record old { edge = mid.edge }) where
+    (one : mid ≡ record old { edge = mid.edge }) where
   abbrev asking : Asking
   asking = record { words = words; log_taken = old.log_taken; now = old.now; bytes = bytes; over = over }
 
@@ -372,25 +437,26 @@ module _ (old mid new : Server) (bytes : List ℕ) (over : Bool) (next : ChaCha)
       subst (λ e. IsDecided (asking_of old bytes over) old.edge end reply logged e) (sym edge)
       (subst (λ w. IsDecided (record { words = w; log_taken = old.log_taken; now = old.now; bytes = bytes; over = over }) old.edge end reply logged mid.edge) six_words h)
 
-  -- the connection was served
-  pub served_ends : (served : Served) (taken : ℕ) (outcome : Outcome) → FrontDecides asking old.edge (Ok (Some (served, taken))) reply logged mid.edge
-      → new ≡ record mid { words = next; left = left; fault = None } → outcome ≡ outcome_by served taken → Decides old bytes over outcome reply logged new
-  served_ends served taken outcome h two is = ends_decides old bytes over served taken outcome reply logged new is (record {
+  -- the request was served
+  pub served_ends : (served : Served) (taken : Taken) (outcome : Outcome) (sent : List ℕ) → FrontDecides asking old.edge (Ok (Some (served, taken))) reply logged mid.edge
+      → new ≡ record mid { words = next; left = left; fault = None } → outcome ≡ outcome_by old.keeps served taken → IsReplied (goes_on outcome) reply sent
+      → old.left ≡ left + ended_if (goes_on outcome) → Decides old bytes over outcome sent logged new
+  served_ends served taken outcome sent h two is replied counted = ends_decides old bytes over old.keeps served taken outcome sent logged new is (record {
     end = Ok served;
     reply = reply;
     told = untold;
     decided = as_asked (Ok served) (ap (λ (s : Server). s.edge) two) h.1;
     is_outcome = (taken, h.0, is);
-    is_sent = refl;
+    is_sent = replied;
     left = left;
     counted = counted;
     moved = has_moved old mid new next left None one two past_words;
   })
 
-  -- the connection ended by a fault
+  -- the request ended by a fault
   pub fault_ends : (fault : Fault) → FrontDecides asking old.edge (Err fault) reply logged mid.edge → new ≡ record mid { words = next; left = left; fault = Some fault }
-      → Decides old bytes over Ended [] logged new
-  fault_ends fault h two = record {
+      → old.left ≡ left + 1 → Decides old bytes over Ended [] logged new
+  fault_ends fault h two counted = record {
     end = Err fault;
     reply = reply;
     told = untold;
@@ -401,3 +467,16 @@ module _ (old mid new : Server) (bytes : List ℕ) (over : Bool) (next : ChaCha)
     counted = counted;
     moved = has_moved old mid new next left (Some fault) one two past_words;
   }
+
+-- a reply as it is sent over a connection that stays, behind others
+pub replied_over : (front reply all new without : List ℕ) (mark : ℕ) (stays : Bool) → stays ≡ true → all ≡ front ++ reply → mark ≡ length front
+    → IsOpenReply (drop mark all) without → new ≡ take mark all ++ without → (sent : List ℕ) × IsReplied stays reply sent × (new ≡ front ++ sent)
+replied_over front reply all new without mark stays on is at said replaced =
+    let rest : drop mark all ≡ reply = ap (drop mark) is ∙ ap (λ n. drop n (front ++ reply)) at ∙ drop-append_seam front reply in
+    let first : take mark all ≡ front = ap (take mark) is ∙ ap (λ n. take n (front ++ reply)) at ∙ take-append_seam front reply in
+    let open_reply : IsReplied true reply without = subst (λ l. IsOpenReply l without) rest said in
+    (without, subst (λ b. IsReplied b reply without) (sym on) open_reply, replaced ∙ ap (λ l. l ++ without) first)
+
+-- a reply as it is sent over a connection that ends, behind others
+pub replied_same : (front reply all : List ℕ) (stays : Bool) → stays ≡ false → all ≡ front ++ reply → (sent : List ℕ) × IsReplied stays reply sent × (all ≡ front ++ sent)
+replied_same front reply all stays off is = (reply, subst (λ b. IsReplied b reply reply) (sym off) refl, is)

@@ -59,7 +59,7 @@ use Rattle.tk_edge.specs.declared.hear.Arrival.{Arrival}
 use Rattle.tk_edge.specs.declared.hear.Arrival.TheVariants.{Silence, Refused, Request, Exchange}
 use Rattle.tk_edge.specs.declared.tell.Fault.{Fault}
 use Rattle.tk_edge.specs.declared.tell.Fault.TheVariants.{Read, Write, Log, Memory}
-use Rattle.tokend.specs.Decisions.{Asking, IsDecision, asked_of, gains}
+use Rattle.tokend.specs.Decisions.{Asking, Ending, IsDecision, asked_of, gains}
 use Rattle.tokend.specs.Draw.{past_six, six}
 use Rattle.tokend.specs.KeptLog.{AreCalm, AreLogged, HasLogged, IsCalm, IsFresh, IsNotRefused, IsTorn, LogKeepsAll, LogLoads}
 use Rattle.tokend.specs.Loading.{AreBundles, BeginsWith, IsNoBundle, IsRefused, Loads, TakesEach, TakesFront, log_bytes}
@@ -380,13 +380,13 @@ turns_stay words old [] new same e = ap (λ (r : Running). r.edge.sealed) same �
 turns_stay words old (ends ∷ turns) new h e =
     turns_stay (past_each words ends) h.1 turns new h.4 (ap (λ (x : EdgeFields). x.sealed) (edge_stays h.0 h.1 h.3) ∙ turn_stays words old ends h.0 h.2 e)
 
-decision_adds : (words : List ℕ) (old : EdgeFields) (end : Result Served Fault) (logged : List ℕ) (new : EdgeFields) → IsDecision words true old end logged new
-    → old.sealed ≡ false → new.sealed ≡ false → Grows end (Some []) (Some logged) old.region.facts new.region.facts
+decision_adds : (words : List ℕ) (old : EdgeFields) (end : Ending) (logged : List ℕ) (new : EdgeFields) → IsDecision words true old end logged new
+    → old.sealed ≡ false → new.sealed ≡ false → Grows end.end (Some []) (Some logged) old.region.facts new.region.facts
 decision_adds words old end logged new h open_old open_new =
     let asking : Asking = record { words = words; log_taken = true; now = h.0; bytes = h.1; over = h.2 } in
     let asked : Asked = asked_by (asked_of asking old) h.1 [] in
-    served (Some []) (Some logged) old.region new.region asked refl (logged ≡ []) (gains h.3) end
-    (subst (λ b. IsServed asked (record { before = old.region; after = new.region }) (gains logged) (logged ≡ []) (gains h.3) b end) open_new (h.4.served open_old [] (λ _. refl)))
+    served (Some []) (Some logged) old.region new.region asked refl (logged ≡ []) (gains h.3) end.end
+    (subst (λ b. IsServed asked (record { before = old.region; after = new.region }) (gains logged) (logged ≡ []) (gains h.3) b end.end) open_new (h.4.served open_old [] (λ _. refl)))
 
 -- ---- connections, one after the other
 
@@ -399,8 +399,8 @@ abbrev with_each : Slots → List BundleFields → Slots
 with_each L [] = L
 with_each L (b ∷ more) = with_each (with_slots L b.items) more
 
--- the bundles say how a store became another, over connections with these results
-record Through (ends : List (Result Served Fault)) (F G : StoreFields) (bundles : List BundleFields) : Type 0 where
+-- the bundles say how a store became another, over requests that ended so
+record Through (ends : Endings) (F G : StoreFields) (bundles : List BundleFields) : Type 0 where
   fit : AreBundles bundles
   from : (U : Slots) → EachBelow U bundles → (d : Dot) → IsFrom (map.get U d) (map.get F.slots d) (map.get G.slots d)
   late : (u : ℕ) → NoneLater bundles u → G.horizon ≤ max F.horizon u
@@ -423,7 +423,7 @@ late_twice : (f m g u : ℕ) → g ≤ max m u → m ≤ max f u → g ≤ max f
 late_twice f m g u h k = omega (arith, h, k)
 
 -- a connection that left the store as it was, before others
-after_same : (end : Result Served Fault) (ends : List (Result Served Fault)) (F M G : StoreFields) (bundles : List BundleFields) → IsSame F M → Through ends M G bundles → Through (end ∷ ends) F G bundles
+after_same : (end : Ending) (ends : Endings) (F M G : StoreFields) (bundles : List BundleFields) → IsSame F M → Through ends M G bundles → Through (end ∷ ends) F G bundles
 after_same end ends F M G bundles same rest = record {
   fit = rest.fit;
   from = λ U each d. subst (λ o. IsFrom (map.get U d) o (map.get G.slots d)) (same.slots d) (rest.from U each d);
@@ -433,7 +433,7 @@ after_same end ends F M G bundles same rest = record {
 }
 
 -- a connection whose bundle was logged, before others
-after_bundle : (end : Result Served Fault) (ends : List (Result Served Fault)) (F M G : StoreFields) (b : BundleFields) (bundles : List BundleFields) → Brings end F M b → Through ends M G bundles
+after_bundle : (end : Ending) (ends : Endings) (F M G : StoreFields) (b : BundleFields) (bundles : List BundleFields) → Brings end.end F M b → Through ends M G bundles
     → SlotsBelow M.slots G.slots → Through (end ∷ ends) F G (b ∷ bundles)
 after_bundle end ends F M G b bundles brings rest grown = record {
   fit = (brings.fits, rest.fit);
@@ -453,7 +453,7 @@ one_log l m e = cc
 abbrev Logs : Endings → List ℕ → StoreFields → StoreFields → Type 0
 Logs ends records F G = (bundles : List BundleFields) × (records ≡ log_bytes bundles) × Through ends F G bundles
 
-more_logged : (end : Result Served Fault) (ends : Endings) (first rest : List ℕ) (F M G : StoreFields) → Grows end (Some []) (Some first) F M → SlotsBelow M.slots G.slots
+more_logged : (end : Ending) (ends : Endings) (first rest : List ℕ) (F M G : StoreFields) → Grows end.end (Some []) (Some first) F M → SlotsBelow M.slots G.slots
     → Logs ends rest M G → Logs (end ∷ ends) (first ++ rest) F G
 more_logged end ends first rest F M G (inl h) grown more = (more.0, ap (λ x. x ++ rest) h.0 ∙ more.1, after_same end ends F M G more.0 h.1 more.2)
 more_logged end ends first rest F M G (inr h) grown more = (

@@ -7,15 +7,13 @@ use Rattle.tk_store.specs.StoreFields.{empty_store}
 use Rattle.tk_bundle.specs.BundleFields.{BundleFields}
 use Rattle.tk_region.specs.RegionFields.{RegionFields}
 use Rattle.tk_edge.specs.EdgeFields.{EdgeFields}
-use Rattle.tk_edge.specs.declared.edge.Served.{Served}
-use Rattle.tk_edge.specs.declared.tell.Fault.{Fault as EdgeFault}
 use Rattle.tokend.specs.Draw.{past_six}
 use Rattle.tokend.specs.KeptLog.{AreLogged, AreOld, HasLogged, IsLog, IsTorn, KnowsLogs, ServiceLogs}
 use Rattle.tokend.specs.Loading.{AreBundles, Loads, TakesEach, TakesFront}
 use Rattle.tokend.specs.ServiceRun.{with_region}
 use Rattle.tokend.specs.Starting.{IsEmptyLog, IsToldAs, LoadsFile, LoadsOld, PrunesOld, edge_of}
 use Rattle.tokend.specs.Telling.{Writing}
-use Rattle.tokend.specs.Turns.{AreDecisions, AreTurns, Endings, IsKept, IsLost, IsTurn, Running, ServesLogged, past_each}
+use Rattle.tokend.specs.Turns.{AreDecisions, AreTurns, Endings, IsKept, IsLost, IsTurn, Running, ServesLogged, keeps_in, past_each}
 use Rattle.tokend.specs.declared.fault.Fault.{Fault}
 use Rattle.tokend.specs.declared.load.LoadFault.{LoadFault}
 use Rattle.tokend.specs.declared.load.LoadFault.TheVariants as load
@@ -105,17 +103,17 @@ module _ {L : Type 0} (kept : List ℕ → Option (List ℕ)) (holds : L → Opt
   Written name olds start end faults = (bytes : List ℕ) × IsLog holds opens name bytes
       × ((logged : HasLogged olds end bytes) × (logged.start ≡ start) × (logged.faults ≡ faults.before) × (logged.told ≡ faults.after))
 
-  written : {A : Type 0} (name : Option (String A)) (refuses : Bool) (words : ChaCha) (requests : Option ℕ) (first full start : RegionFields) (moment count : Option ℕ) (end : EdgeFields) (faults : Writing) (olds : List BundleFields)
+  written : {A : Type 0} (name : Option (String A)) (refuses keeps : Bool) (words : ChaCha) (requests : Option ℕ) (first full start : RegionFields) (moment count : Option ℕ) (end : EdgeFields) (faults : Writing) (olds : List BundleFields)
       → first.facts ≡ empty_store → AreBundles olds → TakesEach first olds full → PrunesOld moment full (Ok count) start → IsSome name → KnowsLogs holds → end.sealed ≡ false
-      → ServesLogged holds opens name words requests true (record { start = edge_of refuses start; end = end; faults = faults }) → Written name olds start end.region faults
-  written None refuses words requests first full start moment count end faults olds empty fit brought prunes some knows unsealed h = absurd (cc)
-  written (Some name) refuses words requests first full start moment count end faults olds empty fit brought prunes some knows unsealed h =
+      → ServesLogged holds opens name words requests keeps true (record { start = edge_of refuses start; end = end; faults = faults }) → Written name olds start end.region faults
+  written None refuses keeps words requests first full start moment count end faults olds empty fit brought prunes some knows unsealed h = absurd (cc)
+  written (Some name) refuses keeps words requests first full start moment count end faults olds empty fit brought prunes some knows unsealed h =
       let opened = h.0 in
       let closed = h.1 in
       let connections = h.4 in
       let bytes = knows closed in
       let before = known_empty (holds opened) (knows opened).0 (knows opened).1 h.3 in
-      let ends_at = as_edge refuses end (sync_stays words true _ connections.0 _ connections.2) (refusing_stays words true _ connections.0 _ connections.2) unsealed in (
+      let ends_at = as_edge refuses end (sync_stays words true _ connections.0 _ connections.3) (refusing_stays words true _ connections.0 _ connections.3) unsealed in (
         bytes.0,
         (opened, closed, h.2, before, bytes.1),
         (
@@ -136,7 +134,7 @@ module _ {L : Type 0} (kept : List ℕ → Option (List ℕ)) (holds : L → Opt
             told = faults.after;
             served = subst (λ (e : EdgeFields). AreTurns words true (record { edge = edge_of refuses start; log = Some []; faults = faults.before }) connections.0 (record { edge = e; log = Some bytes.0; faults = faults.after })) ends_at
                 (subst (λ o. AreTurns words true (record { edge = edge_of refuses start; log = Some []; faults = faults.before }) connections.0 (record { edge = end; log = o; faults = faults.after })) bytes.1
-                (subst (λ o. AreTurns words true (record { edge = edge_of refuses start; log = o; faults = faults.before }) connections.0 (record { edge = end; log = holds closed; faults = faults.after })) before connections.2));
+                (subst (λ o. AreTurns words true (record { edge = edge_of refuses start; log = o; faults = faults.before }) connections.0 (record { edge = end; log = holds closed; faults = faults.after })) before connections.3));
           },
           refl,
           refl,
@@ -150,8 +148,8 @@ module _ {L : Type 0} (kept : List ℕ → Option (List ℕ)) (holds : L → Opt
       let edge_is = ran.start.0 in
       let old = from_old kept service.load ran.edge.region run.region run.dropped run.loaded in
       let started : with_region (with_region ran.edge run.region) run.opened.region ≡ edge_of service.refuses_ahead run.opened.region = ap (λ (e : EdgeFields). with_region (with_region e run.region) run.opened.region) edge_is in
-      let w = written service.log service.refuses_ahead ran.words service.requests ran.edge.region run.region run.opened.region service.prune run.opened.pruned run.opened.end faults old.0
+      let w = written service.log service.refuses_ahead (keeps_in service.keep) ran.words service.requests ran.edge.region run.region run.opened.region service.prune run.opened.pruned run.opened.end faults old.0
       (ap (λ (e : EdgeFields). e.region.facts) edge_is) old.1 old.2 run.opened.prunes some knows unsealed
-      (subst (λ t. ServesLogged holds opens service.log ran.words service.requests t (record { start = edge_of service.refuses_ahead run.opened.region; end = run.opened.end; faults = faults })) taken
-      (subst (λ (e : EdgeFields). ServesLogged holds opens service.log ran.words service.requests service.log_taken (record { start = e; end = run.opened.end; faults = faults })) started run.opened.served)) in
+      (subst (λ t. ServesLogged holds opens service.log ran.words service.requests (keeps_in service.keep) t (record { start = edge_of service.refuses_ahead run.opened.region; end = run.opened.end; faults = faults })) taken
+      (subst (λ (e : EdgeFields). ServesLogged holds opens service.log ran.words service.requests (keeps_in service.keep) service.log_taken (record { start = e; end = run.opened.end; faults = faults })) started run.opened.served)) in
       record { olds = old.0; bytes = w.0; old = old.3; log = w.1; logged = w.2.0; begun = w.2.1; told = (w.2.2, w.2.3) }

@@ -18,7 +18,7 @@ use Rattle.tokend.specs.Telling.{Writing}
 use Rattle.tokend.proofs.Runs.{begun_less}
 use Rattle.tokend.specs.declared.fault.Fault.{Fault}
 use Rattle.tokend.specs.declared.fault.Fault.TheVariants.{BadLine, BadLogFile, BadSeedFile, CannotListen, CannotOpen, CannotRead, CannotReadFile, Facts, Memory, Output, ScriptTooLong, SocketFailed, Words}
-use Rattle.tokend.specs.Turns.{Course, ServesLogged, ServesWith}
+use Rattle.tokend.specs.Turns.{Course, ServesLogged, ServesWith, keeps_in}
 use Rattle.tokend.specs.declared.options.Service.{Service}
 
 listen_fault : (service : Service) (fault : Fault) → IsListenFault fault → IsStartFault service fault
@@ -42,15 +42,15 @@ listen_faults service (Err fault) h = listen_fault service fault h
 
 module _ {L : Type 0} (kept : List ℕ → Option (List ℕ)) (holds : L → Option (List ℕ)) (opens : List ℕ → L → Type 0) where
   -- connections that were served without a log
-  pub without_log : {A T : Type 0} (name : Option (String A)) (words : ChaCha) (requests : Option ℕ) (log_taken : Bool) (s : Course) (r : Result T Fault) → name ≡ None
-      → OnOk r (ServesWith words requests log_taken s (record { before = None; after = None })) → OnOk r (ServesLogged holds opens name words requests log_taken s)
-  without_log None words requests log_taken s (Ok x) none h = h
-  without_log (Some name) words requests log_taken s (Ok x) none h = absurd (cc)
-  without_log name words requests log_taken s (Err fault) none h = tt
+  pub without_log : {A T : Type 0} (name : Option (String A)) (words : ChaCha) (requests : Option ℕ) (keeps log_taken : Bool) (s : Course) (r : Result T Fault) → name ≡ None
+      → OnOk r (ServesWith words requests keeps log_taken s (record { before = None; after = None })) → OnOk r (ServesLogged holds opens name words requests keeps log_taken s)
+  without_log None words requests keeps log_taken s (Ok x) none h = h
+  without_log (Some name) words requests keeps log_taken s (Ok x) none h = absurd (cc)
+  without_log name words requests keeps log_taken s (Err fault) none h = tt
 
   pub has_opened : {T : Type 0} (service : Service) (dropped : ℕ) (start : EdgeFields) (words : ChaCha) (pruned : Option ℕ) (region : RegionFields) (end : EdgeFields) (output : Change) (faults : Writing) (r : Result T Fault)
       → PrunesOld service.prune start.region (Ok pruned) region → OnOk r (Announces (record { dropped = dropped; pruned = pruned }) service.port output.before output.after)
-      → OnOk r (ServesLogged holds opens service.log words service.requests service.log_taken (record { start = with_region start region; end = end; faults = faults }))
+      → OnOk r (ServesLogged holds opens service.log words service.requests (keeps_in service.keep) service.log_taken (record { start = with_region start region; end = end; faults = faults }))
       → OnOk r (HasOpened holds opens service dropped start words output faults)
   has_opened service dropped start words pruned region end output faults (Ok x) prunes announced served =
       record { pruned = pruned; region = region; prunes = prunes; announced = announced; end = end; served = served }

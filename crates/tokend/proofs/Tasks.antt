@@ -18,8 +18,9 @@ use Rattle.clap.specs.declared.error.Error.{Error}
 use Rattle.clap.specs.declared.error.kind.ErrorKind.TheVariants as kind
 use Rattle.tk_handle.specs.Ranges.{greatest_region}
 use Rattle.tk_region.specs.SettingsFields.{greatest_code, greatest_access, greatest_refresh, greatest_family, greatest_cap}
-use Rattle.tokend.specs.CommandLine.{HasCheck, HasFlag, HasNumber, HasNumbers, HasService, greatest_port, is_given, is_misnamed, refusal_named, tokend_app}
-use Rattle.tokend.specs.Task.{Asks, IsFactsTask, IsNoCheck, IsNoService, IsNoTask, IsRefusalOf, IsTask, lacks_log, misnames_ahead, missing_kind}
+use Rattle.tokend.specs.CommandLine.{HasCheck, HasFlag, HasNumber, HasNumbers, HasService, greatest_port, is_given, refusal_named, tokend_app}
+use Rattle.tokend.specs.Choices.{IsNoChoice}
+use Rattle.tokend.specs.Task.{Asks, IsFactsTask, IsNoCheck, IsNoService, IsNoTask, IsRefusalOf, IsTask, has_misnamed, lacks_log, misnames_word, missing_kind}
 use Rattle.tokend.specs.declared.options.Numbers.{Numbers}
 use Rattle.tokend.specs.declared.options.Service.{Service}
 use Rattle.tokend.specs.declared.options.Task.{Task}
@@ -221,6 +222,17 @@ without_refusal rows none service h =
     let both : None ≡ Some service.refuses_ahead = none ∙ h.ahead in
     absurd (cc)
 
+pub without_choices : (rows : List Row) → IsNoChoice rows → IsNoService rows
+without_choices rows (inl none) service h =
+    let both : None ≡ Some service.choices.unseen = sym none ∙ h.choices.unseen in
+    absurd (cc)
+without_choices rows (inr (inl none)) service h =
+    let both : None ≡ Some service.choices.consent = sym none ∙ h.choices.consent in
+    absurd (cc)
+without_choices rows (inr (inr none)) service h =
+    let both : None ≡ Some service.choices.redirects = sym none ∙ h.choices.redirects in
+    absurd (cc)
+
 -- bundles taken in are to be logged without a log
 pub without_log : (rows : List Row) (flag : Bool) (log : Option (List ℕ)) → HasFlag rows (codes "log-taken") flag → flag ≡ true
     → first_of (codes "log") rows ≡ log → log ≡ None → IsNoService rows
@@ -250,12 +262,12 @@ text_missing f id text at = same text ∙ ap (λ o. not (is_some o)) (at ∙ fir
 pub by_text : {A : Type 0} (g : Option Text → A) (f : Found) (id : Text) (text : Option Text) → text ≡ first_value f id → g text ≡ g (first_of id (rows_of f))
 by_text g f id text at = ap g (at ∙ first_value-rows f id)
 
--- the subcommand has another value of `--ahead`, and its rows are the ones found
+-- the subcommand has an option with none of its words, and its rows are the ones found
 pub misnamed_given : (found : Option (Text × List Row)) (rows : List Row) (result : Bool) → option_map (λ p. p.1) found ≡ Some rows
-    → result ≡ is_misnamed (first_of (codes "ahead") rows) → result ≡ misnames_ahead found
+    → result ≡ has_misnamed rows → result ≡ misnames_word found
 misnamed_given None rows result at is = absurd (cc)
 misnamed_given (Some (name, others)) rows result at is =
-    is ∙ ap (λ r. is_misnamed (first_of (codes "ahead") r)) (one_rows (Some (name, others)) rows others name at refl)
+    is ∙ ap has_misnamed (one_rows (Some (name, others)) rows others name at refl)
 
 -- the flag of an option's text
 pub flag_given : (f : Found) (id text : Text) (flag : Bool) → Some text ≡ first_value f id → flag ≡ bytes_eq text (codes "true") → HasFlag (rows_of f) id flag

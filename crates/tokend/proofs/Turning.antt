@@ -3,17 +3,17 @@
 --   goes_at         another moment
 --   goes_both       one after the other
 --   goes_unread     a connection ended unread
+--   goes_parted     a kept connection ended behind its last reply
 --   goes_unsent     a client didn't take its reply
 --   goes_kept       the requests of a turn were decided, and their records kept
 --   goes_lost       the requests of a turn were decided, and the log failed
 --   turns_grow      turns leave what the region knew
-use Rattle.std.proofs.Common.{◌≡◌, ◌≢◌, ℕ, ◌+◌, Bool, true, false, List, [], ◌∷◌, ◌++◌, append-nil, append_assoc, length, Option, Some, None, Result, Ok, Err, inl, inr, refl, sym, ap, subst, ◌∙◌, arith}
-use Rattle.std.specs.Prelude.{◌⊎◌, ◌<◌, get_or, set, MatchResult}
-use Rattle.std.specs.Io.KnownBytes.{Appends}
+use Rattle.std.proofs.Common.{◌≡◌, ℕ, ◌+◌, Bool, false, List, [], ◌∷◌, ◌++◌, append-nil, append_assoc, length, Option, Some, None, Result, Ok, Err, inl, inr, refl, sym, ap, subst, ◌∙◌, arith}
+use Rattle.std.specs.Prelude.{◌⊎◌, set}
 use Rattle.std.proofs.KnownBytes.{Appends-nil}
 use Rattle.std.proofs.lemmas.List.{length-append}
 use Rattle.rand_chacha.specs.ChaCha.{ChaCha}
-use Rattle.tk_put.specs.Put.{AppendsFront}
+use Rattle.tk_turn.specs.Outcomes.{goes_on}
 use Rattle.tk_turn.specs.declared.service.Outcome.{Outcome}
 use Rattle.tk_turn.specs.declared.service.Outcome.TheVariants.{More, Decided, Ended}
 use Rattle.tk_turn.specs.Links.{LinkFields}
@@ -22,16 +22,17 @@ use Rattle.tk_turn.specs.Turns.{AreDecidedAt, MayDecide, LogChange, State}
 use Rattle.tk_turn.specs.Turns as turn
 use Rattle.tk_edge.specs.EdgeFields.{EdgeFields}
 use Rattle.tk_edge.specs.declared.edge.Served.{Served}
+use Rattle.tk_edge.specs.declared.edge.Served.TheVariants.{Nothing}
 use Rattle.tk_edge.specs.declared.tell.Fault.{Fault}
 use Rattle.tk_edge.specs.declared.tell.Fault.TheVariants.{Write, Log}
-use Rattle.tokend.specs.Decisions.{Decides, Ends, IsUnread, Seals, Waits, fault_of}
+use Rattle.tokend.specs.Decisions.{Decides, Ends, IsUnread, Seals, asking_of, ended_if, fault_of}
 use Rattle.tokend.specs.Draw.{six, past_six}
 use Rattle.tokend.specs.Growing.{Grows}
 use Rattle.tokend.specs.Serving.{connection_fault}
 use Rattle.tokend.specs.Telling.{Writer, Writes}
-use Rattle.tokend.specs.Turns.{AreDecisions, AreTold, AreTurns, Endings, Goes, IsKept, IsLost, IsTurn, MayLackReply, Running, Site, Told, ToldOf, all_ends, past_each, running}
+use Rattle.tokend.specs.Turns.{AreDecisions, AreTold, AreTurns, Endings, Goes, IsKept, IsLost, IsTurn, MayLackReply, Running, Site, ToldOf, all_ends, connections_in, past_each, running}
 use Rattle.tokend.specs.declared.server.Server.{Server}
-use Rattle.tokend.proofs.Deciding.{decision_grows, unread}
+use Rattle.tokend.proofs.Deciding.{decision_grows, may_stay, none_stays, parted, unread}
 use Rattle.tokend.proofs.Growing.{grows_same, grows_twice}
 
 -- ---- lists of endings
@@ -57,6 +58,14 @@ decisions_both words log_taken old (x ∷ xs) first mid ys rest new h k = (
   decisions_both (past_six words) log_taken h.0 xs h.2 mid ys rest new h.5 k,
 )
 
+connections_both : (xs ys : Endings) → connections_in (xs ++ ys) ≡ connections_in xs + connections_in ys
+connections_both [] ys = omega arith
+connections_both (x ∷ xs) ys = omega (arith, connections_both xs ys)
+
+-- if each of these connections ended behind its first request, and each of those did, all did
+closes_both : (xs ys : Endings) → connections_in xs ≡ length xs → connections_in ys ≡ length ys → connections_in (xs ++ ys) ≡ length (xs ++ ys)
+closes_both xs ys h k = omega (arith, connections_both xs ys, length-append xs ys, h, k)
+
 told_both : (xs ys : Endings) (old mid new : Writer) → AreTold xs old mid → AreTold ys mid new → AreTold (xs ++ ys) old new
 told_both [] ys old mid new h k = subst (λ o. AreTold ys o new) h k
 told_both (x ∷ xs) ys old mid new h k = (h.0, h.1, told_both xs ys h.0 mid new h.2 k)
@@ -75,22 +84,28 @@ turns_both words log_taken old (x ∷ xs) mid ys new h k = (
 -- ---- what a server does, one after the other
 
 pub goes_nowhere : (site : Site) → Goes site site
-goes_nowhere site = record { turns = []; served = refl; words = refl; counted = omega arith; log_taken = refl; fault = refl }
+goes_nowhere site =
+    record { turns = []; served = refl; words = refl; counted = omega arith; closes = λ _. refl; keeps = refl; log_taken = refl; fault = refl }
 
 -- the moment at which requests are decided changes nothing else
 pub goes_at : (site : Site) (now : ℕ) → Goes site (record { server = record site.server { now = now }; log = site.log; faults = site.faults })
-goes_at site now = record { turns = []; served = refl; words = refl; counted = omega arith; log_taken = refl; fault = refl }
+goes_at site now =
+    record { turns = []; served = refl; words = refl; counted = omega arith; closes = λ _. refl; keeps = refl; log_taken = refl; fault = refl }
 
 pub goes_both : (old mid new : Site) → Goes old mid → Goes mid new → Goes old new
 goes_both old mid new h k =
     let all : all_ends (h.turns ++ k.turns) ≡ all_ends h.turns ++ all_ends k.turns = all_both h.turns k.turns in
-    let many : length (all_ends (h.turns ++ k.turns)) ≡ length (all_ends h.turns) + length (all_ends k.turns) = ap length all ∙ length-append (all_ends h.turns) (all_ends k.turns) in
+    let many : connections_in (all_ends (h.turns ++ k.turns)) ≡ connections_in (all_ends h.turns) + connections_in (all_ends k.turns) =
+    ap connections_in all ∙ connections_both (all_ends h.turns) (all_ends k.turns) in
     record {
       turns = h.turns ++ k.turns;
       served = turns_both old.server.words old.server.log_taken (running old) h.turns (running mid) k.turns (running new) h.served
           (subst (λ w. AreTurns w old.server.log_taken (running mid) k.turns (running new)) h.words (subst (λ t. AreTurns mid.server.words t (running mid) k.turns (running new)) h.log_taken k.served));
       words = k.words ∙ ap (λ w. past_each w (all_ends k.turns)) h.words ∙ sym (past_both old.server.words (all_ends h.turns) (all_ends k.turns)) ∙ ap (past_each old.server.words) (sym all);
       counted = omega (arith, h.counted, k.counted, many);
+      closes = λ off. subst (λ l. connections_in l ≡ length l) (sym all)
+          (closes_both (all_ends h.turns) (all_ends k.turns) (h.closes off) (k.closes (h.keeps ∙ off)));
+      keeps = k.keeps ∙ h.keeps;
       log_taken = k.log_taken ∙ h.log_taken;
       fault = k.fault ∙ h.fault;
     }
@@ -100,7 +115,7 @@ pub goes_unread : (fault : Fault) (old : Server) (words : ChaCha) (left : ℕ) (
     → Writes before after (connection_fault fault)
     → Goes (record { server = old; log = log; faults = before }) (record { server = record old { words = words; left = left }; log = log; faults = after })
 goes_unread fault old words left log before after is drawn counted told = record {
-  turns = (Err fault ∷ []) ∷ [];
+  turns = (record { end = Err fault; stays = false } ∷ []) ∷ [];
   served =
       let then : Running = record { edge = old.edge; log = log; faults = after } in (
         then,
@@ -118,6 +133,37 @@ goes_unread fault old words left log before after is drawn counted told = record
       );
   words = drawn;
   counted = omega (arith, counted);
+  closes = λ _. refl;
+  keeps = refl;
+  log_taken = refl;
+  fault = refl;
+}
+
+-- a kept connection ended behind its last reply: the server has the words behind, and one connection
+-- less
+pub goes_parted : (old : Server) (words : ChaCha) (left : ℕ) (log : Option (List ℕ)) (faults : Writer) → words ≡ past_six old.words → old.left ≡ left + 1
+    → Goes (record { server = old; log = log; faults = faults }) (record { server = record old { words = words; left = left }; log = log; faults = faults })
+goes_parted old words left log faults drawn counted = record {
+  turns = (record { end = Ok Nothing; stays = false } ∷ []) ∷ [];
+  served =
+      let then : Running = record { edge = old.edge; log = log; faults = faults } in (
+        then,
+        then,
+        record {
+          edge = old.edge;
+          records = [];
+          told = faults;
+          decided = (old.edge, [], [], parted (six old.words) old.log_taken old.edge, refl, (refl, refl));
+          lines = (faults, refl, refl);
+          log = inl (record { log = Appends-nil log; edge = refl; faults = refl });
+        },
+        inl refl,
+        refl,
+      );
+  words = drawn;
+  counted = omega (arith, counted);
+  closes = λ _. refl;
+  keeps = refl;
   log_taken = refl;
   fault = refl;
 }
@@ -143,19 +189,23 @@ goes_unsent server log before after told = record {
       );
   words = refl;
   counted = omega arith;
+  closes = λ _. refl;
+  keeps = refl;
   log_taken = refl;
   fault = refl;
 }
 
 -- ---- the decisions of a turn
 
--- Connections were decided, one after the other. Only the last one may have a fault, and its line
+-- Requests were decided, one after the other. Only the last one may have a fault, and its line
 -- tells it.
 record Went (old : Server) (logged : List ℕ) (new : Server) : Type 0 where
   ends : Endings
   decided : AreDecisions old.words old.log_taken old.edge ends logged new.edge
   words : new.words ≡ past_each old.words ends
-  counted : old.left ≡ length ends + new.left
+  counted : old.left ≡ connections_in ends + new.left
+  closes : old.keeps ≡ false → connections_in ends ≡ length ends
+  keeps : new.keeps ≡ old.keeps
   log_taken : new.log_taken ≡ old.log_taken
   lines : old.fault ≡ None → (before after : Writer) → ToldOf new.fault before after → AreTold ends before after
   stuck : (old.fault ≡ None → ⊥) → (ends ≡ []) × (new ≡ old)
@@ -166,6 +216,8 @@ went_nowhere old logged new same none = record {
   decided = (ap (λ s. s.edge) same, none);
   words = ap (λ s. s.words) same;
   counted = omega (arith, ap (λ s. s.left) same);
+  closes = λ _. refl;
+  keeps = ap (λ s. s.keeps) same;
   log_taken = ap (λ s. s.log_taken) same;
   lines = λ told before after h. subst (λ o. ToldOf o before after) (ap (λ s. s.fault) same ∙ told) h;
   stuck = λ _. (refl, same);
@@ -187,13 +239,15 @@ lines_both old mid new logged more h k told before after t =
 
 went_both : (old mid new : Server) (logged more : List ℕ) → Went old logged mid → Went mid more new → Went old (logged ++ more) new
 went_both old mid new logged more h k =
-    let many = length-append h.ends k.ends in
+    let many = connections_both h.ends k.ends in
     record {
       ends = h.ends ++ k.ends;
       decided = decisions_both old.words old.log_taken old.edge h.ends logged mid.edge k.ends more new.edge h.decided
           (subst (λ w. AreDecisions w old.log_taken mid.edge k.ends more new.edge) h.words (subst (λ t. AreDecisions mid.words t mid.edge k.ends more new.edge) h.log_taken k.decided));
       words = k.words ∙ ap (λ w. past_each w k.ends) h.words ∙ sym (past_both old.words h.ends k.ends);
       counted = omega (arith, h.counted, k.counted, many);
+      closes = λ off. closes_both h.ends k.ends (h.closes off) (k.closes (h.keeps ∙ off));
+      keeps = k.keeps ∙ h.keeps;
       log_taken = k.log_taken ∙ h.log_taken;
       lines = lines_both old mid new logged more h k;
       stuck = λ s.
@@ -202,18 +256,30 @@ went_both old mid new logged more h k =
           (subst (λ l. l ++ k.ends ≡ []) (sym one.0) two.0, two.1 ∙ one.1);
     }
 
-one_told : (end : Result Served Fault) (before after : Writer) → ToldOf (fault_of end) before after → AreTold (end ∷ []) before after
-one_told (Ok served) before after h = (before, refl, h)
-one_told (Err fault) before after h = (after, h, refl)
+one_told : (end : Result Served Fault) (stays : Bool) (before after : Writer) → ToldOf (fault_of end) before after → AreTold (record { end = end; stays = stays } ∷ []) before after
+one_told (Ok served) stays before after h = (before, refl, h)
+one_told (Err fault) stays before after h = (after, h, refl)
+
+one_ended : (stays : Bool) → stays ≡ false → ended_if stays + 0 ≡ 1
+one_ended stays off = ap (λ b. ended_if b + 0) off
 
 went_end : (old : Server) (bytes : List ℕ) (over : Bool) (outcome : Outcome) (replied logged : List ℕ) (new : Server) → Ends old bytes over outcome replied logged new → Went old logged new
 went_end old bytes over outcome replied logged new h = record {
-  ends = h.end ∷ [];
-  decided = (new.edge, logged, [], (old.now, bytes, over, h.reply, h.decided), sym (append-nil logged), (refl, refl));
+  ends = record { end = h.end; stays = goes_on outcome } ∷ [];
+  decided = (
+    new.edge,
+    logged,
+    [],
+    (old.now, bytes, over, h.reply, h.decided, may_stay old.keeps h.end (asking_of old bytes over) old.edge outcome h.is_outcome),
+    sym (append-nil logged),
+    (refl, refl),
+  );
   words = ap (λ s. s.words) h.moved;
   counted = omega (arith, h.counted, ap (λ s. s.left) h.moved);
+  closes = λ off. one_ended (goes_on outcome) (none_stays old.keeps h.end (asking_of old bytes over) old.edge outcome h.is_outcome off);
+  keeps = ap (λ s. s.keeps) h.moved;
   log_taken = ap (λ s. s.log_taken) h.moved;
-  lines = λ told before after t. one_told h.end before after (subst (λ o. ToldOf o before after) (ap (λ s. s.fault) h.moved) t);
+  lines = λ told before after t. one_told h.end (goes_on outcome) before after (subst (λ o. ToldOf o before after) (ap (λ s. s.fault) h.moved) t);
   stuck = λ s. absurd (s h.told);
 }
 
@@ -261,12 +327,12 @@ module _ (places : List ℕ) (old new : State Server) (log : LogChange) (before 
 
   -- a turn by what it decided, and what became of its records
   gone : (mid : Server) (logged : List ℕ) → Went old.service logged mid → old.service.fault ≡ None → ToldOf mid.fault before told
-      → new.service.words ≡ mid.words → new.service.left ≡ mid.left → new.service.log_taken ≡ mid.log_taken
+      → new.service.words ≡ mid.words → new.service.left ≡ mid.left → new.service.keeps ≡ mid.keeps → new.service.log_taken ≡ mid.log_taken
       → IsKept (record { edge = old.service.edge; log = log.before; faults = before }) mid.edge logged told then
       ⊎ IsLost (record { edge = old.service.edge; log = log.before; faults = before }) mid.edge logged told then → Gone
-  gone mid logged went untold lines words left log_taken became =
+  gone mid logged went untold lines words left keeps log_taken became =
       let all : went.ends ++ [] ≡ went.ends = append-nil went.ends in
-      let many : length (went.ends ++ []) ≡ length went.ends = ap length all in
+      let many : connections_in (went.ends ++ []) ≡ connections_in went.ends = ap connections_in all in
       record {
         turns = went.ends ∷ [];
         served = (
@@ -285,6 +351,8 @@ module _ (places : List ℕ) (old new : State Server) (log : LogChange) (before 
         );
         words = words ∙ went.words ∙ sym (ap (past_each old.service.words) all);
         counted = omega (arith, went.counted, left, many);
+        closes = λ off. subst (λ l. connections_in l ≡ length l) (sym all) (went.closes off);
+        keeps = keeps ∙ went.keeps;
         log_taken = log_taken ∙ went.log_taken;
         fault = sym untold;
       }
@@ -295,7 +363,7 @@ module _ (places : List ℕ) (old new : State Server) (log : LogChange) (before 
   goes_kept mid logged decided kept untold lines same =
       gone mid.service logged (went_at places old.service old.links mid.service mid.links logged decided) untold
       (subst (λ (x : Server). ToldOf x.fault before told) kept.service lines)
-      (ap (λ (x : Server). x.words) kept.service) (ap (λ (x : Server). x.left) kept.service) (ap (λ (x : Server). x.log_taken) kept.service)
+      (ap (λ (x : Server). x.words) kept.service) (ap (λ (x : Server). x.left) kept.service) (ap (λ (x : Server). x.keeps) kept.service) (ap (λ (x : Server). x.log_taken) kept.service)
       (inl (record { log = kept.appended; edge = ap (λ (x : Server). x.edge) kept.service; faults = same }))
 
   -- the log failed
@@ -304,7 +372,7 @@ module _ (places : List ℕ) (old new : State Server) (log : LogChange) (before 
   goes_lost mid logged decided lost untold lines line =
       gone mid.service logged (went_at places old.service old.links mid.service mid.links logged decided) untold
       (subst (λ o. ToldOf o before told) (ap (λ (x : Server). x.fault) lost.service) lines)
-      (ap (λ (x : Server). x.words) lost.service) (ap (λ (x : Server). x.left) lost.service) (ap (λ (x : Server). x.log_taken) lost.service)
+      (ap (λ (x : Server). x.words) lost.service) (ap (λ (x : Server). x.left) lost.service) (ap (λ (x : Server). x.keeps) lost.service) (ap (λ (x : Server). x.log_taken) lost.service)
       (inr (record { some = lost.some; log = lost.appended; edge = ap (λ (x : Server). x.edge) lost.service; faults = line }))
 
 -- ---- what turns leave of a region

@@ -19,6 +19,7 @@ use Rattle.tk_store.specs.StoreFields.{empty_store, held_facts}
 use Rattle.tk_region.specs.RegionFields.{RegionFields}
 use Rattle.tk_region.specs.SettingsFields.{SettingsFields, greatest_access, greatest_cap}
 use Rattle.tk_region.specs.SettingsFields.{greatest_code, greatest_family, greatest_refresh}
+use Rattle.tk_message.specs.Choices.{profile_choices}
 use Rattle.tokend.specs.FactsRun.{IsBadSource, IsUnreadSource, TellsDropped, known_of, with_cut}
 use Rattle.tokend.specs.Loading.{Loads}
 use Rattle.tokend.specs.Telling.{Writing}
@@ -92,6 +93,7 @@ greatest_settings =
       refresh = greatest_refresh;
       family = greatest_family;
       cap = greatest_cap;
+      choices = profile_choices;
     }
 
 -- all sources are loaded, into a region of the check's number without facts

@@ -68,6 +68,8 @@ use Rattle.tk_region.specs.SettingsFields.{
 use Rattle.tk_handle.specs.Ranges.{greatest_moment, greatest_region}
 use Rattle.clap.specs.declared.builder.action.ArgAction.TheVariants as action
 use Rattle.clap.specs.declared.builder.value_parser.ValueParser.TheVariants as parser
+use Rattle.tk_message.specs.Choices.{profile_choices}
+use Rattle.tokend.specs.Choices.{HasChoices}
 use Rattle.tokend.specs.declared.command_line.Takes.{Takes}
 use Rattle.tokend.specs.declared.command_line.Takes.TheVariants as takes
 use Rattle.tokend.specs.declared.options.Check.{Check}
@@ -82,6 +84,10 @@ greatest_port = 65535
 -- the greatest number of connections to serve
 abbrev pub greatest_requests : ℕ
 greatest_requests = 4294967295
+
+-- the greatest number of seconds for which a connection stays open between its requests
+abbrev pub greatest_keep : ℕ
+greatest_keep = 3600
 
 -- the option `--id N`, with a number from 1 to the greatest and a default
 abbrev pub number_rule : Text → Text → ℕ → Rule
@@ -122,6 +128,7 @@ flag_rule id = record (new_rule id) { long = Some id; action = Some action.SetTr
 abbrev pub choice_rule : Text → Takes → Rule
 choice_rule id takes.Nothing = flag_rule id
 choice_rule id (takes.File is_wanted) = file_rule id is_wanted
+choice_rule id takes.List = file_rule id false
 choice_rule id (takes.Word default) = word_rule id default.now
 choice_rule id (takes.Range least greatest is_wanted) = range_rule id least greatest is_wanted
 choice_rule id (takes.Number greatest default) = number_rule id default.now greatest
@@ -151,7 +158,9 @@ loopback_app = with_rules (new_app (codes "loopback")) setting_rules
 
 -- the options of a service: the region's number, the port and the seed, which are required; the
 -- log, whether it gets bundles taken in, the old log, the moment of a prune, what is done with
--- bundles that are ahead, and the number of connections, which aren't
+-- bundles that are ahead, who may revoke tokens that are not seen, what is done if a consent is
+-- given again, the kinds of redirection URIs, the number of connections, and how long they are
+-- kept, which aren't
 abbrev pub service_rules : List Rule
 service_rules =
     range_rule (codes "region") 1 greatest_region true
@@ -162,7 +171,11 @@ service_rules =
     ∷ file_rule (codes "load") false
     ∷ range_rule (codes "prune") 0 greatest_moment false
     ∷ word_rule (codes "ahead") (codes "taken")
+    ∷ word_rule (codes "revoke-unseen") (codes "any")
+    ∷ word_rule (codes "consent") (codes "new")
+    ∷ file_rule (codes "redirects") false
     ∷ range_rule (codes "requests") 0 greatest_requests false
+    ∷ range_rule (codes "keep") 0 greatest_keep false
     ∷ []
 
 -- the subcommand `serve`
@@ -249,8 +262,8 @@ pub record HasNumbers (rows : List Row) (n : Numbers) : Type 0 where
   pub cap : HasNumber rows (codes "cap") 1 greatest_cap n.cap
 
 -- the rows have this service: the settings, each number in its range, the names of files, whether
--- the log gets bundles taken in, for which there is a log, and whether bundles that are ahead are
--- refused
+-- the log gets bundles taken in, for which there is a log, whether bundles that are ahead are
+-- refused, and the choices
 pub record HasService (rows : List Row) (s : Service) : Type 0 where
   pub numbers : HasNumbers rows s.numbers
   pub region : HasNumber rows (codes "region") 1 greatest_region s.region
@@ -258,6 +271,8 @@ pub record HasService (rows : List Row) (s : Service) : Type 0 where
   pub requests : IfSome s.requests (HasNumber rows (codes "requests") 0 greatest_requests)
   pub endless : IfNone s.requests ((n : ℕ)
       → ¬ (HasNumber rows (codes "requests") 0 greatest_requests n))
+  pub keep : IfSome s.keep (HasNumber rows (codes "keep") 0 greatest_keep)
+  pub unkept : IfNone s.keep ((n : ℕ) → ¬ (HasNumber rows (codes "keep") 0 greatest_keep n))
   pub seed : HasText rows (codes "seed") (Some s.seed)
   pub log : HasText rows (codes "log") s.log
   pub load : HasText rows (codes "load") s.load
@@ -267,6 +282,7 @@ pub record HasService (rows : List Row) (s : Service) : Type 0 where
   pub log_taken : HasFlag rows (codes "log-taken") s.log_taken
   pub logged : s.log_taken ≡ true → IsSome s.log
   pub ahead : refusal_named (first_of (codes "ahead") rows) ≡ Some s.refuses_ahead
+  pub choices : HasChoices rows s.choices
 
 -- the rows have these names of sources
 abbrev pub HasSources : List Row → Sources → Type 0
@@ -278,7 +294,18 @@ pub record HasCheck (rows : List Row) (c : Check) : Type 0 where
   pub sources : HasSources rows c.sources
   pub region : HasNumber rows (codes "region") 1 greatest_region c.region
 
--- the settings of these numbers
+-- the settings of these numbers, with the profile's choices
 abbrev pub settings_of : Numbers → SettingsFields
 settings_of n =
-    record { code = n.code; access = n.access; refresh = n.refresh; family = n.family; cap = n.cap }
+    record {
+      code = n.code;
+      access = n.access;
+      refresh = n.refresh;
+      family = n.family;
+      cap = n.cap;
+      choices = profile_choices;
+    }
+
+-- the settings of a service, with its choices
+abbrev pub chosen_settings : Service → SettingsFields
+chosen_settings service = record (settings_of service.numbers) { choices = service.choices }

@@ -1,23 +1,27 @@
 -- What a server decides of the bytes that have come over its connections (own).
 --   IsDecided      what is decided of these bytes, at a moment
+--   Ending         how a request ended, and whether its connection stays open
 --   IsDecision     what is decided of some bytes that have come, and the record of it
 --   FrontDecides   what serving the front of bytes decides
 --   Decides        what a server decides of the bytes of a connection
 --   Seals          a server whose log has failed is sealed
--- Throughout, `words` are the six random words of a connection, `log_taken` is whether bundles taken
--- in are logged, and `end` is how the connection ended.
-use Rattle.std.specs.Prelude.{◌≡◌, ◌≢◌, ◌⊎◌, ⊤, ℕ, ◌+◌, Bool, true, false, List, [], Option, Some, None}
-use Rattle.std.specs.Prelude.{Result, Ok, Err, length}
+-- Throughout, `words` are the six random words of a request, `log_taken` is whether bundles taken in
+-- are logged, and `end` is how the request ended.
+use Rattle.std.specs.Prelude.{◌≡◌, ◌≢◌, ◌⊎◌, ⊤, ℕ, ◌+◌, ◌&&◌, Bool, true, false, List, [], length}
+use Rattle.std.specs.Prelude.{Option, Some, None, Result, Ok, Err}
 use Rattle.tk_edge.specs.EdgeFields.{EdgeFields}
 use Rattle.tk_edge.specs.Fronts.{HasCome, IsPartial}
 use Rattle.tk_edge.specs.FrontServed.{IsServedBy}
+use Rattle.tk_edge.specs.OpenReply.{IsOpenReply}
 use Rattle.tk_edge.specs.Served.{Asked, IsTurnedAway}
 use Rattle.tk_edge.specs.Told.{Change}
 use Rattle.tk_edge.specs.declared.edge.Served.{Served}
 use Rattle.tk_edge.specs.declared.hear.Arrival.{Arrival}
 use Rattle.tk_edge.specs.declared.edge.Served.TheVariants.{Nothing, Done}
+use Rattle.tk_edge.specs.declared.front.Taken.{Taken}
 use Rattle.tk_edge.specs.declared.tell.Fault.{Fault}
 use Rattle.tk_edge.specs.declared.tell.Fault.TheVariants.{Read, Memory}
+use Rattle.tk_turn.specs.Outcomes.{goes_on}
 use Rattle.tk_turn.specs.declared.service.Outcome.{Outcome}
 use Rattle.tk_turn.specs.declared.service.Outcome.TheVariants.{More, Decided, Ended}
 use Rattle.tokend.specs.Draw.{six, past_six}
@@ -46,8 +50,14 @@ asked_of asking edge = record {
   words = asking.words;
 }
 
+-- a connection ended without a request: it couldn't be read, or nothing more came
+abbrev pub IsUnheard : Result Served Fault → Type 0
+IsUnheard (Err Read) = ⊤
+IsUnheard (Ok Nothing) = ⊤
+IsUnheard end = ⊥
+
 -- What is decided of bytes that have come: an edge that isn't sealed serves them, whatever follows
--- them. A sealed edge stays as it is, and turns them away. Or the connection ended unread.
+-- them. A sealed edge stays as it is, and turns them away. Or the connection ended without them.
 pub record IsDecided (asking : Asking) (old : EdgeFields) (end : Result Served Fault)
     (reply logged : List ℕ) (new : EdgeFields) : Type 0 where
   pub served : old.sealed ≡ false
@@ -55,14 +65,31 @@ pub record IsDecided (asking : Asking) (old : EdgeFields) (end : Result Served F
       (record { before = old.region; after = new.region }) (gains logged) (logged ≡ [])
       (gains reply) new.sealed end
   pub shut : old.sealed ≡ true
-      → (new ≡ old) × (logged ≡ []) × (IsTurnedAway (gains reply) end ⊎ (end ≡ Err Read))
+      → (new ≡ old) × (logged ≡ []) × (IsTurnedAway (gains reply) end ⊎ IsUnheard end)
   pub sync : new.sync ≡ old.sync
   pub refuses_ahead : new.refuses_ahead ≡ old.refuses_ahead
 
+-- what was taken of the bytes that have come: those of one request and no more, or all by a sealed
+-- edge, whose connections end
+abbrev pub IsTaken : Asking → EdgeFields → Taken → Type 0
+IsTaken asking old taken =
+    (old.sealed ≡ false
+    → (came : Arrival) × HasCome old.sync asking.bytes asking.over came taken)
+    × (old.sealed ≡ true → taken ≡ record { size = length asking.bytes; stays = false })
+
+-- How a request ended, and whether its connection stays open behind the reply.
+pub record Ending : Type 0 where
+  pub end : Result Served Fault
+  pub stays : Bool
+
+-- a connection stays only behind a request that lets it (RFC 9112, 9.3)
+abbrev pub MayStay : Asking → EdgeFields → Bool → Type 0
+MayStay asking old false = ⊤
+MayStay asking old true = (taken : Taken) × IsTaken asking old taken × (taken.stays ≡ true)
+
 -- what is decided of some bytes that have come, at some moment, with its record
-abbrev pub IsDecision : List ℕ → Bool → EdgeFields → Result Served Fault → List ℕ → EdgeFields
-    → Type 0
-IsDecision words log_taken old end logged new =
+abbrev pub IsDecision : List ℕ → Bool → EdgeFields → Ending → List ℕ → EdgeFields → Type 0
+IsDecision words log_taken old ending logged new =
     (now : ℕ) × (bytes : List ℕ) × (over : Bool) × (reply : List ℕ)
     × IsDecided (record {
       words = words;
@@ -70,19 +97,18 @@ IsDecision words log_taken old end logged new =
       now = now;
       bytes = bytes;
       over = over;
-    }) old end reply logged new
-
--- how many bytes were taken of those that have come: those of one request and no more, or all by a
--- sealed edge
-abbrev pub IsTaken : Asking → EdgeFields → ℕ → Type 0
-IsTaken asking old taken =
-    (old.sealed ≡ false
-    → (came : Arrival) × HasCome old.sync asking.bytes asking.over came taken)
-    × (old.sealed ≡ true → taken ≡ length asking.bytes)
+    }) old ending.end reply logged new
+    × MayStay (record {
+      words = words;
+      log_taken = log_taken;
+      now = now;
+      bytes = bytes;
+      over = over;
+    }) old ending.stays
 
 -- what serving the front of bytes decides: nothing, as no request is whole, or how the connection
 -- ended
-abbrev pub FrontDecides : Asking → EdgeFields → Result (Option (Served × ℕ)) Fault → List ℕ
+abbrev pub FrontDecides : Asking → EdgeFields → Result (Option (Served × Taken)) Fault → List ℕ
     → List ℕ → EdgeFields → Type 0
 FrontDecides asking old (Ok None) reply logged new =
     (old.sealed ≡ false) × IsPartial old.sync asking.bytes asking.over
@@ -92,16 +118,17 @@ FrontDecides asking old (Ok (Some end)) reply logged new =
 FrontDecides asking old (Err fault) reply logged new =
     IsDecided asking old (Err fault) reply logged new
 
--- what is made of a connection that was served: no further request is read of it
-abbrev pub outcome_by : Served → ℕ → Outcome
-outcome_by Nothing taken = Ended
-outcome_by (Done status) taken = Decided taken false
+-- what is made of a connection that was served: a further request is read of it only if connections
+-- are kept and its request lets it stay
+abbrev pub outcome_by : Bool → Served → Taken → Outcome
+outcome_by keeps Nothing taken = Ended
+outcome_by keeps (Done status) taken = Decided taken.size (keeps && taken.stays)
 
--- what is made of a connection that ended so
-abbrev pub IsOutcome : Result Served Fault → Asking → EdgeFields → Outcome → Type 0
-IsOutcome (Ok served) asking old outcome =
-    (taken : ℕ) × IsTaken asking old taken × (outcome ≡ outcome_by served taken)
-IsOutcome (Err fault) asking old outcome = outcome ≡ Ended
+-- what is made of a connection whose request ended so
+abbrev pub IsOutcome : Bool → Result Served Fault → Asking → EdgeFields → Outcome → Type 0
+IsOutcome keeps (Ok served) asking old outcome =
+    (taken : Taken) × IsTaken asking old taken × (outcome ≡ outcome_by keeps served taken)
+IsOutcome keeps (Err fault) asking old outcome = outcome ≡ Ended
 
 -- the faults of a connection that ended before its request was whole
 abbrev pub IsUnread : Fault → Type 0
@@ -109,17 +136,28 @@ IsUnread Read = ⊤
 IsUnread Memory = ⊤
 IsUnread fault = ⊥
 
+-- a reply as it is sent: over a connection that stays it doesn't say that the connection ends
+abbrev pub IsReplied : Bool → List ℕ → List ℕ → Type 0
+IsReplied false reply sent = sent ≡ reply
+IsReplied true reply sent = IsOpenReply reply sent
+
 -- what may be sent of a reply: a fault leaves nothing of it
-abbrev pub sent_of : Result Served Fault → List ℕ → List ℕ
-sent_of (Ok served) reply = reply
-sent_of (Err fault) reply = []
+abbrev pub IsSent : Bool → Result Served Fault → List ℕ → List ℕ → Type 0
+IsSent stays (Ok served) reply sent = IsReplied stays reply sent
+IsSent stays (Err fault) reply sent = sent ≡ []
+
+-- how many connections end
+abbrev pub ended_if : Bool → ℕ
+ended_if true = 0
+ended_if false = 1
 
 -- the fault of a connection, if any
 abbrev pub fault_of : Result Served Fault → Option Fault
 fault_of (Ok served) = None
 fault_of (Err fault) = Some fault
 
--- a server after a connection that ended so: one less is left, and the next has the next words
+-- a server after a request that ended so: so many connections are left, and the next request has
+-- the next words
 abbrev pub moved_on : Server → Result Served Fault → EdgeFields → ℕ → Server
 moved_on old end edge left = record old {
   edge = edge;
@@ -138,17 +176,17 @@ asking_of server bytes over = record {
   over = over;
 }
 
--- a server decides how the connection ended
+-- a server decides how the request ended, and whether its connection did
 pub record Ends (old : Server) (bytes : List ℕ) (over : Bool) (outcome : Outcome)
     (replied logged : List ℕ) (new : Server) : Type 0 where
   pub end : Result Served Fault
   pub reply : List ℕ
   pub told : old.fault ≡ None
   pub decided : IsDecided (asking_of old bytes over) old.edge end reply logged new.edge
-  pub is_outcome : IsOutcome end (asking_of old bytes over) old.edge outcome
-  pub is_sent : replied ≡ sent_of end reply
+  pub is_outcome : IsOutcome old.keeps end (asking_of old bytes over) old.edge outcome
+  pub is_sent : IsSent (goes_on outcome) end reply replied
   pub left : ℕ
-  pub counted : old.left ≡ left + 1
+  pub counted : old.left ≡ left + ended_if (goes_on outcome)
   pub moved : new ≡ moved_on old end new.edge left
 
 -- a server decides nothing: no request is whole, no connection is left to be served, or a fault

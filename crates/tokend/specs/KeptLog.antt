@@ -113,7 +113,7 @@ IsCalm other = ⊤
 -- no connection ran out of memory
 abbrev pub AreCalm : Endings → Type 0
 AreCalm [] = Unit {0}
-AreCalm (end ∷ ends) = IsCalm end × AreCalm ends
+AreCalm (end ∷ ends) = IsCalm end.end × AreCalm ends
 
 -- no fact that the region knows is under this number
 abbrev pub IsFresh : ℕ → RegionFields → Type 0

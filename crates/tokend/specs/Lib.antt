@@ -1,5 +1,7 @@
 -- The definitions of this crate:
 --   CommandLine   tokend_app, the command line as clap's contracts see it
+--   Choices       HasChoices, what a service does if the profile leaves a choice
+--   Kinds         kinds_named, the kinds of redirection URIs by the words of an option
 --   Task          Asks, the task that the arguments request
 --   Draw          six, the random words of a connection
 --   Telling       Writes, what lines about faults leave of their writer
@@ -23,6 +25,8 @@
 --   CheckRun      ChecksFacts, what checking whether sources can be loaded does
 --   ProgramRun    IsDone, IsFaultFor: what a run of the program does
 pub mod CommandLine
+pub mod Choices
+pub mod Kinds
 pub mod Task
 pub mod Draw
 pub mod Telling

@@ -8,7 +8,7 @@ use Rattle.rand_chacha.specs.ChaCha.{ChaCha}
 use Rattle.tk_edge.specs.EdgeFields.{EdgeFields}
 use Rattle.tk_edge.specs.Told.{Change}
 use Rattle.tk_region.specs.RegionFields.{RegionFields}
-use Rattle.tokend.specs.Turns.{ServesLogged}
+use Rattle.tokend.specs.Turns.{ServesLogged, keeps_in}
 use Rattle.tokend.specs.Serving.{Announces}
 use Rattle.tokend.specs.Starting.{IsStart, LoadsOld, PrunesOld}
 use Rattle.tokend.specs.Telling.{Writing}
@@ -36,7 +36,8 @@ pub record HasOpened {L : Type 0} (holds : L → Option (List ℕ)) (opens : Lis
   pub announced : Announces (record { dropped = dropped; pruned = pruned }) service.port
       output.before output.after
   pub end : EdgeFields
-  pub served : ServesLogged holds opens service.log words service.requests service.log_taken
+  pub served : ServesLogged holds opens service.log words service.requests (keeps_in service.keep)
+      service.log_taken
       (record { start = with_region start region; end = end; faults = faults })
 
 -- the old log was loaded, and the service opened with the region that came of it

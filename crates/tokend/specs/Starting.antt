@@ -33,7 +33,7 @@ use Rattle.rand_chacha.specs.ChaCha.{ChaCha, key_of}
 use Rattle.tk_ledger.specs.Retention.{Prunes}
 use Rattle.tk_region.specs.RegionFields.{RegionFields}
 use Rattle.tk_edge.specs.EdgeFields.{EdgeFields}
-use Rattle.tokend.specs.CommandLine.{settings_of}
+use Rattle.tokend.specs.CommandLine.{chosen_settings}
 use Rattle.tokend.specs.Loading.{Loads}
 use Rattle.tokend.specs.Status.{IsUnread}
 use Rattle.tokend.specs.declared.fault.Fault.{Fault}
@@ -42,10 +42,10 @@ use Rattle.tokend.specs.declared.load.LoadFault.{LoadFault}
 use Rattle.tokend.specs.declared.load.LoadFault.TheVariants.{Malformed, Refused, Memory, Read}
 use Rattle.tokend.specs.declared.options.Service.{Service}
 
--- the region of the service's number and settings, without facts
+-- the region of the service's number, settings and choices, without facts
 abbrev pub first_region : Service → RegionFields
 first_region service =
-    record { number = service.region; settings = settings_of service.numbers; facts = empty_store }
+    record { number = service.region; settings = chosen_settings service; facts = empty_store }
 
 -- an edge over which regions exchange facts, and that isn't sealed; the flag is whether it refuses
 -- pushed bundles that are ahead

@@ -7,15 +7,15 @@
 --   IsFactsTask     the values of `facts` are those of this task
 --   IsNoCheck       a check is requested, and the values are no check's
 --   lacks_log       bundles taken in are to be logged without a log
---   misnames_ahead  `--ahead` has neither of its two values
+--   misnames_word   an option has none of its words
 --   missing_kind    the kind of the fault of arguments that name no task
 --   Asks            the arguments request this task
 --   AsksToServe     the arguments request a service
 --   AsksToShow      the arguments request help or the version
 --   IsRefusalOf     the kind of a fault in the arguments
 --   IsNoText        the fault of arguments that aren't UTF-8
-use Rattle.std.specs.Prelude.{◌≡◌, ◌≢◌, ◌⊎◌, ⊤, Bool, false, true, ◌&&◌, not, List, [], Option}
-use Rattle.std.specs.Prelude.{Some, None, codes, is_some, if◌then◌else◌}
+use Rattle.std.specs.Prelude.{◌≡◌, ◌≢◌, ◌⊎◌, ⊤, Bool, false, true, ◌&&◌, ◌||◌, not, List, []}
+use Rattle.std.specs.Prelude.{Option, Some, None, codes, is_some, if◌then◌else◌}
 use Rattle.clap.specs.Words.{Row, Text, IsAmong, fault_of, first_of, kind_of, subcommand_of}
 use Rattle.clap.specs.declared.error.kind.ErrorKind.{ErrorKind}
 use Rattle.clap.specs.declared.error.kind.ErrorKind.TheVariants.{
@@ -28,6 +28,8 @@ use Rattle.clap.specs.declared.error.kind.ErrorKind.TheVariants.{
 use Rattle.tk_region.specs.SettingsFields.{SettingsFields}
 use Rattle.tokend.specs.CommandLine.{HasCheck, HasFlag, HasNumbers, HasService, HasSources}
 use Rattle.tokend.specs.CommandLine.{is_given, is_misnamed, tokend_app}
+use Rattle.tokend.specs.Choices.{is_consent_misnamed, is_unseen_misnamed}
+use Rattle.tokend.specs.Kinds.{are_misnamed}
 use Rattle.tokend.specs.declared.fault.Fault.{Fault}
 use Rattle.tokend.specs.declared.fault.Fault.TheVariants.{Memory, Words}
 use Rattle.tokend.specs.declared.options.Check.{Check as CheckValue}
@@ -57,8 +59,8 @@ loopback_task s =
       cap = s.cap;
     })
 
--- the values are no service's: a required number, the seed or the log is missing, or `--ahead` has
--- another value
+-- the values are no service's: a required number, the seed or the log is missing, or an option has
+-- none of its words
 abbrev pub IsNoService : List Row → Type 0
 IsNoService rows = (service : Service) → ¬ (HasService rows service)
 
@@ -98,12 +100,21 @@ lacks_log (Some found) =
     is_given (first_of (codes "log-taken") found.1)
     && not (is_some (first_of (codes "log") found.1))
 
--- the subcommand has an `--ahead` whose value is neither of the two
-abbrev pub misnames_ahead : Option (Text × List Row) → Bool
-misnames_ahead None = false
-misnames_ahead (Some found) = is_misnamed (first_of (codes "ahead") found.1)
+-- the value of `--ahead`, `--revoke-unseen` or `--consent` is none of its words, or `--redirects`
+-- has another word
+abbrev pub has_misnamed : List Row → Bool
+has_misnamed rows =
+    is_misnamed (first_of (codes "ahead") rows)
+    || is_unseen_misnamed (first_of (codes "revoke-unseen") rows)
+    || is_consent_misnamed (first_of (codes "consent") rows)
+    || are_misnamed (first_of (codes "redirects") rows)
 
--- the kind of the fault by whether the log is missing and `--ahead` has another value
+-- the subcommand has an option whose value is none of its words
+abbrev pub misnames_word : Option (Text × List Row) → Bool
+misnames_word None = false
+misnames_word (Some found) = has_misnamed found.1
+
+-- the kind of the fault by whether the log is missing and an option has another value
 abbrev pub kind_missing : Bool → Bool → ErrorKind
 kind_missing lacks misnames =
     if lacks then MissingRequiredArgument
@@ -111,7 +122,7 @@ kind_missing lacks misnames =
 
 -- the kind of the fault of arguments in which clap finds no fault, and which name no task
 abbrev pub missing_kind : Option (Text × List Row) → ErrorKind
-missing_kind found = kind_missing (lacks_log found) (misnames_ahead found)
+missing_kind found = kind_missing (lacks_log found) (misnames_word found)
 
 -- the arguments request this task: clap finds no fault in them, and they name the task
 abbrev pub Asks : List Text → Task → Type 0

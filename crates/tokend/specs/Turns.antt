@@ -1,9 +1,10 @@
 -- What the turns of a service do to its edge, its log and the lines about faults (own).
---   past_each      the generator after the words of connections
---   AreDecisions   connections are decided, one after the other
+--   past_each      the generator after the words of requests
+--   AreDecisions   requests are decided, one after the other
 --   AreTold        the lines about their faults
---   IsTurn         the connections of a turn are decided, and their records are written at once
+--   IsTurn         the requests of a turn are decided, and their records are written at once
 --   AreTurns       turns, one after the other
+--   connections_in   how many connections ended
 --   so_many        how many connections are served
 --   ServesAll      as many connections as requested were served
 --   ServesLogged   as many connections as requested were served, with the log of a name
@@ -31,6 +32,8 @@ use Rattle.std.specs.Prelude.{
   Result,
   Ok,
   Err,
+  false,
+  nat_lt,
 }
 use Rattle.std.specs.Option.{unwrap_or}
 use Rattle.std.specs.Io.KnownBytes.{Appends}
@@ -41,24 +44,33 @@ use Rattle.tk_edge.specs.Told.{Change}
 use Rattle.tk_edge.specs.declared.edge.Served.{Served}
 use Rattle.tk_edge.specs.declared.tell.Fault.{Fault}
 use Rattle.tk_edge.specs.declared.tell.Fault.TheVariants.{Log, Write}
-use Rattle.tokend.specs.Decisions.{IsDecision}
+use Rattle.tokend.specs.Decisions.{Ending, IsDecision, ended_if}
 use Rattle.tokend.specs.Draw.{six, past_six}
 use Rattle.tokend.specs.Serving.{connection_fault}
 use Rattle.tokend.specs.Starting.{IsEmptyLog}
 use Rattle.tokend.specs.Telling.{Writer, Writes, Writing}
 use Rattle.tokend.specs.declared.server.Server.{Server}
 
--- how the connections of a turn ended, in the order in which they were decided
+-- how the requests of a turn ended, in the order in which they were decided
 abbrev pub Endings : Type 0
-Endings = List (Result Served Fault)
+Endings = List Ending
 
--- the generator after the words of these connections
+-- how many connections ended
+abbrev pub connections_in : Endings → ℕ
+connections_in [] = 0
+connections_in (ending ∷ endings) = ended_if ending.stays + connections_in endings
+
+-- each connection ended behind its first request, unless connections are kept
+abbrev pub ClosesEach : Bool → Endings → Type 0
+ClosesEach keeps endings = keeps ≡ false → connections_in endings ≡ length endings
+
+-- the generator after the words of these requests
 abbrev pub past_each : ChaCha → Endings → ChaCha
 past_each words [] = words
 past_each words (end ∷ ends) = past_each (past_six words) ends
 
--- connections are decided, one after the other, each with the next six random words; their records
--- are one behind the other
+-- requests are decided, one after the other, each with the next six random words; their records are
+-- one behind the other
 abbrev pub AreDecisions : ChaCha → Bool → EdgeFields → Endings → List ℕ → EdgeFields → Type 0
 AreDecisions words log_taken old [] records new = (new ≡ old) × (records ≡ [])
 AreDecisions words log_taken old (end ∷ ends) records new =
@@ -77,10 +89,10 @@ abbrev pub ToldOf : Option Fault → Writer → Writer → Type 0
 ToldOf None old new = new ≡ old
 ToldOf (Some fault) old new = Writes old new (connection_fault fault)
 
--- the faults of these connections were told, in order
+-- the faults of these requests were told, in order
 abbrev pub AreTold : Endings → Writer → Writer → Type 0
 AreTold [] old new = new ≡ old
-AreTold (end ∷ ends) old new = (mid : Writer) × Told end old mid × AreTold ends mid new
+AreTold (end ∷ ends) old new = (mid : Writer) × Told end.end old mid × AreTold ends mid new
 
 -- an edge, with the bytes of its log and the writer of the lines about faults
 pub record Running : Type 0 where
@@ -103,8 +115,8 @@ pub record IsLost (old : Running) (mid : EdgeFields) (records : List ℕ) (told 
   pub edge : new.edge ≡ record mid { sealed = true }
   pub faults : Writes told new.faults (connection_fault Log)
 
--- The connections of a turn are decided, one after the other. Their faults are told, and their
--- records are written at once, or the log fails.
+-- The requests of a turn are decided, one after the other. Their faults are told, and their records
+-- are written at once, or the log fails.
 pub record IsTurn (words : ChaCha) (log_taken : Bool) (old : Running) (ends : Endings)
     (new : Running) : Type 0 where
   pub edge : EdgeFields
@@ -127,7 +139,7 @@ AreTurns words log_taken old (ends ∷ turns) new =
     (mid : Running) × (next : Running) × IsTurn words log_taken old ends mid
     × MayLackReply mid next × AreTurns (past_each words ends) log_taken next turns new
 
--- the connections of all turns
+-- the requests of all turns
 abbrev pub all_ends : List Endings → Endings
 all_ends [] = []
 all_ends (ends ∷ turns) = ends ++ all_ends turns
@@ -137,11 +149,15 @@ all_ends (ends ∷ turns) = ends ++ all_ends turns
 abbrev pub so_many : Option ℕ → ℕ
 so_many requests = unwrap_or requests (2 ^ 64 - 1)
 
+-- connections are kept, if they may stay open between their requests for some seconds
+abbrev pub keeps_in : Option ℕ → Bool
+keeps_in seconds = nat_lt 0 (unwrap_or seconds 0)
+
 -- as many connections as requested were served, from one state to the other
-abbrev pub ServesAll : ChaCha → Option ℕ → Bool → Running → Running → Type 0
-ServesAll words requests log_taken old new =
-    (turns : List Endings) × (length (all_ends turns) ≡ so_many requests)
-    × AreTurns words log_taken old turns new
+abbrev pub ServesAll : ChaCha → Option ℕ → Bool → Bool → Running → Running → Type 0
+ServesAll words requests keeps log_taken old new =
+    (turns : List Endings) × (connections_in (all_ends turns) ≡ so_many requests)
+    × ClosesEach keeps (all_ends turns) × AreTurns words log_taken old turns new
 
 -- An edge and the writer of the lines about faults, before and after its service.
 pub record Course : Type 0 where
@@ -150,9 +166,9 @@ pub record Course : Type 0 where
   pub faults : Writing
 
 -- as many connections as requested were served, with this log
-abbrev pub ServesWith : ChaCha → Option ℕ → Bool → Course → Change → Type 0
-ServesWith words requests log_taken s log =
-    ServesAll words requests log_taken
+abbrev pub ServesWith : ChaCha → Option ℕ → Bool → Bool → Course → Change → Type 0
+ServesWith words requests keeps log_taken s log =
+    ServesAll words requests keeps log_taken
     (record { edge = s.start; log = log.before; faults = s.faults.before })
     (record { edge = s.end; log = log.after; faults = s.faults.after })
 
@@ -160,12 +176,12 @@ ServesWith words requests log_taken s log =
 -- was empty, or without a log, if there is no name. `holds` has the bytes of a log, if they are
 -- known, and `opens` which log a name opens.
 abbrev pub ServesLogged : {A L : Type 0} → (L → Option (List ℕ)) → (List ℕ → L → Type 0)
-    → Option (String A) → ChaCha → Option ℕ → Bool → Course → Type 0
-ServesLogged holds opens None words requests log_taken s =
-    ServesWith words requests log_taken s (record { before = None; after = None })
-ServesLogged {L = L} holds opens (Some name) words requests log_taken s =
+    → Option (String A) → ChaCha → Option ℕ → Bool → Bool → Course → Type 0
+ServesLogged holds opens None words requests keeps log_taken s =
+    ServesWith words requests keeps log_taken s (record { before = None; after = None })
+ServesLogged {L = L} holds opens (Some name) words requests keeps log_taken s =
     (opened : L) × (closed : L) × opens (string_bytes name) opened × IsEmptyLog (holds opened)
-    × ServesWith words requests log_taken s
+    × ServesWith words requests keeps log_taken s
     (record { before = holds opened; after = holds closed })
 
 -- a server with the bytes of its log and the writer of the lines about faults
@@ -178,11 +194,14 @@ pub record Site : Type 0 where
 abbrev pub running : Site → Running
 running site = record { edge = site.server.edge; log = site.log; faults = site.faults }
 
--- A server takes turns: each connection has the next random words, and is one less to be served.
+-- A server takes turns: each request has the next random words, and each connection that ended is
+-- one less to be served.
 pub record Goes (old new : Site) : Type 0 where
   pub turns : List Endings
   pub served : AreTurns old.server.words old.server.log_taken (running old) turns (running new)
   pub words : new.server.words ≡ past_each old.server.words (all_ends turns)
-  pub counted : old.server.left ≡ length (all_ends turns) + new.server.left
+  pub counted : old.server.left ≡ connections_in (all_ends turns) + new.server.left
+  pub closes : ClosesEach old.server.keeps (all_ends turns)
+  pub keeps : new.server.keeps ≡ old.server.keeps
   pub log_taken : new.server.log_taken ≡ old.server.log_taken
   pub fault : new.server.fault ≡ old.server.fault

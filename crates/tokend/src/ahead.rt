@@ -1,24 +1,13 @@
 //! The option `--ahead`: whether pushed bundles whose horizon is later than the clock are refused.
 
 ghost use Rattle.std.specs.Prelude.{◌≡◌, Some, codes};
-ghost use Rattle.clap.specs.Words.{first_of, found_of, rows_of, subcommand_rows_of};
+ghost use Rattle.clap.specs.Words.{first_of, found_of, rows_of};
 ghost use Rattle.tokend.specs.CommandLine.{is_misnamed, refusal_named};
-ghost use Rattle.tokend.specs.Task.{misnames_ahead};
 
 use clap::ArgMatches;
 
-// Returns whether the subcommand has an `--ahead` whose value is neither of the two.
-pub(crate) fn misnames_ahead(matches: &ArgMatches<'_>) -> bool
-    ensures { result ≡ misnames_ahead (subcommand_rows_of matches.now) }
-{
-    match matches.subcommand() {
-        Some((_, values)) => is_ahead_misnamed(values),
-        None => false,
-    }
-}
-
 // Returns whether there is an `--ahead` whose value is neither of the two.
-fn is_ahead_misnamed(matches: &ArgMatches<'_>) -> bool
+pub(crate) fn is_ahead_misnamed(matches: &ArgMatches<'_>) -> bool
     ensures { result ≡ is_misnamed (first_of (codes "ahead") (rows_of (found_of matches.now))) }
 {
     match matches.get_str("ahead") {

@@ -160,9 +160,9 @@ fn serve_command<'a>(alloc: Global) -> Result<Command<'a>, AllocError>
     ensures local { IfOk result (λ c. (out-Command c).has_globals ≡ false) }
 {
     let serve = Command::new(alloc, "serve").about(
-        "Serves requests over HTTP on 127.0.0.1, one connection after the other",
+        "Serves requests over HTTP on 127.0.0.1, those of many connections at once",
     );
-    let choices: [Choice<'a>; 9] = [
+    let choices: [Choice<'a>; 13] = [
         ("region", Takes::Range(1, Service::GREATEST_REGION, true),
             "The number of the region that is served, 1 to 65535, like no other's and never used again [required]"),
         ("port", Takes::Range(0, Service::GREATEST_PORT, true),
@@ -179,8 +179,16 @@ fn serve_command<'a>(alloc: Global) -> Result<Command<'a>, AllocError>
             "Skips all facts of families that are over at this moment, in seconds since 1970, 0 to 253402300799 [default: none]"),
         ("ahead", Takes::Word("taken"),
             "Whether a pushed bundle whose horizon is later than the clock is taken or refused"),
+        ("revoke-unseen", Takes::Word("any"),
+            "Who may revoke a token of another region before it is known here: any, authenticated or none"),
+        ("consent", Takes::Word("new"),
+            "What is given if a good consent is held: a new one, or the held one without a fact"),
+        ("redirects", Takes::List,
+            "The kinds of redirection URIs that a new client may have: https, loopback, app [default: every absolute URL]"),
         ("requests", Takes::Range(0, Service::GREATEST_REQUESTS, false),
             "How many connections are served, 0 to 4294967295 [default: without end]"),
+        ("keep", Takes::Range(0, Service::GREATEST_KEEP, false),
+            "How many seconds a connection stays open between its requests, 0 to 3600, 0 for one request each [default: 0]"),
     ];
     match with_choices(alloc, serve, &choices) {
         Ok(serve) => with_settings(alloc, serve),
@@ -217,6 +225,8 @@ enum Takes<'a> {
     Nothing,
     // The name of a file. The flag is whether the option is required.
     File(bool),
+    // Words with commas between.
+    List,
     // A word, with a default.
     Word(&'a str),
     // A number from the first bound to the second. The flag is whether the option is required.
@@ -256,6 +266,7 @@ fn arg_of<'a>(alloc: Global, choice: Choice<'a>) -> Arg<'a>
     match takes {
         Takes::Nothing => arg.action(ArgAction::SetTrue),
         Takes::File(is_wanted) => arg.value_name("FILE").required(is_wanted),
+        Takes::List => arg.value_name("LIST"),
         Takes::Word(default) => arg.value_name("WORD").default_value(default),
         Takes::Range(least, greatest, is_wanted) => arg
             .value_name("N")

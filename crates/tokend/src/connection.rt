@@ -1,4 +1,7 @@
 //! One connection: `Connection`, its socket and how far it is.
+//!
+//! A connection has one request, or many one behind the other if connections are kept. While its
+//! replies are to be sent, no more of it is read or decided.
 
 ghost use Rattle.std.specs.Prelude.{◌≤◌, length};
 
@@ -38,10 +41,13 @@ pub(crate) struct Connection {
     stream: TcpStream,
     // Since when the client is waited for, in milliseconds.
     since: u64,
-    // How many bytes were dropped that came behind the request.
+    // How many bytes were dropped that came behind the last request.
     dropped: usize,
-    /// Whether its request was decided.
+    /// Whether its last request was decided.
     pub is_decided: bool,
+    // Whether a request of it was decided, and whether replies of it are still to be sent.
+    is_served: bool,
+    is_replying: bool,
     /// Whether it is in the list of this turn or the next one.
     pub is_listed: bool,
     /// Whether it counts as one of the large ones.
@@ -64,6 +70,8 @@ impl Connection {
             since: now,
             dropped: 0,
             is_decided: false,
+            is_served: false,
+            is_replying: false,
             is_listed: true,
             is_large: false,
             goes_on: false,
@@ -84,34 +92,76 @@ impl Connection {
         !self.is_large && link.waiting() >= LARGE
     }
 
+    /// Returns whether the connection is one of the large ones no longer.
+    pub(crate) fn shrinks(&self, link: &Link) -> bool {
+        self.is_large && !self.is_decided && link.waiting() < LARGE
+    }
+
     /// Returns since when an idle client is waited for: one that sends nothing, or that has its
-    /// reply. A client that has just come isn't idle.
+    /// replies. A client that has just come isn't idle.
     pub(crate) fn idle_since(&self, link: &Link, now: u64) -> Option<u64> {
-        let is_idle = link.waiting() == 0 && link.sendable().is_empty();
         let is_new = now.saturating_sub(self.since) < MIN_IDLE_MILLIS;
-        if is_idle && !is_new {
+        if is_idle(link) && !is_new {
             Some(self.since)
         } else {
             None
         }
     }
 
-    /// Returns whether the client was waited for long enough.
-    pub(crate) fn is_late(&self, now: u64) -> bool {
-        now.saturating_sub(self.since) >= LONGEST_MILLIS
+    /// Returns whether the connection is kept, and nothing of a further request has come.
+    pub(crate) fn is_between(&self, link: &Link) -> bool {
+        self.is_served && !self.is_decided && is_idle(link)
     }
 
-    /// Notes that the request is decided at `now`, from which on the client has time to take the
-    /// reply.
-    pub(crate) fn decide(&mut self, now: u64) {
+    /// Returns whether the client was waited for long enough. `keep` is how long a kept connection
+    /// stays open between its requests, in milliseconds.
+    pub(crate) fn is_late(&self, link: &Link, now: u64, keep: u64) -> bool {
+        let longest = if self.is_between(link) {
+            keep
+        } else {
+            LONGEST_MILLIS
+        };
+        now.saturating_sub(self.since) >= longest
+    }
+
+    /// Notes what a turn decided of the connection at `now`, from which on the client has time to
+    /// take the replies. Returns whether its last request was decided.
+    pub(crate) fn note_turn(&mut self, link: &Link, now: u64) -> bool {
+        if !self.is_replying && !link.sendable().is_empty() {
+            self.is_served = true;
+            self.is_replying = true;
+            self.since = now;
+        }
+        if self.is_decided || !link.is_last() {
+            return false;
+        }
         self.is_decided = true;
         self.since = now;
+        true
     }
 
-    /// Reads a piece of what has come. What comes behind the request is dropped.
-    pub(crate) fn read(&mut self, alloc: Global, link: &mut Link, piece: &mut [u8]) -> Step {
+    /// Reads a piece of what has come at `now`, but nothing while replies are to be sent. What
+    /// comes behind the last request is dropped.
+    pub(crate) fn read(
+        &mut self,
+        alloc: Global,
+        link: &mut Link,
+        piece: &mut [u8],
+        now: u64,
+    ) -> Step {
+        if self.is_replying && !self.is_decided {
+            self.goes_on = true;
+            return Step::Waits;
+        }
+        let was_between = self.is_between(link);
         let step = self.read_piece(alloc, link, piece);
         self.goes_on = step == Step::GoesOn;
+        if was_between && link.is_over() && link.waiting() == 0 {
+            return Step::Over;
+        }
+        if was_between && link.waiting() > 0 {
+            self.since = now;
+        }
         step
     }
 
@@ -152,27 +202,32 @@ impl Connection {
         }
     }
 
-    /// Goes on after a turn: sends the reply of a request that was decided. `is_stopped` is whether
-    /// the turn stopped early, so that whole requests may be left.
-    pub(crate) fn go_on(&mut self, link: &mut Link, is_stopped: bool) -> Step {
-        let step = if self.is_decided {
-            self.send(link)
-        } else if is_stopped {
-            Step::GoesOn
+    /// Goes on after a turn at `now`: sends the replies of requests that were decided. `is_stopped`
+    /// is whether the turn stopped early, so that whole requests may be left.
+    pub(crate) fn go_on(&mut self, link: &mut Link, now: u64, is_stopped: bool) -> Step {
+        let step = if self.is_decided || self.is_replying {
+            self.send(link, now)
         } else {
             Step::Waits
         };
+        let has_more = self.goes_on || is_stopped || link.is_cut();
         match step {
-            Step::Waits if self.goes_on => Step::GoesOn,
+            Step::Waits if self.is_decided && self.goes_on => Step::GoesOn,
+            Step::Waits if !self.is_decided && !self.is_replying && has_more => Step::GoesOn,
             step => step,
         }
     }
 
-    // Sends what may be sent, and then ends the own side.
-    fn send(&mut self, link: &mut Link) -> Step {
+    // Sends what may be sent, and then ends the own side if the last request was decided.
+    fn send(&mut self, link: &mut Link, now: u64) -> Step {
         for _ in 0..MAX_WRITES {
             if link.sendable().is_empty() {
-                return self.shut(link);
+                if self.is_decided {
+                    return self.shut(link);
+                }
+                self.is_replying = false;
+                self.since = now;
+                return Step::Waits;
             }
             match send(link, &mut self.stream) {
                 Ok(0) => return Step::Over,
@@ -221,6 +276,11 @@ impl Connection {
         self.is_registered = true;
         registry.register(&mut self.stream, token, interests)
     }
+}
+
+// Returns whether the client has sent nothing that isn't decided, and has its replies.
+fn is_idle(link: &Link) -> bool {
+    link.waiting() == 0 && link.sendable().is_empty()
 }
 
 // Returns how far a connection is by the error of its socket.

@@ -7,6 +7,7 @@ ghost use Rattle.std.specs.Prelude.{◌↔◌, IsTrue, IfOk, length};
 ghost use Rattle.tk_turn.specs.Turns.{AreWithin};
 
 use crate::connection::{Connection, Step};
+use crate::losses::{Losses, NO_LOSS};
 use mio::event::Event;
 use mio::net::{TcpListener, TcpStream};
 use mio::{Events, Interest, Poll, Token};
@@ -29,7 +30,7 @@ const MAX_ACCEPTED: usize = 128;
 const MAX_EVENTS: usize = 1_024;
 
 /// How often late connections are looked for, in milliseconds.
-const TICK_MILLIS: u64 = 100;
+pub(crate) const TICK_MILLIS: u64 = 100;
 
 /// How many bytes one read takes at most.
 const PIECE: usize = 16_384;
@@ -46,36 +47,21 @@ pub(crate) enum NoRoom {
     System,
 }
 
-/// What was lost of connections, and isn't told yet.
-#[derive(Clone, Copy)]
-pub(crate) struct Losses {
-    /// How many connections ended before their request was whole, or weren't accepted.
-    pub unread: u64,
-    /// How many connections ended because there was no memory for their bytes.
-    pub short: u64,
-    /// How many replies weren't taken by their clients.
-    pub unsent: u64,
-}
-
-// No loss.
-const NO_LOSS: Losses = Losses {
-    unread: 0,
-    short: 0,
-    unsent: 0,
-};
-
 /// The connections of a service.
 #[derive(Drop)]
 pub(crate) struct Connections {
-    alloc: Global,
+    /// Where memory is taken from.
+    pub alloc: Global,
     listener: TcpListener,
     poll: Poll,
     events: Events,
-    sockets: Vec<Option<Connection>>,
+    /// The sockets, by place.
+    pub sockets: Vec<Option<Connection>>,
     /// Their bytes, by place.
     pub links: Vec<Link>,
-    // The places that are free, and those with something to do in this turn and in the next one.
-    free: Vec<usize>,
+    /// The places that are free.
+    pub free: Vec<usize>,
+    // The places with something to do in this turn and in the next one.
     listed: Vec<usize>,
     again: Vec<usize>,
     /// The places whose requests this turn may decide.
@@ -83,19 +69,23 @@ pub(crate) struct Connections {
     /// Room for the records of a turn.
     pub records: Vec<u8>,
     piece: Vec<u8>,
-    // How many connections are open, how many of them have no decided request, and how many are
-    // large.
-    open: usize,
-    undecided: u64,
-    large: usize,
-    losses: Losses,
+    /// How many connections are open.
+    pub open: usize,
+    /// How many of them may have a further request.
+    pub undecided: u64,
+    /// How many of them are large.
+    pub large: usize,
+    /// What was lost of connections, and isn't told yet.
+    pub losses: Losses,
+    /// How long a kept connection stays open between its requests, in milliseconds, or 0: none is.
+    pub keep: u64,
     // Whether more clients may wait to be accepted, and whether accepting has just failed.
     has_more: bool,
     has_failed: bool,
     // Whether the last turn accepted as many clients as one may.
     goes_on: bool,
-    // When late connections were last looked for.
-    looked: u64,
+    /// When late connections were last looked for.
+    pub looked: u64,
 }
 
 // Returns a table with room for all connections that may be open.
@@ -117,6 +107,7 @@ fn table(alloc: Global, listener: TcpListener, poll: Poll) -> Result<Connections
         undecided: 0,
         large: 0,
         losses: NO_LOSS,
+        keep: 0,
         has_more: false,
         has_failed: false,
         goes_on: false,
@@ -161,11 +152,9 @@ impl Connections {
         self.open == 0
     }
 
-    /// Returns what was lost since the last call.
-    pub(crate) fn take_losses(&mut self) -> Losses {
-        let losses = self.losses;
-        self.losses = NO_LOSS;
-        losses
+    /// Has kept connections stay open for so many seconds between their requests.
+    pub(crate) fn keep(&mut self, seconds: u64) {
+        self.keep = seconds.saturating_mul(1_000);
     }
 
     /// Waits until some connection has something to do, or a tick has passed.
@@ -224,29 +213,6 @@ impl Connections {
         self.goes_on = true;
     }
 
-    // Closes the connection whose client is idle for the longest time, if there is one.
-    fn close_idle(&mut self, now: u64) {
-        let mut oldest = None;
-        let mut least = u64::MAX;
-        for place in 0..self.sockets.len() {
-            let (Some(Some(connection)), Some(link)) = (
-                self.sockets.get(place),
-                self.links.get(place),
-            ) else {
-                continue;
-            };
-            if let Some(since) = connection.idle_since(link, now) {
-                if since < least {
-                    least = since;
-                    oldest = Some(place);
-                }
-            }
-        }
-        if let Some(place) = oldest {
-            self.lose(place);
-        }
-    }
-
     // Notes why no client was accepted.
     fn note_failure(&mut self, error: &io::Error) {
         match error.kind() {
@@ -265,6 +231,10 @@ impl Connections {
             return;
         };
         if let Some(socket) = self.sockets.get_mut(place) {
+            if self.keep > 0 {
+                // A reply behind another isn't held back until the client has taken that one.
+                let _ = stream.set_nodelay(true);
+            }
             *socket = Some(Connection::new(stream, now));
             self.open = self.open.saturating_add(1);
             self.undecided = self.undecided.saturating_add(1);
@@ -273,25 +243,25 @@ impl Connections {
     }
 
     /// Reads what has come over the listed connections, and lists those that may be decided.
-    pub(crate) fn read(&mut self) {
+    pub(crate) fn read(&mut self, now: u64) {
         self.places.clear();
         for at in 0..self.listed.len() {
             let Some(place) = self.listed.get(at).copied() else {
                 return;
             };
-            self.read_one(place);
+            self.read_one(place, now);
         }
     }
 
     // Reads what has come over a connection.
-    fn read_one(&mut self, place: usize) {
+    fn read_one(&mut self, place: usize, now: u64) {
         let (Some(Some(connection)), Some(link)) = (
             self.sockets.get_mut(place),
             self.links.get_mut(place),
         ) else {
             return;
         };
-        match connection.read(self.alloc, link, self.piece.as_mut_slice()) {
+        match connection.read(self.alloc, link, self.piece.as_mut_slice(), now) {
             Step::Over => return self.lose(place),
             Step::Short => return self.lose_short(place),
             Step::Waits | Step::GoesOn => {}
@@ -303,7 +273,7 @@ impl Connections {
             connection.is_large = true;
             self.large += 1;
         }
-        if !connection.is_decided {
+        if !connection.is_decided && link.sendable().is_empty() {
             let _ = self.places.push(place);
         }
     }
@@ -338,11 +308,14 @@ impl Connections {
         ) else {
             return;
         };
-        if link.is_last() && !connection.is_decided {
-            connection.decide(now);
+        if connection.note_turn(link, now) {
             self.undecided = self.undecided.saturating_sub(1);
         }
-        let step = connection.go_on(link, is_stopped);
+        if connection.shrinks(link) {
+            connection.is_large = false;
+            self.large = self.large.saturating_sub(1);
+        }
+        let step = connection.go_on(link, now, is_stopped);
         connection.is_listed = step == Step::GoesOn;
         match step {
             Step::Over | Step::Short => self.lose(place),
@@ -356,57 +329,6 @@ impl Connections {
                 }
             }
         }
-    }
-
-    /// Closes the connections whose clients were waited for long enough, once a tick.
-    pub(crate) fn close_late(&mut self, now: u64) {
-        if now.saturating_sub(self.looked) < TICK_MILLIS {
-            return;
-        }
-        self.looked = now;
-        for place in 0..self.sockets.len() {
-            if let Some(Some(connection)) = self.sockets.get(place) {
-                if connection.is_late(now) {
-                    self.lose(place);
-                }
-            }
-        }
-    }
-
-    // Counts a connection that ended before its request was whole.
-    fn lose_unread(&mut self) {
-        self.losses.unread = self.losses.unread.saturating_add(1);
-    }
-
-    // Closes a connection that has no memory for its bytes.
-    fn lose_short(&mut self, place: usize) {
-        let unread = self.losses.unread;
-        self.lose(place);
-        self.losses.unread = unread;
-        self.losses.short = self.losses.short.saturating_add(1);
-    }
-
-    // Closes a connection, and counts what is lost by that.
-    fn lose(&mut self, place: usize) {
-        let (Some(socket), Some(link)) = (self.sockets.get_mut(place), self.links.get_mut(place))
-        else {
-            return;
-        };
-        let Some(connection) = socket.take() else {
-            return;
-        };
-        if connection.is_large {
-            self.large = self.large.saturating_sub(1);
-        }
-        if !connection.is_decided {
-            self.undecided = self.undecided.saturating_sub(1);
-            self.losses.unread = self.losses.unread.saturating_add(1);
-        } else if !link.sendable().is_empty() {
-            self.losses.unsent = self.losses.unsent.saturating_add(1);
-        }
-        *link = Link::new(self.alloc);
-        self.open = self.open.saturating_sub(1);
-        let _ = self.free.push(place);
     }
 }
 

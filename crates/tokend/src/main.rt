@@ -39,6 +39,7 @@
 
 mod ahead;
 mod check;
+mod choices;
 mod closing;
 mod command_line;
 mod connection;
@@ -47,10 +48,13 @@ mod draw;
 mod facts;
 mod fault;
 pub mod folder;
+mod kinds;
+mod leaving;
 mod listen;
 mod load;
 mod log_file;
 mod loopback;
+mod losses;
 mod options;
 mod program;
 pub mod promises;

@@ -1,6 +1,7 @@
 //! The task that the arguments request: `options` reads a `Task` from them.
 
-ghost use Rattle.std.specs.Prelude.{◌≡◌, ◌⊎◌, ◌<◌, ◌^◌, ℕ, IfOk, IfErr, IfSome, IfNone, map, false};
+ghost use Rattle.std.specs.Prelude.{◌≡◌, ◌⊎◌, ◌<◌, ◌^◌, ℕ, IfOk, IfErr, IfSome, IfNone, is_some};
+ghost use Rattle.std.specs.Prelude.{map, false};
 ghost use Rattle.clap.specs.Words.{kind_of, rows_of, found_of, subcommand_rows_of};
 ghost use Rattle.clap.specs.declared.error.kind.ErrorKind.TheVariants as kind;
 ghost use Rattle.tokend.specs.declared.options.Service.{Service as ServiceValue};
@@ -19,7 +20,8 @@ ghost use Rattle.tokend.specs.Task.{Asks, IsTask, IsNoService, IsNoTask, IsRefus
 ghost use Rattle.tokend.specs.Task.{kind_missing, lacks_log, missing_kind};
 ghost use Rattle.tokend.specs.declared.options.Numbers.{Numbers as NumbersValue};
 
-use crate::ahead::{misnames_ahead, read_refusal};
+use crate::ahead::read_refusal;
+use crate::choices::{misnamed_word, read_choices};
 use crate::command_line::tokend_command;
 use crate::sources::read_facts;
 use clap::error::ErrorKind;
@@ -27,6 +29,7 @@ use clap::{ArgMatches, Command, Error};
 use std::alloc::{AllocError, Global};
 use std::convert::AsStr;
 use tk_handle::Moment;
+use tk_message::Choices;
 use tk_world::Settings;
 
 /// A task of the program.
@@ -87,6 +90,9 @@ pub struct Service {
     pub port: u16,
     /// How many connections to serve; `None` for no end.
     pub requests: Option<u64>,
+    /// For how many seconds a connection stays open between its requests. `None` or 0: each
+    /// connection has one request.
+    pub keep: Option<u64>,
     /// The file of the generator's key.
     pub seed: String,
     /// The file to which records are written, if any.
@@ -99,6 +105,8 @@ pub struct Service {
     pub prune: Option<u64>,
     /// Whether a pushed bundle is refused if its horizon is later than the moment of the request.
     pub refuses_ahead: bool,
+    /// What the region does if the profile leaves a choice.
+    pub choices: Choices,
 }
 
 /// Reads the task of the arguments. The first argument is the program's name.
@@ -139,15 +147,15 @@ fn read_task(
 {
     match read_matches(alloc, matches) {
         Ok(Some(task)) => Ok(task),
-        Ok(None) => Err(no_task(command, lacks_log(matches), misnames_ahead(matches))),
+        Ok(None) => Err(no_task(command, lacks_log(matches), misnamed_word(matches))),
         Err(error) => Err(Error::from(error)),
     }
 }
 
 // Returns the error of arguments that name no task, or out of memory.
-fn no_task(command: &mut Command<'_>, lacks_log: bool, misnames_ahead: bool) -> Error
+fn no_task(command: &mut Command<'_>, lacks_log: bool, misnamed: Option<&str>) -> Error
     ensures { (kind_of result ≡ kind.OutOfMemory)
-        ⊎ (kind_of result ≡ kind_missing lacks_log misnames_ahead) }
+        ⊎ (kind_of result ≡ kind_missing lacks_log (is_some misnamed.entry)) }
 {
     if lacks_log {
         return own_error(
@@ -156,12 +164,8 @@ fn no_task(command: &mut Command<'_>, lacks_log: bool, misnames_ahead: bool) -> 
             "--log-taken requires --log",
         );
     }
-    if misnames_ahead {
-        return own_error(
-            command,
-            ErrorKind::InvalidValue,
-            "--ahead takes 'taken' or 'refused'",
-        );
+    if let Some(message) = misnamed {
+        return own_error(command, ErrorKind::InvalidValue, message);
     }
     own_error(
         command,
@@ -216,6 +220,9 @@ impl Service {
 
     /// The greatest number of connections to serve.
     pub const GREATEST_REQUESTS: u64 = 4_294_967_295;
+
+    /// The greatest number of seconds for which a connection stays open between its requests.
+    pub const GREATEST_KEEP: u64 = 3_600;
 }
 
 // Reads the task of clap's matches. clap ensures that there are a subcommand and its numbers.
@@ -281,6 +288,9 @@ fn read_service(alloc: Global, matches: &ArgMatches<'_>) -> Result<Option<Servic
     let Some(refuses_ahead) = read_refusal(matches) else {
         return Ok(None);
     };
+    let Some(choices) = read_choices(matches) else {
+        return Ok(None);
+    };
     let Some(seed) = read_text(alloc, matches, "seed")? else {
         return Ok(None);
     };
@@ -292,17 +302,20 @@ fn read_service(alloc: Global, matches: &ArgMatches<'_>) -> Result<Option<Servic
     let load = read_text(alloc, matches, "load")?;
     let prune = number(matches, "prune", 0, Moment::GREATEST);
     let requests = number(matches, "requests", 0, Service::GREATEST_REQUESTS);
+    let keep = number(matches, "keep", 0, Service::GREATEST_KEEP);
     Ok(Some(Service {
         numbers,
         region: region as u16,
         port: port as u16,
         requests,
+        keep,
         seed,
         log,
         log_taken,
         load,
         prune,
         refuses_ahead,
+        choices,
     }))
 }
 

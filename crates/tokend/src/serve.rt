@@ -17,7 +17,7 @@ ghost use Rattle.tokend.specs.Serving.{
 };
 ghost use Rattle.tokend.specs.Starting.{first_region};
 ghost use Rattle.tokend.specs.Telling.{writer_of};
-ghost use Rattle.tokend.specs.Turns.{ServesLogged, ServesWith};
+ghost use Rattle.tokend.specs.Turns.{ServesLogged, ServesWith, keeps_in};
 
 use crate::fault::Fault;
 use crate::folder::Folder;
@@ -156,7 +156,7 @@ where
         (Announces opening service.now.port (O.contents output.old) (O.contents output.new)) }
     ensures served { OnOk result
         (ServesLogged L.holds (D.opens folder.now) service.now.log start.old.words
-        service.now.requests service.now.log_taken
+        service.now.requests (keeps_in service.now.keep) service.now.log_taken
         (record {
           start = start.old.edge;
           end = start.new.edge;
@@ -201,7 +201,8 @@ where
     ensures done { OnOk result
         (Announces opening service.now.port (O.contents output.old) (O.contents output.new)) }
     ensures served { OnOk result
-        (ServesWith start.old.words service.now.requests service.now.log_taken
+        (ServesWith start.old.words service.now.requests (keeps_in service.now.keep)
+        service.now.log_taken
         (record {
           start = start.old.edge;
           end = start.new.edge;
@@ -219,6 +220,9 @@ where
 {
     match listen(rt, service.port, opening, output) {
         Ok(mut connections) => {
+            let keep = service.keep.unwrap_or(0);
+            connections.keep(keep);
+            start.keeps = keep > 0;
             start.log_taken = service.log_taken;
             start.left = service.requests.unwrap_or(u64::MAX);
             start.fault = None;

@@ -12,10 +12,12 @@ pub(crate) struct Server {
     pub alloc: Global,
     /// The edge.
     pub edge: Edge,
-    /// The random words. The next six are for the next connection that ends.
+    /// The random words. The next six are for the next request that ends.
     pub words: ChaCha20Rng,
     /// Whether bundles taken in are logged.
     pub log_taken: bool,
+    /// Whether connections stay open behind a reply, if their requests let them.
+    pub keeps: bool,
     /// When the requests of a turn are decided.
     pub now: Moment,
     /// How many connections are still to be served.
@@ -24,17 +26,19 @@ pub(crate) struct Server {
     pub fault: Option<EdgeFault>,
 }
 
-ghost use Rattle.std.specs.Prelude.{◌≡◌, ◌+◌, ◌<◌, ◌++◌, ℕ, List, Option, None, Ok};
-ghost use Rattle.tokend.specs.Decisions.{outcome_by, Decides, FrontDecides, IsUnread, Seals};
+ghost use Rattle.std.specs.Prelude.{◌≡◌, ◌+◌, ◌<◌, ◌≤◌, ◌++◌, ℕ, List, Option, None, Ok, length};
+ghost use Rattle.tk_turn.specs.Outcomes.{goes_on};
+ghost use Rattle.tokend.specs.Decisions.{ended_if, outcome_by, Decides, FrontDecides, IsReplied};
+ghost use Rattle.tokend.specs.Decisions.{IsUnread, Seals};
 ghost use Rattle.tokend.specs.Serving.{connection_fault};
-ghost use Rattle.tokend.specs.Telling.{Writes, writer_of};
+ghost use Rattle.tokend.specs.Telling.{Writer, Writes, writer_of};
 ghost use Rattle.tokend.specs.Turns.{Goes, ToldOf};
 ghost use Rattle.tokend.specs.declared.server.Server.{Server as AnyServer};
 
 use crate::draw::draw;
 use crate::telling::say;
 use std::mem::replace;
-use tk_edge::{Counted, Served, Sink};
+use tk_edge::{Counted, Served, Sink, Taken, keep_open};
 use tk_turn::{Outcome, Service};
 
 /// How many bytes a record has at most that aren't of its request.
@@ -64,12 +68,15 @@ impl Service for Server {
         match self.serve_front(input, is_over, &words, replies, records) {
             Ok(None) => Outcome::More,
             Ok(Some((served, taken))) => {
-                self.move_on(next, None);
-                outcome_of(served, taken)
+                let outcome = outcome_of(self.keeps, served, taken);
+                let stays = stays_open(outcome);
+                reply_over(stays, replies, mark);
+                self.move_on(next, None, stays);
+                outcome
             }
             Err(fault) => {
                 replies.truncate(mark);
-                self.move_on(next, Some(fault));
+                self.move_on(next, Some(fault), false);
                 Outcome::Ended
             }
         }
@@ -100,13 +107,43 @@ fn copy(words: &ChaCha20Rng) -> ChaCha20Rng
     }
 }
 
-// Returns what is made of a connection that was served. No further request is read of it.
-fn outcome_of(served: Served, taken: usize) -> Outcome
-    ensures { result ≡ outcome_by served taken }
+// Returns what is made of a connection that was served. A further request is read of it only if
+// connections are kept and its request lets it stay.
+fn outcome_of(keeps: bool, served: Served, taken: Taken) -> Outcome
+    ensures { result ≡ outcome_by keeps served taken }
 {
     match served {
         Served::Nothing => Outcome::Ended,
-        Served::Done(_) => Outcome::Decided(taken, false),
+        Served::Done(_) => Outcome::Decided(taken.size, keeps && taken.stays),
+    }
+}
+
+// Returns whether the connection stays open.
+fn stays_open(outcome: Outcome) -> bool
+    ensures { result ≡ goes_on outcome }
+{
+    match outcome {
+        Outcome::More | Outcome::Ended => false,
+        Outcome::Decided(_, stays) => stays,
+    }
+}
+
+// Returns how many connections end.
+fn ended_if(stays: bool) -> u64
+    ensures value { result ≡ ended_if stays }
+    ensures most { result ≤ 1 }
+{
+    if stays { 0 } else { 1 }
+}
+
+// Has the reply from `mark` on say nothing of the end of its connection, if that stays.
+fn reply_over(stays: bool, replies: &mut Vec<u8>, mark: usize)
+    requires { mark ≤ length replies.old.items }
+    ensures { (front reply : List ℕ) → replies.old.items ≡ front ++ reply → mark ≡ length front
+        → (sent : List ℕ) × IsReplied stays reply sent × (replies.new.items ≡ front ++ sent) }
+{
+    if stays {
+        keep_open(replies, mark);
     }
 }
 
@@ -121,6 +158,7 @@ impl Server {
             edge,
             words,
             log_taken: false,
+            keeps: false,
             now: Moment::new(0).unwrap(),
             left: 0,
             fault: None,
@@ -136,7 +174,7 @@ impl Server {
         words: &[u64; 6],
         replies: &mut Vec<u8>,
         records: &mut Vec<u8>,
-    ) -> Result<Option<(Served, usize)>, EdgeFault>
+    ) -> Result<Option<(Served, Taken)>, EdgeFault>
         ensures decides { (reply logged : List ℕ)
             × (replies.new.items ≡ replies.old.items ++ reply)
             × (records.new.items ≡ records.old.items ++ logged)
@@ -169,14 +207,15 @@ impl Server {
         served
     }
 
-    // Notes that a connection has ended: the next one has the next words.
-    fn move_on(&mut self, next: ChaCha20Rng, fault: Option<EdgeFault>)
+    // Notes that a request has ended: the next one has the next words. `stays` is whether its
+    // connection stays open.
+    fn move_on(&mut self, next: ChaCha20Rng, fault: Option<EdgeFault>, stays: bool)
         requires { 0 < self.old.left }
-        ensures { (left : ℕ) × (self.old.left ≡ left + 1)
+        ensures { (left : ℕ) × (self.old.left ≡ left + ended_if stays)
             × (self.new ≡ record self.old { words = next; left = left; fault = fault }) }
     {
         self.words = next;
-        self.left -= 1;
+        self.left -= ended_if(stays);
         self.fault = fault;
     }
 
@@ -222,6 +261,31 @@ impl Server {
         for _ in 0..count {
             self.miss(fault, faults);
         }
+    }
+
+    /// Counts so many kept connections that ended behind their last replies, as far as that many
+    /// are left to be served. Nothing is told of them.
+    pub(crate) fn part_each(&mut self, count: u64)
+        ensures { (log : Option (List ℕ)) (faults : Writer) → Goes
+            (record { server = self.old; log = log; faults = faults })
+            (record { server = self.new; log = log; faults = faults }) }
+    {
+        for _ in 0..count {
+            self.part();
+        }
+    }
+
+    // Counts a kept connection that ended behind its last reply, if any is left to be served.
+    fn part(&mut self)
+        ensures { (log : Option (List ℕ)) (faults : Writer) → Goes
+            (record { server = self.old; log = log; faults = faults })
+            (record { server = self.new; log = log; faults = faults }) }
+    {
+        if self.left == 0 {
+            return;
+        }
+        draw(&mut self.words);
+        self.left -= 1;
     }
 
     /// Tells the fault of the last connection that was decided, if it had one.

@@ -36,7 +36,8 @@ pub(crate) fn begin<I: Read + Drop, L: Sink, D: Folder<I, L>>(
     match read_seed(alloc, folder, &service.seed) {
         Ok(seed) => {
             let number = RegionNumber::new(service.region).unwrap();
-            let region = Region::new(alloc, number, service.numbers.settings());
+            let settings = service.numbers.settings().with_choices(service.choices);
+            let region = Region::new(alloc, number, settings);
             let (edge, words) = (
                 Edge::new(region, true, service.refuses_ahead),
                 generator(seed, number),

@@ -141,19 +141,19 @@ fn turn<R: AllocGlobal + Clock, L: Sink, F: Sink>(
     let now = millis(rt).unwrap_or(0);
     connections.list();
     connections.accept(now, server.left);
-    connections.read();
+    connections.read(now);
     // The moment is read behind the bytes, so that no request is decided at one before it came.
     let at = moment(rt);
     if at.is_err() {
         connections.give_up();
     }
     server.now = at.unwrap_or(server.now);
-    tell_losses(connections, server, log, faults);
     let is_stopped = decide(connections, server, log, faults);
     // The log may have taken long.
     let now = millis(rt).unwrap_or(now);
     connections.send(now, is_stopped);
     connections.close_late(now);
+    tell_losses(connections, server, log, faults);
 }
 
 // Tells what was lost of connections.
@@ -178,6 +178,7 @@ fn tell_losses<L: Sink, F: Sink>(
     let losses = connections.take_losses();
     server.miss_each(losses.unread, EdgeFault::Read, faults);
     server.miss_each(losses.short, EdgeFault::Memory, faults);
+    server.part_each(losses.parted);
     tell_each_unsent(losses.unsent, faults);
 }
 

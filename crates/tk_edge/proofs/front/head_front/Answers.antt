@@ -1,4 +1,4 @@
-use Rattle.std.proofs.Common.{◌≡◌, ◌+◌, ◌++◌, ◌≤◌, length, map, drop, subst, sym, ◌∙◌, add-zero, arith, rules}
+use Rattle.std.proofs.Common.{◌+◌, ◌++◌, ◌≤◌, length, map, drop, subst, sym, ◌∙◌, add-zero, arith, refl, rules}
 use Rattle.std.proofs.lemmas.List.{take_rest}
 use Rattle.httparse.specs.Spans.{name_and_value}
 use Rattle.tk_edge.specs.Bounds.{body_limit, request_limit}
@@ -7,7 +7,7 @@ use Rattle.tk_edge.specs.HeadFields.{AreFields}
 use Rattle.tk_edge.specs.Judged.{MayAsk}
 use Rattle.tk_edge.specs.declared.judge.Judged.TheVariants.{Body, Query, Vector}
 use Rattle.tk_edge.proofs.BoundLaws.{size_within}
-use Rattle.tk_edge.proofs.FrontLaws.{fewer_within, request_takes, rest_is_all, same_front, size_at}
+use Rattle.tk_edge.proofs.FrontLaws.{fewer_within, request_takes, rest_is_all, same_front, size_at, stays_at}
 use Rattle.tk_edge.proofs.StreamLaws.{judged_same, judged_may}
 use Rattle.tk_edge.proofs.front.head_front.Goals as goal
 
@@ -17,11 +17,15 @@ returns-in-Query-clause-takes c = λ h at.
     let are : AreFields c.fields_of-fields.result pairs = rw at.fields at c.fields_of-fields.ensures in
     let size = size_at c.args.sync h c.args.spans.len c.of-method.result.now c.of-target.result.now
     (Query c.in-Query.endpoint) at.len (c.of-method.ensures ∙ at.method)
-    (c.of-target.ensures ∙ at.path) (sym c.in-Query.is ∙ c.judge.ensures _ are) in
-    let one : IsOneRequest c.args.sync c.args.bytes.now c.args.spans.len =
-    (h, drop c.args.spans.len c.args.bytes.now, at.reads, sym (add-zero c.args.spans.len) ∙ size) in
-    rw (c.whole_front.ensures) (request_takes c.args.sync c.args.bytes.now c.args.spans.len _
-    c.asked.result one (c.asked.ensures.came pairs are))
+    (c.of-target.ensures ∙ at.path) (sym c.in-Query.is ∙ c.judge-judged.ensures _ are) in
+    let stays = stays_at c.args.sync h c.args.spans.version c.of-method.result.now
+    c.of-target.result.now pairs c.judge-judged.result c.stays_by.result at.version
+    (c.of-method.ensures ∙ at.method) (c.of-target.ensures ∙ at.path) refl
+    (c.judge-judged.ensures pairs are) (c.stays_by.ensures pairs are) in
+    let one : IsOneRequest c.args.sync c.args.bytes.now
+    (record { size = c.args.spans.len; stays = c.stays_by.result }) =
+    (h, drop c.args.spans.len c.args.bytes.now, at.reads, sym (add-zero c.args.spans.len) ∙ size, stays) in
+    rw (c.whole_front.ensures) (request_takes c.args.sync c.args.bytes.now _ _ c.asked.result one (c.asked.ensures.came pairs are))
 
 pub returns-in-Vector-clause-takes : goal.returns-in-Vector-clause-takes
 returns-in-Vector-clause-takes c = λ h at.
@@ -29,13 +33,17 @@ returns-in-Vector-clause-takes c = λ h at.
     let are : AreFields c.fields_of-fields.result pairs = rw at.fields at c.fields_of-fields.ensures in
     let size = size_at c.args.sync h c.args.spans.len c.of-method.result.now c.of-target.result.now
     Vector at.len (c.of-method.ensures ∙ at.method) (c.of-target.ensures ∙ at.path)
-    (sym c.in-Vector.is ∙ c.judge.ensures _ are) in
-    (h, drop c.args.spans.len c.args.bytes.now, at.reads, sym (add-zero c.args.spans.len) ∙ size)
+    (sym c.in-Vector.is ∙ c.judge-judged.ensures _ are) in
+    let stays = stays_at c.args.sync h c.args.spans.version c.of-method.result.now
+    c.of-target.result.now pairs c.judge-judged.result c.stays_by.result at.version
+    (c.of-method.ensures ∙ at.method) (c.of-target.ensures ∙ at.path) refl
+    (c.judge-judged.ensures pairs are) (c.stays_by.ensures pairs are) in
+    (h, drop c.args.spans.len c.args.bytes.now, at.reads, sym (add-zero c.args.spans.len) ∙ size, stays)
 
 pub returns-in-Vector-clause-may : goal.returns-in-Vector-clause-may
 returns-in-Vector-clause-may c =
     subst (MayAsk c.args.sync) c.in-Vector.is (judged_may c.args.sync c.of-method.result.now
-    c.of-target.result.now _ _ _ c.fields_of-fields.ensures c.judge.ensures)
+    c.of-target.result.now _ _ _ c.fields_of-fields.ensures c.judge-judged.ensures)
 
 pub returns-in-Body-clause-came : goal.returns-in-Body-clause-came
 returns-in-Body-clause-came c = λ h at.
@@ -45,7 +53,7 @@ returns-in-Body-clause-came c = λ h at.
     (λ tail. judged_same c.args.sync h (drop c.args.spans.len c.args.bytes.now ++ tail)
     c.of-method.result.now c.of-target.result.now (Body c.in-Body.posted c.in-Body.size)
     (c.of-method.ensures ∙ at.method) (c.of-target.ensures ∙ at.path)
-    (sym c.in-Body.is ∙ c.judge.ensures _ are))
+    (sym c.in-Body.is ∙ c.judge-judged.ensures _ are))
     (rw (take_rest c.args.bytes.now c.args.spans.len) at
     c.body_front.ensures.came c.of-target.result.now pairs are)
 
@@ -55,9 +63,14 @@ returns-in-Body-clause-takes c = λ h at.
     let are : AreFields c.fields_of-fields.result pairs = rw at.fields at c.fields_of-fields.ensures in
     let size = size_at c.args.sync h c.args.spans.len c.of-method.result.now c.of-target.result.now
     (Body c.in-Body.posted c.in-Body.size) at.len (c.of-method.ensures ∙ at.method)
-    (c.of-target.ensures ∙ at.path) (sym c.in-Body.is ∙ c.judge.ensures _ are) in
-    let one : IsOneRequest c.args.sync c.args.bytes.now (c.args.spans.len + c.in-Body.size) =
-    (h, drop c.args.spans.len c.args.bytes.now, at.reads, size) in
+    (c.of-target.ensures ∙ at.path) (sym c.in-Body.is ∙ c.judge-judged.ensures _ are) in
+    let stays = stays_at c.args.sync h c.args.spans.version c.of-method.result.now
+    c.of-target.result.now pairs c.judge-judged.result c.stays_by.result at.version
+    (c.of-method.ensures ∙ at.method) (c.of-target.ensures ∙ at.path) refl
+    (c.judge-judged.ensures pairs are) (c.stays_by.ensures pairs are) in
+    let one : IsOneRequest c.args.sync c.args.bytes.now
+    (record { size = c.args.spans.len + c.in-Body.size; stays = c.stays_by.result }) =
+    (h, drop c.args.spans.len c.args.bytes.now, at.reads, size, stays) in
     let fits : c.args.spans.len ≤ length c.args.bytes.now = search rules in
     c.body_front.ensures.takes c.args.sync c.args.bytes.now pairs are
     (rest_is_all c.args.bytes.now c.args.spans.len fits) one
@@ -65,7 +78,7 @@ returns-in-Body-clause-takes c = λ h at.
 pub returns-in-Body-clause-fewer : goal.returns-in-Body-clause-fewer
 returns-in-Body-clause-fewer c =
     let may = judged_may c.args.sync c.of-method.result.now c.of-target.result.now _ _ _
-    c.fields_of-fields.ensures c.judge.ensures in
+    c.fields_of-fields.ensures c.judge-judged.ensures in
     let fits = subst (MayAsk c.args.sync) c.in-Body.is may in
     let small : c.in-Body.size ≤ body_limit c.args.sync =
     size_within c.args.sync c.in-Body.posted c.in-Body.size fits.0 fits.1 in
@@ -78,5 +91,5 @@ returns-in-Body-clause-fewer c =
 pub returns-in-Body-clause-may : goal.returns-in-Body-clause-may
 returns-in-Body-clause-may c =
     let may = judged_may c.args.sync c.of-method.result.now c.of-target.result.now _ _ _
-    c.fields_of-fields.ensures c.judge.ensures in
+    c.fields_of-fields.ensures c.judge-judged.ensures in
     c.body_front.ensures.may c.args.sync (subst (MayAsk c.args.sync) c.in-Body.is may).0

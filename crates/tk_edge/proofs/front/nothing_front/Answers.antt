@@ -1,17 +1,12 @@
-use Rattle.std.proofs.Common.{◌≡◌, [], true, false, rules, arith, refl}
-use Rattle.tk_edge.proofs.FrontLaws.{partial_cut, silent_front}
+use Rattle.std.proofs.Common.{◌≡◌, [], true, false, rules, arith}
+use Rattle.tk_edge.proofs.FrontLaws.{partial_cut, silent_comes}
 use Rattle.tk_edge.proofs.HeadLaws.{no_head_of_none}
 use Rattle.tk_edge.proofs.front.nothing_front.Goals as goal
 
 pub returns-then-is_over : goal.returns-then-is_over
 returns-then-is_over c = λ sync.
     let over : c.args.is_over ≡ true = search rules in
-    record {
-      within = omega arith;
-      takes = refl;
-      may = tt;
-      means = λ tail follows. silent_front sync tail (follows over);
-    }
+    rw (c.ending.ensures) (silent_comes sync c.args.is_over over)
 
 pub returns-else-is_over : goal.returns-else-is_over
 returns-else-is_over c = λ sync.

@@ -1,4 +1,4 @@
-use Rattle.std.proofs.Common.{◌≡◌, ◌≤◌, length, true, false, rules}
+use Rattle.std.proofs.Common.{◌≤◌, length, rules}
 use Rattle.tk_edge.specs.Heads.{head_limit}
 use Rattle.tk_edge.proofs.FrontLaws.{full_none, headless_arrives, headless_comes}
 use Rattle.tk_edge.proofs.front.partial_front.Goals as goal

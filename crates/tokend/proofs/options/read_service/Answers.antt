@@ -1,6 +1,6 @@
 use Rattle.std.proofs.Common.{rules}
 use Rattle.clap.specs.Words.{found_of, rows_of}
-use Rattle.tokend.proofs.Tasks.{without_port, without_refusal, without_region}
+use Rattle.tokend.proofs.Tasks.{without_choices, without_port, without_refusal, without_region, without_settings}
 use Rattle.tokend.proofs.options.read_service.Goals as goal
 
 pub returns-clause-service : goal.returns-clause-service
@@ -10,6 +10,8 @@ returns-clause-service c = record {
   port = search rules;
   requests = search rules;
   endless = search rules;
+  keep = search rules;
+  unkept = search rules;
   seed = search rules;
   log = search rules;
   load = search rules;
@@ -18,7 +20,11 @@ returns-clause-service c = record {
   log_taken = search rules;
   logged = search rules;
   ahead = search rules;
+  choices = search rules;
 }
+
+pub returns-in_default-clause-none : goal.returns-in_default-clause-none
+returns-in_default-clause-none c = without_settings (rows_of (found_of c.args.matches.now)) c.in_default.ensures.none
 
 pub returns-in_default-number-clause-none : goal.returns-in_default-number-clause-none
 returns-in_default-number-clause-none c = without_region (rows_of (found_of c.args.matches.now)) c.in_default-number.ensures.none
@@ -28,3 +34,6 @@ returns-in_default-number-2-clause-none c = without_port (rows_of (found_of c.ar
 
 pub returns-in_default-read_refusal-clause-none : goal.returns-in_default-read_refusal-clause-none
 returns-in_default-read_refusal-clause-none c = without_refusal (rows_of (found_of c.args.matches.now)) (search rules)
+
+pub returns-in_default-read_choices-clause-none : goal.returns-in_default-read_choices-clause-none
+returns-in_default-read_choices-clause-none c = without_choices (rows_of (found_of c.args.matches.now)) c.in_default-read_choices.ensures.none

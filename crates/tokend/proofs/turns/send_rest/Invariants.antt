@@ -1,4 +1,3 @@
-use Rattle.std.proofs.Common.{◌≤◌}
 use Rattle.tokend.specs.Telling.{writer_of}
 use Rattle.tokend.specs.Turns.{Goes}
 use Rattle.tokend.proofs.turns.send_rest.Given as goal

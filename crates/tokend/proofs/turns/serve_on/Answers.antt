@@ -1,4 +1,4 @@
-use Rattle.std.proofs.Common.{◌∙◌, arith}
+use Rattle.std.proofs.Common.{◌∙◌}
 use Rattle.tokend.proofs.Turning.{goes_both, goes_nowhere, server_grows}
 use Rattle.tokend.proofs.turns.serve_on.Goals as goal
 

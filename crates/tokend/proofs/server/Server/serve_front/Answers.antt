@@ -1,5 +1,4 @@
-use Rattle.std.proofs.Common.{◌≡◌, List, [], ◌++◌, append-nil, ap, sym, ◌∙◌, rules}
-use Rattle.std.proofs.Common.{ℕ}
+use Rattle.std.proofs.Common.{◌≡◌, [], ◌++◌, append-nil, ap, sym, ◌∙◌, rules}
 use Rattle.tokend.proofs.Deciding.{front_decides, short}
 use Rattle.tokend.proofs.server.Server.serve_front.Goals as goal
 

@@ -1,8 +1,0 @@
-use Rattle.std.proofs.Common.{rules}
-use Rattle.clap.specs.Words.{found_of, rows_of, subcommand_rows_of}
-use Rattle.tokend.proofs.Tasks.{misnamed_given}
-use Rattle.tokend.proofs.ahead.misnames_ahead.Goals as goal
-
-pub returns-in-Some : goal.returns-in-Some
-returns-in-Some c =
-    misnamed_given (subcommand_rows_of c.args.matches.now) (rows_of (found_of c.in-Some.values.now)) c.is_ahead_misnamed.result (search rules) c.is_ahead_misnamed.ensures
