@@ -11,7 +11,8 @@ from texts import OPERATING, PAGE, differ, rows, same, text_of
 OPTION = r"^ +(?:-\w, )?--([\w-]+)(?: <(\w+)>)?((?:.*\n(?! *(?:-\w, )?--))*.*)"
 OF_PAGE = r"^\.TP\n\.BI? --([\w-]+)(?: +\w+)?\n((?:(?!\.TP|\.S[SH]).*\n?)*)"
 FLAG = None, "off"  # an option without a value
-CHOICES = ("ahead",)  # options whose value is one of some words
+CHOICES = ("ahead", "revoke-unseen", "consent")  # options whose value is one of some words
+LISTS = ("redirects",)  # options whose value is some words with commas between
 SPELLINGS = {"no log": "none", "without end": "none"}
 
 
@@ -51,7 +52,8 @@ def of_program(program, command):
         limits = range_in(told)
         default = re.search(r"\[default: ([^\]]*)\]", told)
         said = value_said("[required]" in told, default, limits)
-        named = "N" if limits else "WORD" if name in CHOICES else "FILE"
+        named = {**dict.fromkeys(CHOICES, "WORD"), **dict.fromkeys(LISTS, "LIST")}.get(name, "FILE")
+        named = "N" if limits else named
         same(where, "--%s's value" % name, named, value)
         options[name] = (limits, said)
     if not options:

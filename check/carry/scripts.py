@@ -146,6 +146,53 @@ class Follow(Case):
         logs.look()
         self.assertEqual((logs.active(), self.taken(logs)), ([], []))
 
+    def segment(self, name, *items):
+        path = self.history / name
+        path.write_bytes(b"".join(bundle(items[at:at + 128]) for at in range(0, len(items), 128)))
+        return path
+
+    def with_history(self, first=1, last=9):
+        self.history = Path(self.folder) / "history"
+        self.history.mkdir(exist_ok=True)
+        it = self.follow.Logs([self.live, self.old], self.state, self.history,
+                              range(first, last + 1))
+        it.look()
+        return it
+
+    def test_what_was_merged_before_it_was_published_is_published(self):
+        self.log(2)
+        logs = self.with_history()
+        self.assertEqual([it.facts for it in self.taken(logs)], [2])
+        logs.save()
+        (self.live / "00001.otb").unlink()  # by a compact, which another log was merged by too
+        self.segment("compact.otb", *clients(1, 1, 2), *clients(2, 1, 2, 3), *clients(50, 1))
+        logs = self.with_history()
+        found = self.taken(logs)
+        self.assertEqual([it.items for it in found], [tuple(clients(2, 1, 2, 3))])
+        logs.save()
+        self.assertEqual(self.taken(self.with_history()), [])
+        self.segment("again.otb", *clients(1, 1, 2), *clients(2, 1, 2, 3, 4))
+        self.assertEqual([it.items for it in self.taken(self.with_history())], [(client(2, 4),)])
+
+    def test_what_was_not_acknowledged_is_published_again(self):
+        self.log(300)
+        logs = self.logs()
+        (log,) = logs.active()
+        log.take_piece()
+        for number, (_, end) in enumerate(log.messages()):
+            log.sent.append((number, end))
+        log.settle({0, 2})  # the second has no answer when the publisher dies
+        logs.save()
+        self.assertEqual([it.items[0] for it in self.taken(self.logs())],
+                         [client(1, 129), client(1, 257)])
+
+    def test_marks_of_a_history_are_left_out(self):
+        self.with_history()
+        path = self.segment("compact.otb", *clients(1, 1))
+        path.write_bytes(path.read_bytes() + bundle([mark(1, 2), client(1, 3)]))
+        self.assertEqual([it.items for it in self.taken(self.with_history())],
+                         [(client(1, 1), client(1, 3))])
+
     def test_no_log_is_kept_open(self):
         for number in range(1, 51):
             (self.old / ("%05d.otb" % number)).write_bytes(bundle(clients(number, 1)))

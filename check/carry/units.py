@@ -63,6 +63,21 @@ class Carriers(Case):
         self.assertEqual(two.held(), clients(3, 1))
         self.assertEqual(self.whole(self.carrier("one", one, "nowhere"))[0], "failed")
 
+    def test_one_list_serves_all_sites(self):
+        """What a site's own file has comes after the list; its own URL there is no other."""
+        one, two, three = self.tokend(1, *clients(9, 1)), self.tokend(2), self.tokend(3)
+        unit = self.carrier("one", one, two.url)
+        with open(os.path.join(self.folder, "etc/tokend/sites"), "w", encoding="utf-8") as file:
+            file.write("TOKEND_PEERS=http://localhost:%d %s %s\n" % (one.port, two.url, three.url))
+        self.assertEqual(self.whole(unit)[0], "done")
+        self.assertEqual((two.held(), three.held()), (clients(9, 1), []))
+        with open(os.path.join(self.folder, "etc/tokend/one.conf"), "w", encoding="utf-8") as file:
+            file.write("TOKEND_PORT=%d\nTOKEND_URL=http://localhost:%d\n" % (one.port, one.port))
+        status, said = unit.run()
+        self.assertEqual(status, 0)
+        self.assertIn("%s: 2 others, 1 facts" % one.url, said)
+        self.assertEqual(three.held(), clients(9, 1))
+
     def test_a_silent_peer_ends_its_own_run(self):
         one = self.tokend(1, *clients(3, 1))
         _, silent = self.listener()

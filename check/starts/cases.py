@@ -249,6 +249,19 @@ def second_peer_isnt_asked_for_the_same(room):
     wanted(asked == [vector(r7=1), vector(r7=1, r50=3)], "both were asked for the same", asked)
 
 
+def one_list_serves_all_sites(room):
+    """A start doesn't ask itself, by the URL that the list has for it."""
+    peer = room.serve(70)
+    peer.push(retirements(50, 1, 3))
+    own = "http://127.0.0.1:%d" % room.port
+    run = room.start(peers=[own + "/", peer.url], TOKEND_URL=own).listening()
+    wanted(run.held_to() == {50: 3}, "another vector", run.held_to())
+    wanted(run.errors() == "", "a start complains", run.errors())
+    run.stop()
+    run = room.start(peers=[own, peer.url]).listening()
+    wanted("%s: Connection refused" % own in run.errors(), "it didn't ask itself", run.errors())
+
+
 def bad_page_stops_no_start(room):
     """A peer whose page is no bundle, or whose facts are none, is passed over."""
     def other(path, _):
@@ -326,6 +339,6 @@ CASES = [
     history_that_is_bad_is_named, log_may_have_any_name, folders_have_spaces,
     silent_peer_is_passed_over, slow_start_is_waited_for, unit_kills_no_start,
     pages_that_came_are_kept, cut_page_of_a_killed_start_is_left_out,
-    second_peer_isnt_asked_for_the_same, bad_page_stops_no_start, signal_leaves_no_seed,
-    restored_copy_takes_no_used_number, number_of_a_peer_counts_without_its_pages,
-    numbers_run_out, proxies_are_ignored]
+    second_peer_isnt_asked_for_the_same, one_list_serves_all_sites, bad_page_stops_no_start,
+    signal_leaves_no_seed, restored_copy_takes_no_used_number,
+    number_of_a_peer_counts_without_its_pages, numbers_run_out, proxies_are_ignored]

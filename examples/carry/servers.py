@@ -328,16 +328,14 @@ def _read_reply(response: http.client.HTTPResponse) -> Reply:
 
 def pages(source: Server, vector: Vector) -> Iterator[Bundle]:
     """Yields what the source has beyond a vector. The next page is pulled meanwhile."""
+    page = source.page(FROM_THE_START, vector)
     with ThreadPoolExecutor(1) as pool:
-        coming = pool.submit(source.page, FROM_THE_START, vector)
-        while True:
+        while page.is_full:
+            coming = pool.submit(source.page, page.cursor, vector)
+            yield page
             page = coming.result()
-            if page.is_full:
-                coming = pool.submit(source.page, page.cursor, vector)
-            if page.items:
-                yield page
-            if not page.is_full:
-                return
+    if page.items:
+        yield page
 
 
 @dataclass

@@ -12,6 +12,9 @@ from starting.stop import FAILED, SETTINGS, Stop, no_log
 
 NOTHING = "/dev/null"
 PAUSE = 0.2  # seconds between two questions whether it listens
+# what is passed unless TOKEND_OPTIONS has the option
+CHOICES = (("ahead", "refused"), ("revoke-unseen", "authenticated"), ("consent", "held"),
+           ("redirects", "https,loopback,app"), ("keep", "60"))
 
 
 @contextlib.contextmanager
@@ -26,18 +29,19 @@ def seed():
         os.close(reader)
 
 
-def said_of_ahead(options):
-    """The value of --ahead in these options; nothing if they don't have it."""
-    found = re.search(r"(?:^| )--ahead[= ](\S*)", " ".join(options))
+def said_of(name, options):
+    """The value of an option among these; nothing if they don't have it."""
+    found = re.search(r"(?:^| )--%s[= ](\S*)" % name, " ".join(options))
     return found[1] if found else ""
 
 
 def words(settings, number, port, load, log, secret, prune):
     pruned = [] if prune is None else ["--prune", str(prune)]
-    ahead = [] if said_of_ahead(settings.options) else ["--ahead", "refused"]
+    chosen = [word for name, value in CHOICES if not said_of(name, settings.options)
+              for word in ("--" + name, value)]
     return [settings.tokend, "serve", "--region", str(number), "--port", str(port),
             "--seed", "/dev/fd/%d" % secret, "--load", load, "--log", log, "--log-taken",
-            *pruned, *ahead, *settings.options]
+            *pruned, *chosen, *settings.options]
 
 
 def tried(settings, number, load, prune=None):

@@ -72,6 +72,12 @@ def margin_of(environ):
     return number(text, LEAST_MARGIN, 999_999_999, "TOKEND_PRUNE_MARGIN") if text else None
 
 
+def peers_of(environ):
+    """The other regions: of a list that all sites may have, those that aren't this one."""
+    own = environ.get("TOKEND_URL", "").rstrip("/")
+    return [it for it in environ.get("TOKEND_PEERS", "").split() if it.rstrip("/") != own]
+
+
 def read(environ, arguments):
     """The settings of a start. Nothing is changed by reading them."""
     environ = given(environ, arguments)
@@ -84,6 +90,6 @@ def read(environ, arguments):
     return Settings(
         os.path.abspath(folder), port_of(environ), range(first, last + 1),
         command(environ.get("TOKEND") or "tokend"), environ.get("TOKEND_OPTIONS", "").split(),
-        environ.get("TOKEND_PEERS", "").split(),
+        peers_of(environ),
         number(seconds, 0, 86_400, "TOKEND_PEER_SECONDS"), margin_of(environ),
         number(environ.get("TOKEND_AHEAD_SECONDS") or "0", 0, 86_400, "TOKEND_AHEAD_SECONDS"))
