@@ -106,7 +106,7 @@ fn headless_front(bytes: &[u8]) -> Front
     Front::Came(Arrival::Refused(Refusal::NoHead), ending(bytes.len()))
 }
 
-// Returns that so many bytes were taken of a connection that ends.
+// Returns what was taken of a connection that ends: this many bytes.
 pub(crate) fn ending(size: usize) -> Taken
     ensures { result ≡ record { size = size; stays = false } }
 {

@@ -156,8 +156,8 @@ abbrev pub fault_of : Result Served Fault → Option Fault
 fault_of (Ok served) = None
 fault_of (Err fault) = Some fault
 
--- a server after a request that ended so: so many connections are left, and the next request has
--- the next words
+-- a server after a request with this end: this many connections are left, and the next request
+-- has the next words
 abbrev pub moved_on : Server → Result Served Fault → EdgeFields → ℕ → Server
 moved_on old end edge left = record old {
   edge = edge;

@@ -115,8 +115,8 @@ pub record IsLost (old : Running) (mid : EdgeFields) (records : List ℕ) (told 
   pub edge : new.edge ≡ record mid { sealed = true }
   pub faults : Writes told new.faults (connection_fault Log)
 
--- The requests of a turn are decided, one after the other. Their faults are told, and their records
--- are written at once, or the log fails.
+-- The requests of a turn are decided, one after the other. The lines of their faults are written,
+-- and their records are written at once, or the log fails.
 pub record IsTurn (words : ChaCha) (log_taken : Bool) (old : Running) (ends : Endings)
     (new : Running) : Type 0 where
   pub edge : EdgeFields

@@ -152,7 +152,7 @@ impl Connections {
         self.open == 0
     }
 
-    /// Has kept connections stay open for so many seconds between their requests.
+    /// Sets how many seconds a kept connection stays open between its requests.
     pub(crate) fn keep(&mut self, seconds: u64) {
         self.keep = seconds.saturating_mul(1_000);
     }
