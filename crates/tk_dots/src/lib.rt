@@ -10,8 +10,8 @@
 //! - `pages`: all pages, by their numbers.
 //! - `slots`: the places of one page.
 //! - `runs`: `DotRuns`, the set. Contracts see a finite set of dots.
-//! - `marks`: `MarkMap`, a map whose marks are kept in runs. Contracts see a finite map from dots to
-//!   values or marks.
+//! - `marks`: `MarkMap`, a map whose marks are kept in runs. Contracts see a finite map from dots
+//!   to values or marks.
 //!
 //! The definitions are in `specs/Pages.antt`, `specs/Runs.antt` and `specs/Marks.antt`.
 #![tactic(auto)]

@@ -5,8 +5,8 @@
 --   FrontDecides   what serving the front of bytes decides
 --   Decides        what a server decides of the bytes of a connection
 --   Seals          a server whose log has failed is sealed
--- Throughout, `words` are the six random words of a request, `log_taken` is whether bundles taken in
--- are logged, and `end` is how the request ended.
+-- Throughout, `words` are the six random words of a request, `log_taken` is whether bundles taken
+-- in are logged, and `end` is how the request ended.
 use Rattle.std.specs.Prelude.{◌≡◌, ◌≢◌, ◌⊎◌, ⊤, ℕ, ◌+◌, ◌&&◌, Bool, true, false, List, [], length}
 use Rattle.std.specs.Prelude.{Option, Some, None, Result, Ok, Err}
 use Rattle.tk_edge.specs.EdgeFields.{EdgeFields}
